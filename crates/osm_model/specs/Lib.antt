@@ -5,3 +5,8 @@ pub mod Lists
 pub mod Change
 pub mod Batch
 pub mod Push
+pub mod Time
+pub mod Clock
+pub mod ChangeForm
+pub mod KeyOrder
+pub mod Content

@@ -5,9 +5,10 @@ ghost use Rattle.osm_model.specs.Batch.{IsBatch};
 ghost use Rattle.osm_model.specs.Limits.{max_changes};
 ghost use Rattle.osm_model.specs.Push.{PushRefused};
 
+use crate::memory::WantOfMemory;
 use crate::change::Change;
 use crate::limits::MAX_CHANGES;
-use std::alloc::{AllocError, Global};
+use std::alloc::Global;
 use std::marker::Model;
 use thiserror::Error;
 
@@ -83,7 +84,7 @@ impl Batch {
     }
 
     /// An equal batch. The copy of an empty one takes no memory.
-    pub fn copy(&self, alloc: Global) -> Result<Batch, AllocError>
+    pub fn copy(&self, alloc: Global) -> Result<Batch, WantOfMemory>
         ensures ok { IfOk result (λ b. b ≡ self.now) }
         ensures refused { OnErr result (0 < length self.now) }
     {
@@ -95,7 +96,7 @@ impl Batch {
     }
 }
 
-fn copy_changes(alloc: Global, changes: &[Change]) -> Result<Vec<Change>, AllocError>
+fn copy_changes(alloc: Global, changes: &[Change]) -> Result<Vec<Change>, WantOfMemory>
     ensures { IfOk result (λ t. t.items ≡ changes.now) }
 {
     let mut copies = Vec::with_capacity(alloc, changes.len())?;

@@ -5,11 +5,12 @@ ghost use Rattle.std.specs.List.{AllByRecursion};
 ghost use Rattle.osm_model.specs.Limits.{IsId, IsPlace, max_tags, max_refs};
 ghost use Rattle.osm_model.specs.Change.{ChangeValue, IsChange, HasMemberId};
 
+use crate::memory::WantOfMemory;
 use crate::kind::{Key, Kind};
 use crate::limits::{MAX_ID, MAX_LAT, MAX_LON, MAX_REFS, MAX_TAGS};
 use crate::lists::{Member, Members, Refs, Tags};
 use crate::meta::Meta;
-use std::alloc::{AllocError, Global};
+use std::alloc::Global;
 use std::marker::Model;
 use thiserror::Error;
 
@@ -23,7 +24,7 @@ pub enum What {
 }
 
 impl What {
-    fn copy(&self, alloc: Global) -> Result<What, AllocError>
+    fn copy(&self, alloc: Global) -> Result<What, WantOfMemory>
         ensures { IfOk result (λ w. w ≡ self.now) }
     {
         match self {
@@ -247,7 +248,7 @@ impl Change {
     }
 
     /// An equal change.
-    pub fn copy(&self, alloc: Global) -> Result<Change, AllocError>
+    pub fn copy(&self, alloc: Global) -> Result<Change, WantOfMemory>
         ensures { IfOk result (λ c. c ≡ self.now) }
     {
         let meta = self.meta.copy(alloc)?;

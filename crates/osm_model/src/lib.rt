@@ -4,8 +4,11 @@
 
 pub mod batch;
 pub mod change;
+pub mod form;
 pub mod kind;
 pub mod limits;
 pub mod lists;
+pub mod memory;
 pub mod meta;
 pub mod text;
+pub mod time;

@@ -5,9 +5,10 @@ ghost use Rattle.std.specs.Prelude.{◌≡◌, ◌++◌, ◌∷◌, [], IfOk, On
 ghost use Rattle.std.specs.List.{AllByRecursion};
 ghost use Rattle.osm_model.specs.Lists.{IsTag, IsRole};
 
+use crate::memory::WantOfMemory;
 use crate::kind::Key;
 use crate::text::Text;
-use std::alloc::{AllocError, Global};
+use std::alloc::Global;
 use std::marker::Model;
 
 /// A tag, as `highway=path`.
@@ -19,7 +20,7 @@ pub struct Tag {
 
 impl Tag {
     /// An equal tag.
-    pub fn copy(&self, alloc: Global) -> Result<Tag, AllocError>
+    pub fn copy(&self, alloc: Global) -> Result<Tag, WantOfMemory>
         ensures { IfOk result (λ t. t ≡ self.now) }
     {
         Ok(Tag {
@@ -75,7 +76,7 @@ impl Tags {
     }
 
     /// Adds a tag at the end.
-    pub fn push(&mut self, tag: Tag) -> Result<(), AllocError>
+    pub fn push(&mut self, tag: Tag) -> Result<(), WantOfMemory>
         ensures ok { OnOk result (self.new ≡ self.old ++ tag ∷ []) }
         ensures err { OnErr result (self.new ≡ self.old) }
     {
@@ -93,7 +94,7 @@ impl Tags {
     }
 
     /// Equal tags.
-    pub fn copy(&self, alloc: Global) -> Result<Tags, AllocError>
+    pub fn copy(&self, alloc: Global) -> Result<Tags, WantOfMemory>
         ensures { IfOk result (λ t. t ≡ self.now) }
     {
         let tags = copy_tags(alloc, self.as_slice())?;
@@ -111,7 +112,7 @@ fn check_tags(tags: &[Tag])
     }
 }
 
-fn copy_tags(alloc: Global, tags: &[Tag]) -> Result<Vec<Tag>, AllocError>
+fn copy_tags(alloc: Global, tags: &[Tag]) -> Result<Vec<Tag>, WantOfMemory>
     requires { AllByRecursion IsTag tags.now }
     ensures { IfOk result (λ t. t.items ≡ tags.now) }
 {
@@ -175,7 +176,7 @@ impl Refs {
     }
 
     /// Adds an id at the end.
-    pub fn push(&mut self, id: i64) -> Result<(), AllocError>
+    pub fn push(&mut self, id: i64) -> Result<(), WantOfMemory>
         ensures ok { OnOk result (self.new ≡ self.old ++ id ∷ []) }
         ensures err { OnErr result (self.new ≡ self.old) }
     {
@@ -190,7 +191,7 @@ impl Refs {
     }
 
     /// Equal ids.
-    pub fn copy(&self, alloc: Global) -> Result<Refs, AllocError>
+    pub fn copy(&self, alloc: Global) -> Result<Refs, WantOfMemory>
         ensures { IfOk result (λ t. t ≡ self.now) }
     {
         let refs = Vec::from_slice(alloc, self.refs.as_slice())?;
@@ -221,7 +222,7 @@ pub struct Member {
 
 impl Member {
     /// An equal member.
-    pub fn copy(&self, alloc: Global) -> Result<Member, AllocError>
+    pub fn copy(&self, alloc: Global) -> Result<Member, WantOfMemory>
         ensures { IfOk result (λ m. m ≡ self.now) }
     {
         Ok(Member {
@@ -277,7 +278,7 @@ impl Members {
     }
 
     /// Adds a member at the end.
-    pub fn push(&mut self, member: Member) -> Result<(), AllocError>
+    pub fn push(&mut self, member: Member) -> Result<(), WantOfMemory>
         ensures ok { OnOk result (self.new ≡ self.old ++ member ∷ []) }
         ensures err { OnErr result (self.new ≡ self.old) }
     {
@@ -294,7 +295,7 @@ impl Members {
     }
 
     /// Equal members.
-    pub fn copy(&self, alloc: Global) -> Result<Members, AllocError>
+    pub fn copy(&self, alloc: Global) -> Result<Members, WantOfMemory>
         ensures { IfOk result (λ t. t ≡ self.now) }
     {
         let members = copy_members(alloc, self.as_slice())?;
@@ -311,7 +312,7 @@ fn check_roles(members: &[Member])
     }
 }
 
-fn copy_members(alloc: Global, members: &[Member]) -> Result<Vec<Member>, AllocError>
+fn copy_members(alloc: Global, members: &[Member]) -> Result<Vec<Member>, WantOfMemory>
     requires { AllByRecursion IsRole members.now }
     ensures { IfOk result (λ t. t.items ≡ members.now) }
 {

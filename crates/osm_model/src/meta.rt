@@ -3,8 +3,9 @@
 ghost use Rattle.std.specs.Prelude.{◌≡◌, ◌<◌, ◌↔◌, IsErr, IfOk, ◌⊎◌};
 ghost use Rattle.osm_model.specs.Meta.{IsMeta};
 
+use crate::memory::WantOfMemory;
 use crate::text::Text;
-use std::alloc::{AllocError, Global};
+use std::alloc::Global;
 use std::marker::Model;
 use thiserror::Error;
 
@@ -114,7 +115,7 @@ impl Meta {
     }
 
     /// Equal metadata.
-    pub fn copy(&self, alloc: Global) -> Result<Meta, AllocError>
+    pub fn copy(&self, alloc: Global) -> Result<Meta, WantOfMemory>
         ensures { IfOk result (λ m. m ≡ self.now) }
     {
         let user = self.user.copy(alloc)?;

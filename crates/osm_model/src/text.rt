@@ -4,6 +4,7 @@ ghost use Rattle.std.specs.Prelude.{◌≡◌, ◌<◌, ◌≤◌, ◌↔◌, le
 ghost use Rattle.osm_model.specs.Text.{IsText};
 ghost use Rattle.osm_model.specs.declared.text.TextError.TheVariants.{WantOfMemory};
 
+use crate::memory::WantOfMemory;
 use crate::limits::MAX_TEXT;
 use std::alloc::{AllocError, Global};
 use std::marker::Model;
@@ -65,6 +66,23 @@ impl Text {
         Ok(Text { text })
     }
 
+    /// That text, which takes no memory.
+    pub fn from_string(text: String) -> Result<Text, TextError>
+        ensures ok { IfOk result (λ t. (t ≡ string_bytes text) × IsText (string_bytes text)) }
+        ensures has_nul { IsErrOf result TextError.HasNul ↔ Contains (string_bytes text) 0 }
+        ensures too_long { IsErrOf result TextError.TooLong
+          ↔ (¬ Contains (string_bytes text) 0 × (1020 < length (string_bytes text))) }
+        ensures enough { ¬ IsErrOf result TextError.WantOfMemory }
+    {
+        if text.as_str().as_bytes().contains(&0) {
+            return Err(TextError::HasNul);
+        }
+        if text.len() > MAX_TEXT {
+            return Err(TextError::TooLong);
+        }
+        Ok(Text { text })
+    }
+
     pub fn as_str(&self) -> &str
         ensures text { result.now ≡ self.now }
         ensures limits { IsText self.now }
@@ -73,7 +91,7 @@ impl Text {
     }
 
     /// An equal text.
-    pub fn copy(&self, alloc: Global) -> Result<Text, AllocError>
+    pub fn copy(&self, alloc: Global) -> Result<Text, WantOfMemory>
         ensures { IfOk result (λ t. t ≡ self.now) }
     {
         let text = String::from_str(alloc, self.text.as_str())?;

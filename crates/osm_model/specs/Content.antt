@@ -1,0 +1,52 @@
+-- What a list of changes leaves of the objects, and how many edits it is: a mirror and its counts
+-- are these of the changes that were applied (OSM wiki, Planet.osm/diffs: a change file is applied
+-- in its order, and the last change of an object stands).
+use Rattle.std.specs.Prelude.{◌≡◌, ℕ, ◌==◌, List, [], ◌∷◌, Option, Some, None, Bool, if◌then◌else◌, count_by}
+use Rattle.osm_model.specs.Change.{ChangeValue}
+use Rattle.osm_model.specs.KeyOrder.{same_key}
+use Rattle.osm_model.specs.declared.kind.Key.{Key}
+use Rattle.osm_model.specs.declared.change.What.{What}
+use Rattle.osm_model.specs.declared.change.What.TheVariants.{Node, Way, Relation, Deleted}
+
+-- the later of two changes, where there is one
+abbrev pub later_of : Option ChangeValue → Option ChangeValue → Option ChangeValue
+later_of first None = first
+later_of first (Some c) = Some c
+
+-- the last change of the list with that key
+abbrev pub last_of : List ChangeValue → Key → Option ChangeValue
+last_of [] k = None
+last_of (c ∷ cs) k = later_of (if same_key c.key k then Some c else None) (last_of cs k)
+
+-- what stands of an object after a change: nothing after a deletion
+abbrev pub standing_as : ChangeValue → What → Option ChangeValue
+standing_as c Deleted = None
+standing_as c what = Some c
+
+abbrev pub standing_of : ChangeValue → Option ChangeValue
+standing_of c = standing_as c c.what
+
+-- what the last change says, and what stood before where there is none
+abbrev pub over_at : Option ChangeValue → Option ChangeValue → Option ChangeValue
+over_at before None = before
+over_at before (Some c) = standing_of c
+
+-- the objects after the changes, over what stood before them
+abbrev pub over : (Key → Option ChangeValue) → List ChangeValue → Key → Option ChangeValue
+over before changes k = over_at (before k) (last_of changes k)
+
+-- no object
+abbrev pub nothing : Key → Option ChangeValue
+nothing k = None
+
+-- the objects that a list of changes leaves
+abbrev pub content_of : List ChangeValue → Key → Option ChangeValue
+content_of changes = over nothing changes
+
+-- the edits of a user in a list of changes: deletions and overwritten versions count
+abbrev pub edits_by_user : List ChangeValue → ℕ → ℕ
+edits_by_user changes uid = count_by (λ c. c.meta.uid == uid) changes
+
+-- the edits of a changeset in a list of changes
+abbrev pub edits_by_changeset : List ChangeValue → ℕ → ℕ
+edits_by_changeset changes id = count_by (λ c. c.meta.changeset == id) changes
