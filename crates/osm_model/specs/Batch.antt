@@ -1,5 +1,5 @@
 -- A batch: the changes of one sequence, in their order.
-use Rattle.std.specs.Prelude.{◌≡◌, ◌<◌, ◌≤◌, List, length}
+use Rattle.std.specs.Prelude.{◌≤◌, List, length}
 use Rattle.std.specs.List.{AllByRecursion}
 use Rattle.osm_model.specs.Change.{ChangeValue, IsChange}
 use Rattle.osm_model.specs.Limits.{max_changes}

@@ -1,9 +1,8 @@
 -- A change of an object, as contracts see it.
-use Rattle.std.specs.Prelude.{◌≡◌, ℕ, ◌≤◌, List, length, ℤ}
+use Rattle.std.specs.Prelude.{◌≡◌, ◌≤◌, List, length, ℤ}
 use Rattle.std.specs.List.{AllByRecursion}
 use Rattle.osm_model.specs.Limits.{IsId, IsPlace, max_tags, max_refs}
 use Rattle.osm_model.specs.Meta.{MetaValue, IsMeta}
-use Rattle.osm_model.specs.Text.{IsText}
 use Rattle.osm_model.specs.declared.kind.Key.{Key}
 use Rattle.osm_model.specs.declared.kind.Kind.{Kind}
 use Rattle.osm_model.specs.declared.kind.Kind.TheVariants as kinds

@@ -1,12 +1,12 @@
 -- What a list of changes leaves of the objects, and how many edits it is: a mirror and its counts
 -- are these of the changes that were applied (OSM wiki, Planet.osm/diffs: a change file is applied
 -- in its order, and the last change of an object stands).
-use Rattle.std.specs.Prelude.{◌≡◌, ℕ, ◌==◌, List, [], ◌∷◌, Option, Some, None, Bool, if◌then◌else◌, count_by}
+use Rattle.std.specs.Prelude.{ℕ, ◌==◌, List, [], ◌∷◌, Option, Some, None, if◌then◌else◌, count_by}
 use Rattle.osm_model.specs.Change.{ChangeValue}
 use Rattle.osm_model.specs.KeyOrder.{same_key}
 use Rattle.osm_model.specs.declared.kind.Key.{Key}
 use Rattle.osm_model.specs.declared.change.What.{What}
-use Rattle.osm_model.specs.declared.change.What.TheVariants.{Node, Way, Relation, Deleted}
+use Rattle.osm_model.specs.declared.change.What.TheVariants.{Deleted}
 
 -- the later of two changes, where there is one
 abbrev pub later_of : Option ChangeValue → Option ChangeValue → Option ChangeValue

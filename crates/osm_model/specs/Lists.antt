@@ -1,5 +1,4 @@
 -- The parts of an object that are lists.
-use Rattle.std.specs.Prelude.{ℕ, List}
 use Rattle.osm_model.specs.Text.{IsText}
 use Rattle.osm_model.specs.declared.lists.Member.{Member}
 use Rattle.osm_model.specs.declared.lists.Tag.{Tag}

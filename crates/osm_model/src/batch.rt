@@ -5,9 +5,9 @@ ghost use Rattle.osm_model.specs.Batch.{IsBatch};
 ghost use Rattle.osm_model.specs.Limits.{max_changes};
 ghost use Rattle.osm_model.specs.Push.{PushRefused};
 
-use crate::memory::WantOfMemory;
 use crate::change::Change;
 use crate::limits::MAX_CHANGES;
+use crate::memory::WantOfMemory;
 use std::alloc::Global;
 use std::marker::Model;
 use thiserror::Error;

@@ -5,10 +5,10 @@ ghost use Rattle.std.specs.List.{AllByRecursion};
 ghost use Rattle.osm_model.specs.Limits.{IsId, IsPlace, max_tags, max_refs};
 ghost use Rattle.osm_model.specs.Change.{ChangeValue, IsChange, HasMemberId};
 
-use crate::memory::WantOfMemory;
 use crate::kind::{Key, Kind};
 use crate::limits::{MAX_ID, MAX_LAT, MAX_LON, MAX_REFS, MAX_TAGS};
 use crate::lists::{Member, Members, Refs, Tags};
+use crate::memory::WantOfMemory;
 use crate::meta::Meta;
 use std::alloc::Global;
 use std::marker::Model;
@@ -119,12 +119,12 @@ impl Change {
     pub fn node(id: i64, meta: Meta, lon: i32, lat: i32, tags: Tags) -> Result<Change, ChangeError>
         ensures out_of_range { IsErrOf result ChangeError.OutOfRange ↔ ¬ (IsId id × IsPlace lon lat) }
         ensures too_many_tags { IsErrOf result ChangeError.TooManyTags
-          ↔ (IsId id × IsPlace lon lat × (max_tags < length tags)) }
+            ↔ (IsId id × IsPlace lon lat × (max_tags < length tags)) }
         ensures never { ¬ IsErrOf result ChangeError.TooManyRefs }
         ensures value { IfOk result (λ c. c ≡ record {
           key = record { kind = Kind.Node; id = id };
           meta = meta;
-          what = What.Node lon lat tags
+          what = What.Node lon lat tags;
         }) }
     {
         let _version = meta.version();
@@ -148,13 +148,13 @@ impl Change {
     pub fn way(id: i64, meta: Meta, refs: Refs, tags: Tags) -> Result<Change, ChangeError>
         ensures out_of_range { IsErrOf result ChangeError.OutOfRange ↔ ¬ (IsId id × AllByRecursion IsId refs) }
         ensures too_many_tags { IsErrOf result ChangeError.TooManyTags
-          ↔ (IsId id × AllByRecursion IsId refs × (max_tags < length tags)) }
+            ↔ (IsId id × AllByRecursion IsId refs × (max_tags < length tags)) }
         ensures too_many_refs { IsErrOf result ChangeError.TooManyRefs
-          ↔ (IsId id × AllByRecursion IsId refs × ¬ (max_tags < length tags) × (max_refs < length refs)) }
+            ↔ (IsId id × AllByRecursion IsId refs × ¬ (max_tags < length tags) × (max_refs < length refs)) }
         ensures value { IfOk result (λ c. c ≡ record {
           key = record { kind = Kind.Way; id = id };
           meta = meta;
-          what = What.Way refs tags
+          what = What.Way refs tags;
         }) }
     {
         let _version = meta.version();
@@ -178,17 +178,22 @@ impl Change {
     }
 
     /// A relation of those members.
-    pub fn relation(id: i64, meta: Meta, members: Members, tags: Tags) -> Result<Change, ChangeError>
+    pub fn relation(
+        id: i64,
+        meta: Meta,
+        members: Members,
+        tags: Tags,
+    ) -> Result<Change, ChangeError>
         ensures out_of_range { IsErrOf result ChangeError.OutOfRange
-          ↔ ¬ (IsId id × AllByRecursion HasMemberId members) }
+            ↔ ¬ (IsId id × AllByRecursion HasMemberId members) }
         ensures too_many_tags { IsErrOf result ChangeError.TooManyTags
-          ↔ (IsId id × AllByRecursion HasMemberId members × (max_tags < length tags)) }
+            ↔ (IsId id × AllByRecursion HasMemberId members × (max_tags < length tags)) }
         ensures too_many_refs { IsErrOf result ChangeError.TooManyRefs
-          ↔ (IsId id × AllByRecursion HasMemberId members × ¬ (max_tags < length tags) × (max_refs < length members)) }
+            ↔ (IsId id × AllByRecursion HasMemberId members × ¬ (max_tags < length tags) × (max_refs < length members)) }
         ensures value { IfOk result (λ c. c ≡ record {
           key = record { kind = Kind.Relation; id = id };
           meta = meta;
-          what = What.Relation members tags
+          what = What.Relation members tags;
         }) }
     {
         let _version = meta.version();

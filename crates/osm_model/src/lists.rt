@@ -5,8 +5,8 @@ ghost use Rattle.std.specs.Prelude.{◌≡◌, ◌++◌, ◌∷◌, [], IfOk, On
 ghost use Rattle.std.specs.List.{AllByRecursion};
 ghost use Rattle.osm_model.specs.Lists.{IsTag, IsRole};
 
-use crate::memory::WantOfMemory;
 use crate::kind::Key;
+use crate::memory::WantOfMemory;
 use crate::text::Text;
 use std::alloc::Global;
 use std::marker::Model;

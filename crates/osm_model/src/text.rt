@@ -4,8 +4,8 @@ ghost use Rattle.std.specs.Prelude.{◌≡◌, ◌<◌, ◌≤◌, ◌↔◌, le
 ghost use Rattle.osm_model.specs.Text.{IsText};
 ghost use Rattle.osm_model.specs.declared.text.TextError.TheVariants.{WantOfMemory};
 
-use crate::memory::WantOfMemory;
 use crate::limits::MAX_TEXT;
+use crate::memory::WantOfMemory;
 use std::alloc::{AllocError, Global};
 use std::marker::Model;
 use thiserror::Error;
@@ -71,7 +71,7 @@ impl Text {
         ensures ok { IfOk result (λ t. (t ≡ string_bytes text) × IsText (string_bytes text)) }
         ensures has_nul { IsErrOf result TextError.HasNul ↔ Contains (string_bytes text) 0 }
         ensures too_long { IsErrOf result TextError.TooLong
-          ↔ (¬ Contains (string_bytes text) 0 × (1020 < length (string_bytes text))) }
+            ↔ (¬ Contains (string_bytes text) 0 × (1020 < length (string_bytes text))) }
         ensures enough { ¬ IsErrOf result TextError.WantOfMemory }
     {
         if text.as_str().as_bytes().contains(&0) {

@@ -1,4 +1,4 @@
-use Rattle.std.proofs.Common.{◌≡◌, ℕ, ℤ, pos, rules, arith, ap, sym, refl, ◌+◌, ◌*◌, ◌/◌, ◌%◌, w8, w16, FitsSigned, to_z, of_z, ◌+ℤ◌, ◌*ℤ◌}
+use Rattle.std.proofs.Common.{◌≡◌, ℕ, pos, rules, arith, ap, sym, refl, ◌+◌, ◌*◌, ◌/◌, ◌%◌, w8, w16, FitsSigned, to_z, of_z, ◌+ℤ◌, ◌*ℤ◌}
 use Rattle.std.specs.Prelude.{unsigned_abs}
 use Rattle.std.proofs.lemmas.Int.{ints}
 use Rattle.jiff_core.specs.Date.{epoch_day}
@@ -27,5 +27,5 @@ returns-clause-seconds c =
     } in
     let whole : seconds / 3600 * 3600 + seconds / 60 % 60 * 60 + seconds % 60 ≡ seconds = omega arith in
     sym (sum_of p c.args.date (epoch_day c.args.date) (epoch_day c.args.date *ℤ pos 86400 +ℤ pos c.args.second_of_day) refl
-      (omega (arith, ints, c.requires.year)) (omega (arith, ints)) (omega (arith, ints))
-      (ap (λ n. epoch_day c.args.date *ℤ pos 86400 +ℤ pos n) (sym whole)))
+    (omega (arith, ints, c.requires.year)) (omega (arith, ints)) (omega (arith, ints))
+    (ap (λ n. epoch_day c.args.date *ℤ pos 86400 +ℤ pos n) (sym whole)))

@@ -1,4 +1,4 @@
-use Rattle.std.proofs.Common.{◌≡◌, ℕ, ℤ, rules, arith, pos, w64, w32, w16, w8, FitsSigned, to_z, ◌∙◌, ◌+ℤ◌, ◌*ℤ◌, ◌*◌, ◌+◌}
+use Rattle.std.proofs.Common.{◌≡◌, rules, arith, pos, w64, w32, w16, w8, FitsSigned, to_z, ◌∙◌, ◌+ℤ◌, ◌*ℤ◌, ◌*◌, ◌+◌}
 use Rattle.std.proofs.lemmas.Int.{to_z-of_z, ints}
 use Rattle.jiff_core.specs.Calendar.{IsDate, IsCivilDate}
 use Rattle.jiff_core.specs.Date.{IsYmd, epoch_day}

@@ -1,4 +1,4 @@
-use Rattle.std.proofs.Common.{rules, refl, ◌≡◌, ◌<◌, ◌≤◌, length, arith, FitsSigned, w32, w64}
+use Rattle.std.proofs.Common.{rules, refl, ◌<◌, ◌≤◌, length, FitsSigned, w32, w64}
 use Rattle.std.proofs.lemmas.Int.{to_z-of_z}
 use Rattle.osm_model.specs.Limits.{IsId, IsPlace, max_tags}
 use Rattle.osm_model.proofs.change.Change.node.Goals as goal
