@@ -10,3 +10,4 @@ pub mod Clock
 pub mod ChangeForm
 pub mod KeyOrder
 pub mod Content
+pub mod ContentLaws

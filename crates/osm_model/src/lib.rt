@@ -4,6 +4,7 @@
 
 pub mod batch;
 pub mod change;
+pub mod content;
 pub mod form;
 pub mod kind;
 pub mod limits;

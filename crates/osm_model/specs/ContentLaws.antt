@@ -1,0 +1,21 @@
+-- What holds of the definitions of content and counts, whatever the changes.
+use Rattle.std.specs.Prelude.{◌≡◌, ℕ, ◌+◌, List, ◌++◌, true, ◌↔◌}
+use Rattle.osm_model.specs.Change.{ChangeValue}
+use Rattle.osm_model.specs.Content.{content_of, over, edits_by_user, edits_by_changeset}
+use Rattle.osm_model.specs.KeyOrder.{same_key}
+use Rattle.osm_model.specs.declared.kind.Key.{Key}
+
+-- two keys are one exactly where kind and id are equal
+abbrev pub KeysAreTold : Type 0
+KeysAreTold = (a b : Key) → (same_key a b ≡ true) ↔ (a ≡ b)
+
+-- the content of two lists joined is the second made over the content of the first: a deletion in
+-- the second takes out what the first left
+abbrev pub ContentsJoin : Type 0
+ContentsJoin = (a b : List ChangeValue) (k : Key) → content_of (a ++ b) k ≡ over (content_of a) b k
+
+-- the edits of two lists joined are those of both
+abbrev pub EditsAdd : Type 0
+EditsAdd = (a b : List ChangeValue) (n : ℕ) →
+    (edits_by_user (a ++ b) n ≡ edits_by_user a n + edits_by_user b n)
+    × (edits_by_changeset (a ++ b) n ≡ edits_by_changeset a n + edits_by_changeset b n)
