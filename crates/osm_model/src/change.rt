@@ -1,9 +1,10 @@
 //! One change of one object.
 
-ghost use Rattle.std.specs.Prelude.{◌≡◌, ◌<◌, ◌↔◌, length, IfOk, IsErrOf, IsTrue};
+ghost use Rattle.std.specs.Prelude.{◌≡◌, ◌<◌, ◌↔◌, length, IfOk, IsErrOf, IsTrue, Some, None};
 ghost use Rattle.std.specs.List.{AllByRecursion};
 ghost use Rattle.osm_model.specs.Limits.{IsId, IsPlace, max_tags, max_refs};
-ghost use Rattle.osm_model.specs.Change.{ChangeValue, IsChange, HasMemberId};
+ghost use Rattle.osm_model.specs.Change.{IsChange, HasMemberId};
+ghost use Rattle.osm_model.specs.Content.{standing_of};
 
 use crate::kind::{Key, Kind};
 use crate::limits::{MAX_ID, MAX_LAT, MAX_LON, MAX_REFS, MAX_TAGS};
@@ -244,6 +245,14 @@ impl Change {
         ensures { result.now ≡ self.now.meta }
     {
         &self.meta
+    }
+
+    /// Whether the change is a deletion, which leaves nothing of the object.
+    pub fn is_deletion(&self) -> bool
+        ensures deletion { IsTrue result → standing_of self.now ≡ None }
+        ensures other { ¬ IsTrue result → standing_of self.now ≡ Some self.now }
+    {
+        matches!(self.what, What::Deleted)
     }
 
     pub fn what(&self) -> &What

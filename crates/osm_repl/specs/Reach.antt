@@ -1,0 +1,17 @@
+-- Numbers without a gap.
+use Rattle.std.specs.Prelude.{◌≡◌, ℕ, zero, suc, ◌+◌, ◌<◌, ◌≤◌, List, [], ◌∷◌, ◌++◌, Bool, true, false}
+
+-- after n all up to m are in, and m + 1 isn't: m is the greatest number reached without a gap
+pub record Reaches (is_in : ℕ → Bool) (n m : ℕ) : Type 0 where
+  pub from : n ≤ m
+  pub all : (j : ℕ) → n < j → j ≤ m → is_in j ≡ true
+  pub next : is_in (m + 1) ≡ false
+
+-- the lists of n + 1 to n + count, joined
+abbrev pub between : {A : Type 0} → (ℕ → List A) → ℕ → ℕ → List A
+between f n zero = []
+between f n (suc count) = between f n count ++ f (n + suc count)
+
+-- n + 1 to n + count
+abbrev pub numbers : ℕ → ℕ → List ℕ
+numbers n count = between (λ j. j ∷ []) n count

@@ -1,0 +1,102 @@
+//! A follower of published sequences.
+
+ghost use Rattle.std.specs.Prelude.{◌≡◌, ◌+◌, ◌<◌, ◌≤◌, length, false, IfOk};
+ghost use Rattle.osm_model.specs.Limits.{max_sequence};
+ghost use Rattle.osm_repl.specs.Delivery.{FollowerStep, TakeStep};
+ghost use Rattle.osm_repl.specs.Follower.{new_follower};
+ghost use Rattle.osm_repl.specs.View.{view_of};
+
+use crate::event::Reply;
+use crate::mirror::Mirror;
+use crate::published::Published;
+use crate::view::View;
+use osm_model::batch::Batch;
+use osm_model::memory::WantOfMemory;
+use std::alloc::Global;
+use std::marker::Model;
+
+/// The mirror of sequences 1 to the follower's number. It is broken once an application was stopped
+/// half way for want of memory, and then says nothing more of its mirror.
+#[derive(Debug, Drop)]
+pub struct Follower {
+    number: u32,
+    time: Option<u32>,
+    mirror: Mirror,
+    is_broken: bool,
+}
+
+impl Model for Follower {
+    ghost use Rattle.osm_repl.specs.Follower.{FollowerValue, IsBounded};
+
+    ghost Value = { FollowerValue };
+
+    ghost view = { λ a. record { number = a.number; time = a.time; mirror = a.mirror; is_broken = a.is_broken } };
+
+    ghost invariant = { λ a. IsBounded a.number a.mirror a.is_broken };
+}
+
+impl Follower {
+    /// At sequence 0, with nothing in its mirror.
+    pub fn new(alloc: Global) -> Follower
+        ensures { result ≡ new_follower }
+    {
+        Follower {
+            number: 0,
+            time: None,
+            mirror: Mirror::new(alloc),
+            is_broken: false,
+        }
+    }
+
+    pub fn is_broken(&self) -> bool
+        ensures { result ≡ self.now.is_broken }
+    {
+        self.is_broken
+    }
+
+    /// Takes the published sequence of that number, if it is the next one.
+    pub fn deliver(&mut self, alloc: Global, number: u32, published: &Published) -> Reply
+        requires { number ≤ max_sequence }
+        ensures { FollowerStep self.old number published.now result self.new }
+    {
+        if self.is_broken {
+            return Reply::Broken;
+        }
+        if number <= self.number {
+            return Reply::Old;
+        }
+        if number > self.number + 1 {
+            return Reply::TooEarly;
+        }
+        let Ok(batch) = published.batch().copy(alloc) else {
+            return Reply::WantOfMemory;
+        };
+        self.take(number, batch, published.time())
+    }
+
+    /// Applies the next sequence.
+    fn take(&mut self, number: u32, batch: Batch, time: u32) -> Reply
+        requires whole { self.old.is_broken ≡ false }
+        requires next { number ≡ self.old.number + 1 }
+        requires within { number ≤ max_sequence }
+        ensures { TakeStep self.old number (record { changes = batch; time = time }) result self.new }
+    {
+        let Ok(()) = self.mirror.apply(batch.into_changes()) else {
+            self.is_broken = true;
+            return Reply::Broke;
+        };
+        self.number = number;
+        self.time = Some(time);
+        Reply::Applied {
+            low: number,
+            high: number,
+        }
+    }
+
+    /// A copy of all that the follower holds.
+    pub fn view(&self, alloc: Global) -> Result<View, WantOfMemory>
+        ensures { IfOk result (λ v. v ≡ view_of self.now) }
+    {
+        View::of(alloc, self.number, self.time, &self.mirror)
+    }
+}

@@ -1,0 +1,10 @@
+//! OpenStreetMap replication, from edits that are closed into sequences to a follower's mirror of them.
+#![tactic(auto)]
+
+pub mod counts;
+pub mod event;
+pub mod follower;
+pub mod mirror;
+pub mod objects;
+pub mod published;
+pub mod view;
