@@ -1,5 +1,5 @@
 -- A map whose objects stand under their own keys, read as a list of objects.
-use Rattle.std.proofs.Common.{◌≡◌, ℕ, ◌<◌, List, [], ◌∷◌, length, map, refl, ap, sym, ◌∙◌, true, false, Bool, Option, Some, None, arith, cond}
+use Rattle.std.proofs.Common.{◌≡◌, ℕ, ◌<◌, List, [], ◌∷◌, map, refl, ap, sym, ◌∙◌, true, false, Bool, Option, Some, cond}
 use Rattle.std.specs.Prelude.{if◌then◌else◌}
 use Rattle.std.specs.BTreeMap.{is_at, insert_entry}
 use Rattle.std.specs.List.{AllByRecursion}
@@ -11,7 +11,7 @@ use Rattle.osm_model.specs.Change.{ChangeValue}
 use Rattle.osm_model.specs.KeyOrder.{key_cmp}
 use Rattle.osm_model.specs.declared.kind.Key.{Key}
 use Rattle.osm_model.proofs.ContentLemmas.{one_key}
-use Rattle.osm_repl.specs.Entries.{HasOwnKey, HaveOwnKeys, objects_of}
+use Rattle.osm_repl.specs.Entries.{HaveOwnKeys, objects_of}
 use Rattle.osm_repl.specs.Mirror.{object_at, Counted, IsAboveZero}
 
 pub object_at-objects_of : (es : List (Key × ChangeValue)) (k : Key) → HaveOwnKeys es → object_at (objects_of es) k ≡ lookup (is_at (key_cmp k)) es

@@ -1,12 +1,32 @@
 -- A mirror after one list of changes and another.
-use Rattle.std.proofs.Common.{◌≡◌, ℕ, ◌+◌, ◌*◌, ◌<◌, ◌≤◌, List, [], ◌∷◌, ◌++◌, length, refl, ap, sym, ◌∙◌, Some, None, Option, arith, inl, inr, length-append}
+use Rattle.std.proofs.Common.{◌≡◌, ℕ, ◌+◌, ◌*◌, ◌≤◌, List, [], ◌∷◌, ◌++◌, length, refl, ap, sym, ◌∙◌, None, Option, arith, inl, inr, length-append}
 use Rattle.std.proofs.lemmas.List.Sums.{count_by-le-length}
+use Rattle.std.specs.List.Sorted.{IsStrictlySortedBy}
+use Rattle.std.specs.Ordering.{nat_cmp}
 use Rattle.std.specs.Prelude.{◌==◌}
+use Rattle.std.specs.declared.cmp.Ordering.{Ordering}
 use Rattle.osm_model.specs.Change.{ChangeValue}
-use Rattle.osm_model.specs.Content.{over, over_at, last_of, standing_of, edits_by_user, edits_by_changeset}
-use Rattle.osm_model.specs.declared.kind.Key.{Key}
+use Rattle.osm_model.specs.Content.{over_at, last_of, edits_by_user, edits_by_changeset}
+use Rattle.osm_model.specs.KeyOrder.{key_cmp}
 use Rattle.osm_model.proofs.ContentLemmas.{over-append, edits_by_user-append, edits_by_changeset-append}
-use Rattle.osm_repl.specs.Mirror.{MirrorValue, object_at, count_at, Applies, GrowsBy, HasRoom, IsOrderly, NeedsMemory, NeedsPlace, IsMirrorOf, IsWithin}
+use Rattle.osm_repl.specs.Mirror.{MirrorValue, object_at, Applies, GrowsBy, HasRoom, IsOrderly, NeedsMemory, NeedsPlace, IsMirrorOf, IsWithin, no_mirror}
+
+pub rising-nil : {K : Type 0} (cmp : K → K → Ordering) → IsStrictlySortedBy cmp []
+unfolding IsStrictlySortedBy
+rising-nil cmp = tt
+
+-- the empty mirror is that of no change
+pub mirror_of-nil : IsMirrorOf [] no_mirror
+mirror_of-nil = record {
+  orderly = record {
+    objects = rising-nil key_cmp;
+    users = record { rising = rising-nil nat_cmp; above = tt };
+    changesets = record { rising = rising-nil nat_cmp; above = tt };
+  };
+  objects = λ k. refl;
+  users = λ uid. refl;
+  changesets = λ id. refl;
+}
 
 pub Applies-nil : (m : MirrorValue) → IsOrderly m → Applies m [] m
 Applies-nil m orderly = record {

@@ -5,3 +5,8 @@ pub mod Reach
 pub mod Follower
 pub mod View
 pub mod Delivery
+pub mod World
+pub mod Step
+pub mod History
+pub mod Legal
+pub mod Correct

@@ -8,3 +8,4 @@ pub mod mirror;
 pub mod objects;
 pub mod published;
 pub mod view;
+pub mod world;

@@ -47,7 +47,7 @@ impl Objects {
     /// refusal nothing has changed.
     pub fn put(&mut self, change: Change) -> Result<(), WantOfMemory>
         ensures put { OnOk result ((k : Key) → object_at self.new k
-          ≡ (if same_key change.key k then standing_of change else object_at self.old k)) }
+            ≡ (if same_key change.key k then standing_of change else object_at self.old k)) }
         ensures grown { length self.new ≤ length self.old + 1 }
         ensures refused { OnErr result ((standing_of change ≡ Some change) × (object_at self.old change.key ≡ None)) }
         ensures unchanged { OnErr result (self.new ≡ self.old) }
@@ -83,7 +83,7 @@ fn take_out(objects: &mut BTreeMap<Key, Change>, key: Key)
     requires { HaveOwnKeys objects.old.entries }
     ensures own_keys { HaveOwnKeys objects.new.entries }
     ensures out { (k : Key) → object_at (objects_of objects.new.entries) k
-      ≡ (if same_key key k then None else object_at (objects_of objects.old.entries) k) }
+        ≡ (if same_key key k then None else object_at (objects_of objects.old.entries) k) }
     ensures grown { length objects.new.entries ≤ length objects.old.entries }
 {
     objects.remove(&key);
@@ -93,7 +93,7 @@ fn enter(objects: &mut BTreeMap<Key, Change>, change: Change) -> Result<(), Want
     requires { HaveOwnKeys objects.old.entries }
     ensures own_keys { HaveOwnKeys objects.new.entries }
     ensures entered { OnOk result ((k : Key) → object_at (objects_of objects.new.entries) k
-      ≡ (if same_key change.key k then Some change else object_at (objects_of objects.old.entries) k)) }
+        ≡ (if same_key change.key k then Some change else object_at (objects_of objects.old.entries) k)) }
     ensures grown { length objects.new.entries ≤ length objects.old.entries + 1 }
     ensures refused { OnErr result (object_at (objects_of objects.old.entries) change.key ≡ None) }
     ensures unchanged { OnErr result (objects.new.entries ≡ objects.old.entries) }

@@ -35,7 +35,12 @@ impl Model for View {
 
 impl View {
     /// The view of a follower with that number, time and mirror, which holds nothing.
-    pub fn of(alloc: Global, number: u32, time: Option<u32>, mirror: &Mirror) -> Result<View, WantOfMemory>
+    pub fn of(
+        alloc: Global,
+        number: u32,
+        time: Option<u32>,
+        mirror: &Mirror,
+    ) -> Result<View, WantOfMemory>
         ensures { IfOk result (λ v. v ≡ record { number = number; time = time; mirror = mirror.now; held = [] }) }
     {
         Ok(View {

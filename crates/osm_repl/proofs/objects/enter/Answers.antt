@@ -1,4 +1,4 @@
-use Rattle.std.proofs.Common.{◌≡◌, ap, sym, ◌∙◌, Some, None, Option}
+use Rattle.std.proofs.Common.{ap, sym, ◌∙◌, Some, Option}
 use Rattle.std.specs.Prelude.{if◌then◌else◌}
 use Rattle.std.specs.BTreeMap.{is_at}
 use Rattle.std.specs.Map.{lookup}
@@ -18,8 +18,8 @@ returns-clause-entered c = λ k.
     let own : HaveOwnKeys c.insert.new.self.entries = rw c.in-Ok.ensures.entries (own-insert_entry _ _ _ c.key.ensures.key c.requires) in
     object_at-objects_of c.insert.new.self.entries k own
     ∙ (c.in-Ok.ensures.updates.0 k
-      ∙ (ap (λ (q : Key). if same_key q k then Some c.args.change else lookup (is_at (key_cmp k)) c.args.objects.now.entries) c.key.ensures.key
-        ∙ ap (λ (o : Option ChangeValue). if same_key c.args.change.key k then Some c.args.change else o) (sym (object_at-objects_of c.args.objects.now.entries k c.requires))))
+    ∙ (ap (λ (q : Key). if same_key q k then Some c.args.change else lookup (is_at (key_cmp k)) c.args.objects.now.entries) c.key.ensures.key
+    ∙ ap (λ (o : Option ChangeValue). if same_key c.args.change.key k then Some c.args.change else o) (sym (object_at-objects_of c.args.objects.now.entries k c.requires))))
 
 pub returns-in_default-clause-refused : goal.returns-in_default-clause-refused
 returns-in_default-clause-refused c =

@@ -15,4 +15,4 @@ returns-clause-out c = λ k.
     let own : HaveOwnKeys c.remove.new.self.entries = rw c.remove.ensures.entries (own-remove_entry _ _ c.requires) in
     object_at-objects_of c.remove.new.self.entries k own
     ∙ (c.remove.ensures.updates.0 k
-      ∙ ap (λ (o : Option ChangeValue). if same_key c.args.key k then None else o) (sym (object_at-objects_of c.args.objects.now.entries k c.requires)))
+    ∙ ap (λ (o : Option ChangeValue). if same_key c.args.key k then None else o) (sym (object_at-objects_of c.args.objects.now.entries k c.requires)))

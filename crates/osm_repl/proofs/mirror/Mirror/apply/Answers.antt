@@ -1,9 +1,8 @@
-use Rattle.std.proofs.Common.{◌≡◌, ◌++◌, ◌∷◌, [], rules, arith, subst, sym, length, List, length-append}
+use Rattle.std.proofs.Common.{◌≡◌, ◌++◌, ◌∷◌, [], arith, length, length-append}
 use Rattle.std.proofs.lemmas.Grind.{common_steps}
 use Rattle.std.specs.Vec.Iter.{into_iter_items}
-use Rattle.osm_model.specs.Change.{ChangeValue}
-use Rattle.osm_repl.specs.Mirror.{HasRoom, NeedsMemory}
-use Rattle.osm_repl.proofs.MirrorLemmas.{room_left, Applies-append, needs_memory, GrowsBy-more}
+use Rattle.osm_repl.specs.Mirror.{HasRoom}
+use Rattle.osm_repl.proofs.MirrorLemmas.{room_left, Applies-append, GrowsBy-more}
 use Rattle.osm_repl.proofs.mirror.Mirror.apply.Goals as goal
 
 pub apply_one-requires : goal.apply_one-requires

@@ -1,5 +1,4 @@
-use Rattle.std.proofs.Common.{◌≡◌, sym, ap}
-use Rattle.osm_repl.specs.Mirror.{HasRoom, MirrorValue}
+use Rattle.osm_repl.specs.Mirror.{HasRoom}
 use Rattle.osm_repl.proofs.mirror.Mirror.apply_one.Goals as goal
 
 pub add_one-requires : goal.add_one-requires

@@ -1,4 +1,4 @@
-use Rattle.std.proofs.Common.{rules, ◌≡◌}
+use Rattle.std.proofs.Common.{rules}
 use Rattle.osm_repl.proofs.EntryLemmas.{keys-objects_of}
 use Rattle.osm_repl.proofs.objects.Objects.check_order.Goals as goal
 
