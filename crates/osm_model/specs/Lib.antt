@@ -11,3 +11,4 @@ pub mod ChangeForm
 pub mod KeyOrder
 pub mod Content
 pub mod ContentLaws
+pub mod CivilTime

@@ -4,6 +4,7 @@
 ghost use Rattle.std.specs.Prelude.{◌≡◌, ℕ, List, ◌+◌, ◌-◌, ◌*◌, ◌/◌, ◌%◌, ◌<◌, ◌≤◌, ◌^◌, ◌↔◌, Some, IsTrue, IsNone, IfSome, min, pos, codes, ◌+ℤ◌, ◌*ℤ◌, ◌≤ℤ◌};
 ghost use Rattle.jiff_core.specs.Calendar.{IsCivilDate};
 ghost use Rattle.jiff_core.specs.Date.{epoch_day};
+ghost use Rattle.osm_model.specs.CivilTime.{time_text};
 ghost use Rattle.osm_model.specs.Clock.{moment_of, HasDigits, loose_moment};
 ghost use Rattle.osm_model.specs.Limits.{IsPositive};
 ghost use Rattle.osm_model.specs.Time.{Moment, IsMoment, Shows, TimeText, moment_text, seconds_of};
@@ -32,6 +33,7 @@ pub fn time_read(bytes: &[u8]) -> Option<u32>
 
 /// The text of that many seconds since 1970-01-01T00:00:00Z.
 pub fn time_write(seconds: u32) -> [u8; 20]
+    ensures value { result ≡ time_text seconds }
     ensures shows { Shows result seconds }
     ensures text { 1 ≤ seconds → TimeText result seconds }
     ensures only { (bytes : List ℕ) → Shows bytes seconds → bytes ≡ result }
