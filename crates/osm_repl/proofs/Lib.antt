@@ -3,3 +3,5 @@ pub mod MirrorLemmas
 pub mod PublishedLemmas
 pub mod StepLemmas
 pub mod LegalLemmas
+pub mod ScriptLemmas
+pub mod ReplayLemmas

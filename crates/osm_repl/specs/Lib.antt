@@ -10,3 +10,8 @@ pub mod Step
 pub mod History
 pub mod Legal
 pub mod Correct
+pub mod Script
+pub mod Replies
+pub mod Replay
+pub mod Parsing
+pub mod Reading

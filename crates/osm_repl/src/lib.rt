@@ -3,9 +3,13 @@
 
 pub mod counts;
 pub mod event;
+pub mod fault;
 pub mod follower;
 pub mod mirror;
 pub mod objects;
 pub mod published;
+pub mod replay;
+pub mod replies;
+pub mod script;
 pub mod view;
 pub mod world;

@@ -1,0 +1,72 @@
+-- A script: a text whose lines are events. Empty lines and lines that begin with `#` say nothing.
+use Rattle.std.specs.Prelude.{◌≡◌, ℕ, ◌+◌, ◌≤◌, List, ◌∷◌, ◌++◌, length, codes, false, not}
+use Rattle.std.specs.List.{AllZip, filter}
+use Rattle.std.specs.Str.Parse.{IsNumeral, digits_value}
+use Rattle.osm_model.specs.Change.{ChangeValue}
+use Rattle.osm_model.specs.Time.{TimeText}
+use Rattle.osm_opl.specs.Line.{SpellsLine}
+use Rattle.osm_opl.specs.Lines.{lines_of, is_skipped}
+use Rattle.osm_repl.specs.declared.event.Event.{Event}
+use Rattle.osm_repl.specs.declared.event.Event.TheVariants.{Edit, Close, Deliver, Show}
+use Rattle.osm_repl.specs.declared.event.Form.{Form}
+use Rattle.osm_repl.specs.declared.event.Form.TheVariants.{Opl}
+
+-- 1 to 9 digits, zeros in front accepted
+pub record SpellsSequence (digits : List ℕ) (number : ℕ) : Type 0 where
+  pub numeral : IsNumeral 10 digits
+  pub short : length digits ≤ 9
+  pub value : number ≡ digits_value 10 digits
+
+-- a blank and the name of a form
+abbrev pub form_text : Form → List ℕ
+form_text Opl = codes " opl"
+
+-- `edit LINE`, with a line of an OPL file
+pub record IsEdit (line : List ℕ) (change : ChangeValue) : Type 0 where
+  pub object : List ℕ
+  pub parts : line ≡ codes "edit " ++ object
+  pub spelled : SpellsLine object change
+
+-- `close TIME`
+pub record IsClose (line : List ℕ) (time : ℕ) : Type 0 where
+  pub text : List ℕ
+  pub parts : line ≡ codes "close " ++ text
+  pub spelled : TimeText text time
+
+-- `deliver N FORM`
+pub record IsDeliver (line : List ℕ) (number : ℕ) (form : Form) : Type 0 where
+  pub digits : List ℕ
+  pub parts : line ≡ codes "deliver " ++ (digits ++ form_text form)
+  pub spelled : SpellsSequence digits number
+
+-- the line is the event
+abbrev pub IsEventLine : List ℕ → Event → Type 0
+IsEventLine line (Edit change) = IsEdit line change
+IsEventLine line (Close time) = IsClose line time
+IsEventLine line (Deliver number form) = IsDeliver line number form
+IsEventLine line Show = line ≡ codes "show"
+
+-- the lines that say something
+abbrev pub said_of : List (List ℕ) → List (List ℕ)
+said_of lines = filter (λ line. not (is_skipped line)) lines
+
+-- those lines are the events, one by one
+abbrev pub AreEvents : List (List ℕ) → List Event → Type 0
+AreEvents lines events = AllZip IsEventLine (said_of lines) events
+
+-- the text is a script of those events
+abbrev pub ScriptOf : List ℕ → List Event → Type 0
+ScriptOf script events = AreEvents (lines_of script) events
+
+-- the line of that number, counted from 1 over all lines, is the first that is neither skipped nor
+-- an event
+pub record IsBadLine (script : List ℕ) (place : ℕ) : Type 0 where
+  pub before : List (List ℕ)
+  pub line : List ℕ
+  pub after : List (List ℕ)
+  pub parts : lines_of script ≡ before ++ line ∷ after
+  pub number : place ≡ length before + 1
+  pub events : List Event
+  pub earlier : AreEvents before events
+  pub said : is_skipped line ≡ false
+  pub none : (e : Event) → IsEventLine line e → ⊥

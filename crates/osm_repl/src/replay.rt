@@ -1,0 +1,102 @@
+//! A replay: a script is read whole, run, and answered by its reply text.
+
+ghost use Rattle.std.specs.Prelude.{◌≡◌, ℕ, ◌≤◌, List, length, IfOk, OnOk, IfErr, take};
+ghost use Rattle.std.specs.Io.KnownBytes.{Appends, Consumes, IsAtEnd};
+ghost use Rattle.osm_model.specs.Limits.{max_file};
+ghost use Rattle.osm_repl.specs.Replay.{AnswerFault, ReadingFault, ReplayFault, ReplayLeaves, Replays, RepliesTo, WritingFault};
+
+use crate::fault::{FileName, RunFault};
+use crate::replies::write_replies;
+use crate::script::parse_script;
+use crate::world::World;
+use osm_model::limits::MAX_FILE;
+use std::alloc::Global;
+use std::io::{Read, Write};
+
+// One read for each byte of the largest script, one that finds the byte too much, and one more.
+const MOST_READS: u64 = 67_108_866;
+
+/// Reads a whole script, runs its events in a new world, and writes the reply text. The reader is asked
+/// at most 67,108,866 times. Nothing was written after any fault but `WriteFault`; after that a front of
+/// the reply text was. Every error of the reader or the writer is a fault, an interruption too, and so
+/// is a write that takes 0 bytes.
+pub fn replay_run<R: Read, W: Write>(
+    alloc: Global,
+    reader: &mut R,
+    writer: &mut W,
+) -> Result<(), RunFault>
+    ensures replays { OnOk result (Replays (R.remaining reader.old) (W.contents writer.old) (W.contents writer.new)) }
+    ensures fault { IfErr result (ReplayFault (R.remaining reader.old) (R.remaining reader.new)) }
+    ensures leaves { IfErr result (ReplayLeaves (R.remaining reader.old) (W.contents writer.old) (W.contents writer.new)) }
+{
+    let script = match read_script(alloc, reader) {
+        Ok(script) => script,
+        Err(fault) => return Err(fault),
+    };
+    let text = match reply_text_of(alloc, script.as_slice()) {
+        Ok(text) => text,
+        Err(fault) => return Err(fault),
+    };
+    write_text(writer, text.as_slice())
+}
+
+// The reply text of a script.
+fn reply_text_of(alloc: Global, script: &[u8]) -> Result<Vec<u8>, RunFault>
+    requires { length script.now ≤ max_file }
+    ensures text { IfOk result (λ text. RepliesTo script.now text.items) }
+    ensures fault { IfErr result (AnswerFault script.now) }
+{
+    let events = parse_script(alloc, script)?;
+    let Ok(run) = World::run(alloc, events) else {
+        return Err(RunFault::WantOfMemory);
+    };
+    match write_replies(alloc, run.replies.as_slice()) {
+        Ok(text) => Ok(text),
+        Err(_) => Err(RunFault::WantOfMemory),
+    }
+}
+
+// All that the reader has, up to the largest script; the only place that asks a reader.
+fn read_script<R: Read>(alloc: Global, reader: &mut R) -> Result<Vec<u8>, RunFault>
+    ensures script { IfOk result (λ bytes. Consumes (R.remaining reader.old) (R.remaining reader.new) bytes.items) }
+    ensures end { OnOk result (IsAtEnd (R.remaining reader.new)) }
+    ensures small { IfOk result (λ bytes. length bytes.items ≤ max_file) }
+    ensures fault { IfErr result (ReadingFault (R.remaining reader.old) (R.remaining reader.new)) }
+{
+    let mut script = Vec::new(alloc);
+    let mut block = [0u8; 16384];
+    for _ in 0..MOST_READS {
+        let Ok(count) = reader.read(&mut block) else {
+            return Err(RunFault::ReadFault(FileName::Input));
+        };
+        if count == 0 {
+            return Ok(script);
+        }
+        if script.len() + count > MAX_FILE {
+            return Err(RunFault::TooLarge(FileName::Input));
+        }
+        let Ok(()) = script.extend_from_slice(&block[..count]) else {
+            return Err(RunFault::WantOfMemory);
+        };
+    }
+    Err(RunFault::TooLarge(FileName::Input))
+}
+
+// Writes all the text, or a front of it.
+fn write_text<W: Write>(writer: &mut W, text: &[u8]) -> Result<(), RunFault>
+    ensures written { OnOk result (Appends (W.contents writer.old) (W.contents writer.new) text.now) }
+    ensures fault { IfErr result (WritingFault (W.contents writer.old) (W.contents writer.new) text.now) }
+{
+    let mut at = 0usize;
+    while at < text.len() {
+        match writer.write(&text[at..]) {
+            Ok(0) => return Err(RunFault::WriteFault(FileName::Output)),
+            Ok(count) => at += count,
+            Err(_) => return Err(RunFault::WriteFault(FileName::Output)),
+        }
+    }
+    match writer.flush() {
+        Ok(()) => Ok(()),
+        Err(_) => Err(RunFault::WriteFault(FileName::Output)),
+    }
+}
