@@ -15,3 +15,4 @@ pub mod Replies
 pub mod Replay
 pub mod Parsing
 pub mod Reading
+pub mod CommandLine

@@ -1,12 +1,14 @@
 //! OpenStreetMap replication, from edits that are closed into sequences to a follower's mirror of them.
 #![tactic(auto)]
 
+pub mod command_line;
 pub mod counts;
 pub mod event;
 pub mod fault;
 pub mod follower;
 pub mod mirror;
 pub mod objects;
+pub mod orders;
 pub mod published;
 pub mod replay;
 pub mod replies;
