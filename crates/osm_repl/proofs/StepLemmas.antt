@@ -77,12 +77,12 @@ edited_keeps h c a b s t = rw t (record {
   reported = λ ok. rw append-nil (s.reported ok);
 })
 
-closed_keeps : (h : hist.History) (t n : ℕ) (a b : WorldValue) → IsInStep h a → b ≡ record a { pending = []; published = a.published ++ (record { changes = a.pending; time = t }) ∷ [] } → IsInStep ((Close t, Closed n) ∷ h) b
+closed_keeps : (h : hist.History) (t n : ℕ) (a b : WorldValue) → IsInStep h a → b ≡ record a { pending = []; published = a.published ++ (record { number = length a.published + 1; changes = a.pending; time = t }) ∷ [] } → IsInStep ((Close t, Closed n) ∷ h) b
 closed_keeps h t n a b s is = rw is (record {
   pending = refl;
   published = rw (s.published, s.pending) refl;
   broken = s.broken;
-  state = λ ok. state_grown (hist.published_of h) ((record { changes = hist.pending_of h; time = t }) ∷ []) (hist.start_of h) (hist.accepted_of h) a.follower (s.state ok);
+  state = λ ok. state_grown (hist.published_of h) ((record { number = length (hist.published_of h) + 1; changes = hist.pending_of h; time = t }) ∷ []) (hist.start_of h) (hist.accepted_of h) a.follower (s.state ok);
   reported = λ ok. rw append-nil (s.reported ok);
 })
 

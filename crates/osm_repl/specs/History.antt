@@ -1,6 +1,6 @@
 -- What a history of events and replies says. The model reads only these: no state stands in it. A
 -- history has its newest pair first.
-use Rattle.std.specs.Prelude.{ℕ, ◌+◌, ◌-◌, List, [], ◌∷◌, ◌++◌, Bool, true, false, ◌||◌, ◌==◌, if◌then◌else◌, reverse}
+use Rattle.std.specs.Prelude.{ℕ, ◌+◌, ◌-◌, length, List, [], ◌∷◌, ◌++◌, Bool, true, false, ◌||◌, ◌==◌, if◌then◌else◌, reverse}
 use Rattle.std.specs.List.{zip}
 use Rattle.osm_model.specs.Change.{ChangeValue}
 use Rattle.osm_repl.specs.Published.{PublishedValue}
@@ -60,7 +60,7 @@ pending_of (p ∷ h) = if closes p.0 p.1 then [] else (pending_of h ++ edit_of p
 abbrev pub published_of : History → List PublishedValue
 published_of [] = []
 published_of (p ∷ h) =
-    if closes p.0 p.1 then (published_of h ++ (record { changes = pending_of h; time = time_of p.0 }) ∷ []) else published_of h
+    if closes p.0 p.1 then (published_of h ++ (record { number = length (published_of h) + 1; changes = pending_of h; time = time_of p.0 }) ∷ []) else published_of h
 
 -- the number that the follower started at: 0, as long as nothing is saved
 abbrev pub start_of : History → ℕ

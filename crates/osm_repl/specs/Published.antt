@@ -1,20 +1,25 @@
 -- Published sequences, counted from 1 (OSM wiki, Planet.osm/diffs): each a batch of changes and the
 -- time of its state. Sequence 0 is the empty start.
-use Rattle.std.specs.Prelude.{ℕ, zero, suc, ◌-◌, List, Option, Some, None, take, get_or, [], ◌∷◌}
+use Rattle.std.specs.Prelude.{◌≡◌, ℕ, zero, suc, ◌-◌, ◌<◌, ◌≤◌, length, List, Option, Some, None, take, get_or, [], ◌∷◌}
 use Rattle.std.specs.List.{flat_map}
 use Rattle.osm_model.specs.Change.{ChangeValue}
 
 pub record PublishedValue : Type 0 where
+  pub number : ℕ
   pub changes : List ChangeValue
   pub time : ℕ
 
 -- what stands where nothing was published
 abbrev pub unpublished : PublishedValue
-unpublished = record { changes = []; time = 0 }
+unpublished = record { number = 0; changes = []; time = 0 }
 
 -- the published sequence of that number
 abbrev pub member : List PublishedValue → ℕ → PublishedValue
 member published number = get_or published (number - 1) unpublished
+
+-- each sequence stands at its own number
+abbrev pub AreNumbered : List PublishedValue → Type 0
+AreNumbered published = (k : ℕ) → 0 < k → k ≤ length published → (member published k).number ≡ k
 
 -- the changes of that sequence
 abbrev pub changes_at : List PublishedValue → ℕ → List ChangeValue

@@ -23,7 +23,7 @@ EditStep a c r b = ⊥
 abbrev pub CloseStep : WorldValue → ℕ → Reply → WorldValue → Type 0
 CloseStep a t (Closed n) b =
     (length a.published < max_sequence) × (last_time a.published ≤ t) × (n ≡ length a.published + 1)
-    × (b ≡ record a { pending = []; published = a.published ++ (record { changes = a.pending; time = t }) ∷ [] })
+    × (b ≡ record a { pending = []; published = a.published ++ (record { number = length a.published + 1; changes = a.pending; time = t }) ∷ [] })
 CloseStep a t SequenceFull b = (length a.published ≡ max_sequence) × (b ≡ a)
 CloseStep a t TimeBack b = (length a.published < max_sequence) × (t < last_time a.published) × (b ≡ a)
 CloseStep a t WantOfMemory b = (length a.published < max_sequence) × (last_time a.published ≤ t) × (b ≡ a)

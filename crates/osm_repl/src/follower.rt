@@ -8,10 +8,10 @@ ghost use Rattle.osm_repl.specs.View.{view_of};
 
 use crate::event::Reply;
 use crate::mirror::Mirror;
-use crate::published::Published;
 use crate::view::View;
 use osm_model::batch::Batch;
 use osm_model::memory::WantOfMemory;
+use osm_state::state::State;
 use std::alloc::Global;
 use std::marker::Model;
 
@@ -54,11 +54,12 @@ impl Follower {
         self.is_broken
     }
 
-    /// Takes the published sequence of that number, if it is the next one.
-    pub fn deliver(&mut self, alloc: Global, number: u32, published: &Published) -> Reply
-        requires { number ≤ max_sequence }
-        ensures { FollowerStep self.old number published.now result self.new }
+    /// Takes the published sequence of that state, if it is the next one.
+    pub fn deliver(&mut self, alloc: Global, state: &State, batch: &Batch) -> Reply
+        ensures { FollowerStep self.old state.now.sequence
+            (record { number = state.now.sequence; changes = batch.now; time = state.now.time }) result self.new }
     {
+        let number = state.sequence();
         if self.is_broken {
             return Reply::Broken;
         }
@@ -68,10 +69,10 @@ impl Follower {
         if number > self.number + 1 {
             return Reply::TooEarly;
         }
-        let Ok(batch) = published.batch().copy(alloc) else {
+        let Ok(batch) = batch.copy(alloc) else {
             return Reply::WantOfMemory;
         };
-        self.take(number, batch, published.time())
+        self.take(number, batch, state.time())
     }
 
     /// Applies the next sequence.
@@ -79,7 +80,7 @@ impl Follower {
         requires whole { self.old.is_broken ≡ false }
         requires next { number ≡ self.old.number + 1 }
         requires within { number ≤ max_sequence }
-        ensures { TakeStep self.old number (record { changes = batch; time = time }) result self.new }
+        ensures { TakeStep self.old number (record { number = number; changes = batch; time = time }) result self.new }
     {
         let Ok(()) = self.mirror.apply(batch.into_changes()) else {
             self.is_broken = true;

@@ -1,31 +1,66 @@
 //! Published sequences.
 
-ghost use Rattle.std.specs.Prelude.{◌≡◌, ◌≤◌, length};
-ghost use Rattle.osm_model.specs.Limits.{max_changes};
+ghost use Rattle.std.specs.Prelude.{◌≡◌, ◌≤◌};
+ghost use Rattle.osm_model.specs.Limits.{IsPositive};
+ghost use Rattle.osm_state.specs.StateText.{state_text};
 
 use osm_model::batch::Batch;
+use osm_state::state::State;
+use osm_state::state_text::state_read;
 use std::marker::Model;
 
-/// A closed batch, and the time of its state in seconds since 1970-01-01T00:00:00Z.
+/// A closed batch and the text of its state.
 #[derive(Debug, Drop)]
 pub struct Published {
-    batch: Batch,
+    number: u32,
     time: u32,
+    batch: Batch,
+    state: Vec<u8>,
 }
 
 impl Model for Published {
+    ghost use Rattle.std.specs.Prelude.{◌≡◌};
     ghost use Rattle.osm_repl.specs.Published.{PublishedValue};
+    ghost use Rattle.osm_state.specs.State.{IsState};
+    ghost use Rattle.osm_state.specs.StateText.{state_text};
 
     ghost Value = { PublishedValue };
 
-    ghost view = { λ a. record { changes = a.batch; time = a.time } };
+    ghost view = { λ a. record { number = a.number; changes = a.batch; time = a.time } };
+
+    ghost invariant = { λ a.
+        (a.state.items ≡ state_text (record { sequence = a.number; time = a.time }))
+        × IsState (record { sequence = a.number; time = a.time }) };
 }
 
 impl Published {
-    pub fn new(batch: Batch, time: u32) -> Published
-        ensures { result ≡ record { changes = batch; time = time } }
+    /// The batch of that state, whose text it is.
+    pub(crate) fn new(batch: Batch, state: State, text: Vec<u8>) -> Published
+        requires { text.items ≡ state_text state }
+        ensures { result ≡ record { number = state.sequence; changes = batch; time = state.time } }
     {
-        Published { batch, time }
+        Published {
+            number: state.sequence(),
+            time: state.time(),
+            batch,
+            state: text,
+        }
+    }
+
+    /// The number and the time, as the state text says them.
+    pub fn state(&self) -> State
+        ensures number { result.sequence ≡ self.now.number }
+        ensures time { result.time ≡ self.now.time }
+        ensures limits { IsPositive self.now.time }
+    {
+        state_read(self.state.as_slice()).unwrap()
+    }
+
+    /// The text of the state file.
+    pub fn state_text(&self) -> &[u8]
+        ensures { result.now ≡ state_text (record { sequence = self.now.number; time = self.now.time }) }
+    {
+        self.state.as_slice()
     }
 
     pub fn batch(&self) -> &Batch
@@ -34,14 +69,8 @@ impl Published {
         &self.batch
     }
 
-    pub fn time(&self) -> u32
-        ensures { result ≡ self.now.time }
-    {
-        self.time
-    }
-
-    /// The batch, which the refusal of a place gives back.
-    pub fn into_batch(self) -> Batch
+    /// The batch, where the refusal of a place gives it back.
+    pub(crate) fn into_batch(self) -> Batch
         ensures { result ≡ self.changes }
     {
         self.batch

@@ -14,6 +14,8 @@ use osm_model::batch::{Batch, PushError};
 use osm_model::change::Change;
 use osm_model::limits::MAX_SEQUENCE;
 use osm_model::memory::WantOfMemory;
+use osm_state::state::State;
+use osm_state::state_text::state_write;
 use std::alloc::Global;
 use std::marker::Model;
 
@@ -29,13 +31,14 @@ pub struct World {
 impl Model for World {
     ghost use Rattle.std.specs.Prelude.{◌≤◌, length};
     ghost use Rattle.osm_model.specs.Limits.{max_sequence};
+    ghost use Rattle.osm_repl.specs.Published.{AreNumbered};
     ghost use Rattle.osm_repl.specs.World.{WorldValue};
 
     ghost Value = { WorldValue };
 
     ghost view = { λ a. record { pending = a.pending; published = a.archive.items; follower = a.follower } };
 
-    ghost invariant = { λ a. length a.archive.items ≤ max_sequence };
+    ghost invariant = { λ a. (length a.archive.items ≤ max_sequence) × AreNumbered a.archive.items };
 }
 
 /// A world after some events, and what it replied to each of them.
@@ -105,8 +108,12 @@ impl World {
             return Reply::TimeBack;
         }
         let alloc = self.alloc;
+        let state = State::new(number + 1, time).unwrap();
+        let Ok(text) = state_write(alloc, &state) else {
+            return Reply::WantOfMemory;
+        };
         let batch = std::mem::replace(&mut self.pending, Batch::new(alloc));
-        match self.archive.push(Published::new(batch, time)) {
+        match self.archive.push(Published::new(batch, state, text)) {
             Ok(()) => Reply::Closed(number + 1),
             Err(refused) => {
                 self.pending = refused.value.into_batch();
@@ -123,7 +130,8 @@ impl World {
         }
         let alloc = self.alloc;
         let published = &self.archive[number as usize - 1];
-        self.follower.deliver(alloc, number, published)
+        self.follower
+            .deliver(alloc, &published.state(), published.batch())
     }
 
     fn show(&mut self) -> Reply
@@ -142,10 +150,11 @@ impl World {
 
 // The time that the next close may not fall below: the last one's, or 1 before the first.
 fn last_time_of(archive: &[Published]) -> u32
-    ensures { result ≡ last_time archive.now }
+    ensures time { result ≡ last_time archive.now }
+    ensures above { 1 ≤ result }
 {
     match archive.last() {
-        Some(published) => published.time(),
+        Some(published) => published.state().time(),
         None => 1,
     }
 }

@@ -1,0 +1,6 @@
+pub mod State
+pub mod Properties
+pub mod StateText
+pub mod StateFault
+pub mod Path
+pub mod Laws

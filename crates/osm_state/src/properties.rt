@@ -1,0 +1,151 @@
+//! Texts of keys and values, a pair a line: Java's properties, as far as state files use them.
+
+ghost use Rattle.std.specs.Prelude.{◌≡◌, ℕ, ◌<◌, ◌≤◌, ◌==◌, List, [], ◌∷◌, ◌++◌, take, length, Some, None, option_map, MatchOption, IfSome, IsNone};
+ghost use Rattle.std.specs.List.{position};
+ghost use Rattle.std.specs.Option.{option_copied};
+ghost use Rattle.std.specs.Str.Lines.{strip_carriage_return};
+ghost use Rattle.osm_state.specs.Properties.{is_blank, trimmed, trimmed_end, trimmed_front, is_note, entry_of, cut_at_equals, value_of, value_at, seen_entry, unescaped, StandsFor};
+ghost use Rattle.osm_state.specs.StateText.{sequence_key, time_key};
+
+use arrayvec::ArrayVec;
+
+/// The values that a text gives to the two keys of a state, none where it has no line with the key.
+#[derive(Clone, Copy)]
+pub(crate) struct Values<'a> {
+    pub sequence: Option<&'a [u8]>,
+    pub time: Option<&'a [u8]>,
+}
+
+/// The values of the last line with each key.
+pub(crate) fn values_of(text: &[u8]) -> Values<'_>
+    ensures sequence { option_copied result.sequence ≡ value_of text.now sequence_key }
+    ensures time { option_copied result.time ≡ value_of text.now time_key }
+{
+    let mut sequence = None;
+    let mut time = None;
+    for piece in text.split(|byte| *byte == b'\n') {
+        let entry = entry(without_return(piece));
+        sequence = value_at(entry, b"sequenceNumber").or(sequence);
+        time = value_at(entry, b"timestamp").or(time);
+    }
+    Values { sequence, time }
+}
+
+fn value_at<'a>(entry: Option<(&'a [u8], &'a [u8])>, key: &[u8]) -> Option<&'a [u8]>
+    ensures { option_copied result ≡ value_at key.now (seen_entry entry.entry) }
+{
+    match entry {
+        Some((name, value)) if name == key => Some(value),
+        _ => None,
+    }
+}
+
+fn without_return(piece: &[u8]) -> &[u8]
+    ensures { result.now ≡ strip_carriage_return piece.now }
+{
+    match piece {
+        [line @ .., b'\r'] => line,
+        _ => piece,
+    }
+}
+
+// The key and the value of a line, none of a line that is skipped.
+#[tactic(auto, using(crate::proofs::LineLemmas::entry_of_note, crate::proofs::LineLemmas::entry_of_none, crate::proofs::LineLemmas::entry_of_some))]
+fn entry(line: &[u8]) -> Option<(&[u8], &[u8])>
+    ensures { seen_entry result ≡ entry_of line.now }
+{
+    if is_note(line) {
+        return None;
+    }
+    let end = equals_at(line)?;
+    Some((trim(&line[..end]), trim(&line[end + 1..])))
+}
+
+fn equals_at(line: &[u8]) -> Option<usize>
+    ensures { result ≡ position (λ b. b == 61) line.now }
+{
+    line.iter().position(|byte| *byte == b'=')
+}
+
+fn is_note(line: &[u8]) -> bool
+    ensures { result ≡ is_note line.now }
+{
+    matches!(trim_front(line), [b'#' | b'!', ..])
+}
+
+fn is_blank(byte: u8) -> bool
+    ensures { result ≡ is_blank byte }
+{
+    byte == b' ' || byte == b'\t'
+}
+
+fn trim_front(bytes: &[u8]) -> &[u8]
+    ensures { result.now ≡ trimmed_front bytes.now }
+{
+    let mut rest = bytes;
+    while let Some((first, after)) = rest.split_first()
+        && is_blank(*first)
+    {
+        rest = after;
+    }
+    rest
+}
+
+fn trim_end(bytes: &[u8]) -> &[u8]
+    ensures { result.now ≡ trimmed_end bytes.now }
+{
+    let mut rest = bytes;
+    while let Some((last, before)) = rest.split_last()
+        && is_blank(*last)
+    {
+        rest = before;
+    }
+    rest
+}
+
+// Without the blanks at both ends.
+#[tactic(auto, unfolding(crate::specs::Properties::trimmed))]
+fn trim(bytes: &[u8]) -> &[u8]
+    ensures { result.now ≡ trimmed bytes.now }
+{
+    trim_end(trim_front(bytes))
+}
+
+/// What a value stands for, or its first 21 bytes: no value that is longer is a number or a time.
+/// None where it ends inside an escape.
+#[tactic(auto, using(crate::proofs::EscapeLemmas::step, crate::proofs::EscapeLemmas::cut_short, crate::proofs::EscapeLemmas::all_read, crate::proofs::EscapeLemmas::at_start))]
+pub(crate) fn unescape(value: &[u8]) -> Option<ArrayVec<u8, 21>>
+    ensures { MatchOption result (unescaped value.now ≡ None) (λ front. StandsFor value.now front.items) }
+{
+    let mut plain = ArrayVec::new();
+    let mut rest = value;
+    while let Some((first, after)) = rest.split_first() {
+        let (byte, after) = plain_byte(*first, after)?;
+        keep(&mut plain, byte);
+        rest = after;
+    }
+    Some(plain)
+}
+
+// What the byte or the escape at the front stands for, and the bytes after it; none for an escape
+// that is cut.
+#[tactic(auto, using(crate::proofs::EscapeLemmas::unescaped_escape, crate::proofs::EscapeLemmas::unescaped_byte, crate::proofs::EscapeLemmas::unescaped_cut))]
+fn plain_byte(first: u8, after: &[u8]) -> Option<(u8, &[u8])>
+    ensures some { IfSome result (λ r. unescaped (first ∷ after.now) ≡ option_map (λ plain. r.0 ∷ plain) (unescaped r.1.now)) }
+    ensures fewer { IfSome result (λ r. length r.1.now ≤ length after.now) }
+    ensures none { IsNone result → unescaped (first ∷ after.now) ≡ None }
+{
+    if first != b'\\' {
+        return Some((first, after));
+    }
+    let (byte, rest) = after.split_first()?;
+    Some((*byte, rest))
+}
+
+fn keep(front: &mut ArrayVec<u8, 21>, byte: u8)
+    ensures { front.new.items ≡ take 21 (front.old.items ++ byte ∷ []) }
+{
+    if !front.is_full() {
+        front.push(byte);
+    }
+}

@@ -1,0 +1,118 @@
+//! `state.txt`, as it is read and written.
+
+ghost use Rattle.std.specs.Prelude.{◌≡◌, ◌==◌, ℕ, ◌↔◌, List, Some, Ok, Err, None, ◌++◌, IfOk, OnOk, IfErr, IfSome, MatchResult};
+ghost use Rattle.osm_model.specs.Time.{TimeText};
+ghost use Rattle.osm_state.specs.State.{StateValue};
+ghost use Rattle.osm_state.specs.StateFault.{FaultOf, SequenceFault, TimeFault};
+ghost use Rattle.osm_state.specs.StateText.{StateOf, SequenceText, StandsForNumber, state_text, escaped_colons};
+
+use crate::properties::{unescape, values_of};
+use crate::state::State;
+use itoa::Buffer;
+use osm_model::memory::WantOfMemory;
+use osm_model::time::{time_read, time_write};
+use std::alloc::Global;
+use thiserror::Error;
+
+/// Why a text has no state: the first that applies, the sequence before the time.
+#[derive(Clone, Copy, Debug, PartialEq, Eq, Error)]
+pub enum StateError {
+    /// No line has the key `sequenceNumber`.
+    #[error("MissingSequence")]
+    MissingSequence,
+    /// A backslash is the last byte of the value, of the sequence or of the time.
+    #[error("BadEscape")]
+    BadEscape,
+    /// The value of `sequenceNumber` isn't 1 to 9 digits.
+    #[error("BadSequence")]
+    BadSequence,
+    /// No line has the key `timestamp`.
+    #[error("MissingTime")]
+    MissingTime,
+    /// The value of `timestamp` isn't a time.
+    #[error("BadTime")]
+    BadTime,
+}
+
+/// The state of a text with the lines `sequenceNumber=N` and `timestamp=YYYY-MM-DDTHH:MM:SSZ`.
+///
+/// The keys stand in either order, and other lines between them. Lines end with LF or CR LF; lines
+/// that begin with `#` or `!`, lines without `=` and other keys are skipped; blanks around a key or
+/// a value are dropped, and of two lines with one key the last counts. `\c` stands for the byte c
+/// (OSM wiki, Planet.osm/diffs; what it leaves open is our choice). It takes no memory.
+pub fn state_read(bytes: &[u8]) -> Result<State, StateError>
+    ensures found { IfOk result (λ s. StateOf bytes.now s) }
+    ensures only { (s : StateValue) → StateOf bytes.now s → result ≡ Ok s }
+    ensures refused { IfErr result (λ e. FaultOf bytes.now e) }
+    ensures exact { (e : StateError) → FaultOf bytes.now e → result ≡ Err e }
+{
+    let values = values_of(bytes);
+    let sequence = sequence_in(values.sequence.ok_or(StateError::MissingSequence)?)?;
+    let time = time_in(values.time.ok_or(StateError::MissingTime)?)?;
+    Ok(State::within_limits(sequence, time))
+}
+
+fn sequence_in(value: &[u8]) -> Result<u32, StateError>
+    ensures { MatchResult result (StandsForNumber SequenceText value.now) (SequenceFault value.now) }
+{
+    let plain = unescape(value).ok_or(StateError::BadEscape)?;
+    sequence_read(&plain).ok_or(StateError::BadSequence)
+}
+
+fn time_in(value: &[u8]) -> Result<u32, StateError>
+    ensures { MatchResult result (StandsForNumber TimeText value.now) (TimeFault value.now) }
+{
+    let plain = unescape(value).ok_or(StateError::BadEscape)?;
+    time_read(&plain).ok_or(StateError::BadTime)
+}
+
+// The number of 1 to 9 digits.
+fn sequence_read(text: &[u8]) -> Option<u32>
+    ensures sound { IfSome result (λ n. SequenceText text.now n) }
+    ensures complete { (n : ℕ) → SequenceText text.now n → result ≡ Some n }
+{
+    if text.is_empty() || 9 < text.len() {
+        return None;
+    }
+    let mut number = 0;
+    for byte in text {
+        if !byte.is_ascii_digit() {
+            return None;
+        }
+        number = 10 * number + (*byte - b'0') as u32;
+    }
+    Some(number)
+}
+
+/// `sequenceNumber=N` and `timestamp=YYYY-MM-DDTHH\:MM\:SSZ`, each ended by LF (the lines of OSM
+/// wiki, Planet.osm/diffs, and no others).
+pub fn state_write(alloc: Global, state: &State) -> Result<Vec<u8>, WantOfMemory>
+    ensures { IfOk result (λ text. text.items ≡ state_text state.now) }
+{
+    let mut text = Vec::new(alloc);
+    text.extend_from_slice(b"sequenceNumber=")?;
+    text.extend_from_slice(Buffer::new().format(state.sequence()).as_bytes())?;
+    text.extend_from_slice(b"\ntimestamp=")?;
+    append_escaped(&mut text, &time_write(state.time()))?;
+    text.extend_from_slice(b"\n")?;
+    Ok(text)
+}
+
+// Appends the bytes with a backslash before each colon.
+fn append_escaped(text: &mut Vec<u8>, bytes: &[u8]) -> Result<(), WantOfMemory>
+    ensures { OnOk result (text.new.items ≡ text.old.items ++ escaped_colons bytes.now) }
+{
+    for byte in bytes {
+        if needs_backslash(*byte) {
+            text.push(b'\\')?;
+        }
+        text.push(*byte)?;
+    }
+    Ok(())
+}
+
+fn needs_backslash(byte: u8) -> bool
+    ensures { result ≡ (byte == 58) }
+{
+    byte == b':'
+}
