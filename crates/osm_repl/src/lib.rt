@@ -13,5 +13,7 @@ pub mod published;
 pub mod replay;
 pub mod replies;
 pub mod script;
+#[cfg(test)]
+mod tests;
 pub mod view;
 pub mod world;

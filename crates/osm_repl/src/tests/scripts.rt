@@ -1,0 +1,267 @@
+//! Scripts beside their replies, and scripts beside the line that is refused.
+
+/// The line of a node.
+pub const NODE: &str = "n1 v1 dV c7 t2024-01-01T00:00:00Z i5 uann T x1 y2";
+
+/// A script for what its name says, and the replies that a person expects.
+pub const ANSWERED: [(&str, &str, &str); 13] = [
+    (
+        "one node",
+        "edit n1 v1 dV c7 t2024-01-01T00:00:00Z i5 uann T x1 y2\n\
+close 2024-01-01T00:00:00Z\n\
+deliver 1 opl\n\
+show\n",
+        "edited\n\
+closed 1\n\
+applied 1..1\n\
+number 1\n\
+time 2024-01-01T00:00:00Z\n\
+objects 1\n\
+n1 v1 dV c7 t2024-01-01T00:00:00Z i5 uann T x1 y2\n\
+users 1\n\
+5 1\n\
+changesets 1\n\
+7 1\n\
+held 0\n",
+    ),
+    ("nothing", "", ""),
+    (
+        "a new follower",
+        "show\n",
+        "number 0\n\
+time none\n\
+objects 0\n\
+users 0\n\
+changesets 0\n\
+held 0\n",
+    ),
+    (
+        "an empty sequence",
+        "close 2024-01-01T00:00:00Z\n\
+deliver 1 opl\n\
+show\n",
+        "closed 1\n\
+applied 1..1\n\
+number 1\n\
+time 2024-01-01T00:00:00Z\n\
+objects 0\n\
+users 0\n\
+changesets 0\n\
+held 0\n",
+    ),
+    (
+        "the later change stands, whatever its version",
+        "edit n1 v5 dV c7 t2024-01-01T00:00:00Z i5 uann T x1 y2\n\
+close 2024-01-01T00:00:00Z\n\
+edit n1 v2 dV c7 t2024-01-01T00:00:00Z i5 uann T x1 y2\n\
+close 2024-01-01T00:00:00Z\n\
+deliver 1 opl\n\
+deliver 2 opl\n\
+show\n",
+        "edited\n\
+closed 1\n\
+edited\n\
+closed 2\n\
+applied 1..1\n\
+applied 2..2\n\
+number 2\n\
+time 2024-01-01T00:00:00Z\n\
+objects 1\n\
+n1 v2 dV c7 t2024-01-01T00:00:00Z i5 uann T x1 y2\n\
+users 1\n\
+5 2\n\
+changesets 1\n\
+7 2\n\
+held 0\n",
+    ),
+    (
+        "not published, and too early",
+        "edit n1 v1 dV c7 t2024-01-01T00:00:00Z i5 uann T x1 y2\n\
+close 2024-01-01T00:00:00Z\n\
+deliver 2 opl\n\
+edit n1 v2 dV c7 t2024-01-01T00:00:00Z i5 uann T x1 y2\n\
+close 2024-01-01T00:00:00Z\n\
+deliver 2 opl\n\
+deliver 0 opl\n\
+deliver 000000001 opl\n\
+deliver 1 opl\n",
+        "edited\n\
+closed 1\n\
+not published\n\
+edited\n\
+closed 2\n\
+too early\n\
+not published\n\
+applied 1..1\n\
+old\n",
+    ),
+    (
+        "a deletion in the same batch",
+        "edit n1 v1 dV c7 t2024-01-01T00:00:00Z i5 uann T x1 y2\n\
+edit n1 v2 dV c7 t2024-01-01T00:00:00Z i5 uann T x1 y2\n\
+edit n1 v3 dD c7 t2024-01-01T00:00:00Z i5 uann T x y\n\
+close 2024-01-01T00:00:00Z\n\
+deliver 1 opl\n\
+show\n",
+        "edited\n\
+edited\n\
+edited\n\
+closed 1\n\
+applied 1..1\n\
+number 1\n\
+time 2024-01-01T00:00:00Z\n\
+objects 0\n\
+users 1\n\
+5 3\n\
+changesets 1\n\
+7 3\n\
+held 0\n",
+    ),
+    (
+        "a deletion alone",
+        "edit n1 v3 dD c7 t2024-01-01T00:00:00Z i5 uann T x y\n\
+close 2024-01-01T00:00:00Z\n\
+deliver 1 opl\n\
+show\n",
+        "edited\n\
+closed 1\n\
+applied 1..1\n\
+number 1\n\
+time 2024-01-01T00:00:00Z\n\
+objects 0\n\
+users 1\n\
+5 1\n\
+changesets 1\n\
+7 1\n\
+held 0\n",
+    ),
+    (
+        "a deletion of an older batch's object",
+        "edit n1 v1 dV c7 t2024-01-01T00:00:00Z i5 uann T x1 y2\n\
+close 2024-01-01T00:00:00Z\n\
+edit n1 v3 dD c7 t2024-01-01T00:00:00Z i5 uann T x y\n\
+close 2024-01-01T00:01:00Z\n\
+deliver 1 opl\n\
+deliver 2 opl\n\
+show\n",
+        "edited\n\
+closed 1\n\
+edited\n\
+closed 2\n\
+applied 1..1\n\
+applied 2..2\n\
+number 2\n\
+time 2024-01-01T00:01:00Z\n\
+objects 0\n\
+users 1\n\
+5 2\n\
+changesets 1\n\
+7 2\n\
+held 0\n",
+    ),
+    (
+        "a change, a deletion and a change of one node",
+        "edit n1 v1 dV c7 t2024-01-01T00:00:00Z i5 uann T x1 y2\n\
+edit n1 v3 dD c7 t2024-01-01T00:00:00Z i5 uann T x y\n\
+edit n1 v4 dV c7 t2024-01-01T00:00:00Z i5 uann T x1 y2\n\
+close 2024-01-01T00:00:00Z\n\
+deliver 1 opl\n\
+show\n",
+        "edited\n\
+edited\n\
+edited\n\
+closed 1\n\
+applied 1..1\n\
+number 1\n\
+time 2024-01-01T00:00:00Z\n\
+objects 1\n\
+n1 v4 dV c7 t2024-01-01T00:00:00Z i5 uann T x1 y2\n\
+users 1\n\
+5 3\n\
+changesets 1\n\
+7 3\n\
+held 0\n",
+    ),
+    (
+        "a user with another name is the same user",
+        "edit n1 v1 dV c7 t2024-01-01T00:00:00Z i5 uann T x1 y2\n\
+edit n1 v2 dV c7 t2024-01-01T00:00:00Z i5 ubea T x1 y2\n\
+close 2024-01-01T00:00:00Z\n\
+deliver 1 opl\n\
+show\n",
+        "edited\n\
+edited\n\
+closed 1\n\
+applied 1..1\n\
+number 1\n\
+time 2024-01-01T00:00:00Z\n\
+objects 1\n\
+n1 v2 dV c7 t2024-01-01T00:00:00Z i5 ubea T x1 y2\n\
+users 1\n\
+5 2\n\
+changesets 1\n\
+7 2\n\
+held 0\n",
+    ),
+    (
+        "objects by kind and id, users and changesets by number",
+        "edit r1 v1 dV c9 t2024-01-01T00:00:00Z i6 ub T Mn1@,w10@outer\n\
+edit w10 v1 dV c9 t2024-01-01T00:00:00Z i6 ub Thighway=path Nn1,n2\n\
+edit n2 v1 dV c8 t2024-01-01T00:00:00Z i5 ua%20%b T x0 y0\n\
+edit n-3 v1 dV c8 t2024-01-01T00:00:00Z i5 ua%20%b T x0 y0\n\
+close 2024-01-01T00:00:00Z\n\
+deliver 1 opl\n\
+show\n",
+        "edited\n\
+edited\n\
+edited\n\
+edited\n\
+closed 1\n\
+applied 1..1\n\
+number 1\n\
+time 2024-01-01T00:00:00Z\n\
+objects 4\n\
+n-3 v1 dV c8 t2024-01-01T00:00:00Z i5 ua%20%b T x0 y0\n\
+n2 v1 dV c8 t2024-01-01T00:00:00Z i5 ua%20%b T x0 y0\n\
+w10 v1 dV c9 t2024-01-01T00:00:00Z i6 ub Thighway=path Nn1,n2\n\
+r1 v1 dV c9 t2024-01-01T00:00:00Z i6 ub T Mn1@,w10@outer\n\
+users 2\n\
+5 2\n\
+6 2\n\
+changesets 2\n\
+8 2\n\
+9 2\n\
+held 0\n",
+    ),
+    (
+        "a time that falls back",
+        "close 2024-01-01T00:01:00Z\n\
+close 2024-01-01T00:00:00Z\n\
+close 2024-01-01T00:01:00Z\n",
+        "closed 1\n\
+time back\n\
+closed 2\n",
+    ),
+];
+
+/// A script, and the number of its first line that is no event.
+pub const REFUSED: [(&str, u64); 15] = [
+    ("foo", 1),
+    ("show\nshow \n", 2),
+    ("# c\n\nshow\nclose 2024-01-01T00:00:60Z\n", 4),
+    ("deliver 1\n", 1),
+    ("deliver 1 osc\n", 1),
+    ("deliver +1 opl\n", 1),
+    ("deliver 1234567890 opl\n", 1),
+    ("deliver  1 opl\n", 1),
+    (" show\n", 1),
+    ("edit\n", 1),
+    ("edit x1\n", 1),
+    ("close 2024-01-01T00:00:00Z\r\nshow\r\r\n", 2),
+    ("save\n", 1),
+    (
+        "edit n1 v0 dV c7 t2024-01-01T00:00:00Z i5 uann T x1 y2\n",
+        1,
+    ),
+    ("edit n1 v1 dV c7 t2024-01-01T00:00:00Z i5 uann T x y2\n", 1),
+];
