@@ -5,3 +5,4 @@ pub mod StepLemmas
 pub mod LegalLemmas
 pub mod ScriptLemmas
 pub mod ReplayLemmas
+pub mod PlainLemmas

@@ -9,6 +9,7 @@ pub mod follower;
 pub mod mirror;
 pub mod objects;
 pub mod orders;
+pub mod plain;
 pub mod published;
 pub mod replay;
 pub mod replies;

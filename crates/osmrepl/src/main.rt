@@ -7,8 +7,8 @@ use osm_repl::command_line::order;
 use osm_repl::fault::RunFault;
 use osm_repl::orders::Order;
 use osm_repl::replay::replay_run;
-use std::env;
 use std::process::ExitCode;
+use std::{env, io};
 
 const USAGE: u8 = 2;
 
@@ -19,9 +19,15 @@ fn main(rt: HostRuntime) -> ExitCode {
 // The exit status of a run.
 fn run(rt: &HostRuntime) -> u8 {
     let alloc = rt.alloc();
-    let Ok(given) = env::args(rt) else {
-        let _ = eprintln!(rt; "osmrepl: the words of the command line aren't text");
-        return USAGE;
+    let given = match env::args(rt) {
+        Ok(given) => given,
+        Err(error) if error.kind() == io::ErrorKind::OutOfMemory => {
+            return report(rt, RunFault::WantOfMemory);
+        }
+        Err(_) => {
+            let _ = eprintln!(rt; "osmrepl: the words of the command line aren't text");
+            return USAGE;
+        }
     };
     let Ok(arguments) = given.collect::<Vec<String>>(alloc) else {
         return report(rt, RunFault::WantOfMemory);

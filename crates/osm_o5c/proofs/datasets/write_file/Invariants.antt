@@ -1,0 +1,8 @@
+use Rattle.std.proofs.Common.{◌≡◌, ◌++◌, None, drop}
+use Rattle.osm_o5c.specs.Counting.{no_counters}
+use Rattle.osm_o5c.specs.File.{beginning}
+use Rattle.osm_o5c.specs.Written.{objects_text}
+use Rattle.osm_o5c.proofs.datasets.write_file.Given as goal
+
+abbrev pub invariant-loop-change : goal.invariant-loop-change
+invariant-loop-change l = l.writer.out.items ++ objects_text l.writer.kind l.writer.counters (drop l.change-index l.changes) ≡ beginning ++ objects_text None no_counters l.changes

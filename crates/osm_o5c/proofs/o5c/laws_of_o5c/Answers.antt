@@ -1,0 +1,31 @@
+use Rattle.osm_o5c.specs.Laws.FrontLemmas.{spelled_limits, one_batch, one_front, no_longer}
+use Rattle.osm_o5c.proofs.LongestLemmas.{longest_of_all, one_number}
+use Rattle.osm_o5c.proofs.PlaceLemmas.{spelled_or_wrong, one_place, fault_of}
+use Rattle.osm_o5c.proofs.o5c.laws_of_o5c.Goals as goal
+
+pub returns-clause-limits : goal.returns-clause-limits
+returns-clause-limits c = spelled_limits
+
+pub returns-clause-one_batch : goal.returns-clause-one_batch
+returns-clause-one_batch c = one_batch
+
+pub returns-clause-apart : goal.returns-clause-apart
+returns-clause-apart c = spelled_or_wrong
+
+pub returns-clause-one_place : goal.returns-clause-one_place
+returns-clause-one_place c = one_place
+
+pub returns-clause-some_place : goal.returns-clause-some_place
+returns-clause-some_place c = fault_of
+
+pub returns-clause-one_front : goal.returns-clause-one_front
+returns-clause-one_front c = one_front
+
+pub returns-clause-longest : goal.returns-clause-longest
+returns-clause-longest c = longest_of_all
+
+pub returns-clause-one_number : goal.returns-clause-one_number
+returns-clause-one_number c = one_number
+
+pub returns-clause-no_longer : goal.returns-clause-no_longer
+returns-clause-no_longer c = no_longer

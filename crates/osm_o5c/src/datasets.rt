@@ -1,0 +1,274 @@
+//! Datasets: objects with their lengths, resets, and what is skipped.
+
+ghost use Rattle.std.specs.Prelude.{◌≡◌, ◌≤◌, ◌++◌, length, Option, OnOk, IfOk, IfErr};
+ghost use Rattle.osm_o5c.specs.FileReading.{kind_of_byte, object_dataset_at, other_dataset_at, dataset_at, place, step, WantsAt};
+ghost use Rattle.osm_model.specs.ChangeForm.{WriteRefused};
+ghost use Rattle.osm_model.specs.Limits.{max_file};
+ghost use Rattle.osm_o5c.specs.Counting.{no_counters};
+ghost use Rattle.osm_o5c.specs.File.{beginning, kind_byte, SpellsO5c, FileRefused};
+ghost use Rattle.osm_o5c.specs.Written.{is_other, reset_text, counters_before, dataset_text, after_object, change_text, after_change, o5c_text};
+ghost use Rattle.osm_o5c.specs.Steps.{Gives, Finds};
+
+use crate::counters::Counters;
+use crate::numbers::{part, write_unsigned};
+use crate::objects::Drafts;
+use crate::reader::Reader;
+use crate::refusal::Refusal;
+use osm_model::batch::{Batch, PushError};
+use osm_model::change::Change;
+use osm_model::form::{FormError, Why};
+use osm_model::kind::Kind;
+use osm_model::limits::MAX_FILE;
+use osm_model::memory::WantOfMemory;
+use std::alloc::Global;
+
+/// Reset, header, length 4, `o5c2`.
+const BEGINNING: [u8; 7] = [0xff, 0xe0, 4, 0x6f, 0x35, 0x63, 0x32];
+
+const END: u8 = 0xfe;
+
+const RESET: u8 = 0xff;
+
+fn kind_of(byte: u8) -> Option<Kind>
+    ensures { result ≡ kind_of_byte byte }
+{
+    match byte {
+        0x10 => Some(Kind::Node),
+        0x11 => Some(Kind::Way),
+        0x12 => Some(Kind::Relation),
+        _ => None,
+    }
+}
+
+impl<'a> Reader<'a> {
+    #[tactic(auto, unfolding(crate::specs::FileReading::object_dataset_at, crate::specs::Steps::and_then))]
+    fn object_dataset(
+        &mut self,
+        alloc: Global,
+        kind: Kind,
+        bytes: &'a [u8],
+    ) -> Result<(Option<Change>, &'a [u8]), Refusal>
+        ensures { Gives (λ r. (r.0, self.new, r.1.now)) result (object_dataset_at kind self.old bytes.now) }
+    {
+        let (content, rest) = part(bytes, Why::Truncated)?;
+        let change = self.object(alloc, kind, content)?;
+        Ok((Some(change), rest))
+    }
+
+    // What has no content is passed over, and so is what is skipped; a reset forgets.
+    #[tactic(auto, unfolding(crate::specs::FileReading::other_dataset_at, crate::specs::Steps::and_then))]
+    fn other_dataset(
+        &mut self,
+        first: u8,
+        bytes: &'a [u8],
+    ) -> Result<(Option<Change>, &'a [u8]), Why>
+        ensures { Finds (λ r. (r.0, self.new, r.1.now)) result (other_dataset_at first self.old bytes.now) }
+    {
+        if first < 0xf0 {
+            let (_content, rest) = part(bytes, Why::Truncated)?;
+            return Ok((None, rest));
+        }
+        if first < END {
+            return Ok((None, bytes));
+        }
+        if first == RESET {
+            self.reset();
+            return Ok((None, bytes));
+        }
+        Err(Why::Truncated)
+    }
+
+    #[tactic(auto, unfolding(crate::specs::FileReading::dataset_at))]
+    fn dataset(
+        &mut self,
+        alloc: Global,
+        bytes: &'a [u8],
+    ) -> Result<(Option<Change>, &'a [u8]), Refusal>
+        ensures gives { Gives (λ r. (r.0, self.new, r.1.now)) result (dataset_at self.old bytes.now) }
+        ensures memory { IfErr result (WantsAt bytes.now) }
+    {
+        let Some((first, rest)) = bytes.split_first() else {
+            return Err(Refusal::Bad(Why::Truncated));
+        };
+        match kind_of(*first) {
+            Some(kind) => self.object_dataset(alloc, kind, rest),
+            None => match self.other_dataset(*first, rest) {
+                Ok(read) => Ok(read),
+                Err(why) => Err(Refusal::Bad(why)),
+            },
+        }
+    }
+
+    // Reads one dataset more, and gives the bytes after it.
+    #[tactic(auto, using(crate::proofs::PlaceLemmas::found_begins), unfolding(crate::specs::FileReading::step, crate::specs::Steps::and_then, crate::specs::Steps::when))]
+    fn next(
+        &mut self,
+        alloc: Global,
+        batch: &mut Batch,
+        rest: &'a [u8],
+    ) -> Result<&'a [u8], Refusal>
+        ensures gives { Gives (λ r. place self.new batch.new r.now) result (step (place self.old batch.old rest.now)) }
+        ensures memory { IfErr result (WantsAt rest.now) }
+    {
+        let (found, after) = self.dataset(alloc, rest)?;
+        if let Some(change) = found {
+            match batch.push(change) {
+                Ok(()) => {}
+                Err(PushError::Full(_)) => return Err(Refusal::Bad(Why::TooMany)),
+                Err(PushError::WantOfMemory(_)) => return Err(Refusal::WantOfMemory),
+            }
+        }
+        Ok(after)
+    }
+}
+
+/// The batch that a file holds.
+pub fn read_file(alloc: Global, bytes: &[u8]) -> Result<Batch, FormError>
+    ensures spelled { IfOk result (λ b. SpellsO5c bytes.now b) }
+    ensures refused { IfErr result (FileRefused bytes.now) }
+{
+    let Some(mut rest) = bytes.strip_prefix(&BEGINNING) else {
+        return Err(FormError::Fault {
+            place: 0,
+            why: Why::BadHeader,
+        });
+    };
+    let mut reader = Reader::new();
+    let mut batch = Batch::new(alloc);
+    'datasets: while !rest.is_empty() && rest[0] != END {
+        match reader.next(alloc, &mut batch, rest) {
+            Ok(after) => {
+                rest = after;
+            }
+            Err(Refusal::WantOfMemory) => return Err(FormError::WantOfMemory),
+            Err(Refusal::Bad(why)) => {
+                let place = (bytes.len() - rest.len()) as u64;
+                return Err(FormError::Fault { place, why });
+            }
+        }
+    }
+    if rest.is_empty() {
+        let place = bytes.len() as u64;
+        return Err(FormError::Fault {
+            place,
+            why: Why::Truncated,
+        });
+    }
+    if rest.len() == 1 {
+        return Ok(batch);
+    }
+    let place = (bytes.len() - rest.len()) as u64 + 1;
+    Err(FormError::Fault {
+        place,
+        why: Why::TrailingBytes,
+    })
+}
+
+/// What a writer keeps between datasets: what is written, and the kind of the last object.
+#[derive(Drop)]
+struct Writer {
+    out: Vec<u8>,
+    drafts: Drafts,
+    counters: Counters,
+    kind: Option<Kind>,
+}
+
+fn byte_of(kind: Kind) -> u8
+    ensures { result ≡ kind_byte kind }
+{
+    match kind {
+        Kind::Node => 0x10,
+        Kind::Way => 0x11,
+        Kind::Relation => 0x12,
+    }
+}
+
+// Whether the object before was of another kind.
+fn is_another(before: Option<Kind>, kind: Kind) -> bool
+    ensures { result ≡ is_other before kind }
+{
+    match before {
+        Some(last) => byte_of(last) != byte_of(kind),
+        None => false,
+    }
+}
+
+impl Writer {
+    // The beginning is written.
+    fn new(alloc: Global) -> Result<Writer, WantOfMemory>
+        ensures { IfOk result (λ w. (w.out.items ≡ beginning) × (w.counters ≡ no_counters) × (w.kind ≡ Option.None)) }
+    {
+        let mut out = Vec::new(alloc);
+        out.extend_from_slice(&BEGINNING)?;
+        Ok(Writer {
+            out,
+            drafts: Drafts::new(alloc),
+            counters: Counters::new(),
+            kind: None,
+        })
+    }
+
+    // Appends a reset where the kind changes.
+    fn write_reset(&mut self, kind: Kind) -> Result<(), WantOfMemory>
+        ensures text { OnOk result (self.new.out.items ≡ self.old.out.items ++ reset_text self.old.kind kind) }
+        ensures counted { OnOk result (self.new.counters ≡ counters_before self.old.kind self.old.counters kind) }
+    {
+        if is_another(self.kind, kind) {
+            self.out.push(RESET)?;
+            self.counters = Counters::new();
+        }
+        Ok(())
+    }
+
+    // Appends an object behind its type and its length.
+    fn write_dataset(&mut self, change: &Change) -> Result<(), WantOfMemory>
+        ensures text { OnOk result (self.new.out.items ≡ self.old.out.items ++ dataset_text self.old.counters change.now) }
+        ensures counted { OnOk result (self.new.counters ≡ after_object self.old.counters change.now) }
+    {
+        self.drafts.write_object(&mut self.counters, change)?;
+        self.out.push(byte_of(change.key().kind))?;
+        write_unsigned(&mut self.out, self.drafts.content.len() as u64)?;
+        self.out.extend_from_slice(self.drafts.content.as_slice())?;
+        Ok(())
+    }
+
+    // Appends an object, behind a reset where it is of another kind than the one before.
+    fn write_change(&mut self, change: &Change) -> Result<(), WantOfMemory>
+        ensures text { OnOk result (self.new.out.items ≡ self.old.out.items ++ change_text self.old.kind self.old.counters change.now) }
+        ensures counted { OnOk result (self.new.counters ≡ after_change self.old.kind self.old.counters change.now) }
+        ensures kind { OnOk result (self.new.kind ≡ Option.Some change.now.key.kind) }
+    {
+        let kind = change.key().kind;
+        self.write_reset(kind)?;
+        self.write_dataset(change)?;
+        self.kind = Some(kind);
+        Ok(())
+    }
+}
+
+/// The written text of a batch; too large soon after it passes 64 MiB.
+pub fn write_file(alloc: Global, batch: &Batch) -> Result<Vec<u8>, FormError>
+    ensures text { IfOk result (λ v. v.items ≡ o5c_text batch.now) }
+    ensures small { IfOk result (λ v. length v.items ≤ max_file) }
+    ensures refused { IfErr result (WriteRefused (o5c_text batch.now)) }
+{
+    let Ok(mut writer) = Writer::new(alloc) else {
+        return Err(FormError::WantOfMemory);
+    };
+    let changes = batch.changes();
+    for change in changes {
+        if writer.write_change(change).is_err() {
+            return Err(FormError::WantOfMemory);
+        }
+        if writer.out.len() > MAX_FILE {
+            return Err(FormError::TooLarge);
+        }
+    }
+    if writer.out.push(END).is_err() {
+        return Err(FormError::WantOfMemory);
+    }
+    if writer.out.len() > MAX_FILE {
+        return Err(FormError::TooLarge);
+    }
+    Ok(writer.out)
+}

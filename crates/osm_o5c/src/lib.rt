@@ -1,0 +1,16 @@
+//! Change files in the form o5c (OSM wiki, O5m).
+#![tactic(auto)]
+
+mod counters;
+mod datasets;
+mod metadata;
+mod numbers;
+pub mod o5c;
+mod objects;
+mod reader;
+mod references;
+mod refusal;
+mod strings;
+mod tags;
+#[cfg(test)]
+mod tests;

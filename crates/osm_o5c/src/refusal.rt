@@ -1,0 +1,58 @@
+//! Why a part of a file isn't read.
+
+use osm_model::form::Why;
+use osm_model::memory::WantOfMemory;
+use std::alloc::{AllocError, AllocFailed};
+
+/// Why a part isn't read. Nothing is said of the reader after it, which is then done with.
+#[derive(Clone, Copy, Debug, PartialEq, Eq)]
+pub enum Refusal {
+    /// Memory was refused.
+    WantOfMemory,
+    /// The bytes aren't in the grammar.
+    Bad(Why),
+}
+
+impl From<Why> for Refusal {
+    ghost use Rattle.std.specs.Prelude.{◌≡◌};
+    ghost use Rattle.osm_o5c.specs.declared.refusal.Refusal.TheVariants.{Bad as bad};
+
+    ghost from_gives = { λ why e. e ≡ bad why };
+
+    fn from(why: Why) -> Refusal {
+        Refusal::Bad(why)
+    }
+}
+
+impl From<WantOfMemory> for Refusal {
+    ghost use Rattle.std.specs.Prelude.{◌≡◌};
+    ghost use Rattle.osm_o5c.specs.declared.refusal.Refusal.TheVariants.{WantOfMemory as want};
+
+    ghost from_gives = { λ _ e. e ≡ want };
+
+    fn from(_error: WantOfMemory) -> Refusal {
+        Refusal::WantOfMemory
+    }
+}
+
+impl From<AllocError> for Refusal {
+    ghost use Rattle.std.specs.Prelude.{◌≡◌};
+    ghost use Rattle.osm_o5c.specs.declared.refusal.Refusal.TheVariants.{WantOfMemory as want};
+
+    ghost from_gives = { λ _ e. e ≡ want };
+
+    fn from(_error: AllocError) -> Refusal {
+        Refusal::WantOfMemory
+    }
+}
+
+impl<T: Drop> From<AllocFailed<T>> for Refusal {
+    ghost use Rattle.std.specs.Prelude.{◌≡◌};
+    ghost use Rattle.osm_o5c.specs.declared.refusal.Refusal.TheVariants.{WantOfMemory as want};
+
+    ghost from_gives = { λ _ e. e ≡ want };
+
+    fn from(_error: AllocFailed<T>) -> Refusal {
+        Refusal::WantOfMemory
+    }
+}

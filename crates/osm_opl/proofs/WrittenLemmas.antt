@@ -1,0 +1,231 @@
+-- What has been written so far.
+use Rattle.std.proofs.Common.{◌≡◌, ℕ, zero, suc, ◌+◌, ◌-◌, ◌*◌, ◌/◌, ◌%◌, ◌^◌, ◌<◌, ◌≤◌, Bool, true, false, cond, List, [], ◌∷◌, ◌++◌, length, get_or, take, drop, refl, sym, ap, ◌∙◌, append_assoc, arith, lit<}
+use Rattle.std.specs.Prelude.{Result, Ok, Err, OnErr, ◌==◌, min}
+use Rattle.std.specs.Io.{StartsWith}
+use Rattle.std.proofs.Math.Nat.{pow-suc, pow-le-pow_right, one-le-pow, mod-lt, div-lt_iff_lt-mul}
+use Rattle.std.proofs.lemmas.Bool.Decides.{nat_tests}
+use Rattle.std.proofs.lemmas.List.{append-nil, drop_all, drop_more, length-take, length-append, take-append-drop, take-take, take_all, take_at, take_more}
+use Rattle.std.specs.Char.{digit_char}
+use Rattle.std.specs.Char.{encode_utf8}
+use Rattle.std.specs.Str.{IsUtf8, chars}
+use Rattle.std.proofs.lemmas.Str.{IsUtf8-past_char, chars_past_char}
+use Rattle.osm_model.specs.Change.{ChangeValue}
+use Rattle.osm_model.specs.Limits.{max_file}
+use Rattle.osm_opl.specs.Written.{line_text, opl_text, char_text, chars_text, text_text, decimals, hex_digits, more_items, items_text}
+
+-- what was appended stands behind what was there
+pub starts_append : (old front : List ℕ) → StartsWith (old ++ front) old
+starts_append old front = take_at old front (length old) refl
+
+-- the rest of what is to be written follows what was written
+pub record Writes (old new rest whole : List ℕ) : Type 0 where
+  pub front : List ℕ
+  pub written : new ≡ old ++ front
+  pub same : front ++ rest ≡ whole
+
+pub writes_nothing : (old whole : List ℕ) → Writes old old whole whole
+writes_nothing old whole = record { front = []; written = sym (append-nil old); same = refl }
+
+pub writes_more : (old new rest whole part after next : List ℕ) → Writes old new rest whole → rest ≡ part ++ after → next ≡ new ++ part → Writes old next after whole
+writes_more old new rest whole part after next h e n = record {
+  front = h.front ++ part;
+  written = n ∙ ap (λ (l : List ℕ). l ++ part) h.written ∙ append_assoc old h.front part;
+  same = append_assoc h.front part after ∙ ap (λ (l : List ℕ). h.front ++ l) (sym e) ∙ h.same;
+}
+
+pub writes_all : (old new whole : List ℕ) → Writes old new [] whole → new ≡ old ++ whole
+writes_all old new whole h = h.written ∙ ap (λ (l : List ℕ). old ++ l) (sym (append-nil h.front) ∙ h.same)
+
+pub writes_start : (old new rest whole : List ℕ) → Writes old new rest whole → StartsWith new old
+writes_start old new rest whole h = rw h.written (starts_append old h.front)
+
+-- a failed append keeps what was there
+pub starts_more : (old new next : List ℕ) → StartsWith new old → StartsWith next new → StartsWith next old
+starts_more old new next p q =
+    let n : min (length old) (length new) ≡ length old = sym (length-take (length old) new) ∙ ap length p in
+    let le : length old ≤ length new = omega arith in
+    sym (take-take (length old) (length new) next le) ∙ ap (λ (l : List ℕ). take (length old) l) q ∙ p
+
+-- ---- decimals
+
+-- so many digits are left of a fraction
+pub record FractionWritten (old new : List ℕ) (part rest scale : ℕ) : Type 0 where
+  pub left : ℕ
+  pub power : scale ≡ 10 ^ left
+  pub below : rest < scale
+  pub writes : Writes old new (decimals left rest) (decimals 7 part)
+
+pub fraction_begun : (old : List ℕ) (part : ℕ) → part < 10 ^ 7 → FractionWritten old old part part 10000000
+fraction_begun old part h = record { left = 7; power = refl; below = h; writes = writes_nothing old (decimals 7 part) }
+
+-- the scale of the next digit
+pub record NextScale (left rest scale : ℕ) : Type 0 where
+  pub before : ℕ
+  pub is : left ≡ suc before
+  pub power : scale / 10 ≡ 10 ^ before
+  pub some : 0 < scale / 10
+  pub digit : rest / (scale / 10) < 10
+
+pub next_scale : (left rest scale : ℕ) → scale ≡ 10 ^ left → rest < scale → 0 < rest → NextScale left rest scale
+next_scale zero rest scale e below some = absurd (let one : scale ≡ 1 = e in omega arith)
+next_scale (suc k) rest scale e below some =
+    let p : 10 ^ suc k ≡ 10 ^ k * 10 = pow-suc 10 k in
+    let q : scale ≡ 10 ^ k * 10 = e ∙ p in
+    let power : scale / 10 ≡ 10 ^ k = omega arith in
+    let pos : 1 ≤ 10 ^ k = one-le-pow k 10 (lit< tt) in
+    let lt : rest < 10 * (scale / 10) = omega arith in
+    record { before = k; is = refl; power = power; some = omega arith; digit = (div-lt_iff_lt-mul {k = scale / 10} {x = rest} {y = 10} (omega arith)).1 lt }
+
+digits_at_scale : (left before rest scale : ℕ) → left ≡ suc before → scale ≡ 10 ^ before → decimals (suc before) rest ≡ (48 + rest / 10 ^ before) ∷ decimals before (rest % 10 ^ before) → decimals left rest ≡ (48 + rest / scale) ∷ decimals before (rest % scale)
+digits_at_scale left before rest scale l s e = rw (l, s) e
+
+pub fraction_more : (old new next : List ℕ) (part rest scale : ℕ) → FractionWritten old new part rest scale → 0 < rest → next ≡ new ++ (48 + rest / (scale / 10)) ∷ [] → FractionWritten old next part (rest % (scale / 10)) (scale / 10)
+unfolding decimals
+fraction_more old new next part rest scale h some n =
+    let s : NextScale h.left rest scale = next_scale h.left rest scale h.power h.below some in
+    let test : (rest == 0) ≡ false = grind (arith, nat_tests) in
+    let step : decimals (suc s.before) rest ≡ (48 + rest / 10 ^ s.before) ∷ decimals s.before (rest % 10 ^ s.before) = rw test refl in
+    let same : decimals h.left rest ≡ (48 + rest / (scale / 10)) ∷ decimals s.before (rest % (scale / 10)) = digits_at_scale h.left s.before rest (scale / 10) s.is s.power step in
+    record { left = s.before; power = s.power; below = mod-lt rest {m = scale / 10} s.some; writes = writes_more old new (decimals h.left rest) (decimals 7 part) ((48 + rest / (scale / 10)) ∷ []) (decimals s.before (rest % (scale / 10))) next h.writes same n }
+
+nothing_left : (k : ℕ) → decimals k 0 ≡ []
+unfolding decimals
+nothing_left zero = refl
+nothing_left (suc k) = refl
+
+pub fraction_done : (old new : List ℕ) (part rest scale : ℕ) → FractionWritten old new part rest scale → rest ≡ 0 → new ≡ old ++ decimals 7 part
+fraction_done old new part rest scale h e =
+    let none : decimals h.left rest ≡ [] = rw e (nothing_left h.left) in
+    writes_all old new (decimals 7 part) (rw none at h.writes)
+
+-- ---- hexadecimal digits
+
+pub record HexWritten (old new : List ℕ) (code count left : ℕ) : Type 0 where
+  pub few : left ≤ 6
+  pub writes : Writes old new (hex_digits left code) (hex_digits count code)
+
+pub hex_begun : (old : List ℕ) (code count : ℕ) → count ≤ 6 → HexWritten old old code count count
+hex_begun old code count h = record { few = h; writes = writes_nothing old (hex_digits count code) }
+
+pub hex_more : (old new next : List ℕ) (code count left : ℕ) → HexWritten old new code count left → 0 < left → next ≡ new ++ digit_char (code / 16 ^ (left - 1) % 16) ∷ [] → HexWritten old next code count (left - 1)
+unfolding hex_digits
+hex_more old new next code count zero h some n = absurd (omega arith)
+hex_more old new next code count (suc k) h some n =
+    let few : suc k ≤ 6 = h.few in
+    let back : suc k - 1 ≡ k = omega arith in
+    let m : next ≡ new ++ digit_char (code / 16 ^ k % 16) ∷ [] = rw back at n in
+    rw back (record { few = omega arith; writes = writes_more old new (hex_digits (suc k) code) (hex_digits count code) (digit_char (code / 16 ^ k % 16) ∷ []) (hex_digits k code) next h.writes refl m })
+
+pub hex_done : (old new : List ℕ) (code count left : ℕ) → HexWritten old new code count left → left ≡ 0 → new ≡ old ++ hex_digits count code
+unfolding hex_digits
+hex_done old new code count left h e =
+    let none : hex_digits left code ≡ [] = rw e refl in
+    writes_all old new (hex_digits count code) (rw none at h.writes)
+
+pub hex_scale : (k : ℕ) → k < 6 → 16 ^ k < 2 ^ 32
+hex_scale k h = let l : 16 ^ k ≤ 16 ^ 5 = pow-le-pow_right {n = 16} (lit< tt) {i = k} {j = 5} (omega arith) in omega arith
+
+-- ---- lists
+
+-- the items that are left
+abbrev pub items_left : {X : Type 0} → (X → List ℕ) → Bool → List X → List ℕ
+items_left text true xs = items_text text xs
+items_left text false xs = more_items text xs
+
+abbrev pub comma : Bool → List ℕ
+comma is_first = cond is_first [] (44 ∷ [])
+
+pub record ItemsWritten {X : Type 0} (text : X → List ℕ) (old new : List ℕ) (xs : List X) (is_first : Bool) (i : ℕ) : Type 0 where
+  pub writes : Writes old new (items_left text is_first (drop i xs)) (items_text text xs)
+
+pub items_begun : {X : Type 0} (text : X → List ℕ) (old : List ℕ) (xs : List X) → ItemsWritten text old old xs true 0
+items_begun text old xs = record { writes = writes_nothing old (items_text text xs) }
+
+item_step : {X : Type 0} (text : X → List ℕ) (is_first : Bool) (x : X) (xs : List X) → items_left text is_first (x ∷ xs) ≡ (comma is_first ++ text x) ++ more_items text xs
+item_step text true x xs = refl
+item_step text false x xs = refl
+
+pub items_more : {X : Type 0} (text : X → List ℕ) (old new mid next : List ℕ) (xs : List X) (is_first : Bool) (i : ℕ) (x : X) → ItemsWritten text old new xs is_first i → i < length xs → x ≡ get_or xs i x → mid ≡ new ++ comma is_first → next ≡ mid ++ text x → ItemsWritten text old next xs false (i + 1)
+items_more text old new mid next xs is_first i x h lt is m n =
+    let more : drop i xs ≡ x ∷ drop (i + 1) xs = drop_more xs i x lt ∙ ap (λ (y : _). y ∷ drop (i + 1) xs) (sym is) in
+    let step : items_left text is_first (drop i xs) ≡ (comma is_first ++ text x) ++ more_items text (drop (i + 1) xs) = rw more (item_step text is_first x (drop (i + 1) xs)) in
+    let whole : next ≡ new ++ (comma is_first ++ text x) = n ∙ ap (λ (l : List ℕ). l ++ text x) m ∙ append_assoc new (comma is_first) (text x) in
+    record { writes = writes_more old new (items_left text is_first (drop i xs)) (items_text text xs) (comma is_first ++ text x) (more_items text (drop (i + 1) xs)) next h.writes step whole }
+
+pub items_done : {X : Type 0} (text : X → List ℕ) (old new : List ℕ) (xs : List X) (is_first : Bool) (i : ℕ) → ItemsWritten text old new xs is_first i → length xs ≤ i → new ≡ old ++ items_text text xs
+items_done text old new xs is_first i h le =
+    let none : drop i xs ≡ [] = drop_all i xs le in
+    let left : items_left text is_first (drop i xs) ≡ [] = rw none (no_items text is_first) in
+    writes_all old new (items_text text xs) (rw left at h.writes)
+  where
+    no_items : {X : Type 0} (text : X → List ℕ) (is_first : Bool) → items_left text is_first [] ≡ []
+    no_items text true = refl
+    no_items text false = refl
+
+pub items_start : {X : Type 0} (text : X → List ℕ) (old new : List ℕ) (xs : List X) (is_first : Bool) (i : ℕ) → ItemsWritten text old new xs is_first i → StartsWith new old
+items_start text old new xs is_first i h = writes_start old new (items_left text is_first (drop i xs)) (items_text text xs) h.writes
+
+pub on_err : {T E : Type 0} (r : Result T E) (P : Type 0) → P → OnErr r P
+on_err (Ok x) P p = tt
+on_err (Err e) P p = p
+
+-- ---- texts
+
+-- so many bytes of a text are left
+pub record TextWritten (old new text rest : List ℕ) : Type 0 where
+  pub utf8 : IsUtf8 rest
+  pub writes : Writes old new (text_text rest) (text_text text)
+
+pub text_begun : (old text : List ℕ) → IsUtf8 text → TextWritten old old text text
+text_begun old text u = record { utf8 = u; writes = writes_nothing old (text_text text) }
+
+pub text_more : (old new next text rest after : List ℕ) (c : ℕ) → TextWritten old new text rest → rest ≡ encode_utf8 c ++ after → next ≡ new ++ char_text c → TextWritten old next text after
+unfolding text_text
+text_more old new next text rest after c h e n =
+    let step : chars rest ≡ c ∷ chars after = chars_past_char rest after c h.utf8 e in
+    record { utf8 = IsUtf8-past_char rest after c h.utf8 e; writes = writes_more old new (text_text rest) (text_text text) (char_text c) (text_text after) next h.writes (ap chars_text step) n }
+
+pub text_done : (old new text rest : List ℕ) → TextWritten old new text rest → length rest ≡ 0 → new ≡ old ++ text_text text
+unfolding text_text chars
+text_done old new text [] h e = writes_all old new (text_text text) h.writes
+text_done old new text (b ∷ bs) h e = absurd (omega arith)
+
+pub text_start : (old new text rest : List ℕ) → TextWritten old new text rest → StartsWith new old
+text_start old new text rest h = writes_start old new (text_text rest) (text_text text) h.writes
+
+-- what was there before an append is kept with what was there after it
+pub starts_back : (old mid new part : List ℕ) → mid ≡ old ++ part → StartsWith new mid → StartsWith new old
+starts_back old mid new part e h = starts_more old mid new (rw e (starts_append old part)) h
+
+-- ---- files
+
+opl_text-append : (xs ys : List ChangeValue) → opl_text (xs ++ ys) ≡ opl_text xs ++ opl_text ys
+unfolding opl_text
+opl_text-append [] ys = refl
+opl_text-append (x ∷ xs) ys = ap (λ (l : List ℕ). line_text x ++ 10 ∷ l) (opl_text-append xs ys) ∙ sym (append_assoc (line_text x) (10 ∷ opl_text xs) (opl_text ys))
+
+-- the lines of the first changes
+pub record FileWritten (text : List ℕ) (changes : List ChangeValue) (i : ℕ) : Type 0 where
+  pub same : text ≡ opl_text (take i changes)
+  pub small : length text ≤ max_file
+
+pub file_begun : (changes : List ChangeValue) → FileWritten [] changes 0
+unfolding opl_text
+file_begun changes = record { same = refl; small = omega arith }
+
+pub file_more : (text next : List ℕ) (changes : List ChangeValue) (i : ℕ) (c : ChangeValue) → FileWritten text changes i → i < length changes → c ≡ get_or changes i c → next ≡ text ++ (line_text c ++ 10 ∷ []) → next ≡ opl_text (take (i + 1) changes)
+unfolding opl_text
+file_more text next changes i c h lt is n =
+    let more : take (i + 1) changes ≡ take i changes ++ c ∷ [] = take_more changes i c lt ∙ ap (λ (d : ChangeValue). take i changes ++ d ∷ []) (sym is) in
+    n ∙ ap (λ (l : List ℕ). l ++ (line_text c ++ 10 ∷ [])) h.same ∙ sym (opl_text-append (take i changes) (c ∷ [])) ∙ ap opl_text (sym more)
+
+-- the lines of the first changes are no longer than those of all
+pub file_prefix : (text : List ℕ) (changes : List ChangeValue) (i : ℕ) → text ≡ opl_text (take i changes) → max_file < length text → max_file < length (opl_text changes)
+file_prefix text changes i e h =
+    let whole : opl_text changes ≡ opl_text (take i changes) ++ opl_text (drop i changes) = ap opl_text (sym (take-append-drop i changes)) ∙ opl_text-append (take i changes) (drop i changes) in
+    let l : length (opl_text changes) ≡ length (opl_text (take i changes)) + length (opl_text (drop i changes)) = ap length whole ∙ length-append (opl_text (take i changes)) (opl_text (drop i changes)) in
+    let m : length text ≡ length (opl_text (take i changes)) = ap length e in
+    omega arith
+
+pub file_done : (text : List ℕ) (changes : List ChangeValue) (i : ℕ) → FileWritten text changes i → length changes ≤ i → text ≡ opl_text changes
+file_done text changes i h le = h.same ∙ ap opl_text (take_all i changes le)

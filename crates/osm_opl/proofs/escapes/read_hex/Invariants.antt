@@ -1,0 +1,5 @@
+use Rattle.osm_opl.specs.Laws.NumberLemmas.{Digits}
+use Rattle.osm_opl.proofs.escapes.read_hex.Given as goal
+
+abbrev pub invariant-loop-byte : goal.invariant-loop-byte
+invariant-loop-byte l = Digits 16 l.digits 4294967295 l.byte-index l.number

@@ -1,0 +1,14 @@
+use Rattle.std.proofs.Common.{◌≤◌, length}
+use Rattle.osm_opl.specs.Reading.{list_pieces, pieces_after, tag_at}
+use Rattle.osm_opl.proofs.ListLemmas.{ListRead}
+use Rattle.osm_opl.specs.Laws.PieceLemmas.{bytes_left}
+use Rattle.osm_opl.proofs.lists.read_tags.Given as goal
+
+abbrev pub invariant-loop-rest : goal.invariant-loop-rest
+invariant-loop-rest l = record {
+  read : ListRead tag_at (list_pieces l.bytes) (pieces_after 44 l.rest) l.tags;
+  few : length l.tags ≤ 5000;
+}
+
+abbrev pub decreases-loop-rest : goal.decreases-loop-rest
+decreases-loop-rest l = bytes_left l.rest

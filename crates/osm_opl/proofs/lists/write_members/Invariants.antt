@@ -1,0 +1,6 @@
+use Rattle.osm_opl.specs.Written.{member_text}
+use Rattle.osm_opl.proofs.WrittenLemmas.{ItemsWritten}
+use Rattle.osm_opl.proofs.lists.write_members.Given as goal
+
+abbrev pub invariant-loop-member : goal.invariant-loop-member
+invariant-loop-member l = ItemsWritten member_text l.initial.out.items l.out.items l.members l.is_first l.member-index

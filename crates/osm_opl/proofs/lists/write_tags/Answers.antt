@@ -1,0 +1,21 @@
+use Rattle.std.proofs.Common.{arith}
+use Rattle.std.specs.Io.{StartsWith}
+use Rattle.osm_opl.specs.Written.{tag_text}
+use Rattle.osm_opl.proofs.WrittenLemmas.{comma, items_more, items_start, on_err, starts_append, starts_more}
+use Rattle.osm_opl.proofs.lists.write_tags.Goals as goal
+
+pub returns-in_err-write_comma-clause-err : goal.returns-in_err-write_comma-clause-err
+returns-in_err-write_comma-clause-err c =
+    on_err c.from_residual.result (StartsWith c.write_comma.new.out.items c.args.out.now.items)
+    (starts_more c.args.out.now.items c.loop-tag.out.items c.write_comma.new.out.items (items_start tag_text c.args.out.now.items c.loop-tag.out.items c.args.tags.now c.loop-tag.is_first c.loop-tag.tag-index c.loop-tag.invariant) c.in_err-write_comma.ensures.err)
+
+pub returns-in_err-write_tag-clause-err : goal.returns-in_err-write_tag-clause-err
+returns-in_err-write_tag-clause-err c =
+    on_err c.from_residual-in_err-write_tag.result (StartsWith c.write_tag.new.out.items c.args.out.now.items)
+    (starts_more c.args.out.now.items c.write_comma.new.out.items c.write_tag.new.out.items
+    (starts_more c.args.out.now.items c.loop-tag.out.items c.write_comma.new.out.items (items_start tag_text c.args.out.now.items c.loop-tag.out.items c.args.tags.now c.loop-tag.is_first c.loop-tag.tag-index c.loop-tag.invariant) (rw c.in_ok-write_comma.ensures.ok (starts_append c.loop-tag.out.items (comma c.loop-tag.is_first))))
+    c.in_err-write_tag.ensures.err)
+
+pub loop-tag-preserved : goal.loop-tag-preserved
+loop-tag-preserved c =
+    items_more tag_text c.args.out.now.items c.loop-tag.out.items c.write_comma.new.out.items c.write_tag.new.out.items c.args.tags.now c.loop-tag.is_first c.loop-tag.tag-index c.tag-item.result c.loop-tag.invariant (omega arith) c.tag-item.is c.in_ok-write_comma.ensures.ok c.in_ok-write_tag.ensures.ok

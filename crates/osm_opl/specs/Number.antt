@@ -1,0 +1,18 @@
+-- Whole numbers of a line (our choice: 1 to 20 digits, zeros in front accepted).
+use Rattle.std.specs.Prelude.{◌≡◌, ℕ, ◌≤◌, List, ◌∷◌, length, ℤ, pos, neg_ℤ}
+use Rattle.std.specs.Str.Parse.{IsNumeral, digits_value}
+
+-- 1 to 20 digits
+pub record SpellsNumber (bytes : List ℕ) (n : ℕ) : Type 0 where
+  pub numeral : IsNumeral 10 bytes
+  pub short : length bytes ≤ 20
+  pub value : n ≡ digits_value 10 bytes
+
+-- what spells a number, or `-` and what spells a number
+pub data Signed (Spells : List ℕ → ℕ → Type 0) : List ℕ → ℤ → Type 0 where
+  plain : (bytes : List ℕ) (n : ℕ) → Spells bytes n → Signed Spells bytes (pos n)
+  minus : (bytes : List ℕ) (n : ℕ) → Spells bytes n → Signed Spells (45 ∷ bytes) (neg_ℤ (pos n))
+
+-- an id: a whole number, with `-` in front where it is negative (or 0)
+abbrev pub SpellsId : List ℕ → ℤ → Type 0
+SpellsId = Signed SpellsNumber

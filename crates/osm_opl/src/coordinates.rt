@@ -1,0 +1,123 @@
+//! Longitudes and latitudes, in units of 10^-7 degree.
+
+ghost use Rattle.std.specs.Prelude.{◌≡◌, ◌-◌, ◌^◌, ◌<◌, ◌≤◌, length, IfOk, ◌++◌, ◌≤ℤ◌, pos, unsigned_abs, OnOk, OnErr, option_map};
+ghost use Rattle.std.specs.Io.{StartsWith};
+ghost use Rattle.osm_opl.specs.Answers.{Finds};
+ghost use Rattle.osm_opl.specs.Reading.{coordinate_at, digits_at, place_at, units_at};
+ghost use Rattle.osm_opl.specs.Written.{coordinate_text, decimals, fraction_text};
+
+use crate::numbers::read_digits;
+use crate::pieces::cut;
+use itoa::Buffer;
+use osm_model::form::Why;
+use osm_model::memory::WantOfMemory;
+
+const UNITS: u32 = 10_000_000;
+
+/// A coordinate in degrees, as `-0.1`, or nothing.
+#[tactic(auto, unfolding(crate::specs::Reading::place_at))]
+pub(crate) fn read_place(bytes: &[u8], most: i32) -> Result<Option<i32>, Why>
+    requires { pos 0 ≤ℤ most }
+    ensures { Finds (λ z. z) result (place_at (unsigned_abs most) bytes.now) }
+{
+    if bytes.is_empty() {
+        return Ok(None);
+    }
+    Ok(Some(read_coordinate(bytes, most)?))
+}
+
+#[tactic(auto, unfolding(crate::specs::Reading::coordinate_at))]
+fn read_coordinate(bytes: &[u8], most: i32) -> Result<i32, Why>
+    requires { pos 0 ≤ℤ most }
+    ensures { Finds (λ z. z) result (coordinate_at (unsigned_abs most) bytes.now) }
+{
+    let Some((first, digits)) = bytes.split_first() else {
+        return Err(Why::BadNumber);
+    };
+    if *first == b'-' {
+        let units = read_units(digits, most as u64)?;
+        return Ok(-(units as i32));
+    }
+    let units = read_units(bytes, most as u64)?;
+    Ok(units as i32)
+}
+
+// Degrees without a sign, as `0.1`.
+#[tactic(auto, unfolding(crate::specs::Reading::units_at))]
+fn read_units(bytes: &[u8], most: u64) -> Result<u64, Why>
+    ensures value { Finds (λ n. n) result (units_at most bytes.now) }
+    ensures limit { IfOk result (λ n. n ≤ most) }
+{
+    let (degrees, decimals) = cut(bytes, b'.');
+    let whole = read_few_digits(degrees, 3)?;
+    let part = match decimals {
+        None => 0,
+        Some(decimals) => read_few_digits(decimals, 7)? * scale(decimals.len()),
+    };
+    let units = whole * UNITS as u64 + part;
+    if units > most {
+        return Err(Why::OutOfRange);
+    }
+    Ok(units)
+}
+
+// The number that 1 to `most` digits write.
+fn read_few_digits(bytes: &[u8], most: usize) -> Result<u64, Why>
+    requires { most ≤ 7 }
+    ensures value { Finds (λ n. n) result (digits_at 10 most bytes.now) }
+    ensures limit { IfOk result (λ n. (n < 10 ^ 7) × (length bytes.now ≤ most)) }
+{
+    read_digits(bytes, most)
+}
+
+// The units of the last of so many decimals.
+fn scale(decimals: usize) -> u64
+    requires { decimals ≤ 7 }
+    ensures value { result ≡ 10 ^ (7 - decimals) }
+    ensures limit { result ≤ 10 ^ 7 }
+{
+    10u64.pow(7 - decimals as u32)
+}
+
+#[tactic(auto, unfolding(crate::specs::Written::coordinate_text))]
+pub(crate) fn write_coordinate(units: i32, out: &mut Vec<u8>) -> Result<(), WantOfMemory>
+    ensures ok { OnOk result (out.new.items ≡ out.old.items ++ coordinate_text units) }
+    ensures err { OnErr result (StartsWith out.new.items out.old.items) }
+{
+    if units < 0 {
+        out.push(b'-')?;
+    }
+    let size = units.unsigned_abs();
+    out.extend_from_slice(Buffer::new().format(size / UNITS).as_bytes())?;
+    write_fraction(size % UNITS, out)?;
+    Ok(())
+}
+
+// A point and the seven digits of `part`, without zeros at the end; nothing where all are 0.
+fn write_fraction(part: u32, out: &mut Vec<u8>) -> Result<(), WantOfMemory>
+    requires { part < 10 ^ 7 }
+    ensures ok { OnOk result (out.new.items ≡ out.old.items ++ fraction_text part) }
+    ensures err { OnErr result (StartsWith out.new.items out.old.items) }
+{
+    if part == 0 {
+        return Ok(());
+    }
+    out.push(b'.')?;
+    write_decimals(part, out)?;
+    Ok(())
+}
+
+fn write_decimals(part: u32, out: &mut Vec<u8>) -> Result<(), WantOfMemory>
+    requires { part < 10 ^ 7 }
+    ensures ok { OnOk result (out.new.items ≡ out.old.items ++ decimals 7 part) }
+    ensures err { OnErr result (StartsWith out.new.items out.old.items) }
+{
+    let mut rest = part;
+    let mut scale = UNITS;
+    while rest > 0 {
+        scale /= 10;
+        out.push(b'0' + (rest / scale) as u8)?;
+        rest %= scale;
+    }
+    Ok(())
+}

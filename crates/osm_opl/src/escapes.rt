@@ -1,0 +1,182 @@
+//! Texts: user names, keys and values of tags, and roles. A character stands bare or as an escape
+//! `%DIGITS%` with the hexadecimal digits of its code.
+
+ghost use Rattle.std.specs.Prelude.{◌≡◌, ◌-◌, ◌^◌, min, option_map, string_bytes, ◌<◌, ◌≤◌, ◌++◌, if◌then◌else◌, Some, None, OnOk, OnErr};
+ghost use Rattle.std.specs.Char.{digit_char};
+ghost use Rattle.std.specs.Io.{StartsWith};
+ghost use Rattle.std.specs.List.{list_all};
+ghost use Rattle.osm_opl.specs.Answers.{Finds, Gives};
+ghost use Rattle.osm_opl.specs.Escape.{is_reserved};
+ghost use Rattle.osm_opl.specs.Pieces.{pieces};
+ghost use Rattle.osm_opl.specs.Reading.{digits_at, run_at, runs_at, escape_at, is_bare_run, is_free, text_at};
+ghost use Rattle.osm_opl.specs.Written.{char_text, hex_count, hex_digits, is_written_bare, text_text};
+
+use crate::lines::LineError;
+use crate::pieces::cut;
+use osm_model::form::Why;
+use osm_model::limits::MAX_TEXT;
+use osm_model::memory::WantOfMemory;
+use osm_model::text::Text;
+use std::alloc::Global;
+
+/// A text of at most 1,020 bytes, its escapes resolved.
+#[tactic(auto, unfolding(crate::specs::Reading::text_at))]
+pub(crate) fn read_text(alloc: Global, bytes: &[u8]) -> Result<Text, LineError>
+    ensures { Gives (λ t. t) result (text_at bytes.now) }
+{
+    let text = unescape(alloc, bytes)?;
+    match Text::from_string(text) {
+        Ok(text) => Ok(text),
+        Err(_) => Err(LineError::Fault(Why::BadText)),
+    }
+}
+
+// Runs of bare characters with escapes between them.
+fn unescape(alloc: Global, bytes: &[u8]) -> Result<String, LineError>
+    ensures { Gives string_bytes result (runs_at (pieces 37 bytes.now)) }
+{
+    let mut text = String::with_capacity(alloc, bytes.len().min(MAX_TEXT))?;
+    let mut rest = bytes;
+    loop {
+        let (run, after) = cut(rest, b'%');
+        text.push_str(read_run(run)?)?;
+        let Some(escape) = after else {
+            return Ok(text);
+        };
+        let (digits, after) = cut(escape, b'%');
+        let Some(after) = after else {
+            return Err(LineError::Fault(Why::BadEscape));
+        };
+        text.push(read_escape(digits)?)?;
+        rest = after;
+    }
+}
+
+// Bare characters.
+#[tactic(auto, using(crate::specs::Laws::EscapeLemmas::is_text_run, crate::specs::Laws::EscapeLemmas::isnt_text_run))]
+fn read_run(run: &[u8]) -> Result<&str, Why>
+    ensures { Finds (λ s. s.now) result (run_at run.now) }
+{
+    if !is_free_run(run) {
+        return Err(Why::BadField);
+    }
+    match std::str::from_utf8(run) {
+        Ok(text) => Ok(text),
+        Err(_) => Err(Why::BadText),
+    }
+}
+
+fn is_free_run(run: &[u8]) -> bool
+    ensures { result ≡ list_all is_free run.now }
+{
+    run.iter().all(|byte| !is_reserved(*byte))
+}
+
+// What can't stand bare.
+fn is_reserved(byte: u8) -> bool
+    ensures { result ≡ is_reserved byte }
+{
+    matches!(
+        byte,
+        0 | b'\t' | b'\n' | b'\r' | b' ' | b'%' | b',' | b'=' | b'@'
+    )
+}
+
+// The character whose code is given by one to eight hexadecimal digits; U+0000 is none.
+#[tactic(auto, unfolding(crate::specs::Reading::escape_at))]
+fn read_escape(digits: &[u8]) -> Result<char, Why>
+    ensures { Finds (λ c. c) result (escape_at digits.now) }
+{
+    let code = read_hex(digits)?;
+    match char::from_u32(code) {
+        Some(character) if code != 0 => Ok(character),
+        _ => Err(Why::BadEscape),
+    }
+}
+
+// The number that one to eight hexadecimal digits write.
+fn read_hex(digits: &[u8]) -> Result<u32, Why>
+    ensures { Finds (λ n. n) result (option_map (min (2 ^ 32 - 1)) (digits_at 16 8 digits.now)) }
+{
+    if digits.is_empty() || digits.len() > 8 {
+        return Err(Why::BadEscape);
+    }
+    let mut number: u32 = 0;
+    for byte in digits {
+        let Some(digit) = (*byte as char).to_digit(16) else {
+            return Err(Why::BadEscape);
+        };
+        number = number.saturating_mul(16).saturating_add(digit);
+    }
+    Ok(number)
+}
+
+/// The text with all but printable ASCII escaped, and `%`, `,`, `=` and `@` too.
+pub(crate) fn write_text(text: &str, out: &mut Vec<u8>) -> Result<(), WantOfMemory>
+    ensures ok { OnOk result (out.new.items ≡ out.old.items ++ text_text text.now) }
+    ensures err { OnErr result (StartsWith out.new.items out.old.items) }
+{
+    for character in text.chars() {
+        write_char(character, out)?;
+    }
+    Ok(())
+}
+
+fn is_written_bare(code: u32) -> bool
+    ensures { result ≡ is_written_bare code }
+{
+    0x21 <= code && code <= 0x7e && !is_reserved(code as u8)
+}
+
+#[tactic(auto, unfolding(crate::specs::Written::char_text))]
+fn write_char(character: char, out: &mut Vec<u8>) -> Result<(), WantOfMemory>
+    ensures ok { OnOk result (out.new.items ≡ out.old.items ++ char_text character) }
+    ensures err { OnErr result (StartsWith out.new.items out.old.items) }
+{
+    let code = character as u32;
+    if is_written_bare(code) {
+        out.push(code as u8)?;
+        return Ok(());
+    }
+    out.push(b'%')?;
+    write_hex(code, digit_count(code), out)?;
+    out.push(b'%')?;
+    Ok(())
+}
+
+fn digit_count(code: u32) -> u32
+    ensures { result ≡ hex_count code }
+{
+    match code {
+        0..=0xff => 2,
+        0x100..=0xfff => 3,
+        0x1000..=0xffff => 4,
+        0x1_0000..=0xf_ffff => 5,
+        _ => 6,
+    }
+}
+
+// The last `count` hexadecimal digits.
+fn write_hex(code: u32, count: u32, out: &mut Vec<u8>) -> Result<(), WantOfMemory>
+    requires { count ≤ 6 }
+    ensures ok { OnOk result (out.new.items ≡ out.old.items ++ hex_digits count code) }
+    ensures err { OnErr result (StartsWith out.new.items out.old.items) }
+{
+    let mut left = count;
+    while left > 0 {
+        left -= 1;
+        out.push(hex_digit((code / 16u32.pow(left) % 16) as u8))?;
+    }
+    Ok(())
+}
+
+fn hex_digit(value: u8) -> u8
+    requires { value < 16 }
+    ensures { result ≡ digit_char value }
+{
+    if value < 10 {
+        b'0' + value
+    } else {
+        b'a' + (value - 10)
+    }
+}

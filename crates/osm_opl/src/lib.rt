@@ -1,0 +1,14 @@
+//! OPL, the line format for OpenStreetMap changes: lines, files, and texts of lines.
+#![tactic(auto)]
+
+mod coordinates;
+mod escapes;
+pub mod lines;
+mod lists;
+mod metadata;
+mod numbers;
+mod objects;
+pub mod opl;
+mod pieces;
+#[cfg(test)]
+mod tests;

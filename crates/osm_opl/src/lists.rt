@@ -1,0 +1,250 @@
+//! Lists: tags, the nodes of a way and the members of a relation, with commas between the items.
+
+ghost use Rattle.std.specs.Prelude.{◌≡◌, ◌++◌, ◌∷◌, [], if◌then◌else◌, OnOk, OnErr, Some};
+ghost use Rattle.std.specs.Io.{StartsWith};
+ghost use Rattle.osm_opl.specs.Answers.{Finds, Gives};
+ghost use Rattle.osm_opl.specs.Lists.{letter_of};
+ghost use Rattle.osm_opl.specs.Reading.{kind_at, list_at, list_pieces, member_at, pieces_after, ref_at, tag_at};
+ghost use Rattle.osm_opl.specs.Written.{items_text, key_text, member_text, ref_text, tag_text};
+
+use crate::escapes::{read_text, write_text};
+use crate::lines::LineError;
+use crate::numbers::{read_id, write_id};
+use crate::pieces::cut;
+use osm_model::form::Why;
+use osm_model::kind::{Key, Kind};
+use osm_model::limits::{MAX_REFS, MAX_TAGS};
+use osm_model::lists::{Member, Members, Refs, Tag, Tags};
+use osm_model::memory::WantOfMemory;
+use std::alloc::Global;
+
+// What a list begins with: nothing for the empty list.
+fn first_item(bytes: &[u8]) -> Option<&[u8]>
+    ensures { pieces_after 44 result ≡ list_pieces bytes.now }
+{
+    if bytes.is_empty() { None } else { Some(bytes) }
+}
+
+/// At most 5,000 tags.
+pub(crate) fn read_tags(alloc: Global, bytes: &[u8]) -> Result<Tags, LineError>
+    ensures { Gives (λ t. t) result (list_at tag_at 5000 bytes.now) }
+{
+    let mut tags = Tags::new(alloc);
+    let mut rest = first_item(bytes);
+    while let Some(items) = rest {
+        if tags.as_slice().len() >= MAX_TAGS {
+            return Err(LineError::Fault(Why::TooMany));
+        }
+        let (item, after) = cut(items, b',');
+        match read_tag(alloc, item) {
+            Ok(tag) => tags.push(tag)?,
+            Err(error) => return Err(error),
+        }
+        rest = after;
+    }
+    Ok(tags)
+}
+
+// `KEY=VALUE`
+#[tactic(auto, unfolding(crate::specs::Reading::tag_at))]
+fn read_tag(alloc: Global, bytes: &[u8]) -> Result<Tag, LineError>
+    ensures { Gives (λ t. t) result (tag_at bytes.now) }
+{
+    let (key, value) = cut(bytes, b'=');
+    let Some(value) = value else {
+        return Err(LineError::Fault(Why::BadField));
+    };
+    Ok(Tag {
+        key: read_text(alloc, key)?,
+        value: read_text(alloc, value)?,
+    })
+}
+
+/// At most 32,000 nodes of a way.
+pub(crate) fn read_refs(alloc: Global, bytes: &[u8]) -> Result<Refs, LineError>
+    ensures { Gives (λ r. r) result (list_at ref_at 32000 bytes.now) }
+{
+    let mut refs = Refs::new(alloc);
+    let mut rest = first_item(bytes);
+    while let Some(items) = rest {
+        if refs.as_slice().len() >= MAX_REFS {
+            return Err(LineError::Fault(Why::TooMany));
+        }
+        let (item, after) = cut(items, b',');
+        match read_ref(item) {
+            Ok(id) => refs.push(id)?,
+            Err(why) => return Err(LineError::Fault(why)),
+        }
+        rest = after;
+    }
+    Ok(refs)
+}
+
+// `nID`
+#[tactic(auto, unfolding(crate::specs::Reading::ref_at))]
+fn read_ref(bytes: &[u8]) -> Result<i64, Why>
+    ensures { Finds (λ z. z) result (ref_at bytes.now) }
+{
+    match bytes.split_first() {
+        Some((b'n', id)) => read_id(id),
+        _ => Err(Why::BadField),
+    }
+}
+
+/// At most 32,000 members of a relation.
+pub(crate) fn read_members(alloc: Global, bytes: &[u8]) -> Result<Members, LineError>
+    ensures { Gives (λ m. m) result (list_at member_at 32000 bytes.now) }
+{
+    let mut members = Members::new(alloc);
+    let mut rest = first_item(bytes);
+    while let Some(items) = rest {
+        if members.as_slice().len() >= MAX_REFS {
+            return Err(LineError::Fault(Why::TooMany));
+        }
+        let (item, after) = cut(items, b',');
+        match read_member(alloc, item) {
+            Ok(member) => members.push(member)?,
+            Err(error) => return Err(error),
+        }
+        rest = after;
+    }
+    Ok(members)
+}
+
+// `nID@ROLE`, `wID@ROLE` or `rID@ROLE`
+#[tactic(auto, unfolding(crate::specs::Reading::member_at))]
+fn read_member(alloc: Global, bytes: &[u8]) -> Result<Member, LineError>
+    ensures { Gives (λ m. m) result (member_at bytes.now) }
+{
+    let Some((letter, rest)) = bytes.split_first() else {
+        return Err(LineError::Fault(Why::BadKind));
+    };
+    let kind = read_kind(*letter)?;
+    let (id, role) = cut(rest, b'@');
+    let Some(role) = role else {
+        return Err(LineError::Fault(Why::BadField));
+    };
+    Ok(Member {
+        key: Key {
+            kind,
+            id: read_id(id)?,
+        },
+        role: read_text(alloc, role)?,
+    })
+}
+
+/// The kind that a letter names.
+pub(crate) fn read_kind(letter: u8) -> Result<Kind, Why>
+    ensures { Finds (λ k. k) result (kind_at letter) }
+{
+    match letter {
+        b'n' => Ok(Kind::Node),
+        b'w' => Ok(Kind::Way),
+        b'r' => Ok(Kind::Relation),
+        _ => Err(Why::BadKind),
+    }
+}
+
+/// `n`, `w` or `r`.
+fn kind_letter(kind: Kind) -> u8
+    ensures { result ≡ letter_of kind }
+{
+    match kind {
+        Kind::Node => b'n',
+        Kind::Way => b'w',
+        Kind::Relation => b'r',
+    }
+}
+
+pub(crate) fn write_tags(tags: &[Tag], out: &mut Vec<u8>) -> Result<(), WantOfMemory>
+    ensures ok { OnOk result (out.new.items ≡ out.old.items ++ items_text tag_text tags.now) }
+    ensures err { OnErr result (StartsWith out.new.items out.old.items) }
+{
+    let mut is_first = true;
+    for tag in tags {
+        write_comma(is_first, out)?;
+        write_tag(tag, out)?;
+        is_first = false;
+    }
+    Ok(())
+}
+
+// `KEY=VALUE`
+fn write_tag(tag: &Tag, out: &mut Vec<u8>) -> Result<(), WantOfMemory>
+    ensures ok { OnOk result (out.new.items ≡ out.old.items ++ tag_text tag.now) }
+    ensures err { OnErr result (StartsWith out.new.items out.old.items) }
+{
+    write_text(tag.key.as_str(), out)?;
+    out.push(b'=')?;
+    write_text(tag.value.as_str(), out)?;
+    Ok(())
+}
+
+pub(crate) fn write_refs(refs: &[i64], out: &mut Vec<u8>) -> Result<(), WantOfMemory>
+    ensures ok { OnOk result (out.new.items ≡ out.old.items ++ items_text ref_text refs.now) }
+    ensures err { OnErr result (StartsWith out.new.items out.old.items) }
+{
+    let mut is_first = true;
+    for id in refs {
+        write_comma(is_first, out)?;
+        write_ref(*id, out)?;
+        is_first = false;
+    }
+    Ok(())
+}
+
+// `nID`
+fn write_ref(id: i64, out: &mut Vec<u8>) -> Result<(), WantOfMemory>
+    ensures ok { OnOk result (out.new.items ≡ out.old.items ++ ref_text id) }
+    ensures err { OnErr result (StartsWith out.new.items out.old.items) }
+{
+    out.push(b'n')?;
+    write_id(id, out)?;
+    Ok(())
+}
+
+pub(crate) fn write_members(members: &[Member], out: &mut Vec<u8>) -> Result<(), WantOfMemory>
+    ensures ok { OnOk result (out.new.items ≡ out.old.items ++ items_text member_text members.now) }
+    ensures err { OnErr result (StartsWith out.new.items out.old.items) }
+{
+    let mut is_first = true;
+    for member in members {
+        write_comma(is_first, out)?;
+        write_member(member, out)?;
+        is_first = false;
+    }
+    Ok(())
+}
+
+// `nID@ROLE`, `wID@ROLE` or `rID@ROLE`
+#[tactic(auto, using(crate::proofs::WrittenLemmas::starts_back))]
+fn write_member(member: &Member, out: &mut Vec<u8>) -> Result<(), WantOfMemory>
+    ensures ok { OnOk result (out.new.items ≡ out.old.items ++ member_text member.now) }
+    ensures err { OnErr result (StartsWith out.new.items out.old.items) }
+{
+    write_key(member.key, out)?;
+    out.push(b'@')?;
+    write_text(member.role.as_str(), out)?;
+    Ok(())
+}
+
+/// `nID`, `wID` or `rID`.
+pub(crate) fn write_key(key: Key, out: &mut Vec<u8>) -> Result<(), WantOfMemory>
+    ensures ok { OnOk result (out.new.items ≡ out.old.items ++ key_text key) }
+    ensures err { OnErr result (StartsWith out.new.items out.old.items) }
+{
+    out.push(kind_letter(key.kind))?;
+    write_id(key.id, out)?;
+    Ok(())
+}
+
+// A comma in front of each item but the first.
+fn write_comma(is_first: bool, out: &mut Vec<u8>) -> Result<(), WantOfMemory>
+    ensures ok { OnOk result (out.new.items ≡ out.old.items ++ (if is_first then [] else 44 ∷ [])) }
+    ensures err { OnErr result (StartsWith out.new.items out.old.items) }
+{
+    if !is_first {
+        out.push(b',')?;
+    }
+    Ok(())
+}

@@ -1,0 +1,195 @@
+//! The fields that all objects have after their id: version, status, changeset, time, user.
+
+ghost use Rattle.std.specs.Prelude.{◌≡◌, ◌<◌, ◌++◌, IfOk, codes, OnOk, OnErr};
+ghost use Rattle.osm_model.specs.CivilTime.{time_text};
+ghost use Rattle.std.specs.Io.{StartsWith};
+ghost use Rattle.osm_opl.specs.Answers.{Finds, Gives};
+ghost use Rattle.osm_opl.specs.Reading.{head_at, positive_field_at, status_field_at, time_field_at, user_field_at, pieces_after, status_at, time_at};
+ghost use Rattle.osm_opl.specs.Written.{meta_text, number_field, text_text, user_fields, version_fields, visible_text};
+
+use crate::escapes::{read_text, write_text};
+use crate::lines::LineError;
+use crate::numbers::{read_positive, write_number};
+use crate::pieces::next_field;
+use osm_model::form::Why;
+use osm_model::memory::WantOfMemory;
+use osm_model::meta::Meta;
+use osm_model::text::Text;
+use osm_model::time::{time_read, time_write};
+use std::alloc::Global;
+
+/// Whether the object stands, and who made the change.
+#[derive(Drop)]
+pub(crate) struct Head {
+    pub(crate) is_visible: bool,
+    pub(crate) meta: Meta,
+}
+
+/// The fields `vVERSION dV cCHANGESET tTIME iUID uUSER`, and what follows them.
+#[tactic(auto, unfolding(crate::specs::Reading::head_at))]
+pub(crate) fn read_head<'a>(
+    alloc: Global,
+    rest: Option<&'a [u8]>,
+) -> Result<(Head, Option<&'a [u8]>), LineError>
+    ensures { Gives (λ r. (r.0.is_visible, r.0.meta, pieces_after 32 r.1)) result
+        (head_at (pieces_after 32 rest.entry)) }
+{
+    let (version, rest) = positive_field(rest, b'v')?;
+    let (is_visible, rest) = status_field(rest)?;
+    let (changeset, rest) = positive_field(rest, b'c')?;
+    let (time, rest) = time_field(rest)?;
+    let (uid, rest) = positive_field(rest, b'i')?;
+    let (user, rest) = user_field(alloc, rest)?;
+    let Ok(meta) = Meta::new(version, time, changeset, uid, user) else {
+        return Err(LineError::Fault(Why::NoMetadata));
+    };
+    Ok((Head { is_visible, meta }, rest))
+}
+
+#[tactic(auto, unfolding(crate::specs::Reading::positive_field_at))]
+fn positive_field<'a>(rest: Option<&'a [u8]>, letter: u8) -> Result<(u32, Option<&'a [u8]>), Why>
+    ensures value { Finds (λ r. (r.0, pieces_after 32 r.1)) result
+        (positive_field_at letter (pieces_after 32 rest.entry)) }
+    ensures limit { IfOk result (λ r. 0 < r.0) }
+{
+    let (field, rest) = next_field(rest, letter)?;
+    Ok((read_positive(field)?, rest))
+}
+
+// `dV` or `dD`
+#[tactic(auto, unfolding(crate::specs::Reading::status_field_at))]
+fn status_field<'a>(rest: Option<&'a [u8]>) -> Result<(bool, Option<&'a [u8]>), Why>
+    ensures { Finds (λ r. (r.0, pieces_after 32 r.1)) result
+        (status_field_at (pieces_after 32 rest.entry)) }
+{
+    let (field, rest) = next_field(rest, b'd')?;
+    Ok((read_status(field)?, rest))
+}
+
+// `tTIME`
+#[tactic(auto, unfolding(crate::specs::Reading::time_field_at))]
+fn time_field<'a>(rest: Option<&'a [u8]>) -> Result<(u32, Option<&'a [u8]>), Why>
+    ensures value { Finds (λ r. (r.0, pieces_after 32 r.1)) result
+        (time_field_at (pieces_after 32 rest.entry)) }
+    ensures limit { IfOk result (λ r. 0 < r.0) }
+{
+    let (field, rest) = next_field(rest, b't')?;
+    Ok((read_time(field)?, rest))
+}
+
+// `uUSER`
+#[tactic(auto, unfolding(crate::specs::Reading::user_field_at))]
+fn user_field<'a>(
+    alloc: Global,
+    rest: Option<&'a [u8]>,
+) -> Result<(Text, Option<&'a [u8]>), LineError>
+    ensures { Gives (λ r. (r.0, pieces_after 32 r.1)) result
+        (user_field_at (pieces_after 32 rest.entry)) }
+{
+    let (field, rest) = next_field(rest, b'u')?;
+    Ok((read_text(alloc, field)?, rest))
+}
+
+// `V` or `D`
+#[tactic(auto, unfolding(crate::specs::Reading::status_at))]
+fn read_status(bytes: &[u8]) -> Result<bool, Why>
+    ensures { Finds (λ b. b) result (status_at bytes.now) }
+{
+    match bytes {
+        [b'V'] => Ok(true),
+        [b'D'] => Ok(false),
+        _ => Err(Why::BadField),
+    }
+}
+
+fn read_time(bytes: &[u8]) -> Result<u32, Why>
+    ensures value { Finds (λ t. t) result (time_at bytes.now) }
+    ensures limit { IfOk result (λ t. 0 < t) }
+{
+    match time_read(bytes) {
+        Some(time) => Ok(time),
+        None => Err(Why::BadTime),
+    }
+}
+
+/// The same fields, a space before each.
+#[tactic(auto, using(crate::proofs::WrittenLemmas::starts_back))]
+pub(crate) fn write_head(
+    is_visible: bool,
+    meta: &Meta,
+    out: &mut Vec<u8>,
+) -> Result<(), WantOfMemory>
+    ensures ok { OnOk result (out.new.items ≡ out.old.items ++ meta_text (visible_text is_visible) meta.now) }
+    ensures err { OnErr result (StartsWith out.new.items out.old.items) }
+{
+    write_version(is_visible, meta, out)?;
+    write_user(meta, out)?;
+    Ok(())
+}
+
+// ` vVERSION dV cCHANGESET`
+#[tactic(auto, using(crate::proofs::WrittenLemmas::starts_back))]
+fn write_version(is_visible: bool, meta: &Meta, out: &mut Vec<u8>) -> Result<(), WantOfMemory>
+    ensures ok { OnOk result (out.new.items ≡ out.old.items ++ version_fields (visible_text is_visible) meta.now) }
+    ensures err { OnErr result (StartsWith out.new.items out.old.items) }
+{
+    write_number_field(b" v", meta.version(), out)?;
+    write_status(is_visible, out)?;
+    write_number_field(b" c", meta.changeset(), out)?;
+    Ok(())
+}
+
+// ` tTIME iUID uUSER`
+#[tactic(auto, using(crate::proofs::WrittenLemmas::starts_back))]
+fn write_user(meta: &Meta, out: &mut Vec<u8>) -> Result<(), WantOfMemory>
+    ensures ok { OnOk result (out.new.items ≡ out.old.items ++ user_fields meta.now) }
+    ensures err { OnErr result (StartsWith out.new.items out.old.items) }
+{
+    write_time(meta.time(), out)?;
+    write_number_field(b" i", meta.uid(), out)?;
+    write_user_name(meta.user().as_str(), out)?;
+    Ok(())
+}
+
+// A mark and a number.
+#[tactic(auto, using(crate::proofs::WrittenLemmas::starts_back))]
+fn write_number_field(mark: &[u8], number: u32, out: &mut Vec<u8>) -> Result<(), WantOfMemory>
+    ensures ok { OnOk result (out.new.items ≡ out.old.items ++ number_field mark.now number) }
+    ensures err { OnErr result (StartsWith out.new.items out.old.items) }
+{
+    out.extend_from_slice(mark)?;
+    write_number(number, out)?;
+    Ok(())
+}
+
+// ` dV` or ` dD`
+#[tactic(auto, using(crate::proofs::WrittenLemmas::starts_back))]
+fn write_status(is_visible: bool, out: &mut Vec<u8>) -> Result<(), WantOfMemory>
+    ensures ok { OnOk result (out.new.items ≡ out.old.items ++ (codes " d" ++ visible_text is_visible)) }
+    ensures err { OnErr result (StartsWith out.new.items out.old.items) }
+{
+    out.extend_from_slice(if is_visible { b" dV" } else { b" dD" })?;
+    Ok(())
+}
+
+// ` tTIME`
+#[tactic(auto, using(crate::proofs::WrittenLemmas::starts_back))]
+fn write_time(time: u32, out: &mut Vec<u8>) -> Result<(), WantOfMemory>
+    ensures ok { OnOk result (out.new.items ≡ out.old.items ++ (codes " t" ++ time_text time)) }
+    ensures err { OnErr result (StartsWith out.new.items out.old.items) }
+{
+    out.extend_from_slice(b" t")?;
+    out.extend_from_slice(&time_write(time))?;
+    Ok(())
+}
+
+// ` uUSER`
+#[tactic(auto, using(crate::proofs::WrittenLemmas::starts_back))]
+fn write_user_name(user: &str, out: &mut Vec<u8>) -> Result<(), WantOfMemory>
+    ensures ok { OnOk result (out.new.items ≡ out.old.items ++ (codes " u" ++ text_text user.now)) }
+    ensures err { OnErr result (StartsWith out.new.items out.old.items) }
+{
+    out.extend_from_slice(b" u")?;
+    write_text(user, out)?;
+    Ok(())
+}

@@ -1,0 +1,96 @@
+//! Whole numbers: ids, versions, changesets and user ids.
+
+ghost use Rattle.std.specs.Prelude.{◌≡◌, ◌<◌, ◌≤◌, IfOk, ◌-◌, ◌^◌, ◌++◌, min, decimal, OnOk, OnErr, option_map};
+ghost use Rattle.std.specs.Fmt.{signed_decimal};
+ghost use Rattle.std.specs.Io.{StartsWith};
+ghost use Rattle.osm_model.specs.Limits.{IsId};
+ghost use Rattle.osm_opl.specs.Answers.{Finds};
+ghost use Rattle.osm_opl.specs.Reading.{digits_at, id_at, number_at, positive_at};
+
+use itoa::Buffer;
+use osm_model::form::Why;
+use osm_model::limits::MAX_ID;
+use osm_model::memory::WantOfMemory;
+
+const MOST_DIGITS: usize = 20;
+
+/// The number that 1 to `most` decimal digits write, or `u64::MAX` where it is greater.
+pub(crate) fn read_digits(bytes: &[u8], most: usize) -> Result<u64, Why>
+    ensures { Finds (λ n. n) result (option_map (min (2 ^ 64 - 1)) (digits_at 10 most bytes.now)) }
+{
+    if bytes.is_empty() || bytes.len() > most {
+        return Err(Why::BadNumber);
+    }
+    let mut number: u64 = 0;
+    for byte in bytes {
+        if !byte.is_ascii_digit() {
+            return Err(Why::BadNumber);
+        }
+        number = number
+            .saturating_mul(10)
+            .saturating_add((*byte - b'0') as u64);
+    }
+    Ok(number)
+}
+
+#[tactic(auto, unfolding(crate::specs::Reading::number_at))]
+fn read_number(bytes: &[u8], most: u64) -> Result<u64, Why>
+    requires { most < 2 ^ 64 - 1 }
+    ensures value { Finds (λ n. n) result (number_at most bytes.now) }
+    ensures limit { IfOk result (λ n. n ≤ most) }
+{
+    let number = read_digits(bytes, MOST_DIGITS)?;
+    if number > most {
+        return Err(Why::OutOfRange);
+    }
+    Ok(number)
+}
+
+/// A version, a changeset or a user id: 1 to 4,294,967,295.
+#[tactic(auto, using(crate::specs::Laws::NumberLemmas::not_positive), unfolding(crate::specs::Reading::positive_at))]
+pub(crate) fn read_positive(bytes: &[u8]) -> Result<u32, Why>
+    ensures value { Finds (λ n. n) result (positive_at bytes.now) }
+    ensures limit { IfOk result (λ n. 0 < n) }
+{
+    if bytes.is_empty() {
+        return Err(Why::NoMetadata);
+    }
+    let number = read_number(bytes, u32::MAX as u64)?;
+    if number == 0 {
+        return Err(Why::NoMetadata);
+    }
+    Ok(number as u32)
+}
+
+/// An id or a reference, with `-` in front where it is negative.
+#[tactic(auto, unfolding(crate::specs::Reading::id_at))]
+pub(crate) fn read_id(bytes: &[u8]) -> Result<i64, Why>
+    ensures value { Finds (λ z. z) result (id_at bytes.now) }
+    ensures limit { IfOk result (λ z. IsId z) }
+{
+    let Some((first, digits)) = bytes.split_first() else {
+        return Err(Why::BadNumber);
+    };
+    if *first == b'-' {
+        let size = read_number(digits, MAX_ID as u64)?;
+        return Ok(-(size as i64));
+    }
+    let size = read_number(bytes, MAX_ID as u64)?;
+    Ok(size as i64)
+}
+
+pub(crate) fn write_number(number: u32, out: &mut Vec<u8>) -> Result<(), WantOfMemory>
+    ensures ok { OnOk result (out.new.items ≡ out.old.items ++ decimal number) }
+    ensures err { OnErr result (StartsWith out.new.items out.old.items) }
+{
+    out.extend_from_slice(Buffer::new().format(number).as_bytes())?;
+    Ok(())
+}
+
+pub(crate) fn write_id(id: i64, out: &mut Vec<u8>) -> Result<(), WantOfMemory>
+    ensures ok { OnOk result (out.new.items ≡ out.old.items ++ signed_decimal id) }
+    ensures err { OnErr result (StartsWith out.new.items out.old.items) }
+{
+    out.extend_from_slice(Buffer::new().format(id).as_bytes())?;
+    Ok(())
+}

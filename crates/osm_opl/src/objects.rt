@@ -1,0 +1,174 @@
+//! The fields after the user: what the object is.
+
+ghost use Rattle.std.specs.Prelude.{◌≡◌, ◌++◌, IfOk, OnOk, OnErr};
+ghost use Rattle.std.specs.Io.{StartsWith};
+ghost use Rattle.osm_model.specs.Change.{IsWhat};
+ghost use Rattle.osm_opl.specs.Answers.{Finds, Gives};
+ghost use Rattle.osm_opl.specs.Reading.{node_at, node_of, pieces_after, relation_at, way_at, what_at};
+ghost use Rattle.osm_opl.specs.Written.{coordinate_field, members_field, refs_field, tags_field, what_text};
+
+use crate::coordinates::{read_place, write_coordinate};
+use crate::lines::LineError;
+use crate::lists::{read_members, read_refs, read_tags, write_members, write_refs, write_tags};
+use crate::pieces::{last_field, next_field};
+use osm_model::change::What;
+use osm_model::form::Why;
+use osm_model::kind::Kind;
+use osm_model::limits::{MAX_LAT, MAX_LON};
+use osm_model::lists::{Member, Tag, Tags};
+use osm_model::memory::WantOfMemory;
+use std::alloc::Global;
+
+/// What an object of that kind is. The fields of a deletion are read and dropped.
+pub(crate) fn read_what(
+    alloc: Global,
+    kind: Kind,
+    is_visible: bool,
+    rest: Option<&[u8]>,
+) -> Result<What, LineError>
+    ensures value { Gives (λ w. w) result (what_at kind is_visible (pieces_after 32 rest.entry)) }
+    ensures limits { IfOk result (λ w. IsWhat kind w) }
+{
+    match kind {
+        Kind::Node => read_node(alloc, is_visible, rest),
+        Kind::Way => read_way(alloc, is_visible, rest),
+        Kind::Relation => read_relation(alloc, is_visible, rest),
+    }
+}
+
+// `T.. x.. y..`
+#[tactic(auto, unfolding(crate::specs::Reading::node_at))]
+fn read_node(alloc: Global, is_visible: bool, rest: Option<&[u8]>) -> Result<What, LineError>
+    ensures { Gives (λ w. w) result (node_at is_visible (pieces_after 32 rest.entry)) }
+{
+    let (field, rest) = next_field(rest, b'T')?;
+    let tags = read_tags(alloc, field)?;
+    let (field, rest) = next_field(rest, b'x')?;
+    let lon = read_place(field, MAX_LON)?;
+    let field = last_field(rest, b'y')?;
+    let lat = read_place(field, MAX_LAT)?;
+    Ok(node_of(is_visible, lon, lat, tags)?)
+}
+
+// A visible node has a location.
+fn node_of(is_visible: bool, lon: Option<i32>, lat: Option<i32>, tags: Tags) -> Result<What, Why>
+    ensures { Finds (λ w. w) result (node_of is_visible lon lat tags) }
+{
+    if !is_visible {
+        return Ok(What::Deleted);
+    }
+    match (lon, lat) {
+        (Some(lon), Some(lat)) => Ok(What::Node { lon, lat, tags }),
+        _ => Err(Why::NoLocation),
+    }
+}
+
+// `T.. N..`
+#[tactic(auto, unfolding(crate::specs::Reading::way_at))]
+fn read_way(alloc: Global, is_visible: bool, rest: Option<&[u8]>) -> Result<What, LineError>
+    ensures { Gives (λ w. w) result (way_at is_visible (pieces_after 32 rest.entry)) }
+{
+    let (field, rest) = next_field(rest, b'T')?;
+    let tags = read_tags(alloc, field)?;
+    let field = last_field(rest, b'N')?;
+    let refs = read_refs(alloc, field)?;
+    Ok(if is_visible {
+        What::Way { refs, tags }
+    } else {
+        What::Deleted
+    })
+}
+
+// `T.. M..`
+#[tactic(auto, unfolding(crate::specs::Reading::relation_at))]
+fn read_relation(alloc: Global, is_visible: bool, rest: Option<&[u8]>) -> Result<What, LineError>
+    ensures { Gives (λ w. w) result (relation_at is_visible (pieces_after 32 rest.entry)) }
+{
+    let (field, rest) = next_field(rest, b'T')?;
+    let tags = read_tags(alloc, field)?;
+    let field = last_field(rest, b'M')?;
+    let members = read_members(alloc, field)?;
+    Ok(if is_visible {
+        What::Relation { members, tags }
+    } else {
+        What::Deleted
+    })
+}
+
+/// The fields, a space before each; those of a deletion are empty.
+#[tactic(auto, using(crate::proofs::WrittenLemmas::starts_back))]
+pub(crate) fn write_what(kind: Kind, what: &What, out: &mut Vec<u8>) -> Result<(), WantOfMemory>
+    ensures ok { OnOk result (out.new.items ≡ out.old.items ++ what_text kind what.now) }
+    ensures err { OnErr result (StartsWith out.new.items out.old.items) }
+{
+    match what {
+        What::Node { lon, lat, tags } => {
+            write_tags_field(tags.as_slice(), out)?;
+            write_coordinate_field(b" x", *lon, out)?;
+            write_coordinate_field(b" y", *lat, out)?;
+            Ok(())
+        }
+        What::Way { refs, tags } => {
+            write_tags_field(tags.as_slice(), out)?;
+            write_refs_field(refs.as_slice(), out)?;
+            Ok(())
+        }
+        What::Relation { members, tags } => {
+            write_tags_field(tags.as_slice(), out)?;
+            write_members_field(members.as_slice(), out)?;
+            Ok(())
+        }
+        What::Deleted => {
+            out.extend_from_slice(match kind {
+                Kind::Node => b" T x y",
+                Kind::Way => b" T N",
+                Kind::Relation => b" T M",
+            })?;
+            Ok(())
+        }
+    }
+}
+
+// ` TTAGS`
+#[tactic(auto, using(crate::proofs::WrittenLemmas::starts_back))]
+fn write_tags_field(tags: &[Tag], out: &mut Vec<u8>) -> Result<(), WantOfMemory>
+    ensures ok { OnOk result (out.new.items ≡ out.old.items ++ tags_field tags.now) }
+    ensures err { OnErr result (StartsWith out.new.items out.old.items) }
+{
+    out.extend_from_slice(b" T")?;
+    write_tags(tags, out)?;
+    Ok(())
+}
+
+// A mark and a coordinate.
+#[tactic(auto, using(crate::proofs::WrittenLemmas::starts_back))]
+fn write_coordinate_field(mark: &[u8], units: i32, out: &mut Vec<u8>) -> Result<(), WantOfMemory>
+    ensures ok { OnOk result (out.new.items ≡ out.old.items ++ coordinate_field mark.now units) }
+    ensures err { OnErr result (StartsWith out.new.items out.old.items) }
+{
+    out.extend_from_slice(mark)?;
+    write_coordinate(units, out)?;
+    Ok(())
+}
+
+// ` NREFS`
+#[tactic(auto, using(crate::proofs::WrittenLemmas::starts_back))]
+fn write_refs_field(refs: &[i64], out: &mut Vec<u8>) -> Result<(), WantOfMemory>
+    ensures ok { OnOk result (out.new.items ≡ out.old.items ++ refs_field refs.now) }
+    ensures err { OnErr result (StartsWith out.new.items out.old.items) }
+{
+    out.extend_from_slice(b" N")?;
+    write_refs(refs, out)?;
+    Ok(())
+}
+
+// ` MMEMBERS`
+#[tactic(auto, using(crate::proofs::WrittenLemmas::starts_back))]
+fn write_members_field(members: &[Member], out: &mut Vec<u8>) -> Result<(), WantOfMemory>
+    ensures ok { OnOk result (out.new.items ≡ out.old.items ++ members_field members.now) }
+    ensures err { OnErr result (StartsWith out.new.items out.old.items) }
+{
+    out.extend_from_slice(b" M")?;
+    write_members(members, out)?;
+    Ok(())
+}

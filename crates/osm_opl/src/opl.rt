@@ -1,0 +1,137 @@
+//! OPL files: a line for each change of a batch, in order (Osmium manual, OPL File Format).
+
+ghost use Rattle.std.specs.Prelude.{◌≡◌, ℕ, List, ◌∷◌, [], ◌++◌, ◌≤◌, ◌<◌, length, IfOk, OnOk, IfErr};
+ghost use Rattle.osm_model.specs.Batch.{IsBatch};
+ghost use Rattle.osm_model.specs.Change.{ChangeValue};
+ghost use Rattle.osm_model.specs.ChangeForm.{ReadRefused, SpellsNothing, WriteRefused};
+ghost use Rattle.osm_model.specs.Limits.{max_changes, max_file};
+ghost use Rattle.osm_opl.specs.Answers.{AddsLine, LineStops};
+ghost use Rattle.osm_opl.specs.File.{FaultLine, SpellsOpl};
+ghost use Rattle.osm_opl.specs.Line.{SpellsLine};
+ghost use Rattle.osm_opl.specs.Written.{line_text, opl_text};
+
+use crate::lines::{LineError, is_skipped_line, read_line, split_line, write_line};
+use osm_model::batch::{Batch, PushError};
+use osm_model::change::Change;
+use osm_model::form::{ChangeForm, FormError, Why};
+use osm_model::limits::MAX_FILE;
+use osm_model::memory::WantOfMemory;
+use std::alloc::Global;
+
+/// The form of OPL files. The place of a fault is a line's number, counted from 1 over all lines.
+#[derive(Clone, Copy, Debug, PartialEq, Eq)]
+pub struct Opl;
+
+impl ChangeForm for Opl {
+    ghost use Rattle.osm_opl.specs.File.{FaultLine, SpellsOpl};
+    ghost use Rattle.osm_opl.specs.Written.{opl_text};
+    ghost use Rattle.osm_opl.specs.Laws.FileLaws.{one_batch};
+    ghost use Rattle.osm_opl.specs.Laws.RoundTrip.{text_spells};
+
+    ghost spells = { SpellsOpl };
+
+    ghost text = { opl_text };
+
+    ghost fault_place = { FaultLine };
+
+    ghost text_spells = { text_spells };
+
+    ghost one_batch = { one_batch };
+
+    /// A line for each change, and a line feed after it. The empty batch is the empty file.
+    fn write(alloc: Global, batch: &Batch) -> Result<Vec<u8>, FormError> {
+        write_batch(alloc, batch)
+    }
+
+    /// The changes of the lines that are neither empty nor begin with `#`.
+    fn read(alloc: Global, bytes: &[u8]) -> Result<Batch, FormError> {
+        if bytes.len() > MAX_FILE {
+            return Err(FormError::TooLarge);
+        }
+        read_batch(alloc, bytes)
+    }
+}
+
+// Stops soon after the text has passed 64 MiB.
+fn write_batch(alloc: Global, batch: &Batch) -> Result<Vec<u8>, FormError>
+    ensures text { IfOk result (λ v. v.items ≡ opl_text batch.now) }
+    ensures small { IfOk result (λ v. length v.items ≤ max_file) }
+    ensures refused { IfErr result (WriteRefused (opl_text batch.now)) }
+{
+    let mut text = Vec::new(alloc);
+    for change in batch.changes() {
+        match add_change(change, &mut text) {
+            Ok(()) => {}
+            Err(WantOfMemory) => return Err(FormError::WantOfMemory),
+        }
+        if text.len() > MAX_FILE {
+            return Err(FormError::TooLarge);
+        }
+    }
+    Ok(text)
+}
+
+fn add_change(change: &Change, text: &mut Vec<u8>) -> Result<(), WantOfMemory>
+    ensures { OnOk result (text.new.items ≡ text.old.items ++ (line_text change.now ++ 10 ∷ [])) }
+{
+    write_line(change, text)?;
+    text.push(b'\n')?;
+    Ok(())
+}
+
+fn read_batch(alloc: Global, bytes: &[u8]) -> Result<Batch, FormError>
+    requires { length bytes.now ≤ max_file }
+    ensures spelled { IfOk result (λ b. SpellsOpl bytes.now b) }
+    ensures refused { IfErr result (ReadRefused SpellsOpl FaultLine bytes.now) }
+{
+    let mut batch = Batch::new(alloc);
+    let mut rest = Some(bytes);
+    let mut place: u64 = 0;
+    while let Some(lines) = rest {
+        let (line, after) = split_line(lines);
+        place += 1;
+        match add_line(alloc, line, place, &mut batch) {
+            Ok(()) => {}
+            Err(error) => return Err(error),
+        }
+        rest = after;
+    }
+    let _changes = batch.changes();
+    Ok(batch)
+}
+
+// One line more. A batch that is full takes no change.
+fn add_line(alloc: Global, line: &[u8], place: u64, batch: &mut Batch) -> Result<(), FormError>
+    requires { length batch.old ≤ max_changes }
+    ensures ok { OnOk result (AddsLine line.now batch.old batch.new) }
+    ensures few { OnOk result (length batch.new ≤ max_changes) }
+    ensures refused { IfErr result (LineStops line.now place batch.old) }
+{
+    if is_skipped_line(line) {
+        return Ok(());
+    }
+    let change = match read_line(alloc, line) {
+        Ok(change) => change,
+        Err(LineError::WantOfMemory) => return Err(FormError::WantOfMemory),
+        Err(LineError::Fault(why)) => return Err(FormError::Fault { place, why }),
+    };
+    match batch.push(change) {
+        Ok(()) => Ok(()),
+        Err(PushError::WantOfMemory(_)) => Err(FormError::WantOfMemory),
+        Err(PushError::Full(_)) => Err(FormError::Fault {
+            place,
+            why: Why::TooMany,
+        }),
+    }
+}
+
+/// The laws of the form: a text spells at most one batch, a line at most one change; a fault has one
+/// place, and has one exactly where no batch is spelled; what is written spells what was written.
+pub fn laws_of_opl()
+    ensures one_batch { (bytes : List ℕ) (a b : List ChangeValue) → SpellsOpl bytes a → SpellsOpl bytes b → a ≡ b }
+    ensures one_change { (line : List ℕ) (a b : ChangeValue) → SpellsLine line a → SpellsLine line b → a ≡ b }
+    ensures apart { (bytes : List ℕ) (batch : List ChangeValue) (place : ℕ) → SpellsOpl bytes batch → FaultLine bytes place → ⊥ }
+    ensures one_place { (bytes : List ℕ) (a b : ℕ) → FaultLine bytes a → FaultLine bytes b → a ≡ b }
+    ensures has_place { (bytes : List ℕ) → SpellsNothing SpellsOpl bytes → (place : ℕ) × FaultLine bytes place }
+    ensures written { (batch : List ChangeValue) → IsBatch batch → SpellsOpl (opl_text batch) batch }
+{}

@@ -1,0 +1,63 @@
+//! The definitions of content and counts as slow, plain functions, for tests: each contract is the
+//! definition that it computes.
+
+ghost use Rattle.std.specs.Prelude.{◌≡◌, option_copied};
+ghost use Rattle.osm_model.specs.Content.{content_of, edits_by_changeset, edits_by_user, last_of};
+
+use osm_model::change::Change;
+use osm_model::kind::Key;
+
+/// The last change of the list with that key.
+pub fn plain_last_of<'a>(changes: &'a [Change], key: Key) -> Option<&'a Change>
+    ensures { option_copied result ≡ last_of changes.entry.now key }
+{
+    let mut last = None;
+    for change in changes {
+        if change.key().cmp(&key).is_eq() {
+            last = Some(change);
+        }
+    }
+    last
+}
+
+/// The object with that key that the changes leave.
+pub fn plain_content_of<'a>(changes: &'a [Change], key: Key) -> Option<&'a Change>
+    ensures { option_copied result ≡ content_of changes.entry.now key }
+{
+    match plain_last_of(changes, key) {
+        Some(change) => {
+            if change.is_deletion() {
+                None
+            } else {
+                Some(change)
+            }
+        }
+        None => None,
+    }
+}
+
+/// The edits of a user in the changes.
+pub fn plain_edits_by_user(changes: &[Change], uid: u32) -> usize
+    ensures { result ≡ edits_by_user changes.now uid }
+{
+    let mut count = 0;
+    for change in changes {
+        if change.meta().uid() == uid {
+            count += 1;
+        }
+    }
+    count
+}
+
+/// The edits of a changeset in the changes.
+pub fn plain_edits_by_changeset(changes: &[Change], id: u32) -> usize
+    ensures { result ≡ edits_by_changeset changes.now id }
+{
+    let mut count = 0;
+    for change in changes {
+        if change.meta().changeset() == id {
+            count += 1;
+        }
+    }
+    count
+}
