@@ -2,15 +2,15 @@
 #![tactic(auto)]
 
 pub mod command_line;
-pub mod counts;
+mod counts;
 pub mod event;
 pub mod fault;
-pub mod follower;
-pub mod mirror;
-pub mod objects;
+mod follower;
+mod mirror;
+mod objects;
 pub mod orders;
 pub mod plain;
-pub mod published;
+mod published;
 pub mod replay;
 pub mod replies;
 pub mod script;
