@@ -1,7 +1,7 @@
 //! The parts of an object that are lists: tags, the nodes of a way, the members of a relation.
 //! Order and repeats are kept.
 
-ghost use Rattle.std.specs.Prelude.{◌≡◌, ◌++◌, ◌∷◌, [], IfOk, OnOk, OnErr};
+ghost use Rattle.std.specs.Prelude.{◌≡◌, ◌<◌, ◌++◌, ◌∷◌, [], length, IfOk, OnOk, OnErr};
 ghost use Rattle.std.specs.List.{AllByRecursion};
 ghost use Rattle.osm_model.specs.Lists.{IsTag, IsRole};
 
@@ -93,9 +93,10 @@ impl Tags {
         self.tags.as_slice()
     }
 
-    /// Equal tags.
+    /// Equal tags. The copy of none takes no memory.
     pub fn copy(&self, alloc: Global) -> Result<Tags, WantOfMemory>
-        ensures { IfOk result (λ t. t ≡ self.now) }
+        ensures ok { IfOk result (λ t. t ≡ self.now) }
+        ensures refused { OnErr result (0 < length self.now) }
     {
         let tags = copy_tags(alloc, self.as_slice())?;
         Ok(Tags { tags })
@@ -114,7 +115,8 @@ fn check_tags(tags: &[Tag])
 
 fn copy_tags(alloc: Global, tags: &[Tag]) -> Result<Vec<Tag>, WantOfMemory>
     requires { AllByRecursion IsTag tags.now }
-    ensures { IfOk result (λ t. t.items ≡ tags.now) }
+    ensures ok { IfOk result (λ t. t.items ≡ tags.now) }
+    ensures refused { OnErr result (0 < length tags.now) }
 {
     let mut copies = Vec::with_capacity(alloc, tags.len())?;
     for tag in tags {
@@ -294,9 +296,10 @@ impl Members {
         self.members.as_slice()
     }
 
-    /// Equal members.
+    /// Equal members. The copy of none takes no memory.
     pub fn copy(&self, alloc: Global) -> Result<Members, WantOfMemory>
-        ensures { IfOk result (λ t. t ≡ self.now) }
+        ensures ok { IfOk result (λ t. t ≡ self.now) }
+        ensures refused { OnErr result (0 < length self.now) }
     {
         let members = copy_members(alloc, self.as_slice())?;
         Ok(Members { members })
@@ -314,7 +317,8 @@ fn check_roles(members: &[Member])
 
 fn copy_members(alloc: Global, members: &[Member]) -> Result<Vec<Member>, WantOfMemory>
     requires { AllByRecursion IsRole members.now }
-    ensures { IfOk result (λ t. t.items ≡ members.now) }
+    ensures ok { IfOk result (λ t. t.items ≡ members.now) }
+    ensures refused { OnErr result (0 < length members.now) }
 {
     let mut copies = Vec::with_capacity(alloc, members.len())?;
     for member in members {

@@ -1,12 +1,13 @@
 -- One read or write after another, and what a script's bad line says of the script.
-use Rattle.std.proofs.Common.{◌≡◌, ℕ, List, [], ◌∷◌, ◌++◌, refl, ap, sym, ◌∙◌, Option, Some, None, append_assoc, append-nil, subst}
+use Rattle.std.proofs.Common.{◌≡◌, ℕ, ◌<◌, length, arith, List, [], ◌∷◌, ◌++◌, refl, ap, sym, ◌∙◌, Option, Some, None, append_assoc, append-nil, subst}
 use Rattle.std.proofs.lemmas.List.Elements.{filter-append}
 use Rattle.std.specs.Io.KnownBytes.{Consumes, Appends, IsAtEnd}
 use Rattle.std.specs.List.{AllZip}
 use Rattle.std.specs.Prelude.{not, IfSome}
 use Rattle.osm_opl.specs.Lines.{lines_of, is_skipped}
+use Rattle.osm_opl.specs.Pieces.{pieces}
 use Rattle.osm_repl.specs.Replay.{AnswerFault, ReplayFault}
-use Rattle.osm_repl.specs.Script.{IsEventLine, ScriptOf, IsBadLine, said_of}
+use Rattle.osm_repl.specs.Script.{IsEventLine, ScriptOf, IsBadLine, SaysSome, said_of}
 use Rattle.osm_repl.specs.declared.event.Event.{Event}
 use Rattle.osm_repl.specs.declared.fault.RunFault.{RunFault}
 use Rattle.osm_repl.specs.declared.fault.RunFault.TheVariants.{WantOfMemory, BadScript}
@@ -45,8 +46,14 @@ all_read (Some xs) (Some ys) bytes P c e p =
     let all : xs ≡ bytes = c ∙ (ap (λ (zs : List ℕ). bytes ++ zs) e ∙ append-nil bytes) in
     subst P (sym all) p
 
+-- a text with a line that says something isn't empty
+said_above : (script : List ℕ) → SaysSome script → 0 < length script
+unfolding pieces
+said_above [] h = absurd (let none : length (said_of (lines_of [])) ≡ 0 = refl in omega arith)
+said_above (b ∷ bs) h = omega arith
+
 -- what a fault says of the bytes that were read is what it says of all
 pub answer_fault : (old new : Option (List ℕ)) (script : List ℕ) (fault : RunFault) → Consumes old new script → IsAtEnd new → AnswerFault script fault → ReplayFault old new fault
-answer_fault old new script WantOfMemory c e h = tt
+answer_fault old new script WantOfMemory c e h = all_read old new script (λ s. 0 < length s) c e (said_above script h)
 answer_fault old new script (BadScript line) c e h = all_read old new script (λ s. IsBadLine s line × ((events : List Event) → ScriptOf s events → ⊥)) c e (h, bad_line_none script line h)
 answer_fault old new script fault c e h = absurd h

@@ -92,6 +92,10 @@ pub record HasRoom (more : ℕ) (m : MirrorValue) : Type 0 where
 abbrev pub no_mirror : MirrorValue
 no_mirror = record { objects = []; users = []; changesets = [] }
 
+-- a mirror that isn't empty
+abbrev pub HoldsSome : MirrorValue → Type 0
+HoldsSome m = 0 < length m.objects + length m.users + length m.changesets
+
 -- every count, and the number of objects, users and changesets, is at most so much
 pub record IsWithin (most : ℕ) (m : MirrorValue) : Type 0 where
   pub objects : length m.objects ≤ most

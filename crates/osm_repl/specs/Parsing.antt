@@ -2,7 +2,7 @@
 use Rattle.std.specs.Prelude.{◌≡◌, ℕ, List, ◌++◌}
 use Rattle.osm_model.specs.Time.{TimeText}
 use Rattle.osm_opl.specs.Line.{SpellsLine}
-use Rattle.osm_repl.specs.Script.{IsBadLine, SpellsSequence, form_text}
+use Rattle.osm_repl.specs.Script.{IsBadLine, SaysSome, SpellsSequence, form_text}
 use Rattle.osm_repl.specs.declared.event.Event.{Event}
 use Rattle.osm_repl.specs.declared.event.Event.TheVariants.{Edit, Close, Deliver}
 use Rattle.osm_repl.specs.declared.event.Form.{Form}
@@ -35,8 +35,8 @@ abbrev pub Refused : (Event → Type 0) → LineFault → Type 0
 Refused IsIt WantOfMemory = Unit {0}
 Refused IsIt NoEvent = (e : Event) → IsIt e → ⊥
 
--- a script is refused for memory, or at its first line that is no event
+-- a script that says something may be refused for memory, and any at its first line that is no event
 abbrev pub ScriptRefused : List ℕ → RunFault → Type 0
-ScriptRefused script faults.WantOfMemory = Unit {0}
+ScriptRefused script faults.WantOfMemory = SaysSome script
 ScriptRefused script (faults.BadScript line) = IsBadLine script line
 ScriptRefused script fault = ⊥

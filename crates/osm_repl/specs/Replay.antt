@@ -4,7 +4,7 @@ use Rattle.std.specs.Io.KnownBytes.{Consumes, Appends}
 use Rattle.osm_model.specs.Limits.{max_file}
 use Rattle.osm_repl.specs.Correct.{IsRun}
 use Rattle.osm_repl.specs.Replies.{replies_text}
-use Rattle.osm_repl.specs.Script.{ScriptOf, IsBadLine}
+use Rattle.osm_repl.specs.Script.{ScriptOf, IsBadLine, SaysSome}
 use Rattle.osm_repl.specs.World.{WorldValue}
 use Rattle.osm_repl.specs.declared.event.Event.{Event}
 use Rattle.osm_repl.specs.declared.event.Reply.{Reply}
@@ -28,7 +28,7 @@ Replays input old new =
 
 -- what a fault of a replay says of the reader's bytes, before and after
 abbrev pub ReplayFault : Option (List ℕ) → Option (List ℕ) → RunFault → Type 0
-ReplayFault input rest WantOfMemory = Unit {0}
+ReplayFault input rest WantOfMemory = IfSome input (λ script. 0 < length script)
 ReplayFault input rest (ReadFault file) = file ≡ Input
 ReplayFault input rest (WriteFault file) = file ≡ Output
 ReplayFault input rest (TooLarge file) =
@@ -45,7 +45,7 @@ ReplayLeaves input old new fault = new ≡ old
 -- why a reader's bytes aren't a script's: more than 64 MiB were read, or reading failed, or memory was
 -- refused
 abbrev pub ReadingFault : Option (List ℕ) → Option (List ℕ) → RunFault → Type 0
-ReadingFault old new WantOfMemory = Unit {0}
+ReadingFault old new WantOfMemory = IfSome old (λ bytes. 0 < length bytes)
 ReadingFault old new (ReadFault file) = file ≡ Input
 ReadingFault old new (TooLarge file) =
     (file ≡ Input) × ((bytes : List ℕ) × Consumes old new bytes × (max_file < length bytes))
@@ -53,7 +53,7 @@ ReadingFault old new fault = ⊥
 
 -- why a script has no reply text: memory was refused, or a line is no event
 abbrev pub AnswerFault : List ℕ → RunFault → Type 0
-AnswerFault script WantOfMemory = Unit {0}
+AnswerFault script WantOfMemory = SaysSome script
 AnswerFault script (BadScript line) = IsBadLine script line
 AnswerFault script fault = ⊥
 

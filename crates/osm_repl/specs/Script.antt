@@ -1,5 +1,5 @@
 -- A script: a text whose lines are events. Empty lines and lines that begin with `#` say nothing.
-use Rattle.std.specs.Prelude.{◌≡◌, ℕ, ◌+◌, ◌≤◌, List, ◌∷◌, ◌++◌, length, codes, false, not}
+use Rattle.std.specs.Prelude.{◌≡◌, ℕ, ◌+◌, ◌<◌, ◌≤◌, List, ◌∷◌, ◌++◌, length, codes, false, not}
 use Rattle.std.specs.List.{AllZip, filter}
 use Rattle.std.specs.Str.Parse.{IsNumeral, digits_value}
 use Rattle.osm_model.specs.Change.{ChangeValue}
@@ -57,6 +57,10 @@ AreEvents lines events = AllZip IsEventLine (said_of lines) events
 -- the text is a script of those events
 abbrev pub ScriptOf : List ℕ → List Event → Type 0
 ScriptOf script events = AreEvents (lines_of script) events
+
+-- a text with a line that says something
+abbrev pub SaysSome : List ℕ → Type 0
+SaysSome script = 0 < length (said_of (lines_of script))
 
 -- the line of that number, counted from 1 over all lines, is the first that is neither skipped nor
 -- an event

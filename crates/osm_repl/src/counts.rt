@@ -58,7 +58,8 @@ impl Counts {
 
     /// All numbers with their counts, the numbers rising.
     pub fn to_vec(&self, alloc: Global) -> Result<Vec<(u32, u64)>, WantOfMemory>
-        ensures { IfOk result (λ v. v.items ≡ self.now) }
+        ensures copies { IfOk result (λ v. v.items ≡ self.now) }
+        ensures refused { OnErr result (0 < length self.now) }
     {
         let mut copies = Vec::with_capacity(alloc, self.counts.len())?;
         for (number, count) in self.counts.iter() {

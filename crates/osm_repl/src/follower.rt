@@ -1,9 +1,10 @@
 //! A follower of published sequences.
 
-ghost use Rattle.std.specs.Prelude.{◌≡◌, ◌+◌, ◌<◌, ◌≤◌, length, false, IfOk};
+ghost use Rattle.std.specs.Prelude.{◌≡◌, ◌+◌, ◌<◌, ◌≤◌, length, false, IfOk, OnErr};
 ghost use Rattle.osm_model.specs.Limits.{max_sequence};
 ghost use Rattle.osm_repl.specs.Delivery.{FollowerStep, TakeStep};
 ghost use Rattle.osm_repl.specs.Follower.{new_follower};
+ghost use Rattle.osm_repl.specs.Mirror.{HoldsSome};
 ghost use Rattle.osm_repl.specs.View.{view_of};
 
 use crate::event::Reply;
@@ -96,7 +97,8 @@ impl Follower {
 
     /// A copy of all that the follower holds.
     pub fn view(&self, alloc: Global) -> Result<View, WantOfMemory>
-        ensures { IfOk result (λ v. v ≡ view_of self.now) }
+        ensures copies { IfOk result (λ v. v ≡ view_of self.now) }
+        ensures refused { OnErr result (HoldsSome self.now.mirror) }
     {
         View::of(alloc, self.number, self.time, &self.mirror)
     }

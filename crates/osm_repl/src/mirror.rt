@@ -1,6 +1,6 @@
 //! A mirror of all objects, with the edits by user and by changeset.
 
-ghost use Rattle.std.specs.Prelude.{◌≡◌, [], ◌∷◌, length, OnOk, OnErr, IfOk};
+ghost use Rattle.std.specs.Prelude.{◌≡◌, ◌<◌, [], ◌∷◌, length, OnOk, OnErr, IfOk};
 ghost use Rattle.osm_repl.specs.Mirror.{Applies, GrowsBy, HasRoom, IsOrderly, NeedsMemory, NeedsPlace, no_mirror};
 
 use crate::counts::Counts;
@@ -84,21 +84,24 @@ impl Mirror {
 
     /// Copies of all objects, their keys rising.
     pub fn objects(&self, alloc: Global) -> Result<Vec<Change>, WantOfMemory>
-        ensures { IfOk result (λ v. v.items ≡ self.now.objects) }
+        ensures copies { IfOk result (λ v. v.items ≡ self.now.objects) }
+        ensures refused { OnErr result (0 < length self.now.objects) }
     {
         self.objects.to_vec(alloc)
     }
 
     /// The users with their counts of edits, rising.
     pub fn users(&self, alloc: Global) -> Result<Vec<(u32, u64)>, WantOfMemory>
-        ensures { IfOk result (λ v. v.items ≡ self.now.users) }
+        ensures copies { IfOk result (λ v. v.items ≡ self.now.users) }
+        ensures refused { OnErr result (0 < length self.now.users) }
     {
         self.users.to_vec(alloc)
     }
 
     /// The changesets with their counts of edits, rising.
     pub fn changesets(&self, alloc: Global) -> Result<Vec<(u32, u64)>, WantOfMemory>
-        ensures { IfOk result (λ v. v.items ≡ self.now.changesets) }
+        ensures copies { IfOk result (λ v. v.items ≡ self.now.changesets) }
+        ensures refused { OnErr result (0 < length self.now.changesets) }
     {
         self.changesets.to_vec(alloc)
     }

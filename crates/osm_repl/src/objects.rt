@@ -1,6 +1,6 @@
 //! The objects that stand, each under its key.
 
-ghost use Rattle.std.specs.Prelude.{◌≡◌, ℕ, ◌+◌, ◌≤◌, [], length, Some, None, IfOk, OnOk, OnErr, if◌then◌else◌};
+ghost use Rattle.std.specs.Prelude.{◌≡◌, ℕ, ◌+◌, ◌<◌, ◌≤◌, [], length, Some, None, IfOk, OnOk, OnErr, if◌then◌else◌};
 ghost use Rattle.osm_model.specs.Content.{standing_of};
 ghost use Rattle.osm_model.specs.KeyOrder.{same_key};
 ghost use Rattle.osm_model.specs.declared.kind.Key.{Key};
@@ -69,7 +69,8 @@ impl Objects {
 
     /// Copies of all objects, their keys rising.
     pub fn to_vec(&self, alloc: Global) -> Result<Vec<Change>, WantOfMemory>
-        ensures { IfOk result (λ v. v.items ≡ self.now) }
+        ensures copies { IfOk result (λ v. v.items ≡ self.now) }
+        ensures refused { OnErr result (0 < length self.now) }
     {
         let mut copies = Vec::with_capacity(alloc, self.objects.len())?;
         for change in self.objects.values() {

@@ -1,6 +1,6 @@
 //! The reply text: a line for each reply, and more for a view.
 
-ghost use Rattle.std.specs.Prelude.{◌≡◌, ◌++◌, ◌∷◌, [], codes, decimal, IfOk, OnOk};
+ghost use Rattle.std.specs.Prelude.{◌≡◌, ◌<◌, ◌++◌, ◌∷◌, [], length, codes, decimal, IfOk, OnOk, OnErr};
 ghost use Rattle.std.specs.List.{flat_map};
 ghost use Rattle.osm_repl.specs.Replies.{count_line, counts_text, held_text, number_line, numbered_line, object_line, objects_text, replies_text, reply_text, time_line, view_text};
 
@@ -15,7 +15,8 @@ use std::alloc::Global;
 
 /// The lines of the replies, each ended by LF.
 pub fn write_replies(alloc: Global, replies: &[Reply]) -> Result<Vec<u8>, WantOfMemory>
-    ensures { IfOk result (λ text. text.items ≡ replies_text replies.now) }
+    ensures text { IfOk result (λ text. text.items ≡ replies_text replies.now) }
+    ensures refused { OnErr result (0 < length replies.now) }
 {
     let mut text = Vec::new(alloc);
     for reply in replies {

@@ -1,6 +1,7 @@
 //! What a follower shows of itself.
 
-ghost use Rattle.std.specs.Prelude.{◌≡◌, IfOk, []};
+ghost use Rattle.std.specs.Prelude.{◌≡◌, IfOk, OnErr, []};
+ghost use Rattle.osm_repl.specs.Mirror.{HoldsSome};
 
 use crate::mirror::Mirror;
 use osm_model::change::Change;
@@ -34,6 +35,32 @@ impl Model for View {
 }
 
 impl View {
+    /// A view of these parts.
+    pub fn new(
+        number: u32,
+        time: Option<u32>,
+        objects: Vec<Change>,
+        users: Vec<(u32, u64)>,
+        changesets: Vec<(u32, u64)>,
+        held: Vec<u32>,
+    ) -> View
+        ensures { result ≡ record {
+          number = number;
+          time = time;
+          mirror = record { objects = objects.items; users = users.items; changesets = changesets.items };
+          held = held.items;
+        } }
+    {
+        View {
+            number,
+            time,
+            objects,
+            users,
+            changesets,
+            held,
+        }
+    }
+
     /// The view of a follower with that number, time and mirror, which holds nothing.
     pub fn of(
         alloc: Global,
@@ -41,16 +68,13 @@ impl View {
         time: Option<u32>,
         mirror: &Mirror,
     ) -> Result<View, WantOfMemory>
-        ensures { IfOk result (λ v. v ≡ record { number = number; time = time; mirror = mirror.now; held = [] }) }
+        ensures copies { IfOk result (λ v. v ≡ record { number = number; time = time; mirror = mirror.now; held = [] }) }
+        ensures refused { OnErr result (HoldsSome mirror.now) }
     {
-        Ok(View {
-            number,
-            time,
-            objects: mirror.objects(alloc)?,
-            users: mirror.users(alloc)?,
-            changesets: mirror.changesets(alloc)?,
-            held: Vec::new(alloc),
-        })
+        let objects = mirror.objects(alloc)?;
+        let users = mirror.users(alloc)?;
+        let changesets = mirror.changesets(alloc)?;
+        Ok(View::new(number, time, objects, users, changesets, Vec::new(alloc)))
     }
 
     pub fn number(&self) -> u32

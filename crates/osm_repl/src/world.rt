@@ -1,6 +1,6 @@
 //! A publisher, its archive and a follower, which take events one by one.
 
-ghost use Rattle.std.specs.Prelude.{◌≡◌, ◌<◌, ◌≤◌, ◌⊎◌, length, IsOk, IfOk, MatchOption};
+ghost use Rattle.std.specs.Prelude.{◌≡◌, ◌<◌, ◌≤◌, ◌⊎◌, length, IsOk, IfOk, OnErr, MatchOption};
 ghost use Rattle.osm_model.specs.Limits.{max_sequence};
 ghost use Rattle.osm_repl.specs.Correct.{IsRun};
 ghost use Rattle.osm_repl.specs.Published.{last_time, member};
@@ -64,7 +64,8 @@ impl World {
 
     /// A new world that has taken all the events in order. After a refusal no event was taken.
     pub fn run(alloc: Global, events: Vec<Event>) -> Result<Run, WantOfMemory>
-        ensures { IfOk result (λ r. IsRun events.items r.replies.items r.world) }
+        ensures run { IfOk result (λ r. IsRun events.items r.replies.items r.world) }
+        ensures refused { OnErr result (0 < length events.items) }
     {
         let mut world = World::new(alloc)?;
         let mut replies = Vec::with_capacity(alloc, events.len())?;

@@ -1,0 +1,8 @@
+-- What one close more publishes.
+use Rattle.std.proofs.Common.{◌≡◌, ℕ, ◌+◌, ◌-◌, ◌<◌, ◌≤◌, List, [], ◌∷◌, ◌++◌, length, refl}
+use Rattle.osm_repl.specs.Published.{PublishedValue, last_time}
+
+pub last_time_more : (ps : List PublishedValue) (p : PublishedValue) → last_time (ps ++ p ∷ []) ≡ p.time
+last_time_more [] p = refl
+last_time_more (q ∷ []) p = refl
+last_time_more (q ∷ r ∷ ps) p = last_time_more (r ∷ ps) p

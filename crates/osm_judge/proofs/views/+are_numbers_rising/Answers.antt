@@ -1,0 +1,15 @@
+use Rattle.std.proofs.Common.{◌≡◌, ◌<◌, List, [], ◌∷◌, length, map, arith, rules}
+use Rattle.std.specs.Ordering.{nat_cmp}
+use Rattle.osm_judge.proofs.ViewLemmas.{rising-nil, rising-cons, not_rising, no_items}
+use Rattle.osm_judge.proofs.views.+are_numbers_rising.Goals as goal
+
+pub returns-in-None : goal.returns-in-None
+returns-in-None t c = rw (no_items c.args.numbers.now c.in-None.ensures.cases) (rising-nil nat_cmp)
+
+pub returns-then-is_number_below : goal.returns-then-is_number_below
+returns-then-is_number_below t c = rw c.in-Some.ensures.cases.0
+    (rising-cons nat_cmp c.in-Some.first.now c.in-Some.others.now c.is_number_below.result c.are_numbers_rising.result c.is_number_below.ensures c.if-is_number_below.true c.are_numbers_rising.ensures)
+
+pub returns-else-is_number_below : goal.returns-else-is_number_below
+returns-else-is_number_below t c = rw c.in-Some.ensures.cases.0
+    (not_rising nat_cmp c.in-Some.first.now c.in-Some.others.now c.is_number_below.result c.is_number_below.ensures c.if-is_number_below.false)

@@ -1,0 +1,17 @@
+-- What may answer a script.
+use Rattle.std.specs.Prelude.{◌≡◌, ℕ, List, length}
+use Rattle.osm_repl.specs.History.{history_of}
+use Rattle.osm_repl.specs.Legal.{IsLegal}
+use Rattle.osm_repl.specs.Replies.{replies_text}
+use Rattle.osm_repl.specs.Script.{ScriptOf}
+use Rattle.osm_repl.specs.declared.event.Event.{Event}
+use Rattle.osm_repl.specs.declared.event.Reply.{Reply}
+
+-- the text is that of one reply for each event of the script, each allowed after what came before it
+pub record MayAnswer (script text : List ℕ) : Type 0 where
+  pub events : List Event
+  pub is_script : ScriptOf script events
+  pub replies : List Reply
+  pub one_each : length replies ≡ length events
+  pub legal : IsLegal (history_of events replies)
+  pub text_is : text ≡ replies_text replies

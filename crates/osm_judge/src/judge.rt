@@ -1,0 +1,68 @@
+//! Whether a reply text may be what a script is answered.
+
+ghost use Rattle.std.specs.Prelude.{◌≡◌, ◌<◌, ◌^◌, length, IfOk, IfSome, IsTrue};
+ghost use Rattle.osm_repl.specs.History.{history_of};
+ghost use Rattle.osm_judge.specs.Judge.{MayAnswer};
+
+use crate::history::Pair;
+use crate::legal::is_legal;
+use crate::reading::{Unread, read_reply};
+use osm_model::memory::WantOfMemory;
+use osm_repl::event::{Event, Reply};
+use osm_repl::fault::RunFault;
+use osm_repl::replies::write_replies;
+use osm_repl::script::parse_script;
+use std::alloc::Global;
+
+/// Whether the text is the reply text of replies each of which may follow what came before it, at the
+/// events of the script. Refused where the script is no script, or for memory.
+pub fn may_answer(alloc: Global, script: &[u8], text: &[u8]) -> Result<bool, RunFault>
+    requires { length script.now < 2 ^ 63 }
+    ensures { IfOk result (λ b. IsTrue b → MayAnswer script.now text.now) }
+{
+    let events = parse_script(alloc, script)?;
+    let replies = match read_replies(alloc, text, events.len()) {
+        Ok(replies) => replies,
+        Err(Unread::NoReply) => return Ok(false),
+        Err(Unread::WantOfMemory) => return Err(RunFault::WantOfMemory),
+    };
+    if replies.len() != events.len() {
+        return Ok(false);
+    }
+    let Ok(written) = write_replies(alloc, replies.as_slice()) else {
+        return Err(RunFault::WantOfMemory);
+    };
+    if written.as_slice() != text {
+        return Ok(false);
+    }
+    let history = pair_up(alloc, events, replies)?;
+    match is_legal(alloc, history.as_slice()) {
+        Ok(is_legal) => Ok(is_legal),
+        Err(WantOfMemory) => Err(RunFault::WantOfMemory),
+    }
+}
+
+fn read_replies(alloc: Global, text: &[u8], count: usize) -> Result<Vec<Reply>, Unread> {
+    let mut replies = Vec::new(alloc);
+    let mut rest = text;
+    for _ in 0..count {
+        let (reply, after) = read_reply(alloc, rest)?;
+        replies.push(reply)?;
+        rest = after;
+    }
+    Ok(replies)
+}
+
+// The events with their replies, the newest pair first.
+fn pair_up(alloc: Global, events: Vec<Event>, replies: Vec<Reply>) -> Result<Vec<Pair>, RunFault>
+    ensures { IfOk result (λ pairs. pairs.items ≡ history_of events.items replies.items) }
+{
+    let mut pairs = Vec::new(alloc);
+    for pair in events.into_iter().zip(replies) {
+        let Ok(()) = pairs.push(pair) else {
+            return Err(RunFault::WantOfMemory);
+        };
+    }
+    pairs.reverse();
+    Ok(pairs)
+}

@@ -1,0 +1,146 @@
+//! Reply texts, read without a promise: who needs one writes what was read and compares.
+
+use osm_model::memory::WantOfMemory;
+use osm_model::time::time_read;
+use osm_opl::lines::{LineError, read_line, split_line};
+use osm_repl::event::Reply;
+use osm_repl::view::View;
+use std::alloc::{AllocError, AllocFailed, Global};
+
+/// Why a text isn't read.
+#[derive(Clone, Copy, Debug, PartialEq, Eq)]
+pub enum Unread {
+    WantOfMemory,
+    NoReply,
+}
+
+impl From<AllocError> for Unread {
+    fn from(_error: AllocError) -> Unread {
+        Unread::WantOfMemory
+    }
+}
+
+impl<T: Drop> From<AllocFailed<T>> for Unread {
+    fn from(_error: AllocFailed<T>) -> Unread {
+        Unread::WantOfMemory
+    }
+}
+
+impl From<WantOfMemory> for Unread {
+    fn from(_error: WantOfMemory) -> Unread {
+        Unread::WantOfMemory
+    }
+}
+
+impl From<LineError> for Unread {
+    fn from(error: LineError) -> Unread {
+        match error {
+            LineError::WantOfMemory => Unread::WantOfMemory,
+            LineError::Fault(_) => Unread::NoReply,
+        }
+    }
+}
+
+/// A reply and the text behind it.
+pub fn read_reply(alloc: Global, text: &[u8]) -> Result<(Reply, &[u8]), Unread> {
+    let (line, rest) = next_line(text)?;
+    let reply = match line {
+        b"edited" => Reply::Edited,
+        b"batch full" => Reply::BatchFull,
+        b"no memory" => Reply::WantOfMemory,
+        b"sequence full" => Reply::SequenceFull,
+        b"time back" => Reply::TimeBack,
+        b"not published" => Reply::NotPublished,
+        b"broken" => Reply::Broken,
+        b"old" => Reply::Old,
+        b"too early" => Reply::TooEarly,
+        b"broke" => Reply::Broke,
+        _ => return read_longer(alloc, text),
+    };
+    Ok((reply, rest))
+}
+
+fn read_longer(alloc: Global, text: &[u8]) -> Result<(Reply, &[u8]), Unread> {
+    let (line, rest) = next_line(text)?;
+    if let Some(number) = line.strip_prefix(b"closed ") {
+        return Ok((Reply::Closed(small(number)?), rest));
+    }
+    if let Some(range) = line.strip_prefix(b"applied ") {
+        let (low, high) = halves(range, b'.')?;
+        let low = small(low)?;
+        let high = small(behind(high, b".")?)?;
+        return Ok((Reply::Applied { low, high }, rest));
+    }
+    let (view, rest) = read_view(alloc, text)?;
+    Ok((Reply::Shown(view), rest))
+}
+
+fn read_view(alloc: Global, text: &[u8]) -> Result<(View, &[u8]), Unread> {
+    let (line, rest) = next_line(text)?;
+    let number = small(behind(line, b"number ")?)?;
+    let (line, rest) = next_line(rest)?;
+    let time = time_read(behind(line, b"time ")?);
+    let (line, mut rest) = next_line(rest)?;
+    let mut objects = Vec::new(alloc);
+    for _ in 0..count(behind(line, b"objects ")?)? {
+        let (line, after) = next_line(rest)?;
+        objects.push(read_line(alloc, line)?)?;
+        rest = after;
+    }
+    let (users, rest) = read_counts(alloc, rest, b"users ")?;
+    let (changesets, rest) = read_counts(alloc, rest, b"changesets ")?;
+    let (line, mut rest) = next_line(rest)?;
+    let mut held = Vec::new(alloc);
+    for _ in 0..count(behind(line, b"held ")?)? {
+        let (line, after) = next_line(rest)?;
+        held.push(small(line)?)?;
+        rest = after;
+    }
+    Ok((
+        View::new(number, time, objects, users, changesets, held),
+        rest,
+    ))
+}
+
+fn read_counts<'a>(
+    alloc: Global,
+    text: &'a [u8],
+    name: &[u8],
+) -> Result<(Vec<(u32, u64)>, &'a [u8]), Unread> {
+    let (line, mut rest) = next_line(text)?;
+    let mut counts = Vec::new(alloc);
+    for _ in 0..count(behind(line, name)?)? {
+        let (line, after) = next_line(rest)?;
+        let (number, edits) = halves(line, b' ')?;
+        counts.push((small(number)?, count(edits)?))?;
+        rest = after;
+    }
+    Ok((counts, rest))
+}
+
+fn next_line(text: &[u8]) -> Result<(&[u8], &[u8]), Unread> {
+    match split_line(text) {
+        (line, Some(rest)) => Ok((line, rest)),
+        (_, None) => Err(Unread::NoReply),
+    }
+}
+
+fn behind<'a>(line: &'a [u8], name: &[u8]) -> Result<&'a [u8], Unread> {
+    line.strip_prefix(name).ok_or(Unread::NoReply)
+}
+
+fn halves(line: &[u8], at: u8) -> Result<(&[u8], &[u8]), Unread> {
+    match line.iter().position(|byte| *byte == at) {
+        Some(place) => Ok((&line[..place], &line[place + 1..])),
+        None => Err(Unread::NoReply),
+    }
+}
+
+fn count(digits: &[u8]) -> Result<u64, Unread> {
+    let text = str::from_utf8(digits).map_err(|_| Unread::NoReply)?;
+    text.parse::<u64>().map_err(|_| Unread::NoReply)
+}
+
+fn small(digits: &[u8]) -> Result<u32, Unread> {
+    u32::try_from(count(digits)?).map_err(|_| Unread::NoReply)
+}
