@@ -11,7 +11,7 @@ use Rattle.osm_repl.proofs.LegalLemmas.{legal_none, legal_more}
 use Rattle.osm_repl.specs.Legal.{Allowed, IsLegal, IsNumber, IsOpen, IsNext, IsWork}
 use Rattle.osm_repl.specs.declared.event.Event.{Event}
 use Rattle.osm_repl.specs.declared.event.Reply.{Reply}
-use Rattle.osm_repl.specs.Published.{PublishedValue, unpublished, member, changes_at, flat}
+use Rattle.osm_repl.specs.Published.{PublishedValue, unpublished, changes_at, flat}
 use Rattle.osm_repl.specs.Reach.{Reaches, between}
 
 below_not : (f : ℕ → Bool) (s n m : ℕ) → Reaches f s n → Reaches f s m → n < m → ⊥

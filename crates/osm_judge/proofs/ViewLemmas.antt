@@ -3,7 +3,7 @@ use Rattle.std.proofs.Common.{◌≡◌, ℕ, zero, suc, ◌+◌, ◌<◌, List,
 use Rattle.std.proofs.lemmas.Bool.{eqb-true}
 use Rattle.std.specs.BTreeMap.{is_at}
 use Rattle.std.specs.Cmp.{Equal-is}
-use Rattle.std.specs.Cmp.Lexicographic.{pointwise, same_text}
+use Rattle.std.specs.Cmp.Lexicographic.{pointwise}
 use Rattle.std.specs.declared.cmp.Ordering.TheVariants.{Less, Equal}
 use Rattle.std.proofs.lemmas.Grind.{common_steps}
 use Rattle.std.proofs.lemmas.List.Sums.{sum_by-append}
@@ -20,7 +20,7 @@ use Rattle.osm_opl.specs.Written.{line_text}
 use Rattle.std.specs.Prelude.{if◌then◌else◌, ◌==◌, ◌↔◌, count_by, IsTrue, Contains, nat_eq}
 use Rattle.std.specs.List.{AllByRecursion}
 use Rattle.osm_model.specs.Change.{ChangeValue, IsChange}
-use Rattle.osm_model.specs.Content.{content_of, last_of, later_of, over_at, edits_by_user, edits_by_changeset}
+use Rattle.osm_model.specs.Content.{content_of, last_of, later_of, edits_by_user, edits_by_changeset}
 use Rattle.osm_model.specs.KeyOrder.{same_key}
 use Rattle.osm_model.specs.declared.kind.Key.{Key}
 use Rattle.osm_model.proofs.ContentLemmas.{same_key-only}

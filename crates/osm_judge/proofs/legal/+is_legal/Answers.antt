@@ -1,6 +1,5 @@
-use Rattle.std.proofs.Common.{◌≡◌, ◌∷◌, true, false, refl, rules}
+use Rattle.std.proofs.Common.{◌≡◌, true, false, refl, rules}
 use Rattle.std.proofs.lemmas.Result.{IfOk-weaker}
-use Rattle.osm_repl.specs.Legal.{Allowed}
 use Rattle.osm_judge.proofs.LegalLemmas.{legal-cons, not_legal}
 use Rattle.osm_judge.proofs.legal.+is_legal.Goals as goal
 

@@ -1,4 +1,3 @@
-use Rattle.std.proofs.Common.{◌≡◌}
 use Rattle.osm_judge.proofs.legal.is_allowed.Goals as goal
 
 pub returns-in-Deliver : goal.returns-in-Deliver

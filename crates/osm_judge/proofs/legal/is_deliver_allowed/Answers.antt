@@ -1,4 +1,3 @@
-use Rattle.std.proofs.Common.{◌≡◌}
 use Rattle.std.proofs.lemmas.Result.{IfOk-weaker}
 use Rattle.osm_judge.proofs.LegalLemmas.{want_row, broke_row}
 use Rattle.osm_judge.proofs.legal.is_deliver_allowed.Goals as goal

@@ -1,4 +1,4 @@
-use Rattle.std.proofs.Common.{◌≡◌, ◌∷◌}
+use Rattle.std.proofs.Common.{◌≡◌}
 use Rattle.osm_model.specs.Content.{edits_by_changeset}
 use Rattle.osm_repl.specs.Mirror.{count_at}
 use Rattle.osm_judge.proofs.ViewLemmas.{all-cons}

@@ -1,4 +1,4 @@
-use Rattle.std.proofs.Common.{◌≡◌, ◌<◌, List, [], ◌∷◌, length, map, arith, rules}
+use Rattle.std.proofs.Common.{map}
 use Rattle.osm_model.specs.KeyOrder.{key_cmp}
 use Rattle.osm_judge.proofs.ViewLemmas.{rising-nil, rising-cons, not_rising, no_items}
 use Rattle.osm_judge.proofs.views.+are_rising.Goals as goal

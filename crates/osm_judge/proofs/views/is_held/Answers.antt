@@ -1,4 +1,3 @@
-use Rattle.std.proofs.Common.{◌≡◌}
 use Rattle.osm_judge.proofs.views.is_held.Goals as goal
 
 pub returns-then-are_numbers_rising : goal.returns-then-are_numbers_rising

@@ -1,4 +1,4 @@
-use Rattle.std.proofs.Common.{◌≡◌, sym, ◌∙◌, refl, ap, rules, ◌++◌}
+use Rattle.std.proofs.Common.{◌≡◌, sym, ◌∙◌, ap, rules}
 use Rattle.osm_opl.specs.Written.{line_text}
 use Rattle.osm_judge.proofs.ViewLemmas.{told_apart, one_line}
 use Rattle.osm_judge.proofs.views.is_same.Goals as goal
