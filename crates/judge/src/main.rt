@@ -2,12 +2,14 @@
 //! `allowed` is written and the status is 0, or `forbidden`, and it is 1.
 #![tactic(auto)]
 
+ghost use Rattle.std.specs.Prelude.{◌<◌, length};
+
 use osm_judge::judge::may_answer;
 use osm_repl::fault::RunFault;
 use std::io::Read;
 use std::process::ExitCode;
 
-const SEPARATOR: &[u8] = b"\n--\n";
+const SEPARATOR: &[u8] = b"--\n";
 
 fn main(rt: HostRuntime) -> ExitCode {
     let (word, status) = match judged(&rt) {
@@ -44,12 +46,20 @@ fn judged(rt: &HostRuntime) -> Result<bool, Unjudged> {
     }
 }
 
-// What stands before the first separator, and behind it.
+// What stands before the first line `--`, and behind it.
 fn parts(input: &[u8]) -> Option<(&[u8], &[u8])> {
     for place in 0..input.len() {
-        if let Some(text) = input[place..].strip_prefix(SEPARATOR) {
-            return Some((&input[..place + 1], text));
+        if let Some(text) = input[place..].strip_prefix(SEPARATOR)
+            && begins_line(input, place)
+        {
+            return Some((&input[..place], text));
         }
     }
     None
+}
+
+fn begins_line(input: &[u8], place: usize) -> bool
+    requires { place < length input.now }
+{
+    place == 0 || input[place - 1] == b'\n'
 }

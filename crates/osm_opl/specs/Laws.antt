@@ -9,6 +9,15 @@ pub mod DateLemmas
 pub mod EscapeLemmas
 pub mod EscapeLaws
 pub mod ListLaws
+pub mod FieldLaws
+pub mod MetaLaws
+pub mod PlaceLaws
+pub mod ObjectLaws
+pub mod BlankLemmas
 pub mod LineLaws
 pub mod FileLaws
+pub mod WrittenNumbers
+pub mod WrittenTexts
+pub mod WrittenLists
+pub mod WrittenFields
 pub mod RoundTrip
