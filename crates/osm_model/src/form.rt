@@ -97,11 +97,11 @@ pub trait ChangeForm {
         ensures small { OnOk result (length bytes.now ≤ max_file) }
         ensures refused { IfErr result (ReadRefused spells fault_place bytes.now) };
 
-    /// The written text of a batch within the limits spells it.
-    ghost text_spells: { (batch : List ChangeValue) → IsBatch batch → spells (text batch) batch };
-
-    /// One list of bytes spells at most one batch.
-    ghost one_batch: { (bytes : List ℕ) (a b : List ChangeValue) → spells bytes a → spells bytes b → a ≡ b };
+    /// The laws of the form; does nothing at run time. The written text of a batch within the limits
+    /// spells it, and one list of bytes spells at most one batch.
+    fn laws()
+        ensures text_spells { (batch : List ChangeValue) → IsBatch batch → spells (text batch) batch }
+        ensures one_batch { (bytes : List ℕ) (a b : List ChangeValue) → spells bytes a → spells bytes b → a ≡ b };
 }
 
 /// What is written is read back as it was: the law that a publisher and its followers rest on,
@@ -110,6 +110,7 @@ pub fn there_and_back<F: ChangeForm>(alloc: Global, batch: &Batch) -> Result<Bat
     ensures same { IfOk result (λ b. b ≡ batch.now) }
     ensures refused { IfErr result (WriteRefused (F.text batch.now)) }
 {
+    F::laws();
     let _changes = batch.changes();
     let bytes = F::write(alloc, batch)?;
     F::read(alloc, bytes.as_slice())
