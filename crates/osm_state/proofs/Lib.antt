@@ -5,3 +5,4 @@ pub mod TimeLemmas
 pub mod StateLemmas
 pub mod PathLemmas
 pub mod WrittenLemmas
+mod StandardFacts

@@ -28,6 +28,9 @@ pub entry_of_some : (line : List ℕ) (i : ℕ) → is_note line ≡ false → p
 unfolding entry_of
 entry_of_some line i e p = rw (e, p) refl
 
+-- the key and the value of a line, by its cases
+pub ruleset entries = (entry_of_note, entry_of_none, entry_of_some)
+
 or_none : (v : Option (List ℕ)) → option_or v None ≡ v
 or_none None = refl
 or_none (Some x) = refl

@@ -16,7 +16,7 @@ use Rattle.osm_model.specs.Limits.{max_sequence}
 use Rattle.osm_model.specs.Time.{Moment, moment_text, last_digit}
 use Rattle.osm_state.specs.State.{StateValue, IsState}
 use Rattle.osm_model.specs.CivilTime.{time_text, moment_at}
-use Rattle.osm_state.specs.Properties.{is_blank, trimmed, trimmed_front, is_note, entry_of, last_value, lines_of, value_of, unescaped}
+use Rattle.osm_state.specs.Properties.{is_blank, trimmed, trimmed_start, is_note, entry_of, last_value, lines_of, value_of, unescaped}
 use Rattle.osm_state.specs.StateText.{sequence_key, time_key, SequenceText, StateOf, state_text, escaped_colons}
 use Rattle.osm_state.proofs.EscapeLemmas.{unescaped_empty, unescaped_byte, unescaped_escape}
 use Rattle.osm_state.proofs.LineLemmas.{entry_of_some}
@@ -35,7 +35,7 @@ dark-reverse : (a : List ℕ) → AllDark a → AllDark (reverse a)
 dark-reverse [] p = tt
 dark-reverse (x ∷ a) p = rw (reverse-append (x ∷ []) a) (dark-append (reverse a) (x ∷ []) (dark-reverse a p.1) (p.0, tt))
 
-dark_front : (a : List ℕ) → AllDark a → trimmed_front a ≡ a
+dark_front : (a : List ℕ) → AllDark a → trimmed_start a ≡ a
 dark_front [] p = refl
 dark_front (b ∷ bs) p =
     let solid : is_blank b ≡ false = grind (arith, nat_tests, p.0) in

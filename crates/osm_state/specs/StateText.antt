@@ -1,5 +1,6 @@
 -- State texts: the two keys of `state.txt` that are read and written (OSM wiki, Planet.osm/diffs).
-use Rattle.std.specs.Prelude.{◌≡◌, ℕ, ◌≤◌, ◌==◌, List, [], ◌∷◌, ◌++◌, length, codes, decimal, Some, if◌then◌else◌}
+use Rattle.std.specs.Prelude.{◌≡◌, ℕ, ◌≤◌, ◌==◌, List, [], ◌∷◌, ◌++◌, length, codes, decimal, Some}
+use Rattle.std.specs.Prelude.{if◌then◌else◌}
 use Rattle.std.specs.Str.Parse.{IsNumeral, digits_value}
 use Rattle.osm_model.specs.Time.{TimeText}
 use Rattle.osm_state.specs.State.{StateValue, IsState}
@@ -12,13 +13,13 @@ sequence_key = codes "sequenceNumber"
 abbrev pub time_key : List ℕ
 time_key = codes "timestamp"
 
--- 1 to 9 decimal digits, with zeros in front or without, and the number that they write
+-- 1 to 9 decimal digits, with or without leading zeros, and the number that they spell
 pub record SequenceText (bytes : List ℕ) (sequence : ℕ) : Type 0 where
   pub numeral : IsNumeral 10 bytes
   pub short : length bytes ≤ 9
   pub value : digits_value 10 bytes ≡ sequence
 
--- without its escapes the value is a text of the number
+-- without its escapes the value is the text of the number
 pub record StandsForNumber (IsText : List ℕ → ℕ → Type 0) (value : List ℕ) (n : ℕ) : Type 0 where
   pub plain : List ℕ
   pub stands_for : unescaped value ≡ Some plain
