@@ -1,6 +1,5 @@
 pub mod EscapeLemmas
 pub mod LineLemmas
-pub mod NumberLemmas
 pub mod TimeLemmas
 pub mod StateLemmas
 pub mod PathLemmas

@@ -1,10 +1,10 @@
 -- Texts of keys and values, a pair a line, in the part of Java's properties that state files use.
 use Rattle.std.specs.Prelude.{ℕ, ◌+◌, ◌==◌, ◌||◌, Bool, false, List, [], ◌∷◌, take, drop}
-use Rattle.std.specs.Prelude.{reverse, map, Option, Some, None, option_map, if◌then◌else◌}
-use Rattle.std.specs.List.{slice_split, position}
+use Rattle.std.specs.Prelude.{reverse, Option, Some, None, option_map, if◌then◌else◌}
+use Rattle.std.specs.List.{position}
 use Rattle.std.specs.Option.{option_or}
 use Rattle.std.specs.Str.{bytes_eq}
-use Rattle.std.specs.Str.Lines.{strip_carriage_return}
+use Rattle.osm_reading.specs.Lines.{lines_of}
 
 -- a space or a tab
 abbrev pub is_blank : ℕ → Bool
@@ -22,10 +22,6 @@ trimmed_end bytes = reverse (trimmed_start (reverse bytes))
 -- the bytes without the blanks at both ends
 unfoldable pub trimmed : List ℕ → List ℕ
 trimmed bytes = trimmed_end (trimmed_start bytes)
-
--- the lines of a text: the bytes between its line feeds, less a carriage return at a line's end
-abbrev pub lines_of : List ℕ → List (List ℕ)
-lines_of text = map strip_carriage_return (slice_split (λ b. b == 10) text)
 
 -- the bytes begin with `#` or `!`
 abbrev pub begins_note : List ℕ → Bool

@@ -1,8 +1,9 @@
 -- Why a text has no state: the first that applies, the sequence before the time.
 use Rattle.std.specs.Prelude.{◌≡◌, ℕ, ◌⊎◌, List, Some, None}
 use Rattle.osm_model.specs.Time.{TimeText}
+use Rattle.osm_reading.specs.Sequence.{SpellsSequence}
 use Rattle.osm_state.specs.Properties.{value_of, unescaped}
-use Rattle.osm_state.specs.StateText.{sequence_key, time_key, SequenceText, SequenceOf, HasValue}
+use Rattle.osm_state.specs.StateText.{sequence_key, time_key, SequenceOf, HasValue}
 use Rattle.osm_state.specs.declared.state_text.StateError.{StateError}
 use Rattle.osm_state.specs.declared.state_text.StateError.TheVariants.{MissingSequence, BadEscape}
 use Rattle.osm_state.specs.declared.state_text.StateError.TheVariants.{BadSequence, MissingTime}
@@ -28,6 +29,6 @@ FaultOf text MissingSequence = value_of text sequence_key ≡ None
 FaultOf text BadEscape =
     HasValue text sequence_key EndsInEscape
     ⊎ (HasSequence text × HasValue text time_key EndsInEscape)
-FaultOf text BadSequence = HasValue text sequence_key (StandsForNone SequenceText)
+FaultOf text BadSequence = HasValue text sequence_key (StandsForNone SpellsSequence)
 FaultOf text MissingTime = HasSequence text × (value_of text time_key ≡ None)
 FaultOf text BadTime = HasSequence text × HasValue text time_key (StandsForNone TimeText)

@@ -1,23 +1,17 @@
 -- State texts: the two keys of `state.txt` that are read and written (OSM wiki, Planet.osm/diffs).
-use Rattle.std.specs.Prelude.{◌≡◌, ℕ, ◌≤◌, ◌==◌, List, [], ◌∷◌, ◌++◌, length, codes, decimal, Some}
+use Rattle.std.specs.Prelude.{◌≡◌, ℕ, ◌==◌, List, [], ◌∷◌, ◌++◌, codes, decimal, Some}
 use Rattle.std.specs.Prelude.{if◌then◌else◌}
-use Rattle.std.specs.Str.Parse.{IsNumeral, digits_value}
 use Rattle.osm_model.specs.Time.{TimeText}
+use Rattle.osm_model.specs.CivilTime.{time_text}
+use Rattle.osm_reading.specs.Sequence.{SpellsSequence}
 use Rattle.osm_state.specs.State.{StateValue, IsState}
 use Rattle.osm_state.specs.Properties.{value_of, unescaped}
-use Rattle.osm_model.specs.CivilTime.{time_text}
 
 abbrev pub sequence_key : List ℕ
 sequence_key = codes "sequenceNumber"
 
 abbrev pub time_key : List ℕ
 time_key = codes "timestamp"
-
--- 1 to 9 decimal digits, with or without leading zeros, and the number that they spell
-pub record SequenceText (bytes : List ℕ) (sequence : ℕ) : Type 0 where
-  pub numeral : IsNumeral 10 bytes
-  pub short : length bytes ≤ 9
-  pub value : digits_value 10 bytes ≡ sequence
 
 -- without its escapes the value is the text of the number
 pub record StandsForNumber (IsText : List ℕ → ℕ → Type 0) (value : List ℕ) (n : ℕ) : Type 0 where
@@ -33,7 +27,7 @@ pub record HasValue (text key : List ℕ) (IsTrueOf : List ℕ → Type 0) : Typ
 
 -- the text names the sequence
 abbrev pub SequenceOf : List ℕ → ℕ → Type 0
-SequenceOf text n = HasValue text sequence_key (λ value. StandsForNumber SequenceText value n)
+SequenceOf text n = HasValue text sequence_key (λ value. StandsForNumber SpellsSequence value n)
 
 -- the text names the time
 abbrev pub TimeOf : List ℕ → ℕ → Type 0

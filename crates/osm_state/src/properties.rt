@@ -5,13 +5,13 @@ ghost use Rattle.std.specs.Prelude.{◌≡◌, ℕ, ◌<◌, ◌≤◌, ◌==◌
 ghost use Rattle.std.specs.Prelude.{Some, None, option_map, MatchOption, IfSome, IsNone};
 ghost use Rattle.std.specs.List.{position};
 ghost use Rattle.std.specs.Option.{option_copied};
-ghost use Rattle.std.specs.Str.Lines.{strip_carriage_return};
 ghost use Rattle.osm_state.specs.Properties.{is_blank, trimmed, trimmed_end, trimmed_start};
 ghost use Rattle.osm_state.specs.Properties.{is_note, entry_of, value_of, value_at, unescaped};
 ghost use Rattle.osm_state.specs.StateText.{sequence_key, time_key};
 ghost use Rattle.osm_state.specs.Steps.Values.{seen_entry, IsPlainPrefix};
 
 use arrayvec::ArrayVec;
+use osm_reading::lines::split_line;
 
 /// The values that a text gives to the two keys of a state; None if no line has the key.
 #[derive(Clone, Copy)]
@@ -27,10 +27,13 @@ pub(crate) fn values_of(text: &[u8]) -> Values<'_>
 {
     let mut sequence = None;
     let mut time = None;
-    for piece in text.split(|byte| *byte == b'\n') {
-        let entry = entry(without_return(piece));
+    let mut rest = Some(text);
+    while let Some(lines) = rest {
+        let (line, after) = split_line(lines);
+        let entry = entry(line);
         sequence = value_at(entry, b"sequenceNumber").or(sequence);
         time = value_at(entry, b"timestamp").or(time);
+        rest = after;
     }
     Values { sequence, time }
 }
@@ -41,15 +44,6 @@ fn value_at<'a>(entry: Option<(&'a [u8], &'a [u8])>, key: &[u8]) -> Option<&'a [
     match entry {
         Some((name, value)) if name == key => Some(value),
         _ => None,
-    }
-}
-
-fn without_return(piece: &[u8]) -> &[u8]
-    ensures { result.now ≡ strip_carriage_return piece.now }
-{
-    match piece {
-        [line @ .., b'\r'] => line,
-        _ => piece,
     }
 }
 

@@ -3,9 +3,10 @@
 ghost use Rattle.std.specs.Prelude.{◌≡◌, ◌==◌, ℕ, ◌↔◌, List, Some, Ok, Err, None, ◌++◌, IfOk, OnOk};
 ghost use Rattle.std.specs.Prelude.{IfErr, IfSome, MatchResult};
 ghost use Rattle.osm_model.specs.Time.{TimeText};
+ghost use Rattle.osm_reading.specs.Sequence.{SpellsSequence};
 ghost use Rattle.osm_state.specs.State.{StateValue};
 ghost use Rattle.osm_state.specs.StateFault.{FaultOf};
-ghost use Rattle.osm_state.specs.StateText.{StateOf, SequenceText, StandsForNumber, state_text};
+ghost use Rattle.osm_state.specs.StateText.{StateOf, StandsForNumber, state_text};
 ghost use Rattle.osm_state.specs.StateText.{escaped_colons};
 ghost use Rattle.osm_state.specs.Steps.Faults.{SequenceFault, TimeFault};
 
@@ -14,6 +15,7 @@ use crate::state::State;
 use itoa::Buffer;
 use osm_model::memory::WantOfMemory;
 use osm_model::time::{time_read, time_write};
+use osm_reading::sequence::sequence_read;
 use std::alloc::Global;
 use thiserror::Error;
 
@@ -57,7 +59,7 @@ pub fn state_read(bytes: &[u8]) -> Result<State, StateError>
 
 fn sequence_in(value: &[u8]) -> Result<u32, StateError>
     ensures { MatchResult result
-        (StandsForNumber SequenceText value.now)
+        (StandsForNumber SpellsSequence value.now)
         (SequenceFault value.now) }
 {
     let plain = unescape(value).ok_or(StateError::BadEscape)?;
@@ -69,24 +71,6 @@ fn time_in(value: &[u8]) -> Result<u32, StateError>
 {
     let plain = unescape(value).ok_or(StateError::BadEscape)?;
     time_read(&plain).ok_or(StateError::BadTime)
-}
-
-// The number of 1 to 9 digits.
-fn sequence_read(text: &[u8]) -> Option<u32>
-    ensures sound { IfSome result (λ n. SequenceText text.now n) }
-    ensures complete { (n : ℕ) → SequenceText text.now n → result ≡ Some n }
-{
-    if text.is_empty() || 9 < text.len() {
-        return None;
-    }
-    let mut number = 0;
-    for byte in text {
-        if !byte.is_ascii_digit() {
-            return None;
-        }
-        number = 10 * number + (*byte - b'0') as u32;
-    }
-    Some(number)
 }
 
 /// The lines `sequenceNumber=N` and `timestamp=YYYY-MM-DDTHH\:MM\:SSZ`, each ended by LF, and no

@@ -1,7 +1,7 @@
 -- Steps of the proofs, which no public clause cites: the fault of one value by itself.
 use Rattle.std.specs.Prelude.{ℕ, List}
 use Rattle.osm_model.specs.Time.{TimeText}
-use Rattle.osm_state.specs.StateText.{SequenceText}
+use Rattle.osm_reading.specs.Sequence.{SpellsSequence}
 use Rattle.osm_state.specs.StateFault.{EndsInEscape, StandsForNone}
 use Rattle.osm_state.specs.declared.state_text.StateError.{StateError}
 use Rattle.osm_state.specs.declared.state_text.StateError.TheVariants.{MissingSequence, BadEscape}
@@ -11,7 +11,7 @@ use Rattle.osm_state.specs.declared.state_text.StateError.TheVariants.{BadTime}
 -- the fault of a sequence's value
 abbrev pub SequenceFault : List ℕ → StateError → Type 0
 SequenceFault value BadEscape = EndsInEscape value
-SequenceFault value BadSequence = StandsForNone SequenceText value
+SequenceFault value BadSequence = StandsForNone SpellsSequence value
 SequenceFault value MissingSequence = ⊥
 SequenceFault value MissingTime = ⊥
 SequenceFault value BadTime = ⊥
