@@ -20,12 +20,12 @@ server_time : value_of (codes "#Wed Sep 12 07:07:05 UTC 2012\r\ntxnMax=5\r\nsequ
 unfolding entry_of last_value trimmed pieces
 server_time = refl
 
--- spaces and tabs around a key and a value are dropped, and those within a value kept
+-- spaces and tabs around a key or a value are dropped, and those inside a value are kept
 blanks : value_of (codes "\t sequenceNumber \t=\t 1 2\t ") sequence_key ≡ Some (codes "1 2")
 unfolding entry_of last_value trimmed pieces
 blanks = refl
 
--- a form feed, a vertical tab and a carriage return are no blanks
+-- a form feed, a vertical tab and a carriage return aren't blanks
 form_feed : value_of (codes "sequenceNumber=" ++ 12 ∷ 55 ∷ []) sequence_key ≡ Some (12 ∷ 55 ∷ [])
 unfolding entry_of last_value trimmed pieces
 form_feed = refl
@@ -72,12 +72,12 @@ slashes : value_of (codes "//=1") (codes "//") ≡ Some (codes "1")
 unfolding entry_of last_value trimmed pieces
 slashes = refl
 
--- a note's sign later in a line is a part of the key or of the value
+-- a `#` later in a line is part of the key or the value
 late_sign : value_of (codes "sequenceNumber=7 # x") sequence_key ≡ Some (codes "7 # x")
 unfolding entry_of last_value trimmed pieces
 late_sign = refl
 
--- the first `=` ends a key; no colon and no blank does
+-- the first `=` ends a key; a colon or a blank doesn't
 second_equals : value_of (codes "sequenceNumber=7=8") sequence_key ≡ Some (codes "7=8")
 unfolding entry_of last_value trimmed pieces
 second_equals = refl
@@ -94,7 +94,7 @@ blank_between : value_of (codes "sequenceNumber 7") sequence_key ≡ None
 unfolding entry_of last_value trimmed pieces
 blank_between = refl
 
--- the last line with a key counts, though its value may be empty; a line without `=` doesn't count
+-- the last line with a key counts, even if its value is empty; a line without `=` doesn't count
 last_counts : value_of (codes "sequenceNumber=7\nsequenceNumber=8\na=9") sequence_key ≡ Some (codes "8")
 unfolding entry_of last_value trimmed pieces
 last_counts = refl
@@ -125,7 +125,7 @@ escaped_key : value_of (codes "time\\stamp=7") time_key ≡ None
 unfolding entry_of last_value trimmed pieces
 escaped_key = refl
 
--- an escape is of one byte, whichever it is, and stands for that byte: `\n` for `n`, `\u` for `u`
+-- a backslash stands for the byte after it, whichever that is: `\n` for `n`, `\u` for `u`
 escapes : unescaped (codes "\\n\\t\\u0041\\\\\\:\\ ") ≡ Some (codes "ntu0041\\: ")
 unfolding unescaped
 escapes = refl
@@ -142,7 +142,7 @@ whole_escape : unescaped (codes "7\\\\") ≡ Some (codes "7\\")
 unfolding unescaped
 whole_escape = refl
 
--- 1 to 9 digits are a sequence; leading zeros count as digits, a sign is none
+-- 1 to 9 digits are a sequence; leading zeros count as digits, and a sign isn't one
 nine_digits : SpellsSequence (codes "999999999") 999999999
 nine_digits = record { numeral = (omega arith, search rules); short = omega arith; value = refl }
 

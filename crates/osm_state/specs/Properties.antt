@@ -1,4 +1,5 @@
--- Texts of keys and values, a pair a line, in the part of Java's properties that state files use.
+-- Texts of keys and values, one pair on each line: the part of Java's properties that state files
+-- use.
 use Rattle.std.specs.Prelude.{ℕ, ◌+◌, ◌==◌, ◌||◌, Bool, false, List, [], ◌∷◌, take, drop}
 use Rattle.std.specs.Prelude.{reverse, Option, Some, None, option_map, if◌then◌else◌}
 use Rattle.std.specs.List.{position}

@@ -13,7 +13,7 @@ use Rattle.osm_state.specs.declared.state_text.StateError.TheVariants.{BadTime}
 abbrev pub EndsInEscape : List ℕ → Type 0
 EndsInEscape value = unescaped value ≡ None
 
--- without its escapes the value is the text of no number
+-- without its escapes the value isn't the text of any number
 pub record StandsForNone (IsText : List ℕ → ℕ → Type 0) (value : List ℕ) : Type 0 where
   pub plain : List ℕ
   pub stands_for : unescaped value ≡ Some plain

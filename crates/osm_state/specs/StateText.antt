@@ -7,9 +7,11 @@ use Rattle.osm_reading.specs.Sequence.{SpellsSequence}
 use Rattle.osm_state.specs.State.{StateValue, IsState}
 use Rattle.osm_state.specs.Properties.{value_of, unescaped}
 
+-- the key of the sequence number
 abbrev pub sequence_key : List ℕ
 sequence_key = codes "sequenceNumber"
 
+-- the key of the time
 abbrev pub time_key : List ℕ
 time_key = codes "timestamp"
 
@@ -19,7 +21,7 @@ pub record StandsForNumber (IsText : List ℕ → ℕ → Type 0) (value : List 
   pub stands_for : unescaped value ≡ Some plain
   pub number : IsText plain n
 
--- the text gives the key a value of which this is true
+-- the text gives the key a value for which this holds
 pub record HasValue (text key : List ℕ) (IsTrueOf : List ℕ → Type 0) : Type 0 where
   pub value : List ℕ
   pub found : value_of text key ≡ Some value

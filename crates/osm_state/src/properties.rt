@@ -1,7 +1,7 @@
 //! Texts of keys and values, one pair on each line: the part of Java's properties that state files
 //! use.
 
-ghost use Rattle.std.specs.Prelude.{◌≡◌, ℕ, ◌<◌, ◌≤◌, ◌==◌, List, [], ◌∷◌, ◌++◌, take, length};
+ghost use Rattle.std.specs.Prelude.{◌≡◌, ◌<◌, ◌≤◌, ◌==◌, [], ◌∷◌, ◌++◌, take, length};
 ghost use Rattle.std.specs.Prelude.{Some, None, option_map, MatchOption, IfSome, IsNone};
 ghost use Rattle.std.specs.List.{position};
 ghost use Rattle.std.specs.Option.{option_copied};

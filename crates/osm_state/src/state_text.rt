@@ -1,7 +1,7 @@
 //! Reading and writing `state.txt`.
 
-ghost use Rattle.std.specs.Prelude.{◌≡◌, ◌==◌, ℕ, ◌↔◌, List, Some, Ok, Err, None, ◌++◌, IfOk, OnOk};
-ghost use Rattle.std.specs.Prelude.{IfErr, IfSome, MatchResult};
+ghost use Rattle.std.specs.Prelude.{◌≡◌, ◌==◌, Ok, Err, ◌++◌, IfOk, OnOk};
+ghost use Rattle.std.specs.Prelude.{IfErr, MatchResult};
 ghost use Rattle.osm_model.specs.Time.{TimeText};
 ghost use Rattle.osm_reading.specs.Sequence.{SpellsSequence};
 ghost use Rattle.osm_state.specs.State.{StateValue};
