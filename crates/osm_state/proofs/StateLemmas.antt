@@ -62,7 +62,7 @@ state_limits value time_value sequence time s t =
     let small = nine_digits s.plain s.number.numeral.1 s.number.short in
     record { sequence = omega (arith, small, s.number.value); time = t.number.limits }
 
--- a value stands for one number at most
+-- a value stands for at most one number
 one_number : (value : List ℕ) (m n : ℕ) → StandsForNumber SpellsSequence value m → StandsForNumber SpellsSequence value n → m ≡ n
 one_number value m n p q =
     let same : p.plain ≡ q.plain = same_Some _ _ (sym p.stands_for ∙ q.stands_for) in

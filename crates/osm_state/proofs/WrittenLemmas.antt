@@ -37,16 +37,16 @@ dark-reverse : (a : List ℕ) → AllDark a → AllDark (reverse a)
 dark-reverse [] p = tt
 dark-reverse (x ∷ a) p = rw (reverse-append (x ∷ []) a) (dark-append (reverse a) (x ∷ []) (dark-reverse a p.1) (p.0, tt))
 
-dark_front : (a : List ℕ) → AllDark a → trimmed_start a ≡ a
-dark_front [] p = refl
-dark_front (b ∷ bs) p =
+dark_start : (a : List ℕ) → AllDark a → trimmed_start a ≡ a
+dark_start [] p = refl
+dark_start (b ∷ bs) p =
     let solid : is_blank b ≡ false = grind (arith, nat_tests, p.0) in
     rw solid refl
 
 -- nothing is trimmed from dark bytes
 dark_trimmed : (a : List ℕ) → AllDark a → trimmed a ≡ a
 unfolding trimmed
-dark_trimmed a p = rw (dark_front a p, dark_front (reverse a) (dark-reverse a p)) (reverse-reverse a)
+dark_trimmed a p = rw (dark_start a p, dark_start (reverse a) (dark-reverse a p)) (reverse-reverse a)
 
 dark_at : (a : List ℕ) (i : ℕ) → i < length a → AllDark a → 32 < get_or a i 0
 dark_at [] i h p = absurd (omega arith)
