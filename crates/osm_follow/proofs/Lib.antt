@@ -1,0 +1,5 @@
+pub mod EntryLemmas
+pub mod MirrorLemmas
+pub mod PublishedLemmas
+pub mod StepLemmas
+pub mod LegalLemmas

@@ -1,0 +1,12 @@
+pub mod Published
+pub mod Reach
+pub mod Mirror
+pub mod Follower
+pub mod World
+pub mod View
+pub mod History
+pub mod Legal
+pub mod Correct
+pub mod Entries
+pub mod Delivery
+pub mod Step
