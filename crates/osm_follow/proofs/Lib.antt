@@ -3,3 +3,4 @@ pub mod MirrorLemmas
 pub mod PublishedLemmas
 pub mod StepLemmas
 pub mod LegalLemmas
+pub mod RunLemmas

@@ -4,6 +4,7 @@
 mod counts;
 pub mod event;
 mod follower;
+pub mod laws;
 mod mirror;
 mod objects;
 mod published;
