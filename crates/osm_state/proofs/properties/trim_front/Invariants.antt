@@ -1,9 +1,0 @@
-use Rattle.std.proofs.Common.{◌≡◌, length}
-use Rattle.osm_state.specs.Properties.{trimmed_front}
-use Rattle.osm_state.proofs.properties.trim_front.Given as goal
-
-abbrev pub invariant-loop-first : goal.invariant-loop-first
-invariant-loop-first l = trimmed_front l.rest ≡ trimmed_front l.fn.bytes
-
-abbrev pub decreases-loop-first : goal.decreases-loop-first
-decreases-loop-first l = length l.rest
