@@ -16,13 +16,13 @@ use Rattle.osm_opl.specs.Line.{SpellsLine, SpellsWhat, node, way, relation, dele
 use Rattle.osm_opl.specs.Lists.{SpellsList, SpellsTag, SpellsRef, SpellsMember, letter_of}
 use Rattle.osm_opl.specs.Number.{SpellsNumber}
 use Rattle.osm_opl.specs.Written.{visible_text}
-use Rattle.osm_opl.specs.Reading.{member_at, ref_at, tag_at}
-use Rattle.osm_opl.specs.Laws.PieceLemmas.{Lacks}
-use Rattle.osm_opl.specs.Laws.NumberLaws.{id_lacks, digits_lack}
-use Rattle.osm_opl.specs.Laws.EscapeLaws.{text_lacks}
-use Rattle.osm_opl.specs.Laws.ListLaws.{IsBlank, IsMember, list_lacks, members_read, refs_read, tags_read}
-use Rattle.osm_opl.specs.Laws.PlaceLaws.{place_lacks, longitude_read, latitude_read}
-use Rattle.osm_opl.specs.Laws.ObjectLaws.{is_standing}
+use Rattle.osm_opl.specs.Steps.Reading.{member_at, ref_at, tag_at}
+use Rattle.osm_reading.specs.Pieces.{Lacks}
+use Rattle.osm_opl.proofs.NumberLaws.{id_lacks, digits_lack}
+use Rattle.osm_opl.proofs.EscapeLaws.{text_lacks}
+use Rattle.osm_opl.proofs.ListLaws.{IsBlank, IsMember, list_lacks, members_read, refs_read, tags_read}
+use Rattle.osm_opl.proofs.CoordinateLaws.{maybe_coordinate_lacks, longitude_read, latitude_read}
+use Rattle.osm_opl.proofs.ObjectLaws.{is_standing}
 
 tags_lack : (s : ℕ) (b : IsBlank s) (t : List ℕ) (tags : List Tag) → SpellsList SpellsTag t tags → Lacks s (84 ∷ t)
 tags_lack s b t tags h = (λ e. omega (arith, e, b.low), list_lacks tag_at SpellsTag IsTag tags_read s b t tags h)
@@ -34,7 +34,7 @@ members_lack : (s : ℕ) (b : IsBlank s) (m : List ℕ) (members : List Member) 
 members_lack s b m members h = (λ e. omega (arith, e, b.low), list_lacks member_at SpellsMember IsMember members_read s b m members h)
 
 coordinate_lack : (s : ℕ) (b : IsBlank s) (letter : ℕ) (x : List ℕ) (z : ℤ) → 37 ≤ letter → SpellsCoordinate x z → Lacks s (letter ∷ x)
-coordinate_lack s b letter x z high h = (λ e. omega (arith, e, b.low), place_lacks s b x z h)
+coordinate_lack s b letter x z high h = (λ e. omega (arith, e, b.low), maybe_coordinate_lacks s b x z h)
 
 what_lacks : (s : ℕ) (b : IsBlank s) (kind : Kind) (fields : List (List ℕ)) (w : What) → SpellsWhat kind fields w → AllByRecursion (Lacks s) fields
 what_lacks s b _ _ _ (node t x y tags lon lat ts hx hy) = (tags_lack s b t tags ts, (coordinate_lack s b 120 x lon (lit≤ tt) hx, (coordinate_lack s b 121 y lat (lit≤ tt) hy, tt)))

@@ -6,7 +6,7 @@ use Rattle.std.specs.List.{AllByRecursion}
 use Rattle.std.specs.Str.{chars}
 use Rattle.std.specs.Str.Parse.{AllDigits, digits_value, digits_value_after}
 use lib.Utf8.{scalar, scalars, scalar_cases, encodes}
-use Rattle.osm_opl.specs.Laws.Steps.{both}
+use Rattle.osm_reading.proofs.StepLemmas.{both_held}
 use Rattle.std.proofs.Math.Nat.{pow-suc, one-le-pow, mod-lt, mod-eq_of_lt, mul-add-mod_self_left, mul-le-mul_left}
 use Rattle.std.proofs.lemmas.Bool.{cases_lt}
 use Rattle.std.proofs.lemmas.Bool.Decides.{nat_tests}
@@ -14,7 +14,7 @@ use Rattle.std.proofs.lemmas.List.{get_or-append-add, length-append}
 use Rattle.std.proofs.lemmas.Str.{digit_value-digit_char, encode_ascii, encodes-chars, scalars-chars}
 use Rattle.osm_model.specs.Text.{IsText}
 use Rattle.osm_opl.specs.Escape.{is_reserved, NamesChar, SpellsText, end, bare, escape}
-use Rattle.osm_opl.specs.Written.{char_text, chars_text, hex_count, hex_digits, is_written_bare, text_text}
+use Rattle.osm_opl.specs.Written.{char_text, chars_text, hex_count, hex_digits, is_written_bare, escaped_text}
 
 -- ---- the digits of an escape
 
@@ -113,7 +113,7 @@ char_spells c bytes text s other h = by_test (is_written_bare c) refl
 chars_spell : (cs : List ℕ) → scalars cs ≡ true → AllByRecursion (λ c. c ≢ 0) cs → SpellsText (chars_text cs) (encodes cs)
 chars_spell [] s h = end
 chars_spell (c ∷ cs) s h =
-    let p = both (scalar c) (scalars cs) s in
+    let p = both_held (scalar c) (scalars cs) s in
     char_spells c (chars_text cs) (encodes cs) p.0 h.0 (chars_spell cs p.1 h.1)
 
 chars_no_nul : (cs : List ℕ) → ¬ Contains (encodes cs) 0 → AllByRecursion (λ c. c ≢ 0) cs
@@ -129,8 +129,8 @@ chars_no_nul (c ∷ cs) h = (
     contains_after : (xs ys : List ℕ) → Contains ys 0 → Contains (xs ++ ys) 0
     contains_after xs ys (k, lt, is) = let l : length (xs ++ ys) ≡ length xs + length ys = length-append xs ys in (length xs + k, omega arith, get_or-append-add xs ys k 0 ∙ is)
 
-pub text_is_spelled : (text : List ℕ) → IsText text → SpellsText (text_text text) text
-unfolding text_text
+pub text_is_spelled : (text : List ℕ) → IsText text → SpellsText (escaped_text text) text
+unfolding escaped_text
 text_is_spelled text is =
     let back : encodes (chars text) ≡ text = encodes-chars text is.utf8 in
     let h = chars_spell (chars text) (scalars-chars text is.utf8) (chars_no_nul (chars text) (rw back is.no_nul)) in
