@@ -6,8 +6,9 @@ use Rattle.osm_model.specs.ChangeForm.{ReadRefused}
 use Rattle.osm_model.specs.Limits.{max_file}
 use Rattle.osm_model.specs.declared.form.FormError.{FormError}
 use Rattle.osm_model.specs.declared.form.FormError.TheVariants.{WantOfMemory, TooLarge, Fault}
-use Rattle.osm_o5c.specs.File.{SpellsO5c, FaultPlace, FileRefused, IsTooLargeOrWant, IsAtOrElse}
-use Rattle.osm_o5c.specs.Laws.FrontLemmas.{one_batch}
+use Rattle.osm_o5c.specs.File.{SpellsO5c, FaultPlace, IsTooLargeOrWant, IsAtOrElse}
+use Rattle.osm_o5c.specs.Steps.FileReading.{FileRefused}
+use Rattle.osm_o5c.proofs.FrontLemmas.{one_batch}
 use Rattle.osm_o5c.proofs.PlaceLemmas.{spelled_or_wrong, one_place}
 
 pub read_refused : {X : Type 0} (bytes : List ℕ) (r : Result X FormError) → length bytes ≤ max_file → IfErr r (FileRefused bytes) → IfErr r (ReadRefused SpellsO5c FaultPlace bytes)

@@ -12,5 +12,4 @@ mod references;
 mod refusal;
 mod strings;
 mod tags;
-#[cfg(test)]
-mod tests;
+mod writer;

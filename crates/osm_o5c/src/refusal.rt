@@ -4,23 +4,23 @@ use osm_model::form::Why;
 use osm_model::memory::WantOfMemory;
 use std::alloc::{AllocError, AllocFailed};
 
-/// Why a part isn't read. Nothing is said of the reader after it, which is then done with.
+/// Why a part isn't read. The reader must not be used after this.
 #[derive(Clone, Copy, Debug, PartialEq, Eq)]
 pub enum Refusal {
     /// Memory was refused.
     WantOfMemory,
     /// The bytes aren't in the grammar.
-    Bad(Why),
+    Fault(Why),
 }
 
 impl From<Why> for Refusal {
     ghost use Rattle.std.specs.Prelude.{◌≡◌};
-    ghost use Rattle.osm_o5c.specs.declared.refusal.Refusal.TheVariants.{Bad as bad};
+    ghost use Rattle.osm_o5c.specs.declared.refusal.Refusal.TheVariants.{Fault as fault};
 
-    ghost from_gives = { λ why e. e ≡ bad why };
+    ghost from_gives = { λ why e. e ≡ fault why };
 
     fn from(why: Why) -> Refusal {
-        Refusal::Bad(why)
+        Refusal::Fault(why)
     }
 }
 
