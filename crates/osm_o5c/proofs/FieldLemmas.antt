@@ -21,11 +21,12 @@ use Rattle.osm_o5c.specs.Object.{SpellsUser, SpellsMeta, SpellsTag, SpellsMember
 use Rattle.osm_o5c.specs.Steps.NumberReading.{varint_at, unsigned_at, signed_at, is_positive, positive_at, positive_sum_at, id_at, is_id}
 use Rattle.osm_o5c.specs.Steps.StringReading.{pair_at, single_at, text_of, uid_of, user_at, tag_at}
 use Rattle.osm_o5c.specs.Steps.ObjectReading.{ref_at, kind_of_digit, role_of, member_at, meta_at}
-use Rattle.osm_o5c.specs.Steps.Reading.{and_then, when}
+use Rattle.osm_reading.specs.Steps.Answers.{and_then, when}
 use Rattle.osm_o5c.specs.declared.counters.Counters.{Counters}
 use Rattle.osm_o5c.specs.declared.reader.Reader.{Reader}
 use Rattle.osm_o5c.specs.declared.strings.Entry.{Entry}
-use Rattle.osm_o5c.proofs.StepLemmas.{some_then, some_when, chosen, TakenTo, parts_then}
+use Rattle.osm_reading.proofs.StepLemmas.{some_then, some_when, chosen}
+use Rattle.osm_o5c.proofs.TakenLemmas.{TakenTo, parts_then}
 use Rattle.osm_o5c.proofs.NumberLemmas.{unsigned_takes, unsigned_again, signed_takes, signed_again, is_positive_is, is_positive_again, positive_takes, positive_again}
 use Rattle.osm_o5c.proofs.CounterLemmas.{total-push, is_id_is, is_id_again, id_takes, id_again, sum_of, sum_some, positive_sum_takes, positive_sum_again, wrapped_total}
 use Rattle.osm_o5c.proofs.TableLemmas.{table_of}

@@ -11,7 +11,7 @@ use Rattle.osm_model.specs.declared.kind.Kind.TheVariants.{Node, Way, Relation}
 use Rattle.osm_o5c.specs.Context.{Context, fresh}
 use Rattle.osm_o5c.specs.File.{beginning, kind_byte, Dataset, object, skipped, lone, reset, changes_with, Front, begin, next, SpellsO5c, Longest}
 use Rattle.osm_o5c.specs.Steps.FileReading.{new_reader, Position, position, step}
-use Rattle.osm_o5c.specs.Steps.Reading.{and_then}
+use Rattle.osm_reading.specs.Steps.Answers.{and_then}
 use Rattle.osm_o5c.specs.declared.reader.Reader.{Reader}
 use Rattle.osm_o5c.proofs.FieldLemmas.{reader_of}
 use Rattle.osm_o5c.proofs.DatasetLemmas.{fresh_reader, TakesStep, step_takes, step_again, dataset_some}

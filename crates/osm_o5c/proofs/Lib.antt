@@ -1,4 +1,4 @@
-pub mod StepLemmas
+pub mod TakenLemmas
 pub mod NumberLemmas
 pub mod WrapLemmas
 pub mod CounterLemmas

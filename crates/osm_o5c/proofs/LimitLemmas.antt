@@ -17,10 +17,10 @@ use Rattle.osm_o5c.specs.Written.{member_counter}
 use Rattle.osm_o5c.specs.Steps.NumberReading.{wrapped_of, signed_at, part_at, id_at, longitude_at, latitude_at, is_id, is_longitude, is_latitude}
 use Rattle.osm_o5c.specs.Steps.StringReading.{pair_at, single_at, text_of, tag_at}
 use Rattle.osm_o5c.specs.Steps.ObjectReading.{many_at, ref_at, kind_of_digit, role_of, member_at, tags_at, refs_at, members_at, node_at, way_at, relation_at, what_at}
-use Rattle.osm_o5c.specs.Steps.Reading.{and_then, when}
+use Rattle.osm_reading.specs.Steps.Answers.{and_then, when}
 use Rattle.osm_o5c.specs.declared.reader.Reader.{Reader}
 use Rattle.osm_o5c.specs.declared.strings.Entry.{Entry}
-use Rattle.osm_o5c.proofs.StepLemmas.{some_then, some_when}
+use Rattle.osm_reading.proofs.StepLemmas.{some_then, some_when}
 use Rattle.osm_o5c.proofs.CounterLemmas.{is_id_is, is_longitude_is, is_latitude_is}
 use Rattle.osm_o5c.proofs.StringLemmas.{text_takes}
 use Rattle.osm_o5c.proofs.FieldLemmas.{IsMember, made_member}

@@ -11,11 +11,11 @@ use Rattle.osm_o5c.specs.Steps.FileReading.{new_reader, Position, position, step
 use Rattle.osm_o5c.proofs.FieldLemmas.{reader_of}
 use Rattle.osm_o5c.proofs.FrontLemmas.{walk, Ends, apart, front_walks, longest_ends, none_later, same_behind, same_front}
 use Rattle.osm_o5c.proofs.NumberLemmas.{part_takes, unsigned_again}
-use Rattle.osm_o5c.proofs.StepLemmas.{chosen, some_then, some_when}
+use Rattle.osm_reading.proofs.StepLemmas.{chosen, some_then, some_when}
 use Rattle.osm_o5c.specs.Number.{SpellsNumber}
 use Rattle.osm_o5c.specs.Steps.NumberReading.{part_at, unsigned_at}
 use Rattle.osm_o5c.specs.Steps.ObjectReading.{object_at}
-use Rattle.osm_o5c.specs.Steps.Reading.{and_then}
+use Rattle.osm_reading.specs.Steps.Answers.{and_then}
 use Rattle.osm_o5c.specs.declared.reader.Reader.{Reader}
 
 part_shrinks : (bytes : List ℕ) (x : List ℕ × List ℕ) → part_at bytes ≡ Some x → length x.1 ≤ length bytes

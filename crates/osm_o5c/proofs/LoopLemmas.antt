@@ -9,11 +9,11 @@ use Rattle.osm_o5c.specs.Written.{member_counter}
 use Rattle.osm_o5c.specs.Steps.NumberReading.{unsigned_at, signed_at, id_at, is_id}
 use Rattle.osm_o5c.specs.Steps.StringReading.{until_nul_at, latest, entered, pair_of, single_of, pair_at, single_at, text_of, tag_at}
 use Rattle.osm_o5c.specs.Steps.ObjectReading.{ref_at, role_of, member_at}
-use Rattle.osm_o5c.specs.Steps.Reading.{and_then, when}
+use Rattle.osm_reading.specs.Steps.Answers.{and_then, when}
 use Rattle.osm_o5c.specs.declared.reader.Reader.{Reader}
 use Rattle.osm_o5c.specs.declared.strings.Entry.{Entry}
 use Rattle.osm_o5c.specs.declared.strings.Entry.TheVariants.{Pair, Single}
-use Rattle.osm_o5c.proofs.StepLemmas.{some_then, some_when, chosen}
+use Rattle.osm_reading.proofs.StepLemmas.{some_then, some_when, chosen}
 use Rattle.osm_o5c.proofs.NumberLemmas.{unsigned_takes, signed_takes, number_some}
 use Rattle.osm_o5c.proofs.StringLemmas.{Before, until_takes}
 use Rattle.osm_o5c.proofs.FieldLemmas.{made_member}

@@ -19,10 +19,11 @@ use Rattle.osm_o5c.specs.Object.{SpellsTag, SpellsTags, SpellsRefs, SpellsMember
 use Rattle.osm_o5c.specs.Steps.NumberReading.{part_at, id_at, longitude_at, latitude_at}
 use Rattle.osm_o5c.specs.Steps.StringReading.{tag_at}
 use Rattle.osm_o5c.specs.Steps.ObjectReading.{ref_at, member_at, tags_at, refs_at, members_at, meta_at, node_at, way_at, relation_at, shape_at, what_at, object_at}
-use Rattle.osm_o5c.specs.Steps.Reading.{and_then}
+use Rattle.osm_reading.specs.Steps.Answers.{and_then}
 use Rattle.osm_o5c.specs.declared.reader.Reader.{Reader}
 use Rattle.osm_o5c.specs.declared.strings.Entry.{Entry}
-use Rattle.osm_o5c.proofs.StepLemmas.{some_then, parts_then}
+use Rattle.osm_reading.proofs.StepLemmas.{some_then}
+use Rattle.osm_o5c.proofs.TakenLemmas.{parts_then}
 use Rattle.osm_o5c.proofs.NumberLemmas.{number_some, part_takes, part_again}
 use Rattle.osm_o5c.proofs.CounterLemmas.{id_takes, id_again, wrapped_total, wrapped_state, longitude_takes, longitude_again, latitude_takes, latitude_again}
 use Rattle.osm_o5c.proofs.TableLemmas.{table_of}

@@ -14,9 +14,9 @@ use Rattle.osm_o5c.specs.File.{beginning, Front, SpellsO5c, Longest, FaultPlace,
 use Rattle.osm_o5c.specs.Steps.FileReading.{new_reader, Position, position, step, dataset_at, object_dataset_at, other_dataset_at, dataset_of, with_found, kind_of_byte, BeginsObject}
 use Rattle.osm_o5c.specs.Steps.NumberReading.{part_at}
 use Rattle.osm_o5c.specs.Steps.ObjectReading.{object_at}
-use Rattle.osm_o5c.specs.Steps.Reading.{and_then}
+use Rattle.osm_reading.specs.Steps.Answers.{and_then}
 use Rattle.osm_o5c.specs.declared.reader.Reader.{Reader}
-use Rattle.osm_o5c.proofs.StepLemmas.{some_then, some_when, chosen}
+use Rattle.osm_reading.proofs.StepLemmas.{some_then, some_when, chosen}
 use Rattle.osm_o5c.proofs.FieldLemmas.{reader_of}
 use Rattle.osm_o5c.proofs.FrontLemmas.{IsReached, reached_first, reached_more, reached_longest, step_shorter, walk, Ends, EndsAt, one_end_at, same_behind, none_later, apart, longest_ends, spelled_ends, front_walks}
 

@@ -18,8 +18,6 @@ use Rattle.osm_model.specs.Change.{ChangeValue}
 use Rattle.osm_model.specs.Limits.{max_changes}
 use Rattle.osm_model.specs.declared.kind.Kind.{Kind}
 use Rattle.osm_model.specs.declared.kind.Kind.TheVariants.{Node, Way, Relation}
-use Rattle.osm_model.specs.declared.form.FormError.{FormError}
-use Rattle.osm_model.specs.declared.form.FormError.TheVariants.{WantOfMemory, TooLarge, Fault}
 use Rattle.osm_o5c.specs.Number.{SpellsNumber}
 use Rattle.osm_o5c.specs.Context.{Context, fresh}
 use Rattle.osm_o5c.specs.Object.{SpellsObject}
@@ -92,15 +90,3 @@ pub data FaultPlace : List ℕ → ℕ → Type 0 where
   no_dataset : (bytes prefix rest : List ℕ)
       → Longest bytes prefix rest → ((more : List ℕ) → rest ≡ end_byte ∷ more → ⊥)
       → FaultPlace bytes (length prefix)
-
--- the file is too large, or memory was refused
-abbrev pub IsTooLargeOrWant : FormError → Type 0
-IsTooLargeOrWant WantOfMemory = Unit {0}
-IsTooLargeOrWant TooLarge = Unit {0}
-IsTooLargeOrWant (Fault place why) = ⊥
-
--- the fault is at this place, unless it is memory or size
-abbrev pub IsAtOrElse : ℕ → FormError → Type 0
-IsAtOrElse place WantOfMemory = Unit {0}
-IsAtOrElse place TooLarge = Unit {0}
-IsAtOrElse place (Fault other why) = other ≡ place

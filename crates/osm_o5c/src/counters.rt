@@ -10,7 +10,7 @@ ghost use Rattle.osm_o5c.specs.Steps.NumberReading.{
   longitude_at,
   latitude_at,
 };
-ghost use Rattle.osm_o5c.specs.Steps.Reading.{Finds};
+ghost use Rattle.osm_reading.specs.Steps.Answers.{Finds};
 
 use crate::numbers::signed;
 use osm_model::form::Why;
@@ -73,7 +73,7 @@ impl Counters {
 }
 
 /// The id that a difference to the counter gives, and the bytes after the difference.
-#[tactic(auto, unfolding(crate::specs::Steps::NumberReading::id_at, crate::specs::Steps::Reading::and_then, crate::specs::Steps::Reading::when,))]
+#[tactic(auto, unfolding(crate::specs::Steps::NumberReading::id_at, osm_reading::specs::Steps::Answers::and_then, osm_reading::specs::Steps::Answers::when))]
 pub fn id(counter: i64, bytes: &[u8]) -> Result<(i64, &[u8]), Why>
     ensures limits { IfOk result (λ r. IsId r.0) }
     ensures finds { Finds (λ r. (r.0, r.1.now)) result (id_at counter bytes.now) }
@@ -87,7 +87,7 @@ pub fn id(counter: i64, bytes: &[u8]) -> Result<(i64, &[u8]), Why>
 }
 
 /// The time or changeset that a difference to the counter gives.
-#[tactic(auto, unfolding(crate::specs::Steps::NumberReading::positive_sum_at, crate::specs::Steps::Reading::and_then, crate::specs::Steps::Reading::when,))]
+#[tactic(auto, unfolding(crate::specs::Steps::NumberReading::positive_sum_at, osm_reading::specs::Steps::Answers::and_then, osm_reading::specs::Steps::Answers::when))]
 pub fn positive_sum(counter: i64, bytes: &[u8]) -> Result<(u32, &[u8]), Why>
     ensures finds { Finds (λ r. (r.0, r.1.now)) result (positive_sum_at counter bytes.now) }
     ensures limits { IfOk result (λ r. 1 ≤ r.0) }
@@ -101,7 +101,7 @@ pub fn positive_sum(counter: i64, bytes: &[u8]) -> Result<(u32, &[u8]), Why>
 }
 
 /// The longitude that a difference in 32 bits gives.
-#[tactic(auto, unfolding(crate::specs::Steps::NumberReading::longitude_at, crate::specs::Steps::Reading::and_then, crate::specs::Steps::Reading::when,))]
+#[tactic(auto, unfolding(crate::specs::Steps::NumberReading::longitude_at, osm_reading::specs::Steps::Answers::and_then, osm_reading::specs::Steps::Answers::when))]
 pub fn longitude(counter: i32, bytes: &[u8]) -> Result<(i32, &[u8]), Why>
     ensures { Finds (λ r. (r.0, r.1.now)) result (longitude_at counter bytes.now) }
 {
@@ -115,7 +115,7 @@ pub fn longitude(counter: i32, bytes: &[u8]) -> Result<(i32, &[u8]), Why>
 }
 
 /// The latitude that a difference in 32 bits gives.
-#[tactic(auto, unfolding(crate::specs::Steps::NumberReading::latitude_at, crate::specs::Steps::Reading::and_then, crate::specs::Steps::Reading::when,))]
+#[tactic(auto, unfolding(crate::specs::Steps::NumberReading::latitude_at, osm_reading::specs::Steps::Answers::and_then, osm_reading::specs::Steps::Answers::when))]
 pub fn latitude(counter: i32, bytes: &[u8]) -> Result<(i32, &[u8]), Why>
     ensures { Finds (λ r. (r.0, r.1.now)) result (latitude_at counter bytes.now) }
 {

@@ -25,12 +25,11 @@ ghost use Rattle.osm_o5c.specs.Written.{
   o5c_text,
 };
 ghost use Rattle.osm_o5c.specs.File.{beginning, kind_byte, SpellsO5c};
-ghost use Rattle.osm_o5c.specs.Steps.Reading.{Gives, Finds};
+ghost use Rattle.osm_reading.specs.Steps.Answers.{Gives, Finds};
 
 use crate::counters::Counters;
 use crate::numbers::{part, write_unsigned};
 use crate::reader::Reader;
-use crate::refusal::Refusal;
 use crate::writer::{BEGINNING, Writer};
 use osm_model::batch::{Batch, PushError};
 use osm_model::change::Change;
@@ -38,6 +37,7 @@ use osm_model::form::{FormError, Why};
 use osm_model::kind::Kind;
 use osm_model::limits::MAX_FILE;
 use osm_model::memory::WantOfMemory;
+use osm_reading::refusal::Refusal;
 use std::alloc::Global;
 
 const END: u8 = 0xfe;
@@ -56,7 +56,7 @@ fn kind_of(byte: u8) -> Option<Kind>
 }
 
 impl<'a> Reader<'a> {
-    #[tactic(auto, unfolding(crate::specs::Steps::FileReading::object_dataset_at, crate::specs::Steps::Reading::and_then,))]
+    #[tactic(auto, unfolding(crate::specs::Steps::FileReading::object_dataset_at, osm_reading::specs::Steps::Answers::and_then))]
     fn object_dataset(
         &mut self,
         alloc: Global,
@@ -72,7 +72,7 @@ impl<'a> Reader<'a> {
     }
 
     // Passes over a dataset that is no object; a reset forgets counters and strings.
-    #[tactic(auto, unfolding(crate::specs::Steps::FileReading::other_dataset_at, crate::specs::Steps::Reading::and_then,))]
+    #[tactic(auto, unfolding(crate::specs::Steps::FileReading::other_dataset_at, osm_reading::specs::Steps::Answers::and_then))]
     fn other_dataset(
         &mut self,
         first: u8,
@@ -118,7 +118,7 @@ impl<'a> Reader<'a> {
     }
 
     // Reads one more dataset, and gives the bytes after it.
-    #[tactic(auto, using(crate::proofs::PlaceLemmas::found_begins), unfolding(crate::specs::Steps::FileReading::step, crate::specs::Steps::Reading::and_then, crate::specs::Steps::Reading::when,))]
+    #[tactic(auto, using(crate::proofs::PlaceLemmas::found_begins), unfolding(crate::specs::Steps::FileReading::step, osm_reading::specs::Steps::Answers::and_then, osm_reading::specs::Steps::Answers::when))]
     fn next(
         &mut self,
         alloc: Global,

@@ -10,7 +10,7 @@ ghost use Rattle.osm_o5c.specs.Steps.ObjectReading.{
   what_at,
   object_at,
 };
-ghost use Rattle.osm_o5c.specs.Steps.Reading.{Gives};
+ghost use Rattle.osm_reading.specs.Steps.Answers.{Gives};
 ghost use Rattle.osm_o5c.specs.Written.{
   part_text,
   last_ref,
@@ -26,7 +26,6 @@ use crate::metadata::write_meta;
 use crate::numbers::{part, write_coordinate, write_difference, write_unsigned};
 use crate::reader::Reader;
 use crate::references::{refs, write_members, write_refs};
-use crate::refusal::Refusal;
 use crate::tags::{tags, write_tags};
 use crate::writer::Buffers;
 use osm_model::change::{Change, What};
@@ -35,11 +34,12 @@ use osm_model::kind::{Key, Kind};
 use osm_model::lists::{Members, Refs, Tags};
 use osm_model::memory::WantOfMemory;
 use osm_model::meta::Meta;
+use osm_reading::refusal::Refusal;
 use std::alloc::Global;
 
 impl<'a> Reader<'a> {
     // `longitude latitude tags`
-    #[tactic(auto, unfolding(crate::specs::Steps::ObjectReading::node_at, crate::specs::Steps::Reading::and_then,))]
+    #[tactic(auto, unfolding(crate::specs::Steps::ObjectReading::node_at, osm_reading::specs::Steps::Answers::and_then))]
     fn node(&mut self, alloc: Global, bytes: &'a [u8]) -> Result<What, Refusal>
         ensures { Gives (λ w. (w, self.new)) result (node_at self.old bytes.now) }
     {
@@ -52,7 +52,7 @@ impl<'a> Reader<'a> {
     }
 
     // `length references tags`
-    #[tactic(auto, unfolding(crate::specs::Steps::ObjectReading::way_at, crate::specs::Steps::Reading::and_then,))]
+    #[tactic(auto, unfolding(crate::specs::Steps::ObjectReading::way_at, osm_reading::specs::Steps::Answers::and_then))]
     fn way(&mut self, alloc: Global, bytes: &'a [u8]) -> Result<What, Refusal>
         ensures { Gives (λ w. (w, self.new)) result (way_at self.old bytes.now) }
     {
@@ -63,7 +63,7 @@ impl<'a> Reader<'a> {
     }
 
     // `length members tags`
-    #[tactic(auto, unfolding(crate::specs::Steps::ObjectReading::relation_at, crate::specs::Steps::Reading::and_then,))]
+    #[tactic(auto, unfolding(crate::specs::Steps::ObjectReading::relation_at, osm_reading::specs::Steps::Answers::and_then))]
     fn relation(&mut self, alloc: Global, bytes: &'a [u8]) -> Result<What, Refusal>
         ensures { Gives (λ w. (w, self.new)) result (relation_at self.old bytes.now) }
     {
@@ -89,7 +89,7 @@ impl<'a> Reader<'a> {
     }
 
     /// The change that is all of those bytes.
-    #[tactic(auto, using(crate::proofs::LimitLemmas::what_limits), unfolding(crate::specs::Steps::ObjectReading::object_at, crate::specs::Steps::Reading::and_then,))]
+    #[tactic(auto, using(crate::proofs::LimitLemmas::what_limits), unfolding(crate::specs::Steps::ObjectReading::object_at, osm_reading::specs::Steps::Answers::and_then))]
     pub fn object(&mut self, alloc: Global, kind: Kind, bytes: &'a [u8]) -> Result<Change, Refusal>
         ensures { Gives (λ c. (c, self.new)) result (object_at kind self.old bytes.now) }
     {

@@ -9,7 +9,7 @@ ghost use Rattle.osm_o5c.specs.Steps.ObjectReading.{
   member_at,
   members_at,
 };
-ghost use Rattle.osm_o5c.specs.Steps.Reading.{Gives, Finds};
+ghost use Rattle.osm_reading.specs.Steps.Answers.{Gives, Finds};
 ghost use Rattle.osm_o5c.specs.Written.{
   difference_text,
   refs_text,
@@ -23,7 +23,6 @@ ghost use Rattle.osm_o5c.specs.Written.{
 use crate::counters::{Counters, id};
 use crate::numbers::{signed, write_difference};
 use crate::reader::Reader;
-use crate::refusal::Refusal;
 use crate::strings::{text, write_single};
 use osm_model::form::Why;
 use osm_model::kind::{Key, Kind};
@@ -31,10 +30,11 @@ use osm_model::limits::{MAX_ID, MAX_REFS};
 use osm_model::lists::{Member, Members, Refs};
 use osm_model::memory::WantOfMemory;
 use osm_model::text::Text;
+use osm_reading::refusal::Refusal;
 use std::alloc::Global;
 
 // The reference at the start, which becomes the counter of way nodes, and the bytes after it.
-#[tactic(auto, unfolding(crate::specs::Steps::ObjectReading::ref_at, crate::specs::Steps::Reading::and_then))]
+#[tactic(auto, unfolding(crate::specs::Steps::ObjectReading::ref_at, osm_reading::specs::Steps::Answers::and_then))]
 fn reference<'b>(counters: &mut Counters, bytes: &'b [u8]) -> Result<(i64, &'b [u8]), Why>
     ensures finds { Finds (λ r. (r.0, counters.new.way_node, r.1.now)) result
         (ref_at counters.old.way_node bytes.now) }
@@ -72,7 +72,7 @@ pub fn refs(counters: &mut Counters, alloc: Global, part: &[u8]) -> Result<Refs,
 }
 
 // The kind that the digit before a role names, and the role.
-#[tactic(auto, unfolding(crate::specs::Steps::ObjectReading::role_of, crate::specs::Steps::Reading::and_then))]
+#[tactic(auto, unfolding(crate::specs::Steps::ObjectReading::role_of, osm_reading::specs::Steps::Answers::and_then))]
 fn role(alloc: Global, bytes: &[u8]) -> Result<(Kind, Text), Refusal>
     ensures { Gives (λ r. (r.0, r.1)) result (role_of bytes.now) }
 {
@@ -91,7 +91,7 @@ fn role(alloc: Global, bytes: &[u8]) -> Result<(Kind, Text), Refusal>
 
 impl<'a> Reader<'a> {
     // The member at the start, and the bytes after it.
-    #[tactic(auto, unfolding(crate::specs::Steps::ObjectReading::member_at, crate::specs::Steps::Reading::and_then, crate::specs::Steps::Reading::when,))]
+    #[tactic(auto, unfolding(crate::specs::Steps::ObjectReading::member_at, osm_reading::specs::Steps::Answers::and_then, osm_reading::specs::Steps::Answers::when))]
     fn member(&mut self, alloc: Global, bytes: &'a [u8]) -> Result<(Member, &'a [u8]), Refusal>
         ensures { Gives (λ r. (r.0, self.new, r.1.now)) result (member_at self.old bytes.now) }
     {

@@ -2,7 +2,7 @@
 
 ghost use Rattle.std.specs.Prelude.{◌≡◌, [], ◌∷◌, ◌++◌, OnOk, option_copied};
 ghost use Rattle.circular_buffer.specs.Buffer.{keep_last};
-ghost use Rattle.osm_o5c.specs.Steps.Reading.{Gives, Finds};
+ghost use Rattle.osm_reading.specs.Steps.Answers.{Gives, Finds};
 ghost use Rattle.osm_o5c.specs.Steps.StringReading.{
   entered,
   latest,
@@ -14,11 +14,11 @@ ghost use Rattle.osm_o5c.specs.Steps.StringReading.{
 ghost use Rattle.osm_o5c.specs.Written.{pair_text, single_text};
 
 use crate::numbers::unsigned;
-use crate::refusal::Refusal;
 use circular_buffer::HeapCircularBuffer;
 use osm_model::form::Why;
 use osm_model::memory::WantOfMemory;
 use osm_model::text::{Text, TextError};
+use osm_reading::refusal::Refusal;
 use std::alloc::Global;
 use std::marker::Model;
 
@@ -161,7 +161,7 @@ impl<'a> StringTable<'a> {
     }
 
     /// The pair of strings at the start, and the bytes after it.
-    #[tactic(auto, unfolding(crate::specs::Steps::StringReading::pair_at, crate::specs::Steps::Reading::and_then,))]
+    #[tactic(auto, unfolding(crate::specs::Steps::StringReading::pair_at, osm_reading::specs::Steps::Answers::and_then))]
     pub fn pair(
         &mut self,
         alloc: Global,
@@ -189,7 +189,7 @@ impl<'a> StringTable<'a> {
     }
 
     /// The single string at the start, and the bytes after it.
-    #[tactic(auto, unfolding(crate::specs::Steps::StringReading::single_at, crate::specs::Steps::Reading::and_then,))]
+    #[tactic(auto, unfolding(crate::specs::Steps::StringReading::single_at, osm_reading::specs::Steps::Answers::and_then))]
     pub fn single(
         &mut self,
         alloc: Global,

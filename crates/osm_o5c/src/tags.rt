@@ -2,20 +2,20 @@
 
 ghost use Rattle.std.specs.Prelude.{◌≡◌, ◌++◌, OnOk};
 ghost use Rattle.osm_o5c.specs.Steps.ObjectReading.{tags_at};
-ghost use Rattle.osm_o5c.specs.Steps.Reading.{Gives};
+ghost use Rattle.osm_reading.specs.Steps.Answers.{Gives};
 ghost use Rattle.osm_o5c.specs.Steps.StringReading.{tag_at};
 ghost use Rattle.osm_o5c.specs.Written.{tags_text};
 
-use crate::refusal::Refusal;
 use crate::strings::{StringTable, text, write_pair};
 use osm_model::form::Why;
 use osm_model::limits::MAX_TAGS;
 use osm_model::lists::{Tag, Tags};
 use osm_model::memory::WantOfMemory;
+use osm_reading::refusal::Refusal;
 use std::alloc::Global;
 
 // The tag at the start, and the bytes after it.
-#[tactic(auto, unfolding(crate::specs::Steps::StringReading::tag_at, crate::specs::Steps::Reading::and_then))]
+#[tactic(auto, unfolding(crate::specs::Steps::StringReading::tag_at, osm_reading::specs::Steps::Answers::and_then))]
 fn tag<'a>(
     strings: &mut StringTable<'a>,
     alloc: Global,

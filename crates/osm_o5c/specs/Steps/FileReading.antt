@@ -18,15 +18,15 @@ use Rattle.osm_model.specs.Change.{ChangeValue}
 use Rattle.osm_model.specs.Limits.{max_changes}
 use Rattle.osm_model.specs.declared.kind.Kind.{Kind}
 use Rattle.osm_model.specs.declared.kind.Kind.TheVariants as kinds
-use Rattle.osm_o5c.specs.Steps.Reading.{and_then, when}
+use Rattle.osm_reading.specs.Steps.Answers.{and_then, when}
 use Rattle.osm_o5c.specs.Written.{no_counters}
 use Rattle.osm_o5c.specs.Steps.NumberReading.{part_at}
 use Rattle.osm_o5c.specs.Steps.ObjectReading.{object_at}
 use Rattle.osm_o5c.specs.File.{SpellsO5c, FaultPlace}
 use Rattle.osm_model.specs.declared.form.FormError.{FormError}
 use Rattle.osm_model.specs.declared.form.FormError.TheVariants as errors
-use Rattle.osm_o5c.specs.declared.refusal.Refusal.{Refusal}
-use Rattle.osm_o5c.specs.declared.refusal.Refusal.TheVariants.{WantOfMemory, Fault}
+use Rattle.osm_reading.specs.declared.refusal.Refusal.{Refusal}
+use Rattle.osm_reading.specs.declared.refusal.Refusal.TheVariants.{WantOfMemory, Fault}
 use Rattle.osm_o5c.specs.declared.reader.Reader.{Reader}
 
 -- a reader after a reset

@@ -31,7 +31,7 @@ use Rattle.std.specs.Prelude.{
   ◌+ℤ◌,
   ◌-ℤ◌,
 }
-use Rattle.osm_o5c.specs.Steps.Reading.{and_then, when}
+use Rattle.osm_reading.specs.Steps.Answers.{and_then, when}
 use Rattle.std.specs.Int.{int_rem_euclid}
 
 -- a varint of so many bytes at most, of a number below 2^64

@@ -24,7 +24,7 @@ use Rattle.osm_model.specs.declared.change.What.{What}
 use Rattle.osm_model.specs.declared.change.What.TheVariants.{Node, Way, Relation, Deleted}
 use Rattle.osm_model.specs.declared.lists.Member.{Member}
 use Rattle.osm_model.specs.declared.lists.Tag.{Tag}
-use Rattle.osm_o5c.specs.Steps.Reading.{and_then, when}
+use Rattle.osm_reading.specs.Steps.Answers.{and_then, when}
 use Rattle.osm_o5c.specs.Written.{member_counter, with_member_counter}
 use Rattle.osm_o5c.specs.Steps.NumberReading.{
   signed_at,

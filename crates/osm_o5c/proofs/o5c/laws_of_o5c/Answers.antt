@@ -16,8 +16,8 @@ returns-clause-apart c = spelled_or_wrong
 pub returns-clause-one_place : goal.returns-clause-one_place
 returns-clause-one_place c = one_place
 
-pub returns-clause-some_place : goal.returns-clause-some_place
-returns-clause-some_place c = fault_of
+pub returns-clause-has_place : goal.returns-clause-has_place
+returns-clause-has_place c = fault_of
 
 pub returns-clause-fewest_bytes : goal.returns-clause-fewest_bytes
 returns-clause-fewest_bytes c = fewest_bytes

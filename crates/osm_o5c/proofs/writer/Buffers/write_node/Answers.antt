@@ -1,7 +1,7 @@
 use Rattle.std.proofs.Common.{rules, ◌≡◌, ◌++◌}
 use Rattle.osm_o5c.specs.Written.{difference_text, tags_text}
 use Rattle.osm_o5c.proofs.WriteLemmas.{on_ok, three_pieces}
-use Rattle.osm_o5c.proofs.objects.Buffers.write_node.Goals as goal
+use Rattle.osm_o5c.proofs.writer.Buffers.write_node.Goals as goal
 
 pub returns-clause-text : goal.returns-clause-text
 returns-clause-text c =
