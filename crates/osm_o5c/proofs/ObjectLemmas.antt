@@ -5,7 +5,7 @@ use Rattle.std.specs.List.{AllByRecursion}
 use Rattle.std.proofs.lemmas.Option.{same_Some}
 use Rattle.std.proofs.lemmas.List.{length-append}
 use Rattle.osm_model.specs.Change.{ChangeValue, IsWhat, AreTags, AreRefs, AreMembers, HasMemberId}
-use Rattle.osm_model.specs.Limits.{IsId, IsPlace}
+use Rattle.osm_model.specs.Limits.{IsId, IsLocation}
 use Rattle.osm_model.specs.Lists.{IsTag, IsRole}
 use Rattle.osm_model.specs.Meta.{MetaValue}
 use Rattle.osm_model.specs.declared.kind.Kind.{Kind}
@@ -109,7 +109,7 @@ node_takes C bytes x e =
       same = node_state C lon.after lat.after tags.after a.0.0 b.0.0 t.0.1 lon.same lat.same tags.same;
     })
 
-node_again : (C : Context) (bytes : List ℕ) (lon lat : ℤ) (tags : List Tag) (after : Context) → SpellsNode C bytes lon lat tags after → IsPlace lon lat → AreTags tags → node_at (reader_of C) bytes ≡ Some (Node lon lat tags, reader_of after)
+node_again : (C : Context) (bytes : List ℕ) (lon lat : ℤ) (tags : List Tag) (after : Context) → SpellsNode C bytes lon lat tags after → IsLocation lon lat → AreTags tags → node_at (reader_of C) bytes ≡ Some (Node lon lat tags, reader_of after)
 unfolding node_at and_then
 node_again C bytes lon lat tags after s place l =
     let x : longitude_at (wrapped_total C.lons) (s.lon_bytes ++ (s.lat_bytes ++ s.tag_bytes)) ≡ Some (lon, s.lat_bytes ++ s.tag_bytes) = longitude_again C.lons s.lon_bytes lon s.lons (s.lat_bytes ++ s.tag_bytes) s.longitude place.longitude in

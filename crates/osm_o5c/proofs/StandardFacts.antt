@@ -42,7 +42,7 @@ signed_minus_65 : signed_text (negsuc 64) ≡ 0x81 ∷ 0x01 ∷ []
 unfolding varint_text
 signed_minus_65 = refl
 
--- a group of zeros at the end
+-- a last byte that adds nothing
 padded_5 : SpellsNumber (0x85 ∷ 0x00 ∷ []) 5
 padded_5 = record { varint = (omega arith, omega arith); value = refl; short = omega arith; small = omega arith }
 
@@ -82,6 +82,18 @@ relation_dataset : dataset_text no_counters (record {
     ≡ with_meta (0x12 ∷ 0x21 ∷ 0x06 ∷ []) (0x11 ∷ 0x02 ∷ 0x00 ∷ 0x30 ∷ 0x00 ∷ 0x14 ∷ 0x00 ∷ 0x31 ∷ 0x6f ∷ 0x75 ∷ 0x74 ∷ 0x65 ∷ 0x72 ∷ 0x00 ∷ 0x06 ∷ 0x00 ∷ 0x30 ∷ 0x00 ∷ [])
 unfolding varint_text ann
 relation_dataset = refl
+
+-- relation 3 with the members way 10 as `outer` and relation 20
+nested_dataset : dataset_text no_counters (record {
+  key = record { kind = kinds.Relation; id = pos 3 };
+  meta = ann;
+  what = Relation (
+      record { key = record { kind = kinds.Way; id = pos 10 }; role = 0x6f ∷ 0x75 ∷ 0x74 ∷ 0x65 ∷ 0x72 ∷ [] }
+      ∷ record { key = record { kind = kinds.Relation; id = pos 20 }; role = [] } ∷ []) [];
+})
+    ≡ with_meta (0x12 ∷ 0x1d ∷ 0x06 ∷ []) (0x0d ∷ 0x14 ∷ 0x00 ∷ 0x31 ∷ 0x6f ∷ 0x75 ∷ 0x74 ∷ 0x65 ∷ 0x72 ∷ 0x00 ∷ 0x28 ∷ 0x00 ∷ 0x32 ∷ 0x00 ∷ [])
+unfolding varint_text ann
+nested_dataset = refl
 
 -- way 10 without nodes and tags, and its deletion
 empty_way_dataset : dataset_text no_counters (record { key = record { kind = kinds.Way; id = pos 10 }; meta = ann; what = Way [] [] }) ≡ with_meta (0x11 ∷ 0x10 ∷ 0x14 ∷ []) (0x00 ∷ [])

@@ -4,7 +4,7 @@ use Rattle.std.specs.Prelude.{ℤ, pos, neg_ℤ, ◌-ℤ◌, ◌≤ℤ◌}
 use Rattle.std.proofs.lemmas.Int.{ints}
 use Rattle.std.proofs.lemmas.List.{length-append}
 use Rattle.osm_model.specs.Change.{ChangeValue, IsChange, IsWhat, AreTags, AreRefs, AreMembers}
-use Rattle.osm_model.specs.Limits.{IsId, IsPositive, IsPlace}
+use Rattle.osm_model.specs.Limits.{IsId, IsPositive, IsLocation}
 use Rattle.osm_model.specs.Meta.{MetaValue, IsMeta}
 use Rattle.osm_model.specs.declared.kind.Kind.{Kind}
 use Rattle.osm_model.specs.declared.kind.Kind.TheVariants as kinds
@@ -93,7 +93,7 @@ location_counters C lons lats ss lon lat x y = rw (x, y) refl
 bounds_place : (s : Counters) (lon lat : ℤ) → Bounds s → Bounds (record s { lon = lon; lat = lat })
 bounds_place s lon lat b = record { id = b.id; time_low = b.time_low; time_high = b.time_high; changeset_low = b.changeset_low; changeset_high = b.changeset_high; way_node = b.way_node; node_member = b.node_member; way_member = b.way_member; relation_member = b.relation_member }
 
-node_written : (kind : Kind) (C : Context) (lon lat : ℤ) (tags : List Tag) → Bounds (counters_of C) → kind ≡ kinds.Node → IsPlace lon lat → AreTags tags → WhatWritten kind C (counters_of C) (Node lon lat tags)
+node_written : (kind : Kind) (C : Context) (lon lat : ℤ) (tags : List Tag) → Bounds (counters_of C) → kind ≡ kinds.Node → IsLocation lon lat → AreTags tags → WhatWritten kind C (counters_of C) (Node lon lat tags)
 node_written kind C lon lat tags b k p l =
     let lonl = p.longitude.low in
     let lonh = p.longitude.high in

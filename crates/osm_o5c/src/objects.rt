@@ -1,8 +1,6 @@
 //! Objects: nodes, ways, relations, and their deletions.
 
 ghost use Rattle.std.specs.Prelude.{◌≡◌, ◌++◌, OnOk};
-ghost use Rattle.osm_model.specs.Change.{IsWhat};
-ghost use Rattle.osm_model.specs.Limits.{IsId};
 ghost use Rattle.osm_o5c.specs.Steps.ObjectReading.{
   node_at,
   way_at,
@@ -33,7 +31,6 @@ use osm_model::form::Why;
 use osm_model::kind::{Key, Kind};
 use osm_model::lists::{Members, Refs, Tags};
 use osm_model::memory::WantOfMemory;
-use osm_model::meta::Meta;
 use osm_reading::refusal::Refusal;
 use std::alloc::Global;
 
@@ -89,7 +86,7 @@ impl<'a> Reader<'a> {
     }
 
     /// The change that is all of those bytes.
-    #[tactic(auto, using(crate::proofs::LimitLemmas::what_limits), unfolding(crate::specs::Steps::ObjectReading::object_at, osm_reading::specs::Steps::Answers::and_then))]
+    #[tactic(auto, unfolding(crate::specs::Steps::ObjectReading::object_at, osm_reading::specs::Steps::Answers::and_then))]
     pub fn object(&mut self, alloc: Global, kind: Kind, bytes: &'a [u8]) -> Result<Change, Refusal>
         ensures { Gives (λ c. (c, self.new)) result (object_at kind self.old bytes.now) }
     {
@@ -97,23 +94,7 @@ impl<'a> Reader<'a> {
         self.counters.id = id;
         let (meta, rest) = self.meta(alloc, rest)?;
         let what = self.what(alloc, kind, rest)?;
-        Ok(change_of(Key { kind, id }, meta, what))
-    }
-}
-
-// A change whose parts are within their limits.
-fn change_of(key: Key, meta: Meta, what: What) -> Change
-    requires id { IsId key.id }
-    requires what { IsWhat key.kind what }
-    ensures { result ≡ record { key = key; meta = meta; what = what } }
-{
-    match what {
-        What::Node { lon, lat, tags } => Change::node(key.id, meta, lon, lat, tags).unwrap(),
-        What::Way { refs, tags } => Change::way(key.id, meta, refs, tags).unwrap(),
-        What::Relation { members, tags } => {
-            Change::relation(key.id, meta, members, tags).unwrap()
-        }
-        What::Deleted => Change::deleted(key, meta).unwrap(),
+        Ok(Change::within_limits(Key { kind, id }, meta, what))
     }
 }
 

@@ -42,7 +42,11 @@ fn a_longitude_wraps_both_ways(rt: HostRuntime) -> Result<(), Fail> {
         batch.push(node_at(alloc, 2, lon.saturating_neg(), 0)?)?;
         let exact = two_nodes(alloc, first, exact)?;
         let wrapped = two_nodes(alloc, first, wrapped)?;
-        assert_eq!(rt; O5c::write(alloc, &batch)?.as_slice(), exact.as_slice(), "{lon}");
+        assert_eq!(rt;
+            O5c::write(alloc, &batch)?.as_slice(),
+            exact.as_slice(),
+            "{lon}"
+        );
         assert_eq!(rt; O5c::read(alloc, exact.as_slice())?, batch, "{lon}");
         assert_eq!(rt; O5c::read(alloc, wrapped.as_slice())?, batch, "{lon}");
     }
@@ -71,7 +75,11 @@ fn a_latitude_wraps_both_ways(rt: HostRuntime) -> Result<(), Fail> {
         batch.push(node_at(alloc, 2, 0, lat.saturating_neg())?)?;
         let exact = two_nodes(alloc, first, exact)?;
         let wrapped = two_nodes(alloc, first, wrapped)?;
-        assert_eq!(rt; O5c::write(alloc, &batch)?.as_slice(), exact.as_slice(), "{lat}");
+        assert_eq!(rt;
+            O5c::write(alloc, &batch)?.as_slice(),
+            exact.as_slice(),
+            "{lat}"
+        );
         assert_eq!(rt; O5c::read(alloc, exact.as_slice())?, batch, "{lat}");
         assert_eq!(rt; O5c::read(alloc, wrapped.as_slice())?, batch, "{lat}");
     }

@@ -73,6 +73,9 @@ fn a_file_has_at_most_100000_changes(rt: HostRuntime) -> Result<(), Fail> {
             b"\x10\x05\x00\x01\x00\x00\x01\xfe",
         ],
     )?;
-    assert_eq!(rt; refusal(alloc, over.as_slice()), fault(700_017, Why::TooMany));
+    assert_eq!(rt;
+        refusal(alloc, over.as_slice()),
+        fault(700_017, Why::TooMany)
+    );
     Ok(())
 }

@@ -1,8 +1,8 @@
 //! The places of faults, and their causes.
 
 use super::makes::{BEGINNING, META, batch_of, fault, file, joined, node, refusal};
-use osm_o5c::o5c::O5c;
 use osm_model::form::{ChangeForm, Why};
+use osm_o5c::o5c::O5c;
 use std::test::Fail;
 
 #[test]
@@ -28,7 +28,10 @@ fn a_cut_file_is_refused_at_its_last_whole_dataset(rt: HostRuntime) -> Result<()
         fault(33, Why::TrailingBytes)
     );
     let twice = joined(alloc, &[&BEGINNING, b"\xfe\xfe"])?;
-    assert_eq!(rt; refusal(alloc, twice.as_slice()), fault(8, Why::TrailingBytes));
+    assert_eq!(rt;
+        refusal(alloc, twice.as_slice()),
+        fault(8, Why::TrailingBytes)
+    );
     Ok(())
 }
 

@@ -15,10 +15,30 @@ use std::test::Fail;
 fn a_reset_forgets_every_counter(rt: HostRuntime) -> Result<(), Fail> {
     let alloc = rt.alloc();
     let rows = [
-        (node(alloc)?, node_dataset(alloc)?, way(alloc)?, way_dataset(alloc)?),
-        (way(alloc)?, way_dataset(alloc)?, node(alloc)?, node_dataset(alloc)?),
-        (relation(alloc)?, relation_dataset(alloc)?, node(alloc)?, node_dataset(alloc)?),
-        (nested_relation(alloc)?, nested_dataset(alloc)?, way(alloc)?, way_dataset(alloc)?),
+        (
+            node(alloc)?,
+            node_dataset(alloc)?,
+            way(alloc)?,
+            way_dataset(alloc)?,
+        ),
+        (
+            way(alloc)?,
+            way_dataset(alloc)?,
+            node(alloc)?,
+            node_dataset(alloc)?,
+        ),
+        (
+            relation(alloc)?,
+            relation_dataset(alloc)?,
+            node(alloc)?,
+            node_dataset(alloc)?,
+        ),
+        (
+            nested_relation(alloc)?,
+            nested_dataset(alloc)?,
+            way(alloc)?,
+            way_dataset(alloc)?,
+        ),
     ];
     for (change, dataset, other, other_dataset) in rows {
         let mut twice = batch_of(alloc, change.copy(alloc)?)?;
@@ -56,7 +76,10 @@ fn a_reset_forgets_every_string(rt: HostRuntime) -> Result<(), Fail> {
     // A deletion whose user is the latest entry.
     let named = b"\x10\x09\x02\x01\x80\x82\x90\xd9\x0c\x0e\x01";
     let bytes = file(alloc, &[first.as_slice(), &[0xff], named])?;
-    assert_eq!(rt; refusal(alloc, bytes.as_slice()), fault(33, Why::BadReference));
+    assert_eq!(rt;
+        refusal(alloc, bytes.as_slice()),
+        fault(33, Why::BadReference)
+    );
     Ok(())
 }
 

@@ -1,11 +1,11 @@
 //! The table of strings: its limits, and what names no string of it.
 
-use super::makes::{META, batch_of, fault, file, joined, member, meta, refusal, tag, three, TIME};
-use osm_o5c::o5c::O5c;
+use super::makes::{META, TIME, batch_of, fault, file, joined, member, meta, refusal, tag, three};
 use osm_model::change::{Change, What};
 use osm_model::form::{ChangeForm, Why};
 use osm_model::kind::Kind;
 use osm_model::lists::{Members, Tag, Tags};
+use osm_o5c::o5c::O5c;
 use std::alloc::Global;
 use std::test::Fail;
 
@@ -62,12 +62,20 @@ fn a_pair_of_250_bytes_is_entered_and_one_of_251_is_not(rt: HostRuntime) -> Resu
     )?;
     let node = joined(alloc, &[&[0x10], &two(content.len()), content.as_slice()])?;
     let bytes = file(alloc, &[node.as_slice()])?;
-    assert_eq!(rt; refusal(alloc, bytes.as_slice()), fault(7, Why::BadReference));
+    assert_eq!(rt;
+        refusal(alloc, bytes.as_slice()),
+        fault(7, Why::BadReference)
+    );
     Ok(())
 }
 
 // Relation 3 with a node whose role has so many bytes, and a node whose role is the latest entry.
-fn named_role(alloc: Global, head: &[u8], part_length: &[u8], role: &[u8]) -> Result<Vec<u8>, Fail> {
+fn named_role(
+    alloc: Global,
+    head: &[u8],
+    part_length: &[u8],
+    role: &[u8],
+) -> Result<Vec<u8>, Fail> {
     let part = joined(alloc, &[b"\x02\x000", role, b"\x00\x02\x01"])?;
     file(alloc, &[head, &META, part_length, part.as_slice()])
 }
@@ -93,13 +101,11 @@ fn a_role_of_249_bytes_is_entered_and_one_of_250_is_not(rt: HostRuntime) -> Resu
         O5c::read(alloc, entered.as_slice())?,
         batch_of(alloc, relation)?
     );
-    let too_long = named_role(
-        alloc,
-        b"\x12\x91\x02\x06",
-        b"\x80\x02",
-        role.as_slice(),
-    )?;
-    assert_eq!(rt; refusal(alloc, too_long.as_slice()), fault(7, Why::BadReference));
+    let too_long = named_role(alloc, b"\x12\x91\x02\x06", b"\x80\x02", role.as_slice())?;
+    assert_eq!(rt;
+        refusal(alloc, too_long.as_slice()),
+        fault(7, Why::BadReference)
+    );
     Ok(())
 }
 
@@ -149,7 +155,10 @@ fn the_last_15000_entries_can_be_named(rt: HostRuntime) -> Result<(), Fail> {
     assert_eq!(rt; found, Some(tag(alloc, "!!", "v")?));
     let gone = full_table(alloc, b"\x99\x75")?;
     let place = (gone.len() as u64).saturating_sub(13);
-    assert_eq!(rt; refusal(alloc, gone.as_slice()), fault(place, Why::BadReference));
+    assert_eq!(rt;
+        refusal(alloc, gone.as_slice()),
+        fault(place, Why::BadReference)
+    );
     Ok(())
 }
 
@@ -159,9 +168,15 @@ fn a_reference_to_the_other_sort_is_refused(rt: HostRuntime) -> Result<(), Fail>
     // A relation with one member, whose role is the latest entry, and a tag that names it.
     let tail = b"\x04\x02\x000\x00\x01";
     let bytes = file(alloc, &[&[0x12, 0x15, 0x02], &META, tail])?;
-    assert_eq!(rt; refusal(alloc, bytes.as_slice()), fault(7, Why::BadReference));
+    assert_eq!(rt;
+        refusal(alloc, bytes.as_slice()),
+        fault(7, Why::BadReference)
+    );
     // A member whose role names the user's pair.
     let bytes = file(alloc, &[&[0x12, 0x12, 0x02], &META, &[0x02, 0x02, 0x01]])?;
-    assert_eq!(rt; refusal(alloc, bytes.as_slice()), fault(7, Why::BadReference));
+    assert_eq!(rt;
+        refusal(alloc, bytes.as_slice()),
+        fault(7, Why::BadReference)
+    );
     Ok(())
 }

@@ -4,11 +4,11 @@ use super::makes::{
     META, TIME, batch_of, deleted_way, empty_way, file, joined, meta, nested_dataset,
     nested_relation, node, node_dataset, relation, relation_dataset, way, way_dataset,
 };
-use osm_o5c::o5c::O5c;
 use osm_model::batch::Batch;
 use osm_model::change::Change;
 use osm_model::form::ChangeForm;
 use osm_model::kind::{Key, Kind};
+use osm_o5c::o5c::O5c;
 use std::test::Fail;
 
 #[test]
@@ -19,8 +19,14 @@ fn each_object_is_read_and_written_after_a_reset(rt: HostRuntime) -> Result<(), 
         (way(alloc)?, way_dataset(alloc)?),
         (relation(alloc)?, relation_dataset(alloc)?),
         (nested_relation(alloc)?, nested_dataset(alloc)?),
-        (empty_way(alloc)?, joined(alloc, &[&[0x11, 0x10, 0x14], &META, &[0x00]])?),
-        (deleted_way(alloc)?, joined(alloc, &[&[0x11, 0x0f, 0x14], &META])?),
+        (
+            empty_way(alloc)?,
+            joined(alloc, &[&[0x11, 0x10, 0x14], &META, &[0x00]])?,
+        ),
+        (
+            deleted_way(alloc)?,
+            joined(alloc, &[&[0x11, 0x0f, 0x14], &META])?,
+        ),
     ];
     for (change, dataset) in rows {
         let bytes = file(alloc, &[dataset.as_slice()])?;
