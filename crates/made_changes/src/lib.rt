@@ -1,12 +1,63 @@
-//! Mixed changes: nodes, ways, relations and deletions, with tags, as in a file of a minute.
+//! Made-up changes for benchmarks and tests: nodes, ways, relations and deletions, with tags, mixed
+//! as in a file of a minute.
+#![tactic(auto)]
 
-use osm_model::batch::Batch;
-use osm_model::change::Change;
+use osm_model::batch::{Batch, PushError};
+use osm_model::change::{Change, ChangeError};
 use osm_model::kind::{Key, Kind};
 use osm_model::lists::{Member, Members, Refs, Tag, Tags};
-use osm_model::meta::Meta;
-use osm_model::text::Text;
+use osm_model::memory::WantOfMemory;
+use osm_model::meta::{Meta, OutOfRange};
+use osm_model::text::{Text, TextError};
 use std::alloc::Global;
+use thiserror::Error;
+
+/// Why no changes are made.
+#[derive(Clone, Copy, Debug, PartialEq, Eq, Error)]
+pub enum MakeError {
+    /// Memory was refused.
+    #[error("out of memory")]
+    WantOfMemory,
+    /// A part is outside its limits, which none of them is.
+    #[error("outside the limits")]
+    OutsideLimits,
+}
+
+impl From<WantOfMemory> for MakeError {
+    fn from(_error: WantOfMemory) -> MakeError {
+        MakeError::WantOfMemory
+    }
+}
+
+impl From<TextError> for MakeError {
+    fn from(error: TextError) -> MakeError {
+        match error {
+            TextError::WantOfMemory => MakeError::WantOfMemory,
+            TextError::HasNul | TextError::TooLong => MakeError::OutsideLimits,
+        }
+    }
+}
+
+impl From<OutOfRange> for MakeError {
+    fn from(_error: OutOfRange) -> MakeError {
+        MakeError::OutsideLimits
+    }
+}
+
+impl From<ChangeError> for MakeError {
+    fn from(_error: ChangeError) -> MakeError {
+        MakeError::OutsideLimits
+    }
+}
+
+impl From<PushError> for MakeError {
+    fn from(error: PushError) -> MakeError {
+        match error {
+            PushError::Full(_) => MakeError::OutsideLimits,
+            PushError::WantOfMemory(_) => MakeError::WantOfMemory,
+        }
+    }
+}
 
 const KEYS: [&str; 8] = [
     "highway",
@@ -32,18 +83,18 @@ const VALUES: [&str; 8] = [
 
 const USERS: [&str; 4] = ["ann", "mapper_42", "bob the builder", "Jürgen"];
 
-fn tags(alloc: Global, seed: u32, count: u32) -> anyhow::Result<Tags> {
+fn tags(alloc: Global, seed: u32, count: u32) -> Result<Tags, MakeError> {
     let mut found = Tags::new(alloc);
     for i in 0..count.min(8) {
-        let place = (seed % 8 + i) as usize % 8;
-        let key = Text::new(alloc, KEYS[place])?;
-        let value = Text::new(alloc, VALUES[place])?;
+        let index = (seed % 8 + i) as usize % 8;
+        let key = Text::new(alloc, KEYS[index])?;
+        let value = Text::new(alloc, VALUES[index])?;
         found.push(Tag { key, value })?;
     }
     Ok(found)
 }
 
-fn meta(alloc: Global, seed: u32) -> anyhow::Result<Meta> {
+fn meta(alloc: Global, seed: u32) -> Result<Meta, MakeError> {
     let user = Text::new(alloc, USERS[seed as usize % 4])?;
     let time = 1_704_067_200 + seed % 1_000_000;
     Ok(Meta::new(
@@ -55,7 +106,7 @@ fn meta(alloc: Global, seed: u32) -> anyhow::Result<Meta> {
     )?)
 }
 
-fn node(alloc: Global, seed: u32) -> anyhow::Result<Change> {
+fn node(alloc: Global, seed: u32) -> Result<Change, MakeError> {
     let meta = meta(alloc, seed)?;
     let lon = 85_000_000 + (seed % 500_000) as i32;
     let lat = 470_000_000 + (seed % 300_000) as i32;
@@ -63,7 +114,7 @@ fn node(alloc: Global, seed: u32) -> anyhow::Result<Change> {
     Ok(Change::node(11_000_000_000 + seed as i64, meta, lon, lat, tags)?)
 }
 
-fn way(alloc: Global, seed: u32) -> anyhow::Result<Change> {
+fn way(alloc: Global, seed: u32) -> Result<Change, MakeError> {
     let mut refs = Refs::new(alloc);
     for i in 0..seed % 20 + 2 {
         refs.push(11_000_000_000 + seed as i64 + i as i64)?;
@@ -77,7 +128,7 @@ fn way(alloc: Global, seed: u32) -> anyhow::Result<Change> {
     )?)
 }
 
-fn relation(alloc: Global, seed: u32) -> anyhow::Result<Change> {
+fn relation(alloc: Global, seed: u32) -> Result<Change, MakeError> {
     let mut members = Members::new(alloc);
     for i in 0..seed % 12 + 1 {
         let (kind, role) = match i % 3 {
@@ -101,7 +152,7 @@ fn relation(alloc: Global, seed: u32) -> anyhow::Result<Change> {
     )?)
 }
 
-fn deletion(alloc: Global, seed: u32) -> anyhow::Result<Change> {
+fn deletion(alloc: Global, seed: u32) -> Result<Change, MakeError> {
     let kind = if seed % 3 == 0 { Kind::Way } else { Kind::Node };
     let key = Key {
         kind,
@@ -112,7 +163,7 @@ fn deletion(alloc: Global, seed: u32) -> anyhow::Result<Change> {
 
 /// So many changes, at most 100,000: of ten, seven are nodes, two ways, and one is a relation or a
 /// deletion.
-pub fn mixed(alloc: Global, count: u32) -> anyhow::Result<Batch> {
+pub fn mixed(alloc: Global, count: u32) -> Result<Batch, MakeError> {
     let mut batch = Batch::new(alloc);
     for seed in 0..count.min(100_000) {
         let change = match seed % 20 {
