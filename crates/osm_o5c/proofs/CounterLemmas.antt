@@ -43,7 +43,7 @@ natural_is (negsuc n) e = absurd cc
 
 -- ---- ids and references
 
--- the front spells an id within the limits
+-- the prefix spells an id within the limits
 pub record IdSpelled (before : List ℤ) (id : ℤ) (prefix : List ℕ) (after : List ℤ) : Type 0 where
   pub spells : SpellsSum before prefix id after
   pub limits : IsId id

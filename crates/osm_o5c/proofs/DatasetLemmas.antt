@@ -50,7 +50,7 @@ big_no_kind t Node h e = omega arith
 big_no_kind t Way h e = omega arith
 big_no_kind t Relation h e = omega arith
 
--- the reader after a reset stands for the empty context
+-- the reader after a reset is that of the empty context
 pub fresh_reader : new_reader ≡ reader_of fresh
 unfolding wrapped_of
 fresh_reader = refl

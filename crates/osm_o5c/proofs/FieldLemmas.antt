@@ -33,7 +33,7 @@ use Rattle.osm_o5c.proofs.TableLemmas.{table_of}
 use Rattle.osm_o5c.proofs.StringLemmas.{pair_takes, pair_again, pair_some, single_takes, single_again, text_takes, text_again}
 use Rattle.osm_o5c.proofs.ManyLemmas.{Within, IsExact}
 
--- the running counters that stand for a context
+-- the running counters of a context
 abbrev pub counters_of : Context → Counters
 counters_of C = record {
   id = total C.ids;
@@ -47,7 +47,7 @@ counters_of C = record {
   relation_member = total C.relation_members;
 }
 
--- the reader that stands for a context
+-- the reader of a context
 abbrev pub reader_of : Context → Reader
 reader_of C = record { counters = counters_of C; strings = table_of C.strings }
 

@@ -18,12 +18,12 @@ use Rattle.osm_o5c.proofs.DatasetLemmas.{fresh_reader, TakesStep, step_takes, st
 
 -- ---- many steps
 
--- so many steps from behind the beginning
+-- so many steps after the beginning
 abbrev pub walk : ℕ → List ℕ → Option Position
 walk zero bytes = Some (position new_reader [] bytes)
 walk (suc k) bytes = and_then (walk k bytes) step
 
--- a front, and where it leads: so many steps behind the beginning
+-- a front, and where it leads: so many steps after the beginning
 pub record Walked (prefix : List ℕ) (rest : List ℕ) (p : Position) : Type 0 where
   pub behind : List ℕ
   pub begins : prefix ≡ beginning ++ behind
@@ -64,7 +64,7 @@ front_each _ _ _ (next prefix C xs d found after f s few) = found_each C d found
 pub spelled_limits : (bytes : List ℕ) (batch : List ChangeValue) → SpellsO5c bytes batch → IsBatch batch
 spelled_limits bytes batch s = record { few = front_few s.prefix s.context batch s.is_front; each = front_each s.prefix s.context batch s.is_front }
 
--- ---- where no step follows
+-- ---- the last step
 
 -- so many steps lead there, and no further
 pub record Ends (bytes : List ℕ) (p : Position) : Type 0 where
@@ -100,7 +100,7 @@ none_or_some (Some x) h = absurd (h x refl)
 
 -- ---- the longest front
 
--- the bytes begin, and the steps behind the beginning end there
+-- the bytes begin, and the steps after the beginning end there
 pub record EndsAt (bytes : List ℕ) (p : Position) : Type 0 where
   pub behind : List ℕ
   pub begins : bytes ≡ beginning ++ behind
@@ -172,7 +172,7 @@ no_longer bytes more a b s t =
     let same : position (reader_of s.context) a (254 ∷ more) ≡ position (reader_of t.context) b (254 ∷ []) = one_end_at (bytes ++ more) (position (reader_of s.context) a (254 ∷ more)) (position (reader_of t.context) b (254 ∷ [])) (ended_ends (bytes ++ more) s.prefix more s.context a s.is_front whole) (spelled_ends (bytes ++ more) b t) in
     ap (λ (p : Position). drop 1 p.rest) same
 
--- ---- where a reader stands
+-- ---- how far a reader has come
 
 pub record IsReached (bytes : List ℕ) (p : Position) : Type 0 where
   pub prefix : List ℕ

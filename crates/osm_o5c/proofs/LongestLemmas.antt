@@ -89,7 +89,7 @@ longest_of_all bytes prefix rest other more C xs l f whole =
     let back : length rest ≤ length more = walked_back (w.behind ++ more) w.count (position (reader_of C) xs more) (position (reader_of l.context) l.changes rest) w.leads (subst (λ (b : List ℕ). Ends b (position (reader_of l.context) l.changes rest)) same end.ends) in
     omega (arith, ap length whole, ap length l.whole, length-append prefix rest, length-append other more)
 
--- two spellings of numbers at the front of the same bytes are one, of one number
+-- two spellings of numbers at the start of the same bytes are one, of one number
 pub one_number : (prefix rest other more : List ℕ) (n m : ℕ) → SpellsNumber prefix n → SpellsNumber other m → prefix ++ rest ≡ other ++ more → (n ≡ m) × (prefix ≡ other)
 one_number prefix rest other more n m a b e =
     let first : unsigned_at (prefix ++ rest) ≡ Some (n, rest) = unsigned_again prefix n rest a in

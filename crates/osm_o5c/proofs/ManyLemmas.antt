@@ -48,7 +48,7 @@ module _ {S A : Type 0} where
   many_bad one zero s bytes h e = many_full one s bytes h
   many_bad one (suc k) s bytes h e = many_one one k s bytes h ∙ rw e refl
 
-  -- one part more at the loop's place
+  -- one part more at the loop's step
   pub loop_more : (one : S → List ℕ → Option (A × S × List ℕ)) (k j : ℕ) (s : S) (bytes : List ℕ) (x : A) (t : S) (rest : List ℕ) (found : List A) (whole : Option (List A × S)) → 0 < length bytes → k ≡ suc j → one s bytes ≡ Some (x, t, rest) → whole ≡ behind found (many_at one k s bytes) → whole ≡ behind (found ++ x ∷ []) (many_at one j t rest)
   unfolding and_then
   loop_more one k j s bytes x t rest found whole h is e w =
@@ -69,7 +69,7 @@ module _ {S A : Type 0} where
   loop_end one k s [] found whole w h = w ∙ rw (many_end one k s, append-nil found) refl
   loop_end one k s (b ∷ bs) found whole w h = absurd (omega arith)
 
--- the front spells the part, which is within its limits
+-- the prefix spells the part, which is within its limits
 pub record Within {Ctx A : Type 0} (spells : Ctx → List ℕ → A → Ctx → Type 0) (limits : A → Type 0) (C : Ctx) (x : A) (prefix : List ℕ) (after : Ctx) : Type 0 where
   pub spelled_so : spells C prefix x after
   pub within : limits x

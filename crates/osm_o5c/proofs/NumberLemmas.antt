@@ -13,7 +13,7 @@ use Rattle.osm_o5c.proofs.TakenLemmas.{Taken, parts_then}
 
 -- ---- unsigned numbers
 
--- the front spells a number in so many groups at most
+-- the prefix is a varint of so many bytes at most
 record TakesVarint (most n : ℕ) (prefix : List ℕ) : Type 0 where
   varint : IsVarint prefix
   value : n ≡ varint_value prefix
@@ -127,7 +127,7 @@ is_positive_again n p =
     let b : ltb n (2 ^ 32) ≡ true = grind (arith, nat_tests) in
     rw (a, b) refl
 
--- a number within the limits, and the front that spells it
+-- a number within the limits, and the prefix that spells it
 pub record Positive (n : ℕ) (prefix : List ℕ) : Type 0 where
   pub spells : SpellsNumber prefix n
   pub limits : IsPositive n

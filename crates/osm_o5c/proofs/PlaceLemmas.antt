@@ -1,4 +1,4 @@
--- Bytes go wrong at one place, and only where they spell nothing.
+-- Bytes go wrong at one place, and only if they spell nothing.
 use Rattle.std.proofs.Common.{◌≡◌, ℕ, zero, suc, ◌+◌, ◌-◌, ◌<◌, ◌≤◌, Bool, true, false, cond, eqb, ltb, List, [], ◌∷◌, ◌++◌, length, get_or, take, drop, Option, Some, None, refl, sym, ap, subst, ◌∙◌, arith, inl, inr, ◌⊎◌}
 use Rattle.std.specs.Prelude.{◌≢◌, IsSome}
 use Rattle.std.proofs.lemmas.Bool.{cases_lt, cases_eq}
@@ -20,7 +20,7 @@ use Rattle.osm_reading.proofs.StepLemmas.{some_then, some_when, chosen}
 use Rattle.osm_o5c.proofs.FieldLemmas.{reader_of}
 use Rattle.osm_o5c.proofs.FrontLemmas.{IsReached, reached_first, reached_more, reached_longest, step_shorter, walk, Ends, EndsAt, one_end_at, same_behind, none_later, apart, longest_ends, spelled_ends, front_walks}
 
--- how far behind the longest front the place of the fault is, by what follows the front
+-- how far after the longest front the place of the fault is, by what follows the front
 abbrev offset : List ℕ → Option ℕ
 offset [] = Some 0
 offset (b ∷ []) = cond (eqb b 254) None (Some 0)
@@ -59,7 +59,7 @@ fault_parts _ _ (no_dataset bytes prefix rest l h) = inr (record {
   sum = omega (arith, ap length l.whole, length-append prefix rest);
 })
 
--- where a front was read, the bytes begin
+-- if a front was read, the bytes have the beginning
 front_begins : (bytes prefix rest : List ℕ) (C : Context) (xs : List ChangeValue) → Front prefix C xs → bytes ≡ prefix ++ rest → Unbegun bytes → ⊥
 front_begins bytes prefix rest C xs f whole u =
     let w = front_walks prefix C xs rest f in
@@ -216,7 +216,7 @@ fault_of bytes never = elim (answered bytes) [
   | wrong p f ↦ (p, f)
 ]
 
--- ---- where memory is wanted
+-- ---- out of memory
 
 -- changes are only added
 found_grows : (xs : List ChangeValue) (x : Option ChangeValue × Reader × List ℕ) (q : Position) → with_found xs x ≡ Some q → length xs ≤ length q.changes
@@ -271,7 +271,7 @@ walk_grows bytes k (suc j) p q a b =
     let r = some_then (walk (k + j) bytes) step q last in
     omega (arith, walk_grows bytes k j p r.0 a r.1, step_grows r.0 q r.2)
 
--- so many steps led where a reader stands
+-- so many steps led to where a reader is
 stands_walked : (bytes : List ℕ) (p : Position) → IsReached bytes p → (behind : List ℕ) × (bytes ≡ beginning ++ behind) × ((k : ℕ) × (walk k behind ≡ Some p))
 stands_walked bytes p s =
     let w = front_walks s.prefix s.context p.changes p.rest s.is_front in (
@@ -304,7 +304,7 @@ empty_later bytes k p q here object none ends other =
       ]
     ]
 
--- where an object begins behind what was read, the bytes don't spell the empty batch
+-- if an object begins after what was read, the bytes don't spell the empty batch
 pub wanted_at_object : (bytes : List ℕ) (p : Position) → IsReached bytes p → BeginsObject p.rest → SpellsO5c bytes [] → ⊥
 wanted_at_object bytes p s object empty =
     let here = stands_walked bytes p s in
@@ -316,7 +316,7 @@ no_found : (s : Reader) (bytes : List ℕ) (c : ChangeValue) (after : Reader) (r
 no_found s bytes c after rest e =
     let found : ◌≡◌ {A = Option ChangeValue} None (Some c) = ap (λ (q : Option ChangeValue × Reader × List ℕ). q.0) (same_Some (None, s, bytes) (Some c, after, rest) e) in cc
 
--- where a change is found, an object begins
+-- if a change is found, an object begins
 other_found : (t : ℕ) (s : Reader) (bytes : List ℕ) (c : ChangeValue) (after : Reader) (rest : List ℕ) → other_dataset_at t s bytes ≡ Some (Some c, after, rest) → ⊥
 unfolding other_dataset_at
 other_found t s bytes c after rest e =

@@ -258,7 +258,7 @@ is_text_true : (b : Bool) → (b ≡ true → ⊥) → b ≡ false
 is_text_true true h = absurd (h refl)
 is_text_true false h = refl
 
--- what the code answers where it is no text
+-- what the code answers if it is no text
 pub text_none : (bs : List ℕ) → (IsText bs → ⊥) → text_of bs ≡ None
 unfolding text_of when
 text_none bs h = rw (is_text_true (is_text bs) (λ e. h (is_text_is bs e))) refl

@@ -9,7 +9,7 @@ use Rattle.osm_o5c.specs.Entries.{size_of, entries_of, named}
 use Rattle.osm_o5c.specs.Steps.StringReading.{latest, entered}
 use Rattle.osm_o5c.specs.declared.strings.Entry.{Entry}
 
--- the table that stands for the strings in line
+-- the table of the strings in line
 abbrev pub table_of : List Entry → List Entry
 table_of ss = keep_last 15000 (entries_of ss)
 

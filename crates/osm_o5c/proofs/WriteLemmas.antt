@@ -11,7 +11,7 @@ use Rattle.osm_o5c.specs.Written.{no_counters, varint_text, change_text, after_c
 use Rattle.osm_o5c.specs.File.{beginning}
 use Rattle.osm_o5c.specs.declared.counters.Counters.{Counters}
 
--- what holds where a call succeeds
+-- what holds if a call succeeds
 pub on_ok : {T E P Q : Type 0} (r : Result T E) → OnOk r P → (P → Q) → OnOk r Q
 on_ok (Ok x) p f = f p
 on_ok (Err e) p f = tt

@@ -28,7 +28,7 @@ zero_id = record { low = omega (arith, ints); high = omega (arith, ints) }
 no_bounds : Bounds no_counters
 no_bounds = record { id = zero_id; time_low = omega (arith, ints); time_high = omega (arith, ints); changeset_low = omega (arith, ints); changeset_high = omega (arith, ints); way_node = zero_id; node_member = zero_id; way_member = zero_id; relation_member = zero_id }
 
--- where a writer stands: behind a front, with these counters
+-- where a writer is: after a front, with these counters
 record At (prefix : List ℕ) (xs : List ChangeValue) (s : Counters) : Type 0 where
   context : Context
   is_front : Front prefix context xs
@@ -42,7 +42,7 @@ front_few _ _ _ (next prefix C xs d found after f s few) = few
 at_same : (prefix other : List ℕ) (xs : List ChangeValue) (s t : Counters) → prefix ≡ other → s ≡ t → At prefix xs s → At other xs t
 at_same prefix other xs s t e k a = rw (← e, ← k) a
 
--- a reset, where there is one
+-- a reset, if there is one
 reset_written : (b : Bool) (prefix : List ℕ) (xs : List ChangeValue) (s : Counters) → At prefix xs s → At (prefix ++ cond b (255 ∷ []) []) xs (cond b no_counters s)
 reset_written true prefix xs s a = record { context = fresh; is_front = next prefix a.context xs (255 ∷ []) None fresh a.is_front (reset a.context) (front_few prefix a.context xs a.is_front); counters_are = fresh_counters; bounds = no_bounds }
 reset_written false prefix xs s a = at_same prefix (prefix ++ []) xs s s (sym (append-nil prefix)) refl a

@@ -15,9 +15,9 @@ use Rattle.osm_o5c.proofs.CounterLemmas.{total-push, wrapped_total}
 use Rattle.osm_o5c.proofs.WrapLemmas.{wrapped_is, wrapped_same}
 use Rattle.osm_o5c.proofs.StringLemmas.{none_before}
 
--- ---- groups
+-- ---- varints
 
--- how many numbers so many groups can show
+-- how many numbers varints of so many bytes can show
 abbrev capacity : ℕ → ℕ
 capacity zero = 1
 capacity (suc k) = 128 * capacity k

@@ -32,7 +32,7 @@ positive_small n p = let h : n < 2 ^ 32 = p.high in omega arith
 counts_apart : (a : ℤ) (n : ℕ) → pos 0 ≤ℤ a → a ≤ℤ pos 4294967295 → IsPositive n → (neg_ℤ (pos 9223372036854775808) ≤ℤ (pos n -ℤ a)) × ((pos n -ℤ a) ≤ℤ pos 9223372036854775807)
 counts_apart a n low high p = let h : n < 2 ^ 32 = p.high in (omega (arith, ints), omega (arith, ints))
 
--- the context with these metadata counted
+-- the context after these metadata
 abbrev meta_context : Context → MetaValue → Context
 meta_context C m = record C {
   times = C.times ++ (pos m.time -ℤ total C.times) ∷ [];
@@ -216,7 +216,7 @@ pub record ObjectWritten (C : Context) (s : Counters) (c : ChangeValue) : Type 0
   pub counters_are : counters_of after ≡ after_object s c
   pub bounds : Bounds (after_object s c)
 
--- the context with this id counted
+-- the context after this id
 abbrev id_context : Context → ℤ → Context
 id_context C id = record C { ids = C.ids ++ (id -ℤ total C.ids) ∷ [] }
 

@@ -1,21 +1,6 @@
 -- Numbers in bytes (OSM wiki, O5m: unsigned and signed numbers).
-use Rattle.std.specs.Prelude.{
-  ◌≡◌,
-  ℕ,
-  ◌+◌,
-  ◌*◌,
-  ◌%◌,
-  ◌<◌,
-  ◌≤◌,
-  ◌^◌,
-  List,
-  [],
-  ◌∷◌,
-  length,
-  ℤ,
-  pos,
-  negsuc,
-}
+use Rattle.std.specs.Prelude.{◌≡◌, ℕ, ◌+◌, ◌*◌, ◌%◌, ◌<◌, ◌≤◌, ◌^◌, List, [], ◌∷◌, length, ℤ, pos}
+use Rattle.std.specs.Prelude.{negsuc}
 
 -- a varint: all bytes but the last have the high bit, and the last doesn't
 abbrev pub IsVarint : List ℕ → Type 0

@@ -10,15 +10,8 @@ use Rattle.osm_model.specs.declared.lists.Member.{Member}
 use Rattle.osm_model.specs.declared.lists.Tag.{Tag}
 use Rattle.osm_o5c.specs.Number.{SpellsNumber}
 use Rattle.osm_o5c.specs.Entries.{SpellsPair, SpellsSingle}
-use Rattle.osm_o5c.specs.Context.{
-  Context,
-  SpellsSum,
-  SpellsWrapped,
-  members_of,
-  with_members,
-  with_strings,
-  kind_digit,
-}
+use Rattle.osm_o5c.specs.Context.{Context, SpellsSum, SpellsWrapped, members_of, with_members}
+use Rattle.osm_o5c.specs.Context.{with_strings, kind_digit}
 use Rattle.osm_o5c.specs.Many.{SpellsMany}
 use Rattle.osm_o5c.specs.declared.strings.Entry.{Entry}
 

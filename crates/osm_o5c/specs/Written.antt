@@ -1,30 +1,8 @@
 -- The written text of a batch (our choice of spelling): every number in its fewest bytes, exact
--- differences, every string in line, a reset exactly where the kind changes.
-use Rattle.std.specs.Prelude.{
-  ℕ,
-  zero,
-  suc,
-  ◌+◌,
-  ◌/◌,
-  ◌%◌,
-  List,
-  [],
-  ◌∷◌,
-  ◌++◌,
-  length,
-  Option,
-  Some,
-  None,
-  Bool,
-  true,
-  false,
-  if◌then◌else◌,
-  nat_lt,
-  ◌==◌,
-  ℤ,
-  pos,
-  ◌-ℤ◌,
-}
+-- differences, every string in line, a reset exactly if the kind changes.
+use Rattle.std.specs.Prelude.{ℕ, zero, suc, ◌+◌, ◌/◌, ◌%◌, List, [], ◌∷◌, ◌++◌, length, Option}
+use Rattle.std.specs.Prelude.{Some, None, Bool, true, false, if◌then◌else◌, nat_lt, ◌==◌, ℤ, pos}
+use Rattle.std.specs.Prelude.{◌-ℤ◌}
 use Rattle.osm_model.specs.Change.{ChangeValue}
 use Rattle.osm_model.specs.Meta.{MetaValue}
 use Rattle.osm_model.specs.declared.kind.Kind.{Kind}

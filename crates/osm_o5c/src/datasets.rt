@@ -1,30 +1,14 @@
 //! Datasets: objects with their lengths, resets, and what is skipped.
 
 ghost use Rattle.std.specs.Prelude.{◌≡◌, ◌≤◌, ◌++◌, length, Option, OnOk, IfOk, IfErr};
-ghost use Rattle.osm_o5c.specs.Steps.FileReading.{
-  kind_of_byte,
-  object_dataset_at,
-  other_dataset_at,
-  dataset_at,
-  position,
-  step,
-  FileRefused,
-  WantsAt,
-};
+ghost use Rattle.osm_o5c.specs.Steps.FileReading.{kind_of_byte, object_dataset_at};
+ghost use Rattle.osm_o5c.specs.Steps.FileReading.{other_dataset_at, dataset_at, position, step};
+ghost use Rattle.osm_o5c.specs.Steps.FileReading.{FileRefused, WantsAt};
 ghost use Rattle.osm_model.specs.ChangeForm.{WriteRefused};
 ghost use Rattle.osm_model.specs.Limits.{max_file};
-ghost use Rattle.osm_o5c.specs.Written.{
-  no_counters,
-  is_other,
-  reset_text,
-  counters_before,
-  dataset_text,
-  after_object,
-  change_text,
-  after_change,
-  o5c_text,
-};
-ghost use Rattle.osm_o5c.specs.File.{beginning, kind_byte, SpellsO5c};
+ghost use Rattle.osm_o5c.specs.Written.{is_other, reset_text, counters_before, dataset_text};
+ghost use Rattle.osm_o5c.specs.Written.{after_object, change_text, after_change, o5c_text};
+ghost use Rattle.osm_o5c.specs.File.{kind_byte, SpellsO5c};
 ghost use Rattle.osm_reading.specs.Steps.Answers.{Gives, Finds};
 
 use crate::counters::Counters;

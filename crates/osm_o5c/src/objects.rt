@@ -1,23 +1,11 @@
 //! Objects: nodes, ways, relations, and their deletions.
 
 ghost use Rattle.std.specs.Prelude.{◌≡◌, ◌++◌, OnOk};
-ghost use Rattle.osm_o5c.specs.Steps.ObjectReading.{
-  node_at,
-  way_at,
-  relation_at,
-  what_at,
-  object_at,
-};
+ghost use Rattle.osm_o5c.specs.Steps.ObjectReading.{node_at, way_at, relation_at, what_at};
+ghost use Rattle.osm_o5c.specs.Steps.ObjectReading.{object_at};
 ghost use Rattle.osm_reading.specs.Steps.Answers.{Gives};
-ghost use Rattle.osm_o5c.specs.Written.{
-  part_text,
-  last_ref,
-  after_members,
-  what_text,
-  after_what,
-  object_text,
-  after_object,
-};
+ghost use Rattle.osm_o5c.specs.Written.{part_text, last_ref, after_members, what_text, after_what};
+ghost use Rattle.osm_o5c.specs.Written.{object_text, after_object};
 
 use crate::counters::{Counters, id, latitude, longitude};
 use crate::metadata::write_meta;

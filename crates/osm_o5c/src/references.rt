@@ -2,23 +2,11 @@
 
 ghost use Rattle.std.specs.Prelude.{◌≡◌, ◌++◌, OnOk};
 ghost use Rattle.osm_o5c.specs.Context.{kind_digit};
-ghost use Rattle.osm_o5c.specs.Steps.ObjectReading.{
-  refs_at,
-  ref_at,
-  role_of,
-  member_at,
-  members_at,
-};
+ghost use Rattle.osm_o5c.specs.Steps.ObjectReading.{refs_at, ref_at, role_of, member_at};
+ghost use Rattle.osm_o5c.specs.Steps.ObjectReading.{members_at};
 ghost use Rattle.osm_reading.specs.Steps.Answers.{Gives, Finds};
-ghost use Rattle.osm_o5c.specs.Written.{
-  difference_text,
-  refs_text,
-  last_ref,
-  member_text,
-  after_member,
-  members_text,
-  after_members,
-};
+ghost use Rattle.osm_o5c.specs.Written.{difference_text, refs_text, last_ref, member_text};
+ghost use Rattle.osm_o5c.specs.Written.{after_member, members_text, after_members};
 
 use crate::counters::{Counters, id};
 use crate::numbers::{signed, write_difference};

@@ -3,14 +3,8 @@
 ghost use Rattle.std.specs.Prelude.{◌≡◌, [], ◌∷◌, ◌++◌, OnOk, option_copied};
 ghost use Rattle.circular_buffer.specs.Buffer.{keep_last};
 ghost use Rattle.osm_reading.specs.Steps.Answers.{Gives, Finds};
-ghost use Rattle.osm_o5c.specs.Steps.StringReading.{
-  entered,
-  latest,
-  until_nul_at,
-  pair_at,
-  single_at,
-  text_of,
-};
+ghost use Rattle.osm_o5c.specs.Steps.StringReading.{entered, latest, until_nul_at, pair_at};
+ghost use Rattle.osm_o5c.specs.Steps.StringReading.{single_at, text_of};
 ghost use Rattle.osm_o5c.specs.Written.{pair_text, single_text};
 
 use crate::numbers::unsigned;

@@ -1,19 +1,6 @@
 -- The dataset at the start of bytes, and how far a file is read.
-use Rattle.std.specs.Prelude.{
-  ℕ,
-  ◌==◌,
-  List,
-  [],
-  ◌∷◌,
-  ◌++◌,
-  length,
-  Option,
-  Some,
-  None,
-  IsSome,
-  if◌then◌else◌,
-  nat_lt,
-}
+use Rattle.std.specs.Prelude.{ℕ, ◌==◌, List, [], ◌∷◌, ◌++◌, length, Option, Some, None, IsSome}
+use Rattle.std.specs.Prelude.{if◌then◌else◌, nat_lt}
 use Rattle.osm_model.specs.Change.{ChangeValue}
 use Rattle.osm_model.specs.Limits.{max_changes}
 use Rattle.osm_model.specs.declared.kind.Kind.{Kind}

@@ -1,36 +1,7 @@
 -- The number at the start of bytes, and the bytes after it.
-use Rattle.std.specs.Prelude.{
-  ℕ,
-  zero,
-  suc,
-  ◌+◌,
-  ◌*◌,
-  ◌/◌,
-  ◌%◌,
-  ◌^◌,
-  ◌==◌,
-  ◌&&◌,
-  List,
-  [],
-  ◌∷◌,
-  length,
-  take,
-  drop,
-  Option,
-  Some,
-  None,
-  Bool,
-  if◌then◌else◌,
-  nat_lt,
-  nat_le,
-  int_le,
-  ℤ,
-  pos,
-  negsuc,
-  neg_ℤ,
-  ◌+ℤ◌,
-  ◌-ℤ◌,
-}
+use Rattle.std.specs.Prelude.{ℕ, zero, suc, ◌+◌, ◌*◌, ◌/◌, ◌%◌, ◌^◌, ◌==◌, ◌&&◌, List, [], ◌∷◌}
+use Rattle.std.specs.Prelude.{length, take, drop, Option, Some, None, Bool, if◌then◌else◌, nat_lt}
+use Rattle.std.specs.Prelude.{nat_le, int_le, ℤ, pos, negsuc, neg_ℤ, ◌+ℤ◌, ◌-ℤ◌}
 use Rattle.osm_reading.specs.Steps.Answers.{and_then, when}
 use Rattle.std.specs.Int.{int_rem_euclid}
 

@@ -1,20 +1,6 @@
 -- The object that bytes hold, and the reader after it.
-use Rattle.std.specs.Prelude.{
-  ℕ,
-  zero,
-  suc,
-  ◌==◌,
-  List,
-  [],
-  ◌∷◌,
-  Option,
-  Some,
-  None,
-  if◌then◌else◌,
-  ℤ,
-  pos,
-  ◌+ℤ◌,
-}
+use Rattle.std.specs.Prelude.{ℕ, zero, suc, ◌==◌, List, [], ◌∷◌, Option, Some, None, if◌then◌else◌}
+use Rattle.std.specs.Prelude.{ℤ, pos, ◌+ℤ◌}
 use Rattle.osm_model.specs.Change.{ChangeValue}
 use Rattle.osm_model.specs.Limits.{max_tags, max_refs}
 use Rattle.osm_model.specs.Meta.{MetaValue}
@@ -26,16 +12,8 @@ use Rattle.osm_model.specs.declared.lists.Member.{Member}
 use Rattle.osm_model.specs.declared.lists.Tag.{Tag}
 use Rattle.osm_reading.specs.Steps.Answers.{and_then, when}
 use Rattle.osm_o5c.specs.Written.{member_counter, with_member_counter}
-use Rattle.osm_o5c.specs.Steps.NumberReading.{
-  signed_at,
-  positive_at,
-  positive_sum_at,
-  id_at,
-  longitude_at,
-  latitude_at,
-  part_at,
-  is_id,
-}
+use Rattle.osm_o5c.specs.Steps.NumberReading.{signed_at, positive_at, positive_sum_at, id_at}
+use Rattle.osm_o5c.specs.Steps.NumberReading.{longitude_at, latitude_at, part_at, is_id}
 use Rattle.osm_o5c.specs.Steps.StringReading.{single_at, user_at, tag_at, text_of}
 use Rattle.osm_o5c.specs.declared.reader.Reader.{Reader}
 use Rattle.osm_o5c.specs.declared.strings.Entry.{Entry}

@@ -1,25 +1,6 @@
 -- The string at the start of bytes, the table after it, and the bytes after it.
-use Rattle.std.specs.Prelude.{
-  ℕ,
-  ◌-◌,
-  ◌==◌,
-  ◌&&◌,
-  ◌||◌,
-  not,
-  List,
-  [],
-  ◌∷◌,
-  ◌++◌,
-  length,
-  Option,
-  Some,
-  None,
-  Bool,
-  false,
-  if◌then◌else◌,
-  nat_le,
-  slice_get,
-}
+use Rattle.std.specs.Prelude.{ℕ, ◌-◌, ◌==◌, ◌&&◌, ◌||◌, not, List, [], ◌∷◌, ◌++◌, length, Option}
+use Rattle.std.specs.Prelude.{Some, None, Bool, false, if◌then◌else◌, nat_le, slice_get}
 use Rattle.std.specs.Str.{is_utf8}
 use Rattle.circular_buffer.specs.Buffer.{keep_last}
 use Rattle.osm_model.specs.declared.lists.Tag.{Tag}

@@ -1,4 +1,4 @@
--- The sum is taken by the rest of the difference after whole multiple.
+-- The sum is taken with the remainder of the difference by 2^32.
 use Rattle.std.proofs.Common.{arith, w64, ◌≡◌, pos}
 use Rattle.std.specs.Int.{int_rem_euclid}
 use Rattle.std.proofs.lemmas.Int.{ints, to_z-of_z}
