@@ -1,6 +1,6 @@
 //! Coordinates as sums in 32 bits: a difference may go the short way round or the long one.
 
-use super::makes::{META, TIME, batch_of, file, joined, meta};
+use super::makes::{META, TIME, batch_of_two, file, joined, meta};
 use osm_model::change::Change;
 use osm_model::form::ChangeForm;
 use osm_model::lists::Tags;
@@ -38,8 +38,8 @@ fn a_longitude_wraps_both_ways(rt: HostRuntime) -> Result<(), Fail> {
         ),
     ];
     for (lon, first, exact, wrapped) in rows {
-        let mut batch = batch_of(alloc, node_at(alloc, 1, lon, 0)?)?;
-        batch.push(node_at(alloc, 2, lon.saturating_neg(), 0)?)?;
+        let second = node_at(alloc, 2, lon.saturating_neg(), 0)?;
+        let batch = batch_of_two(alloc, node_at(alloc, 1, lon, 0)?, second)?;
         let exact = two_nodes(alloc, first, exact)?;
         let wrapped = two_nodes(alloc, first, wrapped)?;
         assert_eq!(rt;
@@ -71,8 +71,8 @@ fn a_latitude_wraps_both_ways(rt: HostRuntime) -> Result<(), Fail> {
         ),
     ];
     for (lat, first, exact, wrapped) in rows {
-        let mut batch = batch_of(alloc, node_at(alloc, 1, 0, lat)?)?;
-        batch.push(node_at(alloc, 2, 0, lat.saturating_neg())?)?;
+        let second = node_at(alloc, 2, 0, lat.saturating_neg())?;
+        let batch = batch_of_two(alloc, node_at(alloc, 1, 0, lat)?, second)?;
         let exact = two_nodes(alloc, first, exact)?;
         let wrapped = two_nodes(alloc, first, wrapped)?;
         assert_eq!(rt;

@@ -146,6 +146,13 @@ pub fn refusal(alloc: Global, bytes: &[u8]) -> Option<FormError> {
     O5c::read(alloc, bytes).err()
 }
 
+/// A batch of two changes.
+pub fn batch_of_two(alloc: Global, first: Change, second: Change) -> Result<Batch, Fail> {
+    let mut batch = batch_of(alloc, first)?;
+    batch.push(second)?;
+    Ok(batch)
+}
+
 /// A batch of one change.
 pub fn batch_of(alloc: Global, change: Change) -> Result<Batch, Fail> {
     let mut batch = Batch::new(alloc);
