@@ -1,6 +1,6 @@
 //! What a writer keeps between datasets.
 
-ghost use Rattle.std.specs.Prelude.{◌≡◌, Option, IfOk};
+ghost use Rattle.std.specs.Prelude.{◌≡◌, [], Option, IfOk};
 ghost use Rattle.osm_o5c.specs.File.{beginning};
 ghost use Rattle.osm_o5c.specs.Written.{no_counters};
 
@@ -47,7 +47,10 @@ impl Writer {
 
 impl Buffers {
     /// Both are empty.
-    pub fn new(alloc: Global) -> Buffers {
+    pub fn new(alloc: Global) -> Buffers
+        ensures content { result.content.items ≡ [] }
+        ensures part { result.part.items ≡ [] }
+    {
         Buffers {
             content: Vec::new(alloc),
             part: Vec::new(alloc),
