@@ -1,2 +1,3 @@
 mod model;
 mod state;
+mod o5c;
