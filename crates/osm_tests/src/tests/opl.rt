@@ -1,11 +1,15 @@
-use crate::lines::{LineError, is_skipped_line, read_line, split_line, write_line};
-use crate::opl::{Opl, laws_of_opl};
+//! Tests of OPL files and lines: outside vectors, limits, causes, a file past its limits.
+
 use osm_model::batch::Batch;
 use osm_model::change::Change;
 use osm_model::form::{ChangeForm, FormError, Why, there_and_back};
 use osm_model::lists::{Tag, Tags};
 use osm_model::meta::Meta;
 use osm_model::text::Text;
+use osm_opl::lines::{LineError, read_line, write_line};
+use osm_opl::opl::{Opl, laws_of_opl};
+use osm_reading::lines::{is_skipped_line, split_line};
+use osm_reading::sequence::sequence_read;
 use std::alloc::Global;
 use std::test::Fail;
 
@@ -14,6 +18,9 @@ const NODE: &[u8] = b"n1 v1 dV c7 t2024-01-01T00:00:00Z i5 uann T x1 y2";
 const WAY: &[u8] = b"w10 v1 dV c7 t2024-01-01T00:00:00Z i5 uann Thighway=path Nn1,n2,n5";
 
 const RELATION: &[u8] = b"r3 v1 dV c7 t2024-01-01T00:00:00Z i5 uann T Mn1@,w10@outer,n4@";
+
+const GREATEST: &[u8] = b"w4611686018427387903 v4294967295 dV c4294967295 \
+      t2106-02-07T06:28:15Z i4294967295 u T Nn-4611686018427387903";
 
 const DELETION: &[u8] = b"n1 v3 dD c7 t2024-01-01T00:00:00Z i5 uann T x y";
 
@@ -49,10 +56,7 @@ fn lines_are_written_as_they_are_read(rt: HostRuntime) -> Result<(), Fail> {
             b"n1 v1 dV c7 t2024-01-01T00:00:00Z i5 u%a%%7f%%10ffff% T x-180 y-0",
             b"n1 v1 dV c7 t2024-01-01T00:00:00Z i5 u%0a%%7f%%10ffff% T x-180 y0",
         ),
-        (
-            b"w4611686018427387903 v4294967295 dV c4294967295 t2106-02-07T06:28:15Z i4294967295 u T Nn-4611686018427387903",
-            b"w4611686018427387903 v4294967295 dV c4294967295 t2106-02-07T06:28:15Z i4294967295 u T Nn-4611686018427387903",
-        ),
+        (GREATEST, GREATEST),
         (
             b"w1 v1 dD c7 t2024-01-01T00:00:00Z i5 u Ta=1,a=1 Nn1,n1",
             b"w1 v1 dD c7 t2024-01-01T00:00:00Z i5 u T N",
@@ -70,7 +74,35 @@ fn lines_are_written_as_they_are_read(rt: HostRuntime) -> Result<(), Fail> {
 
 #[test]
 fn a_refused_line_is_refused_for_its_cause(rt: HostRuntime) {
-    let cases: [(&[u8], Why); 31] = [
+    let cases: [(&[u8], Why); 38] = [
+        (
+            b"n1 v1 dV c7 t2024-01-01T00:00:00Z i5 ua\0b T x1 y2",
+            Why::BadText,
+        ),
+        (
+            b"n1 v1 dV c7 t2024-01-01T00:00:00Z i5 ua\tb T x1 y2",
+            Why::BadField,
+        ),
+        (
+            b"n1 v1 dV c7 t2024-01-01T00:00:00Z i5 u%0000065e5% T x1 y2",
+            Why::BadEscape,
+        ),
+        (
+            b"n1 v1 dV c7 t2024-01-01T00:00:00Z i5 uann T x1 y90.0000001",
+            Why::OutOfRange,
+        ),
+        (
+            b"n1 v1 dV c7 t2024-01-01T00:00:00Z i5 uann T x1 y-90.0000001",
+            Why::OutOfRange,
+        ),
+        (
+            b"n1 v1 dV c7 t2024-01-01T00:00:00Z i5 uann T x1 y180",
+            Why::OutOfRange,
+        ),
+        (
+            b"n1 v1 dD c7 t2024-01-01T00:00:00Z i5 uann T x-180.0000001 y",
+            Why::OutOfRange,
+        ),
         (b"", Why::BadKind),
         (b"x", Why::BadKind),
         (b"n", Why::BadNumber),
@@ -186,30 +218,185 @@ fn a_refused_line_is_refused_for_its_cause(rt: HostRuntime) {
     }
 }
 
+// The line of a node whose user has that name, spelled so.
+fn line_of_user(alloc: Global, user: &[u8]) -> Result<Vec<u8>, Fail> {
+    let mut line = Vec::from_slice(alloc, b"n1 v1 dV c7 t2024-01-01T00:00:00Z i5 u")?;
+    line.extend_from_slice(user)?;
+    line.extend_from_slice(b" T x1 y2")?;
+    Ok(line)
+}
+
+#[test]
+fn of_ascii_nine_characters_cannot_be_bare(rt: HostRuntime) -> Result<(), Fail> {
+    let alloc = rt.alloc();
+    for code in 0u32..128 {
+        let line = line_of_user(alloc, &[code as u8])?;
+        let is_refused = b"\0\t\n\r %,=@".contains(&(code as u8));
+        assert_eq!(rt;
+            read_line(alloc, line.as_slice()).is_err(),
+            is_refused,
+            "{code}"
+        );
+    }
+    Ok(())
+}
+
+#[test]
+fn printable_ascii_is_written_bare_except_four_characters(rt: HostRuntime) -> Result<(), Fail> {
+    let alloc = rt.alloc();
+    for code in 1u32..128 {
+        let escape = format!(in alloc; "%{code:02x}%")?;
+        let is_bare = 0x21 <= code && code <= 0x7e && !b"%,=@".contains(&(code as u8));
+        let want = if is_bare {
+            line_of_user(alloc, &[code as u8])?
+        } else {
+            line_of_user(alloc, escape.as_bytes())?
+        };
+        let line = line_of_user(alloc, escape.as_bytes())?;
+        let mut out = Vec::new(alloc);
+        write_line(&read_line(alloc, line.as_slice())?, &mut out)?;
+        assert_eq!(rt; out.as_slice(), want.as_slice(), "{code}");
+    }
+    Ok(())
+}
+
+#[test]
+fn an_escape_has_one_to_eight_digits_and_is_written_in_the_fewest(
+    rt: HostRuntime,
+) -> Result<(), Fail> {
+    let alloc = rt.alloc();
+    let cases: [(&[u8], &[u8]); 12] = [
+        (b"%1%", b"%01%"),
+        (b"%00000080%", b"%80%"),
+        (b"%ff%", b"%ff%"),
+        (b"%0100%", b"%100%"),
+        (b"%FFF%", b"%fff%"),
+        (b"%1000%", b"%1000%"),
+        (b"%000065E5%", b"%65e5%"),
+        (b"%ffff%", b"%ffff%"),
+        (b"%010000%", b"%10000%"),
+        (b"%fffff%", b"%fffff%"),
+        (b"%100000%", b"%100000%"),
+        (b"%0010ffff%", b"%10ffff%"),
+    ];
+    for (spelled, written) in cases {
+        let line = line_of_user(alloc, spelled)?;
+        let mut out = Vec::new(alloc);
+        write_line(&read_line(alloc, line.as_slice())?, &mut out)?;
+        assert_eq!(rt; out.as_slice(), line_of_user(alloc, written)?.as_slice());
+    }
+    Ok(())
+}
+
 #[test]
 fn lines_are_cut_and_told_apart(rt: HostRuntime) {
-    let (line, rest) = split_line(b"# a\r\r\nb");
-    assert_eq!(rt; line, b"# a\r".as_slice());
-    assert_eq!(rt; rest, Some(b"b".as_slice()));
-    let (line, rest) = split_line(b"b\r");
-    assert_eq!(rt; line, b"b".as_slice());
-    assert_eq!(rt; rest, None);
-    for (line, want) in [
-        (b"".as_slice(), true),
-        (b"#", true),
-        (b" #", false),
-        (b"n", false),
-    ] {
-        assert_eq!(rt; is_skipped_line(line), want);
+    let cases: [(&[u8], &[u8], Option<&[u8]>); 6] = [
+        (b"# a\r\r\nb", b"# a\r", Some(b"b")),
+        (b"b\r", b"b", None),
+        (b"", b"", None),
+        (b"\n", b"", Some(b"")),
+        (b"a\n\r", b"a", Some(b"\r")),
+        (b"a\rb\n\n", b"a\rb", Some(b"\n")),
+    ];
+    for (bytes, line, rest) in cases {
+        assert_eq!(rt; split_line(bytes), (line, rest));
     }
     laws_of_opl();
 }
 
 #[test]
+fn only_empty_lines_and_those_of_a_number_sign_are_skipped(rt: HostRuntime) {
+    assert!(rt; is_skipped_line(b""));
+    for code in 0u32..256 {
+        let line = [code as u8, b'1'];
+        assert_eq!(rt; is_skipped_line(&line), code == 0x23, "{code}");
+    }
+}
+
+#[test]
+fn a_sequence_is_one_to_nine_digits(rt: HostRuntime) {
+    let cases: [(&[u8], Option<u32>); 11] = [
+        (b"0", Some(0)),
+        (b"7", Some(7)),
+        (b"000000012", Some(12)),
+        (b"999999999", Some(999_999_999)),
+        (b"", None),
+        (b"0000000001", None),
+        (b"1000000000", None),
+        (b"1a", None),
+        (b"+1", None),
+        (b"-1", None),
+        (b" 1", None),
+    ];
+    for (digits, number) in cases {
+        assert_eq!(rt; sequence_read(digits), number);
+    }
+}
+
+// A line with so many times an item in a list.
+fn line_of_list(alloc: Global, start: &[u8], item: &[u8], count: u32) -> Result<Vec<u8>, Fail> {
+    let mut line = Vec::from_slice(alloc, start)?;
+    for number in 0..count {
+        if number > 0 {
+            line.push(b',')?;
+        }
+        line.extend_from_slice(item)?;
+    }
+    Ok(line)
+}
+
+#[test]
+fn a_list_past_its_limit_is_refused(rt: HostRuntime) -> Result<(), Fail> {
+    let alloc = rt.alloc();
+    let cases: [(&[u8], &[u8], &[u8], u32); 3] = [
+        (
+            b"w3 v1 dV c7 t2024-01-01T00:00:00Z i5 uann T",
+            b"a=",
+            b" N",
+            5_000,
+        ),
+        (
+            b"w3 v1 dV c7 t2024-01-01T00:00:00Z i5 uann T N",
+            b"n1",
+            b"",
+            32_000,
+        ),
+        (
+            b"r3 v1 dV c7 t2024-01-01T00:00:00Z i5 uann T M",
+            b"n1@",
+            b"",
+            32_000,
+        ),
+    ];
+    for (start, item, end, most) in cases {
+        let mut full = line_of_list(alloc, start, item, most)?;
+        full.extend_from_slice(end)?;
+        assert!(rt; read_line(alloc, full.as_slice()).is_ok());
+        let mut over = line_of_list(alloc, start, item, most + 1)?;
+        over.extend_from_slice(end)?;
+        assert_eq!(rt;
+            read_line(alloc, over.as_slice()),
+            Err(LineError::Fault(Why::TooMany))
+        );
+    }
+    Ok(())
+}
+
+#[test]
+fn a_file_of_64_mib_is_read_and_no_longer_one(rt: HostRuntime) -> Result<(), Fail> {
+    let alloc = rt.alloc();
+    let mut file = vec![in alloc; b'#'; 67_108_864]?;
+    assert!(rt; Opl::read(alloc, file.as_slice())?.changes().is_empty());
+    file.push(b'#')?;
+    assert_eq!(rt; Opl::read(alloc, file.as_slice()), Err(FormError::TooLarge));
+    Ok(())
+}
+
+#[test]
 fn a_file_is_written_as_it_is_read(rt: HostRuntime) -> Result<(), Fail> {
     let alloc = rt.alloc();
-    let file =
-        b"n1 v1 dV c7 t2024-01-01T00:00:00Z i5 uann T x1 y2\nn1 v3 dD c7 t2024-01-01T00:00:00Z i5 uann T x y\n";
+    let file = b"n1 v1 dV c7 t2024-01-01T00:00:00Z i5 uann T x1 y2\n\
+        n1 v3 dD c7 t2024-01-01T00:00:00Z i5 uann T x y\n";
     let batch = Opl::read(alloc, file)?;
     assert_eq!(rt; batch.changes().len(), 2);
     let written = Opl::write(alloc, &batch)?;
@@ -229,7 +416,8 @@ fn a_fault_is_named_by_its_line(rt: HostRuntime) {
             Why::BadKind,
         ),
         (
-            b"n1 v1 dV c7 t2024-01-01T00:00:00Z i5 uann T x1 y2\nn1 v1 dV c7 t2024-01-01T00:00:00Z i5 u%0% T x1 y2\n",
+            b"n1 v1 dV c7 t2024-01-01T00:00:00Z i5 uann T x1 y2\n\
+              n1 v1 dV c7 t2024-01-01T00:00:00Z i5 u%0% T x1 y2\n",
             2,
             Why::BadEscape,
         ),
@@ -306,13 +494,36 @@ fn a_file_past_64_mib_is_too_large(rt: HostRuntime) -> Result<(), Fail> {
 #[test]
 fn a_text_of_more_than_1020_bytes_is_refused(rt: HostRuntime) -> Result<(), Fail> {
     let alloc = rt.alloc();
-    for (length, want) in [(1_020, true), (1_021, false)] {
-        let mut line = Vec::from_slice(alloc, b"n1 v1 dV c7 t2024-01-01T00:00:00Z i5 u")?;
-        for _ in 0..length {
-            line.push(b'a')?;
+    let cases: [(usize, &[u8], bool); 5] = [
+        (1_020, b"", true),
+        (1_021, b"", false),
+        (1_018, b"%e9%", true),
+        (1_019, b"%e9%", false),
+        (1_019, b"%61%", true),
+    ];
+    for (letters, end, is_read) in cases {
+        let mut user = vec![in alloc; b'a'; letters]?;
+        user.extend_from_slice(end)?;
+        let line = line_of_user(alloc, user.as_slice())?;
+        let read = read_line(alloc, line.as_slice());
+        assert_eq!(rt; read.is_ok(), is_read);
+        if !is_read {
+            assert_eq!(rt; read, Err(LineError::Fault(Why::BadText)));
         }
-        line.extend_from_slice(b" T x1 y2")?;
-        assert_eq!(rt; read_line(alloc, line.as_slice()).is_ok(), want);
     }
+    Ok(())
+}
+
+#[test]
+fn the_texts_of_refusals_are_their_names(rt: HostRuntime) -> Result<(), Fail> {
+    let alloc = rt.alloc();
+    assert_eq!(rt;
+        LineError::WantOfMemory.to_string(alloc)?.as_str(),
+        "WantOfMemory"
+    );
+    assert_eq!(rt;
+        LineError::Fault(Why::BadText).to_string(alloc)?.as_str(),
+        "Fault"
+    );
     Ok(())
 }
