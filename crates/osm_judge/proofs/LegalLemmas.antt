@@ -6,13 +6,13 @@ use Rattle.std.proofs.lemmas.Bool.{cases_lt}
 use Rattle.std.specs.List.{flat_map, zip}
 use Rattle.std.specs.Prelude.{◌↔◌, IsTrue}
 use Rattle.osm_model.specs.Change.{ChangeValue}
-use Rattle.osm_repl.specs.History.{History, accepted_of, published_of}
-use Rattle.osm_repl.proofs.LegalLemmas.{legal_none, legal_more}
-use Rattle.osm_repl.specs.Legal.{Allowed, IsLegal, IsNumber, IsOpen, IsNext, IsWork}
-use Rattle.osm_repl.specs.declared.event.Event.{Event}
-use Rattle.osm_repl.specs.declared.event.Reply.{Reply}
-use Rattle.osm_repl.specs.Published.{PublishedValue, unpublished, changes_at, flat}
-use Rattle.osm_repl.specs.Reach.{Reaches, between}
+use Rattle.osm_follow.specs.History.{History, accepted_of, published_of}
+use Rattle.osm_follow.proofs.LegalLemmas.{legal_none, legal_more}
+use Rattle.osm_follow.specs.Legal.{Allowed, IsLegal, IsNumber, IsOpen, IsNext, IsWork}
+use Rattle.osm_follow.specs.declared.event.Event.{Event}
+use Rattle.osm_follow.specs.declared.event.Reply.{Reply}
+use Rattle.osm_follow.specs.Published.{PublishedValue, unpublished, changes_at, flat}
+use Rattle.osm_follow.specs.Reach.{Reaches, between}
 
 below_not : (f : ℕ → Bool) (s n m : ℕ) → Reaches f s n → Reaches f s m → n < m → ⊥
 below_not f s n m a b less =

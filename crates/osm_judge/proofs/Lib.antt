@@ -1,3 +1,4 @@
 pub mod HistoryLemmas
 pub mod ViewLemmas
 pub mod LegalLemmas
+pub mod PlainLemmas

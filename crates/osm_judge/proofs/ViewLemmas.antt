@@ -24,11 +24,11 @@ use Rattle.osm_model.specs.Content.{content_of, last_of, later_of, edits_by_user
 use Rattle.osm_model.specs.KeyOrder.{same_key}
 use Rattle.osm_model.specs.declared.kind.Key.{Key}
 use Rattle.osm_model.proofs.ContentLemmas.{same_key-only}
-use Rattle.osm_repl.specs.History.{History, accepted_of, published_of, start_of}
-use Rattle.osm_repl.specs.Mirror.{object_at, count_at, Counted, IsMirrorOf}
-use Rattle.osm_repl.specs.Published.{flat, time_at}
-use Rattle.osm_repl.specs.Reach.{Reaches}
-use Rattle.osm_repl.specs.View.{ViewValue, IsView}
+use Rattle.osm_follow.specs.History.{History, accepted_of, published_of, start_of}
+use Rattle.osm_follow.specs.Mirror.{object_at, count_at, Counted, IsMirrorOf}
+use Rattle.osm_follow.specs.Published.{flat, time_at}
+use Rattle.osm_follow.specs.Reach.{Reaches}
+use Rattle.osm_follow.specs.View.{ViewValue, IsView}
 
 -- a list has an object with that key, so what holds at its keys holds there
 at_object : (P : Key → Type 0) (os : List ChangeValue) (k : Key) (o : ChangeValue) → object_at os k ≡ Some o → AllByRecursion (λ c. P c.key) os → P k

@@ -1,11 +1,11 @@
 -- What may answer a script.
 use Rattle.std.specs.Prelude.{◌≡◌, ℕ, List, length}
-use Rattle.osm_repl.specs.History.{history_of}
-use Rattle.osm_repl.specs.Legal.{IsLegal}
+use Rattle.osm_follow.specs.History.{history_of}
+use Rattle.osm_follow.specs.Legal.{IsLegal}
 use Rattle.osm_repl.specs.Replies.{replies_text}
 use Rattle.osm_repl.specs.Script.{ScriptOf}
-use Rattle.osm_repl.specs.declared.event.Event.{Event}
-use Rattle.osm_repl.specs.declared.event.Reply.{Reply}
+use Rattle.osm_follow.specs.declared.event.Event.{Event}
+use Rattle.osm_follow.specs.declared.event.Reply.{Reply}
 
 -- the text is that of one reply for each event of the script, each allowed after what came before it
 pub record MayAnswer (script text : List ℕ) : Type 0 where

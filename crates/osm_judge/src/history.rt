@@ -1,14 +1,14 @@
 //! What a history of events and replies says, one pair at a time.
 
 ghost use Rattle.std.specs.Prelude.{◌≡◌, ℕ, ◌<◌, ◌≤◌, length, false, IfOk};
-ghost use Rattle.osm_repl.specs.History.{accepted_of, accepts, closes, pending_of, published_of, time_of};
-ghost use Rattle.osm_repl.specs.History as hist;
-ghost use Rattle.osm_repl.specs.Published.{flat, last_time, time_at};
-ghost use Rattle.osm_repl.specs.Reach.{Reaches};
+ghost use Rattle.osm_follow.specs.History.{accepted_of, accepts, closes, pending_of, published_of, time_of};
+ghost use Rattle.osm_follow.specs.History as hist;
+ghost use Rattle.osm_follow.specs.Published.{flat, last_time, time_at};
+ghost use Rattle.osm_follow.specs.Reach.{Reaches};
 
 use osm_model::change::Change;
 use osm_model::memory::WantOfMemory;
-use osm_repl::event::{Event, Reply};
+use osm_follow::event::{Event, Reply};
 use std::alloc::Global;
 
 /// An event and its reply. A history is a list of pairs, its newest first.

@@ -1,14 +1,14 @@
 //! Whether a reply text may be what a script is answered.
 
 ghost use Rattle.std.specs.Prelude.{◌≡◌, ◌<◌, ◌^◌, length, IfOk, IfSome, IsTrue};
-ghost use Rattle.osm_repl.specs.History.{history_of};
+ghost use Rattle.osm_follow.specs.History.{history_of};
 ghost use Rattle.osm_judge.specs.Judge.{MayAnswer};
 
 use crate::history::Pair;
 use crate::legal::is_legal;
 use crate::reading::{Unread, read_reply};
 use osm_model::memory::WantOfMemory;
-use osm_repl::event::{Event, Reply};
+use osm_follow::event::{Event, Reply};
 use osm_repl::fault::RunFault;
 use osm_repl::replies::write_replies;
 use osm_repl::script::parse_script;

@@ -1,10 +1,10 @@
 //! Which reply may follow a history.
 
 ghost use Rattle.std.specs.Prelude.{◌≡◌, ℕ, ◌+◌, ◌-◌, ◌<◌, ◌≤◌, ◌↔◌, false, length, IfOk, IsTrue};
-ghost use Rattle.osm_repl.specs.History.{accepted_of, published_of};
-ghost use Rattle.osm_repl.specs.Legal.{Allowed, AllowedClose, AllowedDeliver, AllowedEdit, AllowedShow, IsLegal, IsNext, IsNumber, IsOpen};
-ghost use Rattle.osm_repl.specs.Published.{flat};
-ghost use Rattle.osm_repl.specs.Reach.{Reaches};
+ghost use Rattle.osm_follow.specs.History.{accepted_of, published_of};
+ghost use Rattle.osm_follow.specs.Legal.{Allowed, AllowedClose, AllowedDeliver, AllowedEdit, AllowedShow, IsLegal, IsNext, IsNumber, IsOpen};
+ghost use Rattle.osm_follow.specs.Published.{flat};
+ghost use Rattle.osm_follow.specs.Reach.{Reaches};
 
 use crate::history::{
     Pair, flat_to, is_accepted, is_broken, least_time, pending, published, reach,
@@ -12,7 +12,7 @@ use crate::history::{
 use crate::views::is_view;
 use osm_model::limits::{MAX_CHANGES, MAX_SEQUENCE};
 use osm_model::memory::WantOfMemory;
-use osm_repl::event::{Event, Reply};
+use osm_follow::event::{Event, Reply};
 use std::alloc::Global;
 
 /// Whether each reply of a history may follow what came before it.

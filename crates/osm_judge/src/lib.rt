@@ -5,6 +5,7 @@
 pub mod history;
 pub mod judge;
 pub mod legal;
+pub mod plain;
 mod reading;
 #[cfg(test)]
 mod tests;

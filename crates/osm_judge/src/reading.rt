@@ -3,8 +3,8 @@
 use osm_model::memory::WantOfMemory;
 use osm_model::time::time_read;
 use osm_opl::lines::{LineError, read_line, split_line};
-use osm_repl::event::Reply;
-use osm_repl::view::View;
+use osm_follow::event::Reply;
+use osm_follow::view::View;
 use std::alloc::{AllocError, AllocFailed, Global};
 
 /// Why a text isn't read.

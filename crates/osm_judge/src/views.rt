@@ -8,19 +8,19 @@ ghost use Rattle.std.specs.declared.cmp.Ordering.TheVariants.{Less};
 ghost use Rattle.osm_model.specs.Content.{content_of, edits_by_changeset, edits_by_user};
 ghost use Rattle.osm_model.specs.KeyOrder.{key_cmp};
 ghost use Rattle.osm_model.specs.declared.kind.Key.{Key};
-ghost use Rattle.osm_repl.specs.History.{accepted_of, accepts, published_of, start_of};
-ghost use Rattle.osm_repl.specs.Mirror.{AreCountsAboveZero, AreRising, IsAboveZero, IsMirrorOf, count_at, object_at};
-ghost use Rattle.osm_repl.specs.Published.{flat, time_at};
-ghost use Rattle.osm_repl.specs.View.{IsView};
+ghost use Rattle.osm_follow.specs.History.{accepted_of, accepts, published_of, start_of};
+ghost use Rattle.osm_follow.specs.Mirror.{AreCountsAboveZero, AreRising, IsAboveZero, IsMirrorOf, count_at, object_at};
+ghost use Rattle.osm_follow.specs.Published.{flat, time_at};
+ghost use Rattle.osm_follow.specs.View.{IsView};
 
 use crate::history::{Pair, flat_to, is_accepted, reach, time_of_sequence};
 use osm_model::change::Change;
 use osm_model::kind::Key;
 use osm_model::memory::WantOfMemory;
 use osm_opl::lines::write_line;
-use osm_repl::event::{Event, Reply};
-use osm_repl::plain::{plain_content_of, plain_edits_by_changeset, plain_edits_by_user};
-use osm_repl::view::View;
+use osm_follow::event::{Event, Reply};
+use crate::plain::{plain_content_of, plain_edits_by_changeset, plain_edits_by_user};
+use osm_follow::view::View;
 use std::alloc::Global;
 
 /// Whether the view may be shown after the history.

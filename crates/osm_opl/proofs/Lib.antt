@@ -1,2 +1,21 @@
+pub mod NumberLemmas
+pub mod NumberLaws
+pub mod DateLemmas
+pub mod EscapeLemmas
+pub mod EscapeLaws
 pub mod ListLemmas
+pub mod ListLaws
+pub mod FieldLaws
+pub mod MetaLaws
+pub mod CoordinateLaws
+pub mod ObjectLaws
+pub mod BlankLemmas
+pub mod LineLaws
+pub mod FileLaws
 pub mod WrittenLemmas
+pub mod WrittenNumbers
+pub mod WrittenTexts
+pub mod WrittenLists
+pub mod WrittenFields
+pub mod RoundTrip
+mod StandardFacts

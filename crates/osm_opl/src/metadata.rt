@@ -1,24 +1,28 @@
 //! The fields that all objects have after their id: version, status, changeset, time, user.
 
 ghost use Rattle.std.specs.Prelude.{◌≡◌, ◌<◌, ◌++◌, IfOk, codes, OnOk, OnErr};
-ghost use Rattle.osm_model.specs.CivilTime.{time_text};
 ghost use Rattle.std.specs.Io.{StartsWith};
-ghost use Rattle.osm_opl.specs.Answers.{Finds, Gives};
-ghost use Rattle.osm_opl.specs.Reading.{head_at, positive_field_at, status_field_at, time_field_at, user_field_at, pieces_after, status_at, time_at};
-ghost use Rattle.osm_opl.specs.Written.{meta_text, number_field, text_text, user_fields, version_fields, visible_text};
+ghost use Rattle.osm_model.specs.CivilTime.{time_text};
+ghost use Rattle.osm_opl.specs.Steps.Reading.{head_at, positive_field_at, status_at};
+ghost use Rattle.osm_opl.specs.Steps.Reading.{status_field_at, time_at, time_field_at};
+ghost use Rattle.osm_opl.specs.Steps.Reading.{user_field_at};
+ghost use Rattle.osm_opl.specs.Written.{escaped_text, meta_text, number_field, user_fields};
+ghost use Rattle.osm_opl.specs.Written.{version_fields, visible_text};
+ghost use Rattle.osm_reading.specs.Pieces.{pieces_after};
+ghost use Rattle.osm_reading.specs.Steps.Answers.{Finds, Gives};
 
 use crate::escapes::{read_text, write_text};
-use crate::lines::LineError;
+use crate::fields::next_field;
 use crate::numbers::{read_positive, write_number};
-use crate::pieces::next_field;
 use osm_model::form::Why;
 use osm_model::memory::WantOfMemory;
 use osm_model::meta::Meta;
 use osm_model::text::Text;
 use osm_model::time::{time_read, time_write};
+use osm_reading::refusal::Refusal;
 use std::alloc::Global;
 
-/// Whether the object stands, and who made the change.
+/// Whether the object is visible, and who made the change.
 #[derive(Drop)]
 pub(crate) struct Head {
     pub(crate) is_visible: bool,
@@ -26,11 +30,11 @@ pub(crate) struct Head {
 }
 
 /// The fields `vVERSION dV cCHANGESET tTIME iUID uUSER`, and what follows them.
-#[tactic(auto, unfolding(crate::specs::Reading::head_at))]
+#[tactic(auto, unfolding(crate::specs::Steps::Reading::head_at))]
 pub(crate) fn read_head<'a>(
     alloc: Global,
     rest: Option<&'a [u8]>,
-) -> Result<(Head, Option<&'a [u8]>), LineError>
+) -> Result<(Head, Option<&'a [u8]>), Refusal>
     ensures { Gives (λ r. (r.0.is_visible, r.0.meta, pieces_after 32 r.1)) result
         (head_at (pieces_after 32 rest.entry)) }
 {
@@ -41,12 +45,12 @@ pub(crate) fn read_head<'a>(
     let (uid, rest) = positive_field(rest, b'i')?;
     let (user, rest) = user_field(alloc, rest)?;
     let Ok(meta) = Meta::new(version, time, changeset, uid, user) else {
-        return Err(LineError::Fault(Why::NoMetadata));
+        return Err(Refusal::Fault(Why::NoMetadata));
     };
     Ok((Head { is_visible, meta }, rest))
 }
 
-#[tactic(auto, unfolding(crate::specs::Reading::positive_field_at))]
+#[tactic(auto, unfolding(crate::specs::Steps::Reading::positive_field_at))]
 fn positive_field<'a>(rest: Option<&'a [u8]>, letter: u8) -> Result<(u32, Option<&'a [u8]>), Why>
     ensures value { Finds (λ r. (r.0, pieces_after 32 r.1)) result
         (positive_field_at letter (pieces_after 32 rest.entry)) }
@@ -57,7 +61,7 @@ fn positive_field<'a>(rest: Option<&'a [u8]>, letter: u8) -> Result<(u32, Option
 }
 
 // `dV` or `dD`
-#[tactic(auto, unfolding(crate::specs::Reading::status_field_at))]
+#[tactic(auto, unfolding(crate::specs::Steps::Reading::status_field_at))]
 fn status_field<'a>(rest: Option<&'a [u8]>) -> Result<(bool, Option<&'a [u8]>), Why>
     ensures { Finds (λ r. (r.0, pieces_after 32 r.1)) result
         (status_field_at (pieces_after 32 rest.entry)) }
@@ -67,7 +71,7 @@ fn status_field<'a>(rest: Option<&'a [u8]>) -> Result<(bool, Option<&'a [u8]>), 
 }
 
 // `tTIME`
-#[tactic(auto, unfolding(crate::specs::Reading::time_field_at))]
+#[tactic(auto, unfolding(crate::specs::Steps::Reading::time_field_at))]
 fn time_field<'a>(rest: Option<&'a [u8]>) -> Result<(u32, Option<&'a [u8]>), Why>
     ensures value { Finds (λ r. (r.0, pieces_after 32 r.1)) result
         (time_field_at (pieces_after 32 rest.entry)) }
@@ -78,11 +82,11 @@ fn time_field<'a>(rest: Option<&'a [u8]>) -> Result<(u32, Option<&'a [u8]>), Why
 }
 
 // `uUSER`
-#[tactic(auto, unfolding(crate::specs::Reading::user_field_at))]
+#[tactic(auto, unfolding(crate::specs::Steps::Reading::user_field_at))]
 fn user_field<'a>(
     alloc: Global,
     rest: Option<&'a [u8]>,
-) -> Result<(Text, Option<&'a [u8]>), LineError>
+) -> Result<(Text, Option<&'a [u8]>), Refusal>
     ensures { Gives (λ r. (r.0, pieces_after 32 r.1)) result
         (user_field_at (pieces_after 32 rest.entry)) }
 {
@@ -91,7 +95,7 @@ fn user_field<'a>(
 }
 
 // `V` or `D`
-#[tactic(auto, unfolding(crate::specs::Reading::status_at))]
+#[tactic(auto, unfolding(crate::specs::Steps::Reading::status_at))]
 fn read_status(bytes: &[u8]) -> Result<bool, Why>
     ensures { Finds (λ b. b) result (status_at bytes.now) }
 {
@@ -119,7 +123,8 @@ pub(crate) fn write_head(
     meta: &Meta,
     out: &mut Vec<u8>,
 ) -> Result<(), WantOfMemory>
-    ensures ok { OnOk result (out.new.items ≡ out.old.items ++ meta_text (visible_text is_visible) meta.now) }
+    ensures ok { OnOk result
+        (out.new.items ≡ out.old.items ++ meta_text (visible_text is_visible) meta.now) }
     ensures err { OnErr result (StartsWith out.new.items out.old.items) }
 {
     write_version(is_visible, meta, out)?;
@@ -130,7 +135,8 @@ pub(crate) fn write_head(
 // ` vVERSION dV cCHANGESET`
 #[tactic(auto, using(crate::proofs::WrittenLemmas::starts_back))]
 fn write_version(is_visible: bool, meta: &Meta, out: &mut Vec<u8>) -> Result<(), WantOfMemory>
-    ensures ok { OnOk result (out.new.items ≡ out.old.items ++ version_fields (visible_text is_visible) meta.now) }
+    ensures ok { OnOk result
+        (out.new.items ≡ out.old.items ++ version_fields (visible_text is_visible) meta.now) }
     ensures err { OnErr result (StartsWith out.new.items out.old.items) }
 {
     write_number_field(b" v", meta.version(), out)?;
@@ -165,7 +171,8 @@ fn write_number_field(mark: &[u8], number: u32, out: &mut Vec<u8>) -> Result<(),
 // ` dV` or ` dD`
 #[tactic(auto, using(crate::proofs::WrittenLemmas::starts_back))]
 fn write_status(is_visible: bool, out: &mut Vec<u8>) -> Result<(), WantOfMemory>
-    ensures ok { OnOk result (out.new.items ≡ out.old.items ++ (codes " d" ++ visible_text is_visible)) }
+    ensures ok { OnOk result
+        (out.new.items ≡ out.old.items ++ (codes " d" ++ visible_text is_visible)) }
     ensures err { OnErr result (StartsWith out.new.items out.old.items) }
 {
     out.extend_from_slice(if is_visible { b" dV" } else { b" dD" })?;
@@ -186,7 +193,8 @@ fn write_time(time: u32, out: &mut Vec<u8>) -> Result<(), WantOfMemory>
 // ` uUSER`
 #[tactic(auto, using(crate::proofs::WrittenLemmas::starts_back))]
 fn write_user_name(user: &str, out: &mut Vec<u8>) -> Result<(), WantOfMemory>
-    ensures ok { OnOk result (out.new.items ≡ out.old.items ++ (codes " u" ++ text_text user.now)) }
+    ensures ok { OnOk result
+        (out.new.items ≡ out.old.items ++ (codes " u" ++ escaped_text user.now)) }
     ensures err { OnErr result (StartsWith out.new.items out.old.items) }
 {
     out.extend_from_slice(b" u")?;

@@ -3,20 +3,22 @@
 ghost use Rattle.std.specs.Prelude.{◌≡◌, ◌++◌, IfOk, OnOk, OnErr};
 ghost use Rattle.std.specs.Io.{StartsWith};
 ghost use Rattle.osm_model.specs.Change.{IsWhat};
-ghost use Rattle.osm_opl.specs.Answers.{Finds, Gives};
-ghost use Rattle.osm_opl.specs.Reading.{node_at, node_of, pieces_after, relation_at, way_at, what_at};
-ghost use Rattle.osm_opl.specs.Written.{coordinate_field, members_field, refs_field, tags_field, what_text};
+ghost use Rattle.osm_opl.specs.Steps.Reading.{node_at, node_of, relation_at, way_at, what_at};
+ghost use Rattle.osm_opl.specs.Written.{coordinate_field, members_field, refs_field};
+ghost use Rattle.osm_opl.specs.Written.{tags_field, what_text};
+ghost use Rattle.osm_reading.specs.Pieces.{pieces_after};
+ghost use Rattle.osm_reading.specs.Steps.Answers.{Finds, Gives};
 
-use crate::coordinates::{read_place, write_coordinate};
-use crate::lines::LineError;
+use crate::coordinates::{read_maybe_coordinate, write_coordinate};
+use crate::fields::{last_field, next_field};
 use crate::lists::{read_members, read_refs, read_tags, write_members, write_refs, write_tags};
-use crate::pieces::{last_field, next_field};
 use osm_model::change::What;
 use osm_model::form::Why;
 use osm_model::kind::Kind;
 use osm_model::limits::{MAX_LAT, MAX_LON};
 use osm_model::lists::{Member, Tag, Tags};
 use osm_model::memory::WantOfMemory;
+use osm_reading::refusal::Refusal;
 use std::alloc::Global;
 
 /// What an object of that kind is. The fields of a deletion are read and dropped.
@@ -25,7 +27,7 @@ pub(crate) fn read_what(
     kind: Kind,
     is_visible: bool,
     rest: Option<&[u8]>,
-) -> Result<What, LineError>
+) -> Result<What, Refusal>
     ensures value { Gives (λ w. w) result (what_at kind is_visible (pieces_after 32 rest.entry)) }
     ensures limits { IfOk result (λ w. IsWhat kind w) }
 {
@@ -37,16 +39,16 @@ pub(crate) fn read_what(
 }
 
 // `T.. x.. y..`
-#[tactic(auto, unfolding(crate::specs::Reading::node_at))]
-fn read_node(alloc: Global, is_visible: bool, rest: Option<&[u8]>) -> Result<What, LineError>
+#[tactic(auto, unfolding(crate::specs::Steps::Reading::node_at))]
+fn read_node(alloc: Global, is_visible: bool, rest: Option<&[u8]>) -> Result<What, Refusal>
     ensures { Gives (λ w. w) result (node_at is_visible (pieces_after 32 rest.entry)) }
 {
     let (field, rest) = next_field(rest, b'T')?;
     let tags = read_tags(alloc, field)?;
     let (field, rest) = next_field(rest, b'x')?;
-    let lon = read_place(field, MAX_LON)?;
+    let lon = read_maybe_coordinate(field, MAX_LON)?;
     let field = last_field(rest, b'y')?;
-    let lat = read_place(field, MAX_LAT)?;
+    let lat = read_maybe_coordinate(field, MAX_LAT)?;
     Ok(node_of(is_visible, lon, lat, tags)?)
 }
 
@@ -64,8 +66,8 @@ fn node_of(is_visible: bool, lon: Option<i32>, lat: Option<i32>, tags: Tags) -> 
 }
 
 // `T.. N..`
-#[tactic(auto, unfolding(crate::specs::Reading::way_at))]
-fn read_way(alloc: Global, is_visible: bool, rest: Option<&[u8]>) -> Result<What, LineError>
+#[tactic(auto, unfolding(crate::specs::Steps::Reading::way_at))]
+fn read_way(alloc: Global, is_visible: bool, rest: Option<&[u8]>) -> Result<What, Refusal>
     ensures { Gives (λ w. w) result (way_at is_visible (pieces_after 32 rest.entry)) }
 {
     let (field, rest) = next_field(rest, b'T')?;
@@ -80,8 +82,8 @@ fn read_way(alloc: Global, is_visible: bool, rest: Option<&[u8]>) -> Result<What
 }
 
 // `T.. M..`
-#[tactic(auto, unfolding(crate::specs::Reading::relation_at))]
-fn read_relation(alloc: Global, is_visible: bool, rest: Option<&[u8]>) -> Result<What, LineError>
+#[tactic(auto, unfolding(crate::specs::Steps::Reading::relation_at))]
+fn read_relation(alloc: Global, is_visible: bool, rest: Option<&[u8]>) -> Result<What, Refusal>
     ensures { Gives (λ w. w) result (relation_at is_visible (pieces_after 32 rest.entry)) }
 {
     let (field, rest) = next_field(rest, b'T')?;

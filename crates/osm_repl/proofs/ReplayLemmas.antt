@@ -8,7 +8,7 @@ use Rattle.osm_opl.specs.Lines.{lines_of, is_skipped}
 use Rattle.osm_opl.specs.Pieces.{pieces}
 use Rattle.osm_repl.specs.Replay.{AnswerFault, ReplayFault}
 use Rattle.osm_repl.specs.Script.{IsEventLine, ScriptOf, IsBadLine, SaysSome, said_of}
-use Rattle.osm_repl.specs.declared.event.Event.{Event}
+use Rattle.osm_follow.specs.declared.event.Event.{Event}
 use Rattle.osm_repl.specs.declared.fault.RunFault.{RunFault}
 use Rattle.osm_repl.specs.declared.fault.RunFault.TheVariants.{WantOfMemory, BadScript}
 

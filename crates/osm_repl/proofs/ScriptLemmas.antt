@@ -16,9 +16,9 @@ use Rattle.osm_repl.specs.Reading.{left_of}
 use Rattle.std.specs.Prelude.{IfSome, nat_eq, not, codes, Result, Ok, Err, IfErr}
 use Rattle.osm_repl.specs.Parsing.{IsEditOf, IsCloseOf, IsDeliverOf, Refused}
 use Rattle.osm_repl.specs.Script.{IsEventLine, form_text, SpellsSequence, AreEvents, said_of}
-use Rattle.osm_repl.specs.declared.event.Event.{Event}
-use Rattle.osm_repl.specs.declared.event.Event.TheVariants.{Edit, Close, Deliver, Show}
-use Rattle.osm_repl.specs.declared.event.Form.TheVariants.{Opl}
+use Rattle.osm_follow.specs.declared.event.Event.{Event}
+use Rattle.osm_follow.specs.declared.event.Event.TheVariants.{Edit, Close, Deliver, Show}
+use Rattle.osm_follow.specs.declared.event.Form.TheVariants.{Opl}
 use Rattle.osm_repl.specs.declared.script.LineFault.{LineFault}
 use Rattle.osm_repl.specs.declared.script.LineFault.TheVariants.{WantOfMemory, NoEvent}
 

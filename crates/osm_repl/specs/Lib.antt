@@ -1,15 +1,3 @@
-pub mod Mirror
-pub mod Entries
-pub mod Published
-pub mod Reach
-pub mod Follower
-pub mod View
-pub mod Delivery
-pub mod World
-pub mod Step
-pub mod History
-pub mod Legal
-pub mod Correct
 pub mod Script
 pub mod Replies
 pub mod Replay

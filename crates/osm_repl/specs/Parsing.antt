@@ -3,9 +3,9 @@ use Rattle.std.specs.Prelude.{◌≡◌, ℕ, List, ◌++◌}
 use Rattle.osm_model.specs.Time.{TimeText}
 use Rattle.osm_opl.specs.Line.{SpellsLine}
 use Rattle.osm_repl.specs.Script.{IsBadLine, SaysSome, SpellsSequence, form_text}
-use Rattle.osm_repl.specs.declared.event.Event.{Event}
-use Rattle.osm_repl.specs.declared.event.Event.TheVariants.{Edit, Close, Deliver}
-use Rattle.osm_repl.specs.declared.event.Form.{Form}
+use Rattle.osm_follow.specs.declared.event.Event.{Event}
+use Rattle.osm_follow.specs.declared.event.Event.TheVariants.{Edit, Close, Deliver}
+use Rattle.osm_follow.specs.declared.event.Form.{Form}
 use Rattle.osm_repl.specs.declared.fault.RunFault.{RunFault}
 use Rattle.osm_repl.specs.declared.fault.RunFault.TheVariants as faults
 use Rattle.osm_repl.specs.declared.script.LineFault.{LineFault}

@@ -2,12 +2,12 @@
 use Rattle.std.specs.Prelude.{◌≡◌, ℕ, ◌<◌, List, length, Option, take, IfSome}
 use Rattle.std.specs.Io.KnownBytes.{Consumes, Appends}
 use Rattle.osm_model.specs.Limits.{max_file}
-use Rattle.osm_repl.specs.Correct.{IsRun}
+use Rattle.osm_follow.specs.Correct.{IsRun}
 use Rattle.osm_repl.specs.Replies.{replies_text}
 use Rattle.osm_repl.specs.Script.{ScriptOf, IsBadLine, SaysSome}
-use Rattle.osm_repl.specs.World.{WorldValue}
-use Rattle.osm_repl.specs.declared.event.Event.{Event}
-use Rattle.osm_repl.specs.declared.event.Reply.{Reply}
+use Rattle.osm_follow.specs.World.{WorldValue}
+use Rattle.osm_follow.specs.declared.event.Event.{Event}
+use Rattle.osm_follow.specs.declared.event.Reply.{Reply}
 use Rattle.osm_repl.specs.declared.fault.FileName.TheVariants.{Input, Output}
 use Rattle.osm_repl.specs.declared.fault.RunFault.{RunFault}
 use Rattle.osm_repl.specs.declared.fault.RunFault.TheVariants.{WantOfMemory, ReadFault, WriteFault, TooLarge, BadScript}

@@ -4,10 +4,10 @@ use Rattle.std.specs.List.{flat_map}
 use Rattle.osm_model.specs.Change.{ChangeValue}
 use Rattle.osm_model.specs.CivilTime.{time_text}
 use Rattle.osm_opl.specs.Written.{line_text}
-use Rattle.osm_repl.specs.Mirror.{Counted}
-use Rattle.osm_repl.specs.View.{ViewValue}
-use Rattle.osm_repl.specs.declared.event.Reply.{Reply}
-use Rattle.osm_repl.specs.declared.event.Reply.TheVariants.{Edited, BatchFull, WantOfMemory, Closed, SequenceFull, TimeBack, NotPublished, Broken, Old, TooEarly, Applied, Broke, Shown}
+use Rattle.osm_follow.specs.Mirror.{Counted}
+use Rattle.osm_follow.specs.View.{ViewValue}
+use Rattle.osm_follow.specs.declared.event.Reply.{Reply}
+use Rattle.osm_follow.specs.declared.event.Reply.TheVariants.{Edited, BatchFull, WantOfMemory, Closed, SequenceFull, TimeBack, NotPublished, Broken, Old, TooEarly, Applied, Broke, Shown}
 
 -- `NAME N` and LF
 abbrev pub numbered_line : List ℕ → ℕ → List ℕ

@@ -6,10 +6,10 @@ use Rattle.osm_model.specs.Change.{ChangeValue}
 use Rattle.osm_model.specs.Time.{TimeText}
 use Rattle.osm_opl.specs.Line.{SpellsLine}
 use Rattle.osm_opl.specs.Lines.{lines_of, is_skipped}
-use Rattle.osm_repl.specs.declared.event.Event.{Event}
-use Rattle.osm_repl.specs.declared.event.Event.TheVariants.{Edit, Close, Deliver, Show}
-use Rattle.osm_repl.specs.declared.event.Form.{Form}
-use Rattle.osm_repl.specs.declared.event.Form.TheVariants.{Opl}
+use Rattle.osm_follow.specs.declared.event.Event.{Event}
+use Rattle.osm_follow.specs.declared.event.Event.TheVariants.{Edit, Close, Deliver, Show}
+use Rattle.osm_follow.specs.declared.event.Form.{Form}
+use Rattle.osm_follow.specs.declared.event.Form.TheVariants.{Opl}
 
 -- 1 to 9 digits, zeros in front accepted
 pub record SpellsSequence (digits : List ℕ) (number : ℕ) : Type 0 where

@@ -8,7 +8,7 @@ ghost use Rattle.osm_repl.specs.Replay.{AnswerFault, ReadingFault, ReplayFault, 
 use crate::fault::{FileName, RunFault};
 use crate::replies::write_replies;
 use crate::script::parse_script;
-use crate::world::World;
+use osm_follow::world::World;
 use osm_model::limits::MAX_FILE;
 use std::alloc::Global;
 use std::io::{Read, Write};

@@ -4,8 +4,8 @@ ghost use Rattle.std.specs.Prelude.{◌≡◌, ◌<◌, ◌++◌, ◌∷◌, [],
 ghost use Rattle.std.specs.List.{flat_map};
 ghost use Rattle.osm_repl.specs.Replies.{count_line, counts_text, held_text, number_line, numbered_line, object_line, objects_text, replies_text, reply_text, time_line, view_text};
 
-use crate::event::Reply;
-use crate::view::View;
+use osm_follow::event::Reply;
+use osm_follow::view::View;
 use itoa::Buffer;
 use osm_model::change::Change;
 use osm_model::memory::WantOfMemory;

@@ -6,7 +6,7 @@ ghost use Rattle.std.specs.Prelude.{◌≡◌, ℕ, ◌<◌, ◌++◌, ◌^◌, 
 ghost use Rattle.osm_repl.specs.Parsing.{IsCloseOf, IsDeliverOf, IsEditOf, Refused, ScriptRefused};
 ghost use Rattle.osm_repl.specs.Script.{IsEventLine, ScriptOf, SpellsSequence};
 
-use crate::event::{Event, Form};
+use osm_follow::event::{Event, Form};
 use crate::fault::RunFault;
 use osm_model::time::time_read;
 use osm_opl::lines::{LineError, is_skipped_line, read_line, split_line};

@@ -1,10 +1,8 @@
-use crate::event::{Event, Form, Reply};
+use osm_follow::event::{Event, Form, Reply};
 use crate::fault::{FileName, RunFault};
-use crate::plain::{plain_content_of, plain_edits_by_changeset, plain_edits_by_user};
 use crate::replay::replay_run;
-use crate::world::World;
-use osm_model::kind::{Key, Kind};
-use osm_opl::lines::{read_line, write_line};
+use osm_follow::world::World;
+use osm_opl::lines::read_line;
 use std::alloc::Global;
 use std::io::{self, Read, Write};
 use std::test::Fail;
@@ -60,36 +58,6 @@ fn a_world_takes_the_events_of_a_script_one_by_one(rt: HostRuntime) -> Result<()
     assert_eq!(rt; view.users(), [(5, 1)].as_slice());
     assert_eq!(rt; view.changesets(), [(7, 1)].as_slice());
     assert!(rt; view.held().is_empty());
-    Ok(())
-}
-
-#[test]
-fn the_definitions_say_what_a_person_expects(rt: HostRuntime) -> Result<(), Fail> {
-    let alloc = rt.alloc();
-    for (name, lines, left, users, changesets) in scripts::LEFT {
-        let mut changes = Vec::new(alloc);
-        for line in lines.lines() {
-            changes.push(read_line(alloc, line.as_bytes())?)?;
-        }
-        let key = Key {
-            kind: Kind::Node,
-            id: 1,
-        };
-        match plain_content_of(changes.as_slice(), key) {
-            None => assert!(rt; left.is_empty(), "{name}"),
-            Some(change) => {
-                let mut line = Vec::new(alloc);
-                write_line(change, &mut line)?;
-                assert_eq!(rt; line.as_slice(), left.as_bytes(), "{name}");
-            }
-        }
-        assert_eq!(rt; plain_edits_by_user(changes.as_slice(), 5), users, "{name}");
-        assert_eq!(rt;
-            plain_edits_by_changeset(changes.as_slice(), 7),
-            changesets,
-            "{name}"
-        );
-    }
     Ok(())
 }
 

@@ -1,7 +1,7 @@
 use Rattle.std.proofs.Common.{◌≡◌, true, rules}
-use Rattle.osm_repl.specs.History.{published_of}
-use Rattle.osm_repl.specs.Mirror.{IsMirrorOf}
-use Rattle.osm_repl.specs.Published.{flat, time_at}
+use Rattle.osm_follow.specs.History.{published_of}
+use Rattle.osm_follow.specs.Mirror.{IsMirrorOf}
+use Rattle.osm_follow.specs.Published.{flat, time_at}
 use Rattle.osm_judge.proofs.ViewLemmas.{view_row}
 use Rattle.osm_judge.proofs.views.is_view.Goals as goal
 

@@ -1,0 +1,103 @@
+-- A mirror: the objects that stand, and the edits by user and by changeset, as lists that rise.
+use Rattle.std.specs.Prelude.{◌≡◌, ℕ, ◌+◌, ◌<◌, ◌≤◌, List, [], ◌∷◌, ◌++◌, length, map, Option, Some, None, if◌then◌else◌, unwrap_or, ◌⊎◌}
+use Rattle.std.specs.BTreeMap.{is_at}
+use Rattle.std.specs.List.{AllByRecursion}
+use Rattle.std.specs.List.Sorted.{IsStrictlySortedBy}
+use Rattle.std.specs.Map.{lookup}
+use Rattle.std.specs.Ordering.{nat_cmp}
+use Rattle.osm_model.specs.Change.{ChangeValue}
+use Rattle.osm_model.specs.Content.{content_of, over, standing_of, edits_by_user, edits_by_changeset}
+use Rattle.osm_model.specs.KeyOrder.{key_cmp, same_key}
+use Rattle.osm_model.specs.declared.change.What.{What}
+use Rattle.osm_model.specs.declared.change.What.TheVariants.{Deleted}
+use Rattle.osm_model.specs.declared.kind.Key.{Key}
+
+-- a number with its count of edits
+abbrev pub Counted : Type 0
+Counted = ℕ × ℕ
+
+pub record MirrorValue : Type 0 where
+  pub objects : List ChangeValue
+  pub users : List Counted
+  pub changesets : List Counted
+
+-- the object of a list with that key
+abbrev pub object_at : List ChangeValue → Key → Option ChangeValue
+object_at [] k = None
+object_at (c ∷ cs) k = if same_key k c.key then Some c else object_at cs k
+
+-- the count of a list at that number: 0 where it has none
+abbrev pub count_at : List Counted → ℕ → ℕ
+count_at counts n = unwrap_or (lookup (is_at (nat_cmp n)) counts) 0
+
+-- the keys rise strictly
+abbrev pub AreRising : List ChangeValue → Type 0
+AreRising objects = IsStrictlySortedBy key_cmp (map (λ c. c.key) objects)
+
+-- a count is above 0
+abbrev pub IsAboveZero : Counted → Type 0
+IsAboveZero e = 0 < e.1
+
+-- the numbers rise strictly, and no count is 0
+pub record AreCountsAboveZero (counts : List Counted) : Type 0 where
+  pub rising : IsStrictlySortedBy nat_cmp (map (λ e. e.0) counts)
+  pub above : AllByRecursion IsAboveZero counts
+
+-- the lists of a mirror are in order
+pub record IsOrderly (m : MirrorValue) : Type 0 where
+  pub objects : AreRising m.objects
+  pub users : AreCountsAboveZero m.users
+  pub changesets : AreCountsAboveZero m.changesets
+
+-- these are exactly the objects that the changes leave, and exactly their edits
+pub record IsMirrorOf (changes : List ChangeValue) (m : MirrorValue) : Type 0 where
+  pub orderly : IsOrderly m
+  pub objects : (k : Key) → object_at m.objects k ≡ content_of changes k
+  pub users : (uid : ℕ) → count_at m.users uid ≡ edits_by_user changes uid
+  pub changesets : (id : ℕ) → count_at m.changesets id ≡ edits_by_changeset changes id
+
+-- the mirror with the changes applied in their order, each counted once
+pub record Applies (old : MirrorValue) (changes : List ChangeValue) (new : MirrorValue) : Type 0 where
+  pub orderly : IsOrderly new
+  pub objects : (k : Key) → object_at new.objects k ≡ over (object_at old.objects) changes k
+  pub users : (uid : ℕ) → count_at new.users uid ≡ count_at old.users uid + edits_by_user changes uid
+  pub changesets : (id : ℕ) →
+      count_at new.changesets id ≡ count_at old.changesets id + edits_by_changeset changes id
+
+-- the change needs a new entry for its user, its changeset or its key
+abbrev pub NeedsNewEntry : MirrorValue → List ChangeValue → ChangeValue → Type 0
+NeedsNewEntry m before c =
+    (count_at m.users c.meta.uid ≡ 0)
+    ⊎ (count_at m.changesets c.meta.changeset ≡ 0)
+    ⊎ ((standing_of c ≡ Some c) × (over (object_at m.objects) before c.key ≡ None))
+
+-- some change needs a new entry, after those before it
+pub record NeedsMemory (m : MirrorValue) (changes : List ChangeValue) : Type 0 where
+  pub before : List ChangeValue
+  pub change : ChangeValue
+  pub after : List ChangeValue
+  pub is : changes ≡ before ++ change ∷ after
+  pub place : NeedsNewEntry m before change
+
+-- the change deletes, and its user and its changeset have edits already: such a change needs no new
+-- entry, and so no memory
+pub record IsKnownDeletion (m : MirrorValue) (c : ChangeValue) : Type 0 where
+  pub user : 0 < count_at m.users c.meta.uid
+  pub changeset : 0 < count_at m.changesets c.meta.changeset
+  pub deletes : c.what ≡ Deleted
+
+-- the empty mirror
+abbrev pub no_mirror : MirrorValue
+no_mirror = record { objects = []; users = []; changesets = [] }
+
+-- a mirror that isn't empty
+abbrev pub HoldsSome : MirrorValue → Type 0
+HoldsSome m = 0 < length m.objects + length m.users + length m.changesets
+
+-- every count, and the number of objects, users and changesets, is at most so much
+pub record IsWithin (most : ℕ) (m : MirrorValue) : Type 0 where
+  pub objects : length m.objects ≤ most
+  pub users : length m.users ≤ most
+  pub changesets : length m.changesets ≤ most
+  pub user_counts : (uid : ℕ) → count_at m.users uid ≤ most
+  pub changeset_counts : (id : ℕ) → count_at m.changesets id ≤ most

@@ -1,0 +1,36 @@
+-- What a follower shows of itself.
+use Rattle.std.specs.Prelude.{◌≡◌, ℕ, ◌<◌, List, [], Bool, true, false, Option, Contains, ◌↔◌}
+use Rattle.std.specs.List.Sorted.{IsStrictlySortedBy}
+use Rattle.std.specs.Ordering.{nat_cmp}
+use Rattle.osm_follow.specs.Follower.{FollowerValue}
+use Rattle.osm_follow.specs.Mirror.{MirrorValue, HoldsSome, IsMirrorOf}
+use Rattle.osm_follow.specs.Published.{PublishedValue, changes_up_to, time_at}
+use Rattle.osm_follow.specs.Reach.{Reaches}
+use Rattle.osm_follow.specs.declared.view.ViewError.{ViewError}
+use Rattle.osm_follow.specs.declared.view.ViewError.TheVariants.{Broken, WantOfMemory}
+
+pub record ViewValue : Type 0 where
+  pub number : ℕ
+  pub time : Option ℕ
+  pub mirror : MirrorValue
+  pub held : List ℕ
+
+-- the view of a follower
+abbrev pub view_of : FollowerValue → ViewValue
+view_of f = record { number = f.number; time = f.time; mirror = f.mirror; held = [] }
+
+-- why a follower shows nothing: an empty mirror takes no memory
+abbrev pub ViewRefused : FollowerValue → ViewError → Type 0
+ViewRefused f Broken = f.is_broken ≡ true
+ViewRefused f WantOfMemory = (f.is_broken ≡ false) × HoldsSome f.mirror
+
+-- the view of a follower that started there, and accepted those numbers of what was published: the
+-- objects in the order of their keys, users and changesets with counts above 0 rising, held numbers
+-- rising
+pub record IsView (published : List PublishedValue) (start : ℕ) (is_accepted : ℕ → Bool)
+    (v : ViewValue) : Type 0 where
+  pub reach : Reaches is_accepted start v.number
+  pub time : v.time ≡ time_at published v.number
+  pub mirror : IsMirrorOf (changes_up_to published v.number) v.mirror
+  pub rising : IsStrictlySortedBy nat_cmp v.held
+  pub held : (j : ℕ) → Contains v.held j ↔ ((v.number < j) × (is_accepted j ≡ true))

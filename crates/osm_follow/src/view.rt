@@ -1,0 +1,145 @@
+//! What a follower shows of itself.
+
+ghost use Rattle.std.specs.Prelude.{◌≡◌, IfOk, OnErr, []};
+ghost use Rattle.osm_follow.specs.Mirror.{HoldsSome};
+
+use crate::mirror::Mirror;
+use osm_model::change::Change;
+use osm_model::memory::WantOfMemory;
+use std::alloc::Global;
+use std::marker::Model;
+use thiserror::Error;
+
+/// Why a follower shows nothing of itself.
+#[derive(Clone, Copy, Debug, PartialEq, Eq, Error)]
+pub enum ViewError {
+    /// The follower is broken.
+    #[error("Broken")]
+    Broken,
+    /// Memory was refused.
+    #[error("WantOfMemory")]
+    WantOfMemory,
+}
+
+/// A copy of all that a follower holds: the objects in the order of their keys, the users and the
+/// changesets with their counts of edits, rising, and the numbers that are held, rising.
+#[derive(Debug, Drop)]
+pub struct View {
+    number: u32,
+    time: Option<u32>,
+    objects: Vec<Change>,
+    users: Vec<(u32, u64)>,
+    changesets: Vec<(u32, u64)>,
+    held: Vec<u32>,
+}
+
+impl Model for View {
+    ghost use Rattle.osm_follow.specs.View.{ViewValue};
+
+    ghost Value = { ViewValue };
+
+    ghost view = { λ a. record {
+      number = a.number;
+      time = a.time;
+      mirror = record {
+        objects = a.objects.items;
+        users = a.users.items;
+        changesets = a.changesets.items;
+      };
+      held = a.held.items;
+    } };
+}
+
+impl View {
+    /// A view of these parts.
+    pub fn new(
+        number: u32,
+        time: Option<u32>,
+        objects: Vec<Change>,
+        users: Vec<(u32, u64)>,
+        changesets: Vec<(u32, u64)>,
+        held: Vec<u32>,
+    ) -> View
+        ensures { result ≡ record {
+          number = number;
+          time = time;
+          mirror = record {
+            objects = objects.items;
+            users = users.items;
+            changesets = changesets.items;
+          };
+          held = held.items;
+        } }
+    {
+        View {
+            number,
+            time,
+            objects,
+            users,
+            changesets,
+            held,
+        }
+    }
+
+    /// The view of a follower with that number, time and mirror, which holds nothing.
+    pub(crate) fn of(
+        alloc: Global,
+        number: u32,
+        time: Option<u32>,
+        mirror: &Mirror,
+    ) -> Result<View, WantOfMemory>
+        ensures copies { IfOk result (λ v. v ≡ record {
+          number = number;
+          time = time;
+          mirror = mirror.now;
+          held = [];
+        }) }
+        ensures refused { OnErr result (HoldsSome mirror.now) }
+    {
+        let objects = mirror.objects(alloc)?;
+        let users = mirror.users(alloc)?;
+        let changesets = mirror.changesets(alloc)?;
+        Ok(View::new(number, time, objects, users, changesets, Vec::new(alloc)))
+    }
+
+    pub fn number(&self) -> u32
+        ensures { result ≡ self.now.number }
+    {
+        self.number
+    }
+
+    /// The time of the sequence of that number, in seconds since 1970-01-01T00:00:00Z; none at 0.
+    pub fn time(&self) -> Option<u32>
+        ensures { result ≡ self.now.time }
+    {
+        self.time
+    }
+
+    /// The objects that stand, in the order of their keys.
+    pub fn objects(&self) -> &[Change]
+        ensures { result.now ≡ self.now.mirror.objects }
+    {
+        self.objects.as_slice()
+    }
+
+    /// The users with their counts of edits, rising.
+    pub fn users(&self) -> &[(u32, u64)]
+        ensures { result.now ≡ self.now.mirror.users }
+    {
+        self.users.as_slice()
+    }
+
+    /// The changesets with their counts of edits, rising.
+    pub fn changesets(&self) -> &[(u32, u64)]
+        ensures { result.now ≡ self.now.mirror.changesets }
+    {
+        self.changesets.as_slice()
+    }
+
+    /// The numbers that are held until their turn comes, rising.
+    pub fn held(&self) -> &[u32]
+        ensures { result.now ≡ self.now.held }
+    {
+        self.held.as_slice()
+    }
+}

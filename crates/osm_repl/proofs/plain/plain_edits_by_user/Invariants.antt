@@ -1,6 +1,0 @@
-use Rattle.std.proofs.Common.{◌≡◌, take}
-use Rattle.osm_model.specs.Content.{edits_by_user}
-use Rattle.osm_repl.proofs.plain.plain_edits_by_user.Given as goal
-
-abbrev pub invariant-loop-change : goal.invariant-loop-change
-invariant-loop-change l = l.count ≡ edits_by_user (take l.change-index l.changes) l.uid
