@@ -1,7 +1,8 @@
--- The lines of a text, as of an OPL file or a script.
-use Rattle.std.specs.Prelude.{ℕ, ◌==◌, Bool, true, List, [], ◌∷◌, map, Option, None, Some, if◌then◌else◌}
+-- The lines of a text, as of an OPL file, a script or a state file.
+use Rattle.std.specs.Prelude.{◌≡◌, ℕ, ◌==◌, Bool, true, List, [], ◌∷◌, ◌++◌, map}
+use Rattle.std.specs.Prelude.{Option, None, Some, if◌then◌else◌}
 use Rattle.std.specs.Borrow.{Bor}
-use Rattle.osm_opl.specs.Pieces.{pieces}
+use Rattle.osm_reading.specs.Pieces.{Lacks, pieces}
 
 -- a piece without the CR at its end, if it has one
 abbrev pub without_cr : List ℕ → List ℕ
@@ -13,10 +14,17 @@ without_cr (b ∷ c ∷ bs) = b ∷ without_cr (c ∷ bs)
 abbrev pub lines_of : List ℕ → List (List ℕ)
 lines_of bytes = map without_cr (pieces 10 bytes)
 
--- the lines of what follows an LF, if there is one
+-- the lines of what follows an LF, if anything does
 abbrev pub lines_after : Option (Bor (List ℕ)) → List (List ℕ)
 lines_after None = []
 lines_after (Some rest) = lines_of rest.now
+
+-- the bytes are a line, a CR if it ends with one, LF, and the rest
+pub record BeginsWithLine (bytes line rest : List ℕ) : Type 0 where
+  pub piece : List ℕ
+  pub parts : bytes ≡ piece ++ 10 ∷ rest
+  pub first : Lacks 10 piece
+  pub ending : line ≡ without_cr piece
 
 -- an empty line, or one that begins with `#`, says nothing (our choice)
 abbrev pub is_skipped : List ℕ → Bool

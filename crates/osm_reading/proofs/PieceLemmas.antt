@@ -1,15 +1,23 @@
 -- Where a text is cut, and that pieces that are joined are cut again.
-use Rattle.std.proofs.Common.{◌≡◌, ℕ, zero, suc, ◌+◌, ◌<◌, ◌≤◌, true, false, cond, List, [], ◌∷◌, ◌++◌, length, get_or, take, drop, Option, Some, None, refl, sym, ap, ◌∙◌, arith}
-use Rattle.std.specs.Prelude.{◌≢◌, ◌==◌, IfSome}
+use Rattle.std.proofs.Common.{◌≡◌, ℕ, zero, suc, ◌+◌, ◌<◌, ◌≤◌, true, false, cond, List, [], ◌∷◌, ◌++◌, length, get_or, take, drop, Option, Some, None, refl, sym, ap, subst, ◌∙◌, arith}
+use Rattle.std.specs.Prelude.{◌≢◌, ◌==◌, IfSome, MatchOption}
 use Rattle.std.specs.Borrow.{Bor}
 use Rattle.std.specs.List.{AllByRecursion}
 use Rattle.std.proofs.lemmas.Bool.Decides.{nat_tests}
 use Rattle.std.proofs.lemmas.Option.{some_pair_parts}
 use Rattle.std.proofs.lemmas.List.{append-nil}
-use Rattle.osm_opl.specs.Pieces.{joined, pieces, with_first}
-use Rattle.osm_opl.specs.Lines.{without_cr}
-use Rattle.osm_opl.specs.Reading.{◌>>=◌, alone, cut_at}
-use Rattle.osm_opl.specs.Laws.Steps.{bind_some, bind_none, chosen}
+use Rattle.osm_reading.specs.Pieces.{Lacks, cut_at, joined, pieces, with_before, with_first}
+use Rattle.osm_reading.specs.Lines.{BeginsWithLine, without_cr}
+use Rattle.osm_reading.proofs.StepLemmas.{chosen}
+
+-- what was before a cut, if a byte was put before it
+some_before : (b : ℕ) (r : Option (List ℕ × List ℕ)) (c : List ℕ × List ℕ) → with_before b r ≡ Some c → (x : List ℕ × List ℕ) × (r ≡ Some x) × (Some (b ∷ x.0, x.1) ≡ Some c)
+some_before b (Some x) c e = (x, refl, e)
+some_before b None c e = absurd cc
+
+no_before : (b : ℕ) (r : Option (List ℕ × List ℕ)) → with_before b r ≡ None → r ≡ None
+no_before b None e = refl
+no_before b (Some x) e = absurd cc
 
 pub cut_found : (s : ℕ) (bytes : List ℕ) (i : ℕ) → i < length bytes → get_or bytes i 0 ≡ s → ((k : ℕ) → k < i → get_or bytes k 0 ≢ s) → cut_at s bytes ≡ Some (take i bytes, drop (i + 1) bytes)
 unfolding cut_at
@@ -35,14 +43,14 @@ pub pieces_cut : (s : ℕ) (bytes before rest : List ℕ) → cut_at s bytes ≡
 unfolding cut_at pieces
 pieces_cut s [] before rest e = absurd cc
 pieces_cut s (b ∷ bs) before rest e =
-    chosen (b == s) (Some ([], bs)) (cut_at s bs >>= λ c. Some (b ∷ c.0, c.1)) (Some (before, rest)) e (pieces s (b ∷ bs) ≡ before ∷ pieces s rest)
+    chosen (b == s) (Some ([], bs)) (with_before b (cut_at s bs)) (Some (before, rest)) e (pieces s (b ∷ bs) ≡ before ∷ pieces s rest)
     (λ t is.
     let p = some_pair_parts [] before bs rest is in
     let first : [] ≡ before = p.0 in
     let second : bs ≡ rest = p.1 in
     rw t cc)
     (λ f is.
-    let x = bind_some (cut_at s bs) (λ c. Some (b ∷ c.0, c.1)) (before, rest) is in
+    let x = some_before b (cut_at s bs) (before, rest) is in
     let p = some_pair_parts (b ∷ x.0.0) before x.0.1 rest x.2 in
     let inner : pieces s bs ≡ x.0.0 ∷ pieces s x.0.1 = pieces_cut s bs x.0.0 x.0.1 x.1 in
     let first : b ∷ x.0.0 ≡ before = p.0 in
@@ -54,10 +62,10 @@ pub pieces_whole : (s : ℕ) (bytes : List ℕ) → cut_at s bytes ≡ None → 
 unfolding cut_at pieces
 pieces_whole s [] e = refl
 pieces_whole s (b ∷ bs) e =
-    chosen (b == s) (Some ([], bs)) (cut_at s bs >>= λ c. Some (b ∷ c.0, c.1)) None e (pieces s (b ∷ bs) ≡ (b ∷ bs) ∷ [])
+    chosen (b == s) (Some ([], bs)) (with_before b (cut_at s bs)) None e (pieces s (b ∷ bs) ≡ (b ∷ bs) ∷ [])
     (λ t is. absurd cc)
     (λ f is.
-    let uncut : cut_at s bs ≡ None = bind_none (cut_at s bs) (λ (c : List ℕ × List ℕ). (b ∷ c.0, c.1)) is in
+    let uncut : cut_at s bs ≡ None = no_before b (cut_at s bs) is in
     rw (f, pieces_whole s bs uncut) refl)
 
 -- what a search of the separator says
@@ -81,10 +89,6 @@ pieces_some s (b ∷ bs) =
       | false ↦ let r = pieces_some s bs in (b ∷ r.0, r.1, rw r.2 refl)
     ]
 
--- so a field that something follows isn't the last
-pub not_alone : (s : ℕ) (content rest : List ℕ) → alone (content, pieces s rest) ≡ None
-not_alone s content rest = let r = pieces_some s rest in rw r.2 refl
-
 -- the CR at the end of a line
 without_cr-push : (bytes : List ℕ) (b : ℕ) → without_cr (bytes ++ b ∷ []) ≡ bytes ++ cond (b == 13) [] (b ∷ [])
 without_cr-push [] b = refl
@@ -103,6 +107,8 @@ pub trimmed_nothing : (line : List ℕ) → length line ≡ 0 → without_cr lin
 trimmed_nothing [] e = refl
 trimmed_nothing (b ∷ bs) e = absurd (omega arith)
 
+pub ruleset line_ends = (trimmed, untrimmed, trimmed_nothing)
+
 -- a measure of what is left to read
 abbrev pub bytes_left : Option (Bor (List ℕ)) → ℕ
 bytes_left None = 0
@@ -112,10 +118,6 @@ pub some_pieces : (s : ℕ) (bytes : List ℕ) → 1 ≤ length (pieces s bytes)
 some_pieces s bytes = let r = pieces_some s bytes in rw r.2 (omega arith)
 
 -- ---- pieces that are joined
-
--- a separator stands nowhere in the bytes
-abbrev pub Lacks : ℕ → List ℕ → Type 0
-Lacks s bytes = AllByRecursion (λ b. b ≢ s) bytes
 
 pub lacks_append : (s : ℕ) (xs ys : List ℕ) → Lacks s xs → Lacks s ys → Lacks s (xs ++ ys)
 lacks_append s [] ys p q = q
@@ -189,7 +191,7 @@ pub cut_takes : (s : ℕ) (bytes before after : List ℕ) → cut_at s bytes ≡
 unfolding cut_at
 cut_takes s [] before after e = absurd cc
 cut_takes s (b ∷ bs) before after e =
-    chosen (b == s) (Some ([], bs)) (cut_at s bs >>= λ c. Some (b ∷ c.0, c.1)) (Some (before, after)) e (b ∷ bs ≡ before ++ s ∷ after)
+    chosen (b == s) (Some ([], bs)) (with_before b (cut_at s bs)) (Some (before, after)) e (b ∷ bs ≡ before ++ s ∷ after)
     (λ t is.
     let same : b ≡ s = grind (arith, nat_tests) in
     let p = some_pair_parts [] before bs after is in
@@ -197,7 +199,7 @@ cut_takes s (b ∷ bs) before after e =
     let second : bs ≡ after = p.1 in
     rw (← first) cc)
     (λ f is.
-    let x = bind_some (cut_at s bs) (λ c. Some (b ∷ c.0, c.1)) (before, after) is in
+    let x = some_before b (cut_at s bs) (before, after) is in
     let p = some_pair_parts (b ∷ x.0.0) before x.0.1 after x.2 in
     let first : b ∷ x.0.0 ≡ before = p.0 in
     let second : x.0.1 ≡ after = p.1 in
@@ -227,3 +229,33 @@ cut_absent s bytes e = pieces_whole s bytes e
 pub less_left : (after : Option (Bor (List ℕ))) (n : ℕ) → IfSome after (λ rest. length rest.now < n) → bytes_left after ≤ n
 less_left None n h = omega arith
 less_left (Some rest) n h = omega arith
+
+-- the bytes before the first separator lack it
+pub cut_lacks : (s : ℕ) (bytes before after : List ℕ) → cut_at s bytes ≡ Some (before, after) → Lacks s before
+unfolding cut_at
+cut_lacks s [] before after e = absurd cc
+cut_lacks s (b ∷ bs) before after e =
+    chosen (b == s) (Some ([], bs)) (with_before b (cut_at s bs)) (Some (before, after)) e (Lacks s before)
+    (λ t is.
+    let p = some_pair_parts [] before bs after is in
+    let first : [] ≡ before = p.0 in
+    subst (λ (l : List ℕ). Lacks s l) first tt)
+    (λ f is.
+    let x = some_before b (cut_at s bs) (before, after) is in
+    let p = some_pair_parts (b ∷ x.0.0) before x.0.1 after x.2 in
+    let first : b ∷ x.0.0 ≡ before = p.0 in
+    let other : b ≢ s = grind (arith, nat_tests) in
+    subst (λ (l : List ℕ). Lacks s l) first (other, cut_lacks s bs x.0.0 x.0.1 x.1))
+
+-- the bytes before the first LF are the first line, with its CR
+pub begins_with_line : (bytes piece line rest : List ℕ) → cut_at 10 bytes ≡ Some (piece, rest) → line ≡ without_cr piece → BeginsWithLine bytes line rest
+begins_with_line bytes piece line rest e l = record {
+  piece = piece;
+  parts = cut_takes 10 bytes piece rest e;
+  first = cut_lacks 10 bytes piece rest e;
+  ending = l;
+}
+
+pub after_line : (bytes piece line : List ℕ) (after : Option (Bor (List ℕ))) → MatchOption after ((cut_at 10 bytes ≡ None) × (piece ≡ bytes)) (λ rest. cut_at 10 bytes ≡ Some (piece, rest.now)) → line ≡ without_cr piece → IfSome after (λ rest. BeginsWithLine bytes line rest.now)
+after_line bytes piece line None e l = tt
+after_line bytes piece line (Some rest) e l = begins_with_line bytes piece line rest.now e l

@@ -1,7 +1,7 @@
 use Rattle.std.proofs.Common.{◌+◌, refl}
 use Rattle.std.proofs.lemmas.List.{take_rest}
-use Rattle.osm_opl.specs.Laws.PieceLemmas.{cut_none, is_cut, pieces_whole}
-use Rattle.osm_opl.proofs.pieces.cut.Goals as goal
+use Rattle.osm_reading.proofs.PieceLemmas.{cut_none, is_cut, pieces_whole}
+use Rattle.osm_reading.proofs.pieces.cut.Goals as goal
 
 pub returns-in-Some-clause-first : goal.returns-in-Some-clause-first
 returns-in-Some-clause-first c =

@@ -1,0 +1,4 @@
+pub mod Pieces
+pub mod Lines
+pub mod Sequence
+pub mod Steps
