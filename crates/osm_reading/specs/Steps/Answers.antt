@@ -6,12 +6,12 @@ use Rattle.osm_reading.specs.declared.refusal.Refusal.{Refusal}
 use Rattle.osm_reading.specs.declared.refusal.Refusal.TheVariants.{WantOfMemory, Fault}
 
 -- the next step, if the one before gave something
-unfoldable pub and_then : {A B : Type 0} → Option A → (A → Option B) → Option B
+abbrev pub and_then : {A B : Type 0} → Option A → (A → Option B) → Option B
 and_then (Some x) f = f x
 and_then None f = None
 
 -- the step, if the test holds
-unfoldable pub when : {A : Type 0} → Bool → Option A → Option A
+abbrev pub when : {A : Type 0} → Bool → Option A → Option A
 when true step = step
 when false step = None
 
@@ -29,11 +29,6 @@ Fails (Fault why) reading = reading ≡ None
 abbrev pub Gives : {A B : Type 0} → (A → B) → Result A Refusal → Option B → Type 0
 Gives view (Ok x) reading = reading ≡ Some (view x)
 Gives view (Err refusal) reading = Fails refusal reading
-
--- memory was refused
-abbrev pub IsWant : Refusal → Type 0
-IsWant WantOfMemory = Unit {0}
-IsWant (Fault why) = ⊥
 
 -- memory was not refused
 abbrev pub IsNoWant : Refusal → Type 0

@@ -11,12 +11,14 @@ use Rattle.std.proofs.lemmas.Str.{IsUtf8-append, IsUtf8-encode, IsUtf8-nil, is_u
 use lib.Utf8.{scalar, scalars, encodes}
 use Rattle.osm_model.specs.Text.{IsText}
 use Rattle.osm_opl.specs.Escape.{is_reserved, IsBare, NamesChar, SpellsText, end, bare, escape}
-use Rattle.osm_opl.specs.Pieces.{joined, pieces}
-use Rattle.osm_opl.specs.Reading.{◌>>=◌, escape_at, is_free, run_at, runs_at, text_at}
-use Rattle.osm_opl.specs.Laws.Steps.{both, bind_some, guard_some}
-use Rattle.osm_opl.specs.Laws.PieceLemmas.{Lacks, lacks_append, joined-pieces, pieces-front, pieces-more, with_front}
-use Rattle.osm_opl.specs.Laws.NumberLaws.{digits_lack}
-use Rattle.osm_opl.specs.Laws.EscapeLemmas.{encode_lacks, run_takes, escape_takes, escape_again}
+use Rattle.osm_reading.specs.Pieces.{joined, pieces}
+use Rattle.osm_opl.specs.Steps.Reading.{escape_at, is_free, run_at, runs_at, text_at}
+use Rattle.osm_reading.specs.Steps.Answers.{and_then}
+use Rattle.osm_reading.proofs.StepLemmas.{both_held, some_then, guard_some}
+use Rattle.osm_reading.specs.Pieces.{Lacks}
+use Rattle.osm_reading.proofs.PieceLemmas.{lacks_append, joined-pieces, pieces-front, pieces-more, with_front}
+use Rattle.osm_opl.proofs.NumberLaws.{digits_lack}
+use Rattle.osm_opl.proofs.EscapeLemmas.{encode_lacks, run_takes, escape_takes, escape_again}
 
 reserved_is_ascii : (c : ℕ) → is_reserved c ≡ true → c < 128
 reserved_is_ascii c e = grind (arith, nat_tests)
@@ -34,17 +36,17 @@ bare_in c rest s free = record { scalar = s; free = by_test (is_reserved c) refl
     by_test true e =
         let one : encode_utf8 c ≡ c ∷ [] = encode_ascii c (reserved_is_ascii c e) in
         let test : list_all is_free (c ∷ rest) ≡ true = rw one at free in
-        absurd (no_both (is_reserved c) e (both (is_free c) (list_all is_free rest) test).0)
+        absurd (no_both (is_reserved c) e (both_held (is_free c) (list_all is_free rest) test).0)
 
 free_after : (xs ys : List ℕ) → list_all is_free (xs ++ ys) ≡ true → list_all is_free ys ≡ true
 free_after [] ys e = e
-free_after (x ∷ xs) ys e = free_after xs ys (both (is_free x) (list_all is_free (xs ++ ys)) e).1
+free_after (x ∷ xs) ys e = free_after xs ys (both_held (is_free x) (list_all is_free (xs ++ ys)) e).1
 
 -- a run of bare characters in front of what spells a text
 run_before : (cs bytes text : List ℕ) → scalars cs ≡ true → list_all is_free (encodes cs) ≡ true → SpellsText bytes text → SpellsText (encodes cs ++ bytes) (encodes cs ++ text)
 run_before [] bytes text s free h = h
 run_before (c ∷ cs) bytes text s free h =
-    let p = both (scalar c) (scalars cs) s in
+    let p = both_held (scalar c) (scalars cs) s in
     let inner = run_before cs bytes text p.1 (free_after (encode_utf8 c) (encodes cs) free) h in
     rw (append_assoc (encode_utf8 c) (encodes cs) bytes, append_assoc (encode_utf8 c) (encodes cs) text) (bare c (encodes cs ++ bytes) (encodes cs ++ text) (bare_in c (encodes cs) p.0 free) inner)
 
@@ -61,14 +63,14 @@ runs_take (run ∷ []) text e =
     let plain : SpellsText run run = rw (append-nil run) at h in
     rw r.0 plain
 runs_take (run ∷ digits ∷ []) text e =
-    let a = bind_some (run_at run) (λ (r : List ℕ). ◌>>=◌ {A = ℕ} {B = List ℕ} (escape_at digits) (λ c. ◌>>=◌ {A = List ℕ} {B = List ℕ} (runs_at []) (λ t. Some (r ++ encode_utf8 c ++ t)))) text e in
-    let b = bind_some (escape_at digits) (λ (c : ℕ). ◌>>=◌ {A = List ℕ} {B = List ℕ} (runs_at []) (λ t. Some (a.0 ++ encode_utf8 c ++ t))) text a.2 in
+    let a = some_then (run_at run) (λ (r : List ℕ). and_then {A = ℕ} {B = List ℕ} (escape_at digits) (λ c. and_then {A = List ℕ} {B = List ℕ} (runs_at []) (λ t. Some (r ++ encode_utf8 c ++ t)))) text e in
+    let b = some_then (escape_at digits) (λ (c : ℕ). and_then {A = List ℕ} {B = List ℕ} (runs_at []) (λ t. Some (a.0 ++ encode_utf8 c ++ t))) text a.2 in
     let z : None ≡ Some text = b.2 in
     absurd cc
 runs_take (run ∷ digits ∷ next ∷ more) text e =
-    let a = bind_some (run_at run) (λ (r : List ℕ). ◌>>=◌ {A = ℕ} {B = List ℕ} (escape_at digits) (λ c. ◌>>=◌ {A = List ℕ} {B = List ℕ} (runs_at (next ∷ more)) (λ t. Some (r ++ encode_utf8 c ++ t)))) text e in
-    let b = bind_some (escape_at digits) (λ (c : ℕ). ◌>>=◌ {A = List ℕ} {B = List ℕ} (runs_at (next ∷ more)) (λ t. Some (a.0 ++ encode_utf8 c ++ t))) text a.2 in
-    let d = bind_some (runs_at (next ∷ more)) (λ (t : List ℕ). Some (a.0 ++ encode_utf8 b.0 ++ t)) text b.2 in
+    let a = some_then (run_at run) (λ (r : List ℕ). and_then {A = ℕ} {B = List ℕ} (escape_at digits) (λ c. and_then {A = List ℕ} {B = List ℕ} (runs_at (next ∷ more)) (λ t. Some (r ++ encode_utf8 c ++ t)))) text e in
+    let b = some_then (escape_at digits) (λ (c : ℕ). and_then {A = List ℕ} {B = List ℕ} (runs_at (next ∷ more)) (λ t. Some (a.0 ++ encode_utf8 c ++ t))) text a.2 in
+    let d = some_then (runs_at (next ∷ more)) (λ (t : List ℕ). Some (a.0 ++ encode_utf8 b.0 ++ t)) text b.2 in
     let r = run_takes run a.0 a.1 in
     let n : NamesChar digits b.0 = escape_takes digits b.0 b.1 in
     let inner : SpellsText (joined 37 (next ∷ more)) d.0 = runs_take (next ∷ more) d.0 d.1 in
@@ -80,7 +82,7 @@ runs_take (run ∷ digits ∷ next ∷ more) text e =
 pub text_takes : (bytes text : List ℕ) → text_at bytes ≡ Some text → SpellsText bytes text
 unfolding text_at
 text_takes bytes text e =
-    let x = bind_some (runs_at (pieces 37 bytes)) (λ (t : List ℕ). cond (leb (length t) 1020) (Some t) None) text e in
+    let x = some_then (runs_at (pieces 37 bytes)) (λ (t : List ℕ). cond (leb (length t) 1020) (Some t) None) text e in
     let g = guard_some (leb (length x.0) 1020) (Some x.0) text x.2 in
     let same : x.0 ≡ text = same_Some x.0 text g.1 in
     let h : SpellsText (joined 37 (pieces 37 bytes)) x.0 = runs_take (pieces 37 bytes) x.0 x.1 in
@@ -94,7 +96,7 @@ high_free b h = let e : is_reserved b ≡ false = grind (arith, nat_tests) in rw
 free_append : (xs ys : List ℕ) → list_all is_free xs ≡ true → list_all is_free ys ≡ true → list_all is_free (xs ++ ys) ≡ true
 free_append [] ys p q = q
 free_append (x ∷ xs) ys p q =
-    let h = both (is_free x) (list_all is_free xs) p in
+    let h = both_held (is_free x) (list_all is_free xs) p in
     rw (h.0) (free_append xs ys h.1 q)
 
 encode_free : (c : ℕ) → IsBare c → list_all is_free (encode_utf8 c) ≡ true
@@ -125,9 +127,9 @@ runs_longer : (c : ℕ) (ps : List (List ℕ)) (text : List ℕ) → IsBare c �
 runs_longer c [] text h e = absurd cc
 runs_longer c (run ∷ []) text h e = run_longer c run text h e
 runs_longer c (run ∷ digits ∷ more) text h e =
-    let a = bind_some (run_at run) (λ (r : List ℕ). ◌>>=◌ {A = ℕ} {B = List ℕ} (escape_at digits) (λ c. ◌>>=◌ {A = List ℕ} {B = List ℕ} (runs_at more) (λ t. Some (r ++ encode_utf8 c ++ t)))) text e in
-    let b = bind_some (escape_at digits) (λ (c : ℕ). ◌>>=◌ {A = List ℕ} {B = List ℕ} (runs_at more) (λ t. Some (a.0 ++ encode_utf8 c ++ t))) text a.2 in
-    let d = bind_some (runs_at more) (λ (t : List ℕ). Some (a.0 ++ encode_utf8 b.0 ++ t)) text b.2 in
+    let a = some_then (run_at run) (λ (r : List ℕ). and_then {A = ℕ} {B = List ℕ} (escape_at digits) (λ c. and_then {A = List ℕ} {B = List ℕ} (runs_at more) (λ t. Some (r ++ encode_utf8 c ++ t)))) text e in
+    let b = some_then (escape_at digits) (λ (c : ℕ). and_then {A = List ℕ} {B = List ℕ} (runs_at more) (λ t. Some (a.0 ++ encode_utf8 c ++ t))) text a.2 in
+    let d = some_then (runs_at more) (λ (t : List ℕ). Some (a.0 ++ encode_utf8 b.0 ++ t)) text b.2 in
     let value : a.0 ++ encode_utf8 b.0 ++ d.0 ≡ text = same_Some (a.0 ++ encode_utf8 b.0 ++ d.0) text d.2 in
     let regroup : encode_utf8 c ++ a.0 ++ encode_utf8 b.0 ++ d.0 ≡ encode_utf8 c ++ (a.0 ++ encode_utf8 b.0 ++ d.0) = four_parts (encode_utf8 c) a.0 (encode_utf8 b.0) d.0 in
     runs_of (encode_utf8 c ++ run) digits more (encode_utf8 c ++ a.0) b.0 d.0 (run_longer c run a.0 h a.1) b.1 d.1 ∙ ap (λ (l : List ℕ). Some l) (regroup ∙ ap (λ (l : List ℕ). encode_utf8 c ++ l) value)

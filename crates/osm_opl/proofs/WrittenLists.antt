@@ -10,11 +10,11 @@ use Rattle.osm_model.specs.Lists.{IsTag}
 use Rattle.osm_model.specs.declared.lists.Member.{Member}
 use Rattle.osm_model.specs.declared.lists.Tag.{Tag}
 use Rattle.osm_opl.specs.Lists.{Each, none as no_items, item, SpellsList, empty, items, SpellsTag, SpellsRef, SpellsMember}
-use Rattle.osm_opl.specs.Pieces.{joined}
+use Rattle.osm_reading.specs.Pieces.{joined}
 use Rattle.osm_opl.specs.Written.{items_text, member_text, more_items, ref_text, tag_text, text_text}
-use Rattle.osm_opl.specs.Laws.ListLaws.{IsMember, members_join}
-use Rattle.osm_opl.specs.Laws.WrittenNumbers.{id_spells}
-use Rattle.osm_opl.specs.Laws.WrittenTexts.{text_is_spelled}
+use Rattle.osm_opl.proofs.ListLaws.{IsMember, members_join}
+use Rattle.osm_opl.proofs.WrittenNumbers.{id_spells}
+use Rattle.osm_opl.proofs.WrittenTexts.{text_is_spelled}
 
 joined_items : {X : Type 0} (text : X → List ℕ) (p : List ℕ) (xs : List X) → joined 44 (p ∷ map text xs) ≡ p ++ more_items text xs
 joined_items text p [] = sym (append-nil p)

@@ -6,7 +6,7 @@ use Rattle.std.specs.List.{AllByRecursion}
 use Rattle.std.specs.Str.{chars}
 use Rattle.std.specs.Str.Parse.{AllDigits, digits_value, digits_value_after}
 use lib.Utf8.{scalar, scalars, scalar_cases, encodes}
-use Rattle.osm_opl.specs.Laws.Steps.{both}
+use Rattle.osm_reading.proofs.StepLemmas.{both_held}
 use Rattle.std.proofs.Math.Nat.{pow-suc, one-le-pow, mod-lt, mod-eq_of_lt, mul-add-mod_self_left, mul-le-mul_left}
 use Rattle.std.proofs.lemmas.Bool.{cases_lt}
 use Rattle.std.proofs.lemmas.Bool.Decides.{nat_tests}
@@ -113,7 +113,7 @@ char_spells c bytes text s other h = by_test (is_written_bare c) refl
 chars_spell : (cs : List ℕ) → scalars cs ≡ true → AllByRecursion (λ c. c ≢ 0) cs → SpellsText (chars_text cs) (encodes cs)
 chars_spell [] s h = end
 chars_spell (c ∷ cs) s h =
-    let p = both (scalar c) (scalars cs) s in
+    let p = both_held (scalar c) (scalars cs) s in
     char_spells c (chars_text cs) (encodes cs) p.0 h.0 (chars_spell cs p.1 h.1)
 
 chars_no_nul : (cs : List ℕ) → ¬ Contains (encodes cs) 0 → AllByRecursion (λ c. c ≢ 0) cs

@@ -15,13 +15,16 @@ use Rattle.osm_model.specs.declared.lists.Tag.{Tag}
 use Rattle.std.specs.Char.{digit_value}
 use Rattle.osm_opl.specs.Escape.{is_reserved}
 use Rattle.osm_opl.specs.Lists.{Each, none, item, SpellsList, empty, items, letter_of, SpellsTag, SpellsRef, SpellsMember}
-use Rattle.osm_opl.specs.Pieces.{joined, pieces}
-use Rattle.osm_opl.specs.Reading.{◌>>=◌, cut_at, each_at, id_at, kind_at, list_at, list_pieces, member_after, member_at, ref_at, tag_at, text_at}
-use Rattle.osm_opl.specs.Laws.Steps.{bind_some, guard_some, chosen}
-use Rattle.osm_opl.specs.Laws.PieceLemmas.{Lacks, cut_takes, cut_again, joined-pieces, lacks_append, pieces-joined, pieces_some}
-use Rattle.osm_opl.specs.Laws.NumberLaws.{id_takes, id_again, id_lacks, TakesId}
-use Rattle.osm_opl.specs.Laws.EscapeLemmas.{text_is}
-use Rattle.osm_opl.specs.Laws.EscapeLaws.{text_takes, text_again, text_lacks}
+use Rattle.osm_reading.specs.Pieces.{joined, pieces}
+use Rattle.osm_opl.specs.Steps.Reading.{each_at, id_at, kind_at, list_at, list_pieces, member_after, member_at, ref_at, tag_at, text_at}
+use Rattle.osm_reading.specs.Steps.Answers.{and_then}
+use Rattle.osm_reading.specs.Pieces.{cut_at}
+use Rattle.osm_reading.proofs.StepLemmas.{some_then, guard_some, chosen}
+use Rattle.osm_reading.specs.Pieces.{Lacks}
+use Rattle.osm_reading.proofs.PieceLemmas.{cut_takes, cut_again, joined-pieces, lacks_append, pieces-joined, pieces_some}
+use Rattle.osm_opl.proofs.NumberLaws.{id_takes, id_again, id_lacks, TakesId}
+use Rattle.osm_opl.proofs.EscapeLemmas.{text_is}
+use Rattle.osm_opl.proofs.EscapeLaws.{text_takes, text_again, text_lacks}
 
 -- a space, a line feed or a carriage return
 pub record IsBlank (s : ℕ) : Type 0 where
@@ -41,8 +44,8 @@ pub record ReadsItems {X : Type 0} (read : List ℕ → Option X) (Spells : List
 each_takes : {X : Type 0} (read : List ℕ → Option X) (Spells : List ℕ → X → Type 0) (Limits : X → Type 0) → ReadsItems read Spells Limits → (ps : List (List ℕ)) (xs : List X) → each_at read ps ≡ Some xs → Each Spells ps xs × AllByRecursion Limits xs
 each_takes {X} read Spells Limits r [] xs e = let same : [] ≡ xs = same_Some [] xs e in rw (← same) (none, tt)
 each_takes {X} read Spells Limits r (p ∷ ps) xs e =
-    let a = bind_some (read p) (λ (x : X). ◌>>=◌ {A = List X} {B = List X} (each_at read ps) (λ ys. Some (x ∷ ys))) xs e in
-    let b = bind_some (each_at read ps) (λ (ys : List X). Some (a.0 ∷ ys)) xs a.2 in
+    let a = some_then (read p) (λ (x : X). and_then {A = List X} {B = List X} (each_at read ps) (λ ys. Some (x ∷ ys))) xs e in
+    let b = some_then (each_at read ps) (λ (ys : List X). Some (a.0 ∷ ys)) xs a.2 in
     let same : a.0 ∷ b.0 ≡ xs = same_Some (a.0 ∷ b.0) xs b.2 in
     let inner = each_takes read Spells Limits r ps b.0 b.1 in
     rw (← same) (item p ps a.0 b.0 (r.takes p a.0 a.1) inner.0, (r.limits p a.0 a.1, inner.1))
@@ -80,7 +83,7 @@ list_spelled {X} read Spells Limits r (b ∷ bs) xs e =
 pub list_takes : {X : Type 0} (read : List ℕ → Option X) (Spells : List ℕ → X → Type 0) (Limits : X → Type 0) → ReadsItems read Spells Limits → (most : ℕ) (bytes : List ℕ) (xs : List X) → list_at read most bytes ≡ Some xs → TakesList Spells Limits most bytes xs
 unfolding list_at
 list_takes {X} read Spells Limits r most bytes xs e =
-    let x = bind_some (each_at read (list_pieces bytes)) (λ (xs : List X). cond (leb (length xs) most) (Some xs) None) xs e in
+    let x = some_then (each_at read (list_pieces bytes)) (λ (xs : List X). cond (leb (length xs) most) (Some xs) None) xs e in
     let g = guard_some (leb (length x.0) most) (Some x.0) xs x.2 in
     let t : leb (length x.0) most ≡ true = g.0 in
     let few : length x.0 ≤ most = grind (arith, nat_tests) in
@@ -118,9 +121,9 @@ list_lacks read Spells Limits r s b _ _ (items p ps xs each) = joined_lacks 44 s
 tag_taken : (p : List ℕ) (t : Tag) → tag_at p ≡ Some t → SpellsTag p t × IsTag t
 unfolding tag_at
 tag_taken p t e =
-    let c = bind_some (cut_at 61 p) (λ (c : List ℕ × List ℕ). ◌>>=◌ {A = List ℕ} {B = Tag} (text_at c.0) (λ key. ◌>>=◌ {A = List ℕ} {B = Tag} (text_at c.1) (λ value. Some (record { key = key; value = value })))) t e in
-    let k = bind_some (text_at c.0.0) (λ (key : List ℕ). ◌>>=◌ {A = List ℕ} {B = Tag} (text_at c.0.1) (λ value. Some (record { key = key; value = value }))) t c.2 in
-    let v = bind_some (text_at c.0.1) (λ (value : List ℕ). Some (let u : Tag = record { key = k.0; value = value } in u)) t k.2 in
+    let c = some_then (cut_at 61 p) (λ (c : List ℕ × List ℕ). and_then {A = List ℕ} {B = Tag} (text_at c.0) (λ key. and_then {A = List ℕ} {B = Tag} (text_at c.1) (λ value. Some (record { key = key; value = value })))) t e in
+    let k = some_then (text_at c.0.0) (λ (key : List ℕ). and_then {A = List ℕ} {B = Tag} (text_at c.0.1) (λ value. Some (record { key = key; value = value }))) t c.2 in
+    let v = some_then (text_at c.0.1) (λ (value : List ℕ). Some (let u : Tag = record { key = k.0; value = value } in u)) t k.2 in
     let made : Tag = record { key = k.0; value = v.0 } in
     let same : made ≡ t = same_Some made t v.2 in
     let P : Tag → Type 0 = λ u. SpellsTag p u × IsTag u in
@@ -200,10 +203,10 @@ member_taken : (p : List ℕ) (m : Member) → member_at p ≡ Some m → Spells
 unfolding member_at
 member_taken [] m e = absurd cc
 member_taken (b ∷ bs) m e =
-    let k = bind_some (kind_at b) (member_after bs) m e in
-    let c = bind_some (cut_at 64 bs) (λ (c : List ℕ × List ℕ). ◌>>=◌ {A = ℤ} {B = Member} (id_at c.0) (λ id. ◌>>=◌ {A = List ℕ} {B = Member} (text_at c.1) (λ role. Some (record { key = record { kind = k.0; id = id }; role = role })))) m k.2 in
-    let i = bind_some (id_at c.0.0) (λ (id : ℤ). ◌>>=◌ {A = List ℕ} {B = Member} (text_at c.0.1) (λ role. Some (record { key = record { kind = k.0; id = id }; role = role }))) m c.2 in
-    let r = bind_some (text_at c.0.1) (λ (role : List ℕ). Some (let u : Member = record { key = record { kind = k.0; id = i.0 }; role = role } in u)) m i.2 in
+    let k = some_then (kind_at b) (member_after bs) m e in
+    let c = some_then (cut_at 64 bs) (λ (c : List ℕ × List ℕ). and_then {A = ℤ} {B = Member} (id_at c.0) (λ id. and_then {A = List ℕ} {B = Member} (text_at c.1) (λ role. Some (record { key = record { kind = k.0; id = id }; role = role })))) m k.2 in
+    let i = some_then (id_at c.0.0) (λ (id : ℤ). and_then {A = List ℕ} {B = Member} (text_at c.0.1) (λ role. Some (record { key = record { kind = k.0; id = id }; role = role }))) m c.2 in
+    let r = some_then (text_at c.0.1) (λ (role : List ℕ). Some (let u : Member = record { key = record { kind = k.0; id = i.0 }; role = role } in u)) m i.2 in
     let made : Member = record { key = record { kind = k.0; id = i.0 }; role = r.0 } in
     let same : made ≡ m = same_Some made m r.2 in
     let letter : b ≡ letter_of k.0 = kind_taken b k.0 k.1 in

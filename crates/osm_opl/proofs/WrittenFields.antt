@@ -14,10 +14,10 @@ use Rattle.osm_model.specs.declared.kind.Kind.TheVariants.{Node, Way, Relation}
 use Rattle.osm_model.specs.CivilTime.{time_text}
 use Rattle.osm_opl.specs.Line.{SpellsWhat, node, way, relation, deleted_node, deleted_way, deleted_relation, absent, status_text}
 use Rattle.osm_opl.specs.Lists.{empty, letter_of}
-use Rattle.osm_opl.specs.Pieces.{joined}
+use Rattle.osm_reading.specs.Pieces.{joined}
 use Rattle.osm_opl.specs.Written.{coordinate_text, items_text, line_text, member_text, meta_text, ref_text, tag_text, text_text, what_text}
-use Rattle.osm_opl.specs.Laws.WrittenNumbers.{coordinate_spells}
-use Rattle.osm_opl.specs.Laws.WrittenLists.{tags_spell, refs_spell, members_spell}
+use Rattle.osm_opl.proofs.WrittenNumbers.{coordinate_spells}
+use Rattle.osm_opl.proofs.WrittenLists.{tags_spell, refs_spell, members_spell}
 
 -- fields with a space before each
 spaced : List (List ℕ) → List ℕ

@@ -7,30 +7,33 @@ use Rattle.osm_model.specs.Meta.{MetaValue}
 use Rattle.osm_model.specs.declared.change.What.{What}
 use Rattle.osm_model.specs.declared.kind.Key.{Key}
 use Rattle.osm_model.specs.declared.kind.Kind.{Kind}
-use Rattle.osm_opl.specs.Answers.{Gives, IsMemory, LineRefused}
-use Rattle.osm_opl.specs.declared.lines.LineError.{LineError}
-use Rattle.osm_opl.specs.declared.lines.LineError.TheVariants.{WantOfMemory, Fault}
-use Rattle.osm_opl.specs.Line.{SpellsLine}
+use Rattle.osm_reading.specs.Refusal.{IsWant}
+use Rattle.osm_reading.specs.Steps.Answers.{Gives}
+use Rattle.osm_reading.specs.declared.refusal.Refusal.{Refusal}
+use Rattle.osm_reading.specs.declared.refusal.Refusal.TheVariants.{WantOfMemory, Fault}
+use Rattle.osm_opl.specs.Line.{LineRefused, SpellsLine}
 use Rattle.osm_opl.specs.Lists.{letter_of}
-use Rattle.osm_opl.specs.Pieces.{joined, pieces}
+use Rattle.osm_reading.specs.Pieces.{joined, pieces}
 use Rattle.osm_opl.specs.Written.{visible_text}
-use Rattle.osm_opl.specs.Reading.{◌>>=◌, head_at, key_at, line_at, what_at}
-use Rattle.osm_opl.specs.Laws.Steps.{bind_some}
-use Rattle.osm_opl.specs.Laws.PieceLemmas.{Lacks, joined-pieces, pieces-joined}
-use Rattle.osm_opl.specs.Laws.ListLaws.{IsBlank, space, joined_lacks}
-use Rattle.osm_opl.specs.Laws.FieldLaws.{key_takes, key_again}
-use Rattle.osm_opl.specs.Laws.MetaLaws.{SpellsHead, head_takes, head_again}
-use Rattle.osm_opl.specs.Laws.ObjectLaws.{is_standing, status_is, what_takes, what_again}
-use Rattle.osm_opl.specs.Laws.BlankLemmas.{fields_of, fields_lack}
+use Rattle.osm_opl.specs.Steps.Reading.{head_at, key_at, line_at, what_at}
+use Rattle.osm_reading.specs.Steps.Answers.{and_then}
+use Rattle.osm_reading.proofs.StepLemmas.{some_then}
+use Rattle.osm_reading.specs.Pieces.{Lacks}
+use Rattle.osm_reading.proofs.PieceLemmas.{joined-pieces, pieces-joined}
+use Rattle.osm_opl.proofs.ListLaws.{IsBlank, space, joined_lacks}
+use Rattle.osm_opl.proofs.FieldLaws.{key_takes, key_again}
+use Rattle.osm_opl.proofs.MetaLaws.{SpellsHead, head_takes, head_again}
+use Rattle.osm_opl.proofs.ObjectLaws.{is_standing, status_is, what_takes, what_again}
+use Rattle.osm_opl.proofs.BlankLemmas.{fields_of, fields_lack}
 
 -- ---- what is read is spelled
 
 pub line_takes : (line : List ℕ) (c : ChangeValue) → line_at line ≡ Some c → SpellsLine line c
 unfolding line_at
 line_takes line c e =
-    let k = bind_some (key_at (pieces 32 line)) (λ (k : Key × List (List ℕ)). ◌>>=◌ {A = Bool × MetaValue × List (List ℕ)} {B = ChangeValue} (head_at k.1) (λ (h : Bool × MetaValue × List (List ℕ)). ◌>>=◌ {A = What} {B = ChangeValue} (what_at k.0.kind h.0 h.2) (λ (w : What). Some (record { key = k.0; meta = h.1; what = w })))) c e in
-    let h = bind_some (head_at k.0.1) (λ (h : Bool × MetaValue × List (List ℕ)). ◌>>=◌ {A = What} {B = ChangeValue} (what_at k.0.0.kind h.0 h.2) (λ (w : What). Some (record { key = k.0.0; meta = h.1; what = w }))) c k.2 in
-    let w = bind_some (what_at k.0.0.kind h.0.0 h.0.2) (λ (w : What). Some (record { key = k.0.0; meta = h.0.1; what = w })) c h.2 in
+    let k = some_then (key_at (pieces 32 line)) (λ (k : Key × List (List ℕ)). and_then {A = Bool × MetaValue × List (List ℕ)} {B = ChangeValue} (head_at k.1) (λ (h : Bool × MetaValue × List (List ℕ)). and_then {A = What} {B = ChangeValue} (what_at k.0.kind h.0 h.2) (λ (w : What). Some (record { key = k.0; meta = h.1; what = w })))) c e in
+    let h = some_then (head_at k.0.1) (λ (h : Bool × MetaValue × List (List ℕ)). and_then {A = What} {B = ChangeValue} (what_at k.0.0.kind h.0 h.2) (λ (w : What). Some (record { key = k.0.0; meta = h.1; what = w }))) c k.2 in
+    let w = some_then (what_at k.0.0.kind h.0.0 h.0.2) (λ (w : What). Some (record { key = k.0.0; meta = h.0.1; what = w })) c h.2 in
     let made : ChangeValue = record { key = k.0.0; meta = h.0.1; what = w.0 } in
     let tk = key_takes (pieces 32 line) k.0 k.1 in
     let th = head_takes k.0.1 h.0 h.1 in
@@ -95,20 +98,20 @@ one_change line a b p q = same_Some a b (sym (line_again line a p) ∙ line_agai
 
 -- ---- what a reader answers
 
-pub what_limits : (kind : Kind) (is_visible : Bool) (fields : List (List ℕ)) (r : Result What LineError) → Gives (λ w. w) r (what_at kind is_visible fields) → IfOk r (λ w. IsWhat kind w)
+pub what_limits : (kind : Kind) (is_visible : Bool) (fields : List (List ℕ)) (r : Result What Refusal) → Gives (λ w. w) r (what_at kind is_visible fields) → IfOk r (λ w. IsWhat kind w)
 what_limits kind is_visible fields (Ok w) e = (what_takes kind is_visible fields w e).limits
 what_limits kind is_visible fields (Err error) e = tt
 
-pub line_spelled : (line : List ℕ) (r : Result ChangeValue LineError) → Gives (λ c. c) r (line_at line) → IfOk r (λ c. SpellsLine line c)
+pub line_spelled : (line : List ℕ) (r : Result ChangeValue Refusal) → Gives (λ c. c) r (line_at line) → IfOk r (λ c. SpellsLine line c)
 line_spelled line (Ok c) h = line_takes line c h
 line_spelled line (Err e) h = tt
 
-pub line_refused : (line : List ℕ) (r : Result ChangeValue LineError) → Gives (λ c. c) r (line_at line) → IfErr r (LineRefused line)
+pub line_refused : (line : List ℕ) (r : Result ChangeValue Refusal) → Gives (λ c. c) r (line_at line) → IfErr r (LineRefused line)
 line_refused line (Ok c) h = tt
 line_refused line (Err WantOfMemory) h = tt
 line_refused line (Err (Fault why)) h = λ c s. let e = line_again line c s in let z : None ≡ Some c = sym h ∙ e in absurd cc
 
-pub line_only : (line : List ℕ) (r : Result ChangeValue LineError) → Gives (λ c. c) r (line_at line) → (c : ChangeValue) → SpellsLine line c → MatchResult r (λ d. d ≡ c) IsMemory
+pub line_only : (line : List ℕ) (r : Result ChangeValue Refusal) → Gives (λ c. c) r (line_at line) → (c : ChangeValue) → SpellsLine line c → MatchResult r (λ d. d ≡ c) IsWant
 line_only line (Ok d) h c s = same_Some d c (sym h ∙ line_again line c s)
 line_only line (Err WantOfMemory) h c s = tt
 line_only line (Err (Fault why)) h c s = absurd (line_refused line (Err (Fault why)) h c s)

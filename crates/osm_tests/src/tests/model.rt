@@ -1,10 +1,12 @@
-use crate::batch::Batch;
-use crate::change::{Change, ChangeError};
-use crate::form::{FormError, Why};
-use crate::lists::{Tag, Tags};
-use crate::meta::{Meta, OutOfRange};
-use crate::text::{Text, TextError};
-use crate::time::{time_read, time_write};
+//! Tests of the values of osm_model: copies, refusals, calendar times, texts of faults.
+
+use osm_model::batch::Batch;
+use osm_model::change::{Change, ChangeError};
+use osm_model::form::{FormError, Why};
+use osm_model::lists::{Tag, Tags};
+use osm_model::meta::{Meta, OutOfRange};
+use osm_model::text::{Text, TextError};
+use osm_model::time::{time_read, time_write};
 use std::alloc::Global;
 use std::test::Fail;
 

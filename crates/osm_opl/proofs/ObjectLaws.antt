@@ -15,11 +15,12 @@ use Rattle.osm_model.specs.declared.lists.Tag.{Tag}
 use Rattle.osm_opl.specs.Line.{SpellsWhat, node, way, relation, deleted_node, deleted_way, deleted_relation, status_text}
 use Rattle.osm_opl.specs.Lists.{SpellsList, SpellsTag, SpellsRef, SpellsMember}
 use Rattle.osm_opl.specs.Written.{visible_text}
-use Rattle.osm_opl.specs.Reading.{◌>>=◌, field_at, last_field_at, list_at, member_at, node_at, node_of, place_at, ref_at, relation_at, tag_at, way_at, what_at}
-use Rattle.osm_opl.specs.Laws.Steps.{bind_some}
-use Rattle.osm_opl.specs.Laws.ListLaws.{IsMember, TakesList, list_takes, list_again, members_split, members_join, members_read, refs_read, tags_read}
-use Rattle.osm_opl.specs.Laws.FieldLaws.{field_takes, field_again, last_field_takes, last_field_again}
-use Rattle.osm_opl.specs.Laws.PlaceLaws.{IsPlaceText, place_takes, place_again, longitude_text, latitude_text, longitude_read, latitude_read}
+use Rattle.osm_opl.specs.Steps.Reading.{field_at, last_field_at, list_at, member_at, node_at, node_of, place_at, ref_at, relation_at, tag_at, way_at, what_at}
+use Rattle.osm_reading.specs.Steps.Answers.{and_then}
+use Rattle.osm_reading.proofs.StepLemmas.{some_then}
+use Rattle.osm_opl.proofs.ListLaws.{IsMember, TakesList, list_takes, list_again, members_split, members_join, members_read, refs_read, tags_read}
+use Rattle.osm_opl.proofs.FieldLaws.{field_takes, field_again, last_field_takes, last_field_again}
+use Rattle.osm_opl.proofs.PlaceLaws.{IsPlaceText, place_takes, place_again, longitude_text, latitude_text, longitude_read, latitude_read}
 
 -- ---- what is read is spelled
 
@@ -52,12 +53,12 @@ node_made true t x y tags None lat w ts hx hy e = absurd cc
 node_takes : (is_visible : Bool) (fields : List (List ℕ)) (w : What) → node_at is_visible fields ≡ Some w → TakesWhat Node fields w is_visible
 unfolding node_at
 node_takes is_visible fields w e =
-    let t = bind_some (field_at 84 fields) (λ (t : List ℕ × List (List ℕ)). ◌>>=◌ {A = List Tag} {B = What} (list_at tag_at 5000 t.0) (λ (tags : List Tag). ◌>>=◌ {A = List ℕ × List (List ℕ)} {B = What} (field_at 120 t.1) (λ (x : List ℕ × List (List ℕ)). ◌>>=◌ {A = Option ℤ} {B = What} (place_at 1800000000 x.0) (λ (lon : Option ℤ). ◌>>=◌ {A = List ℕ} {B = What} (last_field_at 121 x.1) (λ (y : List ℕ). ◌>>=◌ {A = Option ℤ} {B = What} (place_at 900000000 y) (λ (lat : Option ℤ). node_of is_visible lon lat tags)))))) w e in
-    let tags = bind_some (list_at tag_at 5000 t.0.0) (λ (tags : List Tag). ◌>>=◌ {A = List ℕ × List (List ℕ)} {B = What} (field_at 120 t.0.1) (λ (x : List ℕ × List (List ℕ)). ◌>>=◌ {A = Option ℤ} {B = What} (place_at 1800000000 x.0) (λ (lon : Option ℤ). ◌>>=◌ {A = List ℕ} {B = What} (last_field_at 121 x.1) (λ (y : List ℕ). ◌>>=◌ {A = Option ℤ} {B = What} (place_at 900000000 y) (λ (lat : Option ℤ). node_of is_visible lon lat tags))))) w t.2 in
-    let x = bind_some (field_at 120 t.0.1) (λ (x : List ℕ × List (List ℕ)). ◌>>=◌ {A = Option ℤ} {B = What} (place_at 1800000000 x.0) (λ (lon : Option ℤ). ◌>>=◌ {A = List ℕ} {B = What} (last_field_at 121 x.1) (λ (y : List ℕ). ◌>>=◌ {A = Option ℤ} {B = What} (place_at 900000000 y) (λ (lat : Option ℤ). node_of is_visible lon lat tags.0)))) w tags.2 in
-    let lon = bind_some (place_at 1800000000 x.0.0) (λ (lon : Option ℤ). ◌>>=◌ {A = List ℕ} {B = What} (last_field_at 121 x.0.1) (λ (y : List ℕ). ◌>>=◌ {A = Option ℤ} {B = What} (place_at 900000000 y) (λ (lat : Option ℤ). node_of is_visible lon lat tags.0))) w x.2 in
-    let y = bind_some (last_field_at 121 x.0.1) (λ (y : List ℕ). ◌>>=◌ {A = Option ℤ} {B = What} (place_at 900000000 y) (λ (lat : Option ℤ). node_of is_visible lon.0 lat tags.0)) w lon.2 in
-    let lat = bind_some (place_at 900000000 y.0) (λ (lat : Option ℤ). node_of is_visible lon.0 lat tags.0) w y.2 in
+    let t = some_then (field_at 84 fields) (λ (t : List ℕ × List (List ℕ)). and_then {A = List Tag} {B = What} (list_at tag_at 5000 t.0) (λ (tags : List Tag). and_then {A = List ℕ × List (List ℕ)} {B = What} (field_at 120 t.1) (λ (x : List ℕ × List (List ℕ)). and_then {A = Option ℤ} {B = What} (place_at 1800000000 x.0) (λ (lon : Option ℤ). and_then {A = List ℕ} {B = What} (last_field_at 121 x.1) (λ (y : List ℕ). and_then {A = Option ℤ} {B = What} (place_at 900000000 y) (λ (lat : Option ℤ). node_of is_visible lon lat tags)))))) w e in
+    let tags = some_then (list_at tag_at 5000 t.0.0) (λ (tags : List Tag). and_then {A = List ℕ × List (List ℕ)} {B = What} (field_at 120 t.0.1) (λ (x : List ℕ × List (List ℕ)). and_then {A = Option ℤ} {B = What} (place_at 1800000000 x.0) (λ (lon : Option ℤ). and_then {A = List ℕ} {B = What} (last_field_at 121 x.1) (λ (y : List ℕ). and_then {A = Option ℤ} {B = What} (place_at 900000000 y) (λ (lat : Option ℤ). node_of is_visible lon lat tags))))) w t.2 in
+    let x = some_then (field_at 120 t.0.1) (λ (x : List ℕ × List (List ℕ)). and_then {A = Option ℤ} {B = What} (place_at 1800000000 x.0) (λ (lon : Option ℤ). and_then {A = List ℕ} {B = What} (last_field_at 121 x.1) (λ (y : List ℕ). and_then {A = Option ℤ} {B = What} (place_at 900000000 y) (λ (lat : Option ℤ). node_of is_visible lon lat tags.0)))) w tags.2 in
+    let lon = some_then (place_at 1800000000 x.0.0) (λ (lon : Option ℤ). and_then {A = List ℕ} {B = What} (last_field_at 121 x.0.1) (λ (y : List ℕ). and_then {A = Option ℤ} {B = What} (place_at 900000000 y) (λ (lat : Option ℤ). node_of is_visible lon lat tags.0))) w x.2 in
+    let y = some_then (last_field_at 121 x.0.1) (λ (y : List ℕ). and_then {A = Option ℤ} {B = What} (place_at 900000000 y) (λ (lat : Option ℤ). node_of is_visible lon.0 lat tags.0)) w lon.2 in
+    let lat = some_then (place_at 900000000 y.0) (λ (lat : Option ℤ). node_of is_visible lon.0 lat tags.0) w y.2 in
     let ts = list_takes tag_at SpellsTag IsTag tags_read 5000 t.0.0 tags.0 tags.1 in
     let ft : fields ≡ (84 ∷ t.0.0) ∷ t.0.1 = field_takes 84 fields t.0.0 t.0.1 t.1 in
     let fx : t.0.1 ≡ (120 ∷ x.0.0) ∷ x.0.1 = field_takes 120 t.0.1 x.0.0 x.0.1 x.1 in
@@ -80,10 +81,10 @@ way_made true t n tags refs w ts rs e =
 way_takes : (is_visible : Bool) (fields : List (List ℕ)) (w : What) → way_at is_visible fields ≡ Some w → TakesWhat Way fields w is_visible
 unfolding way_at
 way_takes is_visible fields w e =
-    let t = bind_some (field_at 84 fields) (λ (t : List ℕ × List (List ℕ)). ◌>>=◌ {A = List Tag} {B = What} (list_at tag_at 5000 t.0) (λ (tags : List Tag). ◌>>=◌ {A = List ℕ} {B = What} (last_field_at 78 t.1) (λ (n : List ℕ). ◌>>=◌ {A = List ℤ} {B = What} (list_at ref_at 32000 n) (λ (refs : List ℤ). Some (cond is_visible (whats.Way refs tags) whats.Deleted))))) w e in
-    let tags = bind_some (list_at tag_at 5000 t.0.0) (λ (tags : List Tag). ◌>>=◌ {A = List ℕ} {B = What} (last_field_at 78 t.0.1) (λ (n : List ℕ). ◌>>=◌ {A = List ℤ} {B = What} (list_at ref_at 32000 n) (λ (refs : List ℤ). Some (cond is_visible (whats.Way refs tags) whats.Deleted)))) w t.2 in
-    let n = bind_some (last_field_at 78 t.0.1) (λ (n : List ℕ). ◌>>=◌ {A = List ℤ} {B = What} (list_at ref_at 32000 n) (λ (refs : List ℤ). Some (cond is_visible (whats.Way refs tags.0) whats.Deleted))) w tags.2 in
-    let refs = bind_some (list_at ref_at 32000 n.0) (λ (refs : List ℤ). Some (cond is_visible (whats.Way refs tags.0) whats.Deleted)) w n.2 in
+    let t = some_then (field_at 84 fields) (λ (t : List ℕ × List (List ℕ)). and_then {A = List Tag} {B = What} (list_at tag_at 5000 t.0) (λ (tags : List Tag). and_then {A = List ℕ} {B = What} (last_field_at 78 t.1) (λ (n : List ℕ). and_then {A = List ℤ} {B = What} (list_at ref_at 32000 n) (λ (refs : List ℤ). Some (cond is_visible (whats.Way refs tags) whats.Deleted))))) w e in
+    let tags = some_then (list_at tag_at 5000 t.0.0) (λ (tags : List Tag). and_then {A = List ℕ} {B = What} (last_field_at 78 t.0.1) (λ (n : List ℕ). and_then {A = List ℤ} {B = What} (list_at ref_at 32000 n) (λ (refs : List ℤ). Some (cond is_visible (whats.Way refs tags) whats.Deleted)))) w t.2 in
+    let n = some_then (last_field_at 78 t.0.1) (λ (n : List ℕ). and_then {A = List ℤ} {B = What} (list_at ref_at 32000 n) (λ (refs : List ℤ). Some (cond is_visible (whats.Way refs tags.0) whats.Deleted))) w tags.2 in
+    let refs = some_then (list_at ref_at 32000 n.0) (λ (refs : List ℤ). Some (cond is_visible (whats.Way refs tags.0) whats.Deleted)) w n.2 in
     let ts = list_takes tag_at SpellsTag IsTag tags_read 5000 t.0.0 tags.0 tags.1 in
     let rs = list_takes ref_at SpellsRef IsId refs_read 32000 n.0 refs.0 refs.1 in
     let ft : fields ≡ (84 ∷ t.0.0) ∷ t.0.1 = field_takes 84 fields t.0.0 t.0.1 t.1 in
@@ -106,10 +107,10 @@ relation_made true t m tags members w ts ms e =
 relation_takes : (is_visible : Bool) (fields : List (List ℕ)) (w : What) → relation_at is_visible fields ≡ Some w → TakesWhat Relation fields w is_visible
 unfolding relation_at
 relation_takes is_visible fields w e =
-    let t = bind_some (field_at 84 fields) (λ (t : List ℕ × List (List ℕ)). ◌>>=◌ {A = List Tag} {B = What} (list_at tag_at 5000 t.0) (λ (tags : List Tag). ◌>>=◌ {A = List ℕ} {B = What} (last_field_at 77 t.1) (λ (m : List ℕ). ◌>>=◌ {A = List Member} {B = What} (list_at member_at 32000 m) (λ (members : List Member). Some (cond is_visible (whats.Relation members tags) whats.Deleted))))) w e in
-    let tags = bind_some (list_at tag_at 5000 t.0.0) (λ (tags : List Tag). ◌>>=◌ {A = List ℕ} {B = What} (last_field_at 77 t.0.1) (λ (m : List ℕ). ◌>>=◌ {A = List Member} {B = What} (list_at member_at 32000 m) (λ (members : List Member). Some (cond is_visible (whats.Relation members tags) whats.Deleted)))) w t.2 in
-    let m = bind_some (last_field_at 77 t.0.1) (λ (m : List ℕ). ◌>>=◌ {A = List Member} {B = What} (list_at member_at 32000 m) (λ (members : List Member). Some (cond is_visible (whats.Relation members tags.0) whats.Deleted))) w tags.2 in
-    let members = bind_some (list_at member_at 32000 m.0) (λ (members : List Member). Some (cond is_visible (whats.Relation members tags.0) whats.Deleted)) w m.2 in
+    let t = some_then (field_at 84 fields) (λ (t : List ℕ × List (List ℕ)). and_then {A = List Tag} {B = What} (list_at tag_at 5000 t.0) (λ (tags : List Tag). and_then {A = List ℕ} {B = What} (last_field_at 77 t.1) (λ (m : List ℕ). and_then {A = List Member} {B = What} (list_at member_at 32000 m) (λ (members : List Member). Some (cond is_visible (whats.Relation members tags) whats.Deleted))))) w e in
+    let tags = some_then (list_at tag_at 5000 t.0.0) (λ (tags : List Tag). and_then {A = List ℕ} {B = What} (last_field_at 77 t.0.1) (λ (m : List ℕ). and_then {A = List Member} {B = What} (list_at member_at 32000 m) (λ (members : List Member). Some (cond is_visible (whats.Relation members tags) whats.Deleted)))) w t.2 in
+    let m = some_then (last_field_at 77 t.0.1) (λ (m : List ℕ). and_then {A = List Member} {B = What} (list_at member_at 32000 m) (λ (members : List Member). Some (cond is_visible (whats.Relation members tags.0) whats.Deleted))) w tags.2 in
+    let members = some_then (list_at member_at 32000 m.0) (λ (members : List Member). Some (cond is_visible (whats.Relation members tags.0) whats.Deleted)) w m.2 in
     let ts = list_takes tag_at SpellsTag IsTag tags_read 5000 t.0.0 tags.0 tags.1 in
     let ms = list_takes member_at SpellsMember IsMember members_read 32000 m.0 members.0 members.1 in
     let ft : fields ≡ (84 ∷ t.0.0) ∷ t.0.1 = field_takes 84 fields t.0.0 t.0.1 t.1 in

@@ -12,17 +12,18 @@ use Rattle.osm_model.specs.declared.kind.Kind.TheVariants.{Node, Way, Relation}
 use Rattle.osm_model.specs.CivilTime.{time_text}
 use Rattle.osm_opl.specs.File.{SpellsLines, SpellsOpl, none, skipped, change}
 use Rattle.osm_opl.specs.Line.{SpellsLine}
-use Rattle.osm_opl.specs.Lines.{is_skipped, lines_of, without_cr}
+use Rattle.osm_reading.specs.Lines.{is_skipped, lines_of, without_cr}
 use Rattle.osm_opl.specs.Lists.{letter_of}
-use Rattle.osm_opl.specs.Pieces.{pieces}
+use Rattle.osm_reading.specs.Pieces.{pieces}
 use Rattle.osm_opl.specs.Written.{line_text, opl_text, text_text}
 use Rattle.osm_model.proofs.CivilTimeLemmas.{time_text_shows}
-use Rattle.osm_opl.specs.Laws.LineLaws.{line_lacks}
-use Rattle.osm_opl.specs.Laws.ListLaws.{line_feed, carriage_return}
-use Rattle.osm_opl.specs.Laws.PieceLemmas.{Lacks, pieces-more}
-use Rattle.osm_opl.specs.Laws.WrittenNumbers.{positive_spells, id_spells}
-use Rattle.osm_opl.specs.Laws.WrittenTexts.{text_is_spelled}
-use Rattle.osm_opl.specs.Laws.WrittenFields.{what_fields, what_spells, line_whole}
+use Rattle.osm_opl.proofs.LineLaws.{line_lacks}
+use Rattle.osm_opl.proofs.ListLaws.{line_feed, carriage_return}
+use Rattle.osm_reading.specs.Pieces.{Lacks}
+use Rattle.osm_reading.proofs.PieceLemmas.{pieces-more}
+use Rattle.osm_opl.proofs.WrittenNumbers.{positive_spells, id_spells}
+use Rattle.osm_opl.proofs.WrittenTexts.{text_is_spelled}
+use Rattle.osm_opl.proofs.WrittenFields.{what_fields, what_spells, line_whole}
 
 -- ---- lines
 

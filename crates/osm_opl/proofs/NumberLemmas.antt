@@ -10,10 +10,10 @@ use Rattle.std.proofs.lemmas.List.{take_more, take_all}
 use Rattle.std.proofs.lemmas.Str.{digit_value_digit}
 use Rattle.std.proofs.lemmas.Str.Parse.{digit_from_value, digits_value_short, numerals_by_value, tells_digits}
 use Rattle.std.proofs.lemmas.Bool.{cases_lt}
-use Rattle.osm_opl.specs.Laws.Steps.{both, guard_some}
+use Rattle.osm_reading.proofs.StepLemmas.{both_held, guard_some}
 use Rattle.osm_model.specs.declared.form.Why.{Why}
-use Rattle.osm_opl.specs.Answers.{Finds}
-use Rattle.osm_opl.specs.Reading.{all_digits, is_numeral, digits_at, number_at, positive_at}
+use Rattle.osm_reading.specs.Steps.Answers.{Finds}
+use Rattle.osm_opl.specs.Steps.Reading.{all_digits, is_numeral, digits_at, number_at, positive_at}
 
 -- the digits in front of a place, and the number that they write
 pub record Digits (radix : ℕ) (bytes : List ℕ) (most : ℕ) (i : ℕ) (so_far : ℕ) : Type 0 where
@@ -102,7 +102,7 @@ no_decimal most bytes i lt other = not_digits 10 most bytes i lt (not_decimal (g
 pub each_digit : (radix : ℕ) (bytes : List ℕ) → all_digits radix bytes ≡ true → AllDigits radix bytes
 each_digit radix [] all = tt
 each_digit radix (b ∷ bs) all =
-    let parts = both (nat_lt (digit_value b) radix) (all_digits radix bs) all in
+    let parts = both_held (nat_lt (digit_value b) radix) (all_digits radix bs) all in
     let first : nat_lt (digit_value b) radix ≡ true = parts.0 in
     (grind (arith, nat_tests), each_digit radix bs parts.1)
 
@@ -127,8 +127,8 @@ pub digits_take : (radix most : ℕ) (bytes : List ℕ) (n : ℕ) → digits_at 
 unfolding digits_at
 digits_take radix most bytes n e =
     let g = guard_some (is_numeral radix most bytes) (Some (digits_value radix bytes)) n e in
-    let p = both (all_digits radix bytes && nat_le 1 (length bytes)) (nat_le (length bytes) most) g.0 in
-    let q = both (all_digits radix bytes) (nat_le 1 (length bytes)) p.0 in
+    let p = both_held (all_digits radix bytes && nat_le 1 (length bytes)) (nat_le (length bytes) most) g.0 in
+    let q = both_held (all_digits radix bytes) (nat_le 1 (length bytes)) p.0 in
     let low : nat_le 1 (length bytes) ≡ true = q.1 in
     let high : nat_le (length bytes) most ≡ true = p.1 in
     record { all = q.0; some = grind (arith, nat_tests); short = grind (arith, nat_tests); value = sym (same_Some (digits_value radix bytes) n g.1) }

@@ -9,17 +9,19 @@ use Rattle.std.proofs.lemmas.Str.{IsUtf8-append, IsUtf8-encode, is_utf8-from_IsU
 use Rattle.std.specs.Char.{encode_utf8}
 use Rattle.std.specs.Prelude.{◌≢◌, not}
 use Rattle.osm_opl.specs.Escape.{NamesChar, is_reserved}
-use Rattle.osm_opl.specs.Laws.PieceLemmas.{Lacks, lacks_append}
-use Rattle.osm_opl.specs.Pieces.{pieces}
-use Rattle.osm_opl.specs.Laws.Steps.{both, bind_some, guard_some}
-use Rattle.osm_opl.specs.Laws.NumberLemmas.{IsNumeralOf, digits_take, digits_again, each_digit, all_from_each}
+use Rattle.osm_reading.specs.Pieces.{Lacks}
+use Rattle.osm_reading.proofs.PieceLemmas.{lacks_append}
+use Rattle.osm_reading.specs.Pieces.{pieces}
+use Rattle.osm_reading.proofs.StepLemmas.{both_held, some_then, guard_some}
+use Rattle.osm_opl.proofs.NumberLemmas.{IsNumeralOf, digits_take, digits_again, each_digit, all_from_each}
 use Rattle.osm_model.specs.Text.{IsText}
 use Rattle.osm_model.specs.declared.text.TextError.{TextError}
 use Rattle.osm_model.specs.declared.text.TextError.TheVariants.{HasNul, TooLong, WantOfMemory}
 use Rattle.std.specs.Prelude.{◌==◌}
 use Rattle.std.proofs.Common.{lit<}
 use lib.Utf8.{scalar}
-use Rattle.osm_opl.specs.Reading.{◌>>=◌, digits_at, escape_at, is_bare_run, is_free, run_at, runs_at, text_at}
+use Rattle.osm_opl.specs.Steps.Reading.{digits_at, escape_at, is_bare_run, is_free, run_at, runs_at, text_at}
+use Rattle.osm_reading.specs.Steps.Answers.{and_then}
 
 pub is_text_run : (run : List ℕ) → IsUtf8 run → list_all is_free run ≡ true → run_at run ≡ Some run
 is_text_run run u free = rw (free, is_utf8-from_IsUtf8 run u) refl
@@ -48,7 +50,7 @@ encode_lacks s c small other = by_tests (ltb c 128) (ltb c 2048) (ltb c 65536)
 free_lacks : (s : ℕ) (run : List ℕ) → is_reserved s ≡ true → list_all is_free run ≡ true → Lacks s run
 free_lacks s [] r e = tt
 free_lacks s (b ∷ bs) r e =
-    let p = both (is_free b) (list_all is_free bs) e in
+    let p = both_held (is_free b) (list_all is_free bs) e in
     (λ same. let q : not (is_reserved s) ≡ true = rw same at p.0 in no_both (is_reserved s) r q, free_lacks s bs r p.1)
   where
     no_both : (x : Bool) → x ≡ true → not x ≡ true → ⊥
@@ -65,15 +67,15 @@ lacks_contains s (b ∷ bs) h (suc k, lt, is) = lacks_contains s bs h.1 (k, omeg
 pub run_takes : (run text : List ℕ) → run_at run ≡ Some text → (text ≡ run) × (list_all is_free run ≡ true) × IsUtf8 run
 run_takes run text e =
     let g = guard_some (is_bare_run run) (Some run) text e in
-    let p = both (list_all is_free run) (is_utf8 run) g.0 in
+    let p = both_held (list_all is_free run) (is_utf8 run) g.0 in
     (sym (same_Some run text g.1), p.0, IsUtf8-from_is_utf8 run p.1)
 
 pub escape_takes : (digits : List ℕ) (c : ℕ) → escape_at digits ≡ Some c → NamesChar digits c
 unfolding escape_at
 escape_takes digits c e =
-    let x = bind_some (digits_at 16 8 digits) (λ c. cond (scalar c && not (c == 0)) (Some c) None) c e in
+    let x = some_then (digits_at 16 8 digits) (λ c. cond (scalar c && not (c == 0)) (Some c) None) c e in
     let g = guard_some (scalar x.0 && not (x.0 == 0)) (Some x.0) c x.2 in
-    let p = both (scalar x.0) (not (x.0 == 0)) g.0 in
+    let p = both_held (scalar x.0) (not (x.0 == 0)) g.0 in
     let t : IsNumeralOf 16 8 digits x.0 = digits_take 16 8 digits x.0 x.1 in
     let same : x.0 ≡ c = same_Some x.0 c g.1 in
     let test : not (x.0 == 0) ≡ true = p.1 in
@@ -102,9 +104,9 @@ runs_plain (run ∷ []) text e =
     let same : text ≡ run = r.0 in
     rw same (r.2, free_lacks 0 run refl r.1)
 runs_plain (run ∷ digits ∷ more) text e =
-    let a = bind_some (run_at run) (λ (r : List ℕ). ◌>>=◌ {A = ℕ} {B = List ℕ} (escape_at digits) (λ c. ◌>>=◌ {A = List ℕ} {B = List ℕ} (runs_at more) (λ t. Some (r ++ encode_utf8 c ++ t)))) text e in
-    let b = bind_some (escape_at digits) (λ (c : ℕ). ◌>>=◌ {A = List ℕ} {B = List ℕ} (runs_at more) (λ t. Some (a.0 ++ encode_utf8 c ++ t))) text a.2 in
-    let d = bind_some (runs_at more) (λ (t : List ℕ). Some (a.0 ++ encode_utf8 b.0 ++ t)) text b.2 in
+    let a = some_then (run_at run) (λ (r : List ℕ). and_then {A = ℕ} {B = List ℕ} (escape_at digits) (λ c. and_then {A = List ℕ} {B = List ℕ} (runs_at more) (λ t. Some (r ++ encode_utf8 c ++ t)))) text e in
+    let b = some_then (escape_at digits) (λ (c : ℕ). and_then {A = List ℕ} {B = List ℕ} (runs_at more) (λ t. Some (a.0 ++ encode_utf8 c ++ t))) text a.2 in
+    let d = some_then (runs_at more) (λ (t : List ℕ). Some (a.0 ++ encode_utf8 b.0 ++ t)) text b.2 in
     let r = run_takes run a.0 a.1 in
     let n : NamesChar digits b.0 = escape_takes digits b.0 b.1 in
     let inner = runs_plain more d.0 d.1 in
@@ -119,7 +121,7 @@ runs_plain (run ∷ digits ∷ more) text e =
 pub text_is : (bytes text : List ℕ) → text_at bytes ≡ Some text → IsText text
 unfolding text_at
 text_is bytes text e =
-    let x = bind_some (runs_at (pieces 37 bytes)) (λ (t : List ℕ). cond (leb (length t) 1020) (Some t) None) text e in
+    let x = some_then (runs_at (pieces 37 bytes)) (λ (t : List ℕ). cond (leb (length t) 1020) (Some t) None) text e in
     let g = guard_some (leb (length x.0) 1020) (Some x.0) text x.2 in
     let same : x.0 ≡ text = same_Some x.0 text g.1 in
     let test : leb (length x.0) 1020 ≡ true = g.0 in

@@ -8,13 +8,13 @@ use Rattle.osm_model.specs.ChangeForm.{ReadRefused, SpellsNothing}
 use Rattle.osm_model.specs.Limits.{max_changes, max_file}
 use Rattle.osm_model.specs.declared.form.FormError.{FormError}
 use Rattle.osm_model.specs.declared.form.FormError.TheVariants.{WantOfMemory, TooLarge, Fault}
-use Rattle.osm_opl.specs.Answers.{AddsLine, LineStops}
-use Rattle.osm_opl.specs.Answers as answers
+use Rattle.osm_opl.specs.Steps.Adding.{AddsLine, LineStops}
+use Rattle.osm_opl.specs.Steps.Adding as answers
 use Rattle.osm_opl.specs.File.{FaultLine, SpellsLines, SpellsOpl, none, skipped, change}
 use Rattle.osm_opl.specs.Line.{SpellsLine}
-use Rattle.osm_opl.specs.Lines.{is_skipped, lines_of}
-use Rattle.osm_opl.specs.Reading.{line_at}
-use Rattle.osm_opl.specs.Laws.LineLaws.{line_again, line_takes, one_change}
+use Rattle.osm_reading.specs.Lines.{is_skipped, lines_of}
+use Rattle.osm_opl.specs.Steps.Reading.{line_at}
+use Rattle.osm_opl.proofs.LineLaws.{line_again, line_takes, one_change}
 
 both_ways : (x : Bool) → x ≡ true → x ≡ false → ⊥
 both_ways true a b = cc

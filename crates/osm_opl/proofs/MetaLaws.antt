@@ -9,13 +9,14 @@ use Rattle.osm_model.specs.Time.{TimeText}
 use Rattle.osm_opl.specs.Escape.{SpellsText}
 use Rattle.osm_opl.specs.Number.{SpellsNumber}
 use Rattle.osm_opl.specs.Written.{visible_text}
-use Rattle.osm_opl.specs.Reading.{◌>>=◌, field_at, head_at, positive_at, positive_field_at, status_at, status_field_at, text_at, time_at, time_field_at, user_field_at}
-use Rattle.osm_opl.specs.Laws.Steps.{bind_some, guard_some, chosen}
-use Rattle.osm_opl.specs.Laws.NumberLaws.{TakesPositive, positive_takes, positive_again}
-use Rattle.osm_opl.specs.Laws.EscapeLemmas.{text_is}
-use Rattle.osm_opl.specs.Laws.EscapeLaws.{text_takes, text_again}
-use Rattle.osm_opl.specs.Laws.DateLemmas.{time_takes, time_again}
-use Rattle.osm_opl.specs.Laws.FieldLaws.{field_takes, field_again}
+use Rattle.osm_opl.specs.Steps.Reading.{field_at, head_at, positive_at, positive_field_at, status_at, status_field_at, text_at, time_at, time_field_at, user_field_at}
+use Rattle.osm_reading.specs.Steps.Answers.{and_then}
+use Rattle.osm_reading.proofs.StepLemmas.{some_then, guard_some, chosen}
+use Rattle.osm_opl.proofs.NumberLaws.{TakesPositive, positive_takes, positive_again}
+use Rattle.osm_opl.proofs.EscapeLemmas.{text_is}
+use Rattle.osm_opl.proofs.EscapeLaws.{text_takes, text_again}
+use Rattle.osm_opl.proofs.DateLemmas.{time_takes, time_again}
+use Rattle.osm_opl.proofs.FieldLaws.{field_takes, field_again}
 
 status_takes : (bytes : List ℕ) (b : Bool) → status_at bytes ≡ Some b → bytes ≡ visible_text b
 unfolding status_at
@@ -36,10 +37,10 @@ pub record TakesField (Spells : List ℕ → Type 0) (letter : ℕ) (fields more
   pub parts : fields ≡ (letter ∷ text) ∷ more
   pub spells : Spells text
 
-field_taken : {X : Type 0} (read : List ℕ → Option X) (Spells : List ℕ → X → Type 0) → ((b : List ℕ) (x : X) → read b ≡ Some x → Spells b x) → (letter : ℕ) (fields : List (List ℕ)) (r : X × List (List ℕ)) → (field_at letter fields >>= λ f. read f.0 >>= λ x. Some (x, f.1)) ≡ Some r → TakesField (λ b. Spells b r.0) letter fields r.1
+field_taken : {X : Type 0} (read : List ℕ → Option X) (Spells : List ℕ → X → Type 0) → ((b : List ℕ) (x : X) → read b ≡ Some x → Spells b x) → (letter : ℕ) (fields : List (List ℕ)) (r : X × List (List ℕ)) → and_then (field_at letter fields) (λ f. and_then {A = X} {B = X × List (List ℕ)} (read f.0) (λ x. Some (x, f.1))) ≡ Some r → TakesField (λ b. Spells b r.0) letter fields r.1
 field_taken {X} read Spells takes letter fields r e =
-    let f = bind_some (field_at letter fields) (λ (f : List ℕ × List (List ℕ)). ◌>>=◌ {A = X} {B = X × List (List ℕ)} (read f.0) (λ x. Some (x, f.1))) r e in
-    let x = bind_some (read f.0.0) (λ (x : X). Some (let p : X × List (List ℕ) = (x, f.0.1) in p)) r f.2 in
+    let f = some_then (field_at letter fields) (λ (f : List ℕ × List (List ℕ)). and_then {A = X} {B = X × List (List ℕ)} (read f.0) (λ x. Some (x, f.1))) r e in
+    let x = some_then (read f.0.0) (λ (x : X). Some (let p : X × List (List ℕ) = (x, f.0.1) in p)) r f.2 in
     let made : X × List (List ℕ) = (x.0, f.0.1) in
     let P : X × List (List ℕ) → Type 0 = λ p. TakesField (λ b. Spells b p.0) letter fields p.1 in
     subst P (same_Some made r x.2) (record { text = f.0.0; parts = field_takes letter fields f.0.0 f.0.1 f.1; spells = takes f.0.0 x.0 x.1 })
@@ -82,12 +83,12 @@ pub record SpellsHead (fields : List (List ℕ)) (is_visible : Bool) (meta : Met
 pub head_takes : (fields : List (List ℕ)) (h : Bool × MetaValue × List (List ℕ)) → head_at fields ≡ Some h → SpellsHead fields h.0 h.1 h.2
 unfolding head_at
 head_takes fields h e =
-    let v = bind_some (positive_field_at 118 fields) (λ (v : ℕ × List (List ℕ)). ◌>>=◌ {A = Bool × List (List ℕ)} {B = Bool × MetaValue × List (List ℕ)} (status_field_at v.1) (λ (d : Bool × List (List ℕ)). ◌>>=◌ {A = ℕ × List (List ℕ)} {B = Bool × MetaValue × List (List ℕ)} (positive_field_at 99 d.1) (λ (c : ℕ × List (List ℕ)). ◌>>=◌ {A = ℕ × List (List ℕ)} {B = Bool × MetaValue × List (List ℕ)} (time_field_at c.1) (λ (t : ℕ × List (List ℕ)). ◌>>=◌ {A = ℕ × List (List ℕ)} {B = Bool × MetaValue × List (List ℕ)} (positive_field_at 105 t.1) (λ (i : ℕ × List (List ℕ)). ◌>>=◌ {A = List ℕ × List (List ℕ)} {B = Bool × MetaValue × List (List ℕ)} (user_field_at i.1) (λ (u : List ℕ × List (List ℕ)). Some (d.0, record { version = v.0; time = t.0; changeset = c.0; uid = i.0; user = u.0 }, u.1))))))) h e in
-    let d = bind_some (status_field_at v.0.1) (λ (d : Bool × List (List ℕ)). ◌>>=◌ {A = ℕ × List (List ℕ)} {B = Bool × MetaValue × List (List ℕ)} (positive_field_at 99 d.1) (λ (c : ℕ × List (List ℕ)). ◌>>=◌ {A = ℕ × List (List ℕ)} {B = Bool × MetaValue × List (List ℕ)} (time_field_at c.1) (λ (t : ℕ × List (List ℕ)). ◌>>=◌ {A = ℕ × List (List ℕ)} {B = Bool × MetaValue × List (List ℕ)} (positive_field_at 105 t.1) (λ (i : ℕ × List (List ℕ)). ◌>>=◌ {A = List ℕ × List (List ℕ)} {B = Bool × MetaValue × List (List ℕ)} (user_field_at i.1) (λ (u : List ℕ × List (List ℕ)). Some (d.0, record { version = v.0.0; time = t.0; changeset = c.0; uid = i.0; user = u.0 }, u.1)))))) h v.2 in
-    let c = bind_some (positive_field_at 99 d.0.1) (λ (c : ℕ × List (List ℕ)). ◌>>=◌ {A = ℕ × List (List ℕ)} {B = Bool × MetaValue × List (List ℕ)} (time_field_at c.1) (λ (t : ℕ × List (List ℕ)). ◌>>=◌ {A = ℕ × List (List ℕ)} {B = Bool × MetaValue × List (List ℕ)} (positive_field_at 105 t.1) (λ (i : ℕ × List (List ℕ)). ◌>>=◌ {A = List ℕ × List (List ℕ)} {B = Bool × MetaValue × List (List ℕ)} (user_field_at i.1) (λ (u : List ℕ × List (List ℕ)). Some (d.0.0, record { version = v.0.0; time = t.0; changeset = c.0; uid = i.0; user = u.0 }, u.1))))) h d.2 in
-    let t = bind_some (time_field_at c.0.1) (λ (t : ℕ × List (List ℕ)). ◌>>=◌ {A = ℕ × List (List ℕ)} {B = Bool × MetaValue × List (List ℕ)} (positive_field_at 105 t.1) (λ (i : ℕ × List (List ℕ)). ◌>>=◌ {A = List ℕ × List (List ℕ)} {B = Bool × MetaValue × List (List ℕ)} (user_field_at i.1) (λ (u : List ℕ × List (List ℕ)). Some (d.0.0, record { version = v.0.0; time = t.0; changeset = c.0.0; uid = i.0; user = u.0 }, u.1)))) h c.2 in
-    let i = bind_some (positive_field_at 105 t.0.1) (λ (i : ℕ × List (List ℕ)). ◌>>=◌ {A = List ℕ × List (List ℕ)} {B = Bool × MetaValue × List (List ℕ)} (user_field_at i.1) (λ (u : List ℕ × List (List ℕ)). Some (d.0.0, record { version = v.0.0; time = t.0.0; changeset = c.0.0; uid = i.0; user = u.0 }, u.1))) h t.2 in
-    let u = bind_some (user_field_at i.0.1) (λ (u : List ℕ × List (List ℕ)). Some (d.0.0, record { version = v.0.0; time = t.0.0; changeset = c.0.0; uid = i.0.0; user = u.0 }, u.1)) h i.2 in
+    let v = some_then (positive_field_at 118 fields) (λ (v : ℕ × List (List ℕ)). and_then {A = Bool × List (List ℕ)} {B = Bool × MetaValue × List (List ℕ)} (status_field_at v.1) (λ (d : Bool × List (List ℕ)). and_then {A = ℕ × List (List ℕ)} {B = Bool × MetaValue × List (List ℕ)} (positive_field_at 99 d.1) (λ (c : ℕ × List (List ℕ)). and_then {A = ℕ × List (List ℕ)} {B = Bool × MetaValue × List (List ℕ)} (time_field_at c.1) (λ (t : ℕ × List (List ℕ)). and_then {A = ℕ × List (List ℕ)} {B = Bool × MetaValue × List (List ℕ)} (positive_field_at 105 t.1) (λ (i : ℕ × List (List ℕ)). and_then {A = List ℕ × List (List ℕ)} {B = Bool × MetaValue × List (List ℕ)} (user_field_at i.1) (λ (u : List ℕ × List (List ℕ)). Some (d.0, record { version = v.0; time = t.0; changeset = c.0; uid = i.0; user = u.0 }, u.1))))))) h e in
+    let d = some_then (status_field_at v.0.1) (λ (d : Bool × List (List ℕ)). and_then {A = ℕ × List (List ℕ)} {B = Bool × MetaValue × List (List ℕ)} (positive_field_at 99 d.1) (λ (c : ℕ × List (List ℕ)). and_then {A = ℕ × List (List ℕ)} {B = Bool × MetaValue × List (List ℕ)} (time_field_at c.1) (λ (t : ℕ × List (List ℕ)). and_then {A = ℕ × List (List ℕ)} {B = Bool × MetaValue × List (List ℕ)} (positive_field_at 105 t.1) (λ (i : ℕ × List (List ℕ)). and_then {A = List ℕ × List (List ℕ)} {B = Bool × MetaValue × List (List ℕ)} (user_field_at i.1) (λ (u : List ℕ × List (List ℕ)). Some (d.0, record { version = v.0.0; time = t.0; changeset = c.0; uid = i.0; user = u.0 }, u.1)))))) h v.2 in
+    let c = some_then (positive_field_at 99 d.0.1) (λ (c : ℕ × List (List ℕ)). and_then {A = ℕ × List (List ℕ)} {B = Bool × MetaValue × List (List ℕ)} (time_field_at c.1) (λ (t : ℕ × List (List ℕ)). and_then {A = ℕ × List (List ℕ)} {B = Bool × MetaValue × List (List ℕ)} (positive_field_at 105 t.1) (λ (i : ℕ × List (List ℕ)). and_then {A = List ℕ × List (List ℕ)} {B = Bool × MetaValue × List (List ℕ)} (user_field_at i.1) (λ (u : List ℕ × List (List ℕ)). Some (d.0.0, record { version = v.0.0; time = t.0; changeset = c.0; uid = i.0; user = u.0 }, u.1))))) h d.2 in
+    let t = some_then (time_field_at c.0.1) (λ (t : ℕ × List (List ℕ)). and_then {A = ℕ × List (List ℕ)} {B = Bool × MetaValue × List (List ℕ)} (positive_field_at 105 t.1) (λ (i : ℕ × List (List ℕ)). and_then {A = List ℕ × List (List ℕ)} {B = Bool × MetaValue × List (List ℕ)} (user_field_at i.1) (λ (u : List ℕ × List (List ℕ)). Some (d.0.0, record { version = v.0.0; time = t.0; changeset = c.0.0; uid = i.0; user = u.0 }, u.1)))) h c.2 in
+    let i = some_then (positive_field_at 105 t.0.1) (λ (i : ℕ × List (List ℕ)). and_then {A = List ℕ × List (List ℕ)} {B = Bool × MetaValue × List (List ℕ)} (user_field_at i.1) (λ (u : List ℕ × List (List ℕ)). Some (d.0.0, record { version = v.0.0; time = t.0.0; changeset = c.0.0; uid = i.0; user = u.0 }, u.1))) h t.2 in
+    let u = some_then (user_field_at i.0.1) (λ (u : List ℕ × List (List ℕ)). Some (d.0.0, record { version = v.0.0; time = t.0.0; changeset = c.0.0; uid = i.0.0; user = u.0 }, u.1)) h i.2 in
     let made : Bool × MetaValue × List (List ℕ) = (d.0.0, record { version = v.0.0; time = t.0.0; changeset = c.0.0; uid = i.0.0; user = u.0.0 }, u.0.1) in
     let fv = positive_field_taken 118 fields v.0 v.1 in
     let fd = status_field_taken v.0.1 d.0 d.1 in

@@ -4,12 +4,12 @@ use Rattle.std.specs.Prelude.{ℤ, pos, neg_ℤ, ◌≤ℤ◌}
 use Rattle.std.proofs.lemmas.Option.{same_Some}
 use Rattle.osm_model.specs.Limits.{IsLongitude, IsLatitude}
 use Rattle.osm_opl.specs.Coordinate.{SpellsCoordinate, SpellsUnits}
-use Rattle.osm_opl.specs.Line.{MayBePlace, absent, given}
-use Rattle.osm_opl.specs.Reading.{coordinate_at, place_at}
-use Rattle.osm_opl.specs.Laws.Steps.{bind_some}
-use Rattle.osm_opl.specs.Laws.PieceLemmas.{Lacks}
-use Rattle.osm_opl.specs.Laws.NumberLaws.{TakesSigned, coordinate_takes, coordinate_again, coordinate_lacks}
-use Rattle.osm_opl.specs.Laws.ListLaws.{IsBlank}
+use Rattle.osm_opl.specs.Line.{MayBeCoordinate, absent, given}
+use Rattle.osm_opl.specs.Steps.Reading.{coordinate_at, place_at}
+use Rattle.osm_reading.proofs.StepLemmas.{some_then}
+use Rattle.osm_reading.specs.Pieces.{Lacks}
+use Rattle.osm_opl.proofs.NumberLaws.{TakesSigned, coordinate_takes, coordinate_again, coordinate_lacks}
+use Rattle.osm_opl.proofs.ListLaws.{IsBlank}
 
 pub record PlaceTaken (most : ℕ) (bytes : List ℕ) (units : ℤ) : Type 0 where
   pub spells : SpellsCoordinate bytes units
@@ -24,7 +24,7 @@ pub place_takes : (most : ℕ) (bytes : List ℕ) (r : Option ℤ) → place_at 
 unfolding place_at
 place_takes most [] r e = let same : None ≡ r = same_Some None r e in rw (← same) refl
 place_takes most (b ∷ bs) r e =
-    let z = bind_some (coordinate_at most (b ∷ bs)) (λ (z : ℤ). Some (let o : Option ℤ = Some z in o)) r e in
+    let z = some_then (coordinate_at most (b ∷ bs)) (λ (z : ℤ). Some (let o : Option ℤ = Some z in o)) r e in
     let t : TakesSigned SpellsUnits most (b ∷ bs) z.0 = coordinate_takes most (b ∷ bs) z.0 z.1 in
     let made : Option ℤ = Some z.0 in
     let P : Option ℤ → Type 0 = λ o. IsPlaceText most (b ∷ bs) o in
@@ -38,11 +38,11 @@ place_again most [] units h = let e : coordinate_at most [] ≡ Some units = coo
     no_coordinate most units e = unfold coordinate_at in cc
 place_again most (b ∷ bs) units h = rw (coordinate_again most (b ∷ bs) units h.spells h.low h.high) refl
 
-pub longitude_text : (bytes : List ℕ) (r : Option ℤ) → IsPlaceText 1800000000 bytes r → MayBePlace IsLongitude bytes
+pub longitude_text : (bytes : List ℕ) (r : Option ℤ) → IsPlaceText 1800000000 bytes r → MayBeCoordinate IsLongitude bytes
 longitude_text bytes None h = rw h absent
 longitude_text bytes (Some z) h = given bytes z h.spells (record { low = h.low; high = h.high })
 
-pub latitude_text : (bytes : List ℕ) (r : Option ℤ) → IsPlaceText 900000000 bytes r → MayBePlace IsLatitude bytes
+pub latitude_text : (bytes : List ℕ) (r : Option ℤ) → IsPlaceText 900000000 bytes r → MayBeCoordinate IsLatitude bytes
 latitude_text bytes None h = rw h absent
 latitude_text bytes (Some z) h = given bytes z h.spells (record { low = h.low; high = h.high })
 
@@ -58,12 +58,12 @@ nothing_read most = refl
 pub place_lacks : (s : ℕ) (b : IsBlank s) (bytes : List ℕ) (z : ℤ) → SpellsCoordinate bytes z → Lacks s bytes
 place_lacks s b bytes z h = coordinate_lacks s bytes z (omega (arith, b.far)) (λ e. omega (arith, e, b.low)) (λ e. omega (arith, e, b.low)) h
 
-place_read : (most : ℕ) (Limits : ℤ → Type 0) → ((z : ℤ) → Limits z → neg_ℤ (pos most) ≤ℤ z) → ((z : ℤ) → Limits z → z ≤ℤ pos most) → (bytes : List ℕ) → MayBePlace Limits bytes → PlaceRead most bytes
+place_read : (most : ℕ) (Limits : ℤ → Type 0) → ((z : ℤ) → Limits z → neg_ℤ (pos most) ≤ℤ z) → ((z : ℤ) → Limits z → z ≤ℤ pos most) → (bytes : List ℕ) → MayBeCoordinate Limits bytes → PlaceRead most bytes
 place_read most Limits low high _ absent = record { units = None; read = nothing_read most; lacks = λ s b. tt }
 place_read most Limits low high _ (given bytes z h limits) = record { units = Some z; read = place_again most bytes z (record { spells = h; low = low z limits; high = high z limits }); lacks = λ s b. place_lacks s b bytes z h }
 
-pub longitude_read : (bytes : List ℕ) → MayBePlace IsLongitude bytes → PlaceRead 1800000000 bytes
+pub longitude_read : (bytes : List ℕ) → MayBeCoordinate IsLongitude bytes → PlaceRead 1800000000 bytes
 longitude_read bytes h = place_read 1800000000 IsLongitude (λ z l. l.low) (λ z l. l.high) bytes h
 
-pub latitude_read : (bytes : List ℕ) → MayBePlace IsLatitude bytes → PlaceRead 900000000 bytes
+pub latitude_read : (bytes : List ℕ) → MayBeCoordinate IsLatitude bytes → PlaceRead 900000000 bytes
 latitude_read bytes h = place_read 900000000 IsLatitude (λ z l. l.low) (λ z l. l.high) bytes h

@@ -10,10 +10,13 @@ use Rattle.std.proofs.lemmas.Option.{same_Some}
 use Rattle.osm_model.specs.Limits.{IsPositive, IsId}
 use Rattle.osm_opl.specs.Number.{SpellsNumber, Signed, plain, minus, SpellsId}
 use Rattle.osm_opl.specs.Coordinate.{SpellsUnits, whole, point, SpellsCoordinate}
-use Rattle.osm_opl.specs.Reading.{◌>>=◌, cut_at, digits_at, number_at, positive_at, signed_at, id_at, within, parts_at, units_at, coordinate_at}
-use Rattle.osm_opl.specs.Laws.Steps.{bind_some, guard_some, chosen}
-use Rattle.osm_opl.specs.Laws.PieceLemmas.{Lacks, cut_takes, cut_again, uncut_again, lacks_append}
-use Rattle.osm_opl.specs.Laws.NumberLemmas.{IsNumeralOf, digits_take, digits_again, each_digit, all_from_each}
+use Rattle.osm_opl.specs.Steps.Reading.{digits_at, number_at, positive_at, signed_at, id_at, within, parts_at, units_at, coordinate_at}
+use Rattle.osm_reading.specs.Steps.Answers.{and_then}
+use Rattle.osm_reading.specs.Pieces.{cut_at}
+use Rattle.osm_reading.proofs.StepLemmas.{some_then, guard_some, chosen}
+use Rattle.osm_reading.specs.Pieces.{Lacks}
+use Rattle.osm_reading.proofs.PieceLemmas.{cut_takes, cut_again, uncut_again, lacks_append}
+use Rattle.osm_opl.proofs.NumberLemmas.{IsNumeralOf, digits_take, digits_again, each_digit, all_from_each}
 
 -- what is no digit stands nowhere in digits
 pub digits_lack : (radix s : ℕ) (bytes : List ℕ) → radix ≤ digit_value s → AllDigits radix bytes → Lacks s bytes
@@ -37,7 +40,7 @@ pub record TakesNumber (most : ℕ) (bytes : List ℕ) (n : ℕ) : Type 0 where
 pub number_takes : (most : ℕ) (bytes : List ℕ) (n : ℕ) → number_at most bytes ≡ Some n → TakesNumber most bytes n
 unfolding number_at
 number_takes most bytes n e =
-    let x = bind_some (digits_at 10 20 bytes) (λ (n : ℕ). cond (nat_le n most) (Some n) None) n e in
+    let x = some_then (digits_at 10 20 bytes) (λ (n : ℕ). cond (nat_le n most) (Some n) None) n e in
     let g = guard_some (nat_le x.0 most) (Some x.0) n x.2 in
     let t : IsNumeralOf 10 20 bytes x.0 = digits_take 10 20 bytes x.0 x.1 in
     let test : nat_le x.0 most ≡ true = g.0 in
@@ -59,7 +62,7 @@ pub record TakesPositive (bytes : List ℕ) (n : ℕ) : Type 0 where
 pub positive_takes : (bytes : List ℕ) (n : ℕ) → positive_at bytes ≡ Some n → TakesPositive bytes n
 unfolding positive_at
 positive_takes bytes n e =
-    let x = bind_some (number_at 4294967295 bytes) (λ (n : ℕ). cond (nat_le 1 n) (Some n) None) n e in
+    let x = some_then (number_at 4294967295 bytes) (λ (n : ℕ). cond (nat_le 1 n) (Some n) None) n e in
     let g = guard_some (nat_le 1 x.0) (Some x.0) n x.2 in
     let t : TakesNumber 4294967295 bytes x.0 = number_takes 4294967295 bytes x.0 x.1 in
     let test : nat_le 1 x.0 ≡ true = g.0 in
@@ -94,15 +97,15 @@ pub record TakesSigned (Spells : List ℕ → ℕ → Type 0) (most : ℕ) (byte
 pub signed_takes : (read : List ℕ → Option ℕ) (Spells : List ℕ → ℕ → Type 0) (most : ℕ) → ReadsDigits read Spells most → (bytes : List ℕ) (z : ℤ) → signed_at read bytes ≡ Some z → TakesSigned Spells most bytes z
 signed_takes read Spells most r [] z e = absurd cc
 signed_takes read Spells most r (b ∷ bs) z e =
-    chosen (b == 45) (read bs >>= λ n. Some (neg_ℤ (pos n))) (read (b ∷ bs) >>= λ n. Some (pos n)) (Some z) e (TakesSigned Spells most (b ∷ bs) z)
+    chosen (b == 45) (and_then (read bs) (λ n. Some (neg_ℤ (pos n)))) (and_then (read (b ∷ bs)) (λ n. Some (pos n))) (Some z) e (TakesSigned Spells most (b ∷ bs) z)
     (λ t is.
-    let x = bind_some (read bs) (λ (n : ℕ). Some (neg_ℤ (pos n))) z is in
+    let x = some_then (read bs) (λ (n : ℕ). Some (neg_ℤ (pos n))) z is in
     let same : b ≡ 45 = grind (arith, nat_tests) in
     let value : neg_ℤ (pos x.0) ≡ z = same_Some (neg_ℤ (pos x.0)) z x.2 in
     let limit : x.0 ≤ most = r.limit bs x.0 x.1 in
     rw (same, ← value) (record { spells = minus bs x.0 (r.takes bs x.0 x.1); low = omega (arith, ints); high = omega (arith, ints) }))
     (λ f is.
-    let x = bind_some (read (b ∷ bs)) (λ (n : ℕ). Some (pos n)) z is in
+    let x = some_then (read (b ∷ bs)) (λ (n : ℕ). Some (pos n)) z is in
     let value : pos x.0 ≡ z = same_Some (pos x.0) z x.2 in
     let limit : x.0 ≤ most = r.limit (b ∷ bs) x.0 x.1 in
     rw (← value) (record { spells = plain (b ∷ bs) x.0 (r.takes (b ∷ bs) x.0 x.1); low = omega (arith, ints); high = omega (arith, ints) }))
@@ -161,7 +164,7 @@ pub record TakesUnits (most : ℕ) (bytes : List ℕ) (n : ℕ) : Type 0 where
 
 parts_take : (most : ℕ) (bytes : List ℕ) (n : ℕ) (r : Option (List ℕ × List ℕ)) → cut_at 46 bytes ≡ r → parts_at most bytes r ≡ Some n → TakesUnits most bytes n
 parts_take most bytes n None cut e =
-    let x = bind_some (digits_at 10 3 bytes) (λ (d : ℕ). within most (d * 10 ^ 7)) n e in
+    let x = some_then (digits_at 10 3 bytes) (λ (d : ℕ). within most (d * 10 ^ 7)) n e in
     let t : IsNumeralOf 10 3 bytes x.0 = digits_take 10 3 bytes x.0 x.1 in
     let w = within_some most (x.0 * 10 ^ 7) n x.2 in
     let value : x.0 ≡ digits_value 10 bytes = t.value in
@@ -170,8 +173,8 @@ parts_take most bytes n None cut e =
     let limit : x.0 * 10 ^ 7 ≤ most = w.1 in
     record { spells = rw (← is) (whole bytes (numeral_of 10 3 bytes x.0 t) t.short); limit = omega arith }
 parts_take most bytes n (Some c) cut e =
-    let x = bind_some (digits_at 10 3 c.0) (λ (d : ℕ). ◌>>=◌ {A = ℕ} {B = ℕ} (digits_at 10 7 c.1) (λ f. within most (d * 10 ^ 7 + f * 10 ^ (7 - length c.1)))) n e in
-    let y = bind_some (digits_at 10 7 c.1) (λ (f : ℕ). within most (x.0 * 10 ^ 7 + f * 10 ^ (7 - length c.1))) n x.2 in
+    let x = some_then (digits_at 10 3 c.0) (λ (d : ℕ). and_then {A = ℕ} {B = ℕ} (digits_at 10 7 c.1) (λ f. within most (d * 10 ^ 7 + f * 10 ^ (7 - length c.1)))) n e in
+    let y = some_then (digits_at 10 7 c.1) (λ (f : ℕ). within most (x.0 * 10 ^ 7 + f * 10 ^ (7 - length c.1))) n x.2 in
     let t : IsNumeralOf 10 3 c.0 x.0 = digits_take 10 3 c.0 x.0 x.1 in
     let u : IsNumeralOf 10 7 c.1 y.0 = digits_take 10 7 c.1 y.0 y.1 in
     let w = within_some most (x.0 * 10 ^ 7 + y.0 * 10 ^ (7 - length c.1)) n y.2 in

@@ -16,13 +16,13 @@ use Rattle.osm_opl.specs.Line.{SpellsLine, SpellsWhat, node, way, relation, dele
 use Rattle.osm_opl.specs.Lists.{SpellsList, SpellsTag, SpellsRef, SpellsMember, letter_of}
 use Rattle.osm_opl.specs.Number.{SpellsNumber}
 use Rattle.osm_opl.specs.Written.{visible_text}
-use Rattle.osm_opl.specs.Reading.{member_at, ref_at, tag_at}
-use Rattle.osm_opl.specs.Laws.PieceLemmas.{Lacks}
-use Rattle.osm_opl.specs.Laws.NumberLaws.{id_lacks, digits_lack}
-use Rattle.osm_opl.specs.Laws.EscapeLaws.{text_lacks}
-use Rattle.osm_opl.specs.Laws.ListLaws.{IsBlank, IsMember, list_lacks, members_read, refs_read, tags_read}
-use Rattle.osm_opl.specs.Laws.PlaceLaws.{place_lacks, longitude_read, latitude_read}
-use Rattle.osm_opl.specs.Laws.ObjectLaws.{is_standing}
+use Rattle.osm_opl.specs.Steps.Reading.{member_at, ref_at, tag_at}
+use Rattle.osm_reading.specs.Pieces.{Lacks}
+use Rattle.osm_opl.proofs.NumberLaws.{id_lacks, digits_lack}
+use Rattle.osm_opl.proofs.EscapeLaws.{text_lacks}
+use Rattle.osm_opl.proofs.ListLaws.{IsBlank, IsMember, list_lacks, members_read, refs_read, tags_read}
+use Rattle.osm_opl.proofs.PlaceLaws.{place_lacks, longitude_read, latitude_read}
+use Rattle.osm_opl.proofs.ObjectLaws.{is_standing}
 
 tags_lack : (s : ℕ) (b : IsBlank s) (t : List ℕ) (tags : List Tag) → SpellsList SpellsTag t tags → Lacks s (84 ∷ t)
 tags_lack s b t tags h = (λ e. omega (arith, e, b.low), list_lacks tag_at SpellsTag IsTag tags_read s b t tags h)

@@ -1,6 +1,6 @@
 -- A field that is read stands first, with its letter, and what stands so is read; the field of the kind
 -- and the id among them.
-use Rattle.std.proofs.Common.{◌≡◌, ℕ, true, List, [], ◌∷◌, Some, refl, ap, subst, ◌∙◌, arith}
+use Rattle.std.proofs.Common.{◌≡◌, ℕ, true, List, [], ◌∷◌, Some, None, refl, ap, subst, ◌∙◌, arith}
 use Rattle.std.specs.Prelude.{◌==◌, ℤ}
 use Rattle.std.proofs.lemmas.Bool.Decides.{nat_tests}
 use Rattle.std.proofs.lemmas.Option.{same_Some}
@@ -9,10 +9,13 @@ use Rattle.osm_model.specs.declared.kind.Key.{Key}
 use Rattle.osm_model.specs.declared.kind.Kind.{Kind}
 use Rattle.osm_opl.specs.Lists.{letter_of}
 use Rattle.osm_opl.specs.Number.{SpellsId}
-use Rattle.osm_opl.specs.Reading.{◌>>=◌, alone, field_at, id_at, key_at, kind_at, last_field_at}
-use Rattle.osm_opl.specs.Laws.Steps.{bind_some, guard_some}
-use Rattle.osm_opl.specs.Laws.NumberLaws.{TakesId, id_takes, id_again}
-use Rattle.osm_opl.specs.Laws.ListLaws.{kind_taken, kind_again}
+use Rattle.osm_opl.specs.Steps.Reading.{alone, field_at, id_at, key_at, kind_at, last_field_at}
+use Rattle.osm_reading.specs.Pieces.{pieces}
+use Rattle.osm_reading.specs.Steps.Answers.{and_then}
+use Rattle.osm_reading.proofs.PieceLemmas.{pieces_some}
+use Rattle.osm_reading.proofs.StepLemmas.{some_then, guard_some}
+use Rattle.osm_opl.proofs.NumberLaws.{TakesId, id_takes, id_again}
+use Rattle.osm_opl.proofs.ListLaws.{kind_taken, kind_again}
 
 -- ---- fields
 
@@ -36,7 +39,7 @@ field_again letter content more = let t : (letter == letter) ≡ true = grind (a
 pub last_field_takes : (letter : ℕ) (fields : List (List ℕ)) (content : List ℕ) → last_field_at letter fields ≡ Some content → fields ≡ (letter ∷ content) ∷ []
 unfolding last_field_at
 last_field_takes letter fields content e =
-    let x = bind_some (field_at letter fields) alone content e in
+    let x = some_then (field_at letter fields) alone content e in
     let parts : fields ≡ (letter ∷ x.0.0) ∷ x.0.1 = field_takes letter fields x.0.0 x.0.1 x.1 in
     parts ∙ ap (λ (p : List ℕ × List (List ℕ)). (letter ∷ p.0) ∷ p.1) (by_end x.0.0 x.0.1 content x.2)
   where
@@ -47,6 +50,10 @@ last_field_takes letter fields content e =
 pub last_field_again : (letter : ℕ) (content : List ℕ) → last_field_at letter ((letter ∷ content) ∷ []) ≡ Some content
 unfolding last_field_at
 last_field_again letter content = rw (field_again letter content []) refl
+
+-- so a field that something follows isn't the last
+pub not_alone : (s : ℕ) (content rest : List ℕ) → alone (content, pieces s rest) ≡ None
+not_alone s content rest = let r = pieces_some s rest in rw r.2 refl
 
 -- ---- the kind and the id
 
@@ -61,8 +68,8 @@ unfolding key_at
 key_takes [] k e = absurd cc
 key_takes ([] ∷ more) k e = absurd cc
 key_takes ((b ∷ bs) ∷ more) k e =
-    let a = bind_some (kind_at b) (λ (kind : Kind). ◌>>=◌ {A = ℤ} {B = Key × List (List ℕ)} (id_at bs) (λ id. Some (record { kind = kind; id = id }, more))) k e in
-    let i = bind_some (id_at bs) (λ (id : ℤ). Some (let x : Key × List (List ℕ) = (record { kind = a.0; id = id }, more) in x)) k a.2 in
+    let a = some_then (kind_at b) (λ (kind : Kind). and_then {A = ℤ} {B = Key × List (List ℕ)} (id_at bs) (λ id. Some (record { kind = kind; id = id }, more))) k e in
+    let i = some_then (id_at bs) (λ (id : ℤ). Some (let x : Key × List (List ℕ) = (record { kind = a.0; id = id }, more) in x)) k a.2 in
     let made : Key × List (List ℕ) = (record { kind = a.0; id = i.0 }, more) in
     let t : TakesId bs i.0 = id_takes bs i.0 i.1 in
     let letter : b ≡ letter_of a.0 = kind_taken b a.0 a.1 in

@@ -10,11 +10,11 @@ use Rattle.osm_model.specs.Time.{Shows, TimeText, seconds_of}
 use Rattle.osm_model.proofs.TimeLemmas.{loose_moment-moment_text, has_digits, one_text}
 use Rattle.osm_model.specs.CivilTime.{time_text}
 use Rattle.osm_model.proofs.CivilTimeLemmas.{time_text_shows}
-use Rattle.osm_opl.specs.Reading.{time_at}
+use Rattle.osm_opl.specs.Steps.Reading.{time_at}
 use Rattle.osm_model.specs.declared.form.Why.{Why}
 use Rattle.std.specs.Option.{ok_or}
-use Rattle.osm_opl.specs.Answers.{Finds}
-use Rattle.osm_opl.specs.Laws.Steps.{both, guard_some}
+use Rattle.osm_reading.specs.Steps.Answers.{Finds}
+use Rattle.osm_reading.proofs.StepLemmas.{both_held, guard_some}
 
 shows_at : (bytes : List ℕ) (t : ℕ) → t < 2 ^ 32 → bytes ≡ time_text t → Shows bytes t
 shows_at bytes t h e = rw e (time_text_shows t h)
@@ -25,8 +25,8 @@ unfolding time_at
 time_takes bytes t e =
     let u : ℕ = unsigned_abs (seconds_of (loose_moment bytes)) in
     let g = guard_some (leb 1 u && ltb u (2 ^ 32) && bytes_eq bytes (time_text u)) (Some u) t e in
-    let p = both (leb 1 u && ltb u (2 ^ 32)) (bytes_eq bytes (time_text u)) g.0 in
-    let q = both (leb 1 u) (ltb u (2 ^ 32)) p.0 in
+    let p = both_held (leb 1 u && ltb u (2 ^ 32)) (bytes_eq bytes (time_text u)) g.0 in
+    let q = both_held (leb 1 u) (ltb u (2 ^ 32)) p.0 in
     let a : leb 1 u ≡ true = q.0 in
     let b : ltb u (2 ^ 32) ≡ true = q.1 in
     let low : 1 ≤ u = grind (arith, nat_tests) in

@@ -1,7 +1,6 @@
--- How a line is read: the value that bytes spell, where they spell one. The laws that tie these
--- functions to the grammar stand in proofs/.
+-- How a line is read: the value that bytes spell, if they spell one. Only clauses of private
+-- functions cite these definitions; the lemmas that tie them to the grammar are in proofs/.
 use Rattle.std.specs.Prelude.{ℕ, ◌+◌, ◌-◌, ◌*◌, ◌^◌, ◌==◌, ◌&&◌, nat_lt, nat_le, not, Bool, true, false, List, [], ◌∷◌, ◌++◌, length, Option, None, Some, ℤ, pos, neg_ℤ, if◌then◌else◌, unsigned_abs}
-use Rattle.std.specs.Borrow.{Bor}
 use Rattle.std.specs.Char.{encode_utf8, digit_value}
 use Rattle.std.specs.List.{list_all}
 use Rattle.std.specs.Str.{is_utf8, bytes_eq}
@@ -20,24 +19,8 @@ use Rattle.osm_model.specs.declared.lists.Member.{Member}
 use Rattle.osm_model.specs.declared.lists.Tag.{Tag}
 use Rattle.osm_model.specs.CivilTime.{time_text}
 use Rattle.osm_opl.specs.Escape.{is_reserved}
-use Rattle.osm_opl.specs.Pieces.{pieces}
-
-infixl 10 ◌>>=◌
-abbrev pub ◌>>=◌ : {A B : Type 0} → Option A → (A → Option B) → Option B
-(Some x) >>= f = f x
-None >>= f = None
-
--- the bytes before the first separator, and those after it
-unfoldable pub cut_at : ℕ → List ℕ → Option (List ℕ × List ℕ)
-cut_at separator [] = None
-cut_at separator (b ∷ bs) =
-    if b == separator then Some ([], bs)
-    else (cut_at separator bs >>= λ c. Some (b ∷ c.0, c.1))
-
--- the pieces of what follows a separator, if there is one
-abbrev pub pieces_after : ℕ → Option (Bor (List ℕ)) → List (List ℕ)
-pieces_after separator None = []
-pieces_after separator (Some rest) = pieces separator rest.now
+use Rattle.osm_reading.specs.Pieces.{cut_at, pieces}
+use Rattle.osm_reading.specs.Steps.Answers.{and_then}
 
 -- each byte is a digit in the radix
 abbrev pub all_digits : ℕ → List ℕ → Bool
@@ -55,18 +38,19 @@ digits_at radix most bytes =
 
 -- a number of 1 to 20 digits, at most so great
 unfoldable pub number_at : ℕ → List ℕ → Option ℕ
-number_at most bytes = digits_at 10 20 bytes >>= λ n. if nat_le n most then Some n else None
+number_at most bytes = and_then (digits_at 10 20 bytes) (λ n. if nat_le n most then Some n else None)
 
 -- 1 to 4,294,967,295
 unfoldable pub positive_at : List ℕ → Option ℕ
-positive_at bytes = number_at 4294967295 bytes >>= λ n. if nat_le 1 n then Some n else None
+positive_at bytes =
+    and_then (number_at 4294967295 bytes) (λ n. if nat_le 1 n then Some n else None)
 
 -- with or without `-` in front
 abbrev pub signed_at : (List ℕ → Option ℕ) → List ℕ → Option ℤ
 signed_at read [] = None
 signed_at read (b ∷ bs) =
-    if b == 45 then (read bs >>= λ n. Some (neg_ℤ (pos n)))
-    else (read (b ∷ bs) >>= λ n. Some (pos n))
+    if b == 45 then and_then (read bs) (λ n. Some (neg_ℤ (pos n)))
+    else and_then (read (b ∷ bs)) (λ n. Some (pos n))
 
 unfoldable pub id_at : List ℕ → Option ℤ
 id_at bytes = signed_at (number_at 4611686018427387903) bytes
@@ -76,9 +60,10 @@ abbrev pub within : ℕ → ℕ → Option ℕ
 within most units = if nat_le units most then Some units else None
 
 abbrev pub parts_at : ℕ → List ℕ → Option (List ℕ × List ℕ) → Option ℕ
-parts_at most bytes None = digits_at 10 3 bytes >>= λ d. within most (d * 10 ^ 7)
+parts_at most bytes None = and_then (digits_at 10 3 bytes) (λ d. within most (d * 10 ^ 7))
 parts_at most bytes (Some c) =
-    digits_at 10 3 c.0 >>= λ d. digits_at 10 7 c.1 >>= λ f. within most (d * 10 ^ 7 + f * 10 ^ (7 - length c.1))
+    and_then (digits_at 10 3 c.0) (λ d. and_then (digits_at 10 7 c.1) (λ f.
+    within most (d * 10 ^ 7 + f * 10 ^ (7 - length c.1))))
 
 unfoldable pub units_at : ℕ → List ℕ → Option ℕ
 units_at most bytes = parts_at most bytes (cut_at 46 bytes)
@@ -89,7 +74,7 @@ coordinate_at most bytes = signed_at (units_at most) bytes
 -- a coordinate, or nothing
 unfoldable pub place_at : ℕ → List ℕ → Option (Option ℤ)
 place_at most [] = Some None
-place_at most (b ∷ bs) = coordinate_at most (b ∷ bs) >>= λ z. Some (Some z)
+place_at most (b ∷ bs) = and_then (coordinate_at most (b ∷ bs)) (λ z. Some (Some z))
 
 -- the seconds of the one time that has this text
 unfoldable pub time_at : List ℕ → Option ℕ
@@ -109,22 +94,25 @@ run_at run = if is_bare_run run then Some run else None
 
 -- the character that an escape names
 unfoldable pub escape_at : List ℕ → Option ℕ
-escape_at digits = digits_at 16 8 digits >>= λ c. if scalar c && not (c == 0) then Some c else None
+escape_at digits =
+    and_then (digits_at 16 8 digits) (λ c. if scalar c && not (c == 0) then Some c else None)
 
 -- runs and escapes in turn, a run at each end
 abbrev pub runs_at : List (List ℕ) → Option (List ℕ)
 runs_at [] = None
 runs_at (run ∷ []) = run_at run
 runs_at (run ∷ digits ∷ more) =
-    run_at run >>= λ r. escape_at digits >>= λ c. runs_at more >>= λ t. Some (r ++ encode_utf8 c ++ t)
+    and_then (run_at run) (λ r. and_then (escape_at digits) (λ c.
+    and_then (runs_at more) (λ t. Some (r ++ encode_utf8 c ++ t))))
 
 unfoldable pub text_at : List ℕ → Option (List ℕ)
-text_at bytes = runs_at (pieces 37 bytes) >>= λ t. if nat_le (length t) 1020 then Some t else None
+text_at bytes =
+    and_then (runs_at (pieces 37 bytes)) (λ t. if nat_le (length t) 1020 then Some t else None)
 
 -- each of the pieces
 abbrev pub each_at : {X : Type 0} → (List ℕ → Option X) → List (List ℕ) → Option (List X)
 each_at read [] = Some []
-each_at read (p ∷ ps) = read p >>= λ x. each_at read ps >>= λ xs. Some (x ∷ xs)
+each_at read (p ∷ ps) = and_then (read p) (λ x. and_then (each_at read ps) (λ xs. Some (x ∷ xs)))
 
 abbrev pub list_pieces : List ℕ → List (List ℕ)
 list_pieces [] = []
@@ -133,14 +121,15 @@ list_pieces (b ∷ bs) = pieces 44 (b ∷ bs)
 -- a list of at most so many items
 unfoldable pub list_at : {X : Type 0} → (List ℕ → Option X) → ℕ → List ℕ → Option (List X)
 list_at read most bytes =
-    each_at read (list_pieces bytes) >>= λ xs. if nat_le (length xs) most then Some xs else None
+    and_then (each_at read (list_pieces bytes)) (λ xs.
+    if nat_le (length xs) most then Some xs else None)
 
 unfoldable pub tag_at : List ℕ → Option Tag
-tag_at bytes = do
-  c ← cut_at 61 bytes
-  key ← text_at c.0
-  value ← text_at c.1
-  Some (record { key = key; value = value })
+tag_at bytes =
+    and_then (cut_at 61 bytes) (λ c.
+    and_then (text_at c.0) (λ key.
+    and_then (text_at c.1) (λ value.
+    Some (record { key = key; value = value }))))
 
 unfoldable pub ref_at : List ℕ → Option ℤ
 ref_at [] = None
@@ -152,15 +141,15 @@ kind_at b =
     if b == 110 then Some Node else (if b == 119 then Some Way else (if b == 114 then Some Relation else None))
 
 abbrev pub member_after : List ℕ → Kind → Option Member
-member_after bs kind = do
-  c ← cut_at 64 bs
-  id ← id_at c.0
-  role ← text_at c.1
-  Some (record { key = record { kind = kind; id = id }; role = role })
+member_after bs kind =
+    and_then (cut_at 64 bs) (λ c.
+    and_then (id_at c.0) (λ id.
+    and_then (text_at c.1) (λ role.
+    Some (record { key = record { kind = kind; id = id }; role = role }))))
 
 unfoldable pub member_at : List ℕ → Option Member
 member_at [] = None
-member_at (b ∷ bs) = kind_at b >>= member_after bs
+member_at (b ∷ bs) = and_then (kind_at b) (member_after bs)
 
 -- the content of the next field, which has that letter, and the fields after it
 unfoldable pub field_at : ℕ → List (List ℕ) → Option (List ℕ × List (List ℕ))
@@ -174,13 +163,15 @@ alone (content, []) = Some content
 alone (content, p ∷ ps) = None
 
 unfoldable pub last_field_at : ℕ → List (List ℕ) → Option (List ℕ)
-last_field_at letter fields = field_at letter fields >>= alone
+last_field_at letter fields = and_then (field_at letter fields) alone
 
 -- the kind and the id, and the fields after them
 unfoldable pub key_at : List (List ℕ) → Option (Key × List (List ℕ))
 key_at [] = None
 key_at ([] ∷ more) = None
-key_at ((b ∷ bs) ∷ more) = kind_at b >>= λ kind. id_at bs >>= λ id. Some (record { kind = kind; id = id }, more)
+key_at ((b ∷ bs) ∷ more) =
+    and_then (kind_at b) (λ kind. and_then (id_at bs) (λ id.
+    Some (record { kind = kind; id = id }, more)))
 
 -- `V` or `D`
 unfoldable pub status_at : List ℕ → Option Bool
@@ -191,27 +182,30 @@ status_at (b ∷ c ∷ bs) = None
 -- the number of the next field, which has that letter
 unfoldable pub positive_field_at : ℕ → List (List ℕ) → Option (ℕ × List (List ℕ))
 positive_field_at letter fields =
-    field_at letter fields >>= λ f. positive_at f.0 >>= λ n. Some (n, f.1)
+    and_then (field_at letter fields) (λ f. and_then (positive_at f.0) (λ n. Some (n, f.1)))
 
 unfoldable pub status_field_at : List (List ℕ) → Option (Bool × List (List ℕ))
-status_field_at fields = field_at 100 fields >>= λ f. status_at f.0 >>= λ b. Some (b, f.1)
+status_field_at fields =
+    and_then (field_at 100 fields) (λ f. and_then (status_at f.0) (λ b. Some (b, f.1)))
 
 unfoldable pub time_field_at : List (List ℕ) → Option (ℕ × List (List ℕ))
-time_field_at fields = field_at 116 fields >>= λ f. time_at f.0 >>= λ t. Some (t, f.1)
+time_field_at fields =
+    and_then (field_at 116 fields) (λ f. and_then (time_at f.0) (λ t. Some (t, f.1)))
 
 unfoldable pub user_field_at : List (List ℕ) → Option (List ℕ × List (List ℕ))
-user_field_at fields = field_at 117 fields >>= λ f. text_at f.0 >>= λ t. Some (t, f.1)
+user_field_at fields =
+    and_then (field_at 117 fields) (λ f. and_then (text_at f.0) (λ t. Some (t, f.1)))
 
 -- whether the object stands, the metadata, and the fields after them
 unfoldable pub head_at : List (List ℕ) → Option (Bool × MetaValue × List (List ℕ))
-head_at fields = do
-  v ← positive_field_at 118 fields
-  d ← status_field_at v.1
-  c ← positive_field_at 99 d.1
-  t ← time_field_at c.1
-  i ← positive_field_at 105 t.1
-  u ← user_field_at i.1
-  Some (d.0, record { version = v.0; time = t.0; changeset = c.0; uid = i.0; user = u.0 }, u.1)
+head_at fields =
+    and_then (positive_field_at 118 fields) (λ v.
+    and_then (status_field_at v.1) (λ d.
+    and_then (positive_field_at 99 d.1) (λ c.
+    and_then (time_field_at c.1) (λ t.
+    and_then (positive_field_at 105 t.1) (λ i.
+    and_then (user_field_at i.1) (λ u.
+    Some (d.0, record { version = v.0; time = t.0; changeset = c.0; uid = i.0; user = u.0 }, u.1)))))))
 
 abbrev pub node_of : Bool → Option ℤ → Option ℤ → List Tag → Option What
 node_of false lon lat tags = Some whats.Deleted
@@ -220,30 +214,30 @@ node_of true (Some lon) None tags = None
 node_of true None lat tags = None
 
 unfoldable pub node_at : Bool → List (List ℕ) → Option What
-node_at is_visible fields = do
-  t ← field_at 84 fields
-  tags ← list_at tag_at 5000 t.0
-  x ← field_at 120 t.1
-  lon ← place_at 1800000000 x.0
-  y ← last_field_at 121 x.1
-  lat ← place_at 900000000 y
-  node_of is_visible lon lat tags
+node_at is_visible fields =
+    and_then (field_at 84 fields) (λ t.
+    and_then (list_at tag_at 5000 t.0) (λ tags.
+    and_then (field_at 120 t.1) (λ x.
+    and_then (place_at 1800000000 x.0) (λ lon.
+    and_then (last_field_at 121 x.1) (λ y.
+    and_then (place_at 900000000 y) (λ lat.
+    node_of is_visible lon lat tags))))))
 
 unfoldable pub way_at : Bool → List (List ℕ) → Option What
-way_at is_visible fields = do
-  t ← field_at 84 fields
-  tags ← list_at tag_at 5000 t.0
-  n ← last_field_at 78 t.1
-  refs ← list_at ref_at 32000 n
-  Some (if is_visible then whats.Way refs tags else whats.Deleted)
+way_at is_visible fields =
+    and_then (field_at 84 fields) (λ t.
+    and_then (list_at tag_at 5000 t.0) (λ tags.
+    and_then (last_field_at 78 t.1) (λ n.
+    and_then (list_at ref_at 32000 n) (λ refs.
+    Some (if is_visible then whats.Way refs tags else whats.Deleted)))))
 
 unfoldable pub relation_at : Bool → List (List ℕ) → Option What
-relation_at is_visible fields = do
-  t ← field_at 84 fields
-  tags ← list_at tag_at 5000 t.0
-  m ← last_field_at 77 t.1
-  members ← list_at member_at 32000 m
-  Some (if is_visible then whats.Relation members tags else whats.Deleted)
+relation_at is_visible fields =
+    and_then (field_at 84 fields) (λ t.
+    and_then (list_at tag_at 5000 t.0) (λ tags.
+    and_then (last_field_at 77 t.1) (λ m.
+    and_then (list_at member_at 32000 m) (λ members.
+    Some (if is_visible then whats.Relation members tags else whats.Deleted)))))
 
 -- the fields after the user
 abbrev pub what_at : Kind → Bool → List (List ℕ) → Option What
@@ -252,8 +246,8 @@ what_at Way = way_at
 what_at Relation = relation_at
 
 unfoldable pub line_at : List ℕ → Option ChangeValue
-line_at line = do
-  k ← key_at (pieces 32 line)
-  h ← head_at k.1
-  what ← what_at k.0.kind h.0 h.2
-  Some (record { key = k.0; meta = h.1; what = what })
+line_at line =
+    and_then (key_at (pieces 32 line)) (λ k.
+    and_then (head_at k.1) (λ h.
+    and_then (what_at k.0.kind h.0 h.2) (λ what.
+    Some (record { key = k.0; meta = h.1; what = what }))))
