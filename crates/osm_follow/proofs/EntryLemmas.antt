@@ -11,7 +11,7 @@ use Rattle.osm_model.specs.Change.{ChangeValue}
 use Rattle.osm_model.specs.KeyOrder.{key_cmp}
 use Rattle.osm_model.specs.declared.kind.Key.{Key}
 use Rattle.osm_model.proofs.ContentLemmas.{one_key}
-use Rattle.osm_follow.specs.Entries.{HaveOwnKeys, objects_of}
+use Rattle.osm_follow.specs.Steps.Entries.{HaveOwnKeys, objects_of}
 use Rattle.osm_follow.specs.Mirror.{object_at, Counted, IsAboveZero}
 
 pub object_at-objects_of : (es : List (Key × ChangeValue)) (k : Key) → HaveOwnKeys es → object_at (objects_of es) k ≡ lookup (is_at (key_cmp k)) es

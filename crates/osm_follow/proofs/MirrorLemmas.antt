@@ -9,7 +9,8 @@ use Rattle.osm_model.specs.Change.{ChangeValue}
 use Rattle.osm_model.specs.Content.{over_at, last_of, edits_by_user, edits_by_changeset}
 use Rattle.osm_model.specs.KeyOrder.{key_cmp}
 use Rattle.osm_model.proofs.ContentLemmas.{over-append, edits_by_user-append, edits_by_changeset-append}
-use Rattle.osm_follow.specs.Mirror.{MirrorValue, object_at, Applies, GrowsBy, HasRoom, IsOrderly, NeedsMemory, NeedsPlace, IsMirrorOf, IsWithin, no_mirror}
+use Rattle.osm_follow.specs.Steps.Room.{GrowsBy, HasRoom}
+use Rattle.osm_follow.specs.Mirror.{MirrorValue, object_at, Applies, IsOrderly, NeedsMemory, NeedsNewEntry, IsMirrorOf, IsWithin, no_mirror}
 
 pub rising-nil : {K : Type 0} (cmp : K → K → Ordering) → IsStrictlySortedBy cmp []
 unfolding IsStrictlySortedBy
@@ -60,10 +61,10 @@ room_left a b before after c room f =
     }
 
 -- what needs a place after some changes needs one among them all
-pub needs_memory : (a b : MirrorValue) (before after : List ChangeValue) (c : ChangeValue) → Applies a before b → NeedsPlace b [] c → NeedsMemory a (before ++ c ∷ after)
+pub needs_memory : (a b : MirrorValue) (before after : List ChangeValue) (c : ChangeValue) → Applies a before b → NeedsNewEntry b [] c → NeedsMemory a (before ++ c ∷ after)
 needs_memory a b before after c f place = record { before = before; change = c; after = after; is = refl; place = by_place place }
   where
-    by_place : NeedsPlace b [] c → NeedsPlace a before c
+    by_place : NeedsNewEntry b [] c → NeedsNewEntry a before c
     by_place (inl user) = inl (let p = f.users c.meta.uid in omega arith)
     by_place (inr (inl changeset)) = inr (inl (let p = f.changesets c.meta.changeset in omega arith))
     by_place (inr (inr object)) = inr (inr (object.0, sym (f.objects c.key) ∙ object.1))

@@ -9,7 +9,7 @@ use Rattle.osm_follow.specs.Correct.{IsInStep, IsReported}
 use Rattle.osm_follow.specs.Delivery.{Takes, Breaks}
 use Rattle.osm_follow.specs.Follower.{FollowerValue, IsState}
 use Rattle.osm_follow.specs.History as hist
-use Rattle.osm_follow.specs.Published.{PublishedValue, member, changes_at}
+use Rattle.osm_follow.specs.Published.{PublishedValue, sequence_at, changes_at}
 use Rattle.osm_follow.specs.Reach.{numbers}
 use Rattle.osm_follow.specs.Step.{Step}
 use Rattle.osm_follow.specs.World.{WorldValue, new_world}
@@ -19,7 +19,7 @@ use Rattle.osm_follow.specs.declared.event.Form.{Form}
 use Rattle.osm_follow.specs.declared.event.Reply.{Reply}
 use Rattle.osm_follow.specs.declared.event.Reply.TheVariants.{Edited, BatchFull, WantOfMemory, Closed, SequenceFull, TimeBack, NotPublished, Broken, Old, TooEarly, Applied, Broke, Shown}
 use Rattle.osm_follow.proofs.MirrorLemmas.{mirror_grown, mirror_of-nil}
-use Rattle.osm_follow.proofs.PublishedLemmas.{flat_within, member_within, time_within, flat_next, time_next}
+use Rattle.osm_follow.proofs.PublishedLemmas.{changes_within, sequence_within, time_within, changes_next, time_next}
 
 -- one pair more at the end
 zip-snoc : (es : List Event) (rs : List Reply) (e : Event) (r : Reply) → length rs ≡ length es → zip (es ++ e ∷ []) (rs ++ r ∷ []) ≡ zip es rs ++ (e, r) ∷ []
@@ -61,9 +61,9 @@ state_grown : (ps more : List PublishedValue) (start : ℕ) (acc : ℕ → Bool)
 state_grown ps more start acc f s = record {
   reach = s.reach;
   within = rw length-append (let w = s.within in omega arith);
-  mirror = rw (flat_within ps more f.number s.within) s.mirror;
+  mirror = rw (changes_within ps more f.number s.within) s.mirror;
   time = s.time ∙ sym (time_within ps more f.number s.within);
-  held = λ j past. s.held j past ∙ held_more (acc j) (member ps j) (member (ps ++ more) j) (λ t. member_within ps more j (omega arith) (s.window j past t).1);
+  held = λ j past. s.held j past ∙ held_more (acc j) (sequence_at ps j) (sequence_at (ps ++ more) j) (λ t. sequence_within ps more j (omega arith) (s.window j past t).1);
   released = s.released;
   window = λ j past t. (let w = s.window j past t in (w.0, rw length-append (omega (arith, w.1))));
 }
@@ -90,11 +90,11 @@ closed_keeps h t n a b s is = rw is (record {
 pub none_accepted : (ps : List PublishedValue) (start : ℕ) (acc : ℕ → Bool) (f : FollowerValue) → IsState ps start acc f → (j : ℕ) → f.number < j → acc j ≡ false
 none_accepted ps start acc f s j past = by_held (acc j) (s.held j past)
   where
-    by_held : (b : Bool) → None ≡ (if b then Some (member ps j) else None) → b ≡ false
+    by_held : (b : Bool) → None ≡ (if b then Some (sequence_at ps j) else None) → b ≡ false
     by_held true e = cc
     by_held false e = refl
 
-taken_state : (ps : List PublishedValue) (start : ℕ) (acc : ℕ → Bool) (k : ℕ) (f g : FollowerValue) → IsState ps start acc f → k ≡ f.number + 1 → k ≤ length ps → Takes f k (member ps k) g → IsState ps start (λ j. (k == j) || acc j) g
+taken_state : (ps : List PublishedValue) (start : ℕ) (acc : ℕ → Bool) (k : ℕ) (f g : FollowerValue) → IsState ps start acc f → k ≡ f.number + 1 → k ≤ length ps → Takes f k (sequence_at ps k) g → IsState ps start (λ j. (k == j) || acc j) g
 taken_state ps start acc k f g s next there t =
     let from = s.reach.from in
     let none : (j : ℕ) → k < j → ((k == j) || acc j) ≡ false = λ j past. or_from (k == j) (acc j) (ne_eqb k j (λ e. omega arith)) (none_accepted ps start acc f s j (omega arith)) in
@@ -108,9 +108,9 @@ taken_state ps start acc k f g s next there t =
         next = none (k + 1) (omega arith);
       };
       within = there;
-      mirror = rw (flat_next ps f.number k next there) (mirror_grown f.mirror g.mirror _ (changes_at ps k) s.mirror t.applied);
+      mirror = rw (changes_next ps f.number k next there) (mirror_grown f.mirror g.mirror _ (changes_at ps k) s.mirror t.applied);
       time = sym (time_next ps f.number k next);
-      held = λ j past. sym (ap (λ b. if b then Some (member ps j) else None) (none j past));
+      held = λ j past. sym (ap (λ b. if b then Some (sequence_at ps j) else None) (none j past));
       released = λ j below. refl;
       window = λ j past is. absurd (let out = none j past in let bad : true ≡ false = sym is ∙ out in cc);
     })
@@ -129,10 +129,10 @@ reported_more reported start n k e p =
     added : (s c d : ℕ) → d ≡ c + 1 → numbers s c ++ (s + d) ∷ [] ≡ numbers s d
     added s c d is = let more : d ≡ suc c = omega arith in rw more refl
 
-applied_keeps : (h : hist.History) (k low high : ℕ) (form : Form) (a b : WorldValue) → IsInStep h a → k ≡ a.follower.number + 1 → k ≤ length a.published → low ≡ k → high ≡ k → Takes a.follower k (member a.published k) b.follower → b ≡ record a { follower = b.follower } → IsInStep ((Deliver k form, Applied low high) ∷ h) b
+applied_keeps : (h : hist.History) (k low high : ℕ) (form : Form) (a b : WorldValue) → IsInStep h a → k ≡ a.follower.number + 1 → k ≤ length a.published → low ≡ k → high ≡ k → Takes a.follower k (sequence_at a.published k) b.follower → b ≡ record a { follower = b.follower } → IsInStep ((Deliver k form, Applied low high) ∷ h) b
 applied_keeps h k low high form a b s next there low_is high_is t rest =
     let within : k ≤ length (hist.published_of h) = rw s.published at there in
-    let takes : Takes a.follower k (member (hist.published_of h) k) b.follower = subst (λ (ps : List PublishedValue). Takes a.follower k (member ps k) b.follower) s.published t in
+    let takes : Takes a.follower k (sequence_at (hist.published_of h) k) b.follower = subst (λ (ps : List PublishedValue). Takes a.follower k (sequence_at ps k) b.follower) s.published t in
     let same : b.follower.is_broken ≡ a.follower.is_broken = ap (λ (f : FollowerValue). f.is_broken) t.rest in
     let number : b.follower.number ≡ k = ap (λ (f : FollowerValue). f.number) t.rest in
     rw rest (record {
@@ -143,7 +143,7 @@ applied_keeps h k low high form a b s next there low_is high_is t rest =
       reported = λ ok. rw (number, low_is, high_is) (reported_more (hist.reported_of h) (hist.start_of h) a.follower.number k next (s.reported ok));
     })
 
-broke_keeps : (h : hist.History) (k : ℕ) (form : Form) (a b : WorldValue) → IsInStep h a → Breaks a.follower (member a.published k) b.follower → b ≡ record a { follower = b.follower } → IsInStep ((Deliver k form, Broke) ∷ h) b
+broke_keeps : (h : hist.History) (k : ℕ) (form : Form) (a b : WorldValue) → IsInStep h a → Breaks a.follower (sequence_at a.published k) b.follower → b ≡ record a { follower = b.follower } → IsInStep ((Deliver k form, Broke) ∷ h) b
 broke_keeps h k form a b s t rest = rw rest (record {
   pending = rw append-nil s.pending;
   published = s.published;

@@ -11,7 +11,7 @@ pub record Takes (f : FollowerValue) (k : ℕ) (p : PublishedValue) (g : Followe
   pub applied : Applies f.mirror p.changes g.mirror
   pub rest : g ≡ record f { number = k; time = Some p.time; mirror = g.mirror }
 
--- the application was stopped half way, at a change that needs a new place
+-- the application was stopped half way, at a change that needs a new entry
 pub record Breaks (f : FollowerValue) (p : PublishedValue) (g : FollowerValue) : Type 0 where
   pub needs : NeedsMemory f.mirror p.changes
   pub rest : g ≡ record f { mirror = g.mirror; is_broken = true }

@@ -2,7 +2,7 @@
 use Rattle.std.specs.Prelude.{◌≡◌, ℕ, ◌+◌, ◌*◌, ◌<◌, ◌≤◌, List, length, Bool, true, false, Option, None, Some, if◌then◌else◌, IsTrue}
 use Rattle.osm_model.specs.Limits.{max_sequence, max_changes}
 use Rattle.osm_follow.specs.Mirror.{MirrorValue, IsMirrorOf, IsWithin, no_mirror}
-use Rattle.osm_follow.specs.Published.{PublishedValue, member, flat, time_at}
+use Rattle.osm_follow.specs.Published.{PublishedValue, sequence_at, changes_up_to, time_at}
 use Rattle.osm_follow.specs.Reach.{Reaches}
 
 pub record FollowerValue : Type 0 where
@@ -31,8 +31,8 @@ pub record IsBounded (number : ℕ) (mirror : MirrorValue) (is_broken : Bool) : 
 pub record IsState (published : List PublishedValue) (start : ℕ) (is_accepted : ℕ → Bool) (f : FollowerValue) : Type 0 where
   pub reach : Reaches is_accepted start f.number
   pub within : f.number ≤ length published
-  pub mirror : IsMirrorOf (flat published f.number) f.mirror
+  pub mirror : IsMirrorOf (changes_up_to published f.number) f.mirror
   pub time : f.time ≡ time_at published f.number
-  pub held : (j : ℕ) → f.number < j → held_at f j ≡ (if is_accepted j then Some (member published j) else None)
+  pub held : (j : ℕ) → f.number < j → held_at f j ≡ (if is_accepted j then Some (sequence_at published j) else None)
   pub released : (j : ℕ) → j ≤ f.number → held_at f j ≡ None
   pub window : (j : ℕ) → f.number < j → is_accepted j ≡ true → (j ≤ f.number + 64) × (j ≤ length published)

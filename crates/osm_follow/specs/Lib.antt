@@ -7,6 +7,6 @@ pub mod View
 pub mod History
 pub mod Legal
 pub mod Correct
-pub mod Entries
 pub mod Delivery
 pub mod Step
+pub mod Steps

@@ -1,5 +1,5 @@
 -- A mirror: the objects that stand, and the edits by user and by changeset, as lists that rise.
-use Rattle.std.specs.Prelude.{◌≡◌, ℕ, ◌+◌, ◌<◌, ◌≤◌, ◌^◌, List, [], ◌∷◌, ◌++◌, length, map, Option, Some, None, if◌then◌else◌, unwrap_or, ◌⊎◌}
+use Rattle.std.specs.Prelude.{◌≡◌, ℕ, ◌+◌, ◌<◌, ◌≤◌, List, [], ◌∷◌, ◌++◌, length, map, Option, Some, None, if◌then◌else◌, unwrap_or, ◌⊎◌}
 use Rattle.std.specs.BTreeMap.{is_at}
 use Rattle.std.specs.List.{AllByRecursion}
 use Rattle.std.specs.List.Sorted.{IsStrictlySortedBy}
@@ -62,31 +62,20 @@ pub record Applies (old : MirrorValue) (changes : List ChangeValue) (new : Mirro
   pub changesets : (id : ℕ) →
       count_at new.changesets id ≡ count_at old.changesets id + edits_by_changeset changes id
 
--- the change needs a new place for its user, its changeset or its key
-abbrev pub NeedsPlace : MirrorValue → List ChangeValue → ChangeValue → Type 0
-NeedsPlace m before c =
+-- the change needs a new entry for its user, its changeset or its key
+abbrev pub NeedsNewEntry : MirrorValue → List ChangeValue → ChangeValue → Type 0
+NeedsNewEntry m before c =
     (count_at m.users c.meta.uid ≡ 0)
     ⊎ (count_at m.changesets c.meta.changeset ≡ 0)
     ⊎ ((standing_of c ≡ Some c) × (over (object_at m.objects) before c.key ≡ None))
 
--- some change needs a new place, after those before it
+-- some change needs a new entry, after those before it
 pub record NeedsMemory (m : MirrorValue) (changes : List ChangeValue) : Type 0 where
   pub before : List ChangeValue
   pub change : ChangeValue
   pub after : List ChangeValue
   pub is : changes ≡ before ++ change ∷ after
-  pub place : NeedsPlace m before change
-
--- no list has grown by more than so much
-pub record GrowsBy (most : ℕ) (old new : MirrorValue) : Type 0 where
-  pub objects : length new.objects ≤ length old.objects + most
-  pub users : length new.users ≤ length old.users + most
-  pub changesets : length new.changesets ≤ length old.changesets + most
-
--- so many edits more fit into each count
-pub record HasRoom (more : ℕ) (m : MirrorValue) : Type 0 where
-  pub users : (uid : ℕ) → count_at m.users uid + more < 2 ^ 64
-  pub changesets : (id : ℕ) → count_at m.changesets id + more < 2 ^ 64
+  pub place : NeedsNewEntry m before change
 
 -- the empty mirror
 abbrev pub no_mirror : MirrorValue

@@ -14,25 +14,25 @@ abbrev pub unpublished : PublishedValue
 unpublished = record { number = 0; changes = []; time = 0 }
 
 -- the published sequence of that number
-abbrev pub member : List PublishedValue → ℕ → PublishedValue
-member published number = get_or published (number - 1) unpublished
+abbrev pub sequence_at : List PublishedValue → ℕ → PublishedValue
+sequence_at published number = get_or published (number - 1) unpublished
 
 -- each sequence stands at its own number
 abbrev pub AreNumbered : List PublishedValue → Type 0
-AreNumbered published = (k : ℕ) → 0 < k → k ≤ length published → (member published k).number ≡ k
+AreNumbered published = (k : ℕ) → 0 < k → k ≤ length published → (sequence_at published k).number ≡ k
 
 -- the changes of that sequence
 abbrev pub changes_at : List PublishedValue → ℕ → List ChangeValue
-changes_at published number = (member published number).changes
+changes_at published number = (sequence_at published number).changes
 
 -- the time of that sequence; the empty start has none
 abbrev pub time_at : List PublishedValue → ℕ → Option ℕ
 time_at published zero = None
-time_at published (suc n) = Some (member published (suc n)).time
+time_at published (suc n) = Some (sequence_at published (suc n)).time
 
 -- the changes of sequences 1 to that number, joined
-abbrev pub flat : List PublishedValue → ℕ → List ChangeValue
-flat published number = flat_map (λ p. p.changes) (take number published)
+abbrev pub changes_up_to : List PublishedValue → ℕ → List ChangeValue
+changes_up_to published number = flat_map (λ p. p.changes) (take number published)
 
 -- the time that the next close may not fall below: the last one's, or 1 before the first
 abbrev pub last_time : List PublishedValue → ℕ

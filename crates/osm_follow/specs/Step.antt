@@ -4,7 +4,7 @@ use Rattle.std.specs.Prelude.{◌≡◌, ℕ, ◌+◌, ◌<◌, ◌≤◌, [], �
 use Rattle.osm_model.specs.Change.{ChangeValue}
 use Rattle.osm_model.specs.Limits.{max_changes, max_sequence}
 use Rattle.osm_follow.specs.Delivery.{FollowerStep}
-use Rattle.osm_follow.specs.Published.{member, last_time}
+use Rattle.osm_follow.specs.Published.{sequence_at, last_time}
 use Rattle.osm_follow.specs.View.{view_of}
 use Rattle.osm_follow.specs.World.{WorldValue}
 use Rattle.osm_follow.specs.declared.event.Event.{Event}
@@ -33,7 +33,7 @@ CloseStep a t r b = ⊥
 pub record DeliversTo (a : WorldValue) (k : ℕ) (r : Reply) (b : WorldValue) : Type 0 where
   pub above : 0 < k
   pub there : k ≤ length a.published
-  pub step : FollowerStep a.follower k (member a.published k) r b.follower
+  pub step : FollowerStep a.follower k (sequence_at a.published k) r b.follower
   pub rest : b ≡ record a { follower = b.follower }
 
 abbrev pub DeliverStep : WorldValue → ℕ → Reply → WorldValue → Type 0

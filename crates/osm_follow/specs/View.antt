@@ -4,7 +4,7 @@ use Rattle.std.specs.List.Sorted.{IsStrictlySortedBy}
 use Rattle.std.specs.Ordering.{nat_cmp}
 use Rattle.osm_follow.specs.Follower.{FollowerValue}
 use Rattle.osm_follow.specs.Mirror.{MirrorValue, IsMirrorOf}
-use Rattle.osm_follow.specs.Published.{PublishedValue, flat, time_at}
+use Rattle.osm_follow.specs.Published.{PublishedValue, changes_up_to, time_at}
 use Rattle.osm_follow.specs.Reach.{Reaches}
 
 pub record ViewValue : Type 0 where
@@ -22,6 +22,6 @@ view_of f = record { number = f.number; time = f.time; mirror = f.mirror; held =
 pub record IsView (published : List PublishedValue) (start : ℕ) (is_accepted : ℕ → Bool) (v : ViewValue) : Type 0 where
   pub reach : Reaches is_accepted start v.number
   pub time : v.time ≡ time_at published v.number
-  pub mirror : IsMirrorOf (flat published v.number) v.mirror
+  pub mirror : IsMirrorOf (changes_up_to published v.number) v.mirror
   pub rising : IsStrictlySortedBy nat_cmp v.held
   pub held : (j : ℕ) → Contains v.held j ↔ ((v.number < j) × (is_accepted j ≡ true))

@@ -49,8 +49,8 @@ impl Counts {
         Ok(())
     }
 
-    /// The order of the numbers, and that no count is 0, for who needs them: nothing is done.
-    pub fn check_order(&self)
+    /// Tells the prover that the numbers rise and no count is 0; does nothing at run time.
+    pub fn counts_rise(&self)
         ensures { AreCountsAboveZero self.now }
     {
         let _many = self.counts.len();

@@ -1,7 +1,8 @@
 //! A mirror of all objects, with the edits by user and by changeset.
 
 ghost use Rattle.std.specs.Prelude.{◌≡◌, ◌<◌, [], ◌∷◌, length, OnOk, OnErr, IfOk};
-ghost use Rattle.osm_follow.specs.Mirror.{Applies, GrowsBy, HasRoom, IsOrderly, NeedsMemory, NeedsPlace, no_mirror};
+ghost use Rattle.osm_follow.specs.Mirror.{Applies, IsOrderly, NeedsMemory, NeedsNewEntry, no_mirror};
+ghost use Rattle.osm_follow.specs.Steps.Room.{GrowsBy, HasRoom};
 
 use crate::counts::Counts;
 use crate::objects::Objects;
@@ -45,7 +46,7 @@ impl Mirror {
         ensures grown { OnOk result (GrowsBy (length changes.items) self.old self.new) }
         ensures refused { OnErr result (NeedsMemory self.old changes.items) }
     {
-        self.check_order();
+        self.lists_rise();
         for change in changes {
             let Ok(()) = self.apply_one(change) else {
                 return Err(WantOfMemory);
@@ -58,7 +59,7 @@ impl Mirror {
         requires { HasRoom 1 self.old }
         ensures applied { OnOk result (Applies self.old (change ∷ []) self.new) }
         ensures grown { OnOk result (GrowsBy 1 self.old self.new) }
-        ensures refused { OnErr result (NeedsPlace self.old [] change) }
+        ensures refused { OnErr result (NeedsNewEntry self.old [] change) }
     {
         let Ok(()) = self.users.add_one(change.meta().uid()) else {
             return Err(WantOfMemory);
@@ -69,17 +70,17 @@ impl Mirror {
         let Ok(()) = self.objects.put(change) else {
             return Err(WantOfMemory);
         };
-        self.check_order();
+        self.lists_rise();
         Ok(())
     }
 
-    // The order of the lists, for who needs it: nothing is done.
-    fn check_order(&self)
+    // Tells the prover that the lists rise; does nothing at run time.
+    fn lists_rise(&self)
         ensures { IsOrderly self.now }
     {
-        self.objects.check_order();
-        self.users.check_order();
-        self.changesets.check_order();
+        self.objects.keys_rise();
+        self.users.counts_rise();
+        self.changesets.counts_rise();
     }
 
     /// Copies of all objects, their keys rising.

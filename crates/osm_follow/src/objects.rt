@@ -4,7 +4,7 @@ ghost use Rattle.std.specs.Prelude.{◌≡◌, ℕ, ◌+◌, ◌<◌, ◌≤◌,
 ghost use Rattle.osm_model.specs.Content.{standing_of};
 ghost use Rattle.osm_model.specs.KeyOrder.{same_key};
 ghost use Rattle.osm_model.specs.declared.kind.Key.{Key};
-ghost use Rattle.osm_follow.specs.Entries.{HaveOwnKeys, objects_of};
+ghost use Rattle.osm_follow.specs.Steps.Entries.{HaveOwnKeys, objects_of};
 ghost use Rattle.osm_follow.specs.Mirror.{AreRising, object_at};
 
 use osm_model::change::Change;
@@ -26,7 +26,7 @@ impl Model for Objects {
 
     ghost Value = { List ChangeValue };
 
-    ghost use Rattle.osm_follow.specs.Entries.{HaveOwnKeys, objects_of};
+    ghost use Rattle.osm_follow.specs.Steps.Entries.{HaveOwnKeys, objects_of};
 
     ghost view = { λ a. objects_of a.objects.entries };
 
@@ -60,8 +60,8 @@ impl Objects {
         }
     }
 
-    /// The order of the keys, for who needs it: nothing is done.
-    pub fn check_order(&self)
+    /// Tells the prover that the keys rise; does nothing at run time.
+    pub fn keys_rise(&self)
         ensures { AreRising self.now }
     {
         let _many = self.objects.len();

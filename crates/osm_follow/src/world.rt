@@ -3,7 +3,7 @@
 ghost use Rattle.std.specs.Prelude.{◌≡◌, ◌<◌, ◌≤◌, ◌⊎◌, length, IsOk, IfOk, OnErr, MatchOption};
 ghost use Rattle.osm_model.specs.Limits.{max_sequence};
 ghost use Rattle.osm_follow.specs.Correct.{IsRun};
-ghost use Rattle.osm_follow.specs.Published.{last_time, member};
+ghost use Rattle.osm_follow.specs.Published.{last_time, sequence_at};
 ghost use Rattle.osm_follow.specs.Step.{CloseStep, DeliverStep, EditStep, ShowStep, Step};
 ghost use Rattle.osm_follow.specs.World.{new_world};
 

@@ -5,7 +5,7 @@ use Rattle.std.specs.Map.{lookup}
 use Rattle.osm_model.specs.Change.{ChangeValue}
 use Rattle.osm_model.specs.KeyOrder.{key_cmp, same_key}
 use Rattle.osm_model.specs.declared.kind.Key.{Key}
-use Rattle.osm_follow.specs.Entries.{HaveOwnKeys}
+use Rattle.osm_follow.specs.Steps.Entries.{HaveOwnKeys}
 use Rattle.osm_follow.proofs.EntryLemmas.{object_at-objects_of, own-insert_entry}
 use Rattle.osm_follow.proofs.objects.enter.Goals as goal
 

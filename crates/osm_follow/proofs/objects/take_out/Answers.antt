@@ -2,7 +2,7 @@ use Rattle.std.proofs.Common.{ap, sym, ◌∙◌, None, Option}
 use Rattle.std.specs.Prelude.{if◌then◌else◌}
 use Rattle.osm_model.specs.Change.{ChangeValue}
 use Rattle.osm_model.specs.KeyOrder.{same_key}
-use Rattle.osm_follow.specs.Entries.{HaveOwnKeys}
+use Rattle.osm_follow.specs.Steps.Entries.{HaveOwnKeys}
 use Rattle.osm_follow.proofs.EntryLemmas.{object_at-objects_of, own-remove_entry}
 use Rattle.osm_follow.proofs.objects.take_out.Goals as goal
 

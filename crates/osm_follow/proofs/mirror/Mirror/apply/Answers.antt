@@ -1,7 +1,7 @@
 use Rattle.std.proofs.Common.{◌≡◌, ◌++◌, ◌∷◌, [], arith, length, length-append}
 use Rattle.std.proofs.lemmas.Grind.{common_steps}
 use Rattle.std.specs.Vec.Iter.{into_iter_items}
-use Rattle.osm_follow.specs.Mirror.{HasRoom}
+use Rattle.osm_follow.specs.Steps.Room.{HasRoom}
 use Rattle.osm_follow.proofs.MirrorLemmas.{room_left, Applies-append, GrowsBy-more}
 use Rattle.osm_follow.proofs.mirror.Mirror.apply.Goals as goal
 

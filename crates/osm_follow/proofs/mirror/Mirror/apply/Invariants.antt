@@ -1,6 +1,7 @@
 use Rattle.std.proofs.Common.{◌≡◌, ◌++◌, length}
 use Rattle.std.specs.Vec.Iter.{into_iter_items}
-use Rattle.osm_follow.specs.Mirror.{Applies, GrowsBy}
+use Rattle.osm_follow.specs.Mirror.{Applies}
+use Rattle.osm_follow.specs.Steps.Room.{GrowsBy}
 use Rattle.osm_follow.proofs.mirror.Mirror.apply.Given as goal
 
 abbrev pub invariant-loop-change : goal.invariant-loop-change

@@ -1,4 +1,4 @@
-use Rattle.osm_follow.specs.Mirror.{HasRoom}
+use Rattle.osm_follow.specs.Steps.Room.{HasRoom}
 use Rattle.osm_follow.proofs.mirror.Mirror.apply_one.Goals as goal
 
 pub add_one-requires : goal.add_one-requires
