@@ -4,9 +4,9 @@ ghost use Rattle.std.specs.Prelude.{◌≡◌, ◌<◌, ◌++◌, ◌∷◌, [],
 ghost use Rattle.std.specs.List.{flat_map};
 ghost use Rattle.osm_repl.specs.Replies.{count_line, counts_text, held_text, number_line, numbered_line, object_line, objects_text, replies_text, reply_text, time_line, view_text};
 
+use itoa::Buffer;
 use osm_follow::event::Reply;
 use osm_follow::view::View;
-use itoa::Buffer;
 use osm_model::change::Change;
 use osm_model::memory::WantOfMemory;
 use osm_model::time::time_write;
@@ -25,7 +25,7 @@ pub fn write_replies(alloc: Global, replies: &[Reply]) -> Result<Vec<u8>, WantOf
     Ok(text)
 }
 
-fn write_reply(reply: &Reply, text: &mut Vec<u8>) -> Result<(), WantOfMemory>
+pub(crate) fn write_reply(reply: &Reply, text: &mut Vec<u8>) -> Result<(), WantOfMemory>
     ensures { OnOk result (text.new.items ≡ text.old.items ++ reply_text reply.now) }
 {
     match reply {
