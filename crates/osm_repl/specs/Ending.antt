@@ -11,8 +11,8 @@ use Rattle.osm_repl.specs.declared.fault.RunFault.TheVariants.{WantOfMemory}
 abbrev pub ending_of_fault : RunFault → Ending
 ending_of_fault fault = record { said = Fault fault; stream = Error; status = 3 }
 
--- help and the version go to standard output, and the status is 0; if clap is out of memory, that is
--- a fault; for any other kind clap's text goes to standard error, and the status is 2
+-- help and the version go to standard output, and the status is 0; if clap is out of memory, that
+-- is a fault; for any other kind clap's text goes to standard error, and the status is 2
 abbrev pub ending_of_kind : ErrorKind → Ending
 ending_of_kind kinds.OutOfMemory = ending_of_fault WantOfMemory
 ending_of_kind kinds.DisplayHelp = record { said = ByClap; stream = Output; status = 0 }

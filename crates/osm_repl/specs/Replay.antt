@@ -10,7 +10,8 @@ use Rattle.osm_repl.specs.Replies.{replies_text}
 use Rattle.osm_repl.specs.Script.{ScriptOf, IsBadLine}
 use Rattle.osm_repl.specs.declared.fault.FileName.TheVariants.{Input, Output}
 use Rattle.osm_repl.specs.declared.fault.RunFault.{RunFault}
-use Rattle.osm_repl.specs.declared.fault.RunFault.TheVariants.{WantOfMemory, ReadFault, WriteFault, TooLarge, BadScript}
+use Rattle.osm_repl.specs.declared.fault.RunFault.TheVariants.{WantOfMemory, ReadFault, WriteFault}
+use Rattle.osm_repl.specs.declared.fault.RunFault.TheVariants.{TooLarge, BadScript}
 
 -- the text is the reply text of a run over the events of the script
 pub record RepliesTo (script text : List ℕ) : Type 0 where
@@ -37,7 +38,8 @@ ReplayFault input rest (TooLarge file) =
 ReplayFault input rest (BadScript line) = IfSome input (λ script.
     IsBadLine script line × ((events : List Event) → ScriptOf script events → ⊥))
 
--- what a fault of a replay leaves written: a prefix of the reply text if writing failed, else nothing
+-- what a fault of a replay leaves written: a prefix of the reply text if writing failed, else
+-- nothing
 abbrev pub ReplayLeaves : Option (List ℕ) → Option (List ℕ) → Option (List ℕ) → RunFault → Type 0
 ReplayLeaves input old new (WriteFault file) = IfSome input (λ script.
     (text : List ℕ) × RepliesTo script text × ((n : ℕ) × Appends old new (take n text)))

@@ -71,7 +71,8 @@ pub record IsBadLine (script : List ℕ) (number : ℕ) : Type 0 where
   pub said : is_skipped line ≡ false
   pub none : (e : Event) → IsEventLine line e → ⊥
 
--- a script that says something may be refused for memory, and any at its first line that is no event
+-- a script that says something may be refused for memory, and any script at its first line that is
+-- no event
 abbrev pub ScriptRefused : List ℕ → RunFault → Type 0
 ScriptRefused script WantOfMemory = SaysSome script
 ScriptRefused script (BadScript line) = IsBadLine script line

@@ -39,7 +39,8 @@ impl Asks {
         requires { self.old < most_reads }
         ensures counted { self.new ≡ self.old + 1 }
         ensures bound { ReadsAtMost result buffer.new }
-        ensures bytes { ReadConsumes (R.remaining reader.old) (R.remaining reader.new) result buffer.new }
+        ensures bytes { ReadConsumes (R.remaining reader.old) (R.remaining reader.new)
+            result buffer.new }
     {
         self.count += 1;
         reader.read(buffer)

@@ -28,8 +28,8 @@ It has one event a line; empty lines and lines that begin with # say nothing:
 
 A line that is no event is a fault, and nothing is written then.";
 
-/// What the words ask for, the program's name first. Refused if `clap` refuses the words, and if they
-/// ask for help or the version.
+/// What the words ask for, the program's name first. Refused if `clap` refuses the words, and if
+/// they ask for help or the version.
 pub fn order<'a>(alloc: Global, words: &'a [&'a str]) -> Result<Order, Error>
     ensures order { IfOk result (IsOrderOf (map (λ s. s.now) words.entry.now)) }
     ensures taken { IfErr result (λ e. takes osmrepl_app (map (λ s. s.now) words.entry.now) ≡ true

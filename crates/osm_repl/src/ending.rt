@@ -30,8 +30,8 @@ pub struct Ending {
     pub status: u8,
 }
 
-/// The ending if `clap` has no matches of the words, but an error of that kind: help and the version
-/// go to standard output with status 0, a refusal of the words to standard error with 2.
+/// The ending if `clap` has no matches of the words, but an error of that kind: help and the
+/// version go to standard output with status 0, a refusal of the words to standard error with 2.
 pub fn explained(kind: ErrorKind) -> Ending
     ensures { result ≡ ending_of_kind kind }
 {

@@ -6,7 +6,8 @@ ghost use Rattle.osm_model.specs.Limits.{max_file};
 ghost use Rattle.osm_repl.specs.Replay.{IsWriteFault, ReplayFault, ReplayLeaves, Replays};
 ghost use Rattle.osm_repl.specs.Replay.{RepliesTo};
 ghost use Rattle.osm_repl.specs.Script.{ScriptRefused};
-ghost use Rattle.osm_repl.specs.Steps.Replaying.{IsAnswered, ReadingFault, WritingFault, most_reads};
+ghost use Rattle.osm_repl.specs.Steps.Replaying.{IsAnswered, ReadingFault, WritingFault};
+ghost use Rattle.osm_repl.specs.Steps.Replaying.{most_reads};
 ghost use Rattle.osm_repl.specs.declared.fault.RunFault.{RunFault};
 
 use crate::asks::Asks;

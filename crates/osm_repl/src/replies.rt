@@ -1,8 +1,11 @@
 //! The reply text: a line for each reply, and more for a view.
 
-ghost use Rattle.std.specs.Prelude.{◌≡◌, ◌<◌, ◌++◌, ◌∷◌, [], length, codes, decimal, IfOk, OnOk, OnErr};
+ghost use Rattle.std.specs.Prelude.{◌≡◌, ◌<◌, ◌++◌, ◌∷◌, [], length, codes, decimal};
+ghost use Rattle.std.specs.Prelude.{IfOk, OnOk, OnErr};
 ghost use Rattle.std.specs.List.{flat_map};
-ghost use Rattle.osm_repl.specs.Replies.{count_line, counts_text, held_text, number_line, numbered_line, object_line, objects_text, replies_text, reply_text, time_line, view_text};
+ghost use Rattle.osm_repl.specs.Replies.{count_line, counts_text, held_text, number_line};
+ghost use Rattle.osm_repl.specs.Replies.{numbered_line, object_line, objects_text};
+ghost use Rattle.osm_repl.specs.Replies.{replies_text, reply_text, time_line, view_text};
 
 use itoa::Buffer;
 use osm_follow::event::Reply;
@@ -46,7 +49,9 @@ pub(crate) fn write_reply(reply: &Reply, text: &mut Vec<u8>) -> Result<(), WantO
 }
 
 fn write_applied(low: u32, high: u32, text: &mut Vec<u8>) -> Result<(), WantOfMemory>
-    ensures { OnOk result (text.new.items ≡ text.old.items ++ (codes "applied " ++ decimal low ++ codes ".." ++ decimal high ++ 10 ∷ [])) }
+    ensures { OnOk result (text.new.items
+        ≡ text.old.items
+        ++ (codes "applied " ++ decimal low ++ codes ".." ++ decimal high ++ 10 ∷ [])) }
 {
     write_bytes(b"applied ", text)?;
     write_number(low as u64, text)?;

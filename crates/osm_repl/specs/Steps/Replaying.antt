@@ -9,10 +9,11 @@ use Rattle.osm_follow.specs.declared.event.Reply.{Reply}
 use Rattle.osm_repl.specs.Replies.{reply_text}
 use Rattle.osm_repl.specs.declared.fault.FileName.TheVariants.{Input, Output}
 use Rattle.osm_repl.specs.declared.fault.RunFault.{RunFault}
-use Rattle.osm_repl.specs.declared.fault.RunFault.TheVariants.{WantOfMemory, ReadFault, WriteFault, TooLarge}
+use Rattle.osm_repl.specs.declared.fault.RunFault.TheVariants.{WantOfMemory, ReadFault, WriteFault}
+use Rattle.osm_repl.specs.declared.fault.RunFault.TheVariants.{TooLarge}
 
--- how often a reader is asked at most: for each byte of the largest script, for a byte too much, and
--- once more
+-- how often a reader is asked at most: for each byte of the largest script, for a byte too much,
+-- and once more
 abbrev pub most_reads : ℕ
 most_reads = 67108866
 
