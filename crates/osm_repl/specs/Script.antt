@@ -1,5 +1,5 @@
 -- A script: a text whose lines are events. Empty lines and lines that begin with `#` say nothing.
-use Rattle.std.specs.Prelude.{◌≡◌, ℕ, ◌+◌, ◌<◌, ◌≤◌, List, ◌∷◌, ◌++◌, length, codes, false, not}
+use Rattle.std.specs.Prelude.{◌≡◌, ℕ, ◌+◌, ◌<◌, List, ◌∷◌, ◌++◌, length, codes, false, not}
 use Rattle.std.specs.List.{AllZip, filter}
 use Rattle.osm_model.specs.Change.{ChangeValue}
 use Rattle.osm_model.specs.Time.{TimeText}
