@@ -2,3 +2,4 @@ mod model;
 mod state;
 mod o5c;
 mod opl;
+mod follow;
