@@ -1,3 +1,4 @@
+mod follow;
 mod model;
 mod o5c;
 mod opl;
