@@ -1,18 +1,20 @@
 -- The order of what is held, and areas that hold the same.
-use Rattle.std.proofs.Common.{◌≡◌, ℕ, zero, suc, ◌+◌, ◌<◌, ◌≤◌, List, [], ◌∷◌, ◌++◌, length, refl, ap, sym, ◌∙◌, true, false, arith, None, Some, Option, inl, inr}
-use Rattle.std.specs.Prelude.{◌==◌, slice_index, IsSome, Contains, ◌↔◌, Result, Ok, Err, OnErr}
+use Rattle.std.proofs.Common.{◌≡◌, ℕ, zero, suc, ◌+◌, ◌<◌, ◌≤◌, List, [], ◌∷◌, ◌++◌, length, replicate, refl, ap, subst, sym, ◌∙◌, true, false, arith, None, Some, Option, inl, inr}
+use Rattle.std.specs.Prelude.{slice_set, ◌==◌, slice_index, IsSome, Contains, ◌↔◌, Result, Ok, Err, OnErr}
 use Rattle.std.specs.Cmp.{nat_eq_equiv}
 use Rattle.std.specs.List.Sorted.{IsStrictlyIncreasing, IsStrictlySortedBy}
 use Rattle.std.specs.Map.{keys_of}
 use Rattle.std.specs.Ordering.{nat_cmp}
-use Rattle.std.proofs.lemmas.Bool.{cases_lt, eq-eqb, eqb-true, ne_eqb}
+use Rattle.std.proofs.lemmas.Bool.{cases_lt, cases_eq, eq-eqb, eqb-true, ne_eqb}
 use Rattle.std.proofs.lemmas.Map.Keys.{below_from_sorted, sorted_tail, sorted_from_strictly_increasing}
 use Rattle.std.proofs.lemmas.Map.Views.{Contains-keys_from_lookup, IsSome-lookup_from_Contains}
+use Rattle.std.proofs.Math.ListN.{length-set}
 use Rattle.circular_buffer.specs.Buffer.{Buffer, buffer, keep_last}
+use Rattle.osm_model.specs.Limits.{max_sequence}
 use Rattle.osm_holding.specs.declared.holding.Held.{Held}
-use Rattle.osm_holding.specs.Holding.{HoldingValue, IsHolding, held_at, numbers_of}
+use Rattle.osm_holding.specs.Holding.{ChangesAt, HoldingValue, IsHolding, held_at, numbers_of}
 use Rattle.osm_holding.specs.Steps.Slots.{entries_from, AreSlots}
-use Rattle.osm_holding.proofs.SlotLemmas.{found, area_of, in_window, moved}
+use Rattle.osm_holding.proofs.SlotLemmas.{found, area_of, entries_from-replicate, in_window, moved, moved_length, slot_changes}
 
 -- the numbers of the entries rise, from a least one on
 abbrev pub RisesFrom : ℕ → List (ℕ × Held) → Type 0
@@ -124,15 +126,45 @@ is_holding base slots are = record {
   base = are.limit;
   rising = slots_rise (base + 1) slots.items;
   window = λ number some. in_window base slots.items number are.full some;
+  limit = are.sequences;
 }
 
+-- the slots after a write
+pub are_written : (base : ℕ) (slots : Buffer (Option Held)) (i number : ℕ) (now : Option Held) → AreSlots base slots → number ≡ base + 1 + i → i < length slots.items → (IsSome now → number ≤ max_sequence) → AreSlots base (buffer (slice_set slots.items i now) slots.capacity)
+are_written base slots i number now are is within limit = record {
+  limit = are.limit;
+  full = length-set slots.items i now ∙ are.full;
+  room = are.room;
+  sequences = λ other some. elim (cases_eq other number) [
+    | inl same ↦ (let there : IsSome now = subst (λ (o : Option Held). IsSome o) changes.changed (subst (λ (n : ℕ). IsSome (found (entries_from (base + 1) (slice_set slots.items i now)) n)) same some) in
+        omega (arith, limit there, same))
+    | inr apart ↦ are.sequences other (subst (λ (o : Option Held). IsSome o) (changes.others other apart) some)
+  ];
+}
+  where
+    changes : ChangesAt (area_of base slots.items) (area_of base (slice_set slots.items i now)) number now
+    changes = slot_changes base slots.items i number now is within
+
 -- a ring that moves on shows the same after the next number
+pub moved_slots : (base : ℕ) (old new : Buffer (Option Held)) → AreSlots base old → new ≡ buffer (keep_last old.capacity (old.items ++ None ∷ [])) old.capacity → held_at (area_of base old.items) (base + 1) ≡ None → entries_from (base + 1 + 1) new.items ≡ entries_from (base + 1) old.items
+moved_slots base old new are is free =
+    let items : new.items ≡ keep_last 64 (old.items ++ None ∷ []) = ap (λ (b : Buffer (Option Held)). b.items) is ∙ ap (λ n. keep_last n (old.items ++ None ∷ [])) are.room in
+    ap (λ s. entries_from (base + 1 + 1) s) items ∙ moved (base + 1) old.items are.full free
+
+pub are_moved : (base : ℕ) (old new : Buffer (Option Held)) → AreSlots base old → base < max_sequence → new ≡ buffer (keep_last old.capacity (old.items ++ None ∷ [])) old.capacity → held_at (area_of base old.items) (base + 1) ≡ None → AreSlots (base + 1) new
+are_moved base old new are room is free =
+    let items : new.items ≡ keep_last 64 (old.items ++ None ∷ []) = ap (λ (b : Buffer (Option Held)). b.items) is ∙ ap (λ n. keep_last n (old.items ++ None ∷ [])) are.room in
+    record {
+      limit = omega arith;
+      full = ap (λ (s : List (Option Held)). length s) items ∙ moved_length old.items are.full;
+      room = ap (λ (b : Buffer (Option Held)). b.capacity) is ∙ are.room;
+      sequences = λ number some. are.sequences number (subst (λ (es : List (ℕ × Held)). IsSome (found es number)) (moved_slots base old new are is free) some);
+    }
+
 pub moved_area : (base : ℕ) (old new : Buffer (Option Held)) → AreSlots base old → new ≡ buffer (keep_last old.capacity (old.items ++ None ∷ [])) old.capacity → held_at (area_of base old.items) (base + 1) ≡ None → area_of (base + 1) new.items ≡ record { base = base + 1; entries = entries_from (base + 1) old.items }
 unfolding made
 moved_area base old new are is free =
-    let items : new.items ≡ keep_last 64 (old.items ++ None ∷ []) = ap (λ (b : Buffer (Option Held)). b.items) is ∙ ap (λ n. keep_last n (old.items ++ None ∷ [])) are.room in
-    let entries : entries_from (base + 1 + 1) new.items ≡ entries_from (base + 1) old.items = ap (λ s. entries_from (base + 1 + 1) s) items ∙ moved (base + 1) old.items are.full free in
-    ap (λ es. made (base + 1) es) entries
+    ap (λ es. made (base + 1) es) (moved_slots base old new are is free)
 
 -- a clause on errors holds if its fact does
 pub OnErr_always : {X E : Type 0} (r : Result X E) (P : Type 0) → P → OnErr r P

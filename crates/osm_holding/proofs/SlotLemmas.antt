@@ -1,5 +1,5 @@
 -- What an area holds, by the slots of its ring.
-use Rattle.std.proofs.Common.{◌≡◌, ℕ, zero, suc, ◌+◌, ◌-◌, ◌<◌, ◌≤◌, ◌≢◌, List, [], ◌∷◌, ◌++◌, length, take, replicate, refl, ap, sym, ◌∙◌, true, false, arith, None, Some, Option, inl, inr, length-append, add-one, subst, Bool}
+use Rattle.std.proofs.Common.{◌≡◌, ℕ, zero, suc, ◌+◌, ◌-◌, ◌<◌, ◌≤◌, ◌≢◌, List, [], ◌∷◌, ◌++◌, length, take, replicate, refl, ap, sym, ◌∙◌, true, false, arith, None, Some, Option, inl, inr, length-append, length-drop, add-one, subst, Bool}
 use Rattle.std.specs.Prelude.{slice_get, slice_set, ◌==◌, ◌↔◌, IsSome, IsTrue, is_some}
 use Rattle.std.specs.Map.{lookup, keys_of}
 use Rattle.std.specs.Option.{option_flatten}
@@ -81,6 +81,11 @@ moved first (None ∷ slots) full free =
 moved first (Some held ∷ slots) full free =
     let there : Some held ≡ None = sym (found_at first (Some held ∷ slots) first 0 (omega arith)) ∙ free in
     cc
+
+pub moved_length : (slots : List (Option Held)) → length slots ≡ 64 → length (keep_last 64 (slots ++ None ∷ [])) ≡ 64
+moved_length slots full =
+    let one : length (slots ++ None ∷ []) - 64 ≡ 1 = omega (arith, length-append slots (None ∷ [])) in
+    rw one (omega (arith, length-drop 1 (slots ++ None ∷ []), length-append slots (None ∷ [])))
 
 -- empty slots show nothing
 pub entries_from-replicate : (first n : ℕ) → entries_from first (replicate n None) ≡ []

@@ -24,11 +24,12 @@ pub record IsInWindow (base number : ℕ) : Type 0 where
   pub within : number ≤ base + 64
 
 -- a holding area: its base is a sequence number, what it holds is in the order of the numbers, and
--- each number that is held is one of the 64 after the base
+-- each number at which it holds something is a sequence number, and one of the 64 after the base
 pub record IsHolding (area : HoldingValue) : Type 0 where
   pub base : area.base ≤ max_sequence
   pub rising : IsStrictlyIncreasing (numbers_of area)
   pub window : (number : ℕ) → IsSome (held_at area number) → IsInWindow area.base number
+  pub limit : (number : ℕ) → IsSome (held_at area number) → number ≤ max_sequence
 
 -- the new area holds this at the number, and is as the old one in all else
 pub record ChangesAt (old new : HoldingValue) (number : ℕ) (now : Option Held) : Type 0 where

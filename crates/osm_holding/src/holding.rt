@@ -24,9 +24,9 @@ pub struct Held {
 /// How many numbers after its base an area has room for.
 const WINDOW: u32 = 64;
 
-/// Room for the 64 sequences after a number, its base. All of it is made by `new`; afterwards only
-/// `numbers` takes memory.
-#[derive(Drop)]
+/// Room for the 64 sequences after a number, its base. `new` makes all of it; afterwards only
+/// `numbers` takes memory. No call except `clear` and `numbers` looks at more than one slot.
+#[derive(Debug, Drop)]
 pub struct HoldingArea {
     base: u32,
     // The slot at index i is that of the number base + 1 + i.
@@ -80,6 +80,7 @@ impl HoldingArea {
     pub fn hold(&mut self, number: u32, held: Held)
         requires early { self.old.base + 2 ≤ number }
         requires within { number ≤ self.old.base + 64 }
+        requires limit { number ≤ max_sequence }
         requires free { held_at self.old number ≡ None }
         ensures { ChangesAt self.old self.new number (Some held) }
     {
@@ -97,7 +98,8 @@ impl HoldingArea {
 
     // Writes the slot of a number, and gives what it held.
     fn replace(&mut self, number: u32, now: Option<Held>) -> Option<Held>
-        requires { IsInWindow self.old.base number }
+        requires window { IsInWindow self.old.base number }
+        requires limit { IsSome now → number ≤ max_sequence }
         ensures value { result ≡ held_at self.old number }
         ensures changed { ChangesAt self.old self.new number now }
     {
