@@ -1,5 +1,5 @@
 -- The order of what is held, and areas that hold the same.
-use Rattle.std.proofs.Common.{◌≡◌, ℕ, zero, suc, ◌+◌, ◌<◌, ◌≤◌, List, [], ◌∷◌, ◌++◌, length, replicate, refl, ap, subst, sym, ◌∙◌, true, false, arith, None, Some, Option, inl, inr}
+use Rattle.std.proofs.Common.{◌≡◌, ℕ, zero, suc, ◌+◌, ◌<◌, ◌≤◌, List, [], ◌∷◌, ◌++◌, length, refl, ap, subst, sym, ◌∙◌, true, false, arith, None, Some, Option, inl, inr}
 use Rattle.std.specs.Prelude.{slice_set, ◌==◌, slice_index, IsSome, Contains, ◌↔◌, Result, Ok, Err, OnErr}
 use Rattle.std.specs.Cmp.{nat_eq_equiv}
 use Rattle.std.specs.List.Sorted.{IsStrictlyIncreasing, IsStrictlySortedBy}
@@ -13,8 +13,8 @@ use Rattle.circular_buffer.specs.Buffer.{Buffer, buffer, keep_last}
 use Rattle.osm_model.specs.Limits.{max_sequence}
 use Rattle.osm_holding.specs.declared.holding.Held.{Held}
 use Rattle.osm_holding.specs.Holding.{ChangesAt, HoldingValue, IsHolding, held_at, numbers_of}
-use Rattle.osm_holding.specs.Steps.Slots.{entries_from, AreSlots}
-use Rattle.osm_holding.proofs.SlotLemmas.{found, area_of, entries_from-replicate, in_window, moved, moved_length, slot_changes}
+use Rattle.osm_holding.specs.Steps.Slots.{entries_from, area_of, AreSlots}
+use Rattle.osm_holding.proofs.SlotLemmas.{found, in_window, moved, moved_length, slot_changes}
 
 -- the numbers of the entries rise, from a least one on
 abbrev pub RisesFrom : ℕ → List (ℕ × Held) → Type 0

@@ -1,23 +1,20 @@
 -- What an area holds, by the slots of its ring.
 use Rattle.std.proofs.Common.{◌≡◌, ℕ, zero, suc, ◌+◌, ◌-◌, ◌<◌, ◌≤◌, ◌≢◌, List, [], ◌∷◌, ◌++◌, length, take, replicate, refl, ap, sym, ◌∙◌, true, false, arith, None, Some, Option, inl, inr, length-append, length-drop, add-one, subst, Bool}
-use Rattle.std.specs.Prelude.{slice_get, slice_set, ◌==◌, ◌↔◌, IsSome, IsTrue, is_some}
+use Rattle.std.specs.Prelude.{slice_get, slice_set, ◌==◌, ◌↔◌, IsSome, IsTrue, OnSome, is_some}
 use Rattle.std.specs.Map.{lookup, keys_of}
 use Rattle.std.specs.Option.{option_flatten}
-use Rattle.std.proofs.lemmas.Bool.{cases_lt, eq-eqb, ne_eqb}
+use Rattle.std.specs.Bool.{OnFalse}
+use Rattle.std.proofs.lemmas.Bool.{OnFalse_from, cases_lt, eq-eqb, false≢true, ne_eqb}
 use Rattle.std.proofs.lemmas.List.{append-nil, take_all}
 use Rattle.std.proofs.lemmas.Option.{slice_get_past}
 use Rattle.circular_buffer.specs.Buffer.{keep_last}
 use Rattle.osm_holding.specs.declared.holding.Held.{Held}
-use Rattle.osm_holding.specs.Holding.{HoldingValue, IsInWindow, ChangesAt}
-use Rattle.osm_holding.specs.Steps.Slots.{entries_from}
+use Rattle.osm_holding.specs.Holding.{IsInWindow, ChangesAt}
+use Rattle.osm_holding.specs.Steps.Slots.{entries_from, area_of}
 
 -- what a list of entries has at a number
 abbrev pub found : List (ℕ × Held) → ℕ → Option Held
 found entries number = lookup (λ key. number == key) entries
-
--- the area of slots
-abbrev pub area_of : ℕ → List (Option Held) → HoldingValue
-area_of base slots = record { base = base; entries = entries_from (base + 1) slots }
 
 -- nothing is held below the first number
 pub found_below : (first : ℕ) (slots : List (Option Held)) (number : ℕ) → number < first → found (entries_from first slots) number ≡ None
@@ -167,12 +164,24 @@ some_number (e ∷ entries) number some = omega arith
 pub slot_tells : (o p : Option Held) (r : Bool) → r ≡ is_some p → o ≡ p → IsTrue r ↔ IsSome o
 slot_tells o p r is same = (λ true_r. ap is_some same ∙ (sym is ∙ true_r), λ some. is ∙ (sym (ap is_some same) ∙ some))
 
+pub slot_is_free : (o p : Option Held) (r : Bool) → r ≡ is_some p → o ≡ p → OnFalse r (o ≡ None)
+slot_is_free o None r is same = OnFalse_from r (o ≡ None) (λ no. same)
+slot_is_free o (Some held) r is same = OnFalse_from r (o ≡ None) (λ no. absurd (false≢true (sym no ∙ is)))
+
 -- no slot tells of no sequence
 pub none_tells : (o : Option Held) → o ≡ None → IsTrue false ↔ IsSome o
 none_tells o is = slot_tells o None false refl is
+
+pub none_is_free : (o : Option Held) → o ≡ None → OnFalse false (o ≡ None)
+none_is_free o is = OnFalse_from false (o ≡ None) (λ no. is)
 
 -- a slot in the ring is there
 pub slot_there : (slots : List (Option Held)) (i : ℕ) → i < length slots → slice_get slots i ≡ None → ⊥
 slot_there [] i within is = omega arith
 slot_there (s ∷ slots) zero within is = cc
 slot_there (s ∷ slots) (suc i) within is = slot_there slots i (omega arith) is
+
+-- what follows from something that is held
+pub OnSome_from : (o p : Option Held) (P : Type 0) → o ≡ p → (IsSome p → P) → OnSome o P
+OnSome_from None p P is follows = tt
+OnSome_from (Some held) p P is follows = follows (sym (ap is_some is))

@@ -1,7 +1,8 @@
 //! The holding area of a follower.
 
 ghost use Rattle.std.specs.Prelude.{◌≡◌, ℕ, ◌+◌, ◌<◌, ◌≤◌, ◌↔◌, [], length, replicate};
-ghost use Rattle.std.specs.Prelude.{IfOk, OnErr, IsTrue, IsSome, Contains};
+ghost use Rattle.std.specs.Prelude.{IfOk, OnErr, OnSome, IsTrue, IsSome, Contains};
+ghost use Rattle.std.specs.Bool.{OnFalse};
 ghost use Rattle.std.specs.List.Sorted.{IsStrictlyIncreasing};
 ghost use Rattle.circular_buffer.specs.Buffer.{buffer};
 ghost use Rattle.osm_model.specs.Limits.{max_sequence};
@@ -34,14 +35,13 @@ pub struct HoldingArea {
 }
 
 impl Model for HoldingArea {
-    ghost use Rattle.std.specs.Prelude.{◌+◌};
     ghost use Rattle.osm_holding.specs.Holding.{HoldingValue};
 
     ghost Value = { HoldingValue };
 
-    ghost use Rattle.osm_holding.specs.Steps.Slots.{entries_from, AreSlots};
+    ghost use Rattle.osm_holding.specs.Steps.Slots.{area_of, AreSlots};
 
-    ghost view = { λ a. record { base = a.base; entries = entries_from (a.base + 1) a.slots.items } };
+    ghost view = { λ a. area_of a.base a.slots.items };
 
     ghost invariant = { λ a. AreSlots a.base a.slots };
 }
@@ -65,7 +65,8 @@ impl HoldingArea {
     }
 
     pub fn is_held(&self, number: u32) -> bool
-        ensures { IsTrue result ↔ IsSome (held_at self.now number) }
+        ensures held { IsTrue result ↔ IsSome (held_at self.now number) }
+        ensures free { OnFalse result (held_at self.now number ≡ None) }
     {
         if number <= self.base {
             return false;
@@ -91,6 +92,7 @@ impl HoldingArea {
     pub fn take_next(&mut self) -> Option<Held>
         ensures value { result ≡ held_at self.old (self.old.base + 1) }
         ensures taken { ChangesAt self.old self.new (self.old.base + 1) None }
+        ensures room { OnSome result (self.old.base < max_sequence) }
     {
         let next = self.base + 1;
         self.replace(next, None)
@@ -133,7 +135,8 @@ impl HoldingArea {
     pub fn numbers(&self, alloc: Global) -> Result<Vec<u32>, WantOfMemory>
         ensures numbers { IfOk result (λ ns. ns.items ≡ numbers_of self.now) }
         ensures rising { IfOk result (λ ns. IsStrictlyIncreasing ns.items) }
-        ensures exact { IfOk result (λ ns. (n : ℕ) → Contains ns.items n ↔ IsSome (held_at self.now n)) }
+        ensures exact { IfOk result (λ ns. (number : ℕ) →
+            Contains ns.items number ↔ IsSome (held_at self.now number)) }
         ensures refused { OnErr result (0 < length (numbers_of self.now)) }
     {
         let mut numbers = Vec::with_capacity(alloc, self.count())?;

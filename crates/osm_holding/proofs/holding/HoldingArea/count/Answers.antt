@@ -7,7 +7,7 @@ use Rattle.osm_holding.proofs.holding.HoldingArea.count.Goals.{then-is_held, els
 
 pub loop-index-preserved : goal.loop-index-preserved
 loop-index-preserved c =
-    let tells = rw (← c.self.view_is) at c.is_held.ensures in
+    let tells = rw (← c.self.view_is) at c.is_held.ensures.held in
     elim c.if-is_held.branch [
       | then-is_held w ↦ record {
         shown = w.count-is ∙ (ap (λ (n : ℕ). n + 1) c.loop-index.invariant.shown ∙ sym (count_before_held (c.self.inside.base + 1) c.self.inside.slots.items c.loop-index.index (c.self.inside.base + 1 + c.loop-index.index) refl (tells.0 w.if-is_held.true)));

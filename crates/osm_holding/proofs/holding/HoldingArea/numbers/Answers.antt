@@ -2,15 +2,15 @@
 use Rattle.std.proofs.Common.{◌≡◌, ℕ, ◌+◌, ◌≤◌, List, [], ◌∷◌, ◌++◌, length, ◌∙◌, ap, sym, refl, arith}
 use Rattle.std.specs.Map.{keys_of}
 use Rattle.std.proofs.lemmas.Bool.{false≢true}
-use Rattle.osm_holding.specs.Steps.Slots.{entries_from}
+use Rattle.osm_holding.specs.Steps.Slots.{entries_from, area_of}
 use Rattle.osm_holding.proofs.AreaLemmas.{exactly_held, slots_rise}
-use Rattle.osm_holding.proofs.SlotLemmas.{area_of, numbers_before_all, numbers_before_held, numbers_before_free}
+use Rattle.osm_holding.proofs.SlotLemmas.{numbers_before_all, numbers_before_held, numbers_before_free}
 use Rattle.osm_holding.proofs.holding.HoldingArea.numbers.Goals as goal
 use Rattle.osm_holding.proofs.holding.HoldingArea.numbers.Goals.{then-is_held+in_ok-push, else-is_held}
 
 pub loop-index-preserved : goal.loop-index-preserved
 loop-index-preserved c =
-    let tells = rw (← c.self.view_is) at c.is_held.ensures in
+    let tells = rw (← c.self.view_is) at c.is_held.ensures.held in
     let number : ℕ = c.self.inside.base + 1 + c.loop-index.index in
     elim c.if-is_held.branch [
       | then-is_held+in_ok-push w ↦ rw w.numbers-is (w.in_ok-push.ensures.items ∙ (ap (λ (ns : List ℕ). ns ++ number ∷ []) c.loop-index.invariant ∙ sym (numbers_before_held (c.self.inside.base + 1) c.self.inside.slots.items c.loop-index.index number refl (tells.0 w.if-is_held.true))))

@@ -4,8 +4,9 @@ use Rattle.std.specs.Prelude.{slice_set, IsSome}
 use Rattle.std.specs.Option.{option_flatten}
 use Rattle.osm_holding.specs.declared.holding.Held.{Held}
 use Rattle.osm_holding.specs.Holding.{ChangesAt}
+use Rattle.osm_holding.specs.Steps.Slots.{area_of}
 use Rattle.osm_holding.proofs.AreaLemmas.{are_written}
-use Rattle.osm_holding.proofs.SlotLemmas.{area_of, found_at, slot_changes, slot_there}
+use Rattle.osm_holding.proofs.SlotLemmas.{found_at, slot_changes, slot_there}
 use Rattle.osm_holding.proofs.holding.HoldingArea.replace.Goals as goal
 use Rattle.osm_holding.proofs.holding.HoldingArea.replace.Goals.{in-Some, in-None+in-None-1, in-None+in-Some-1}
 
