@@ -1,6 +1,6 @@
 -- The order of what is held, and areas that hold the same.
 use Rattle.std.proofs.Common.{◌≡◌, ℕ, zero, suc, ◌+◌, ◌<◌, ◌≤◌, List, [], ◌∷◌, ◌++◌, length, refl, ap, subst, sym, ◌∙◌, true, false, arith, None, Some, Option, inl, inr}
-use Rattle.std.specs.Prelude.{slice_set, ◌==◌, slice_index, IsSome, Contains, ◌↔◌, Result, Ok, Err, OnErr}
+use Rattle.std.specs.Prelude.{slice_set, ◌==◌, slice_index, IsSome, Contains, ◌↔◌}
 use Rattle.std.specs.Cmp.{nat_eq_equiv}
 use Rattle.std.specs.List.Sorted.{IsStrictlyIncreasing, IsStrictlySortedBy}
 use Rattle.std.specs.Map.{keys_of}
@@ -165,8 +165,3 @@ pub moved_area : (base : ℕ) (old new : Buffer (Option Held)) → AreSlots base
 unfolding made
 moved_area base old new are is free =
     ap (λ es. made (base + 1) es) (moved_slots base old new are is free)
-
--- a clause on errors holds if its fact does
-pub OnErr_always : {X E : Type 0} (r : Result X E) (P : Type 0) → P → OnErr r P
-OnErr_always (Ok x) P p = tt
-OnErr_always (Err e) P p = p

@@ -1,5 +1,5 @@
 -- What an area holds, by the slots of its ring.
-use Rattle.std.proofs.Common.{◌≡◌, ℕ, zero, suc, ◌+◌, ◌-◌, ◌<◌, ◌≤◌, ◌≢◌, List, [], ◌∷◌, ◌++◌, length, take, replicate, refl, ap, sym, ◌∙◌, true, false, arith, None, Some, Option, inl, inr, length-append, length-drop, add-one, subst, Bool}
+use Rattle.std.proofs.Common.{◌≡◌, ℕ, zero, suc, ◌+◌, ◌-◌, ◌<◌, ◌≤◌, ◌≢◌, List, [], ◌∷◌, ◌++◌, length, take, refl, ap, sym, ◌∙◌, true, false, arith, None, Some, Option, inl, inr, length-append, length-drop, add-one, subst, Bool}
 use Rattle.std.specs.Prelude.{slice_get, slice_set, ◌==◌, ◌↔◌, IsSome, IsTrue, OnSome, is_some}
 use Rattle.std.specs.Map.{lookup, keys_of}
 use Rattle.std.specs.Option.{option_flatten}
@@ -84,11 +84,6 @@ moved_length slots full =
     let one : length (slots ++ None ∷ []) - 64 ≡ 1 = omega (arith, length-append slots (None ∷ [])) in
     rw one (omega (arith, length-drop 1 (slots ++ None ∷ []), length-append slots (None ∷ [])))
 
--- empty slots show nothing
-pub entries_from-replicate : (first n : ℕ) → entries_from first (replicate n None) ≡ []
-entries_from-replicate first zero = refl
-entries_from-replicate first (suc n) = entries_from-replicate (first + 1) n
-
 -- what is held is in the window
 none_is_not_some : (o : Option Held) → o ≡ None → IsSome o → ⊥
 none_is_not_some None is some = cc
@@ -155,11 +150,6 @@ count_before_free first slots i number is free = ap (λ (ns : List ℕ). length 
 pub numbers_before_all : (first : ℕ) (slots : List (Option Held)) (n : ℕ) → length slots ≤ n → numbers_before first slots n ≡ keys_of (entries_from first slots)
 numbers_before_all first slots n all = ap (λ s. keys_of (entries_from first s)) (take_all n slots all)
 
--- where something is held, there is a number
-pub some_number : (entries : List (ℕ × Held)) (number : ℕ) → IsSome (found entries number) → 0 < length (keys_of entries)
-some_number [] number some = cc
-some_number (e ∷ entries) number some = omega arith
-
 -- a slot's answer is that of its number
 pub slot_tells : (o p : Option Held) (r : Bool) → r ≡ is_some p → o ≡ p → IsTrue r ↔ IsSome o
 slot_tells o p r is same = (λ true_r. ap is_some same ∙ (sym is ∙ true_r), λ some. is ∙ (sym (ap is_some same) ∙ some))
@@ -168,7 +158,7 @@ pub slot_is_free : (o p : Option Held) (r : Bool) → r ≡ is_some p → o ≡ 
 slot_is_free o None r is same = OnFalse_from r (o ≡ None) (λ no. same)
 slot_is_free o (Some held) r is same = OnFalse_from r (o ≡ None) (λ no. absurd (false≢true (sym no ∙ is)))
 
--- no slot tells of no sequence
+-- if there is no slot, nothing is held
 pub none_tells : (o : Option Held) → o ≡ None → IsTrue false ↔ IsSome o
 none_tells o is = slot_tells o None false refl is
 
