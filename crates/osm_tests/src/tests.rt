@@ -1,4 +1,5 @@
 mod follow;
+mod holding;
 mod model;
 mod o5c;
 mod opl;

@@ -1,0 +1,38 @@
+-- The holding area: sequences that came early, kept until their turn comes.
+use Rattle.std.specs.Prelude.{◌≡◌, ◌≢◌, ℕ, ◌+◌, ◌<◌, ◌≤◌, ◌==◌, List, map, Option, IsSome}
+use Rattle.std.specs.List.Sorted.{IsStrictlyIncreasing}
+use Rattle.std.specs.Map.{lookup}
+use Rattle.osm_model.specs.Limits.{max_sequence}
+use Rattle.osm_holding.specs.declared.holding.Held.{Held}
+
+-- the number that a follower has reached, and the sequences that it holds, each with its number
+pub record HoldingValue : Type 0 where
+  pub base : ℕ
+  pub entries : List (ℕ × Held)
+
+-- the sequence that an area holds at a number
+abbrev pub held_at : HoldingValue → ℕ → Option Held
+held_at area number = lookup (λ key. number == key) area.entries
+
+-- the numbers of the sequences that an area holds
+abbrev pub numbers_of : HoldingValue → List ℕ
+numbers_of area = map (λ e. e.0) area.entries
+
+-- one of the 64 numbers after the base
+pub record IsInWindow (base number : ℕ) : Type 0 where
+  pub above : base < number
+  pub within : number ≤ base + 64
+
+-- a holding area: its base is a sequence number, what it holds is in the order of the numbers, and
+-- each number at which it holds something is a sequence number, and one of the 64 after the base
+pub record IsHolding (area : HoldingValue) : Type 0 where
+  pub base : area.base ≤ max_sequence
+  pub rising : IsStrictlyIncreasing (numbers_of area)
+  pub window : (number : ℕ) → IsSome (held_at area number) → IsInWindow area.base number
+  pub limit : (number : ℕ) → IsSome (held_at area number) → number ≤ max_sequence
+
+-- the new area holds this at the number, and is as the old one in all else
+pub record ChangesAt (old new : HoldingValue) (number : ℕ) (now : Option Held) : Type 0 where
+  pub base : new.base ≡ old.base
+  pub changed : held_at new number ≡ now
+  pub others : (other : ℕ) → other ≢ number → held_at new other ≡ held_at old other

@@ -1,0 +1,173 @@
+//! The holding area of a follower.
+
+ghost use Rattle.std.specs.Prelude.{◌≡◌, ℕ, ◌+◌, ◌<◌, ◌≤◌, ◌↔◌, [], length, replicate};
+ghost use Rattle.std.specs.Prelude.{IfOk, OnErr, OnSome, IsTrue, IsSome, Contains};
+ghost use Rattle.std.specs.Bool.{OnFalse};
+ghost use Rattle.std.specs.List.Sorted.{IsStrictlyIncreasing};
+ghost use Rattle.circular_buffer.specs.Buffer.{buffer};
+ghost use Rattle.osm_model.specs.Limits.{max_sequence};
+ghost use Rattle.osm_holding.specs.Holding.{ChangesAt, IsHolding, IsInWindow, held_at, numbers_of};
+
+use circular_buffer::HeapCircularBuffer;
+use osm_model::batch::Batch;
+use osm_model::memory::WantOfMemory;
+use std::alloc::Global;
+use std::marker::Model;
+use std::mem;
+
+/// A sequence that came early: its changes, and its time in seconds since 1970-01-01T00:00:00Z.
+#[derive(Debug, Drop)]
+pub struct Held {
+    pub batch: Batch,
+    pub time: u32,
+}
+
+/// How many numbers after its base an area has room for.
+const WINDOW: u32 = 64;
+
+/// Room for the 64 sequences after a number, its base. `new` makes all of it; afterwards only
+/// `numbers` takes memory. No call except `clear` and `numbers` looks at more than one slot.
+#[derive(Debug, Drop)]
+pub struct HoldingArea {
+    base: u32,
+    // The slot at index i is that of the number base + 1 + i.
+    slots: HeapCircularBuffer<Option<Held>>,
+}
+
+impl Model for HoldingArea {
+    ghost use Rattle.osm_holding.specs.Holding.{HoldingValue};
+
+    ghost Value = { HoldingValue };
+
+    ghost use Rattle.osm_holding.specs.Steps.Slots.{area_of, AreSlots};
+
+    ghost view = { λ a. area_of a.base a.slots.items };
+
+    ghost invariant = { λ a. AreSlots a.base a.slots };
+}
+
+impl HoldingArea {
+    /// Holds nothing.
+    pub fn new(alloc: Global, base: u32) -> Result<HoldingArea, WantOfMemory>
+        requires { base ≤ max_sequence }
+        ensures { IfOk result (λ area. area ≡ record { base = base; entries = [] }) }
+    {
+        let mut slots = HeapCircularBuffer::with_capacity(alloc, WINDOW as usize)?;
+        fill(&mut slots);
+        Ok(HoldingArea { base, slots })
+    }
+
+    pub fn base(&self) -> u32
+        ensures base { result ≡ self.now.base }
+        ensures limits { IsHolding self.now }
+    {
+        self.base
+    }
+
+    pub fn is_held(&self, number: u32) -> bool
+        ensures held { IsTrue result ↔ IsSome (held_at self.now number) }
+        ensures free { OnFalse result (held_at self.now number ≡ None) }
+    {
+        if number <= self.base {
+            return false;
+        }
+        match self.slots.get((number - self.base - 1) as usize) {
+            Some(slot) => slot.is_some(),
+            None => false,
+        }
+    }
+
+    /// Keeps a sequence until its turn comes.
+    pub fn hold(&mut self, number: u32, held: Held)
+        requires early { self.old.base + 2 ≤ number }
+        requires within { number ≤ self.old.base + 64 }
+        requires limit { number ≤ max_sequence }
+        requires free { held_at self.old number ≡ None }
+        ensures { ChangesAt self.old self.new number (Some held) }
+    {
+        let _free = self.replace(number, Some(held));
+    }
+
+    /// Takes out what is held of the sequence after the base.
+    pub fn take_next(&mut self) -> Option<Held>
+        ensures value { result ≡ held_at self.old (self.old.base + 1) }
+        ensures taken { ChangesAt self.old self.new (self.old.base + 1) None }
+        ensures room { OnSome result (self.old.base < max_sequence) }
+    {
+        let next = self.base + 1;
+        self.replace(next, None)
+    }
+
+    // Writes the slot of a number, and gives what it held.
+    fn replace(&mut self, number: u32, now: Option<Held>) -> Option<Held>
+        requires window { IsInWindow self.old.base number }
+        requires limit { IsSome now → number ≤ max_sequence }
+        ensures value { result ≡ held_at self.old number }
+        ensures changed { ChangesAt self.old self.new number now }
+    {
+        match self.slots.get_mut((number - self.base - 1) as usize) {
+            Some(slot) => mem::replace(slot, now),
+            None => None,
+        }
+    }
+
+    /// Moves the base on by one number, and the window with it.
+    pub fn move_on(&mut self)
+        requires room { self.old.base < max_sequence }
+        requires free { held_at self.old (self.old.base + 1) ≡ None }
+        ensures { self.new ≡ record self.old { base = self.old.base + 1 } }
+    {
+        self.base += 1;
+        self.slots.push_back(None);
+    }
+
+    /// Drops all that is held, and begins again at another base.
+    pub fn clear(&mut self, base: u32)
+        requires { base ≤ max_sequence }
+        ensures { self.new ≡ record { base = base; entries = [] } }
+    {
+        self.slots.clear();
+        fill(&mut self.slots);
+        self.base = base;
+    }
+
+    /// The numbers of the sequences that are held.
+    pub fn numbers(&self, alloc: Global) -> Result<Vec<u32>, WantOfMemory>
+        ensures numbers { IfOk result (λ ns. ns.items ≡ numbers_of self.now) }
+        ensures rising { IfOk result (λ ns. IsStrictlyIncreasing ns.items) }
+        ensures exact { IfOk result (λ ns. (number : ℕ) →
+            Contains ns.items number ↔ IsSome (held_at self.now number)) }
+        ensures refused { OnErr result (0 < length (numbers_of self.now)) }
+    {
+        let mut numbers = Vec::with_capacity(alloc, self.count())?;
+        for index in 0..WINDOW {
+            let number = self.base + 1 + index;
+            if self.is_held(number) {
+                numbers.push(number)?;
+            }
+        }
+        Ok(numbers)
+    }
+
+    fn count(&self) -> usize
+        ensures { result ≡ length (numbers_of self.now) }
+    {
+        let mut count = 0;
+        for index in 0..WINDOW {
+            if self.is_held(self.base + 1 + index) {
+                count += 1;
+            }
+        }
+        count
+    }
+}
+
+// Puts the 64 empty slots into an empty ring that has room for them.
+fn fill(slots: &mut HeapCircularBuffer<Option<Held>>)
+    requires { slots.old ≡ buffer [] 64 }
+    ensures { slots.new ≡ buffer (replicate 64 None) 64 }
+{
+    for _ in 0..WINDOW {
+        slots.push_back(None);
+    }
+}
