@@ -7,7 +7,8 @@ use Rattle.osm_repl.specs.Script.{ScriptOf}
 use Rattle.osm_follow.specs.declared.event.Event.{Event}
 use Rattle.osm_follow.specs.declared.event.Reply.{Reply}
 
--- the text is that of one reply for each event of the script, each allowed after what came before it
+-- the text is that of one reply for each event of the script, each reply allowed after what came
+-- before it
 pub record MayAnswer (script text : List ℕ) : Type 0 where
   pub events : List Event
   pub is_script : ScriptOf script events

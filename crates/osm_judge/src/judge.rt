@@ -7,15 +7,15 @@ ghost use Rattle.osm_judge.specs.Judge.{MayAnswer};
 use crate::history::Pair;
 use crate::legal::is_legal;
 use crate::reading::{Unread, read_reply};
-use osm_model::memory::WantOfMemory;
 use osm_follow::event::{Event, Reply};
+use osm_model::memory::WantOfMemory;
 use osm_repl::fault::RunFault;
 use osm_repl::replies::write_replies;
 use osm_repl::script::parse_script;
 use std::alloc::Global;
 
-/// Whether the text is the reply text of replies each of which may follow what came before it, at the
-/// events of the script. Refused where the script is no script, or for memory.
+/// Whether the text may be the reply text of the script: that of one reply for each event, each reply
+/// allowed after what came before it. Refused if the script is none, or for memory.
 pub fn may_answer(alloc: Global, script: &[u8], text: &[u8]) -> Result<bool, RunFault>
     requires { length script.now < 2 ^ 63 }
     ensures { IfOk result (λ b. IsTrue b → MayAnswer script.now text.now) }

@@ -2,17 +2,18 @@
 
 ghost use Rattle.std.specs.Prelude.{◌≡◌, ℕ, ◌+◌, ◌-◌, ◌<◌, ◌≤◌, ◌↔◌, false, length, IfOk, IsTrue};
 ghost use Rattle.osm_follow.specs.History.{accepted_of, published_of};
-ghost use Rattle.osm_follow.specs.Legal.{Allowed, AllowedClose, AllowedDeliver, AllowedEdit, AllowedShow, IsLegal, IsNext, IsNumber, IsOpen};
-ghost use Rattle.osm_follow.specs.Published.{flat};
+ghost use Rattle.osm_follow.specs.Legal.{Allowed, AllowedClose, AllowedDeliver, AllowedEdit};
+ghost use Rattle.osm_follow.specs.Legal.{AllowedShow, IsLegal, IsNext, IsNumber, IsOpen};
+ghost use Rattle.osm_follow.specs.Published.{changes_up_to};
 ghost use Rattle.osm_follow.specs.Reach.{Reaches};
 
 use crate::history::{
-    Pair, flat_to, is_accepted, is_broken, least_time, pending, published, reach,
+    Pair, is_accepted, is_broken, joined_changes, least_time, pending, published_count, reach,
 };
 use crate::views::is_view;
+use osm_follow::event::{Event, Reply};
 use osm_model::limits::{MAX_CHANGES, MAX_SEQUENCE};
 use osm_model::memory::WantOfMemory;
-use osm_follow::event::{Event, Reply};
 use std::alloc::Global;
 
 /// Whether each reply of a history may follow what came before it.
@@ -59,7 +60,7 @@ fn is_edit_allowed(alloc: Global, history: &[Pair], reply: &Reply) -> Result<boo
 fn is_close_allowed(history: &[Pair], time: u32, reply: &Reply) -> bool
     ensures { IsTrue result ↔ AllowedClose history.now time reply.now }
 {
-    let count = published(history);
+    let count = published_count(history);
     let least = least_time(history);
     match reply {
         Reply::Closed(number) => {
@@ -99,10 +100,10 @@ fn is_deliver_allowed(
 fn is_published(history: &[Pair], number: u32) -> bool
     ensures { IsTrue result ↔ ((0 < number) × (number ≤ length (published_of history.now))) }
 {
-    0 < number && number as usize <= published(history)
+    0 < number && number as usize <= published_count(history)
 }
 
-// Whether the sequence was published, and the follower, at `reached`, isn't broken.
+// Whether the sequence was published, and the follower isn't broken and is at `reached`.
 fn is_open(history: &[Pair], number: u32, reached: u32) -> bool
     requires { IsNumber history.now reached }
     ensures { IsTrue result ↔ IsOpen history.now number reached }
@@ -110,7 +111,7 @@ fn is_open(history: &[Pair], number: u32, reached: u32) -> bool
     is_published(history, number) && !is_broken(history)
 }
 
-// Whether besides it is the next.
+// Whether it also is the next.
 fn is_next(history: &[Pair], number: u32, reached: u32) -> bool
     requires { IsNumber history.now reached }
     ensures { IsTrue result ↔ IsNext history.now number reached }
@@ -126,7 +127,7 @@ fn is_old(history: &[Pair], number: u32, reached: u32) -> bool
     is_open(history, number, reached) && number <= reached
 }
 
-// Whether it lies behind the next, and wasn't accepted.
+// Whether it is above the next, and wasn't accepted.
 fn is_early(history: &[Pair], number: u32, reached: u32) -> bool
     requires { IsNumber history.now reached }
     ensures { IsTrue result ↔ (IsOpen history.now number reached
@@ -137,7 +138,7 @@ fn is_early(history: &[Pair], number: u32, reached: u32) -> bool
         && !is_accepted(history, u64::from(number))
 }
 
-// Whether it is the next, and these are the sequences from it on that can then be applied.
+// Whether it is the next, and sequences `low` to `high` are those that can then be applied.
 fn is_applied(history: &[Pair], number: u32, reached: u32, low: u32, high: u32) -> bool
     requires { IsNumber history.now reached }
     ensures { IsTrue result ↔ (IsNext history.now number reached
@@ -152,7 +153,7 @@ fn is_reach(history: &[Pair], from: u32, high: u32) -> bool
     high == reach(history, from)
 }
 
-// Whether it is the next, and it and those above it up to `high`, joined, have a change.
+// Whether it is the next, and sequences `number` to `high` aren't all empty.
 fn is_next_with_changes(
     alloc: Global,
     history: &[Pair],
@@ -162,13 +163,14 @@ fn is_next_with_changes(
 ) -> Result<bool, WantOfMemory>
     requires { IsNumber history.now reached }
     ensures { IfOk result (λ b. IsTrue b ↔ (IsNext history.now number reached
-        × (length (flat (published_of history.now) (number - 1)) < length (flat (published_of history.now) high)))) }
+        × (length (changes_up_to (published_of history.now) (number - 1))
+        < length (changes_up_to (published_of history.now) high)))) }
 {
     if !is_next(history, number, reached) {
         return Ok(false);
     }
-    let before = flat_to(alloc, history, number - 1)?;
-    let after = flat_to(alloc, history, high)?;
+    let before = joined_changes(alloc, history, number - 1)?;
+    let after = joined_changes(alloc, history, high)?;
     Ok(before.len() < after.len())
 }
 

@@ -1,5 +1,5 @@
-//! Plain, slow judges of what a world replies, for tests: the contract of each is the definition that it
-//! computes.
+//! Plain, slow judges of what a world replies, for tests: the contract of each is the definition
+//! that it computes.
 #![tactic(auto)]
 
 pub mod history;
@@ -7,6 +7,4 @@ pub mod judge;
 pub mod legal;
 pub mod plain;
 mod reading;
-#[cfg(test)]
-mod tests;
 pub mod views;
