@@ -2,6 +2,7 @@
 //! that it computes.
 #![tactic(auto)]
 
+pub mod breaks;
 pub mod history;
 pub mod judge;
 pub mod legal;
