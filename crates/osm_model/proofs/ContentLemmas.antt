@@ -9,7 +9,7 @@ use Rattle.std.proofs.lemmas.List.Sums.{sum_by-append}
 use Rattle.std.proofs.lemmas.Map.Lookups.{exact_signed}
 use Rattle.osm_model.specs.Change.{ChangeValue}
 use Rattle.osm_model.specs.Content.{last_of, later_of, over_at, over, nothing, content_of, standing_of, edits_by_user, edits_by_changeset}
-use Rattle.osm_model.specs.ContentLaws.{KeysAreTold, ContentsJoin, EditsAdd}
+use Rattle.osm_model.specs.ContentLaws.{KindsAreOrdered, KeysAreTold, ContentsJoin, EditsAdd}
 use Rattle.osm_model.specs.KeyOrder.{key_cmp, same_key}
 use Rattle.osm_model.specs.declared.kind.Key.{Key}
 use Rattle.osm_model.specs.declared.kind.Kind.{Kind}
@@ -81,6 +81,17 @@ edits_by_user-append a b uid = sum_by-append (λ (c : ChangeValue). if c.meta.ui
 
 pub edits_by_changeset-append : (a b : List ChangeValue) (id : ℕ) → edits_by_changeset (a ++ b) id ≡ edits_by_changeset a id + edits_by_changeset b id
 edits_by_changeset-append a b id = sum_by-append (λ (c : ChangeValue). if c.meta.changeset == id then 1 else 0) a b
+
+pub kinds_are_ordered : KindsAreOrdered
+kinds_are_ordered Node Node = refl
+kinds_are_ordered Node Way = refl
+kinds_are_ordered Node Relation = refl
+kinds_are_ordered Way Node = refl
+kinds_are_ordered Way Way = refl
+kinds_are_ordered Way Relation = refl
+kinds_are_ordered Relation Node = refl
+kinds_are_ordered Relation Way = refl
+kinds_are_ordered Relation Relation = refl
 
 pub keys_are_told : KeysAreTold
 keys_are_told a b = (same_key-only a b, λ e. rw e (same_key-refl b))

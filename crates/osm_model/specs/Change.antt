@@ -1,7 +1,7 @@
 -- A change of an object, as contracts see it.
 use Rattle.std.specs.Prelude.{◌≡◌, ◌≤◌, List, length, ℤ}
 use Rattle.std.specs.List.{AllByRecursion}
-use Rattle.osm_model.specs.Limits.{IsId, IsPlace, max_tags, max_refs}
+use Rattle.osm_model.specs.Limits.{IsId, IsLocation, max_tags, max_refs}
 use Rattle.osm_model.specs.Meta.{MetaValue, IsMeta}
 use Rattle.osm_model.specs.declared.kind.Key.{Key}
 use Rattle.osm_model.specs.declared.kind.Kind.{Kind}
@@ -40,7 +40,7 @@ pub record AreMembers (members : List Member) : Type 0 where
 
 -- what stands is of the key's kind, and within the limits
 abbrev pub IsWhat : Kind → What → Type 0
-IsWhat kind (Node lon lat tags) = (kind ≡ kinds.Node) × IsPlace lon lat × AreTags tags
+IsWhat kind (Node lon lat tags) = (kind ≡ kinds.Node) × IsLocation lon lat × AreTags tags
 IsWhat kind (Way refs tags) = (kind ≡ kinds.Way) × AreRefs refs × AreTags tags
 IsWhat kind (Relation members tags) = (kind ≡ kinds.Relation) × AreMembers members × AreTags tags
 IsWhat kind Deleted = Unit {0}

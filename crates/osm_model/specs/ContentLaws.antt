@@ -1,11 +1,18 @@
 -- What holds of the definitions of content and counts, whatever the changes.
 use Rattle.std.specs.Prelude.{◌≡◌, ℕ, ◌+◌, List, ◌++◌, true, ◌↔◌}
+use Rattle.std.specs.Ordering.{nat_cmp}
 use Rattle.osm_model.specs.Change.{ChangeValue}
 use Rattle.osm_model.specs.Content.{content_of, over, edits_by_user, edits_by_changeset}
-use Rattle.osm_model.specs.KeyOrder.{same_key}
+use Rattle.osm_model.specs.KeyOrder.{kind_rank, same_key}
+use Rattle.osm_model.specs.contracts.kind.KindOrd.TheImpl.{ghosts as kind_order}
+use Rattle.osm_model.specs.declared.kind.Kind.{Kind}
 use Rattle.osm_model.specs.declared.kind.Key.{Key}
 
--- two keys are one exactly where kind and id are equal
+-- kinds are ordered by their ranks: nodes, then ways, then relations
+abbrev pub KindsAreOrdered : Type 0
+KindsAreOrdered = (a b : Kind) → kind_order.cmp a b ≡ nat_cmp (kind_rank a) (kind_rank b)
+
+-- two keys are one exactly if kind and id are equal
 abbrev pub KeysAreTold : Type 0
 KeysAreTold = (a b : Key) → (same_key a b ≡ true) ↔ (a ≡ b)
 

@@ -22,7 +22,7 @@ pub record IsLatitude (lat : ℤ) : Type 0 where
   pub high : lat ≤ℤ pos 900000000
 
 -- a longitude and a latitude
-pub record IsPlace (lon lat : ℤ) : Type 0 where
+pub record IsLocation (lon lat : ℤ) : Type 0 where
   pub longitude : IsLongitude lon
   pub latitude : IsLatitude lat
 

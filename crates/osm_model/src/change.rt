@@ -2,8 +2,8 @@
 
 ghost use Rattle.std.specs.Prelude.{◌≡◌, ◌<◌, ◌↔◌, length, IfOk, IsErrOf, IsTrue, Some, None};
 ghost use Rattle.std.specs.List.{AllByRecursion};
-ghost use Rattle.osm_model.specs.Limits.{IsId, IsPlace, max_tags, max_refs};
-ghost use Rattle.osm_model.specs.Change.{IsChange, HasMemberId};
+ghost use Rattle.osm_model.specs.Limits.{IsId, IsLocation, max_tags, max_refs};
+ghost use Rattle.osm_model.specs.Change.{IsChange, IsWhat, HasMemberId};
 ghost use Rattle.osm_model.specs.Content.{standing_of};
 
 use crate::kind::{Key, Kind};
@@ -109,18 +109,18 @@ fn have_ids(members: &[Member]) -> bool
     true
 }
 
-fn is_place(lon: i32, lat: i32) -> bool
-    ensures { IsTrue result ↔ IsPlace lon lat }
+fn is_location(lon: i32, lat: i32) -> bool
+    ensures { IsTrue result ↔ IsLocation lon lat }
 {
     -MAX_LON <= lon && lon <= MAX_LON && -MAX_LAT <= lat && lat <= MAX_LAT
 }
 
 impl Change {
-    /// A node at that place.
+    /// A node at that location.
     pub fn node(id: i64, meta: Meta, lon: i32, lat: i32, tags: Tags) -> Result<Change, ChangeError>
-        ensures out_of_range { IsErrOf result ChangeError.OutOfRange ↔ ¬ (IsId id × IsPlace lon lat) }
+        ensures out_of_range { IsErrOf result ChangeError.OutOfRange ↔ ¬ (IsId id × IsLocation lon lat) }
         ensures too_many_tags { IsErrOf result ChangeError.TooManyTags
-            ↔ (IsId id × IsPlace lon lat × (max_tags < length tags)) }
+            ↔ (IsId id × IsLocation lon lat × (max_tags < length tags)) }
         ensures never { ¬ IsErrOf result ChangeError.TooManyRefs }
         ensures value { IfOk result (λ c. c ≡ record {
           key = record { kind = Kind.Node; id = id };
@@ -129,7 +129,7 @@ impl Change {
         }) }
     {
         let _version = meta.version();
-        if !is_id(id) || !is_place(lon, lat) {
+        if !is_id(id) || !is_location(lon, lat) {
             return Err(ChangeError::OutOfRange);
         }
         if tags.as_slice().len() > MAX_TAGS {
@@ -232,6 +232,16 @@ impl Change {
             meta,
             what: What::Deleted,
         })
+    }
+
+    /// The change of those parts, which are known to be within the limits. Nothing is looked through
+    /// again.
+    pub fn within_limits(key: Key, meta: Meta, what: What) -> Change
+        requires { IsId key.id × IsWhat key.kind what }
+        ensures { result ≡ record { key = key; meta = meta; what = what } }
+    {
+        let _version = meta.version();
+        Change { key, meta, what }
     }
 
     pub fn key(&self) -> Key

@@ -11,7 +11,5 @@ pub mod limits;
 pub mod lists;
 pub mod memory;
 pub mod meta;
-#[cfg(test)]
-mod tests;
 pub mod text;
 pub mod time;

@@ -4,11 +4,12 @@ use Rattle.std.proofs.lemmas.Bool.Decides.{nat_tests}
 use Rattle.std.proofs.lemmas.List.{append-nil, length-append}
 use Rattle.std.proofs.lemmas.Option.{same_Some}
 use Rattle.std.specs.Char.{encode_utf8}
-use Rattle.osm_opl.specs.Reading.{◌>>=◌, each_at, escape_at, list_at, list_pieces, run_at, runs_at}
-use Rattle.osm_opl.specs.Answers.{Fails}
-use Rattle.osm_opl.specs.declared.lines.LineError.{LineError}
-use Rattle.osm_opl.specs.declared.lines.LineError.TheVariants.{WantOfMemory, Fault}
-use Rattle.osm_opl.specs.Laws.Steps.{bind_some}
+use Rattle.osm_opl.specs.Steps.Reading.{each_at, escape_at, list_at, list_pieces, run_at, runs_at}
+use Rattle.osm_reading.specs.Steps.Answers.{and_then}
+use Rattle.osm_reading.specs.Steps.Answers.{Fails}
+use Rattle.osm_reading.specs.declared.refusal.Refusal.{Refusal}
+use Rattle.osm_reading.specs.declared.refusal.Refusal.TheVariants.{WantOfMemory, Fault}
+use Rattle.osm_reading.proofs.StepLemmas.{some_then}
 
 -- what was read before, in front of what is read from the rest
 abbrev pub put_before : {X : Type 0} → List X → Option (List X) → Option (List X)
@@ -22,7 +23,7 @@ pub put_before-nothing : {X : Type 0} (r : Option (List X)) → put_before [] r 
 put_before-nothing None = refl
 put_before-nothing (Some ys) = refl
 
-put_before-bind : {X : Type 0} (xs : List X) (x : X) (r : Option (List X)) → put_before xs (r >>= λ ys. Some (x ∷ ys)) ≡ put_before (xs ++ x ∷ []) r
+put_before-bind : {X : Type 0} (xs : List X) (x : X) (r : Option (List X)) → put_before xs (and_then r (λ ys. Some (x ∷ ys))) ≡ put_before (xs ++ x ∷ []) r
 put_before-bind {X = X} xs x None = refl
 put_before-bind {X = X} xs x (Some ys) = ap (λ (l : List X). Some l) (sym (append_assoc xs (x ∷ []) ys))
 
@@ -37,7 +38,7 @@ list_begun read all = record { same = sym (put_before-nothing (each_at read all)
 pub item_read : {X : Type 0} (read : List ℕ → Option X) (all left ps : List (List ℕ)) (items : List X) (p : List ℕ) (x : X) → ListRead read all left items → left ≡ p ∷ ps → read p ≡ Some x → ListRead read all ps (items ++ x ∷ [])
 item_read {X} read all left ps items p x before is e =
     let h : ListRead read all (p ∷ ps) items = rw is at before in
-    let step : each_at read (p ∷ ps) ≡ (each_at read ps >>= λ ys. Some (x ∷ ys)) = rw e refl in
+    let step : each_at read (p ∷ ps) ≡ and_then (each_at read ps) (λ ys. Some (x ∷ ys)) = rw e refl in
     let n : length all ≡ length items + suc (length ps) = h.count in
     let l : length (items ++ x ∷ []) ≡ length items + 1 = length-append items (x ∷ []) in
     record { same = h.same ∙ ap (put_before items) step ∙ put_before-bind items x (each_at read ps); count = omega arith }
@@ -45,8 +46,8 @@ item_read {X} read all left ps items p x before is e =
 each_length : {X : Type 0} (read : List ℕ → Option X) (ps : List (List ℕ)) (xs : List X) → each_at read ps ≡ Some xs → length xs ≡ length ps
 each_length read [] xs e = ap length (sym (same_Some [] xs e))
 each_length {X} read (p ∷ ps) xs e =
-    let a = bind_some (read p) (λ (x : X). ◌>>=◌ {A = List X} {B = List X} (each_at read ps) (λ ys. Some (x ∷ ys))) xs e in
-    let b = bind_some (each_at read ps) (λ (ys : List X). Some (a.0 ∷ ys)) xs a.2 in
+    let a = some_then (read p) (λ (x : X). and_then {A = List X} {B = List X} (each_at read ps) (λ ys. Some (x ∷ ys))) xs e in
+    let b = some_then (each_at read ps) (λ (ys : List X). Some (a.0 ∷ ys)) xs a.2 in
     let same : a.0 ∷ b.0 ≡ xs = same_Some (a.0 ∷ b.0) xs b.2 in
     let n : length b.0 ≡ length ps = each_length read ps b.0 b.1 in
     rw (← same) (omega arith)
@@ -68,7 +69,7 @@ item_unread read most bytes left ps items p before is e =
     let fails : each_at read (list_pieces bytes) ≡ None = h.same ∙ put_before-none items (each_at read (p ∷ ps)) step in
     rw fails refl
 
-pub item_fails : {X : Type 0} (read : List ℕ → Option X) (most : ℕ) (bytes : List ℕ) (error : LineError) (left ps : List (List ℕ)) (items : List X) (p : List ℕ) → ListRead read (list_pieces bytes) left items → left ≡ p ∷ ps → Fails error (read p) → Fails error (list_at read most bytes)
+pub item_fails : {X : Type 0} (read : List ℕ → Option X) (most : ℕ) (bytes : List ℕ) (error : Refusal) (left ps : List (List ℕ)) (items : List X) (p : List ℕ) → ListRead read (list_pieces bytes) left items → left ≡ p ∷ ps → Fails error (read p) → Fails error (list_at read most bytes)
 item_fails read most bytes WantOfMemory left ps items p before is e = tt
 item_fails read most bytes (Fault why) left ps items p before is e = item_unread read most bytes left ps items p before is e
 
@@ -77,23 +78,23 @@ pub item_too_many : {X : Type 0} (read : List ℕ → Option X) (most : ℕ) (by
 unfolding list_at
 item_too_many {X} read most bytes left items h more long = by_option (each_at read (list_pieces bytes)) (λ xs e. let n : length xs ≡ length (list_pieces bytes) = each_length read (list_pieces bytes) xs e in let m : length (list_pieces bytes) ≡ length items + length left = h.count in omega arith)
   where
-    by_option : (r : Option (List X)) → ((xs : List X) → r ≡ Some xs → most < length xs) → (r >>= λ xs. cond (leb (length xs) most) (Some xs) None) ≡ None
+    by_option : (r : Option (List X)) → ((xs : List X) → r ≡ Some xs → most < length xs) → and_then r (λ xs. cond (leb (length xs) most) (Some xs) None) ≡ None
     by_option None f = refl
     by_option (Some xs) f = let lt : most < length xs = f xs refl in let t : leb (length xs) most ≡ false = grind (arith, nat_tests) in rw t refl
 
 -- ---- runs and escapes in turn
 
-run_bound : (xs run : List ℕ) (r : Option (List ℕ)) → put_before xs (r >>= λ t. Some (run ++ t)) ≡ put_before (xs ++ run) r
+run_bound : (xs run : List ℕ) (r : Option (List ℕ)) → put_before xs (and_then r (λ t. Some (run ++ t))) ≡ put_before (xs ++ run) r
 run_bound xs run None = refl
 run_bound xs run (Some t) = ap (λ (l : List ℕ). Some l) (sym (append_assoc xs run t))
 
 -- a run and an escape more
 pub run_read : (before run after text next : List ℕ) (left more : List (List ℕ)) (digits : List ℕ) (c : ℕ) (whole : Option (List ℕ)) → whole ≡ put_before before (runs_at left) → left ≡ run ∷ digits ∷ more → run_at run ≡ Some after → escape_at digits ≡ Some c → text ≡ before ++ after → next ≡ text ++ encode_utf8 c → whole ≡ put_before next (runs_at more)
 run_read before run after text next left more digits c whole e is r d t n =
-    let step : runs_at (run ∷ digits ∷ more) ≡ (runs_at more >>= λ t. Some (after ++ encode_utf8 c ++ t)) = rw (r, d) refl in
+    let step : runs_at (run ∷ digits ∷ more) ≡ and_then (runs_at more) (λ t. Some (after ++ encode_utf8 c ++ t)) = rw (r, d) refl in
     let joined : (after ++ encode_utf8 c) ≡ (after ++ encode_utf8 c) = refl in
     rw (n, t, append_assoc before after (encode_utf8 c), e, is, step) (two_bound before after (encode_utf8 c) (runs_at more))
   where
-    two_bound : (xs run c : List ℕ) (r : Option (List ℕ)) → put_before xs (r >>= λ t. Some (run ++ c ++ t)) ≡ put_before (xs ++ (run ++ c)) r
+    two_bound : (xs run c : List ℕ) (r : Option (List ℕ)) → put_before xs (and_then r (λ t. Some (run ++ c ++ t))) ≡ put_before (xs ++ (run ++ c)) r
     two_bound xs run c None = refl
     two_bound xs run c (Some t) = ap (λ (l : List ℕ). Some l) (sym (append_assoc xs (run ++ c) t))

@@ -4,7 +4,7 @@ use Rattle.osm_model.specs.Batch.{IsBatch}
 use Rattle.osm_model.specs.Change.{ChangeValue}
 use Rattle.osm_model.specs.Limits.{max_changes}
 use Rattle.osm_opl.specs.Line.{SpellsLine}
-use Rattle.osm_opl.specs.Lines.{lines_of, is_skipped}
+use Rattle.osm_reading.specs.Lines.{lines_of, is_skipped}
 
 -- the lines that aren't skipped spell the changes, one by one
 pub data SpellsLines : List (List ℕ) → List ChangeValue → Type 0 where

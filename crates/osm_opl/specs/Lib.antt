@@ -1,12 +1,8 @@
-pub mod Pieces
 pub mod Number
 pub mod Coordinate
 pub mod Escape
 pub mod Lists
 pub mod Line
-pub mod Lines
 pub mod File
 pub mod Written
-pub mod Reading
-pub mod Answers
-pub mod Laws
+pub mod Steps

@@ -9,11 +9,13 @@ use Rattle.osm_model.specs.declared.kind.Kind.{Kind}
 use Rattle.osm_model.specs.declared.kind.Kind.TheVariants.{Node, Way, Relation}
 use Rattle.osm_model.specs.declared.lists.Member.{Member}
 use Rattle.osm_model.specs.declared.lists.Tag.{Tag}
+use Rattle.osm_reading.specs.declared.refusal.Refusal.{Refusal}
+use Rattle.osm_reading.specs.declared.refusal.Refusal.TheVariants.{WantOfMemory, Fault}
 use Rattle.osm_opl.specs.Coordinate.{SpellsCoordinate}
 use Rattle.osm_opl.specs.Escape.{SpellsText}
 use Rattle.osm_opl.specs.Lists.{SpellsList, SpellsTag, SpellsRef, SpellsMember, letter_of}
 use Rattle.osm_opl.specs.Number.{SpellsNumber, SpellsId}
-use Rattle.osm_opl.specs.Pieces.{joined}
+use Rattle.osm_reading.specs.Pieces.{joined}
 
 -- `V` where the object stands, and `D` where it is deleted
 abbrev pub status_text : What → List ℕ
@@ -21,10 +23,10 @@ status_text whats.Deleted = codes "D"
 status_text what = codes "V"
 
 -- nothing, or a coordinate within its limits
-pub data MayBePlace (Limits : ℤ → Type 0) : List ℕ → Type 0 where
-  absent : MayBePlace Limits []
+pub data MayBeCoordinate (Limits : ℤ → Type 0) : List ℕ → Type 0 where
+  absent : MayBeCoordinate Limits []
   given : (bytes : List ℕ) (units : ℤ) → SpellsCoordinate bytes units → Limits units
-      → MayBePlace Limits bytes
+      → MayBeCoordinate Limits bytes
 
 -- the fields after the user: `T.. x.. y..` of a node, `T.. N..` of a way, `T.. M..` of a relation.
 -- Those of a deletion are in the grammar and the limits, and say nothing.
@@ -40,7 +42,7 @@ pub data SpellsWhat : Kind → List (List ℕ) → What → Type 0 where
       → SpellsWhat Relation ((84 ∷ t) ∷ (77 ∷ m) ∷ []) (whats.Relation members tags)
   deleted_node : (t x y : List ℕ) (tags : List Tag)
       → SpellsList SpellsTag t tags → AreTags tags
-      → MayBePlace IsLongitude x → MayBePlace IsLatitude y
+      → MayBeCoordinate IsLongitude x → MayBeCoordinate IsLatitude y
       → SpellsWhat Node ((84 ∷ t) ∷ (120 ∷ x) ∷ (121 ∷ y) ∷ []) whats.Deleted
   deleted_way : (t n : List ℕ) (tags : List Tag) (refs : List ℤ)
       → SpellsList SpellsTag t tags → AreTags tags
@@ -72,3 +74,8 @@ pub record SpellsLine (line : List ℕ) (change : ChangeValue) : Type 0 where
   pub user : SpellsText user_text change.meta.user
   pub what : SpellsWhat change.key.kind fields change.what
   pub limits : IsChange change
+
+-- a fault is answered only if the line spells no change
+abbrev pub LineRefused : List ℕ → Refusal → Type 0
+LineRefused line WantOfMemory = Unit {0}
+LineRefused line (Fault why) = (change : ChangeValue) → SpellsLine line change → ⊥

@@ -6,7 +6,7 @@ use Rattle.osm_model.specs.declared.lists.Member.{Member}
 use Rattle.osm_model.specs.declared.lists.Tag.{Tag}
 use Rattle.osm_opl.specs.Escape.{SpellsText}
 use Rattle.osm_opl.specs.Number.{SpellsId}
-use Rattle.osm_opl.specs.Pieces.{joined}
+use Rattle.osm_reading.specs.Pieces.{joined}
 
 -- each of the pieces spells the item at its place
 pub data Each {X : Type 0} (Spells : List ℕ → X → Type 0) : List (List ℕ) → List X → Type 0 where

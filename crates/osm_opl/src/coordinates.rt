@@ -2,12 +2,12 @@
 
 ghost use Rattle.std.specs.Prelude.{◌≡◌, ◌-◌, ◌^◌, ◌<◌, ◌≤◌, length, IfOk, ◌++◌, ◌≤ℤ◌, pos, unsigned_abs, OnOk, OnErr, option_map};
 ghost use Rattle.std.specs.Io.{StartsWith};
-ghost use Rattle.osm_opl.specs.Answers.{Finds};
-ghost use Rattle.osm_opl.specs.Reading.{coordinate_at, digits_at, place_at, units_at};
+ghost use Rattle.osm_reading.specs.Steps.Answers.{Finds};
+ghost use Rattle.osm_opl.specs.Steps.Reading.{coordinate_at, digits_at, place_at, units_at};
 ghost use Rattle.osm_opl.specs.Written.{coordinate_text, decimals, fraction_text};
 
 use crate::numbers::read_digits;
-use crate::pieces::cut;
+use osm_reading::pieces::cut;
 use itoa::Buffer;
 use osm_model::form::Why;
 use osm_model::memory::WantOfMemory;
@@ -15,7 +15,7 @@ use osm_model::memory::WantOfMemory;
 const UNITS: u32 = 10_000_000;
 
 /// A coordinate in degrees, as `-0.1`, or nothing.
-#[tactic(auto, unfolding(crate::specs::Reading::place_at))]
+#[tactic(auto, unfolding(crate::specs::Steps::Reading::place_at))]
 pub(crate) fn read_place(bytes: &[u8], most: i32) -> Result<Option<i32>, Why>
     requires { pos 0 ≤ℤ most }
     ensures { Finds (λ z. z) result (place_at (unsigned_abs most) bytes.now) }
@@ -26,7 +26,7 @@ pub(crate) fn read_place(bytes: &[u8], most: i32) -> Result<Option<i32>, Why>
     Ok(Some(read_coordinate(bytes, most)?))
 }
 
-#[tactic(auto, unfolding(crate::specs::Reading::coordinate_at))]
+#[tactic(auto, unfolding(crate::specs::Steps::Reading::coordinate_at))]
 fn read_coordinate(bytes: &[u8], most: i32) -> Result<i32, Why>
     requires { pos 0 ≤ℤ most }
     ensures { Finds (λ z. z) result (coordinate_at (unsigned_abs most) bytes.now) }
@@ -43,7 +43,7 @@ fn read_coordinate(bytes: &[u8], most: i32) -> Result<i32, Why>
 }
 
 // Degrees without a sign, as `0.1`.
-#[tactic(auto, unfolding(crate::specs::Reading::units_at))]
+#[tactic(auto, unfolding(crate::specs::Steps::Reading::units_at))]
 fn read_units(bytes: &[u8], most: u64) -> Result<u64, Why>
     ensures value { Finds (λ n. n) result (units_at most bytes.now) }
     ensures limit { IfOk result (λ n. n ≤ most) }

@@ -5,14 +5,14 @@ ghost use Rattle.std.specs.Prelude.{◌≡◌, ◌-◌, ◌^◌, min, option_map
 ghost use Rattle.std.specs.Char.{digit_char};
 ghost use Rattle.std.specs.Io.{StartsWith};
 ghost use Rattle.std.specs.List.{list_all};
-ghost use Rattle.osm_opl.specs.Answers.{Finds, Gives};
+ghost use Rattle.osm_reading.specs.Steps.Answers.{Finds, Gives};
 ghost use Rattle.osm_opl.specs.Escape.{is_reserved};
-ghost use Rattle.osm_opl.specs.Pieces.{pieces};
-ghost use Rattle.osm_opl.specs.Reading.{digits_at, run_at, runs_at, escape_at, is_bare_run, is_free, text_at};
+ghost use Rattle.osm_reading.specs.Pieces.{pieces};
+ghost use Rattle.osm_opl.specs.Steps.Reading.{digits_at, run_at, runs_at, escape_at, is_bare_run, is_free, text_at};
 ghost use Rattle.osm_opl.specs.Written.{char_text, hex_count, hex_digits, is_written_bare, text_text};
 
-use crate::lines::LineError;
-use crate::pieces::cut;
+use osm_reading::refusal::Refusal;
+use osm_reading::pieces::cut;
 use osm_model::form::Why;
 use osm_model::limits::MAX_TEXT;
 use osm_model::memory::WantOfMemory;
@@ -20,19 +20,19 @@ use osm_model::text::Text;
 use std::alloc::Global;
 
 /// A text of at most 1,020 bytes, its escapes resolved.
-#[tactic(auto, unfolding(crate::specs::Reading::text_at))]
-pub(crate) fn read_text(alloc: Global, bytes: &[u8]) -> Result<Text, LineError>
+#[tactic(auto, unfolding(crate::specs::Steps::Reading::text_at))]
+pub(crate) fn read_text(alloc: Global, bytes: &[u8]) -> Result<Text, Refusal>
     ensures { Gives (λ t. t) result (text_at bytes.now) }
 {
     let text = unescape(alloc, bytes)?;
     match Text::from_string(text) {
         Ok(text) => Ok(text),
-        Err(_) => Err(LineError::Fault(Why::BadText)),
+        Err(_) => Err(Refusal::Fault(Why::BadText)),
     }
 }
 
 // Runs of bare characters with escapes between them.
-fn unescape(alloc: Global, bytes: &[u8]) -> Result<String, LineError>
+fn unescape(alloc: Global, bytes: &[u8]) -> Result<String, Refusal>
     ensures { Gives string_bytes result (runs_at (pieces 37 bytes.now)) }
 {
     let mut text = String::with_capacity(alloc, bytes.len().min(MAX_TEXT))?;
@@ -45,7 +45,7 @@ fn unescape(alloc: Global, bytes: &[u8]) -> Result<String, LineError>
         };
         let (digits, after) = cut(escape, b'%');
         let Some(after) = after else {
-            return Err(LineError::Fault(Why::BadEscape));
+            return Err(Refusal::Fault(Why::BadEscape));
         };
         text.push(read_escape(digits)?)?;
         rest = after;
@@ -53,7 +53,7 @@ fn unescape(alloc: Global, bytes: &[u8]) -> Result<String, LineError>
 }
 
 // Bare characters.
-#[tactic(auto, using(crate::specs::Laws::EscapeLemmas::is_text_run, crate::specs::Laws::EscapeLemmas::isnt_text_run))]
+#[tactic(auto, using(crate::proofs::EscapeLemmas::is_text_run, crate::proofs::EscapeLemmas::isnt_text_run))]
 fn read_run(run: &[u8]) -> Result<&str, Why>
     ensures { Finds (λ s. s.now) result (run_at run.now) }
 {
@@ -83,7 +83,7 @@ fn is_reserved(byte: u8) -> bool
 }
 
 // The character whose code is given by one to eight hexadecimal digits; U+0000 is none.
-#[tactic(auto, unfolding(crate::specs::Reading::escape_at))]
+#[tactic(auto, unfolding(crate::specs::Steps::Reading::escape_at))]
 fn read_escape(digits: &[u8]) -> Result<char, Why>
     ensures { Finds (λ c. c) result (escape_at digits.now) }
 {

@@ -3,12 +3,12 @@
 
 mod coordinates;
 mod escapes;
+mod fields;
 pub mod lines;
 mod lists;
 mod metadata;
 mod numbers;
 mod objects;
 pub mod opl;
-mod pieces;
 #[cfg(test)]
 mod tests;

@@ -2,15 +2,16 @@
 
 ghost use Rattle.std.specs.Prelude.{◌≡◌, ◌++◌, ◌∷◌, [], if◌then◌else◌, OnOk, OnErr, Some};
 ghost use Rattle.std.specs.Io.{StartsWith};
-ghost use Rattle.osm_opl.specs.Answers.{Finds, Gives};
+ghost use Rattle.osm_reading.specs.Steps.Answers.{Finds, Gives};
 ghost use Rattle.osm_opl.specs.Lists.{letter_of};
-ghost use Rattle.osm_opl.specs.Reading.{kind_at, list_at, list_pieces, member_at, pieces_after, ref_at, tag_at};
+ghost use Rattle.osm_opl.specs.Steps.Reading.{kind_at, list_at, list_pieces, member_at, ref_at, tag_at};
+ghost use Rattle.osm_reading.specs.Pieces.{pieces_after};
 ghost use Rattle.osm_opl.specs.Written.{items_text, key_text, member_text, ref_text, tag_text};
 
 use crate::escapes::{read_text, write_text};
-use crate::lines::LineError;
+use osm_reading::refusal::Refusal;
 use crate::numbers::{read_id, write_id};
-use crate::pieces::cut;
+use osm_reading::pieces::cut;
 use osm_model::form::Why;
 use osm_model::kind::{Key, Kind};
 use osm_model::limits::{MAX_REFS, MAX_TAGS};
@@ -26,14 +27,14 @@ fn first_item(bytes: &[u8]) -> Option<&[u8]>
 }
 
 /// At most 5,000 tags.
-pub(crate) fn read_tags(alloc: Global, bytes: &[u8]) -> Result<Tags, LineError>
+pub(crate) fn read_tags(alloc: Global, bytes: &[u8]) -> Result<Tags, Refusal>
     ensures { Gives (λ t. t) result (list_at tag_at 5000 bytes.now) }
 {
     let mut tags = Tags::new(alloc);
     let mut rest = first_item(bytes);
     while let Some(items) = rest {
         if tags.as_slice().len() >= MAX_TAGS {
-            return Err(LineError::Fault(Why::TooMany));
+            return Err(Refusal::Fault(Why::TooMany));
         }
         let (item, after) = cut(items, b',');
         match read_tag(alloc, item) {
@@ -46,13 +47,13 @@ pub(crate) fn read_tags(alloc: Global, bytes: &[u8]) -> Result<Tags, LineError>
 }
 
 // `KEY=VALUE`
-#[tactic(auto, unfolding(crate::specs::Reading::tag_at))]
-fn read_tag(alloc: Global, bytes: &[u8]) -> Result<Tag, LineError>
+#[tactic(auto, unfolding(crate::specs::Steps::Reading::tag_at))]
+fn read_tag(alloc: Global, bytes: &[u8]) -> Result<Tag, Refusal>
     ensures { Gives (λ t. t) result (tag_at bytes.now) }
 {
     let (key, value) = cut(bytes, b'=');
     let Some(value) = value else {
-        return Err(LineError::Fault(Why::BadField));
+        return Err(Refusal::Fault(Why::BadField));
     };
     Ok(Tag {
         key: read_text(alloc, key)?,
@@ -61,19 +62,19 @@ fn read_tag(alloc: Global, bytes: &[u8]) -> Result<Tag, LineError>
 }
 
 /// At most 32,000 nodes of a way.
-pub(crate) fn read_refs(alloc: Global, bytes: &[u8]) -> Result<Refs, LineError>
+pub(crate) fn read_refs(alloc: Global, bytes: &[u8]) -> Result<Refs, Refusal>
     ensures { Gives (λ r. r) result (list_at ref_at 32000 bytes.now) }
 {
     let mut refs = Refs::new(alloc);
     let mut rest = first_item(bytes);
     while let Some(items) = rest {
         if refs.as_slice().len() >= MAX_REFS {
-            return Err(LineError::Fault(Why::TooMany));
+            return Err(Refusal::Fault(Why::TooMany));
         }
         let (item, after) = cut(items, b',');
         match read_ref(item) {
             Ok(id) => refs.push(id)?,
-            Err(why) => return Err(LineError::Fault(why)),
+            Err(why) => return Err(Refusal::Fault(why)),
         }
         rest = after;
     }
@@ -81,7 +82,7 @@ pub(crate) fn read_refs(alloc: Global, bytes: &[u8]) -> Result<Refs, LineError>
 }
 
 // `nID`
-#[tactic(auto, unfolding(crate::specs::Reading::ref_at))]
+#[tactic(auto, unfolding(crate::specs::Steps::Reading::ref_at))]
 fn read_ref(bytes: &[u8]) -> Result<i64, Why>
     ensures { Finds (λ z. z) result (ref_at bytes.now) }
 {
@@ -92,14 +93,14 @@ fn read_ref(bytes: &[u8]) -> Result<i64, Why>
 }
 
 /// At most 32,000 members of a relation.
-pub(crate) fn read_members(alloc: Global, bytes: &[u8]) -> Result<Members, LineError>
+pub(crate) fn read_members(alloc: Global, bytes: &[u8]) -> Result<Members, Refusal>
     ensures { Gives (λ m. m) result (list_at member_at 32000 bytes.now) }
 {
     let mut members = Members::new(alloc);
     let mut rest = first_item(bytes);
     while let Some(items) = rest {
         if members.as_slice().len() >= MAX_REFS {
-            return Err(LineError::Fault(Why::TooMany));
+            return Err(Refusal::Fault(Why::TooMany));
         }
         let (item, after) = cut(items, b',');
         match read_member(alloc, item) {
@@ -112,17 +113,17 @@ pub(crate) fn read_members(alloc: Global, bytes: &[u8]) -> Result<Members, LineE
 }
 
 // `nID@ROLE`, `wID@ROLE` or `rID@ROLE`
-#[tactic(auto, unfolding(crate::specs::Reading::member_at))]
-fn read_member(alloc: Global, bytes: &[u8]) -> Result<Member, LineError>
+#[tactic(auto, unfolding(crate::specs::Steps::Reading::member_at))]
+fn read_member(alloc: Global, bytes: &[u8]) -> Result<Member, Refusal>
     ensures { Gives (λ m. m) result (member_at bytes.now) }
 {
     let Some((letter, rest)) = bytes.split_first() else {
-        return Err(LineError::Fault(Why::BadKind));
+        return Err(Refusal::Fault(Why::BadKind));
     };
     let kind = read_kind(*letter)?;
     let (id, role) = cut(rest, b'@');
     let Some(role) = role else {
-        return Err(LineError::Fault(Why::BadField));
+        return Err(Refusal::Fault(Why::BadField));
     };
     Ok(Member {
         key: Key {

@@ -3,14 +3,15 @@
 ghost use Rattle.std.specs.Prelude.{◌≡◌, ◌<◌, ◌++◌, IfOk, codes, OnOk, OnErr};
 ghost use Rattle.osm_model.specs.CivilTime.{time_text};
 ghost use Rattle.std.specs.Io.{StartsWith};
-ghost use Rattle.osm_opl.specs.Answers.{Finds, Gives};
-ghost use Rattle.osm_opl.specs.Reading.{head_at, positive_field_at, status_field_at, time_field_at, user_field_at, pieces_after, status_at, time_at};
+ghost use Rattle.osm_reading.specs.Steps.Answers.{Finds, Gives};
+ghost use Rattle.osm_opl.specs.Steps.Reading.{head_at, positive_field_at, status_field_at, time_field_at, user_field_at, status_at, time_at};
+ghost use Rattle.osm_reading.specs.Pieces.{pieces_after};
 ghost use Rattle.osm_opl.specs.Written.{meta_text, number_field, text_text, user_fields, version_fields, visible_text};
 
 use crate::escapes::{read_text, write_text};
-use crate::lines::LineError;
+use osm_reading::refusal::Refusal;
 use crate::numbers::{read_positive, write_number};
-use crate::pieces::next_field;
+use crate::fields::next_field;
 use osm_model::form::Why;
 use osm_model::memory::WantOfMemory;
 use osm_model::meta::Meta;
@@ -26,11 +27,11 @@ pub(crate) struct Head {
 }
 
 /// The fields `vVERSION dV cCHANGESET tTIME iUID uUSER`, and what follows them.
-#[tactic(auto, unfolding(crate::specs::Reading::head_at))]
+#[tactic(auto, unfolding(crate::specs::Steps::Reading::head_at))]
 pub(crate) fn read_head<'a>(
     alloc: Global,
     rest: Option<&'a [u8]>,
-) -> Result<(Head, Option<&'a [u8]>), LineError>
+) -> Result<(Head, Option<&'a [u8]>), Refusal>
     ensures { Gives (λ r. (r.0.is_visible, r.0.meta, pieces_after 32 r.1)) result
         (head_at (pieces_after 32 rest.entry)) }
 {
@@ -41,12 +42,12 @@ pub(crate) fn read_head<'a>(
     let (uid, rest) = positive_field(rest, b'i')?;
     let (user, rest) = user_field(alloc, rest)?;
     let Ok(meta) = Meta::new(version, time, changeset, uid, user) else {
-        return Err(LineError::Fault(Why::NoMetadata));
+        return Err(Refusal::Fault(Why::NoMetadata));
     };
     Ok((Head { is_visible, meta }, rest))
 }
 
-#[tactic(auto, unfolding(crate::specs::Reading::positive_field_at))]
+#[tactic(auto, unfolding(crate::specs::Steps::Reading::positive_field_at))]
 fn positive_field<'a>(rest: Option<&'a [u8]>, letter: u8) -> Result<(u32, Option<&'a [u8]>), Why>
     ensures value { Finds (λ r. (r.0, pieces_after 32 r.1)) result
         (positive_field_at letter (pieces_after 32 rest.entry)) }
@@ -57,7 +58,7 @@ fn positive_field<'a>(rest: Option<&'a [u8]>, letter: u8) -> Result<(u32, Option
 }
 
 // `dV` or `dD`
-#[tactic(auto, unfolding(crate::specs::Reading::status_field_at))]
+#[tactic(auto, unfolding(crate::specs::Steps::Reading::status_field_at))]
 fn status_field<'a>(rest: Option<&'a [u8]>) -> Result<(bool, Option<&'a [u8]>), Why>
     ensures { Finds (λ r. (r.0, pieces_after 32 r.1)) result
         (status_field_at (pieces_after 32 rest.entry)) }
@@ -67,7 +68,7 @@ fn status_field<'a>(rest: Option<&'a [u8]>) -> Result<(bool, Option<&'a [u8]>), 
 }
 
 // `tTIME`
-#[tactic(auto, unfolding(crate::specs::Reading::time_field_at))]
+#[tactic(auto, unfolding(crate::specs::Steps::Reading::time_field_at))]
 fn time_field<'a>(rest: Option<&'a [u8]>) -> Result<(u32, Option<&'a [u8]>), Why>
     ensures value { Finds (λ r. (r.0, pieces_after 32 r.1)) result
         (time_field_at (pieces_after 32 rest.entry)) }
@@ -78,11 +79,11 @@ fn time_field<'a>(rest: Option<&'a [u8]>) -> Result<(u32, Option<&'a [u8]>), Why
 }
 
 // `uUSER`
-#[tactic(auto, unfolding(crate::specs::Reading::user_field_at))]
+#[tactic(auto, unfolding(crate::specs::Steps::Reading::user_field_at))]
 fn user_field<'a>(
     alloc: Global,
     rest: Option<&'a [u8]>,
-) -> Result<(Text, Option<&'a [u8]>), LineError>
+) -> Result<(Text, Option<&'a [u8]>), Refusal>
     ensures { Gives (λ r. (r.0, pieces_after 32 r.1)) result
         (user_field_at (pieces_after 32 rest.entry)) }
 {
@@ -91,7 +92,7 @@ fn user_field<'a>(
 }
 
 // `V` or `D`
-#[tactic(auto, unfolding(crate::specs::Reading::status_at))]
+#[tactic(auto, unfolding(crate::specs::Steps::Reading::status_at))]
 fn read_status(bytes: &[u8]) -> Result<bool, Why>
     ensures { Finds (λ b. b) result (status_at bytes.now) }
 {

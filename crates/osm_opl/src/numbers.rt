@@ -4,8 +4,8 @@ ghost use Rattle.std.specs.Prelude.{◌≡◌, ◌<◌, ◌≤◌, IfOk, ◌-◌
 ghost use Rattle.std.specs.Fmt.{signed_decimal};
 ghost use Rattle.std.specs.Io.{StartsWith};
 ghost use Rattle.osm_model.specs.Limits.{IsId};
-ghost use Rattle.osm_opl.specs.Answers.{Finds};
-ghost use Rattle.osm_opl.specs.Reading.{digits_at, id_at, number_at, positive_at};
+ghost use Rattle.osm_reading.specs.Steps.Answers.{Finds};
+ghost use Rattle.osm_opl.specs.Steps.Reading.{digits_at, id_at, number_at, positive_at};
 
 use itoa::Buffer;
 use osm_model::form::Why;
@@ -33,7 +33,7 @@ pub(crate) fn read_digits(bytes: &[u8], most: usize) -> Result<u64, Why>
     Ok(number)
 }
 
-#[tactic(auto, unfolding(crate::specs::Reading::number_at))]
+#[tactic(auto, unfolding(crate::specs::Steps::Reading::number_at))]
 fn read_number(bytes: &[u8], most: u64) -> Result<u64, Why>
     requires { most < 2 ^ 64 - 1 }
     ensures value { Finds (λ n. n) result (number_at most bytes.now) }
@@ -47,7 +47,7 @@ fn read_number(bytes: &[u8], most: u64) -> Result<u64, Why>
 }
 
 /// A version, a changeset or a user id: 1 to 4,294,967,295.
-#[tactic(auto, using(crate::specs::Laws::NumberLemmas::not_positive), unfolding(crate::specs::Reading::positive_at))]
+#[tactic(auto, using(crate::proofs::NumberLemmas::not_positive), unfolding(crate::specs::Steps::Reading::positive_at))]
 pub(crate) fn read_positive(bytes: &[u8]) -> Result<u32, Why>
     ensures value { Finds (λ n. n) result (positive_at bytes.now) }
     ensures limit { IfOk result (λ n. 0 < n) }
@@ -63,7 +63,7 @@ pub(crate) fn read_positive(bytes: &[u8]) -> Result<u32, Why>
 }
 
 /// An id or a reference, with `-` in front where it is negative.
-#[tactic(auto, unfolding(crate::specs::Reading::id_at))]
+#[tactic(auto, unfolding(crate::specs::Steps::Reading::id_at))]
 pub(crate) fn read_id(bytes: &[u8]) -> Result<i64, Why>
     ensures value { Finds (λ z. z) result (id_at bytes.now) }
     ensures limit { IfOk result (λ z. IsId z) }

@@ -3,14 +3,15 @@
 ghost use Rattle.std.specs.Prelude.{◌≡◌, ◌++◌, IfOk, OnOk, OnErr};
 ghost use Rattle.std.specs.Io.{StartsWith};
 ghost use Rattle.osm_model.specs.Change.{IsWhat};
-ghost use Rattle.osm_opl.specs.Answers.{Finds, Gives};
-ghost use Rattle.osm_opl.specs.Reading.{node_at, node_of, pieces_after, relation_at, way_at, what_at};
+ghost use Rattle.osm_reading.specs.Steps.Answers.{Finds, Gives};
+ghost use Rattle.osm_opl.specs.Steps.Reading.{node_at, node_of, relation_at, way_at, what_at};
+ghost use Rattle.osm_reading.specs.Pieces.{pieces_after};
 ghost use Rattle.osm_opl.specs.Written.{coordinate_field, members_field, refs_field, tags_field, what_text};
 
 use crate::coordinates::{read_place, write_coordinate};
-use crate::lines::LineError;
+use osm_reading::refusal::Refusal;
 use crate::lists::{read_members, read_refs, read_tags, write_members, write_refs, write_tags};
-use crate::pieces::{last_field, next_field};
+use crate::fields::{last_field, next_field};
 use osm_model::change::What;
 use osm_model::form::Why;
 use osm_model::kind::Kind;
@@ -25,7 +26,7 @@ pub(crate) fn read_what(
     kind: Kind,
     is_visible: bool,
     rest: Option<&[u8]>,
-) -> Result<What, LineError>
+) -> Result<What, Refusal>
     ensures value { Gives (λ w. w) result (what_at kind is_visible (pieces_after 32 rest.entry)) }
     ensures limits { IfOk result (λ w. IsWhat kind w) }
 {
@@ -37,8 +38,8 @@ pub(crate) fn read_what(
 }
 
 // `T.. x.. y..`
-#[tactic(auto, unfolding(crate::specs::Reading::node_at))]
-fn read_node(alloc: Global, is_visible: bool, rest: Option<&[u8]>) -> Result<What, LineError>
+#[tactic(auto, unfolding(crate::specs::Steps::Reading::node_at))]
+fn read_node(alloc: Global, is_visible: bool, rest: Option<&[u8]>) -> Result<What, Refusal>
     ensures { Gives (λ w. w) result (node_at is_visible (pieces_after 32 rest.entry)) }
 {
     let (field, rest) = next_field(rest, b'T')?;
@@ -64,8 +65,8 @@ fn node_of(is_visible: bool, lon: Option<i32>, lat: Option<i32>, tags: Tags) -> 
 }
 
 // `T.. N..`
-#[tactic(auto, unfolding(crate::specs::Reading::way_at))]
-fn read_way(alloc: Global, is_visible: bool, rest: Option<&[u8]>) -> Result<What, LineError>
+#[tactic(auto, unfolding(crate::specs::Steps::Reading::way_at))]
+fn read_way(alloc: Global, is_visible: bool, rest: Option<&[u8]>) -> Result<What, Refusal>
     ensures { Gives (λ w. w) result (way_at is_visible (pieces_after 32 rest.entry)) }
 {
     let (field, rest) = next_field(rest, b'T')?;
@@ -80,8 +81,8 @@ fn read_way(alloc: Global, is_visible: bool, rest: Option<&[u8]>) -> Result<What
 }
 
 // `T.. M..`
-#[tactic(auto, unfolding(crate::specs::Reading::relation_at))]
-fn read_relation(alloc: Global, is_visible: bool, rest: Option<&[u8]>) -> Result<What, LineError>
+#[tactic(auto, unfolding(crate::specs::Steps::Reading::relation_at))]
+fn read_relation(alloc: Global, is_visible: bool, rest: Option<&[u8]>) -> Result<What, Refusal>
     ensures { Gives (λ w. w) result (relation_at is_visible (pieces_after 32 rest.entry)) }
 {
     let (field, rest) = next_field(rest, b'T')?;

@@ -5,17 +5,19 @@ ghost use Rattle.osm_model.specs.Batch.{IsBatch};
 ghost use Rattle.osm_model.specs.Change.{ChangeValue};
 ghost use Rattle.osm_model.specs.ChangeForm.{ReadRefused, SpellsNothing, WriteRefused};
 ghost use Rattle.osm_model.specs.Limits.{max_changes, max_file};
-ghost use Rattle.osm_opl.specs.Answers.{AddsLine, LineStops};
+ghost use Rattle.osm_opl.specs.Steps.Adding.{AddsLine, LineStops};
 ghost use Rattle.osm_opl.specs.File.{FaultLine, SpellsOpl};
 ghost use Rattle.osm_opl.specs.Line.{SpellsLine};
 ghost use Rattle.osm_opl.specs.Written.{line_text, opl_text};
 
-use crate::lines::{LineError, is_skipped_line, read_line, split_line, write_line};
+use crate::lines::{read_line, write_line};
 use osm_model::batch::{Batch, PushError};
 use osm_model::change::Change;
 use osm_model::form::{ChangeForm, FormError, Why};
 use osm_model::limits::MAX_FILE;
 use osm_model::memory::WantOfMemory;
+use osm_reading::lines::{is_skipped_line, split_line};
+use osm_reading::refusal::Refusal;
 use std::alloc::Global;
 
 /// The form of OPL files. The place of a fault is a line's number, counted from 1 over all lines.
@@ -25,18 +27,12 @@ pub struct Opl;
 impl ChangeForm for Opl {
     ghost use Rattle.osm_opl.specs.File.{FaultLine, SpellsOpl};
     ghost use Rattle.osm_opl.specs.Written.{opl_text};
-    ghost use Rattle.osm_opl.specs.Laws.FileLaws.{one_batch};
-    ghost use Rattle.osm_opl.specs.Laws.RoundTrip.{text_spells};
 
     ghost spells = { SpellsOpl };
 
     ghost text = { opl_text };
 
     ghost fault_place = { FaultLine };
-
-    ghost text_spells = { text_spells };
-
-    ghost one_batch = { one_batch };
 
     /// A line for each change, and a line feed after it. The empty batch is the empty file.
     fn write(alloc: Global, batch: &Batch) -> Result<Vec<u8>, FormError> {
@@ -50,6 +46,8 @@ impl ChangeForm for Opl {
         }
         read_batch(alloc, bytes)
     }
+
+    fn laws() {}
 }
 
 // Stops soon after the text has passed 64 MiB.
@@ -112,8 +110,8 @@ fn add_line(alloc: Global, line: &[u8], place: u64, batch: &mut Batch) -> Result
     }
     let change = match read_line(alloc, line) {
         Ok(change) => change,
-        Err(LineError::WantOfMemory) => return Err(FormError::WantOfMemory),
-        Err(LineError::Fault(why)) => return Err(FormError::Fault { place, why }),
+        Err(Refusal::WantOfMemory) => return Err(FormError::WantOfMemory),
+        Err(Refusal::Fault(why)) => return Err(FormError::Fault { place, why }),
     };
     match batch.push(change) {
         Ok(()) => Ok(()),

@@ -4,8 +4,8 @@ use Rattle.std.proofs.lemmas.List.Elements.{filter-append}
 use Rattle.std.specs.Io.KnownBytes.{Consumes, Appends, IsAtEnd}
 use Rattle.std.specs.List.{AllZip}
 use Rattle.std.specs.Prelude.{not, IfSome}
-use Rattle.osm_opl.specs.Lines.{lines_of, is_skipped}
-use Rattle.osm_opl.specs.Pieces.{pieces}
+use Rattle.osm_reading.specs.Lines.{lines_of, is_skipped}
+use Rattle.osm_reading.specs.Pieces.{pieces}
 use Rattle.osm_repl.specs.Replay.{AnswerFault, ReplayFault}
 use Rattle.osm_repl.specs.Script.{IsEventLine, ScriptOf, IsBadLine, SaysSome, said_of}
 use Rattle.osm_follow.specs.declared.event.Event.{Event}

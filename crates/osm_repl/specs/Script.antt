@@ -5,7 +5,7 @@ use Rattle.std.specs.Str.Parse.{IsNumeral, digits_value}
 use Rattle.osm_model.specs.Change.{ChangeValue}
 use Rattle.osm_model.specs.Time.{TimeText}
 use Rattle.osm_opl.specs.Line.{SpellsLine}
-use Rattle.osm_opl.specs.Lines.{lines_of, is_skipped}
+use Rattle.osm_reading.specs.Lines.{lines_of, is_skipped}
 use Rattle.osm_follow.specs.declared.event.Event.{Event}
 use Rattle.osm_follow.specs.declared.event.Event.TheVariants.{Edit, Close, Deliver, Show}
 use Rattle.osm_follow.specs.declared.event.Form.{Form}

@@ -9,7 +9,8 @@ ghost use Rattle.osm_repl.specs.Script.{IsEventLine, ScriptOf, SpellsSequence};
 use osm_follow::event::{Event, Form};
 use crate::fault::RunFault;
 use osm_model::time::time_read;
-use osm_opl::lines::{LineError, is_skipped_line, read_line, split_line};
+use osm_opl::lines::{LineError, read_line};
+use osm_reading::lines::{is_skipped_line, split_line};
 use std::alloc::Global;
 
 /// Why a line isn't taken.

@@ -1,4 +1,4 @@
-use Rattle.osm_opl.specs.Laws.NumberLemmas.{small_bound, small_found}
+use Rattle.osm_opl.proofs.NumberLemmas.{small_bound, small_found}
 use Rattle.osm_opl.proofs.coordinates.read_few_digits.Goals as goal
 
 pub returns-clause-value : goal.returns-clause-value

@@ -1,4 +1,4 @@
-use Rattle.osm_opl.specs.Laws.NumberLemmas.{scale_limit}
+use Rattle.osm_opl.proofs.NumberLemmas.{scale_limit}
 use Rattle.osm_opl.proofs.coordinates.scale.Goals as goal
 
 pub returns-clause-limit : goal.returns-clause-limit

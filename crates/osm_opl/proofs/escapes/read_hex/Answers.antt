@@ -2,7 +2,7 @@ use Rattle.std.specs.Char.{digit_value}
 use Rattle.std.specs.Prelude.{nat_lt, false}
 use Rattle.std.proofs.Common.{◌≡◌, ◌<◌, ◌≤◌, length, get_or, arith, rules}
 use Rattle.std.proofs.lemmas.Bool.Decides.{nat_tests}
-use Rattle.osm_opl.specs.Laws.NumberLemmas.{no_numeral, digits_none, digits_many, digits_done, not_digits, one_hex_digit}
+use Rattle.osm_opl.proofs.NumberLemmas.{no_numeral, digits_none, digits_many, digits_done, not_digits, one_hex_digit}
 use Rattle.osm_opl.proofs.escapes.read_hex.Goals as goal
 use Rattle.osm_opl.proofs.escapes.read_hex.Goals.{then-is_empty-via-then-is_empty, then-is_empty-via-else-is_empty+then-digits-gt8}
 

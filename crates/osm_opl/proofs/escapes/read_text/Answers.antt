@@ -1,6 +1,6 @@
 use Rattle.std.proofs.Common.{ap}
 use Rattle.std.specs.Prelude.{string_bytes, Err}
-use Rattle.osm_opl.specs.Laws.EscapeLemmas.{text_refused}
+use Rattle.osm_opl.proofs.EscapeLemmas.{text_refused}
 use Rattle.osm_opl.proofs.escapes.read_text.Goals as goal
 
 pub returns-in-Err : goal.returns-in-Err

@@ -1,4 +1,4 @@
-use Rattle.osm_opl.specs.Laws.LineLaws.{line_only, line_refused, line_spelled}
+use Rattle.osm_opl.proofs.LineLaws.{line_only, line_refused, line_spelled}
 use Rattle.osm_opl.proofs.lines.read_line.Goals as goal
 
 pub returns-clause-spelled : goal.returns-clause-spelled

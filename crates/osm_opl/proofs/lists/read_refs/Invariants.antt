@@ -1,7 +1,8 @@
 use Rattle.std.proofs.Common.{◌≤◌, length}
-use Rattle.osm_opl.specs.Reading.{list_pieces, pieces_after, ref_at}
+use Rattle.osm_opl.specs.Steps.Reading.{list_pieces, ref_at}
+use Rattle.osm_reading.specs.Pieces.{pieces_after}
 use Rattle.osm_opl.proofs.ListLemmas.{ListRead}
-use Rattle.osm_opl.specs.Laws.PieceLemmas.{bytes_left}
+use Rattle.osm_reading.proofs.PieceLemmas.{bytes_left}
 use Rattle.osm_opl.proofs.lists.read_refs.Given as goal
 
 abbrev pub invariant-loop-rest : goal.invariant-loop-rest

@@ -1,7 +1,8 @@
 use Rattle.std.proofs.Common.{◌≤◌, length, arith}
-use Rattle.osm_opl.specs.Reading.{pieces_after, tag_at}
+use Rattle.osm_opl.specs.Steps.Reading.{tag_at}
+use Rattle.osm_reading.specs.Pieces.{pieces_after}
 use Rattle.osm_opl.proofs.ListLemmas.{item_too_many, item_fails, list_read}
-use Rattle.osm_opl.specs.Laws.PieceLemmas.{some_pieces}
+use Rattle.osm_reading.proofs.PieceLemmas.{some_pieces}
 use Rattle.osm_opl.proofs.lists.read_tags.Goals as goal
 
 pub returns-then-as_slice-ge-MAX_TAGS : goal.returns-then-as_slice-ge-MAX_TAGS

@@ -1,4 +1,4 @@
-use Rattle.osm_opl.specs.Laws.DateLemmas.{time_found}
+use Rattle.osm_opl.proofs.DateLemmas.{time_found}
 use Rattle.osm_opl.proofs.metadata.read_time.Goals as goal
 
 pub returns-in-Some-clause-value : goal.returns-in-Some-clause-value

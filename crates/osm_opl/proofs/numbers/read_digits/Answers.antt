@@ -1,7 +1,7 @@
 use Rattle.std.proofs.Common.{◌≡◌, ◌≤◌, length, get_or, ◌-◌, refl, arith, rules, true}
 use Rattle.std.proofs.lemmas.Bool.Decides.{nat_tests}
 use Rattle.std.specs.Char.{is_ascii_digit}
-use Rattle.osm_opl.specs.Laws.NumberLemmas.{no_numeral, digits_none, digits_many, no_decimal, one_digit, digits_done}
+use Rattle.osm_opl.proofs.NumberLemmas.{no_numeral, digits_none, digits_many, no_decimal, one_digit, digits_done}
 use Rattle.osm_opl.proofs.numbers.read_digits.Goals as goal
 use Rattle.osm_opl.proofs.numbers.read_digits.Goals.{then-is_empty-via-then-is_empty, then-is_empty-via-else-is_empty+then-bytes-most}
 

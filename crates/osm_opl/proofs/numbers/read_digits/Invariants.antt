@@ -1,4 +1,4 @@
-use Rattle.osm_opl.specs.Laws.NumberLemmas.{Digits}
+use Rattle.osm_opl.proofs.NumberLemmas.{Digits}
 use Rattle.osm_opl.proofs.numbers.read_digits.Given as goal
 
 abbrev pub invariant-loop-byte : goal.invariant-loop-byte

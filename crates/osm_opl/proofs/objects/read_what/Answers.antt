@@ -1,6 +1,6 @@
 use Rattle.osm_model.specs.declared.kind.Kind.TheVariants.{Node, Way, Relation}
-use Rattle.osm_opl.specs.Reading.{pieces_after}
-use Rattle.osm_opl.specs.Laws.LineLaws.{what_limits}
+use Rattle.osm_reading.specs.Pieces.{pieces_after}
+use Rattle.osm_opl.proofs.LineLaws.{what_limits}
 use Rattle.osm_opl.proofs.objects.read_what.Goals as goal
 
 pub returns-in-Node-clause-limits : goal.returns-in-Node-clause-limits

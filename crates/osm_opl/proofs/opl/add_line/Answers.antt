@@ -1,6 +1,6 @@
 use Rattle.std.proofs.Common.{rules, refl, ◌≡◌, false, true}
-use Rattle.osm_opl.specs.Answers.{change, skipped}
-use Rattle.osm_opl.specs.Lines.{is_skipped}
+use Rattle.osm_opl.specs.Steps.Adding.{change, skipped}
+use Rattle.osm_reading.specs.Lines.{is_skipped}
 use Rattle.osm_opl.proofs.opl.add_line.Goals as goal
 
 pub returns-then-is_skipped_line-clause-ok : goal.returns-then-is_skipped_line-clause-ok

@@ -1,6 +1,6 @@
-use Rattle.osm_opl.specs.Laws.FileLaws.{apart, has_place, one_batch, one_place}
-use Rattle.osm_opl.specs.Laws.LineLaws.{one_change}
-use Rattle.osm_opl.specs.Laws.RoundTrip.{text_spells}
+use Rattle.osm_opl.proofs.FileLaws.{apart, has_place, one_batch, one_place}
+use Rattle.osm_opl.proofs.LineLaws.{one_change}
+use Rattle.osm_opl.proofs.RoundTrip.{text_spells}
 use Rattle.osm_opl.proofs.opl.laws_of_opl.Goals as goal
 
 pub returns-clause-one_batch : goal.returns-clause-one_batch

@@ -1,7 +1,7 @@
 use Rattle.std.proofs.Common.{arith, ◌+◌, ◌≤◌, length}
-use Rattle.osm_opl.specs.Lines.{lines_after}
-use Rattle.osm_opl.specs.Laws.FileLaws.{line_added, line_stops, lines_begun}
-use Rattle.osm_opl.specs.Laws.PieceLemmas.{bytes_left, less_left}
+use Rattle.osm_reading.specs.Lines.{lines_after}
+use Rattle.osm_opl.proofs.FileLaws.{line_added, line_stops, lines_begun}
+use Rattle.osm_reading.proofs.PieceLemmas.{bytes_left, less_left}
 use Rattle.osm_opl.proofs.opl.read_batch.Goals as goal
 
 pub loop-rest-init : goal.loop-rest-init

@@ -1,7 +1,7 @@
 use Rattle.std.proofs.Common.{◌≤◌, ◌+◌, length}
-use Rattle.osm_opl.specs.Lines.{lines_after}
-use Rattle.osm_opl.specs.Laws.FileLaws.{LinesRead}
-use Rattle.osm_opl.specs.Laws.PieceLemmas.{bytes_left}
+use Rattle.osm_reading.specs.Lines.{lines_after}
+use Rattle.osm_opl.proofs.FileLaws.{LinesRead}
+use Rattle.osm_reading.proofs.PieceLemmas.{bytes_left}
 use Rattle.osm_opl.proofs.opl.read_batch.Given as goal
 
 abbrev pub invariant-loop-rest : goal.invariant-loop-rest

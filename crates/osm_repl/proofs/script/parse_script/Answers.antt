@@ -1,5 +1,5 @@
 use Rattle.std.proofs.Common.{◌≡◌, ◌≤◌, ◌+◌, ◌++◌, ◌∷◌, [], length, length-append, rules, arith, ap, sym, ◌∙◌, append_assoc, true, false}
-use Rattle.osm_opl.specs.Lines.{lines_of, lines_after, is_skipped}
+use Rattle.osm_reading.specs.Lines.{lines_of, lines_after, is_skipped}
 use Rattle.osm_repl.specs.Reading.{left_of}
 use Rattle.osm_repl.proofs.ScriptLemmas.{AreEvents-more, AreEvents-skipped, left_after}
 use Rattle.osm_repl.proofs.script.parse_script.Goals as goal

@@ -1,5 +1,5 @@
 use Rattle.std.proofs.Common.{◌≡◌, ℕ, ◌+◌, ◌≤◌, ◌++◌, List, length}
-use Rattle.osm_opl.specs.Lines.{lines_of, lines_after}
+use Rattle.osm_reading.specs.Lines.{lines_of, lines_after}
 use Rattle.osm_repl.specs.Reading.{left_of}
 use Rattle.osm_repl.specs.Script.{AreEvents}
 use Rattle.osm_repl.proofs.script.parse_script.Given as goal

@@ -1,0 +1,3 @@
+-- How lines are read, step by step: no public clause cites these definitions.
+pub mod Reading
+pub mod Adding

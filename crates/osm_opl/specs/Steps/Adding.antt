@@ -1,0 +1,25 @@
+-- What one line does to the changes read so far. Only clauses of private functions cite these
+-- definitions.
+use Rattle.std.specs.Prelude.{◌≡◌, ℕ, ◌<◌, true, false, List, [], ◌∷◌, ◌++◌, length}
+use Rattle.osm_model.specs.Change.{ChangeValue}
+use Rattle.osm_model.specs.Limits.{max_changes}
+use Rattle.osm_model.specs.declared.form.FormError.{FormError}
+use Rattle.osm_model.specs.declared.form.FormError.TheVariants as forms
+use Rattle.osm_reading.specs.Lines.{is_skipped}
+use Rattle.osm_opl.specs.Line.{SpellsLine}
+
+-- a line is skipped, or adds the change that it spells
+pub data AddsLine : List ℕ → List ChangeValue → List ChangeValue → Type 0 where
+  skipped : (line : List ℕ) (changes : List ChangeValue) → is_skipped line ≡ true
+      → AddsLine line changes changes
+  change : (line : List ℕ) (changes : List ChangeValue) (c : ChangeValue) → is_skipped line ≡ false
+      → SpellsLine line c → AddsLine line changes (changes ++ c ∷ [])
+
+-- a line isn't taken: it isn't skipped and, unless memory was refused, it spells no change or there
+-- are as many changes as there may be
+abbrev pub LineStops : List ℕ → ℕ → List ChangeValue → FormError → Type 0
+LineStops line place changes forms.WantOfMemory = is_skipped line ≡ false
+LineStops line place changes forms.TooLarge = ⊥
+LineStops line place changes (forms.Fault p why) =
+    (p ≡ place) × (is_skipped line ≡ false)
+    × ((c : ChangeValue) → SpellsLine line c → length changes < max_changes → ⊥)

@@ -1,0 +1,3 @@
+pub mod StepLemmas
+pub mod PieceLemmas
+pub mod SequenceLemmas

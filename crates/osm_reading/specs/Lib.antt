@@ -1,0 +1,5 @@
+pub mod Pieces
+pub mod Lines
+pub mod Sequence
+pub mod Refusal
+pub mod Steps

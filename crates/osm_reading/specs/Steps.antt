@@ -1,0 +1,2 @@
+-- Steps of readers: no clause of a function that a format offers cites them.
+pub mod Answers
