@@ -8,19 +8,19 @@ use Rattle.jiff_core.proofs.SignedLemmas.{signed_arith}
 use Rattle.jiff_core.proofs.MarchLemmas.{day_count-early}
 use Rattle.jiff_core.proofs.CalendarLemmas.{day_count-epoch, day_count-next_year, day_count-next_month, day_count-last_of_year, day_count-day, days_from_civil-day_count, days_in_year_bounds}
 use Rattle.osm_model.specs.Time.{Shows, moment_text, seconds_of}
-use Rattle.osm_model.specs.CivilTime.{Place, time_text, moment_on, year_of_day, month_of_day}
+use Rattle.osm_model.specs.CivilTime.{DayIn, time_text, moment_on, year_of_day, month_of_day}
 
 day_count-2106 : day_count (pos 2106) 1 1 ≡ 4_421_626
 day_count-2106 = day_count-early (pos 2106) 12105 1 1 refl (omega arith) (omega arith) (omega arith)
 
 -- the day lies in the year, unless the search ended before
-record IsYearOf (year days k : ℕ) (found : Place) : Type 0 where
+record IsYearOf (year days k : ℕ) (found : DayIn) : Type 0 where
   same_day : day_count (pos found.number) 1 1 + found.days ≡ day_count (pos year) 1 1 + days
   from : year ≤ found.number
   to : found.number ≤ year + k
   inside : (found.number ≡ year + k) ⊎ (found.days < days_in_year (pos found.number))
 
-year_after : (year days k : ℕ) (found : Place) → days_in_year (pos year) ≤ days → IsYearOf (year + 1) (days - days_in_year (pos year)) k found → IsYearOf year days (suc k) found
+year_after : (year days k : ℕ) (found : DayIn) → days_in_year (pos year) ≤ days → IsYearOf (year + 1) (days - days_in_year (pos year)) k found → IsYearOf year days (suc k) found
 year_after year days k found h r =
     let next = day_count-next_year (pos year) (pos (year + 1)) (omega (arith, signed_arith)) (omega (arith, ints)) in
     let from : year + 1 ≤ found.number = r.from in
@@ -46,13 +46,13 @@ is_year_of (suc k) year days =
     ]
 
 -- the day lies in the month, unless the search ended before
-record IsMonthOf (year month days k : ℕ) (found : Place) : Type 0 where
+record IsMonthOf (year month days k : ℕ) (found : DayIn) : Type 0 where
   same_day : day_count (pos year) found.number 1 + found.days ≡ day_count (pos year) month 1 + days
   from : month ≤ found.number
   to : found.number ≤ month + k
   inside : (found.number ≡ month + k) ⊎ (found.days < days_in_month (pos year) found.number)
 
-month_after : (year month days k : ℕ) (found : Place) → 1 ≤ month → days_in_month (pos year) month ≤ days → IsMonthOf year (month + 1) (days - days_in_month (pos year) month) k found → IsMonthOf year month days (suc k) found
+month_after : (year month days k : ℕ) (found : DayIn) → 1 ≤ month → days_in_month (pos year) month ≤ days → IsMonthOf year (month + 1) (days - days_in_month (pos year) month) k found → IsMonthOf year month days (suc k) found
 month_after year month days k found first h r =
     let next = day_count-next_month (pos year) month first in
     let from : month + 1 ≤ found.number = r.from in
@@ -78,13 +78,13 @@ is_month_of (suc k) year month days first =
     ]
 
 -- the date with that day number
-record IsDateOf (day : ℕ) (year : ℕ) (month : Place) : Type 0 where
+record IsDateOf (day : ℕ) (year : ℕ) (month : DayIn) : Type 0 where
   low : 1970 ≤ year
   high : year ≤ 2106
   date : IsCivilDate (pos year) month.number (month.days + 1)
   count : day_count (pos year) month.number (month.days + 1) ≡ 4_371_953 + day
 
-year_within : (day : ℕ) (found : Place) → day < 49711 → IsYearOf 1970 day 136 found → found.days < days_in_year (pos found.number)
+year_within : (day : ℕ) (found : DayIn) → day < 49711 → IsYearOf 1970 day 136 found → found.days < days_in_year (pos found.number)
 year_within day found h r =
     let epoch = day_count-epoch in
     let bounds = days_in_year_bounds (pos found.number) in
@@ -95,7 +95,7 @@ year_within day found h r =
       | inr inside ↦ inside
     ]
 
-month_within : (year days : ℕ) (found : Place) → days < days_in_year (pos year) → IsMonthOf year 1 days 11 found → found.days < days_in_month (pos year) found.number
+month_within : (year days : ℕ) (found : DayIn) → days < days_in_year (pos year) → IsMonthOf year 1 days 11 found → found.days < days_in_month (pos year) found.number
 month_within year days found h r =
     elim r.inside [
       | inl last ↦
@@ -106,7 +106,7 @@ month_within year days found h r =
       | inr inside ↦ inside
     ]
 
-date_of_day : (day : ℕ) (year : Place) (month : Place) → day < 49711 → IsYearOf 1970 day 136 year → IsMonthOf year.number 1 year.days 11 month → IsDateOf day year.number month
+date_of_day : (day : ℕ) (year : DayIn) (month : DayIn) → day < 49711 → IsYearOf 1970 day 136 year → IsMonthOf year.number 1 year.days 11 month → IsDateOf day year.number month
 date_of_day day year month h y m =
     let in_year = year_within day year h y in
     let in_month = month_within year.number year.days month in_year m in
@@ -122,7 +122,7 @@ date_of_day day year month h y m =
     }
 
 -- so the moment shows the time
-shown_by : (t year : ℕ) (month : Place) → IsDateOf (t / 86400) year month → Shows (moment_text (moment_on year month (t % 86400))) t
+shown_by : (t year : ℕ) (month : DayIn) → IsDateOf (t / 86400) year month → Shows (moment_text (moment_on year month (t % 86400))) t
 unfolding seconds_of
 shown_by t year month h =
     let date = h.date in

@@ -38,7 +38,7 @@ pub record AreMembers (members : List Member) : Type 0 where
   pub ids : AllByRecursion HasMemberId members
   pub roles : AllByRecursion IsRole members
 
--- what stands is of the key's kind, and within the limits
+-- what the object is, of the key's kind and within the limits
 abbrev pub IsWhat : Kind → What → Type 0
 IsWhat kind (Node lon lat tags) = (kind ≡ kinds.Node) × IsLocation lon lat × AreTags tags
 IsWhat kind (Way refs tags) = (kind ≡ kinds.Way) × AreRefs refs × AreTags tags

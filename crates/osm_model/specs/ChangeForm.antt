@@ -9,15 +9,17 @@ use Rattle.osm_model.specs.declared.form.FormError.TheVariants.{WantOfMemory, To
 abbrev pub SpellsNothing : (List ℕ → List ChangeValue → Type 0) → List ℕ → Type 0
 SpellsNothing spells bytes = (batch : List ChangeValue) → spells bytes batch → ⊥
 
--- where a read may be refused: for memory only where the bytes don't spell the empty batch; as too
--- large exactly above 64 MiB; with a fault exactly where they spell nothing, at the fault's place
-abbrev pub ReadRefused : (List ℕ → List ChangeValue → Type 0) → (List ℕ → ℕ → Type 0) → List ℕ → FormError → Type 0
-ReadRefused spells fault_place bytes WantOfMemory = (length bytes ≤ max_file) × (spells bytes [] → ⊥)
+-- when a read may be refused: for memory only if the bytes don't spell the empty batch; as too
+-- large exactly above 64 MiB; with a fault exactly if they spell nothing, at the fault's place
+abbrev pub ReadRefused : (List ℕ → List ChangeValue → Type 0) → (List ℕ → ℕ → Type 0)
+    → List ℕ → FormError → Type 0
+ReadRefused spells fault_place bytes WantOfMemory =
+    (length bytes ≤ max_file) × (spells bytes [] → ⊥)
 ReadRefused spells fault_place bytes TooLarge = max_file < length bytes
 ReadRefused spells fault_place bytes (Fault place why) =
     (length bytes ≤ max_file) × SpellsNothing spells bytes × fault_place bytes place
 
--- where a write may be refused: as too large only where the written text passes 64 MiB
+-- when a write may be refused: as too large only if the written text passes 64 MiB
 abbrev pub WriteRefused : List ℕ → FormError → Type 0
 WriteRefused text WantOfMemory = Unit {0}
 WriteRefused text TooLarge = max_file < length text

@@ -1,6 +1,6 @@
 -- What a list of changes leaves of the objects, and how many edits it is: a mirror and its counts
 -- are these of the changes that were applied (OSM wiki, Planet.osm/diffs: a change file is applied
--- in its order, and the last change of an object stands).
+-- in its order, and the last change of an object counts).
 use Rattle.std.specs.Prelude.{ℕ, ◌==◌, List, [], ◌∷◌, Option, Some, None, if◌then◌else◌, count_by}
 use Rattle.osm_model.specs.Change.{ChangeValue}
 use Rattle.osm_model.specs.KeyOrder.{same_key}
@@ -8,7 +8,7 @@ use Rattle.osm_model.specs.declared.kind.Key.{Key}
 use Rattle.osm_model.specs.declared.change.What.{What}
 use Rattle.osm_model.specs.declared.change.What.TheVariants.{Deleted}
 
--- the later of two changes, where there is one
+-- the later of two changes, if there is one
 abbrev pub later_of : Option ChangeValue → Option ChangeValue → Option ChangeValue
 later_of first None = first
 later_of first (Some c) = Some c
@@ -18,7 +18,7 @@ abbrev pub last_of : List ChangeValue → Key → Option ChangeValue
 last_of [] k = None
 last_of (c ∷ cs) k = later_of (if same_key c.key k then Some c else None) (last_of cs k)
 
--- what stands of an object after a change: nothing after a deletion
+-- what is left of an object after a change: nothing after a deletion
 abbrev pub standing_as : ChangeValue → What → Option ChangeValue
 standing_as c Deleted = None
 standing_as c what = Some c
@@ -26,7 +26,7 @@ standing_as c what = Some c
 abbrev pub standing_of : ChangeValue → Option ChangeValue
 standing_of c = standing_as c c.what
 
--- what the last change says, and what stood before where there is none
+-- what the last change leaves, or what was there before if there is no change
 abbrev pub over_at : Option ChangeValue → Option ChangeValue → Option ChangeValue
 over_at before None = before
 over_at before (Some c) = standing_of c

@@ -1,4 +1,4 @@
--- What holds of the definitions of content and counts, whatever the changes.
+-- What holds of the order of keys, of content and of counts, for any changes.
 use Rattle.std.specs.Prelude.{◌≡◌, ℕ, ◌+◌, List, ◌++◌, true, ◌↔◌}
 use Rattle.std.specs.Ordering.{nat_cmp}
 use Rattle.osm_model.specs.Change.{ChangeValue}

@@ -7,7 +7,7 @@ use Rattle.osm_model.specs.declared.kind.Key.{Key}
 use Rattle.osm_model.specs.declared.kind.Kind.{Kind}
 use Rattle.osm_model.specs.declared.kind.Kind.TheVariants.{Node, Way, Relation}
 
--- where a kind comes in the order
+-- the position of a kind in the order
 abbrev pub kind_rank : Kind → ℕ
 kind_rank Node = 0
 kind_rank Way = 1

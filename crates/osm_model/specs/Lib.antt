@@ -6,9 +6,9 @@ pub mod Change
 pub mod Batch
 pub mod Push
 pub mod Time
-pub mod Clock
-pub mod ChangeForm
+pub mod CivilTime
 pub mod KeyOrder
 pub mod Content
 pub mod ContentLaws
-pub mod CivilTime
+pub mod ChangeForm
+pub mod Steps

@@ -1,4 +1,4 @@
--- The limits of numbers: our choice, where OpenStreetMap names none.
+-- The limits of numbers: our choice, if OpenStreetMap names none.
 use Rattle.std.specs.Prelude.{ℕ, ◌<◌, ◌≤◌, ◌^◌, ℤ, pos, neg_ℤ, ◌≤ℤ◌}
 
 -- a version, a changeset or a user id: 1 to 4,294,967,295; so too a time, in seconds since 1970

@@ -5,7 +5,7 @@ use Rattle.osm_model.specs.Limits.{max_changes}
 use Rattle.osm_model.specs.declared.batch.PushError.{PushError}
 use Rattle.osm_model.specs.declared.batch.PushError.TheVariants.{Full, WantOfMemory}
 
--- the change is handed back; `Full` comes exactly where the batch has as many changes as it may
+-- the change is handed back; `Full` comes exactly if the batch has as many changes as it may
 abbrev pub PushRefused : List ChangeValue → ChangeValue → PushError → Type 0
 PushRefused old change (Full c) = (c ≡ change) × (length old ≡ max_changes)
 PushRefused old change (WantOfMemory c) = (c ≡ change) × (length old < max_changes)

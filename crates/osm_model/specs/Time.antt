@@ -1,5 +1,21 @@
 -- Times as texts, in the form of ISO 8601 that OpenStreetMap uses: YYYY-MM-DDTHH:MM:SSZ.
-use Rattle.std.specs.Prelude.{◌≡◌, ℕ, ◌+◌, ◌*◌, ◌/◌, ◌%◌, ◌<◌, List, [], ◌∷◌, ◌++◌, ℤ, pos, ◌+ℤ◌, ◌*ℤ◌}
+use Rattle.std.specs.Prelude.{
+  ◌≡◌,
+  ℕ,
+  ◌+◌,
+  ◌*◌,
+  ◌/◌,
+  ◌%◌,
+  ◌<◌,
+  List,
+  [],
+  ◌∷◌,
+  ◌++◌,
+  ℤ,
+  pos,
+  ◌+ℤ◌,
+  ◌*ℤ◌,
+}
 use Rattle.jiff_core.specs.Calendar.{IsCivilDate, days_from_civil}
 use Rattle.osm_model.specs.Limits.{IsPositive}
 
@@ -30,11 +46,11 @@ seconds_of m =
 abbrev pub last_digit : ℕ → ℕ
 last_digit n = 48 + n % 10
 
--- two digits, with zeros in front
+-- two digits, with leading zeros
 abbrev pub two_digits : ℕ → List ℕ
 two_digits n = last_digit (n / 10) ∷ last_digit n ∷ []
 
--- four digits, with zeros in front
+-- four digits, with leading zeros
 abbrev pub four_digits : ℕ → List ℕ
 four_digits n =
     last_digit (n / 1000) ∷ last_digit (n / 100) ∷ last_digit (n / 10) ∷ last_digit n ∷ []

@@ -108,7 +108,9 @@ fn copy_changes(alloc: Global, changes: &[Change]) -> Result<Vec<Change>, WantOf
 
 impl PartialEq for Batch {
     ghost use Rattle.std.specs.Cmp.Lexicographic.{lists_per, pointwise};
-    ghost use Rattle.osm_model.specs.contracts.change.ChangePartialEq.TheImpl.Laws.{laws-law as element_laws};
+    ghost use Rattle.osm_model.specs.contracts.change.ChangePartialEq.TheImpl.Laws.{
+      laws-law as element_laws,
+    };
 
     ghost eq = { λ x y. pointwise ⟦<Change as PartialEq>⟧.eq x y };
 

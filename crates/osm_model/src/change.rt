@@ -118,7 +118,8 @@ fn is_location(lon: i32, lat: i32) -> bool
 impl Change {
     /// A node at that location.
     pub fn node(id: i64, meta: Meta, lon: i32, lat: i32, tags: Tags) -> Result<Change, ChangeError>
-        ensures out_of_range { IsErrOf result ChangeError.OutOfRange ↔ ¬ (IsId id × IsLocation lon lat) }
+        ensures out_of_range { IsErrOf result ChangeError.OutOfRange
+            ↔ ¬ (IsId id × IsLocation lon lat) }
         ensures too_many_tags { IsErrOf result ChangeError.TooManyTags
             ↔ (IsId id × IsLocation lon lat × (max_tags < length tags)) }
         ensures never { ¬ IsErrOf result ChangeError.TooManyRefs }
@@ -147,11 +148,13 @@ impl Change {
 
     /// A way along those nodes.
     pub fn way(id: i64, meta: Meta, refs: Refs, tags: Tags) -> Result<Change, ChangeError>
-        ensures out_of_range { IsErrOf result ChangeError.OutOfRange ↔ ¬ (IsId id × AllByRecursion IsId refs) }
+        ensures out_of_range { IsErrOf result ChangeError.OutOfRange
+            ↔ ¬ (IsId id × AllByRecursion IsId refs) }
         ensures too_many_tags { IsErrOf result ChangeError.TooManyTags
             ↔ (IsId id × AllByRecursion IsId refs × (max_tags < length tags)) }
         ensures too_many_refs { IsErrOf result ChangeError.TooManyRefs
-            ↔ (IsId id × AllByRecursion IsId refs × ¬ (max_tags < length tags) × (max_refs < length refs)) }
+            ↔ (IsId id × AllByRecursion IsId refs × ¬ (max_tags < length tags)
+            × (max_refs < length refs)) }
         ensures value { IfOk result (λ c. c ≡ record {
           key = record { kind = Kind.Way; id = id };
           meta = meta;
@@ -190,7 +193,8 @@ impl Change {
         ensures too_many_tags { IsErrOf result ChangeError.TooManyTags
             ↔ (IsId id × AllByRecursion HasMemberId members × (max_tags < length tags)) }
         ensures too_many_refs { IsErrOf result ChangeError.TooManyRefs
-            ↔ (IsId id × AllByRecursion HasMemberId members × ¬ (max_tags < length tags) × (max_refs < length members)) }
+            ↔ (IsId id × AllByRecursion HasMemberId members × ¬ (max_tags < length tags)
+            × (max_refs < length members)) }
         ensures value { IfOk result (λ c. c ≡ record {
           key = record { kind = Kind.Relation; id = id };
           meta = meta;
@@ -220,8 +224,10 @@ impl Change {
     /// The deletion of an object.
     pub fn deleted(key: Key, meta: Meta) -> Result<Change, ChangeError>
         ensures out_of_range { IsErrOf result ChangeError.OutOfRange ↔ ¬ IsId key.id }
-        ensures never { ¬ IsErrOf result ChangeError.TooManyTags × ¬ IsErrOf result ChangeError.TooManyRefs }
-        ensures value { IfOk result (λ c. c ≡ record { key = key; meta = meta; what = What.Deleted }) }
+        ensures never { ¬ IsErrOf result ChangeError.TooManyTags
+            × ¬ IsErrOf result ChangeError.TooManyRefs }
+        ensures value { IfOk result (λ c.
+            c ≡ record { key = key; meta = meta; what = What.Deleted }) }
     {
         let _version = meta.version();
         if !is_id(key.id) {
@@ -234,8 +240,7 @@ impl Change {
         })
     }
 
-    /// The change of those parts, which are known to be within the limits. Nothing is looked through
-    /// again.
+    /// The change of those parts, which are known to be within the limits: none is tested again.
     pub fn within_limits(key: Key, meta: Meta, what: What) -> Change
         requires { IsId key.id × IsWhat key.kind what }
         ensures { result ≡ record { key = key; meta = meta; what = what } }

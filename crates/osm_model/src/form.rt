@@ -1,4 +1,4 @@
-//! What a form of change files is: what its bytes spell, what is written, and where a fault stands.
+//! What a form of change files is: what its bytes spell, what is written, and the place of a fault.
 
 ghost use Rattle.std.specs.Prelude.{◌≡◌, ℕ, List, ◌≤◌, length, IfOk, OnOk, IfErr};
 ghost use Rattle.osm_model.specs.Batch.{IsBatch};
@@ -10,7 +10,7 @@ use crate::batch::Batch;
 use std::alloc::Global;
 use thiserror::Error;
 
-/// Why a line or a dataset can't be read. Where several causes apply, which of them is named is open.
+/// Why a line or a dataset can't be read. If several causes apply, any of them may be named.
 #[derive(Clone, Copy, Debug, PartialEq, Eq, Error)]
 pub enum Why {
     /// The first letter of a line, or the kind of a member, is none of the three.
@@ -82,7 +82,7 @@ pub trait ChangeForm {
     /// The written text of a batch.
     ghost text: { List ChangeValue → List ℕ };
 
-    /// The fault of bytes that spell no batch stands there.
+    /// The place of the fault of bytes that spell no batch.
     ghost fault_place: { List ℕ → ℕ → Type 0 };
 
     /// The written text of a batch, which is never a fault.
@@ -97,15 +97,17 @@ pub trait ChangeForm {
         ensures small { OnOk result (length bytes.now ≤ max_file) }
         ensures refused { IfErr result (ReadRefused spells fault_place bytes.now) };
 
-    /// The laws of the form; does nothing at run time. The written text of a batch within the limits
-    /// spells it, and one list of bytes spells at most one batch.
+    /// The laws of the form: the written text of a batch within the limits spells it, and one list
+    /// of bytes spells at most one batch. Does nothing at run time.
     fn laws()
-        ensures text_spells { (batch : List ChangeValue) → IsBatch batch → spells (text batch) batch }
-        ensures one_batch { (bytes : List ℕ) (a b : List ChangeValue) → spells bytes a → spells bytes b → a ≡ b };
+        ensures text_spells { (batch : List ChangeValue) → IsBatch batch
+            → spells (text batch) batch }
+        ensures one_batch { (bytes : List ℕ) (a b : List ChangeValue)
+            → spells bytes a → spells bytes b → a ≡ b };
 }
 
 /// What is written is read back as it was: the law that a publisher and its followers rest on,
-/// whatever the form.
+/// in any form.
 pub fn there_and_back<F: ChangeForm>(alloc: Global, batch: &Batch) -> Result<Batch, FormError>
     ensures same { IfOk result (λ b. b ≡ batch.now) }
     ensures refused { IfErr result (WriteRefused (F.text batch.now)) }

@@ -1,4 +1,4 @@
-//! The limits of values, our choice where OpenStreetMap names none (docs/DECISIONS.md).
+//! The limits of values, our choice if OpenStreetMap names none (docs/DECISIONS.md).
 
 /// The greatest absolute value of an id or a reference.
 pub const MAX_ID: i64 = 4_611_686_018_427_387_903;

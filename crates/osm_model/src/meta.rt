@@ -55,7 +55,7 @@ impl Model for Meta {
 pub struct OutOfRange;
 
 impl Meta {
-    /// Refused exactly where one of the four numbers is 0; the user is then dropped.
+    /// Refused exactly if one of the four numbers is 0; the user is then dropped.
     pub fn new(
         version: u32,
         time: u32,
@@ -63,7 +63,8 @@ impl Meta {
         uid: u32,
         user: Text,
     ) -> Result<Meta, OutOfRange>
-        ensures refused { IsErr result ↔ ((version ≡ 0) ⊎ (time ≡ 0) ⊎ (changeset ≡ 0) ⊎ (uid ≡ 0)) }
+        ensures refused { IsErr result
+            ↔ ((version ≡ 0) ⊎ (time ≡ 0) ⊎ (changeset ≡ 0) ⊎ (uid ≡ 0)) }
         ensures value { IfOk result (λ m. m ≡ record {
           version = version;
           time = time;

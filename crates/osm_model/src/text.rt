@@ -1,6 +1,17 @@
 //! Texts of objects: user names, keys and values of tags, roles of members.
 
-ghost use Rattle.std.specs.Prelude.{◌≡◌, ◌<◌, ◌≤◌, ◌↔◌, length, IfOk, IsErrOf, OnErr, Contains, string_bytes};
+ghost use Rattle.std.specs.Prelude.{
+  ◌≡◌,
+  ◌<◌,
+  ◌≤◌,
+  ◌↔◌,
+  length,
+  IfOk,
+  IsErrOf,
+  OnErr,
+  Contains,
+  string_bytes,
+};
 ghost use Rattle.osm_model.specs.Text.{IsText};
 ghost use Rattle.osm_model.specs.declared.text.TextError.TheVariants.{WantOfMemory};
 
@@ -54,7 +65,8 @@ impl Text {
     pub fn new(alloc: Global, text: &str) -> Result<Text, TextError>
         ensures ok { IfOk result (λ t. (t ≡ text.now) × IsText text.now) }
         ensures has_nul { IsErrOf result TextError.HasNul ↔ Contains text.now 0 }
-        ensures too_long { IsErrOf result TextError.TooLong ↔ (¬ Contains text.now 0 × (1020 < length text.now)) }
+        ensures too_long { IsErrOf result TextError.TooLong
+            ↔ (¬ Contains text.now 0 × (1020 < length text.now)) }
     {
         if text.as_bytes().contains(&0) {
             return Err(TextError::HasNul);

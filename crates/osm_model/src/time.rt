@@ -1,11 +1,34 @@
-//! Times as texts of 20 bytes, as `2024-01-01T00:00:00Z`: read loosely, written in the one form, and
-//! compared.
+//! Times as texts of 20 bytes, as `2024-01-01T00:00:00Z`. To read one, its digits are taken as they
+//! come, the time that they give is written, and the two texts are compared.
 
-ghost use Rattle.std.specs.Prelude.{◌≡◌, ℕ, List, ◌+◌, ◌-◌, ◌*◌, ◌/◌, ◌%◌, ◌<◌, ◌≤◌, ◌^◌, ◌↔◌, Some, IsTrue, IsNone, IfSome, min, pos, codes, ◌+ℤ◌, ◌*ℤ◌, ◌≤ℤ◌};
+ghost use Rattle.std.specs.Prelude.{
+  ◌≡◌,
+  ℕ,
+  List,
+  ◌+◌,
+  ◌-◌,
+  ◌*◌,
+  ◌/◌,
+  ◌%◌,
+  ◌<◌,
+  ◌≤◌,
+  ◌^◌,
+  ◌↔◌,
+  Some,
+  IsTrue,
+  IsNone,
+  IfSome,
+  min,
+  pos,
+  codes,
+  ◌+ℤ◌,
+  ◌*ℤ◌,
+  ◌≤ℤ◌,
+};
 ghost use Rattle.jiff_core.specs.Calendar.{IsCivilDate};
 ghost use Rattle.jiff_core.specs.Date.{epoch_day};
 ghost use Rattle.osm_model.specs.CivilTime.{time_text};
-ghost use Rattle.osm_model.specs.Clock.{moment_of, HasDigits, loose_moment};
+ghost use Rattle.osm_model.specs.Steps.Clock.{moment_of, HasDigits, loose_moment};
 ghost use Rattle.osm_model.specs.Limits.{IsPositive};
 ghost use Rattle.osm_model.specs.Time.{Moment, IsMoment, Shows, TimeText, moment_text, seconds_of};
 
@@ -22,7 +45,7 @@ struct Clock {
 }
 
 /// The seconds since 1970-01-01T00:00:00Z of a text `YYYY-MM-DDTHH:MM:SSZ` of a real date and time
-/// (ISO 8601; no leap second), from 1970-01-01T00:00:01Z to 2106-02-07T06:28:15Z; none for all else.
+/// (ISO 8601; no leap second), from 1970-01-01T00:00:01Z to 2106-02-07T06:28:15Z; otherwise none.
 pub fn time_read(bytes: &[u8]) -> Option<u32>
     ensures sound { IfSome result (λ t. TimeText bytes.now t) }
     ensures complete { (t : ℕ) → TimeText bytes.now t → result ≡ Some t }
@@ -66,7 +89,7 @@ fn pair(tens: u8, ones: u8) -> u8
     10 * digit(tens) + digit(ones)
 }
 
-// What stands at the places of the digits, whatever it is.
+// The digits, or whatever is in their positions.
 fn loose_clock(text: &[u8; 20]) -> Clock
     ensures value { moment_of result ≡ loose_moment text.now }
     ensures digits { HasDigits (moment_of result) }
@@ -127,11 +150,12 @@ fn within_limits(seconds: i64) -> Option<u32>
     }
 }
 
-// The seconds since 1970, where the calendar and the clock have this moment.
+// The seconds since 1970, if the calendar and the clock have this moment.
 #[tactic(auto, unfolding(crate::specs::Time::seconds_of))]
 fn seconds_since(clock: Clock) -> Option<i64>
     requires { HasDigits (moment_of clock) }
-    ensures some { IfSome result (λ t. (t ≡ seconds_of (moment_of clock)) × IsMoment (moment_of clock)) }
+    ensures some { IfSome result (λ t.
+        (t ≡ seconds_of (moment_of clock)) × IsMoment (moment_of clock)) }
     ensures none { IsNone result → ¬ IsMoment (moment_of clock) }
 {
     if clock.hour >= 24 || clock.minute >= 60 || clock.second >= 60 {
@@ -178,7 +202,8 @@ fn clock_at(date: Date, second_of_day: u32) -> Clock
     requires date { IsCivilDate date.year date.month date.day }
     requires year { pos 1970 ≤ℤ date.year }
     ensures moment { IsMoment (moment_of result) }
-    ensures seconds { seconds_of (moment_of result) ≡ epoch_day date *ℤ pos 86400 +ℤ pos second_of_day }
+    ensures seconds { seconds_of (moment_of result)
+        ≡ epoch_day date *ℤ pos 86400 +ℤ pos second_of_day }
 {
     Clock {
         year: date.year() as u16,

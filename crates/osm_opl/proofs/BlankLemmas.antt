@@ -21,7 +21,7 @@ use Rattle.osm_reading.specs.Pieces.{Lacks}
 use Rattle.osm_opl.proofs.NumberLaws.{id_lacks, digits_lack}
 use Rattle.osm_opl.proofs.EscapeLaws.{text_lacks}
 use Rattle.osm_opl.proofs.ListLaws.{IsBlank, IsMember, list_lacks, members_read, refs_read, tags_read}
-use Rattle.osm_opl.proofs.PlaceLaws.{place_lacks, longitude_read, latitude_read}
+use Rattle.osm_opl.proofs.CoordinateLaws.{maybe_coordinate_lacks, longitude_read, latitude_read}
 use Rattle.osm_opl.proofs.ObjectLaws.{is_standing}
 
 tags_lack : (s : ℕ) (b : IsBlank s) (t : List ℕ) (tags : List Tag) → SpellsList SpellsTag t tags → Lacks s (84 ∷ t)
@@ -34,7 +34,7 @@ members_lack : (s : ℕ) (b : IsBlank s) (m : List ℕ) (members : List Member) 
 members_lack s b m members h = (λ e. omega (arith, e, b.low), list_lacks member_at SpellsMember IsMember members_read s b m members h)
 
 coordinate_lack : (s : ℕ) (b : IsBlank s) (letter : ℕ) (x : List ℕ) (z : ℤ) → 37 ≤ letter → SpellsCoordinate x z → Lacks s (letter ∷ x)
-coordinate_lack s b letter x z high h = (λ e. omega (arith, e, b.low), place_lacks s b x z h)
+coordinate_lack s b letter x z high h = (λ e. omega (arith, e, b.low), maybe_coordinate_lacks s b x z h)
 
 what_lacks : (s : ℕ) (b : IsBlank s) (kind : Kind) (fields : List (List ℕ)) (w : What) → SpellsWhat kind fields w → AllByRecursion (Lacks s) fields
 what_lacks s b _ _ _ (node t x y tags lon lat ts hx hy) = (tags_lack s b t tags ts, (coordinate_lack s b 120 x lon (lit≤ tt) hx, (coordinate_lack s b 121 y lat (lit≤ tt) hy, tt)))

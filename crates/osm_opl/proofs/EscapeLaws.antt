@@ -16,7 +16,7 @@ use Rattle.osm_opl.specs.Steps.Reading.{escape_at, is_free, run_at, runs_at, tex
 use Rattle.osm_reading.specs.Steps.Answers.{and_then}
 use Rattle.osm_reading.proofs.StepLemmas.{both_held, some_then, guard_some}
 use Rattle.osm_reading.specs.Pieces.{Lacks}
-use Rattle.osm_reading.proofs.PieceLemmas.{lacks_append, joined-pieces, pieces-front, pieces-more, with_front}
+use Rattle.osm_reading.proofs.PieceLemmas.{lacks_append, joined-pieces, pieces-prefix, pieces-more, with_prefix}
 use Rattle.osm_opl.proofs.NumberLaws.{digits_lack}
 use Rattle.osm_opl.proofs.EscapeLemmas.{encode_lacks, run_takes, escape_takes, escape_again}
 
@@ -42,7 +42,7 @@ free_after : (xs ys : List ℕ) → list_all is_free (xs ++ ys) ≡ true → lis
 free_after [] ys e = e
 free_after (x ∷ xs) ys e = free_after xs ys (both_held (is_free x) (list_all is_free (xs ++ ys)) e).1
 
--- a run of bare characters in front of what spells a text
+-- a run of bare characters before what spells a text
 run_before : (cs bytes text : List ℕ) → scalars cs ≡ true → list_all is_free (encodes cs) ≡ true → SpellsText bytes text → SpellsText (encodes cs ++ bytes) (encodes cs ++ text)
 run_before [] bytes text s free h = h
 run_before (c ∷ cs) bytes text s free h =
@@ -50,8 +50,8 @@ run_before (c ∷ cs) bytes text s free h =
     let inner = run_before cs bytes text p.1 (free_after (encode_utf8 c) (encodes cs) free) h in
     rw (append_assoc (encode_utf8 c) (encodes cs) bytes, append_assoc (encode_utf8 c) (encodes cs) text) (bare c (encodes cs ++ bytes) (encodes cs ++ text) (bare_in c (encodes cs) p.0 free) inner)
 
-run_in_front : (run bytes text : List ℕ) → list_all is_free run ≡ true → IsUtf8 run → SpellsText bytes text → SpellsText (run ++ bytes) (run ++ text)
-run_in_front run bytes text free (cs, (s, is)) h =
+run_begins : (run bytes text : List ℕ) → list_all is_free run ≡ true → IsUtf8 run → SpellsText bytes text → SpellsText (run ++ bytes) (run ++ text)
+run_begins run bytes text free (cs, (s, is)) h =
     let f : list_all is_free (encodes cs) ≡ true = rw is free in
     rw (is) at (run_before cs bytes text s f h)
 
@@ -59,7 +59,7 @@ runs_take : (ps : List (List ℕ)) (text : List ℕ) → runs_at ps ≡ Some tex
 runs_take [] text e = absurd cc
 runs_take (run ∷ []) text e =
     let r = run_takes run text e in
-    let h : SpellsText (run ++ []) (run ++ []) = run_in_front run [] [] r.1 r.2 end in
+    let h : SpellsText (run ++ []) (run ++ []) = run_begins run [] [] r.1 r.2 end in
     let plain : SpellsText run run = rw (append-nil run) at h in
     rw r.0 plain
 runs_take (run ∷ digits ∷ []) text e =
@@ -75,7 +75,7 @@ runs_take (run ∷ digits ∷ next ∷ more) text e =
     let n : NamesChar digits b.0 = escape_takes digits b.0 b.1 in
     let inner : SpellsText (joined 37 (next ∷ more)) d.0 = runs_take (next ∷ more) d.0 d.1 in
     let same : a.0 ++ encode_utf8 b.0 ++ d.0 ≡ text = same_Some (a.0 ++ encode_utf8 b.0 ++ d.0) text d.2 in
-    let h : SpellsText (run ++ (37 ∷ (digits ++ (37 ∷ joined 37 (next ∷ more))))) (run ++ (encode_utf8 b.0 ++ d.0)) = run_in_front run (37 ∷ (digits ++ (37 ∷ joined 37 (next ∷ more)))) (encode_utf8 b.0 ++ d.0) r.1 r.2 (escape digits b.0 (joined 37 (next ∷ more)) d.0 n inner) in
+    let h : SpellsText (run ++ (37 ∷ (digits ++ (37 ∷ joined 37 (next ∷ more))))) (run ++ (encode_utf8 b.0 ++ d.0)) = run_begins run (37 ∷ (digits ++ (37 ∷ joined 37 (next ∷ more)))) (encode_utf8 b.0 ++ d.0) r.1 r.2 (escape digits b.0 (joined 37 (next ∷ more)) d.0 n inner) in
     let value : run ++ (encode_utf8 b.0 ++ d.0) ≡ text = sym (append_assoc run (encode_utf8 b.0) d.0) ∙ (ap (λ (l : List ℕ). l ++ encode_utf8 b.0 ++ d.0) (sym r.0) ∙ same) in
     rw value at h
 
@@ -123,7 +123,7 @@ runs_of run digits more r c t p q s = rw (p, q, s) refl
 four_parts : (a b c d : List ℕ) → a ++ b ++ c ++ d ≡ a ++ (b ++ c ++ d)
 four_parts a b c d = simp append_assoc
 
-runs_longer : (c : ℕ) (ps : List (List ℕ)) (text : List ℕ) → IsBare c → runs_at ps ≡ Some text → runs_at (with_front (encode_utf8 c) ps) ≡ Some (encode_utf8 c ++ text)
+runs_longer : (c : ℕ) (ps : List (List ℕ)) (text : List ℕ) → IsBare c → runs_at ps ≡ Some text → runs_at (with_prefix (encode_utf8 c) ps) ≡ Some (encode_utf8 c ++ text)
 runs_longer c [] text h e = absurd cc
 runs_longer c (run ∷ []) text h e = run_longer c run text h e
 runs_longer c (run ∷ digits ∷ more) text h e =
@@ -140,7 +140,7 @@ runs_again _ _ end = rw (is_utf8-from_IsUtf8 [] IsUtf8-nil) refl
 runs_again _ _ (bare c bytes text h rest) =
     let free : is_reserved c ≡ false = h.free in
     let other : c ≢ 37 = λ e. let q : is_reserved 37 ≡ false = rw e at free in cc in
-    rw (pieces-front 37 (encode_utf8 c) bytes (encode_lacks 37 c (lit< tt) other)) (runs_longer c (pieces 37 bytes) text h (runs_again bytes text rest))
+    rw (pieces-prefix 37 (encode_utf8 c) bytes (encode_lacks 37 c (lit< tt) other)) (runs_longer c (pieces 37 bytes) text h (runs_again bytes text rest))
 runs_again _ _ (escape digits c bytes text n rest) =
     rw (pieces-more 37 digits bytes (digits_lack 16 37 digits (lit≤ tt) n.numeral.1), is_utf8-from_IsUtf8 [] IsUtf8-nil, escape_again digits c n, runs_again bytes text rest) refl
 

@@ -1,5 +1,5 @@
 -- Runs of bare characters, and escapes.
-use Rattle.std.proofs.Common.{◌≡◌, ℕ, zero, suc, ◌+◌, ◌/◌, ◌%◌, ◌<◌, Bool, true, false, cond, ltb, leb, ◌&&◌, List, [], ◌∷◌, ◌++◌, length, Some, None, refl, sym, arith}
+use Rattle.std.proofs.Common.{◌≡◌, ℕ, zero, suc, ◌+◌, ◌/◌, ◌%◌, ◌<◌, ◌≤◌, Bool, true, false, cond, ltb, leb, ◌&&◌, List, [], ◌∷◌, ◌++◌, length, Some, None, refl, sym, arith}
 use Rattle.std.specs.Prelude.{Contains}
 use Rattle.std.specs.Str.{IsUtf8, is_utf8}
 use Rattle.std.specs.List.{list_all}
@@ -33,6 +33,8 @@ isnt_text_run run u = by_tests (list_all is_free run) (is_utf8 run) (λ e. u (Is
     by_tests a true n = absurd (n refl)
     by_tests true false n = refl
     by_tests false false n = refl
+
+pub ruleset text_runs = (is_text_run, isnt_text_run)
 
 -- ---- which bytes a character has
 
@@ -128,12 +130,11 @@ text_is bytes text e =
     let p = runs_plain (pieces 37 bytes) x.0 x.1 in
     rw (← same) (record { utf8 = p.0; no_nul = lacks_contains 0 x.0 p.1; short = grind (arith, nat_tests) })
 
-too_long : (bytes text : List ℕ) → runs_at (pieces 37 bytes) ≡ Some text → 1020 < length text → text_at bytes ≡ None
-unfolding text_at
-too_long bytes text is l = let t : leb (length text) 1020 ≡ false = grind (arith, nat_tests) in rw (is, t) refl
-
--- a text that is refused once it is whole is too long
-pub text_refused : (bytes text : List ℕ) (e : TextError) → runs_at (pieces 37 bytes) ≡ Some text → (e ≡ HasNul → Contains text 0) → (e ≡ TooLong → 1020 < length text) → (e ≡ WantOfMemory → ⊥) → text_at bytes ≡ None
-text_refused bytes text HasNul is nul long memory = absurd (lacks_contains 0 text (runs_plain (pieces 37 bytes) text is).1 (nul refl))
-text_refused bytes text TooLong is nul long memory = let l : 1020 < length text = long refl in too_long bytes text is l
+-- a text that was read is within its limits
+pub text_refused : (bytes text : List ℕ) (e : TextError) → text_at bytes ≡ Some text → (e ≡ HasNul → Contains text 0) → (e ≡ TooLong → 1020 < length text) → (e ≡ WantOfMemory → ⊥) → text_at bytes ≡ None
+text_refused bytes text HasNul is nul long memory = absurd ((text_is bytes text is).no_nul (nul refl))
+text_refused bytes text TooLong is nul long memory =
+    let short : length text ≤ 1020 = (text_is bytes text is).short in
+    let l : 1020 < length text = long refl in
+    absurd (omega arith)
 text_refused bytes text WantOfMemory is nul long memory = absurd (memory refl)

@@ -47,22 +47,22 @@ lines_append _ ys _ b none q = q
 lines_append _ ys _ b (skipped line lines a s p) q = skipped line (lines ++ ys) (a ++ b) s (lines_append lines ys a b p q)
 lines_append _ ys _ b (change line lines c a s h p) q = change line (lines ++ ys) c (a ++ b) s h (lines_append lines ys a b p q)
 
--- lines spell what those in front spell, and then what the others spell
+-- lines spell what those in prefix spell, and then what the others spell
 pub record SplitLines (xs ys : List (List ℕ)) (changes : List ChangeValue) : Type 0 where
   pub first : List ChangeValue
   pub second : List ChangeValue
   pub whole : changes ≡ first ++ second
-  pub front : SpellsLines xs first
+  pub prefix : SpellsLines xs first
   pub back : SpellsLines ys second
 
 pub lines_split : (xs ys : List (List ℕ)) (changes : List ChangeValue) → SpellsLines (xs ++ ys) changes → SplitLines xs ys changes
-lines_split [] ys changes h = record { first = []; second = changes; whole = refl; front = none; back = h }
+lines_split [] ys changes h = record { first = []; second = changes; whole = refl; prefix = none; back = h }
 lines_split (x ∷ xs) ys _ (skipped _ _ changes s p) =
     let r = lines_split xs ys changes p in
-    record { first = r.first; second = r.second; whole = r.whole; front = skipped x xs r.first s r.front; back = r.back }
+    record { first = r.first; second = r.second; whole = r.whole; prefix = skipped x xs r.first s r.prefix; back = r.back }
 lines_split (x ∷ xs) ys _ (change _ _ c changes s h p) =
     let r = lines_split xs ys changes p in
-    record { first = c ∷ r.first; second = r.second; whole = ap (λ (l : List ChangeValue). c ∷ l) r.whole; front = change x xs c r.first s h r.front; back = r.back }
+    record { first = c ∷ r.first; second = r.second; whole = ap (λ (l : List ChangeValue). c ∷ l) r.whole; prefix = change x xs c r.first s h r.prefix; back = r.back }
 
 -- the first line of those that aren't skipped spells the first change
 pub record FirstLine (line : List ℕ) (lines : List (List ℕ)) (changes : List ChangeValue) : Type 0 where
@@ -83,14 +83,14 @@ apart bytes batch place s f =
     let h : SpellsLines (f.before ++ f.line ∷ f.after) batch = rw f.parts at s.lines in
     let split = lines_split f.before (f.line ∷ f.after) batch h in
     let line = first_line f.line f.after split.second f.counts split.back in
-    let same : split.first ≡ f.changes = lines_one f.before split.first f.changes split.front f.spelled in
+    let same : split.first ≡ f.changes = lines_one f.before split.first f.changes split.prefix f.spelled in
     let few : length batch ≤ max_changes = s.limits.few in
     let n : length batch ≡ length split.first + length split.second = ap length split.whole ∙ length-append split.first split.second in
     let m : length split.second ≡ suc (length line.rest) = ap length line.whole in
     let k : length split.first ≡ length f.changes = ap length same in
     f.fault line.change line.spells (omega (arith, n, m, k, few))
 
--- the lines before a fault, seen from the front
+-- the lines before a fault, seen from the prefix
 pub record StopsAt (n : ℕ) (line : List ℕ) (changes : List ChangeValue) : Type 0 where
   pub few : n + length changes ≤ max_changes
   pub counts : is_skipped line ≡ false

@@ -7,7 +7,7 @@ pub mod ListLemmas
 pub mod ListLaws
 pub mod FieldLaws
 pub mod MetaLaws
-pub mod PlaceLaws
+pub mod CoordinateLaws
 pub mod ObjectLaws
 pub mod BlankLemmas
 pub mod LineLaws

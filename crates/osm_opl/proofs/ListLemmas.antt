@@ -4,14 +4,15 @@ use Rattle.std.proofs.lemmas.Bool.Decides.{nat_tests}
 use Rattle.std.proofs.lemmas.List.{append-nil, length-append}
 use Rattle.std.proofs.lemmas.Option.{same_Some}
 use Rattle.std.specs.Char.{encode_utf8}
-use Rattle.osm_opl.specs.Steps.Reading.{each_at, escape_at, list_at, list_pieces, run_at, runs_at}
+use Rattle.osm_reading.specs.Pieces.{pieces}
+use Rattle.osm_opl.specs.Steps.Reading.{PassesLimit, text_at, each_at, escape_at, list_at, list_pieces, run_at, runs_at}
 use Rattle.osm_reading.specs.Steps.Answers.{and_then}
 use Rattle.osm_reading.specs.Steps.Answers.{Fails}
 use Rattle.osm_reading.specs.declared.refusal.Refusal.{Refusal}
 use Rattle.osm_reading.specs.declared.refusal.Refusal.TheVariants.{WantOfMemory, Fault}
 use Rattle.osm_reading.proofs.StepLemmas.{some_then}
 
--- what was read before, in front of what is read from the rest
+-- what was read before, before what is read from the rest
 abbrev pub put_before : {X : Type 0} → List X → Option (List X) → Option (List X)
 put_before xs None = None
 put_before xs (Some ys) = Some (xs ++ ys)
@@ -98,3 +99,76 @@ run_read before run after text next left more digits c whole e is r d t n =
     two_bound : (xs run c : List ℕ) (r : Option (List ℕ)) → put_before xs (and_then r (λ t. Some (run ++ c ++ t))) ≡ put_before (xs ++ (run ++ c)) r
     two_bound xs run c None = refl
     two_bound xs run c (Some t) = ap (λ (l : List ℕ). Some l) (sym (append_assoc xs (run ++ c) t))
+
+-- ---- texts that are read up to their limit
+
+put_before-twice : {X : Type 0} (a b : List X) (r : Option (List X)) → put_before a (put_before b r) ≡ put_before (a ++ b) r
+put_before-twice a b None = refl
+put_before-twice {X = X} a b (Some c) = ap (λ (l : List X). Some l) (sym (append_assoc a b c))
+
+-- what is read begins with the first run
+run_first : (run r : List ℕ) (ps : List (List ℕ)) → run_at run ≡ Some r → (rest : Option (List ℕ)) × (runs_at (run ∷ ps) ≡ put_before r rest)
+run_first run r [] e = (Some [], e ∙ ap (λ (l : List ℕ). Some l) (sym (append-nil r)))
+run_first run r (digits ∷ more) e =
+    let step : runs_at (run ∷ digits ∷ more) ≡ and_then (escape_at digits) (λ c. and_then (runs_at more) (λ t. Some (r ++ encode_utf8 c ++ t))) = rw e refl in
+    let p = by_parts (escape_at digits) (runs_at more) in
+    (p.0, step ∙ p.1)
+  where
+    by_parts : (c : Option ℕ) (t : Option (List ℕ)) → (rest : Option (List ℕ)) × (and_then c (λ c. and_then t (λ t. Some (r ++ encode_utf8 c ++ t))) ≡ put_before r rest)
+    by_parts None t = (None, refl)
+    by_parts (Some c) None = (None, refl)
+    by_parts (Some c) (Some t) = (Some (encode_utf8 c ++ t), ap (λ (l : List ℕ). Some l) (append_assoc r (encode_utf8 c) t))
+
+-- a text that begins with more than 1,020 bytes is none
+pub text_long : (bytes start : List ℕ) (rest : Option (List ℕ)) → runs_at (pieces 37 bytes) ≡ put_before start rest → 1020 < length start → text_at bytes ≡ None
+unfolding text_at
+text_long bytes start None e l = rw e refl
+text_long bytes start (Some t) e l =
+    let t : leb (length (start ++ t)) 1020 ≡ false = grind (arith, nat_tests, length-append {A = ℕ}) in
+    rw (e, t) refl
+
+pub text_none : (bytes start : List ℕ) (left : List (List ℕ)) → runs_at (pieces 37 bytes) ≡ put_before start (runs_at left) → runs_at left ≡ None → text_at bytes ≡ None
+unfolding text_at
+text_none bytes start left e n = rw (e, n) refl
+
+pub text_whole : (bytes start text run r : List ℕ) (left : List (List ℕ)) → runs_at (pieces 37 bytes) ≡ put_before start (runs_at left) → left ≡ run ∷ [] → run_at run ≡ Some r → text ≡ start ++ r → length text ≤ 1020 → text_at bytes ≡ Some text
+unfolding text_at
+text_whole bytes start text run r left e only is t short =
+    let f : leb (length (start ++ r)) 1020 ≡ true = rw t at (let f : leb (length text) 1020 ≡ true = grind (arith, nat_tests) in f) in
+    rw (e, only, is, f, t) refl
+
+-- a run that can't be read, and one that passes the limit
+pub run_none : (bytes start run : List ℕ) (left ps : List (List ℕ)) → runs_at (pieces 37 bytes) ≡ put_before start (runs_at left) → left ≡ run ∷ ps → run_at run ≡ None → text_at bytes ≡ None
+run_none bytes start run left ps e is none = text_none bytes start left e (rw is (by_rest ps))
+  where
+    by_rest : (ps : List (List ℕ)) → runs_at (run ∷ ps) ≡ None
+    by_rest [] = none
+    by_rest (digits ∷ []) = rw none refl
+    by_rest (digits ∷ p ∷ more) = rw none refl
+
+pub run_long : (bytes start run r : List ℕ) (left ps : List (List ℕ)) (error : Refusal) → runs_at (pieces 37 bytes) ≡ put_before start (runs_at left) → left ≡ run ∷ ps → run_at run ≡ Some r → PassesLimit (start ++ r) error → Fails error (text_at bytes)
+run_long bytes start run r left ps WantOfMemory e is read long = tt
+run_long bytes start run r left ps (Fault why) e is read long =
+    let f = run_first run r ps read in
+    let whole : runs_at (pieces 37 bytes) ≡ put_before (start ++ r) f.0 = e ∙ ap (λ (l : List (List ℕ)). put_before start (runs_at l)) is ∙ ap (put_before start) f.1 ∙ put_before-twice start r f.0 in
+    text_long bytes (start ++ r) f.0 whole long
+
+-- an escape that can't be read, or that has no end, and one that passes the limit
+pub escape_open : (bytes start run digits : List ℕ) (left : List (List ℕ)) → runs_at (pieces 37 bytes) ≡ put_before start (runs_at left) → left ≡ run ∷ digits ∷ [] → text_at bytes ≡ None
+escape_open bytes start run digits left e is = text_none bytes start left e (rw is (by_parts (run_at run) (escape_at digits)))
+  where
+    by_parts : (r : Option (List ℕ)) (c : Option ℕ) → and_then r (λ r. and_then c (λ c. and_then (runs_at []) (λ t. Some (r ++ encode_utf8 c ++ t)))) ≡ None
+    by_parts None c = refl
+    by_parts (Some r) None = refl
+    by_parts (Some r) (Some c) = refl
+
+pub escape_none : (bytes start run digits : List ℕ) (left more : List (List ℕ)) → runs_at (pieces 37 bytes) ≡ put_before start (runs_at left) → left ≡ run ∷ digits ∷ more → escape_at digits ≡ None → text_at bytes ≡ None
+escape_none bytes start run digits left more e is none = text_none bytes start left e (rw (is, none) (by_run (run_at run)))
+  where
+    by_run : (r : Option (List ℕ)) → and_then r (λ r. and_then None (λ c. and_then (runs_at more) (λ t. Some (r ++ encode_utf8 c ++ t)))) ≡ None
+    by_run None = refl
+    by_run (Some r) = refl
+
+pub char_long : (bytes next : List ℕ) (rest : Option (List ℕ)) (error : Refusal) → runs_at (pieces 37 bytes) ≡ put_before next rest → PassesLimit next error → Fails error (text_at bytes)
+char_long bytes next rest WantOfMemory e long = tt
+char_long bytes next rest (Fault why) e long = text_long bytes next rest e long

@@ -15,7 +15,7 @@ use Rattle.osm_model.specs.declared.form.Why.{Why}
 use Rattle.osm_reading.specs.Steps.Answers.{Finds}
 use Rattle.osm_opl.specs.Steps.Reading.{all_digits, is_numeral, digits_at, number_at, positive_at}
 
--- the digits in front of a place, and the number that they write
+-- the digits before a place, and the number that they write
 pub record Digits (radix : ℕ) (bytes : List ℕ) (most : ℕ) (i : ℕ) (so_far : ℕ) : Type 0 where
   pub all : all_digits radix (take i bytes) ≡ true
   pub value : so_far ≡ min most (digits_value radix (take i bytes))

@@ -15,12 +15,12 @@ use Rattle.osm_model.specs.declared.lists.Tag.{Tag}
 use Rattle.osm_opl.specs.Line.{SpellsWhat, node, way, relation, deleted_node, deleted_way, deleted_relation, status_text}
 use Rattle.osm_opl.specs.Lists.{SpellsList, SpellsTag, SpellsRef, SpellsMember}
 use Rattle.osm_opl.specs.Written.{visible_text}
-use Rattle.osm_opl.specs.Steps.Reading.{field_at, last_field_at, list_at, member_at, node_at, node_of, place_at, ref_at, relation_at, tag_at, way_at, what_at}
+use Rattle.osm_opl.specs.Steps.Reading.{field_at, last_field_at, list_at, member_at, node_at, node_of, maybe_coordinate_at, ref_at, relation_at, tag_at, way_at, what_at}
 use Rattle.osm_reading.specs.Steps.Answers.{and_then}
 use Rattle.osm_reading.proofs.StepLemmas.{some_then}
 use Rattle.osm_opl.proofs.ListLaws.{IsMember, TakesList, list_takes, list_again, members_split, members_join, members_read, refs_read, tags_read}
 use Rattle.osm_opl.proofs.FieldLaws.{field_takes, field_again, last_field_takes, last_field_again}
-use Rattle.osm_opl.proofs.PlaceLaws.{IsPlaceText, place_takes, place_again, longitude_text, latitude_text, longitude_read, latitude_read}
+use Rattle.osm_opl.proofs.CoordinateLaws.{IsCoordinateText, maybe_coordinate_takes, maybe_coordinate_again, longitude_text, latitude_text, longitude_read, latitude_read}
 
 -- ---- what is read is spelled
 
@@ -38,7 +38,7 @@ are_refs bytes refs h = record { few = h.few; each = h.each }
 are_members : (bytes : List ℕ) (members : List Member) → TakesList SpellsMember IsMember 32000 bytes members → AreMembers members
 are_members bytes members h = let r = members_split members h.each in record { few = h.few; ids = r.0; roles = r.1 }
 
-node_made : (is_visible : Bool) (t x y : List ℕ) (tags : List Tag) (lon lat : Option ℤ) (w : What) → TakesList SpellsTag IsTag 5000 t tags → IsPlaceText 1800000000 x lon → IsPlaceText 900000000 y lat → node_of is_visible lon lat tags ≡ Some w → TakesWhat Node ((84 ∷ t) ∷ (120 ∷ x) ∷ (121 ∷ y) ∷ []) w is_visible
+node_made : (is_visible : Bool) (t x y : List ℕ) (tags : List Tag) (lon lat : Option ℤ) (w : What) → TakesList SpellsTag IsTag 5000 t tags → IsCoordinateText 1800000000 x lon → IsCoordinateText 900000000 y lat → node_of is_visible lon lat tags ≡ Some w → TakesWhat Node ((84 ∷ t) ∷ (120 ∷ x) ∷ (121 ∷ y) ∷ []) w is_visible
 node_made false t x y tags lon lat w ts hx hy e =
     let same : whats.Deleted ≡ w = same_Some whats.Deleted w e in
     rw (← same) (record { spells = deleted_node t x y tags ts.spells (are_tags t tags ts) (longitude_text x lon hx) (latitude_text y lat hy); limits = tt; status = refl })
@@ -53,18 +53,18 @@ node_made true t x y tags None lat w ts hx hy e = absurd cc
 node_takes : (is_visible : Bool) (fields : List (List ℕ)) (w : What) → node_at is_visible fields ≡ Some w → TakesWhat Node fields w is_visible
 unfolding node_at
 node_takes is_visible fields w e =
-    let t = some_then (field_at 84 fields) (λ (t : List ℕ × List (List ℕ)). and_then {A = List Tag} {B = What} (list_at tag_at 5000 t.0) (λ (tags : List Tag). and_then {A = List ℕ × List (List ℕ)} {B = What} (field_at 120 t.1) (λ (x : List ℕ × List (List ℕ)). and_then {A = Option ℤ} {B = What} (place_at 1800000000 x.0) (λ (lon : Option ℤ). and_then {A = List ℕ} {B = What} (last_field_at 121 x.1) (λ (y : List ℕ). and_then {A = Option ℤ} {B = What} (place_at 900000000 y) (λ (lat : Option ℤ). node_of is_visible lon lat tags)))))) w e in
-    let tags = some_then (list_at tag_at 5000 t.0.0) (λ (tags : List Tag). and_then {A = List ℕ × List (List ℕ)} {B = What} (field_at 120 t.0.1) (λ (x : List ℕ × List (List ℕ)). and_then {A = Option ℤ} {B = What} (place_at 1800000000 x.0) (λ (lon : Option ℤ). and_then {A = List ℕ} {B = What} (last_field_at 121 x.1) (λ (y : List ℕ). and_then {A = Option ℤ} {B = What} (place_at 900000000 y) (λ (lat : Option ℤ). node_of is_visible lon lat tags))))) w t.2 in
-    let x = some_then (field_at 120 t.0.1) (λ (x : List ℕ × List (List ℕ)). and_then {A = Option ℤ} {B = What} (place_at 1800000000 x.0) (λ (lon : Option ℤ). and_then {A = List ℕ} {B = What} (last_field_at 121 x.1) (λ (y : List ℕ). and_then {A = Option ℤ} {B = What} (place_at 900000000 y) (λ (lat : Option ℤ). node_of is_visible lon lat tags.0)))) w tags.2 in
-    let lon = some_then (place_at 1800000000 x.0.0) (λ (lon : Option ℤ). and_then {A = List ℕ} {B = What} (last_field_at 121 x.0.1) (λ (y : List ℕ). and_then {A = Option ℤ} {B = What} (place_at 900000000 y) (λ (lat : Option ℤ). node_of is_visible lon lat tags.0))) w x.2 in
-    let y = some_then (last_field_at 121 x.0.1) (λ (y : List ℕ). and_then {A = Option ℤ} {B = What} (place_at 900000000 y) (λ (lat : Option ℤ). node_of is_visible lon.0 lat tags.0)) w lon.2 in
-    let lat = some_then (place_at 900000000 y.0) (λ (lat : Option ℤ). node_of is_visible lon.0 lat tags.0) w y.2 in
+    let t = some_then (field_at 84 fields) (λ (t : List ℕ × List (List ℕ)). and_then {A = List Tag} {B = What} (list_at tag_at 5000 t.0) (λ (tags : List Tag). and_then {A = List ℕ × List (List ℕ)} {B = What} (field_at 120 t.1) (λ (x : List ℕ × List (List ℕ)). and_then {A = Option ℤ} {B = What} (maybe_coordinate_at 1800000000 x.0) (λ (lon : Option ℤ). and_then {A = List ℕ} {B = What} (last_field_at 121 x.1) (λ (y : List ℕ). and_then {A = Option ℤ} {B = What} (maybe_coordinate_at 900000000 y) (λ (lat : Option ℤ). node_of is_visible lon lat tags)))))) w e in
+    let tags = some_then (list_at tag_at 5000 t.0.0) (λ (tags : List Tag). and_then {A = List ℕ × List (List ℕ)} {B = What} (field_at 120 t.0.1) (λ (x : List ℕ × List (List ℕ)). and_then {A = Option ℤ} {B = What} (maybe_coordinate_at 1800000000 x.0) (λ (lon : Option ℤ). and_then {A = List ℕ} {B = What} (last_field_at 121 x.1) (λ (y : List ℕ). and_then {A = Option ℤ} {B = What} (maybe_coordinate_at 900000000 y) (λ (lat : Option ℤ). node_of is_visible lon lat tags))))) w t.2 in
+    let x = some_then (field_at 120 t.0.1) (λ (x : List ℕ × List (List ℕ)). and_then {A = Option ℤ} {B = What} (maybe_coordinate_at 1800000000 x.0) (λ (lon : Option ℤ). and_then {A = List ℕ} {B = What} (last_field_at 121 x.1) (λ (y : List ℕ). and_then {A = Option ℤ} {B = What} (maybe_coordinate_at 900000000 y) (λ (lat : Option ℤ). node_of is_visible lon lat tags.0)))) w tags.2 in
+    let lon = some_then (maybe_coordinate_at 1800000000 x.0.0) (λ (lon : Option ℤ). and_then {A = List ℕ} {B = What} (last_field_at 121 x.0.1) (λ (y : List ℕ). and_then {A = Option ℤ} {B = What} (maybe_coordinate_at 900000000 y) (λ (lat : Option ℤ). node_of is_visible lon lat tags.0))) w x.2 in
+    let y = some_then (last_field_at 121 x.0.1) (λ (y : List ℕ). and_then {A = Option ℤ} {B = What} (maybe_coordinate_at 900000000 y) (λ (lat : Option ℤ). node_of is_visible lon.0 lat tags.0)) w lon.2 in
+    let lat = some_then (maybe_coordinate_at 900000000 y.0) (λ (lat : Option ℤ). node_of is_visible lon.0 lat tags.0) w y.2 in
     let ts = list_takes tag_at SpellsTag IsTag tags_read 5000 t.0.0 tags.0 tags.1 in
     let ft : fields ≡ (84 ∷ t.0.0) ∷ t.0.1 = field_takes 84 fields t.0.0 t.0.1 t.1 in
     let fx : t.0.1 ≡ (120 ∷ x.0.0) ∷ x.0.1 = field_takes 120 t.0.1 x.0.0 x.0.1 x.1 in
     let fy : x.0.1 ≡ (121 ∷ y.0) ∷ [] = last_field_takes 121 x.0.1 y.0 y.1 in
     let whole : fields ≡ (84 ∷ t.0.0) ∷ (120 ∷ x.0.0) ∷ (121 ∷ y.0) ∷ [] = ft ∙ ap (λ (l : List (List ℕ)). (84 ∷ t.0.0) ∷ l) (fx ∙ ap (λ (l : List (List ℕ)). (120 ∷ x.0.0) ∷ l) fy) in
-    let made = node_made is_visible t.0.0 x.0.0 y.0 tags.0 lon.0 lat.0 w ts (place_takes 1800000000 x.0.0 lon.0 lon.1) (place_takes 900000000 y.0 lat.0 lat.1) lat.2 in
+    let made = node_made is_visible t.0.0 x.0.0 y.0 tags.0 lon.0 lat.0 w ts (maybe_coordinate_takes 1800000000 x.0.0 lon.0 lon.1) (maybe_coordinate_takes 900000000 y.0 lat.0 lat.1) lat.2 in
     let Q : List (List ℕ) → Type 0 = λ l. TakesWhat Node l w is_visible in
     subst Q (sym whole) made
 
@@ -143,8 +143,8 @@ members_again m members h limits = list_again member_at SpellsMember IsMember me
 pub what_again : (kind : Kind) (fields : List (List ℕ)) (w : What) → SpellsWhat kind fields w → IsWhat kind w → what_at kind (is_standing w) fields ≡ Some w
 unfolding node_at way_at relation_at is_standing
 what_again _ _ _ (node t x y tags lon lat ts hx hy) limits =
-    let a : place_at 1800000000 x ≡ Some (Some lon) = place_again 1800000000 x lon (record { spells = hx; low = limits.1.longitude.low; high = limits.1.longitude.high }) in
-    let b : place_at 900000000 y ≡ Some (Some lat) = place_again 900000000 y lat (record { spells = hy; low = limits.1.latitude.low; high = limits.1.latitude.high }) in
+    let a : maybe_coordinate_at 1800000000 x ≡ Some (Some lon) = maybe_coordinate_again 1800000000 x lon (record { spells = hx; low = limits.1.longitude.low; high = limits.1.longitude.high }) in
+    let b : maybe_coordinate_at 900000000 y ≡ Some (Some lat) = maybe_coordinate_again 900000000 y lat (record { spells = hy; low = limits.1.latitude.low; high = limits.1.latitude.high }) in
     rw (field_again 84 t ((120 ∷ x) ∷ (121 ∷ y) ∷ []), tags_again t tags ts limits.2, field_again 120 x ((121 ∷ y) ∷ []), a, last_field_again 121 y, b) refl
 what_again _ _ _ (way t n tags refs ts rs) limits =
     rw (field_again 84 t ((78 ∷ n) ∷ []), tags_again t tags ts limits.2, last_field_again 78 n, refs_again n refs rs limits.1) refl

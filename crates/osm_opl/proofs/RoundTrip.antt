@@ -15,7 +15,7 @@ use Rattle.osm_opl.specs.Line.{SpellsLine}
 use Rattle.osm_reading.specs.Lines.{is_skipped, lines_of, without_cr}
 use Rattle.osm_opl.specs.Lists.{letter_of}
 use Rattle.osm_reading.specs.Pieces.{pieces}
-use Rattle.osm_opl.specs.Written.{line_text, opl_text, text_text}
+use Rattle.osm_opl.specs.Written.{line_text, opl_text, escaped_text}
 use Rattle.osm_model.proofs.CivilTimeLemmas.{time_text_shows}
 use Rattle.osm_opl.proofs.LineLaws.{line_lacks}
 use Rattle.osm_opl.proofs.ListLaws.{line_feed, carriage_return}
@@ -36,7 +36,7 @@ line_spells c is =
       changeset_text = decimal c.meta.changeset;
       time_text = time_text c.meta.time;
       uid_text = decimal c.meta.uid;
-      user_text = text_text c.meta.user;
+      user_text = escaped_text c.meta.user;
       fields = what_fields c.key.kind c.what;
       parts = line_whole c;
       id = id_spells c.key.id is.id;

@@ -15,7 +15,7 @@ use Rattle.osm_model.specs.CivilTime.{time_text}
 use Rattle.osm_opl.specs.Line.{SpellsWhat, node, way, relation, deleted_node, deleted_way, deleted_relation, absent, status_text}
 use Rattle.osm_opl.specs.Lists.{empty, letter_of}
 use Rattle.osm_reading.specs.Pieces.{joined}
-use Rattle.osm_opl.specs.Written.{coordinate_text, items_text, line_text, member_text, meta_text, ref_text, tag_text, text_text, what_text}
+use Rattle.osm_opl.specs.Written.{coordinate_text, items_text, line_text, member_text, meta_text, ref_text, tag_text, escaped_text, what_text}
 use Rattle.osm_opl.proofs.WrittenNumbers.{coordinate_spells}
 use Rattle.osm_opl.proofs.WrittenLists.{tags_spell, refs_spell, members_spell}
 
@@ -75,15 +75,15 @@ what_spells Relation whats.Deleted h = deleted_relation [] [] [] [] empty (recor
 six : (a b c d e f : List ℕ) → ((32 ∷ a) ++ (32 ∷ b) ++ (32 ∷ c)) ++ ((32 ∷ d) ++ (32 ∷ e) ++ (32 ∷ f)) ≡ spaced (a ∷ b ∷ c ∷ []) ++ spaced (d ∷ e ∷ f ∷ [])
 six a b c d e f = rw (three_spaced a b c, three_spaced d e f) refl
 
-head_parts : (status : List ℕ) (m : MetaValue) → meta_text status m ≡ spaced ((118 ∷ decimal m.version) ∷ (100 ∷ status) ∷ (99 ∷ decimal m.changeset) ∷ (116 ∷ time_text m.time) ∷ (105 ∷ decimal m.uid) ∷ (117 ∷ text_text m.user) ∷ [])
+head_parts : (status : List ℕ) (m : MetaValue) → meta_text status m ≡ spaced ((118 ∷ decimal m.version) ∷ (100 ∷ status) ∷ (99 ∷ decimal m.changeset) ∷ (116 ∷ time_text m.time) ∷ (105 ∷ decimal m.uid) ∷ (117 ∷ escaped_text m.user) ∷ [])
 head_parts status m =
-    six (118 ∷ decimal m.version) (100 ∷ status) (99 ∷ decimal m.changeset) (116 ∷ time_text m.time) (105 ∷ decimal m.uid) (117 ∷ text_text m.user)
-    ∙ sym (spaced-append ((118 ∷ decimal m.version) ∷ (100 ∷ status) ∷ (99 ∷ decimal m.changeset) ∷ []) ((116 ∷ time_text m.time) ∷ (105 ∷ decimal m.uid) ∷ (117 ∷ text_text m.user) ∷ []))
+    six (118 ∷ decimal m.version) (100 ∷ status) (99 ∷ decimal m.changeset) (116 ∷ time_text m.time) (105 ∷ decimal m.uid) (117 ∷ escaped_text m.user)
+    ∙ sym (spaced-append ((118 ∷ decimal m.version) ∷ (100 ∷ status) ∷ (99 ∷ decimal m.changeset) ∷ []) ((116 ∷ time_text m.time) ∷ (105 ∷ decimal m.uid) ∷ (117 ∷ escaped_text m.user) ∷ []))
 
-pub line_whole : (c : ChangeValue) → line_text c ≡ joined 32 ((letter_of c.key.kind ∷ signed_decimal c.key.id) ∷ (118 ∷ decimal c.meta.version) ∷ (100 ∷ status_text c.what) ∷ (99 ∷ decimal c.meta.changeset) ∷ (116 ∷ time_text c.meta.time) ∷ (105 ∷ decimal c.meta.uid) ∷ (117 ∷ text_text c.meta.user) ∷ what_fields c.key.kind c.what)
+pub line_whole : (c : ChangeValue) → line_text c ≡ joined 32 ((letter_of c.key.kind ∷ signed_decimal c.key.id) ∷ (118 ∷ decimal c.meta.version) ∷ (100 ∷ status_text c.what) ∷ (99 ∷ decimal c.meta.changeset) ∷ (116 ∷ time_text c.meta.time) ∷ (105 ∷ decimal c.meta.uid) ∷ (117 ∷ escaped_text c.meta.user) ∷ what_fields c.key.kind c.what)
 unfolding line_text
 line_whole c =
-    let head : List (List ℕ) = (118 ∷ decimal c.meta.version) ∷ (100 ∷ status_text c.what) ∷ (99 ∷ decimal c.meta.changeset) ∷ (116 ∷ time_text c.meta.time) ∷ (105 ∷ decimal c.meta.uid) ∷ (117 ∷ text_text c.meta.user) ∷ [] in
+    let head : List (List ℕ) = (118 ∷ decimal c.meta.version) ∷ (100 ∷ status_text c.what) ∷ (99 ∷ decimal c.meta.changeset) ∷ (116 ∷ time_text c.meta.time) ∷ (105 ∷ decimal c.meta.uid) ∷ (117 ∷ escaped_text c.meta.user) ∷ [] in
     let first : List ℕ = letter_of c.key.kind ∷ signed_decimal c.key.id in
     append_assoc first (meta_text (status_text c.what) c.meta) (what_text c.key.kind c.what)
     ∙ ap (λ (l : List ℕ). first ++ (l ++ what_text c.key.kind c.what)) (head_parts (status_text c.what) c.meta)

@@ -11,33 +11,33 @@ use Rattle.std.specs.Str.{IsUtf8, chars}
 use Rattle.std.proofs.lemmas.Str.{IsUtf8-past_char, chars_past_char}
 use Rattle.osm_model.specs.Change.{ChangeValue}
 use Rattle.osm_model.specs.Limits.{max_file}
-use Rattle.osm_opl.specs.Written.{line_text, opl_text, char_text, chars_text, text_text, decimals, hex_digits, more_items, items_text}
+use Rattle.osm_opl.specs.Written.{line_text, opl_text, char_text, chars_text, escaped_text, decimals, hex_digits, more_items, items_text}
 
 -- what was appended stands behind what was there
-pub starts_append : (old front : List ℕ) → StartsWith (old ++ front) old
-starts_append old front = take_at old front (length old) refl
+pub starts_append : (old prefix : List ℕ) → StartsWith (old ++ prefix) old
+starts_append old prefix = take_at old prefix (length old) refl
 
 -- the rest of what is to be written follows what was written
 pub record Writes (old new rest whole : List ℕ) : Type 0 where
-  pub front : List ℕ
-  pub written : new ≡ old ++ front
-  pub same : front ++ rest ≡ whole
+  pub prefix : List ℕ
+  pub written : new ≡ old ++ prefix
+  pub same : prefix ++ rest ≡ whole
 
 pub writes_nothing : (old whole : List ℕ) → Writes old old whole whole
-writes_nothing old whole = record { front = []; written = sym (append-nil old); same = refl }
+writes_nothing old whole = record { prefix = []; written = sym (append-nil old); same = refl }
 
 pub writes_more : (old new rest whole part after next : List ℕ) → Writes old new rest whole → rest ≡ part ++ after → next ≡ new ++ part → Writes old next after whole
 writes_more old new rest whole part after next h e n = record {
-  front = h.front ++ part;
-  written = n ∙ ap (λ (l : List ℕ). l ++ part) h.written ∙ append_assoc old h.front part;
-  same = append_assoc h.front part after ∙ ap (λ (l : List ℕ). h.front ++ l) (sym e) ∙ h.same;
+  prefix = h.prefix ++ part;
+  written = n ∙ ap (λ (l : List ℕ). l ++ part) h.written ∙ append_assoc old h.prefix part;
+  same = append_assoc h.prefix part after ∙ ap (λ (l : List ℕ). h.prefix ++ l) (sym e) ∙ h.same;
 }
 
 pub writes_all : (old new whole : List ℕ) → Writes old new [] whole → new ≡ old ++ whole
-writes_all old new whole h = h.written ∙ ap (λ (l : List ℕ). old ++ l) (sym (append-nil h.front) ∙ h.same)
+writes_all old new whole h = h.written ∙ ap (λ (l : List ℕ). old ++ l) (sym (append-nil h.prefix) ∙ h.same)
 
 pub writes_start : (old new rest whole : List ℕ) → Writes old new rest whole → StartsWith new old
-writes_start old new rest whole h = rw h.written (starts_append old h.front)
+writes_start old new rest whole h = rw h.written (starts_append old h.prefix)
 
 -- a failed append keeps what was there
 pub starts_more : (old new next : List ℕ) → StartsWith new old → StartsWith next new → StartsWith next old
@@ -174,24 +174,24 @@ on_err (Err e) P p = p
 -- so many bytes of a text are left
 pub record TextWritten (old new text rest : List ℕ) : Type 0 where
   pub utf8 : IsUtf8 rest
-  pub writes : Writes old new (text_text rest) (text_text text)
+  pub writes : Writes old new (escaped_text rest) (escaped_text text)
 
 pub text_begun : (old text : List ℕ) → IsUtf8 text → TextWritten old old text text
-text_begun old text u = record { utf8 = u; writes = writes_nothing old (text_text text) }
+text_begun old text u = record { utf8 = u; writes = writes_nothing old (escaped_text text) }
 
 pub text_more : (old new next text rest after : List ℕ) (c : ℕ) → TextWritten old new text rest → rest ≡ encode_utf8 c ++ after → next ≡ new ++ char_text c → TextWritten old next text after
-unfolding text_text
+unfolding escaped_text
 text_more old new next text rest after c h e n =
     let step : chars rest ≡ c ∷ chars after = chars_past_char rest after c h.utf8 e in
-    record { utf8 = IsUtf8-past_char rest after c h.utf8 e; writes = writes_more old new (text_text rest) (text_text text) (char_text c) (text_text after) next h.writes (ap chars_text step) n }
+    record { utf8 = IsUtf8-past_char rest after c h.utf8 e; writes = writes_more old new (escaped_text rest) (escaped_text text) (char_text c) (escaped_text after) next h.writes (ap chars_text step) n }
 
-pub text_done : (old new text rest : List ℕ) → TextWritten old new text rest → length rest ≡ 0 → new ≡ old ++ text_text text
-unfolding text_text chars
-text_done old new text [] h e = writes_all old new (text_text text) h.writes
+pub text_done : (old new text rest : List ℕ) → TextWritten old new text rest → length rest ≡ 0 → new ≡ old ++ escaped_text text
+unfolding escaped_text chars
+text_done old new text [] h e = writes_all old new (escaped_text text) h.writes
 text_done old new text (b ∷ bs) h e = absurd (omega arith)
 
 pub text_start : (old new text rest : List ℕ) → TextWritten old new text rest → StartsWith new old
-text_start old new text rest h = writes_start old new (text_text rest) (text_text text) h.writes
+text_start old new text rest h = writes_start old new (escaped_text rest) (escaped_text text) h.writes
 
 -- what was there before an append is kept with what was there after it
 pub starts_back : (old mid new part : List ℕ) → mid ≡ old ++ part → StartsWith new mid → StartsWith new old

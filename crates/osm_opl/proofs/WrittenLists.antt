@@ -11,7 +11,7 @@ use Rattle.osm_model.specs.declared.lists.Member.{Member}
 use Rattle.osm_model.specs.declared.lists.Tag.{Tag}
 use Rattle.osm_opl.specs.Lists.{Each, none as no_items, item, SpellsList, empty, items, SpellsTag, SpellsRef, SpellsMember}
 use Rattle.osm_reading.specs.Pieces.{joined}
-use Rattle.osm_opl.specs.Written.{items_text, member_text, more_items, ref_text, tag_text, text_text}
+use Rattle.osm_opl.specs.Written.{items_text, member_text, more_items, ref_text, tag_text, escaped_text}
 use Rattle.osm_opl.proofs.ListLaws.{IsMember, members_join}
 use Rattle.osm_opl.proofs.WrittenNumbers.{id_spells}
 use Rattle.osm_opl.proofs.WrittenTexts.{text_is_spelled}
@@ -31,13 +31,13 @@ list_spells {X} text Spells Limits f (x ∷ xs) h =
     subst P (joined_items text (text x) xs) (items (text x) (map text xs) (x ∷ xs) (each_spells text Spells Limits f (x ∷ xs) h))
 
 tag_spells : (t : Tag) → IsTag t → SpellsTag (tag_text t) t
-tag_spells t h = record { before = text_text t.key; after = text_text t.value; parts = refl; key = text_is_spelled t.key h.key; value = text_is_spelled t.value h.value }
+tag_spells t h = record { before = escaped_text t.key; after = escaped_text t.value; parts = refl; key = text_is_spelled t.key h.key; value = text_is_spelled t.value h.value }
 
 ref_spells : (id : ℤ) → IsId id → SpellsRef (ref_text id) id
 ref_spells id h = record { digits = signed_decimal id; parts = refl; spells = id_spells id h }
 
 member_spells : (m : Member) → IsMember m → SpellsMember (member_text m) m
-member_spells m h = record { before = signed_decimal m.key.id; after = text_text m.role; parts = refl; id = id_spells m.key.id h.id; role = text_is_spelled m.role h.role }
+member_spells m h = record { before = signed_decimal m.key.id; after = escaped_text m.role; parts = refl; id = id_spells m.key.id h.id; role = text_is_spelled m.role h.role }
 
 pub tags_spell : (tags : List Tag) → AreTags tags → SpellsList SpellsTag (items_text tag_text tags) tags
 tags_spell tags h = list_spells tag_text SpellsTag IsTag tag_spells tags h.each

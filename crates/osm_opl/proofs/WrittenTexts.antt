@@ -14,7 +14,7 @@ use Rattle.std.proofs.lemmas.List.{get_or-append-add, length-append}
 use Rattle.std.proofs.lemmas.Str.{digit_value-digit_char, encode_ascii, encodes-chars, scalars-chars}
 use Rattle.osm_model.specs.Text.{IsText}
 use Rattle.osm_opl.specs.Escape.{is_reserved, NamesChar, SpellsText, end, bare, escape}
-use Rattle.osm_opl.specs.Written.{char_text, chars_text, hex_count, hex_digits, is_written_bare, text_text}
+use Rattle.osm_opl.specs.Written.{char_text, chars_text, hex_count, hex_digits, is_written_bare, escaped_text}
 
 -- ---- the digits of an escape
 
@@ -129,8 +129,8 @@ chars_no_nul (c ∷ cs) h = (
     contains_after : (xs ys : List ℕ) → Contains ys 0 → Contains (xs ++ ys) 0
     contains_after xs ys (k, lt, is) = let l : length (xs ++ ys) ≡ length xs + length ys = length-append xs ys in (length xs + k, omega arith, get_or-append-add xs ys k 0 ∙ is)
 
-pub text_is_spelled : (text : List ℕ) → IsText text → SpellsText (text_text text) text
-unfolding text_text
+pub text_is_spelled : (text : List ℕ) → IsText text → SpellsText (escaped_text text) text
+unfolding escaped_text
 text_is_spelled text is =
     let back : encodes (chars text) ≡ text = encodes-chars text is.utf8 in
     let h = chars_spell (chars text) (scalars-chars text is.utf8) (chars_no_nul (chars text) (rw back is.no_nul)) in

@@ -12,6 +12,6 @@ pub data SpellsUnits : List ℕ → ℕ → Type 0 where
       → SpellsUnits (degrees ++ 46 ∷ decimals)
       (digits_value 10 degrees * 10 ^ 7 + digits_value 10 decimals * 10 ^ (7 - length decimals))
 
--- a coordinate: such digits, with `-` in front where it is negative (or 0)
+-- a coordinate: such digits, with a leading `-` if it is negative (or 0)
 abbrev pub SpellsCoordinate : List ℕ → ℤ → Type 0
 SpellsCoordinate = Signed SpellsUnits

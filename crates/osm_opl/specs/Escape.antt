@@ -1,15 +1,16 @@
 -- Texts of a line: user names, keys and values of tags, roles of members (Osmium manual, OPL File
--- Format; which characters may stand bare is our choice).
-use Rattle.std.specs.Prelude.{◌≡◌, ◌≢◌, ℕ, ◌==◌, ◌≤◌, Bool, false, ◌||◌, List, [], ◌∷◌, ◌++◌, length}
+-- Format; which characters may be bare is our choice).
+use Rattle.std.specs.Prelude.{◌≡◌, ◌≢◌, ℕ, ◌==◌, ◌≤◌, Bool, false, ◌||◌}
+use Rattle.std.specs.Prelude.{List, [], ◌∷◌, ◌++◌, length}
 use Rattle.std.specs.Char.{IsScalar, encode_utf8}
 use Rattle.std.specs.Str.Parse.{IsNumeral, digits_value}
 
--- U+0000, tab, line feed, carriage return, space, `%`, `,`, `=` and `@` can't stand bare
+-- U+0000, tab, line feed, carriage return, space, `%`, `,`, `=` and `@` can't be bare
 abbrev pub is_reserved : ℕ → Bool
 is_reserved c =
     c == 0 || c == 9 || c == 10 || c == 13 || c == 32 || c == 37 || c == 44 || c == 61 || c == 64
 
--- a character that may stand for itself
+-- a character that may be bare
 pub record IsBare (c : ℕ) : Type 0 where
   pub scalar : IsScalar c
   pub free : is_reserved c ≡ false
@@ -27,5 +28,6 @@ pub data SpellsText : List ℕ → List ℕ → Type 0 where
   end : SpellsText [] []
   bare : (c : ℕ) (bytes text : List ℕ) → IsBare c → SpellsText bytes text
       → SpellsText (encode_utf8 c ++ bytes) (encode_utf8 c ++ text)
-  escape : (digits : List ℕ) (c : ℕ) (bytes text : List ℕ) → NamesChar digits c → SpellsText bytes text
+  escape : (digits : List ℕ) (c : ℕ) (bytes text : List ℕ) → NamesChar digits c
+      → SpellsText bytes text
       → SpellsText (37 ∷ digits ++ 37 ∷ bytes) (encode_utf8 c ++ text)

@@ -17,7 +17,7 @@ use Rattle.osm_opl.specs.Lists.{SpellsList, SpellsTag, SpellsRef, SpellsMember, 
 use Rattle.osm_opl.specs.Number.{SpellsNumber, SpellsId}
 use Rattle.osm_reading.specs.Pieces.{joined}
 
--- `V` where the object stands, and `D` where it is deleted
+-- `V` if the object is visible, and `D` if it is deleted
 abbrev pub status_text : What → List ℕ
 status_text whats.Deleted = codes "D"
 status_text what = codes "V"

@@ -8,7 +8,7 @@ use Rattle.osm_opl.specs.Escape.{SpellsText}
 use Rattle.osm_opl.specs.Number.{SpellsId}
 use Rattle.osm_reading.specs.Pieces.{joined}
 
--- each of the pieces spells the item at its place
+-- each of the pieces spells the item of the same index
 pub data Each {X : Type 0} (Spells : List ℕ → X → Type 0) : List (List ℕ) → List X → Type 0 where
   none : Each Spells [] []
   item : (p : List ℕ) (ps : List (List ℕ)) (x : X) (xs : List X) → Spells p x → Each Spells ps xs

@@ -1,4 +1,4 @@
--- Whole numbers of a line (our choice: 1 to 20 digits, zeros in front accepted).
+-- Whole numbers of a line (our choice: 1 to 20 digits, leading zeros accepted).
 use Rattle.std.specs.Prelude.{◌≡◌, ℕ, ◌≤◌, List, ◌∷◌, length, ℤ, pos, neg_ℤ}
 use Rattle.std.specs.Str.Parse.{IsNumeral, digits_value}
 
@@ -13,6 +13,6 @@ pub data Signed (Spells : List ℕ → ℕ → Type 0) : List ℕ → ℤ → Ty
   plain : (bytes : List ℕ) (n : ℕ) → Spells bytes n → Signed Spells bytes (pos n)
   minus : (bytes : List ℕ) (n : ℕ) → Spells bytes n → Signed Spells (45 ∷ bytes) (neg_ℤ (pos n))
 
--- an id: a whole number, with `-` in front where it is negative (or 0)
+-- an id: a whole number, with a leading `-` if it is negative (or 0)
 abbrev pub SpellsId : List ℕ → ℤ → Type 0
 SpellsId = Signed SpellsNumber

@@ -1,5 +1,7 @@
 -- What is written: of the many spellings of a change, one.
-use Rattle.std.specs.Prelude.{ℕ, zero, suc, ◌+◌, ◌/◌, ◌%◌, ◌^◌, ◌==◌, ◌&&◌, nat_lt, nat_le, not, Bool, List, [], ◌∷◌, ◌++◌, ℤ, codes, decimal, unsigned_abs, if◌then◌else◌}
+use Rattle.std.specs.Prelude.{ℕ, zero, suc, ◌+◌, ◌/◌, ◌%◌, ◌^◌, ◌==◌, ◌&&◌, nat_lt, nat_le, not}
+use Rattle.std.specs.Prelude.{Bool, List, [], ◌∷◌, ◌++◌, ℤ, codes, decimal, unsigned_abs}
+use Rattle.std.specs.Prelude.{if◌then◌else◌}
 use Rattle.std.specs.Char.{digit_char}
 use Rattle.std.specs.Fmt.{signed_decimal, sign_text}
 use Rattle.std.specs.Int.{is_negative}
@@ -23,13 +25,13 @@ unfoldable pub hex_digits : ℕ → ℕ → List ℕ
 hex_digits zero c = []
 hex_digits (suc k) c = digit_char (c / 16 ^ k % 16) ∷ hex_digits k c
 
--- how many digits the escape of a character has: at least two, else no zeros in front
+-- how many digits the escape of a character has: at least two, without further leading zeros
 abbrev pub hex_count : ℕ → ℕ
 hex_count c =
     if nat_lt c 0x100 then 2 else (if nat_lt c 0x1000 then 3 else (if nat_lt c 0x10000 then 4
     else (if nat_lt c 0x10_0000 then 5 else 6)))
 
--- 21 to 7e (hexadecimal) are written bare, save those that can't stand bare
+-- 21 to 7e (hexadecimal) are written bare, except those that can't be bare
 abbrev pub is_written_bare : ℕ → Bool
 is_written_bare c = nat_le 0x21 c && nat_le c 0x7e && not (is_reserved c)
 
@@ -44,15 +46,15 @@ chars_text [] = []
 chars_text (c ∷ cs) = char_text c ++ chars_text cs
 
 -- a text as it is written
-unfoldable pub text_text : List ℕ → List ℕ
-text_text text = chars_text (chars text)
+unfoldable pub escaped_text : List ℕ → List ℕ
+escaped_text text = chars_text (chars text)
 
 -- the first digits of a fraction n / 10^k, up to the last that isn't 0
 unfoldable pub decimals : ℕ → ℕ → List ℕ
 decimals zero n = []
 decimals (suc k) n = if n == 0 then [] else (48 + n / 10 ^ k) ∷ decimals k (n % 10 ^ k)
 
--- a point and decimals, where these aren't all 0
+-- a point and decimals, if these aren't all 0
 abbrev pub fraction_text : ℕ → List ℕ
 fraction_text n = if n == 0 then [] else 46 ∷ decimals 7 n
 
@@ -74,7 +76,7 @@ items_text text (x ∷ xs) = text x ++ more_items text xs
 
 -- `KEY=VALUE`
 abbrev pub tag_text : Tag → List ℕ
-tag_text t = text_text t.key ++ 61 ∷ text_text t.value
+tag_text t = escaped_text t.key ++ 61 ∷ escaped_text t.value
 
 -- `nID`
 abbrev pub ref_text : ℤ → List ℕ
@@ -86,7 +88,7 @@ key_text key = letter_of key.kind ∷ signed_decimal key.id
 
 -- `wID@ROLE`
 abbrev pub member_text : Member → List ℕ
-member_text m = key_text m.key ++ 64 ∷ text_text m.role
+member_text m = key_text m.key ++ 64 ∷ escaped_text m.role
 
 -- a space, a field's letter and its number
 abbrev pub number_field : List ℕ → ℕ → List ℕ
@@ -125,13 +127,14 @@ visible_text is_visible = if is_visible then codes "V" else codes "D"
 -- ` vVERSION dV cCHANGESET`
 abbrev pub version_fields : List ℕ → MetaValue → List ℕ
 version_fields status m =
-    number_field (codes " v") m.version ++ (codes " d" ++ status) ++ number_field (codes " c") m.changeset
+    number_field (codes " v") m.version ++ (codes " d" ++ status)
+    ++ number_field (codes " c") m.changeset
 
 -- ` tTIME iUID uUSER`
 abbrev pub user_fields : MetaValue → List ℕ
 user_fields m =
     (codes " t" ++ time_text m.time) ++ number_field (codes " i") m.uid
-    ++ (codes " u" ++ text_text m.user)
+    ++ (codes " u" ++ escaped_text m.user)
 
 -- ` vVERSION dV cCHANGESET tTIME iUID uUSER`
 abbrev pub meta_text : List ℕ → MetaValue → List ℕ

@@ -1,24 +1,26 @@
 //! Longitudes and latitudes, in units of 10^-7 degree.
 
-ghost use Rattle.std.specs.Prelude.{◌≡◌, ◌-◌, ◌^◌, ◌<◌, ◌≤◌, length, IfOk, ◌++◌, ◌≤ℤ◌, pos, unsigned_abs, OnOk, OnErr, option_map};
+ghost use Rattle.std.specs.Prelude.{◌≡◌, ◌-◌, ◌^◌, ◌<◌, ◌≤◌, ◌++◌, ◌≤ℤ◌, length, pos};
+ghost use Rattle.std.specs.Prelude.{unsigned_abs, option_map, IfOk, OnOk, OnErr};
 ghost use Rattle.std.specs.Io.{StartsWith};
-ghost use Rattle.osm_reading.specs.Steps.Answers.{Finds};
-ghost use Rattle.osm_opl.specs.Steps.Reading.{coordinate_at, digits_at, place_at, units_at};
+ghost use Rattle.osm_opl.specs.Steps.Reading.{coordinate_at, digits_at};
+ghost use Rattle.osm_opl.specs.Steps.Reading.{maybe_coordinate_at, units_at};
 ghost use Rattle.osm_opl.specs.Written.{coordinate_text, decimals, fraction_text};
+ghost use Rattle.osm_reading.specs.Steps.Answers.{Finds};
 
 use crate::numbers::read_digits;
-use osm_reading::pieces::cut;
 use itoa::Buffer;
 use osm_model::form::Why;
 use osm_model::memory::WantOfMemory;
+use osm_reading::pieces::cut;
 
 const UNITS: u32 = 10_000_000;
 
 /// A coordinate in degrees, as `-0.1`, or nothing.
-#[tactic(auto, unfolding(crate::specs::Steps::Reading::place_at))]
-pub(crate) fn read_place(bytes: &[u8], most: i32) -> Result<Option<i32>, Why>
+#[tactic(auto, unfolding(crate::specs::Steps::Reading::maybe_coordinate_at))]
+pub(crate) fn read_maybe_coordinate(bytes: &[u8], most: i32) -> Result<Option<i32>, Why>
     requires { pos 0 ≤ℤ most }
-    ensures { Finds (λ z. z) result (place_at (unsigned_abs most) bytes.now) }
+    ensures { Finds (λ z. z) result (maybe_coordinate_at (unsigned_abs most) bytes.now) }
 {
     if bytes.is_empty() {
         return Ok(None);
@@ -93,7 +95,7 @@ pub(crate) fn write_coordinate(units: i32, out: &mut Vec<u8>) -> Result<(), Want
     Ok(())
 }
 
-// A point and the seven digits of `part`, without zeros at the end; nothing where all are 0.
+// A point and the seven digits of `part`, without zeros at the end; nothing if all are 0.
 fn write_fraction(part: u32, out: &mut Vec<u8>) -> Result<(), WantOfMemory>
     requires { part < 10 ^ 7 }
     ensures ok { OnOk result (out.new.items ≡ out.old.items ++ fraction_text part) }

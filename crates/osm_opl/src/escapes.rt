@@ -1,22 +1,25 @@
-//! Texts: user names, keys and values of tags, and roles. A character stands bare or as an escape
+//! Texts: user names, keys and values of tags, and roles. A character is bare or an escape
 //! `%DIGITS%` with the hexadecimal digits of its code.
 
-ghost use Rattle.std.specs.Prelude.{◌≡◌, ◌-◌, ◌^◌, min, option_map, string_bytes, ◌<◌, ◌≤◌, ◌++◌, if◌then◌else◌, Some, None, OnOk, OnErr};
-ghost use Rattle.std.specs.Char.{digit_char};
+ghost use Rattle.std.specs.Prelude.{◌≡◌, ◌-◌, ◌^◌, ◌<◌, ◌≤◌, ◌++◌, length, min, option_map};
+ghost use Rattle.std.specs.Prelude.{string_bytes, if◌then◌else◌, Some, None, IfErr, OnOk, OnErr};
+ghost use Rattle.std.specs.Char.{digit_char, encode_utf8};
 ghost use Rattle.std.specs.Io.{StartsWith};
 ghost use Rattle.std.specs.List.{list_all};
-ghost use Rattle.osm_reading.specs.Steps.Answers.{Finds, Gives};
 ghost use Rattle.osm_opl.specs.Escape.{is_reserved};
+ghost use Rattle.osm_opl.specs.Steps.Reading.{PassesLimit, digits_at, escape_at, is_bare_run};
+ghost use Rattle.osm_opl.specs.Steps.Reading.{is_free, run_at, runs_at, text_at};
+ghost use Rattle.osm_opl.specs.Written.{char_text, escaped_text, hex_count, hex_digits};
+ghost use Rattle.osm_opl.specs.Written.{is_written_bare};
 ghost use Rattle.osm_reading.specs.Pieces.{pieces};
-ghost use Rattle.osm_opl.specs.Steps.Reading.{digits_at, run_at, runs_at, escape_at, is_bare_run, is_free, text_at};
-ghost use Rattle.osm_opl.specs.Written.{char_text, hex_count, hex_digits, is_written_bare, text_text};
+ghost use Rattle.osm_reading.specs.Steps.Answers.{Finds, Gives};
 
-use osm_reading::refusal::Refusal;
-use osm_reading::pieces::cut;
 use osm_model::form::Why;
 use osm_model::limits::MAX_TEXT;
 use osm_model::memory::WantOfMemory;
 use osm_model::text::Text;
+use osm_reading::pieces::cut;
+use osm_reading::refusal::Refusal;
 use std::alloc::Global;
 
 /// A text of at most 1,020 bytes, its escapes resolved.
@@ -31,15 +34,15 @@ pub(crate) fn read_text(alloc: Global, bytes: &[u8]) -> Result<Text, Refusal>
     }
 }
 
-// Runs of bare characters with escapes between them.
+// Runs of bare characters with escapes between them. The text never grows past the limit.
 fn unescape(alloc: Global, bytes: &[u8]) -> Result<String, Refusal>
-    ensures { Gives string_bytes result (runs_at (pieces 37 bytes.now)) }
+    ensures { Gives string_bytes result (text_at bytes.now) }
 {
     let mut text = String::with_capacity(alloc, bytes.len().min(MAX_TEXT))?;
     let mut rest = bytes;
     loop {
         let (run, after) = cut(rest, b'%');
-        text.push_str(read_run(run)?)?;
+        append_run(read_run(run)?, &mut text)?;
         let Some(escape) = after else {
             return Ok(text);
         };
@@ -47,18 +50,48 @@ fn unescape(alloc: Global, bytes: &[u8]) -> Result<String, Refusal>
         let Some(after) = after else {
             return Err(Refusal::Fault(Why::BadEscape));
         };
-        text.push(read_escape(digits)?)?;
+        append_char(read_escape(digits)?, &mut text)?;
         rest = after;
     }
 }
 
+fn append_run(run: &str, text: &mut String) -> Result<(), Refusal>
+    ensures ok { OnOk result (string_bytes text.new ≡ string_bytes text.old ++ run.now) }
+    ensures short { OnOk result (length (string_bytes text.new) ≤ 1020) }
+    ensures refused { IfErr result (PassesLimit (string_bytes text.old ++ run.now)) }
+{
+    if text.len().saturating_add(run.len()) > MAX_TEXT {
+        return Err(Refusal::Fault(Why::BadText));
+    }
+    text.push_str(run)?;
+    Ok(())
+}
+
+fn append_char(character: char, text: &mut String) -> Result<(), Refusal>
+    ensures ok { OnOk result (string_bytes text.new
+        ≡ string_bytes text.old ++ encode_utf8 character) }
+    ensures short { OnOk result (length (string_bytes text.new) ≤ 1020) }
+    ensures refused { IfErr result
+        (PassesLimit (string_bytes text.old ++ encode_utf8 character)) }
+{
+    if text.len().saturating_add(character.len_utf8()) > MAX_TEXT {
+        return Err(Refusal::Fault(Why::BadText));
+    }
+    text.push(character)?;
+    Ok(())
+}
+
 // Bare characters.
-#[tactic(auto, using(crate::proofs::EscapeLemmas::is_text_run, crate::proofs::EscapeLemmas::isnt_text_run))]
+#[tactic(auto, using(crate::proofs::EscapeLemmas::text_runs))]
 fn read_run(run: &[u8]) -> Result<&str, Why>
     ensures { Finds (λ s. s.now) result (run_at run.now) }
 {
     if !is_free_run(run) {
-        return Err(Why::BadField);
+        return Err(if run.contains(&0) {
+            Why::BadText
+        } else {
+            Why::BadField
+        });
     }
     match std::str::from_utf8(run) {
         Ok(text) => Ok(text),
@@ -72,7 +105,7 @@ fn is_free_run(run: &[u8]) -> bool
     run.iter().all(|byte| !is_reserved(*byte))
 }
 
-// What can't stand bare.
+// Which bytes can't be bare.
 fn is_reserved(byte: u8) -> bool
     ensures { result ≡ is_reserved byte }
 {
@@ -113,7 +146,7 @@ fn read_hex(digits: &[u8]) -> Result<u32, Why>
 
 /// The text with all but printable ASCII escaped, and `%`, `,`, `=` and `@` too.
 pub(crate) fn write_text(text: &str, out: &mut Vec<u8>) -> Result<(), WantOfMemory>
-    ensures ok { OnOk result (out.new.items ≡ out.old.items ++ text_text text.now) }
+    ensures ok { OnOk result (out.new.items ≡ out.old.items ++ escaped_text text.now) }
     ensures err { OnErr result (StartsWith out.new.items out.old.items) }
 {
     for character in text.chars() {

@@ -28,7 +28,7 @@ pub(crate) fn next_field<'a>(
 }
 
 /// The content of the last field, which has that letter.
-#[tactic(auto, using(crate::proofs::FieldLaws::not_alone), unfolding(crate::specs::Steps::Reading::last_field_at))]
+#[tactic(auto, unfolding(crate::specs::Steps::Reading::last_field_at))]
 pub(crate) fn last_field<'a>(rest: Option<&'a [u8]>, letter: u8) -> Result<&'a [u8], Why>
     ensures { Finds (λ r. r.now) result (last_field_at letter (pieces_after 32 rest.entry)) }
 {

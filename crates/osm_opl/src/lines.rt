@@ -3,7 +3,7 @@
 
 ghost use Rattle.std.specs.Prelude.{◌≡◌, ◌++◌, IfOk, IfErr, OnOk, OnErr, MatchResult};
 ghost use Rattle.std.specs.Io.{StartsWith};
-ghost use Rattle.osm_model.specs.Change.{ChangeValue, IsWhat};
+ghost use Rattle.osm_model.specs.Change.{ChangeValue};
 ghost use Rattle.osm_model.specs.Limits.{IsId};
 ghost use Rattle.osm_opl.specs.Line.{LineRefused, SpellsLine};
 ghost use Rattle.osm_opl.specs.Steps.Reading.{key_at, line_at};
@@ -20,14 +20,13 @@ use osm_model::change::{Change, What};
 use osm_model::form::Why;
 use osm_model::kind::Key;
 use osm_model::memory::WantOfMemory;
-use osm_model::meta::Meta;
 use osm_reading::pieces::cut;
 use std::alloc::Global;
 
 /// Why a line isn't read.
 pub use osm_reading::refusal::Refusal as LineError;
 
-/// Appends the line of a change, without a line end. After a refusal the vector has its old contents.
+/// Appends the line of a change, without a line end. A refusal leaves the vector as it was.
 pub fn write_line(change: &Change, out: &mut Vec<u8>) -> Result<(), WantOfMemory>
     ensures ok { OnOk result (out.new.items ≡ out.old.items ++ line_text change.now) }
     ensures err { OnErr result (out.new.items ≡ out.old.items) }
@@ -68,22 +67,7 @@ fn read_change(alloc: Global, line: &[u8]) -> Result<Change, LineError>
     let (key, rest) = read_key(line)?;
     let (head, rest) = read_head(alloc, rest)?;
     let what = read_what(alloc, key.kind, head.is_visible, rest)?;
-    Ok(change_of(key, head.meta, what))
-}
-
-// The change that the fields make, whose limits were tested as each was read.
-fn change_of(key: Key, meta: Meta, what: What) -> Change
-    requires { IsId key.id × IsWhat key.kind what }
-    ensures { result ≡ record { key = key; meta = meta; what = what } }
-{
-    match what {
-        What::Node { lon, lat, tags } => Change::node(key.id, meta, lon, lat, tags).unwrap(),
-        What::Way { refs, tags } => Change::way(key.id, meta, refs, tags).unwrap(),
-        What::Relation { members, tags } => {
-            Change::relation(key.id, meta, members, tags).unwrap()
-        }
-        What::Deleted => Change::deleted(key, meta).unwrap(),
-    }
+    Ok(Change::within_limits(key, head.meta, what))
 }
 
 // The kind and the id, and the fields after them.

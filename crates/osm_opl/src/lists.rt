@@ -2,21 +2,22 @@
 
 ghost use Rattle.std.specs.Prelude.{◌≡◌, ◌++◌, ◌∷◌, [], if◌then◌else◌, OnOk, OnErr, Some};
 ghost use Rattle.std.specs.Io.{StartsWith};
-ghost use Rattle.osm_reading.specs.Steps.Answers.{Finds, Gives};
 ghost use Rattle.osm_opl.specs.Lists.{letter_of};
-ghost use Rattle.osm_opl.specs.Steps.Reading.{kind_at, list_at, list_pieces, member_at, ref_at, tag_at};
-ghost use Rattle.osm_reading.specs.Pieces.{pieces_after};
+ghost use Rattle.osm_opl.specs.Steps.Reading.{kind_at, list_at, list_pieces, member_at};
+ghost use Rattle.osm_opl.specs.Steps.Reading.{ref_at, tag_at};
 ghost use Rattle.osm_opl.specs.Written.{items_text, key_text, member_text, ref_text, tag_text};
+ghost use Rattle.osm_reading.specs.Pieces.{pieces_after};
+ghost use Rattle.osm_reading.specs.Steps.Answers.{Finds, Gives};
 
 use crate::escapes::{read_text, write_text};
-use osm_reading::refusal::Refusal;
 use crate::numbers::{read_id, write_id};
-use osm_reading::pieces::cut;
 use osm_model::form::Why;
 use osm_model::kind::{Key, Kind};
 use osm_model::limits::{MAX_REFS, MAX_TAGS};
 use osm_model::lists::{Member, Members, Refs, Tag, Tags};
 use osm_model::memory::WantOfMemory;
+use osm_reading::pieces::cut;
+use osm_reading::refusal::Refusal;
 use std::alloc::Global;
 
 // What a list begins with: nothing for the empty list.
@@ -239,7 +240,7 @@ pub(crate) fn write_key(key: Key, out: &mut Vec<u8>) -> Result<(), WantOfMemory>
     Ok(())
 }
 
-// A comma in front of each item but the first.
+// A comma before each item except the first.
 fn write_comma(is_first: bool, out: &mut Vec<u8>) -> Result<(), WantOfMemory>
     ensures ok { OnOk result (out.new.items ≡ out.old.items ++ (if is_first then [] else 44 ∷ [])) }
     ensures err { OnErr result (StartsWith out.new.items out.old.items) }

@@ -1,25 +1,28 @@
 //! The fields that all objects have after their id: version, status, changeset, time, user.
 
 ghost use Rattle.std.specs.Prelude.{◌≡◌, ◌<◌, ◌++◌, IfOk, codes, OnOk, OnErr};
-ghost use Rattle.osm_model.specs.CivilTime.{time_text};
 ghost use Rattle.std.specs.Io.{StartsWith};
-ghost use Rattle.osm_reading.specs.Steps.Answers.{Finds, Gives};
-ghost use Rattle.osm_opl.specs.Steps.Reading.{head_at, positive_field_at, status_field_at, time_field_at, user_field_at, status_at, time_at};
+ghost use Rattle.osm_model.specs.CivilTime.{time_text};
+ghost use Rattle.osm_opl.specs.Steps.Reading.{head_at, positive_field_at, status_at};
+ghost use Rattle.osm_opl.specs.Steps.Reading.{status_field_at, time_at, time_field_at};
+ghost use Rattle.osm_opl.specs.Steps.Reading.{user_field_at};
+ghost use Rattle.osm_opl.specs.Written.{escaped_text, meta_text, number_field, user_fields};
+ghost use Rattle.osm_opl.specs.Written.{version_fields, visible_text};
 ghost use Rattle.osm_reading.specs.Pieces.{pieces_after};
-ghost use Rattle.osm_opl.specs.Written.{meta_text, number_field, text_text, user_fields, version_fields, visible_text};
+ghost use Rattle.osm_reading.specs.Steps.Answers.{Finds, Gives};
 
 use crate::escapes::{read_text, write_text};
-use osm_reading::refusal::Refusal;
-use crate::numbers::{read_positive, write_number};
 use crate::fields::next_field;
+use crate::numbers::{read_positive, write_number};
 use osm_model::form::Why;
 use osm_model::memory::WantOfMemory;
 use osm_model::meta::Meta;
 use osm_model::text::Text;
 use osm_model::time::{time_read, time_write};
+use osm_reading::refusal::Refusal;
 use std::alloc::Global;
 
-/// Whether the object stands, and who made the change.
+/// Whether the object is visible, and who made the change.
 #[derive(Drop)]
 pub(crate) struct Head {
     pub(crate) is_visible: bool,
@@ -120,7 +123,8 @@ pub(crate) fn write_head(
     meta: &Meta,
     out: &mut Vec<u8>,
 ) -> Result<(), WantOfMemory>
-    ensures ok { OnOk result (out.new.items ≡ out.old.items ++ meta_text (visible_text is_visible) meta.now) }
+    ensures ok { OnOk result
+        (out.new.items ≡ out.old.items ++ meta_text (visible_text is_visible) meta.now) }
     ensures err { OnErr result (StartsWith out.new.items out.old.items) }
 {
     write_version(is_visible, meta, out)?;
@@ -131,7 +135,8 @@ pub(crate) fn write_head(
 // ` vVERSION dV cCHANGESET`
 #[tactic(auto, using(crate::proofs::WrittenLemmas::starts_back))]
 fn write_version(is_visible: bool, meta: &Meta, out: &mut Vec<u8>) -> Result<(), WantOfMemory>
-    ensures ok { OnOk result (out.new.items ≡ out.old.items ++ version_fields (visible_text is_visible) meta.now) }
+    ensures ok { OnOk result
+        (out.new.items ≡ out.old.items ++ version_fields (visible_text is_visible) meta.now) }
     ensures err { OnErr result (StartsWith out.new.items out.old.items) }
 {
     write_number_field(b" v", meta.version(), out)?;
@@ -166,7 +171,8 @@ fn write_number_field(mark: &[u8], number: u32, out: &mut Vec<u8>) -> Result<(),
 // ` dV` or ` dD`
 #[tactic(auto, using(crate::proofs::WrittenLemmas::starts_back))]
 fn write_status(is_visible: bool, out: &mut Vec<u8>) -> Result<(), WantOfMemory>
-    ensures ok { OnOk result (out.new.items ≡ out.old.items ++ (codes " d" ++ visible_text is_visible)) }
+    ensures ok { OnOk result
+        (out.new.items ≡ out.old.items ++ (codes " d" ++ visible_text is_visible)) }
     ensures err { OnErr result (StartsWith out.new.items out.old.items) }
 {
     out.extend_from_slice(if is_visible { b" dV" } else { b" dD" })?;
@@ -187,7 +193,8 @@ fn write_time(time: u32, out: &mut Vec<u8>) -> Result<(), WantOfMemory>
 // ` uUSER`
 #[tactic(auto, using(crate::proofs::WrittenLemmas::starts_back))]
 fn write_user_name(user: &str, out: &mut Vec<u8>) -> Result<(), WantOfMemory>
-    ensures ok { OnOk result (out.new.items ≡ out.old.items ++ (codes " u" ++ text_text user.now)) }
+    ensures ok { OnOk result
+        (out.new.items ≡ out.old.items ++ (codes " u" ++ escaped_text user.now)) }
     ensures err { OnErr result (StartsWith out.new.items out.old.items) }
 {
     out.extend_from_slice(b" u")?;

@@ -1,6 +1,7 @@
 //! Whole numbers: ids, versions, changesets and user ids.
 
-ghost use Rattle.std.specs.Prelude.{◌≡◌, ◌<◌, ◌≤◌, IfOk, ◌-◌, ◌^◌, ◌++◌, min, decimal, OnOk, OnErr, option_map};
+ghost use Rattle.std.specs.Prelude.{◌≡◌, ◌<◌, ◌≤◌, ◌-◌, ◌^◌, ◌++◌, min, decimal, option_map};
+ghost use Rattle.std.specs.Prelude.{IfOk, OnOk, OnErr};
 ghost use Rattle.std.specs.Fmt.{signed_decimal};
 ghost use Rattle.std.specs.Io.{StartsWith};
 ghost use Rattle.osm_model.specs.Limits.{IsId};
@@ -14,7 +15,7 @@ use osm_model::memory::WantOfMemory;
 
 const MOST_DIGITS: usize = 20;
 
-/// The number that 1 to `most` decimal digits write, or `u64::MAX` where it is greater.
+/// The number that 1 to `most` decimal digits write, or `u64::MAX` if it is greater.
 pub(crate) fn read_digits(bytes: &[u8], most: usize) -> Result<u64, Why>
     ensures { Finds (λ n. n) result (option_map (min (2 ^ 64 - 1)) (digits_at 10 most bytes.now)) }
 {
@@ -47,7 +48,7 @@ fn read_number(bytes: &[u8], most: u64) -> Result<u64, Why>
 }
 
 /// A version, a changeset or a user id: 1 to 4,294,967,295.
-#[tactic(auto, using(crate::proofs::NumberLemmas::not_positive), unfolding(crate::specs::Steps::Reading::positive_at))]
+#[tactic(auto, unfolding(crate::specs::Steps::Reading::positive_at))]
 pub(crate) fn read_positive(bytes: &[u8]) -> Result<u32, Why>
     ensures value { Finds (λ n. n) result (positive_at bytes.now) }
     ensures limit { IfOk result (λ n. 0 < n) }
@@ -62,7 +63,7 @@ pub(crate) fn read_positive(bytes: &[u8]) -> Result<u32, Why>
     Ok(number as u32)
 }
 
-/// An id or a reference, with `-` in front where it is negative.
+/// An id or a reference, with a leading `-` if it is negative.
 #[tactic(auto, unfolding(crate::specs::Steps::Reading::id_at))]
 pub(crate) fn read_id(bytes: &[u8]) -> Result<i64, Why>
     ensures value { Finds (λ z. z) result (id_at bytes.now) }

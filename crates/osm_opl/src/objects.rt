@@ -3,21 +3,22 @@
 ghost use Rattle.std.specs.Prelude.{◌≡◌, ◌++◌, IfOk, OnOk, OnErr};
 ghost use Rattle.std.specs.Io.{StartsWith};
 ghost use Rattle.osm_model.specs.Change.{IsWhat};
-ghost use Rattle.osm_reading.specs.Steps.Answers.{Finds, Gives};
 ghost use Rattle.osm_opl.specs.Steps.Reading.{node_at, node_of, relation_at, way_at, what_at};
+ghost use Rattle.osm_opl.specs.Written.{coordinate_field, members_field, refs_field};
+ghost use Rattle.osm_opl.specs.Written.{tags_field, what_text};
 ghost use Rattle.osm_reading.specs.Pieces.{pieces_after};
-ghost use Rattle.osm_opl.specs.Written.{coordinate_field, members_field, refs_field, tags_field, what_text};
+ghost use Rattle.osm_reading.specs.Steps.Answers.{Finds, Gives};
 
-use crate::coordinates::{read_place, write_coordinate};
-use osm_reading::refusal::Refusal;
-use crate::lists::{read_members, read_refs, read_tags, write_members, write_refs, write_tags};
+use crate::coordinates::{read_maybe_coordinate, write_coordinate};
 use crate::fields::{last_field, next_field};
+use crate::lists::{read_members, read_refs, read_tags, write_members, write_refs, write_tags};
 use osm_model::change::What;
 use osm_model::form::Why;
 use osm_model::kind::Kind;
 use osm_model::limits::{MAX_LAT, MAX_LON};
 use osm_model::lists::{Member, Tag, Tags};
 use osm_model::memory::WantOfMemory;
+use osm_reading::refusal::Refusal;
 use std::alloc::Global;
 
 /// What an object of that kind is. The fields of a deletion are read and dropped.
@@ -45,9 +46,9 @@ fn read_node(alloc: Global, is_visible: bool, rest: Option<&[u8]>) -> Result<Wha
     let (field, rest) = next_field(rest, b'T')?;
     let tags = read_tags(alloc, field)?;
     let (field, rest) = next_field(rest, b'x')?;
-    let lon = read_place(field, MAX_LON)?;
+    let lon = read_maybe_coordinate(field, MAX_LON)?;
     let field = last_field(rest, b'y')?;
-    let lat = read_place(field, MAX_LAT)?;
+    let lat = read_maybe_coordinate(field, MAX_LAT)?;
     Ok(node_of(is_visible, lon, lat, tags)?)
 }
 

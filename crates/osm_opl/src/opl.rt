@@ -1,6 +1,7 @@
 //! OPL files: a line for each change of a batch, in order (Osmium manual, OPL File Format).
 
-ghost use Rattle.std.specs.Prelude.{◌≡◌, ℕ, List, ◌∷◌, [], ◌++◌, ◌≤◌, ◌<◌, length, IfOk, OnOk, IfErr};
+ghost use Rattle.std.specs.Prelude.{◌≡◌, ℕ, List, ◌∷◌, [], ◌++◌, ◌≤◌, ◌<◌, length};
+ghost use Rattle.std.specs.Prelude.{IfOk, OnOk, IfErr};
 ghost use Rattle.osm_model.specs.Batch.{IsBatch};
 ghost use Rattle.osm_model.specs.Change.{ChangeValue};
 ghost use Rattle.osm_model.specs.ChangeForm.{ReadRefused, SpellsNothing, WriteRefused};
@@ -123,13 +124,19 @@ fn add_line(alloc: Global, line: &[u8], place: u64, batch: &mut Batch) -> Result
     }
 }
 
-/// The laws of the form: a text spells at most one batch, a line at most one change; a fault has one
-/// place, and has one exactly where no batch is spelled; what is written spells what was written.
+/// The laws of the form: bytes spell at most one batch, a line at most one change; a fault has one
+/// place, and has one exactly if no batch is spelled; what is written spells what was written.
 pub fn laws_of_opl()
-    ensures one_batch { (bytes : List ℕ) (a b : List ChangeValue) → SpellsOpl bytes a → SpellsOpl bytes b → a ≡ b }
-    ensures one_change { (line : List ℕ) (a b : ChangeValue) → SpellsLine line a → SpellsLine line b → a ≡ b }
-    ensures apart { (bytes : List ℕ) (batch : List ChangeValue) (place : ℕ) → SpellsOpl bytes batch → FaultLine bytes place → ⊥ }
-    ensures one_place { (bytes : List ℕ) (a b : ℕ) → FaultLine bytes a → FaultLine bytes b → a ≡ b }
-    ensures has_place { (bytes : List ℕ) → SpellsNothing SpellsOpl bytes → (place : ℕ) × FaultLine bytes place }
-    ensures written { (batch : List ChangeValue) → IsBatch batch → SpellsOpl (opl_text batch) batch }
+    ensures one_batch { (bytes : List ℕ) (a b : List ChangeValue)
+        → SpellsOpl bytes a → SpellsOpl bytes b → a ≡ b }
+    ensures one_change { (line : List ℕ) (a b : ChangeValue)
+        → SpellsLine line a → SpellsLine line b → a ≡ b }
+    ensures apart { (bytes : List ℕ) (batch : List ChangeValue) (place : ℕ)
+        → SpellsOpl bytes batch → FaultLine bytes place → ⊥ }
+    ensures one_place { (bytes : List ℕ) (a b : ℕ)
+        → FaultLine bytes a → FaultLine bytes b → a ≡ b }
+    ensures has_place { (bytes : List ℕ)
+        → SpellsNothing SpellsOpl bytes → (place : ℕ) × FaultLine bytes place }
+    ensures written { (batch : List ChangeValue)
+        → IsBatch batch → SpellsOpl (opl_text batch) batch }
 {}

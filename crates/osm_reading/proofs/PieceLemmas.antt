@@ -95,13 +95,13 @@ without_cr-push [] b = refl
 without_cr-push (x ∷ []) b = refl
 without_cr-push (x ∷ y ∷ ys) b = ap (λ (l : List ℕ). x ∷ l) (without_cr-push (y ∷ ys) b)
 
-pub trimmed : (line front : List ℕ) (last : ℕ) → line ≡ front ++ last ∷ [] → last ≡ 13 → without_cr line ≡ front
-trimmed line front last e is = rw (e, without_cr-push front last, is) (append-nil front)
+pub trimmed : (line prefix : List ℕ) (last : ℕ) → line ≡ prefix ++ last ∷ [] → last ≡ 13 → without_cr line ≡ prefix
+trimmed line prefix last e is = rw (e, without_cr-push prefix last, is) (append-nil prefix)
 
-pub untrimmed : (line front : List ℕ) (last : ℕ) → line ≡ front ++ last ∷ [] → last ≢ 13 → without_cr line ≡ line
-untrimmed line front last e other =
+pub untrimmed : (line prefix : List ℕ) (last : ℕ) → line ≡ prefix ++ last ∷ [] → last ≢ 13 → without_cr line ≡ line
+untrimmed line prefix last e other =
     let t : (last == 13) ≡ false = grind (arith, nat_tests) in
-    rw (e, without_cr-push front last, t) refl
+    rw (e, without_cr-push prefix last, t) refl
 
 pub trimmed_nothing : (line : List ℕ) → length line ≡ 0 → without_cr line ≡ line
 trimmed_nothing [] e = refl
@@ -123,25 +123,25 @@ pub lacks_append : (s : ℕ) (xs ys : List ℕ) → Lacks s xs → Lacks s ys �
 lacks_append s [] ys p q = q
 lacks_append s (x ∷ xs) ys p q = (p.0, lacks_append s xs ys p.1 q)
 
--- bytes in front of a text lengthen its first piece
-abbrev pub with_front : List ℕ → List (List ℕ) → List (List ℕ)
-with_front front [] = front ∷ []
-with_front front (p ∷ ps) = (front ++ p) ∷ ps
+-- bytes before a text lengthen its first piece
+abbrev pub with_prefix : List ℕ → List (List ℕ) → List (List ℕ)
+with_prefix prefix [] = prefix ∷ []
+with_prefix prefix (p ∷ ps) = (prefix ++ p) ∷ ps
 
-with_front-nothing : (s : ℕ) (bytes : List ℕ) → with_front [] (pieces s bytes) ≡ pieces s bytes
-with_front-nothing s bytes = let r = pieces_some s bytes in rw r.2 refl
+with_prefix-nothing : (s : ℕ) (bytes : List ℕ) → with_prefix [] (pieces s bytes) ≡ pieces s bytes
+with_prefix-nothing s bytes = let r = pieces_some s bytes in rw r.2 refl
 
-with_first-front : (x : ℕ) (xs : List ℕ) (ps : List (List ℕ)) → with_first x (with_front xs ps) ≡ with_front (x ∷ xs) ps
-with_first-front x xs [] = refl
-with_first-front x xs (p ∷ ps) = refl
+with_first-prefix : (x : ℕ) (xs : List ℕ) (ps : List (List ℕ)) → with_first x (with_prefix xs ps) ≡ with_prefix (x ∷ xs) ps
+with_first-prefix x xs [] = refl
+with_first-prefix x xs (p ∷ ps) = refl
 
-pub pieces-front : (s : ℕ) (xs ys : List ℕ) → Lacks s xs → pieces s (xs ++ ys) ≡ with_front xs (pieces s ys)
+pub pieces-prefix : (s : ℕ) (xs ys : List ℕ) → Lacks s xs → pieces s (xs ++ ys) ≡ with_prefix xs (pieces s ys)
 unfolding pieces
-pieces-front s [] ys h = sym (with_front-nothing s ys)
-pieces-front s (x ∷ xs) ys h =
+pieces-prefix s [] ys h = sym (with_prefix-nothing s ys)
+pieces-prefix s (x ∷ xs) ys h =
     let other : x ≢ s = h.0 in
     let t : (x == s) ≡ false = grind (arith, nat_tests) in
-    rw (t, pieces-front s xs ys h.1) (with_first-front x xs (pieces s ys))
+    rw (t, pieces-prefix s xs ys h.1) (with_first-prefix x xs (pieces s ys))
 
 -- bytes without the separator are one piece
 pub pieces-one : (s : ℕ) (xs : List ℕ) → Lacks s xs → pieces s xs ≡ xs ∷ []

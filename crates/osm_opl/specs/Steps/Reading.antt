@@ -1,6 +1,8 @@
 -- How a line is read: the value that bytes spell, if they spell one. Only clauses of private
 -- functions cite these definitions; the lemmas that tie them to the grammar are in proofs/.
-use Rattle.std.specs.Prelude.{ℕ, ◌+◌, ◌-◌, ◌*◌, ◌^◌, ◌==◌, ◌&&◌, nat_lt, nat_le, not, Bool, true, false, List, [], ◌∷◌, ◌++◌, length, Option, None, Some, ℤ, pos, neg_ℤ, if◌then◌else◌, unsigned_abs}
+use Rattle.std.specs.Prelude.{ℕ, ◌+◌, ◌-◌, ◌*◌, ◌^◌, ◌<◌, ◌==◌, ◌&&◌, nat_lt, nat_le, not}
+use Rattle.std.specs.Prelude.{Bool, true, false, List, [], ◌∷◌, ◌++◌, length, Option, None, Some}
+use Rattle.std.specs.Prelude.{ℤ, pos, neg_ℤ, if◌then◌else◌, unsigned_abs}
 use Rattle.std.specs.Char.{encode_utf8, digit_value}
 use Rattle.std.specs.List.{list_all}
 use Rattle.std.specs.Str.{is_utf8, bytes_eq}
@@ -21,6 +23,8 @@ use Rattle.osm_model.specs.CivilTime.{time_text}
 use Rattle.osm_opl.specs.Escape.{is_reserved}
 use Rattle.osm_reading.specs.Pieces.{cut_at, pieces}
 use Rattle.osm_reading.specs.Steps.Answers.{and_then}
+use Rattle.osm_reading.specs.declared.refusal.Refusal.{Refusal}
+use Rattle.osm_reading.specs.declared.refusal.Refusal.TheVariants.{WantOfMemory, Fault}
 
 -- each byte is a digit in the radix
 abbrev pub all_digits : ℕ → List ℕ → Bool
@@ -29,7 +33,8 @@ all_digits radix (c ∷ cs) = nat_lt (digit_value c) radix && all_digits radix c
 
 -- 1 digit to so many
 abbrev pub is_numeral : ℕ → ℕ → List ℕ → Bool
-is_numeral radix most bytes = all_digits radix bytes && nat_le 1 (length bytes) && nat_le (length bytes) most
+is_numeral radix most bytes =
+    all_digits radix bytes && nat_le 1 (length bytes) && nat_le (length bytes) most
 
 -- the number that such digits write
 unfoldable pub digits_at : ℕ → ℕ → List ℕ → Option ℕ
@@ -38,14 +43,15 @@ digits_at radix most bytes =
 
 -- a number of 1 to 20 digits, at most so great
 unfoldable pub number_at : ℕ → List ℕ → Option ℕ
-number_at most bytes = and_then (digits_at 10 20 bytes) (λ n. if nat_le n most then Some n else None)
+number_at most bytes =
+    and_then (digits_at 10 20 bytes) (λ n. if nat_le n most then Some n else None)
 
 -- 1 to 4,294,967,295
 unfoldable pub positive_at : List ℕ → Option ℕ
 positive_at bytes =
     and_then (number_at 4294967295 bytes) (λ n. if nat_le 1 n then Some n else None)
 
--- with or without `-` in front
+-- with or without a leading `-`
 abbrev pub signed_at : (List ℕ → Option ℕ) → List ℕ → Option ℤ
 signed_at read [] = None
 signed_at read (b ∷ bs) =
@@ -72,9 +78,9 @@ unfoldable pub coordinate_at : ℕ → List ℕ → Option ℤ
 coordinate_at most bytes = signed_at (units_at most) bytes
 
 -- a coordinate, or nothing
-unfoldable pub place_at : ℕ → List ℕ → Option (Option ℤ)
-place_at most [] = Some None
-place_at most (b ∷ bs) = and_then (coordinate_at most (b ∷ bs)) (λ z. Some (Some z))
+unfoldable pub maybe_coordinate_at : ℕ → List ℕ → Option (Option ℤ)
+maybe_coordinate_at most [] = Some None
+maybe_coordinate_at most (b ∷ bs) = and_then (coordinate_at most (b ∷ bs)) (λ z. Some (Some z))
 
 -- the seconds of the one time that has this text
 unfoldable pub time_at : List ℕ → Option ℕ
@@ -82,7 +88,7 @@ time_at bytes =
     let t = unsigned_abs (seconds_of (loose_moment bytes)) in
     if nat_le 1 t && nat_lt t (2 ^ 32) && bytes_eq bytes (time_text t) then Some t else None
 
--- bytes that stand for themselves
+-- bytes that may be bare
 abbrev pub is_free : ℕ → Bool
 is_free b = not (is_reserved b)
 
@@ -108,6 +114,11 @@ runs_at (run ∷ digits ∷ more) =
 unfoldable pub text_at : List ℕ → Option (List ℕ)
 text_at bytes =
     and_then (runs_at (pieces 37 bytes)) (λ t. if nat_le (length t) 1020 then Some t else None)
+
+-- a text is refused for a fault only if it has more than 1,020 bytes
+abbrev pub PassesLimit : List ℕ → Refusal → Type 0
+PassesLimit text WantOfMemory = Unit {0}
+PassesLimit text (Fault why) = 1020 < length text
 
 -- each of the pieces
 abbrev pub each_at : {X : Type 0} → (List ℕ → Option X) → List (List ℕ) → Option (List X)
@@ -138,7 +149,8 @@ ref_at (b ∷ bs) = if b == 110 then id_at bs else None
 -- the kind that a letter names
 abbrev pub kind_at : ℕ → Option Kind
 kind_at b =
-    if b == 110 then Some Node else (if b == 119 then Some Way else (if b == 114 then Some Relation else None))
+    if b == 110 then Some Node else (if b == 119 then Some Way
+    else (if b == 114 then Some Relation else None))
 
 abbrev pub member_after : List ℕ → Kind → Option Member
 member_after bs kind =
@@ -196,7 +208,7 @@ unfoldable pub user_field_at : List (List ℕ) → Option (List ℕ × List (Lis
 user_field_at fields =
     and_then (field_at 117 fields) (λ f. and_then (text_at f.0) (λ t. Some (t, f.1)))
 
--- whether the object stands, the metadata, and the fields after them
+-- whether the object is visible, the metadata, and the fields after them
 unfoldable pub head_at : List (List ℕ) → Option (Bool × MetaValue × List (List ℕ))
 head_at fields =
     and_then (positive_field_at 118 fields) (λ v.
@@ -205,7 +217,17 @@ head_at fields =
     and_then (time_field_at c.1) (λ t.
     and_then (positive_field_at 105 t.1) (λ i.
     and_then (user_field_at i.1) (λ u.
-    Some (d.0, record { version = v.0; time = t.0; changeset = c.0; uid = i.0; user = u.0 }, u.1)))))))
+    Some (
+      d.0,
+      record {
+        version = v.0;
+        time = t.0;
+        changeset = c.0;
+        uid = i.0;
+        user = u.0;
+      },
+      u.1,
+    )))))))
 
 abbrev pub node_of : Bool → Option ℤ → Option ℤ → List Tag → Option What
 node_of false lon lat tags = Some whats.Deleted
@@ -218,9 +240,9 @@ node_at is_visible fields =
     and_then (field_at 84 fields) (λ t.
     and_then (list_at tag_at 5000 t.0) (λ tags.
     and_then (field_at 120 t.1) (λ x.
-    and_then (place_at 1800000000 x.0) (λ lon.
+    and_then (maybe_coordinate_at 1800000000 x.0) (λ lon.
     and_then (last_field_at 121 x.1) (λ y.
-    and_then (place_at 900000000 y) (λ lat.
+    and_then (maybe_coordinate_at 900000000 y) (λ lat.
     node_of is_visible lon lat tags))))))
 
 unfoldable pub way_at : Bool → List (List ℕ) → Option What

@@ -26,11 +26,11 @@ pub record HasDigits (m : Moment) : Type 0 where
 abbrev pub digit_value : List ℕ → ℕ → ℕ
 digit_value bytes i = min (get_or bytes i 0 - 48) 9
 
--- two digits, whatever stands there
+-- two digits, or whatever is there
 abbrev pub pair_value : List ℕ → ℕ → ℕ
 pair_value bytes i = 10 * digit_value bytes i + digit_value bytes (i + 1)
 
--- the moment at the places of the digits, whatever stands there
+-- the moment that the digits give, or whatever is in their positions
 abbrev pub loose_moment : List ℕ → Moment
 loose_moment bytes = record {
   year = 100 * pair_value bytes 0 + pair_value bytes 2;
