@@ -3,13 +3,14 @@ use Rattle.std.proofs.Common.{◌≡◌, ℕ, ◌≤◌, List, [], ◌∷◌, �
 use Rattle.std.specs.Prelude.{Option, Some, None, option_map, ◌==◌}
 use Rattle.std.proofs.lemmas.List.{take_all, take-append-le, length-take, append-nil}
 use Rattle.std.proofs.lemmas.Bool.{cases_lt}
-use Rattle.osm_state.specs.Properties.{unescaped, StandsFor}
+use Rattle.osm_state.specs.Properties.{unescaped}
+use Rattle.osm_state.specs.Steps.Values.{IsPlainPrefix}
 
 -- what is read so far, and what the first bytes of it are
-pub record IsUnescaping (value rest front : List ℕ) : Type 0 where
+pub record IsUnescaping (value rest prefix : List ℕ) : Type 0 where
   pub done : List ℕ
   pub so_far : unescaped value ≡ option_map (λ plain. done ++ plain) (unescaped rest)
-  pub cut : front ≡ take 21 done
+  pub cut : prefix ≡ take 21 done
 
 same_option : (o : Option (List ℕ)) → o ≡ option_map (λ plain. [] ++ plain) o
 same_option None = refl
@@ -37,13 +38,13 @@ unfolding unescaped
 unescaped_byte b [] e = rw e refl
 unescaped_byte b (c ∷ bs) e = rw e refl
 
--- a backslash as last byte stands for nothing
+-- a backslash at the end stands for nothing
 pub unescaped_cut : (b : ℕ) (bs : List ℕ) → b ≡ 92 → length bs ≡ 0 → unescaped (b ∷ bs) ≡ None
 unfolding unescaped
 unescaped_cut b [] e h = rw e refl
 unescaped_cut b (c ∷ bs) e h = absurd (omega arith)
 
--- the first bytes of what is read so far are kept
+-- the first bytes read so far are kept
 kept : (done : List ℕ) (b : ℕ) → take 21 (take 21 done ++ b ∷ []) ≡ take 21 (done ++ b ∷ [])
 kept done b =
     elim (cases_lt (length done) 21) [
@@ -55,19 +56,25 @@ kept done b =
     ]
 
 -- one more byte or escape is read
-pub step : (value rest after front next : List ℕ) (first b : ℕ) → IsUnescaping value rest front → rest ≡ first ∷ after → next ≡ take 21 (front ++ b ∷ []) → (more : List ℕ) → unescaped (first ∷ after) ≡ option_map (λ plain. b ∷ plain) (unescaped more) → IsUnescaping value more next
-step value rest after front next first b h e n more u = record {
+pub step : (value rest after prefix next : List ℕ) (first b : ℕ) → IsUnescaping value rest prefix → rest ≡ first ∷ after → next ≡ take 21 (prefix ++ b ∷ []) → (more : List ℕ) → unescaped (first ∷ after) ≡ option_map (λ plain. b ∷ plain) (unescaped more) → IsUnescaping value more next
+step value rest after prefix next first b h e n more u = record {
   done = h.done ++ b ∷ [];
   so_far = h.so_far ∙ (ap (λ l. option_map (λ plain. h.done ++ plain) (unescaped l)) e ∙ (ap (λ o. option_map (λ plain. h.done ++ plain) o) u ∙ joined h.done b (unescaped more)));
   cut = n ∙ (ap (λ l. take 21 (l ++ b ∷ [])) h.cut ∙ kept h.done b);
 }
 
 -- an escape that is cut
-pub cut_short : (value rest front : List ℕ) → IsUnescaping value rest front → unescaped rest ≡ None → unescaped value ≡ None
-cut_short value rest front h u = h.so_far ∙ ap (λ o. option_map (λ plain. h.done ++ plain) o) u
+pub cut_short : (value rest prefix : List ℕ) → IsUnescaping value rest prefix → unescaped rest ≡ None → unescaped value ≡ None
+cut_short value rest prefix h u = h.so_far ∙ ap (λ o. option_map (λ plain. h.done ++ plain) o) u
 
 -- the end of the value
-pub all_read : (value rest front : List ℕ) → IsUnescaping value rest front → length rest ≡ 0 → StandsFor value front
+pub all_read : (value rest prefix : List ℕ) → IsUnescaping value rest prefix → length rest ≡ 0 → IsPlainPrefix value prefix
 unfolding unescaped
-all_read value [] front h e = record { plain = h.done ++ []; whole = h.so_far; cut = rw append-nil h.cut }
-all_read value (b ∷ bs) front h e = absurd (omega arith)
+all_read value [] prefix h e = record { plain = h.done ++ []; whole = h.so_far; cut = rw append-nil h.cut }
+all_read value (b ∷ bs) prefix h e = absurd (omega arith)
+
+-- reading a value, a byte or an escape at a time
+pub ruleset values = (at_start, step, cut_short, all_read)
+
+-- what one byte or escape stands for
+pub ruleset plain_bytes = (unescaped_escape, unescaped_byte, unescaped_cut)

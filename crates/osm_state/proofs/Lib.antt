@@ -1,7 +1,7 @@
 pub mod EscapeLemmas
 pub mod LineLemmas
-pub mod NumberLemmas
 pub mod TimeLemmas
 pub mod StateLemmas
 pub mod PathLemmas
 pub mod WrittenLemmas
+mod StandardFacts

@@ -1,12 +1,12 @@
 -- Trimming from the end, and the last value of a key, a line at a time.
-use Rattle.std.proofs.Common.{◌≡◌, ℕ, List, [], ◌∷◌, ◌++◌, true, false, refl, sym, ap, ◌∙◌, reverse, map, ◌+◌, take, drop}
+use Rattle.std.proofs.Common.{◌≡◌, ℕ, List, [], ◌∷◌, ◌++◌, true, false, refl, sym, ap, ◌∙◌, reverse, ◌+◌, take, drop}
 use Rattle.std.specs.Prelude.{Option, Some, None, ◌==◌}
 use Rattle.std.specs.Borrow.{Bor}
 use Rattle.std.specs.List.{position}
 use Rattle.std.specs.Option.{option_or, option_copied}
-use Rattle.std.specs.Str.Lines.{strip_carriage_return}
-use Rattle.std.proofs.lemmas.List.{reverse-append, reverse-reverse, map_push}
-use Rattle.osm_state.specs.Properties.{is_blank, is_note, trimmed, trimmed_end, last_value, value_at, entry_of}
+use Rattle.std.proofs.lemmas.List.{reverse-append, reverse-reverse}
+use Rattle.osm_reading.specs.Lines.{lines_after}
+use Rattle.osm_state.specs.Properties.{is_blank, is_note, trimmed, trimmed_end, last_value, value_at, value_of, entry_of}
 
 pub trimmed_end_blank : (bytes rest : List ℕ) (b : ℕ) → bytes ≡ rest ++ b ∷ [] → is_blank b ≡ true → trimmed_end bytes ≡ trimmed_end rest
 trimmed_end_blank bytes rest b e blank = rw (e, reverse-append rest (b ∷ []), blank) refl
@@ -28,6 +28,9 @@ pub entry_of_some : (line : List ℕ) (i : ℕ) → is_note line ≡ false → p
 unfolding entry_of
 entry_of_some line i e p = rw (e, p) refl
 
+-- the key and the value of a line, by its cases
+pub ruleset entries = (entry_of_note, entry_of_none, entry_of_some)
+
 or_none : (v : Option (List ℕ)) → option_or v None ≡ v
 or_none None = refl
 or_none (Some x) = refl
@@ -36,25 +39,24 @@ or_assoc : (u v w : Option (List ℕ)) → option_or (option_or u v) w ≡ optio
 or_assoc None v w = refl
 or_assoc (Some x) v w = refl
 
--- one more line
-pub last_value_push : (key : List ℕ) (lines : List (List ℕ)) (line : List ℕ) → last_value key (lines ++ line ∷ []) ≡ option_or (value_at key (entry_of line)) (last_value key lines)
-unfolding last_value
-last_value_push key [] line = sym (or_none (value_at key (entry_of line)))
-last_value_push key (first ∷ lines) line =
-    ap (λ v. option_or v (value_at key (entry_of first))) (last_value_push key lines line)
-    ∙ or_assoc (value_at key (entry_of line)) (last_value key lines) (value_at key (entry_of first))
-
-pub no_line : (key : List ℕ) → last_value key [] ≡ None
-unfolding last_value
-no_line key = refl
-
 copied_or : (a b : Option (Bor (List ℕ))) → option_copied (option_or a b) ≡ option_or (option_copied a) (option_copied b)
 copied_or None b = refl
 copied_or (Some x) b = refl
 
--- one more piece
-pub keeps_last : (key : List ℕ) (pieces : List (Bor (List ℕ))) (piece : Bor (List ℕ)) (before found after : Option (Bor (List ℕ))) (entry : Option (List ℕ × List ℕ)) → option_copied before ≡ last_value key (map strip_carriage_return (map (λ x. x.now) pieces)) → entry ≡ entry_of (strip_carriage_return piece.now) → option_copied found ≡ value_at key entry → after ≡ option_or found before → option_copied after ≡ last_value key (map strip_carriage_return (map (λ x. x.now) (pieces ++ piece ∷ [])))
-keeps_last key pieces piece before found after entry b e f a =
-    ap option_copied a ∙ (copied_or found before
-    ∙ (rw (f, e, b, map_push (λ x. x.now) pieces piece, map_push strip_carriage_return (map (λ x. x.now) pieces) piece.now)
-    (sym (last_value_push key (map strip_carriage_return (map (λ x. x.now) pieces)) (strip_carriage_return piece.now)))))
+-- before the first line
+pub no_value : (v : Option (List ℕ)) → v ≡ option_or v None
+no_value v = sym (or_none v)
+
+-- one more line
+pub keeps_last : (key text line : List ℕ) (lines more : List (List ℕ)) (before found after : Option (Bor (List ℕ))) (entry : Option (List ℕ × List ℕ)) → value_of text key ≡ option_or (last_value key lines) (option_copied before) → lines ≡ line ∷ more → entry ≡ entry_of line → option_copied found ≡ value_at key entry → after ≡ option_or found before → value_of text key ≡ option_or (last_value key more) (option_copied after)
+unfolding last_value
+keeps_last key text line lines more before found after entry b l e f a =
+    let next : option_copied after ≡ option_or (value_at key (entry_of line)) (option_copied before) = ap option_copied a ∙ (copied_or found before ∙ rw (f, e) refl) in
+    b ∙ (ap (λ ls. option_or (last_value key ls) (option_copied before)) l
+    ∙ (or_assoc (last_value key more) (value_at key (entry_of line)) (option_copied before)
+    ∙ ap (option_or (last_value key more)) (sym next)))
+
+-- after the last line
+pub after_last : (key text : List ℕ) (rest : Option (Bor (List ℕ))) (v : Option (List ℕ)) → rest ≡ None → value_of text key ≡ option_or (last_value key (lines_after rest)) v → v ≡ value_of text key
+unfolding last_value
+after_last key text rest v e h = sym (h ∙ ap (λ r. option_or (last_value key (lines_after r)) v) e)

@@ -61,20 +61,20 @@ one_digit n h = rw (decimal_digit n h) (three_same 48 48 (48 + n) (48 + n / 100 
 two_digits_long : (n : ℕ) → 10 ≤ n → n < 100 → filled_to_three n ≡ three_digits n
 unfolding padded_integral char_count
 two_digits_long n l h =
-    let front : n / 10 < 10 = omega arith in
+    let start : n / 10 < 10 = omega arith in
     let fits : n < 2 ^ 64 = omega arith in
-    rw (decimal_step n l fits, decimal_digit (n / 10) front)
+    rw (decimal_step n l fits, decimal_digit (n / 10) start)
     (three_same 48 (48 + n / 10) (48 + n % 10) (48 + n / 100 % 10) (48 + n / 10 % 10) (48 + n % 10) (omega arith) (omega arith) refl)
 
 three_digits_long : (n : ℕ) → 100 ≤ n → n < 1000 → filled_to_three n ≡ three_digits n
 unfolding padded_integral char_count
 three_digits_long n l h =
     let ten : 10 ≤ n = omega arith in
-    let front : 10 ≤ n / 10 = omega arith in
+    let start : 10 ≤ n / 10 = omega arith in
     let first : n / 10 / 10 < 10 = omega arith in
     let fits : n < 2 ^ 64 = omega arith in
-    let fits_front : n / 10 < 2 ^ 64 = omega arith in
-    rw (decimal_step n ten fits, decimal_step (n / 10) front fits_front, decimal_digit (n / 10 / 10) first)
+    let fits_start : n / 10 < 2 ^ 64 = omega arith in
+    rw (decimal_step n ten fits, decimal_step (n / 10) start fits_start, decimal_digit (n / 10 / 10) first)
     (three_same (48 + n / 10 / 10) (48 + n / 10 % 10) (48 + n % 10) (48 + n / 100 % 10) (48 + n / 10 % 10) (48 + n % 10) (omega arith) refl refl)
 
 pub padded_three : (n : ℕ) → n < 1000 → filled_to_three n ≡ three_digits n
@@ -84,7 +84,7 @@ padded_three n h =
       | inr ge ↦ elim (cases_lt n 100) [ inl lt ↦ two_digits_long n ge lt | inr more ↦ three_digits_long n more h ]
     ]
 
--- eleven bytes are their three folders and what stands between them
+-- eleven bytes are their three folders and the bytes between them
 pub eleven : (l : List ℕ) (m t o : ℕ) → length l ≡ 11 → get_or l 3 0 ≡ 47 → get_or l 7 0 ≡ 47 → (let a : List ℕ = get_or l 0 0 ∷ get_or l 1 0 ∷ get_or l 2 0 ∷ [] in a) ≡ three_digits m → (let b : List ℕ = get_or l 4 0 ∷ get_or l 5 0 ∷ get_or l 6 0 ∷ [] in b) ≡ three_digits t → (let c : List ℕ = get_or l 8 0 ∷ get_or l 9 0 ∷ get_or l 10 0 ∷ [] in c) ≡ three_digits o → l ≡ three_digits m ++ codes "/" ++ three_digits t ++ codes "/" ++ three_digits o
 eleven (a ∷ b ∷ c ∷ d ∷ e ∷ f ∷ g ∷ h ∷ i ∷ j ∷ k ∷ []) m t o len p q x y z = cc
 eleven _ m t o len p q x y z = absurd (omega arith)
@@ -123,6 +123,6 @@ same_suffix State Opl e = apart 115 111 (ap (λ l. get_or l 1 0) e) refl
 -- a path is of one number and one suffix
 pub one_path : (m n : ℕ) (s t : Suffix) → m ≤ max_sequence → n ≤ max_sequence → path_text m s ≡ path_text n t → (m ≡ n) × (s ≡ t)
 one_path m n s t p q e =
-    let front = sym (path_folders m s) ∙ (ap (λ l. take 11 l) e ∙ path_folders n t) in
+    let start = sym (path_folders m s) ∙ (ap (λ l. take 11 l) e ∙ path_folders n t) in
     let end = sym (path_end m s) ∙ (ap (λ l. drop 11 l) e ∙ path_end n t) in
-    (same_number m n p q front, same_suffix s t end)
+    (same_number m n p q start, same_suffix s t end)

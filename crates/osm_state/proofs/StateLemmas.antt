@@ -5,19 +5,21 @@ use Rattle.std.specs.Option.{ok_or}
 use Rattle.std.proofs.lemmas.Option.{same_Some}
 use Rattle.std.proofs.lemmas.List.{take_all, length-take}
 use Rattle.std.proofs.lemmas.Int.{ints}
-use Rattle.osm_model.specs.Clock.{loose_moment}
+use Rattle.osm_model.specs.Steps.Clock.{loose_moment}
 use Rattle.osm_model.proofs.TimeLemmas.{shown_by_digits}
 use Rattle.osm_model.specs.Time.{TimeText}
-use Rattle.osm_state.specs.Properties.{StandsFor}
+use Rattle.osm_state.specs.Steps.Values.{IsPlainPrefix}
 use Rattle.std.specs.Str.Parse.{digits_value}
 use Rattle.osm_state.specs.State.{StateValue, IsState}
-use Rattle.osm_state.specs.StateText.{SequenceText, StandsForNumber, StateOf}
-use Rattle.osm_state.proofs.NumberLemmas.{nine_digits}
-use Rattle.osm_state.specs.StateFault.{StandsForNone, SequenceFault, TimeFault}
+use Rattle.osm_state.specs.StateText.{StandsForNumber, StateOf}
+use Rattle.osm_reading.specs.Sequence.{SpellsSequence}
+use Rattle.osm_reading.proofs.SequenceLemmas.{nine_digits}
+use Rattle.osm_state.specs.StateFault.{StandsForNone}
+use Rattle.osm_state.specs.Steps.Faults.{SequenceFault, TimeFault}
 use Rattle.osm_state.specs.declared.state_text.StateError.TheVariants.{BadSequence, BadTime}
 
 -- a text of a sequence and a text of a time have at most 20 bytes
-short_sequence : (bytes : List ℕ) (n : ℕ) → SequenceText bytes n → length bytes ≤ 20
+short_sequence : (bytes : List ℕ) (n : ℕ) → SpellsSequence bytes n → length bytes ≤ 20
 short_sequence bytes n h = omega (arith, h.short)
 
 short_time : (bytes : List ℕ) (t : ℕ) → TimeText bytes t → length bytes ≤ 20
@@ -26,45 +28,45 @@ short_time bytes t h =
     omega arith
 
 module _ (IsText : List ℕ → ℕ → Type 0) (short : (bytes : List ℕ) (n : ℕ) → IsText bytes n → length bytes ≤ 20) where
-  -- where the first bytes are a text of the number, they are all
-  stands_for_number : (value front : List ℕ) (n : ℕ) → StandsFor value front → IsText front n → StandsForNumber IsText value n
-  stands_for_number value front n h t =
-      let cut : length front ≡ min 21 (length h.plain) = ap length h.cut ∙ length-take 21 h.plain in
-      let all : front ≡ h.plain = h.cut ∙ take_all 21 h.plain (omega (arith, short front n t)) in
+  -- if the first bytes are the text of a number, they are all of the bytes
+  stands_for_number : (value prefix : List ℕ) (n : ℕ) → IsPlainPrefix value prefix → IsText prefix n → StandsForNumber IsText value n
+  stands_for_number value prefix n h t =
+      let cut : length prefix ≡ min 21 (length h.plain) = ap length h.cut ∙ length-take 21 h.plain in
+      let all : prefix ≡ h.plain = h.cut ∙ take_all 21 h.plain (omega (arith, short prefix n t)) in
       record { plain = h.plain; stands_for = h.whole; number = subst (λ bytes. IsText bytes n) all t }
 
-  stands_for_none : (value front : List ℕ) → StandsFor value front → ((n : ℕ) → IsText front n → ⊥) → StandsForNone IsText value
-  stands_for_none value front h none = record {
+  stands_for_none : (value prefix : List ℕ) → IsPlainPrefix value prefix → ((n : ℕ) → IsText prefix n → ⊥) → StandsForNone IsText value
+  stands_for_none value prefix h none = record {
     plain = h.plain;
     stands_for = h.whole;
     none = λ n t.
-        let all : front ≡ h.plain = h.cut ∙ take_all 21 h.plain (omega (arith, short h.plain n t)) in
+        let all : prefix ≡ h.plain = h.cut ∙ take_all 21 h.plain (omega (arith, short h.plain n t)) in
         none n (subst (λ bytes. IsText bytes n) (sym all) t);
   }
 
 -- what is answered of a sequence's value
-pub sequence_judged : (value front : List ℕ) (o : Option ℕ) → StandsFor value front → IfSome o (λ n. SequenceText front n) → ((n : ℕ) → SequenceText front n → o ≡ Some n) → MatchResult (ok_or o BadSequence) (StandsForNumber SequenceText value) (SequenceFault value)
-sequence_judged value front (Some n) h sound complete = stands_for_number SequenceText short_sequence value front n h sound
-sequence_judged value front None h sound complete =
-    stands_for_none SequenceText short_sequence value front h (λ n t. let e = complete n t in cc)
+pub sequence_judged : (value prefix : List ℕ) (o : Option ℕ) → IsPlainPrefix value prefix → IfSome o (λ n. SpellsSequence prefix n) → ((n : ℕ) → SpellsSequence prefix n → o ≡ Some n) → MatchResult (ok_or o BadSequence) (StandsForNumber SpellsSequence value) (SequenceFault value)
+sequence_judged value prefix (Some n) h sound complete = stands_for_number SpellsSequence short_sequence value prefix n h sound
+sequence_judged value prefix None h sound complete =
+    stands_for_none SpellsSequence short_sequence value prefix h (λ n t. let e = complete n t in cc)
 
 -- what is answered of a time's value
-pub time_judged : (value front : List ℕ) (o : Option ℕ) → StandsFor value front → IfSome o (λ t. TimeText front t) → ((t : ℕ) → TimeText front t → o ≡ Some t) → MatchResult (ok_or o BadTime) (StandsForNumber TimeText value) (TimeFault value)
-time_judged value front (Some n) h sound complete = stands_for_number TimeText short_time value front n h sound
-time_judged value front None h sound complete =
-    stands_for_none TimeText short_time value front h (λ n t. let e = complete n t in cc)
+pub time_judged : (value prefix : List ℕ) (o : Option ℕ) → IsPlainPrefix value prefix → IfSome o (λ t. TimeText prefix t) → ((t : ℕ) → TimeText prefix t → o ≡ Some t) → MatchResult (ok_or o BadTime) (StandsForNumber TimeText value) (TimeFault value)
+time_judged value prefix (Some n) h sound complete = stands_for_number TimeText short_time value prefix n h sound
+time_judged value prefix None h sound complete =
+    stands_for_none TimeText short_time value prefix h (λ n t. let e = complete n t in cc)
 
 -- what is named by a text is within the limits
-pub state_limits : (value time_value : List ℕ) (sequence time : ℕ) → StandsForNumber SequenceText value sequence → StandsForNumber TimeText time_value time → IsState (record { sequence = sequence; time = time })
+pub state_limits : (value time_value : List ℕ) (sequence time : ℕ) → StandsForNumber SpellsSequence value sequence → StandsForNumber TimeText time_value time → IsState (record { sequence = sequence; time = time })
 state_limits value time_value sequence time s t =
     let small = nine_digits s.plain s.number.numeral.1 s.number.short in
     record { sequence = omega (arith, small, s.number.value); time = t.number.limits }
 
--- a value stands for one number at most
-one_number : (value : List ℕ) (m n : ℕ) → StandsForNumber SequenceText value m → StandsForNumber SequenceText value n → m ≡ n
+-- a value stands for at most one number
+one_number : (value : List ℕ) (m n : ℕ) → StandsForNumber SpellsSequence value m → StandsForNumber SpellsSequence value n → m ≡ n
 one_number value m n p q =
     let same : p.plain ≡ q.plain = same_Some _ _ (sym p.stands_for ∙ q.stands_for) in
-    sym p.number.value ∙ (ap (λ bytes. digits_value 10 bytes) same ∙ q.number.value)
+    p.number.value ∙ (ap (λ bytes. digits_value 10 bytes) same ∙ sym q.number.value)
 
 pub one_time : (bytes : List ℕ) (t u : ℕ) → TimeText bytes t → TimeText bytes u → t ≡ u
 one_time bytes t u p q =
@@ -85,6 +87,6 @@ pub one_state : (text : List ℕ) (s t : StateValue) → StateOf text s → Stat
 one_state text s t p q =
     let a : p.sequence.value ≡ q.sequence.value = same_Some _ _ (sym p.sequence.found ∙ q.sequence.found) in
     let b : p.time.value ≡ q.time.value = same_Some _ _ (sym p.time.found ∙ q.time.found) in
-    let n = one_number q.sequence.value s.sequence t.sequence (subst (λ v. StandsForNumber SequenceText v s.sequence) a p.sequence.is_true) q.sequence.is_true in
+    let n = one_number q.sequence.value s.sequence t.sequence (subst (λ v. StandsForNumber SpellsSequence v s.sequence) a p.sequence.is_true) q.sequence.is_true in
     let u = one_time_number q.time.value s.time t.time (subst (λ v. StandsForNumber TimeText v s.time) b p.time.is_true) q.time.is_true in
     same_parts s.sequence s.time t.sequence t.time n u

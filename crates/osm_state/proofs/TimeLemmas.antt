@@ -25,7 +25,7 @@ escaped_colons_more bs i h = rw (take_more bs i 0 h) (escaped_colons-push (take 
 pub time_text_is : (t : ℕ) (bytes : List ℕ) → IsPositive t → ((other : List ℕ) → Shows other t → other ≡ bytes) → time_text t ≡ bytes
 time_text_is t bytes h only = only (time_text t) (time_text_shows t h.high)
 
--- a colon is appended behind a backslash
+-- a colon is appended after a backslash
 pub colon_pushed : (start before middle after bs : List ℕ) (i : ℕ) → i < length bs → (get_or bs i 0 == 58) ≡ true → before ≡ start ++ escaped_colons (take i bs) → middle ≡ before ++ 92 ∷ [] → after ≡ middle ++ get_or bs i 0 ∷ [] → after ≡ start ++ escaped_colons (take (i + 1) bs)
 colon_pushed start before middle after bs i h test b m a =
     let colon : get_or bs i 0 ≡ 58 = grind (arith, nat_tests) in

@@ -1,8 +1,7 @@
 -- A written text has two lines, and their values are the sequence's digits and the time's text.
-use Rattle.std.proofs.Common.{◌≡◌, ℕ, zero, suc, ◌+◌, ◌-◌, ◌/◌, ◌<◌, ◌≤◌, ◌^◌, List, [], ◌∷◌, ◌++◌, length, take, drop, get_or, reverse, true, false, nat_lt, refl, ap, ◌∙◌, arith, append_assoc, lit<, inl, inr}
+use Rattle.std.proofs.Common.{◌≡◌, ℕ, zero, suc, ◌+◌, ◌/◌, ◌<◌, ◌≤◌, ◌^◌, List, [], ◌∷◌, ◌++◌, length, take, drop, get_or, reverse, true, false, nat_lt, refl, sym, ap, ◌∙◌, arith, append_assoc, lit<, inl, inr}
 use Rattle.std.specs.Prelude.{Some, None, codes, decimal, ◌==◌, if◌then◌else◌}
-use Rattle.std.specs.List.{All, position, position_or_len}
-use Rattle.std.specs.Str.Lines.{strip_carriage_return}
+use Rattle.std.specs.List.{position, position_or_len}
 use Rattle.std.specs.Str.Parse.{AllDigits}
 use Rattle.std.specs.Int.{IsInRange}
 use Rattle.std.proofs.lemmas.Bool.{cases_eq}
@@ -10,14 +9,17 @@ use Rattle.std.proofs.lemmas.Bool.Decides.{nat_tests}
 use Rattle.std.proofs.lemmas.Fmt.{decimal_is_IsNumeral, length-decimal-le}
 use Rattle.std.proofs.lemmas.List.{reverse-append, reverse-reverse, length-append}
 use Rattle.std.proofs.Math.Seq.{take-append_seam, drop-append-add}
-use Rattle.std.proofs.lemmas.List.Splits.{slice_split_at}
 use Rattle.std.proofs.lemmas.Str.Parse.{digit_at}
 use Rattle.osm_model.specs.Limits.{max_sequence}
 use Rattle.osm_model.specs.Time.{Moment, moment_text, last_digit}
+use Rattle.osm_reading.specs.Lines.{lines_of, without_cr}
+use Rattle.osm_reading.specs.Pieces.{Lacks}
+use Rattle.osm_reading.specs.Sequence.{SpellsSequence}
+use Rattle.osm_reading.proofs.PieceLemmas.{pieces-more, pieces-one}
 use Rattle.osm_state.specs.State.{StateValue, IsState}
 use Rattle.osm_model.specs.CivilTime.{time_text, moment_at}
-use Rattle.osm_state.specs.Properties.{is_blank, trimmed, trimmed_front, is_note, entry_of, last_value, lines_of, value_of, unescaped}
-use Rattle.osm_state.specs.StateText.{sequence_key, time_key, SequenceText, StateOf, state_text, escaped_colons}
+use Rattle.osm_state.specs.Properties.{is_blank, trimmed, trimmed_start, is_note, entry_of, last_value, value_of, unescaped}
+use Rattle.osm_state.specs.StateText.{sequence_key, time_key, StateOf, state_text, escaped_colons}
 use Rattle.osm_state.proofs.EscapeLemmas.{unescaped_empty, unescaped_byte, unescaped_escape}
 use Rattle.osm_state.proofs.LineLemmas.{entry_of_some}
 use Rattle.osm_model.proofs.CivilTimeLemmas.{time_text_shows}
@@ -35,41 +37,38 @@ dark-reverse : (a : List ℕ) → AllDark a → AllDark (reverse a)
 dark-reverse [] p = tt
 dark-reverse (x ∷ a) p = rw (reverse-append (x ∷ []) a) (dark-append (reverse a) (x ∷ []) (dark-reverse a p.1) (p.0, tt))
 
-dark_front : (a : List ℕ) → AllDark a → trimmed_front a ≡ a
-dark_front [] p = refl
-dark_front (b ∷ bs) p =
+dark_start : (a : List ℕ) → AllDark a → trimmed_start a ≡ a
+dark_start [] p = refl
+dark_start (b ∷ bs) p =
     let solid : is_blank b ≡ false = grind (arith, nat_tests, p.0) in
     rw solid refl
 
 -- nothing is trimmed from dark bytes
 dark_trimmed : (a : List ℕ) → AllDark a → trimmed a ≡ a
 unfolding trimmed
-dark_trimmed a p = rw (dark_front a p, dark_front (reverse a) (dark-reverse a p)) (reverse-reverse a)
+dark_trimmed a p = rw (dark_start a p, dark_start (reverse a) (dark-reverse a p)) (reverse-reverse a)
 
 dark_at : (a : List ℕ) (i : ℕ) → i < length a → AllDark a → 32 < get_or a i 0
 dark_at [] i h p = absurd (omega arith)
 dark_at (b ∷ bs) zero h p = p.0
 dark_at (b ∷ bs) (suc i) h p = dark_at bs i (omega arith) p.1
 
-no_feed : (a : List ℕ) → AllDark a → All (λ b. (b == 10) ≡ false) a
-no_feed [] p k d h = absurd (omega arith)
-no_feed (b ∷ bs) p zero d h = grind (arith, nat_tests, p.0)
-no_feed (b ∷ bs) p (suc k) d h = no_feed bs p.1 k d (omega arith)
+no_feed : (a : List ℕ) → AllDark a → Lacks 10 a
+no_feed [] p = tt
+no_feed (b ∷ bs) p = (omega (arith, p.0), no_feed bs p.1)
 
 -- nor is a carriage return dropped
-dark_line : (a : List ℕ) → AllDark a → strip_carriage_return a ≡ a
+dark_line : (a : List ℕ) → AllDark a → without_cr a ≡ a
 dark_line [] p = refl
-dark_line (b ∷ bs) p =
-    let last : 32 < get_or (b ∷ bs) (length (b ∷ bs) - 1) 0 = dark_at (b ∷ bs) (length (b ∷ bs) - 1) (omega arith) p in
-    let test : (get_or (b ∷ bs) (length (b ∷ bs) - 1) 0 == 13) ≡ false = grind (arith, nat_tests) in
-    rw test refl
+dark_line (b ∷ []) p = let test : (b == 13) ≡ false = grind (arith, nat_tests, p.0) in rw test refl
+dark_line (b ∷ c ∷ bs) p = ap (λ l. b ∷ l) (dark_line (c ∷ bs) p.1)
 
 -- the lines of two dark lines with their line feeds
 two_lines : (a b : List ℕ) → AllDark a → AllDark b → lines_of (a ++ 10 ∷ (b ++ 10 ∷ [])) ≡ a ∷ b ∷ [] ∷ []
 two_lines a b p q =
-    let first = slice_split_at (λ x. x == 10) a 10 (b ++ 10 ∷ []) (no_feed a p) refl in
-    let second = slice_split_at (λ x. x == 10) b 10 [] (no_feed b q) refl in
-    rw (first, second, dark_line a p, dark_line b q) refl
+    let first = pieces-more 10 a (b ++ 10 ∷ []) (no_feed a p) in
+    let second = pieces-more 10 b [] (no_feed b q) in
+    rw (first, second, pieces-one 10 [] tt, dark_line a p, dark_line b q) refl
 
 -- no byte is `=`
 abbrev NoEquals : List ℕ → Type 0
@@ -303,11 +302,11 @@ unfolding last_value
 time_value v w p q = ap (last_value time_key) (two_line_lines v w p q) ∙ rw (sequence_entry v p, time_entry w q, no_entry) refl
 
 -- the digits of a sequence are a text of it
-decimal_text : (n : ℕ) → n ≤ max_sequence → SequenceText (decimal n) n
+decimal_text : (n : ℕ) → n ≤ max_sequence → SpellsSequence (decimal n) n
 decimal_text n h =
     let fits : n < 2 ^ 64 = omega arith in
     let numeral = decimal_is_IsNumeral n fits in
-    record { numeral = numeral.0; short = length-decimal-le 9 n (lit< tt) (omega arith) fits; value = numeral.1 }
+    record { numeral = numeral.0; short = length-decimal-le 9 n (lit< tt) (omega arith) fits; value = sym numeral.1 }
 
 -- the written text of a state has that state
 pub written_is_read : (s : StateValue) → IsState s → StateOf (state_text s) s

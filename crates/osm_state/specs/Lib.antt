@@ -3,4 +3,5 @@ pub mod Properties
 pub mod StateText
 pub mod StateFault
 pub mod Path
-pub mod Laws
+pub mod StateLaws
+pub mod Steps

@@ -4,12 +4,13 @@ use Rattle.osm_model.specs.Time.{last_digit}
 use Rattle.osm_state.specs.declared.paths.Suffix.{Suffix}
 use Rattle.osm_state.specs.declared.paths.Suffix.TheVariants.{O5c, Opl, State}
 
+-- the end of a path
 abbrev pub suffix_text : Suffix → List ℕ
 suffix_text O5c = codes ".o5c"
 suffix_text Opl = codes ".opl"
 suffix_text State = codes ".state.txt"
 
--- three digits, with zeros in front
+-- three digits, with leading zeros
 abbrev pub three_digits : ℕ → List ℕ
 three_digits n = last_digit (n / 100) ∷ last_digit (n / 10) ∷ last_digit n ∷ []
 

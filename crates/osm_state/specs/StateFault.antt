@@ -1,22 +1,25 @@
 -- Why a text has no state: the first that applies, the sequence before the time.
 use Rattle.std.specs.Prelude.{◌≡◌, ℕ, ◌⊎◌, List, Some, None}
 use Rattle.osm_model.specs.Time.{TimeText}
+use Rattle.osm_reading.specs.Sequence.{SpellsSequence}
 use Rattle.osm_state.specs.Properties.{value_of, unescaped}
-use Rattle.osm_state.specs.StateText.{sequence_key, time_key, SequenceText, SequenceOf, HasValue}
+use Rattle.osm_state.specs.StateText.{sequence_key, time_key, SequenceOf, HasValue}
 use Rattle.osm_state.specs.declared.state_text.StateError.{StateError}
-use Rattle.osm_state.specs.declared.state_text.StateError.TheVariants.{MissingSequence, BadEscape, BadSequence, MissingTime, BadTime}
+use Rattle.osm_state.specs.declared.state_text.StateError.TheVariants.{MissingSequence, BadEscape}
+use Rattle.osm_state.specs.declared.state_text.StateError.TheVariants.{BadSequence, MissingTime}
+use Rattle.osm_state.specs.declared.state_text.StateError.TheVariants.{BadTime}
 
 -- the value ends inside an escape
 abbrev pub EndsInEscape : List ℕ → Type 0
 EndsInEscape value = unescaped value ≡ None
 
--- without its escapes the value is a text of no number
+-- without its escapes the value isn't the text of any number
 pub record StandsForNone (IsText : List ℕ → ℕ → Type 0) (value : List ℕ) : Type 0 where
   pub plain : List ℕ
   pub stands_for : unescaped value ≡ Some plain
   pub none : (n : ℕ) → IsText plain n → ⊥
 
--- the text names a sequence, so that no fault of the sequence applies
+-- the text names a sequence, so no fault of the sequence applies
 abbrev pub HasSequence : List ℕ → Type 0
 HasSequence text = (n : ℕ) × SequenceOf text n
 
@@ -24,23 +27,8 @@ HasSequence text = (n : ℕ) × SequenceOf text n
 abbrev pub FaultOf : List ℕ → StateError → Type 0
 FaultOf text MissingSequence = value_of text sequence_key ≡ None
 FaultOf text BadEscape =
-    HasValue text sequence_key EndsInEscape ⊎ (HasSequence text × HasValue text time_key EndsInEscape)
-FaultOf text BadSequence = HasValue text sequence_key (StandsForNone SequenceText)
+    HasValue text sequence_key EndsInEscape
+    ⊎ (HasSequence text × HasValue text time_key EndsInEscape)
+FaultOf text BadSequence = HasValue text sequence_key (StandsForNone SpellsSequence)
 FaultOf text MissingTime = HasSequence text × (value_of text time_key ≡ None)
 FaultOf text BadTime = HasSequence text × HasValue text time_key (StandsForNone TimeText)
-
--- the fault of a sequence's value
-abbrev pub SequenceFault : List ℕ → StateError → Type 0
-SequenceFault value BadEscape = EndsInEscape value
-SequenceFault value BadSequence = StandsForNone SequenceText value
-SequenceFault value MissingSequence = ⊥
-SequenceFault value MissingTime = ⊥
-SequenceFault value BadTime = ⊥
-
--- the fault of a time's value
-abbrev pub TimeFault : List ℕ → StateError → Type 0
-TimeFault value BadEscape = EndsInEscape value
-TimeFault value BadTime = StandsForNone TimeText value
-TimeFault value MissingSequence = ⊥
-TimeFault value MissingTime = ⊥
-TimeFault value BadSequence = ⊥

@@ -1,30 +1,27 @@
 -- State texts: the two keys of `state.txt` that are read and written (OSM wiki, Planet.osm/diffs).
-use Rattle.std.specs.Prelude.{◌≡◌, ℕ, ◌≤◌, ◌==◌, List, [], ◌∷◌, ◌++◌, length, codes, decimal, Some, if◌then◌else◌}
-use Rattle.std.specs.Str.Parse.{IsNumeral, digits_value}
+use Rattle.std.specs.Prelude.{◌≡◌, ℕ, ◌==◌, List, [], ◌∷◌, ◌++◌, codes, decimal, Some}
+use Rattle.std.specs.Prelude.{if◌then◌else◌}
 use Rattle.osm_model.specs.Time.{TimeText}
+use Rattle.osm_model.specs.CivilTime.{time_text}
+use Rattle.osm_reading.specs.Sequence.{SpellsSequence}
 use Rattle.osm_state.specs.State.{StateValue, IsState}
 use Rattle.osm_state.specs.Properties.{value_of, unescaped}
-use Rattle.osm_model.specs.CivilTime.{time_text}
 
+-- the key of the sequence number
 abbrev pub sequence_key : List ℕ
 sequence_key = codes "sequenceNumber"
 
+-- the key of the time
 abbrev pub time_key : List ℕ
 time_key = codes "timestamp"
 
--- 1 to 9 decimal digits, with zeros in front or without, and the number that they write
-pub record SequenceText (bytes : List ℕ) (sequence : ℕ) : Type 0 where
-  pub numeral : IsNumeral 10 bytes
-  pub short : length bytes ≤ 9
-  pub value : digits_value 10 bytes ≡ sequence
-
--- without its escapes the value is a text of the number
+-- without its escapes the value is the text of the number
 pub record StandsForNumber (IsText : List ℕ → ℕ → Type 0) (value : List ℕ) (n : ℕ) : Type 0 where
   pub plain : List ℕ
   pub stands_for : unescaped value ≡ Some plain
   pub number : IsText plain n
 
--- the text gives the key a value of which this is true
+-- the text gives the key a value for which this holds
 pub record HasValue (text key : List ℕ) (IsTrueOf : List ℕ → Type 0) : Type 0 where
   pub value : List ℕ
   pub found : value_of text key ≡ Some value
@@ -32,7 +29,7 @@ pub record HasValue (text key : List ℕ) (IsTrueOf : List ℕ → Type 0) : Typ
 
 -- the text names the sequence
 abbrev pub SequenceOf : List ℕ → ℕ → Type 0
-SequenceOf text n = HasValue text sequence_key (λ value. StandsForNumber SequenceText value n)
+SequenceOf text n = HasValue text sequence_key (λ value. StandsForNumber SpellsSequence value n)
 
 -- the text names the time
 abbrev pub TimeOf : List ℕ → ℕ → Type 0

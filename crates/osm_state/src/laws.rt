@@ -1,8 +1,9 @@
 //! What holds of state texts and of paths, whatever the code does.
 
-ghost use Rattle.osm_state.specs.Laws.{WrittenIsRead, CountedTimeIsText, OneState, NoFaultBesideState, OneFault, OnePath};
+ghost use Rattle.osm_state.specs.StateLaws.{WrittenIsRead, CountedTimeIsText, OneState};
+ghost use Rattle.osm_state.specs.StateLaws.{NoFaultBesideState, OneFault, OnePath};
 
-/// Does nothing: its clauses are the laws that the layers above use.
+/// Tells the prover the laws that the layers above use; does nothing at run time.
 pub fn laws_of_state()
     ensures written_is_read { WrittenIsRead }
     ensures counted_time_is_text { CountedTimeIsText }

@@ -1,4 +1,5 @@
-//! States of published sequences: `state.txt` as it is read and written, and the paths of a sequence's files.
+//! States of published sequences: reading and writing `state.txt`, and the paths of a sequence's
+//! files.
 #![tactic(auto)]
 
 pub mod laws;
@@ -6,5 +7,3 @@ pub mod paths;
 mod properties;
 pub mod state;
 pub mod state_text;
-#[cfg(test)]
-mod tests;

@@ -1,6 +1,7 @@
 //! Paths of the files of a sequence.
 
-ghost use Rattle.std.specs.Prelude.{◌≡◌, ℕ, ◌+◌, ◌<◌, ◌≤◌, List, Some, IfSome, IfOk, OnOk, OnErr, string_bytes};
+ghost use Rattle.std.specs.Prelude.{◌≡◌, ℕ, ◌+◌, ◌<◌, ◌≤◌, Some, IfSome, IfOk};
+ghost use Rattle.std.specs.Prelude.{string_bytes};
 ghost use Rattle.osm_model.specs.Limits.{max_sequence};
 ghost use Rattle.osm_state.specs.Path.{path_text, suffix_text, three_digits, folders_text};
 
@@ -19,6 +20,7 @@ pub enum Suffix {
 }
 
 impl Suffix {
+    // The end of a path.
     fn text(self) -> &'static str
         ensures { result.now ≡ suffix_text self }
     {
@@ -30,7 +32,7 @@ impl Suffix {
     }
 }
 
-/// `AAA/BBB/CCC` and the suffix: the number in nine digits with zeros in front (OSM wiki,
+/// `AAA/BBB/CCC` and the suffix: the number in nine digits with leading zeros (OSM wiki,
 /// Planet.osm/diffs).
 pub fn path(alloc: Global, number: u32, suffix: Suffix) -> Result<String, WantOfMemory>
     requires { number ≤ max_sequence }
@@ -41,11 +43,12 @@ pub fn path(alloc: Global, number: u32, suffix: Suffix) -> Result<String, WantOf
     Ok(format!(in alloc; "{millions:03}/{thousands:03}/{ones:03}{end}")?)
 }
 
-/// The number and the suffix of a path as `path` gives it, none of every other text. It takes no
-/// memory.
+/// The number and the suffix of a path in the form that `path` gives; None for every other text. It
+/// takes no memory.
 pub fn path_number(text: &str) -> Option<(u32, Suffix)>
     ensures found { IfSome result (λ r. (r.0 ≤ max_sequence) × (text.now ≡ path_text r.0 r.1)) }
-    ensures only { (n : ℕ) (s : Suffix) → n ≤ max_sequence → text.now ≡ path_text n s → result ≡ Some (n, s) }
+    ensures only { (n : ℕ) (s : Suffix) →
+        n ≤ max_sequence → text.now ≡ path_text n s → result ≡ Some (n, s) }
 {
     let (folders, end) = text.as_bytes().split_first_chunk::<11>()?;
     Some((number_of(folders)?, suffix_of(end)?))
@@ -74,6 +77,7 @@ fn three(digits: [u8; 3]) -> Option<u32>
     Some(100 * digit(hundreds)? + 10 * digit(tens)? + digit(ones)?)
 }
 
+// The value of one digit.
 fn digit(byte: u8) -> Option<u32>
     ensures found { IfSome result (λ d. (d < 10) × (byte ≡ 48 + d)) }
     ensures only { (d : ℕ) → d < 10 → byte ≡ 48 + d → result ≡ Some d }
@@ -85,6 +89,7 @@ fn digit(byte: u8) -> Option<u32>
     }
 }
 
+// The suffix with this text.
 fn suffix_of(end: &[u8]) -> Option<Suffix>
     ensures found { IfSome result (λ s. end.now ≡ suffix_text s) }
     ensures only { (s : Suffix) → end.now ≡ suffix_text s → result ≡ Some s }

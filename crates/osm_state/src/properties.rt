@@ -1,15 +1,19 @@
-//! Texts of keys and values, a pair a line: Java's properties, as far as state files use them.
+//! Texts of keys and values, one pair on each line: the part of Java's properties that state files
+//! use.
 
-ghost use Rattle.std.specs.Prelude.{◌≡◌, ℕ, ◌<◌, ◌≤◌, ◌==◌, List, [], ◌∷◌, ◌++◌, take, length, Some, None, option_map, MatchOption, IfSome, IsNone};
+ghost use Rattle.std.specs.Prelude.{◌≡◌, ◌<◌, ◌≤◌, ◌==◌, [], ◌∷◌, ◌++◌, take, length};
+ghost use Rattle.std.specs.Prelude.{Some, None, option_map, MatchOption, IfSome, IsNone};
 ghost use Rattle.std.specs.List.{position};
 ghost use Rattle.std.specs.Option.{option_copied};
-ghost use Rattle.std.specs.Str.Lines.{strip_carriage_return};
-ghost use Rattle.osm_state.specs.Properties.{is_blank, trimmed, trimmed_end, trimmed_front, is_note, entry_of, cut_at_equals, value_of, value_at, seen_entry, unescaped, StandsFor};
+ghost use Rattle.osm_state.specs.Properties.{is_blank, trimmed, trimmed_end, trimmed_start};
+ghost use Rattle.osm_state.specs.Properties.{is_note, entry_of, value_of, value_at, unescaped};
 ghost use Rattle.osm_state.specs.StateText.{sequence_key, time_key};
+ghost use Rattle.osm_state.specs.Steps.Values.{seen_entry, IsPlainPrefix};
 
 use arrayvec::ArrayVec;
+use osm_reading::lines::split_line;
 
-/// The values that a text gives to the two keys of a state, none where it has no line with the key.
+/// The values that a text gives to the two keys of a state; None if no line has the key.
 #[derive(Clone, Copy)]
 pub(crate) struct Values<'a> {
     pub sequence: Option<&'a [u8]>,
@@ -23,10 +27,13 @@ pub(crate) fn values_of(text: &[u8]) -> Values<'_>
 {
     let mut sequence = None;
     let mut time = None;
-    for piece in text.split(|byte| *byte == b'\n') {
-        let entry = entry(without_return(piece));
+    let mut rest = Some(text);
+    while let Some(lines) = rest {
+        let (line, after) = split_line(lines);
+        let entry = entry(line);
         sequence = value_at(entry, b"sequenceNumber").or(sequence);
         time = value_at(entry, b"timestamp").or(time);
+        rest = after;
     }
     Values { sequence, time }
 }
@@ -40,17 +47,8 @@ fn value_at<'a>(entry: Option<(&'a [u8], &'a [u8])>, key: &[u8]) -> Option<&'a [
     }
 }
 
-fn without_return(piece: &[u8]) -> &[u8]
-    ensures { result.now ≡ strip_carriage_return piece.now }
-{
-    match piece {
-        [line @ .., b'\r'] => line,
-        _ => piece,
-    }
-}
-
-// The key and the value of a line, none of a line that is skipped.
-#[tactic(auto, using(crate::proofs::LineLemmas::entry_of_note, crate::proofs::LineLemmas::entry_of_none, crate::proofs::LineLemmas::entry_of_some))]
+// The key and the value of a line; None for a line that is skipped.
+#[tactic(auto, using(crate::proofs::LineLemmas::entries))]
 fn entry(line: &[u8]) -> Option<(&[u8], &[u8])>
     ensures { seen_entry result ≡ entry_of line.now }
 {
@@ -70,7 +68,7 @@ fn equals_at(line: &[u8]) -> Option<usize>
 fn is_note(line: &[u8]) -> bool
     ensures { result ≡ is_note line.now }
 {
-    matches!(trim_front(line), [b'#' | b'!', ..])
+    matches!(trim_start(line), [b'#' | b'!', ..])
 }
 
 fn is_blank(byte: u8) -> bool
@@ -79,8 +77,8 @@ fn is_blank(byte: u8) -> bool
     byte == b' ' || byte == b'\t'
 }
 
-fn trim_front(bytes: &[u8]) -> &[u8]
-    ensures { result.now ≡ trimmed_front bytes.now }
+fn trim_start(bytes: &[u8]) -> &[u8]
+    ensures { result.now ≡ trimmed_start bytes.now }
 {
     let mut rest = bytes;
     while let Some((first, after)) = rest.split_first()
@@ -108,14 +106,16 @@ fn trim_end(bytes: &[u8]) -> &[u8]
 fn trim(bytes: &[u8]) -> &[u8]
     ensures { result.now ≡ trimmed bytes.now }
 {
-    trim_end(trim_front(bytes))
+    trim_end(trim_start(bytes))
 }
 
-/// What a value stands for, or its first 21 bytes: no value that is longer is a number or a time.
-/// None where it ends inside an escape.
-#[tactic(auto, using(crate::proofs::EscapeLemmas::step, crate::proofs::EscapeLemmas::cut_short, crate::proofs::EscapeLemmas::all_read, crate::proofs::EscapeLemmas::at_start))]
+/// The first 21 bytes of a value without its escapes: a longer one is no number and no time.
+/// None if the value ends inside an escape.
+#[tactic(auto, using(crate::proofs::EscapeLemmas::values))]
 pub(crate) fn unescape(value: &[u8]) -> Option<ArrayVec<u8, 21>>
-    ensures { MatchOption result (unescaped value.now ≡ None) (λ front. StandsFor value.now front.items) }
+    ensures { MatchOption result
+        (unescaped value.now ≡ None)
+        (λ prefix. IsPlainPrefix value.now prefix.items) }
 {
     let mut plain = ArrayVec::new();
     let mut rest = value;
@@ -127,11 +127,11 @@ pub(crate) fn unescape(value: &[u8]) -> Option<ArrayVec<u8, 21>>
     Some(plain)
 }
 
-// What the byte or the escape at the front stands for, and the bytes after it; none for an escape
-// that is cut.
-#[tactic(auto, using(crate::proofs::EscapeLemmas::unescaped_escape, crate::proofs::EscapeLemmas::unescaped_byte, crate::proofs::EscapeLemmas::unescaped_cut))]
+// What the first byte or escape stands for, and the bytes after it; None for an escape that is cut.
+#[tactic(auto, using(crate::proofs::EscapeLemmas::plain_bytes))]
 fn plain_byte(first: u8, after: &[u8]) -> Option<(u8, &[u8])>
-    ensures some { IfSome result (λ r. unescaped (first ∷ after.now) ≡ option_map (λ plain. r.0 ∷ plain) (unescaped r.1.now)) }
+    ensures some { IfSome result (λ r.
+        unescaped (first ∷ after.now) ≡ option_map (λ plain. r.0 ∷ plain) (unescaped r.1.now)) }
     ensures fewer { IfSome result (λ r. length r.1.now ≤ length after.now) }
     ensures none { IsNone result → unescaped (first ∷ after.now) ≡ None }
 {
@@ -142,10 +142,11 @@ fn plain_byte(first: u8, after: &[u8]) -> Option<(u8, &[u8])>
     Some((*byte, rest))
 }
 
-fn keep(front: &mut ArrayVec<u8, 21>, byte: u8)
-    ensures { front.new.items ≡ take 21 (front.old.items ++ byte ∷ []) }
+// Appends the byte if there is room for it.
+fn keep(prefix: &mut ArrayVec<u8, 21>, byte: u8)
+    ensures { prefix.new.items ≡ take 21 (prefix.old.items ++ byte ∷ []) }
 {
-    if !front.is_full() {
-        front.push(byte);
+    if !prefix.is_full() {
+        prefix.push(byte);
     }
 }

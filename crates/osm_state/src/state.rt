@@ -1,6 +1,6 @@
 //! A state: a sequence number, and the time up to which its changes reach.
 
-ghost use Rattle.std.specs.Prelude.{◌≡◌, ℕ, ◌<◌, ◌⊎◌, ◌↔◌, IsNone, IfSome};
+ghost use Rattle.std.specs.Prelude.{◌≡◌, ◌<◌, ◌⊎◌, ◌↔◌, IsNone, IfSome};
 ghost use Rattle.osm_model.specs.Limits.{max_sequence};
 ghost use Rattle.osm_state.specs.State.{IsState};
 
@@ -28,7 +28,7 @@ impl Model for State {
 }
 
 impl State {
-    /// None where the sequence is above 999,999,999 or the time is 0.
+    /// None if the sequence is above 999,999,999 or the time is 0.
     pub fn new(sequence: u32, time: u32) -> Option<State>
         ensures refused { IsNone result ↔ ((max_sequence < sequence) ⊎ (time ≡ 0)) }
         ensures value { IfSome result (λ s. s ≡ record { sequence = sequence; time = time }) }
@@ -40,6 +40,7 @@ impl State {
         Some(State { sequence, time })
     }
 
+    /// The state of parts that are known to be within the limits.
     pub(crate) fn within_limits(sequence: u32, time: u32) -> State
         requires { IsState (record { sequence = sequence; time = time }) }
         ensures { result ≡ record { sequence = sequence; time = time } }

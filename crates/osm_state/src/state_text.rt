@@ -1,26 +1,31 @@
-//! `state.txt`, as it is read and written.
+//! Reading and writing `state.txt`.
 
-ghost use Rattle.std.specs.Prelude.{◌≡◌, ◌==◌, ℕ, ◌↔◌, List, Some, Ok, Err, None, ◌++◌, IfOk, OnOk, IfErr, IfSome, MatchResult};
+ghost use Rattle.std.specs.Prelude.{◌≡◌, ◌==◌, Ok, Err, ◌++◌, IfOk, OnOk};
+ghost use Rattle.std.specs.Prelude.{IfErr, MatchResult};
 ghost use Rattle.osm_model.specs.Time.{TimeText};
+ghost use Rattle.osm_reading.specs.Sequence.{SpellsSequence};
 ghost use Rattle.osm_state.specs.State.{StateValue};
-ghost use Rattle.osm_state.specs.StateFault.{FaultOf, SequenceFault, TimeFault};
-ghost use Rattle.osm_state.specs.StateText.{StateOf, SequenceText, StandsForNumber, state_text, escaped_colons};
+ghost use Rattle.osm_state.specs.StateFault.{FaultOf};
+ghost use Rattle.osm_state.specs.StateText.{StateOf, StandsForNumber, state_text};
+ghost use Rattle.osm_state.specs.StateText.{escaped_colons};
+ghost use Rattle.osm_state.specs.Steps.Faults.{SequenceFault, TimeFault};
 
 use crate::properties::{unescape, values_of};
 use crate::state::State;
 use itoa::Buffer;
 use osm_model::memory::WantOfMemory;
 use osm_model::time::{time_read, time_write};
+use osm_reading::sequence::sequence_read;
 use std::alloc::Global;
 use thiserror::Error;
 
-/// Why a text has no state: the first that applies, the sequence before the time.
+/// Why a text has no state: the first fault that applies, the sequence before the time.
 #[derive(Clone, Copy, Debug, PartialEq, Eq, Error)]
 pub enum StateError {
     /// No line has the key `sequenceNumber`.
     #[error("MissingSequence")]
     MissingSequence,
-    /// A backslash is the last byte of the value, of the sequence or of the time.
+    /// The value of the sequence or of the time ends with a backslash that escapes nothing.
     #[error("BadEscape")]
     BadEscape,
     /// The value of `sequenceNumber` isn't 1 to 9 digits.
@@ -36,10 +41,10 @@ pub enum StateError {
 
 /// The state of a text with the lines `sequenceNumber=N` and `timestamp=YYYY-MM-DDTHH:MM:SSZ`.
 ///
-/// The keys stand in either order, and other lines between them. Lines end with LF or CR LF; lines
-/// that begin with `#` or `!`, lines without `=` and other keys are skipped; blanks around a key or
-/// a value are dropped, and of two lines with one key the last counts. `\c` stands for the byte c
-/// (OSM wiki, Planet.osm/diffs; what it leaves open is our choice). It takes no memory.
+/// The two lines come in either order, among other lines. Lines end with LF or CR LF; lines that
+/// begin with `#` or `!`, lines without `=` and lines with other keys are skipped; blanks around a
+/// key or a value are dropped; the last of several lines with the same key counts. `\c` stands for
+/// the byte c (OSM wiki, Planet.osm/diffs; what it leaves open is our choice). It takes no memory.
 pub fn state_read(bytes: &[u8]) -> Result<State, StateError>
     ensures found { IfOk result (λ s. StateOf bytes.now s) }
     ensures only { (s : StateValue) → StateOf bytes.now s → result ≡ Ok s }
@@ -53,7 +58,9 @@ pub fn state_read(bytes: &[u8]) -> Result<State, StateError>
 }
 
 fn sequence_in(value: &[u8]) -> Result<u32, StateError>
-    ensures { MatchResult result (StandsForNumber SequenceText value.now) (SequenceFault value.now) }
+    ensures { MatchResult result
+        (StandsForNumber SpellsSequence value.now)
+        (SequenceFault value.now) }
 {
     let plain = unescape(value).ok_or(StateError::BadEscape)?;
     sequence_read(&plain).ok_or(StateError::BadSequence)
@@ -66,26 +73,8 @@ fn time_in(value: &[u8]) -> Result<u32, StateError>
     time_read(&plain).ok_or(StateError::BadTime)
 }
 
-// The number of 1 to 9 digits.
-fn sequence_read(text: &[u8]) -> Option<u32>
-    ensures sound { IfSome result (λ n. SequenceText text.now n) }
-    ensures complete { (n : ℕ) → SequenceText text.now n → result ≡ Some n }
-{
-    if text.is_empty() || 9 < text.len() {
-        return None;
-    }
-    let mut number = 0;
-    for byte in text {
-        if !byte.is_ascii_digit() {
-            return None;
-        }
-        number = 10 * number + (*byte - b'0') as u32;
-    }
-    Some(number)
-}
-
-/// `sequenceNumber=N` and `timestamp=YYYY-MM-DDTHH\:MM\:SSZ`, each ended by LF (the lines of OSM
-/// wiki, Planet.osm/diffs, and no others).
+/// The lines `sequenceNumber=N` and `timestamp=YYYY-MM-DDTHH\:MM\:SSZ`, each ended by LF, and no
+/// others (OSM wiki, Planet.osm/diffs).
 pub fn state_write(alloc: Global, state: &State) -> Result<Vec<u8>, WantOfMemory>
     ensures { IfOk result (λ text. text.items ≡ state_text state.now) }
 {

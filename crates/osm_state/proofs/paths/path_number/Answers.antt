@@ -11,8 +11,8 @@ returns-in_err-folders-clause-only c = λ n s h e.
 
 pub returns-in_err-number_of-clause-only : goal.returns-in_err-number_of-clause-only
 returns-in_err-number_of-clause-only c = λ n s h e.
-    let front = c.in_ok-folders.ensures.cases.0 ∙ (ap (λ text. take 11 text) (c.as_bytes.ensures.value ∙ e) ∙ path_folders n s) in
-    let some = c.in_err-number_of.ensures.only n h front in absurd (cc)
+    let start = c.in_ok-folders.ensures.cases.0 ∙ (ap (λ text. take 11 text) (c.as_bytes.ensures.value ∙ e) ∙ path_folders n s) in
+    let some = c.in_err-number_of.ensures.only n h start in absurd (cc)
 
 pub returns-in_err-suffix_of-clause-only : goal.returns-in_err-suffix_of-clause-only
 returns-in_err-suffix_of-clause-only c = λ n s h e.
@@ -21,14 +21,14 @@ returns-in_err-suffix_of-clause-only c = λ n s h e.
 
 pub returns-clause-found : goal.returns-clause-found
 returns-clause-found c =
-    let front = ap (λ text. take 11 text) (sym c.as_bytes.ensures.value) ∙ (sym c.in_ok-folders.ensures.cases.0 ∙ c.in_ok-number_of.ensures.found.1) in
+    let start = ap (λ text. take 11 text) (sym c.as_bytes.ensures.value) ∙ (sym c.in_ok-folders.ensures.cases.0 ∙ c.in_ok-number_of.ensures.found.1) in
     let end = ap (λ text. drop 11 text) (sym c.as_bytes.ensures.value) ∙ (sym c.in_ok-folders.ensures.cases.1 ∙ c.in_ok-suffix_of.ensures.found) in
-    (c.in_ok-number_of.ensures.found.0, path_joined c.args.text.now c.in_ok-number_of.field-0 c.in_ok-suffix_of.field-0 front end)
+    (c.in_ok-number_of.ensures.found.0, path_joined c.args.text.now c.in_ok-number_of.field-0 c.in_ok-suffix_of.field-0 start end)
 
 pub returns-clause-only : goal.returns-clause-only
 returns-clause-only c = λ n s h e.
-    let front = c.in_ok-folders.ensures.cases.0 ∙ (ap (λ text. take 11 text) (c.as_bytes.ensures.value ∙ e) ∙ path_folders n s) in
+    let start = c.in_ok-folders.ensures.cases.0 ∙ (ap (λ text. take 11 text) (c.as_bytes.ensures.value ∙ e) ∙ path_folders n s) in
     let end = c.in_ok-folders.ensures.cases.1 ∙ (ap (λ text. drop 11 text) (c.as_bytes.ensures.value ∙ e) ∙ path_end n s) in
-    let number = c.in_ok-number_of.ensures.only n h front in
+    let number = c.in_ok-number_of.ensures.only n h start in
     let suffix = c.in_ok-suffix_of.ensures.only s end in
     cc

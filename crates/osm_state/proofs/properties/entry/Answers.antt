@@ -3,7 +3,7 @@ use Rattle.std.proofs.lemmas.List.{take_all, length-drop}
 use Rattle.osm_state.proofs.LineLemmas.{entry_of_some}
 use Rattle.osm_state.proofs.properties.entry.Goals as goal
 
--- what stands after the first `=` is all of the line from there on
+-- the bytes after the first `=` are all the rest of the line
 pub returns : goal.returns
 returns c =
     let line = c.args.line.now in

@@ -14,22 +14,25 @@ use Rattle.osm_state.specs.declared.paths.Suffix.{Suffix}
 abbrev pub WrittenIsRead : Type 0
 WrittenIsRead = (s : StateValue) → IsState s → StateOf (state_text s) s
 
--- the text of a time by counting on is the text of that time
+-- the text of a time that is made by counting on is the text of that time
 abbrev pub CountedTimeIsText : Type 0
 CountedTimeIsText = (time : ℕ) → IsPositive time → TimeText (time_text time) time
 
--- a text has one state at most
+-- a text has at most one state
 abbrev pub OneState : Type 0
 OneState = (text : List ℕ) (s t : StateValue) → StateOf text s → StateOf text t → s ≡ t
 
--- a text has a state or one fault, and not both
+-- a text doesn't have both a state and a fault
 abbrev pub NoFaultBesideState : Type 0
-NoFaultBesideState = (text : List ℕ) (s : StateValue) (e : StateError) → StateOf text s → FaultOf text e → ⊥
+NoFaultBesideState =
+    (text : List ℕ) (s : StateValue) (e : StateError) → StateOf text s → FaultOf text e → ⊥
 
--- a text has one fault at most
+-- a text has at most one fault
 abbrev pub OneFault : Type 0
 OneFault = (text : List ℕ) (e f : StateError) → FaultOf text e → FaultOf text f → e ≡ f
 
--- a path is of one sequence and one suffix at most
+-- a path is that of at most one sequence and one suffix
 abbrev pub OnePath : Type 0
-OnePath = (m n : ℕ) (s t : Suffix) → m ≤ max_sequence → n ≤ max_sequence → path_text m s ≡ path_text n t → (m ≡ n) × (s ≡ t)
+OnePath =
+    (m n : ℕ) (s t : Suffix) → m ≤ max_sequence → n ≤ max_sequence →
+    path_text m s ≡ path_text n t → (m ≡ n) × (s ≡ t)

@@ -1,6 +1,8 @@
-use crate::paths::{Suffix, path, path_number};
-use crate::state::State;
-use crate::state_text::{StateError, state_read, state_write};
+//! Tests of state files and paths: texts of planet servers, faults in their order, paths.
+
+use osm_state::paths::{Suffix, path, path_number};
+use osm_state::state::State;
+use osm_state::state_text::{StateError, state_read, state_write};
 use std::test::Fail;
 
 // 2024-01-01T00:00:00Z
@@ -14,15 +16,18 @@ fn read(text: &[u8]) -> Result<(u32, u32), StateError> {
 // In the forms that planet servers have written over the years.
 const SERVER_TEXTS: [(&[u8], (u32, u32)); 8] = [
     (
-        b"#Wed Sep 12 07:07:05 UTC 2012\r\ntxnMax=5\r\nsequenceNumber=1234567\r\ntimestamp=2012-09-12T07\\:06\\:02Z\r\n",
+        b"#Wed Sep 12 07:07:05 UTC 2012\r\ntxnMax=5\r\nsequenceNumber=1234567\r\n\
+          timestamp=2012-09-12T07\\:06\\:02Z\r\n",
         (1_234_567, 1_347_433_562),
     ),
     (
-        b"#Mon Aug 24 10:12:41 UTC 2009\nsequenceNumber=0\ntimestamp=2009-08-24T10\\:12\\:00Z\ntxnActiveList=221,223\ntxnMax=224\ntxnMaxQueried=224\ntxnReadyList=\n",
+        b"#Mon Aug 24 10:12:41 UTC 2009\nsequenceNumber=0\ntimestamp=2009-08-24T10\\:12\\:00Z\n\
+          txnActiveList=221,223\ntxnMax=224\ntxnMaxQueried=224\ntxnReadyList=\n",
         (0, 1_251_108_720),
     ),
     (
-        b"txnMaxQueried=12\ntxnMax=12\ntxnActiveList=\ntxnReadyList=\ntimestamp=2011-11-01T11\\:37\\:02Z\nsequenceNumber=99\n",
+        b"txnMaxQueried=12\ntxnMax=12\ntxnActiveList=\ntxnReadyList=\n\
+          timestamp=2011-11-01T11\\:37\\:02Z\nsequenceNumber=99\n",
         (99, 1_320_147_422),
     ),
     (
@@ -30,7 +35,8 @@ const SERVER_TEXTS: [(&[u8], (u32, u32)); 8] = [
         (7, 1_347_669_664),
     ),
     (
-        b"# original OSM minutely replication sequence number 6516001\ntimestamp=2025-03-14T09\\:26\\:00Z\nsequenceNumber=4366\n",
+        b"# original OSM minutely replication sequence number 6516001\n\
+          timestamp=2025-03-14T09\\:26\\:00Z\nsequenceNumber=4366\n",
         (4366, 1_741_944_360),
     ),
     (
@@ -55,7 +61,7 @@ fn texts_of_planet_servers_are_read(rt: HostRuntime) {
 }
 
 // What our rules leave no doubt about.
-const TEXTS: [(&[u8], Result<(u32, u32), StateError>); 20] = [
+const TEXTS: [(&[u8], Result<(u32, u32), StateError>); 29] = [
     (b"", Err(StateError::MissingSequence)),
     (
         b"timestamp=2024-01-01T00:00:00Z",
@@ -119,7 +125,8 @@ const TEXTS: [(&[u8], Result<(u32, u32), StateError>); 20] = [
         Ok((8, NEW_YEAR)),
     ),
     (
-        b"sequenceNumber=7\ntimestamp=\\2\\0\\2\\4-01-01T00:00:00Z\nsequenceNumber\r\nsequenceNumber 9",
+        b"sequenceNumber=7\ntimestamp=\\2\\0\\2\\4-01-01T00:00:00Z\n\
+          sequenceNumber\r\nsequenceNumber 9",
         Ok((7, NEW_YEAR)),
     ),
     (
@@ -130,12 +137,48 @@ const TEXTS: [(&[u8], Result<(u32, u32), StateError>); 20] = [
         b"  # a note\n  ! another = one\nsequenceNumber=7\ntimestamp=2024-01-01T00:00:00Z\nwiki=\\",
         Ok((7, NEW_YEAR)),
     ),
+    (
+        b"sequenceNumber=7\x0c\ntimestamp=2024-01-01T00:00:00Z",
+        Err(StateError::BadSequence),
+    ),
+    (
+        b"sequenceNumber=7\ntimestamp=\x0b2024-01-01T00:00:00Z",
+        Err(StateError::BadTime),
+    ),
+    (
+        b"\x0csequenceNumber=7\ntimestamp=2024-01-01T00:00:00Z",
+        Err(StateError::MissingSequence),
+    ),
+    (
+        b"sequenceNumber:7\ntimestamp=2024-01-01T00:00:00Z",
+        Err(StateError::MissingSequence),
+    ),
+    (
+        b"sequenceNumber=7\nTimestamp=2024-01-01T00:00:00Z",
+        Err(StateError::MissingTime),
+    ),
+    (
+        b"sequenceNumber=7\ntimestamp=2024-01-01T00:00:00Z\ntimestamp=",
+        Err(StateError::BadTime),
+    ),
+    (
+        b"sequenceNumber=\\u0037\ntimestamp=2024-01-01T00:00:00Z",
+        Err(StateError::BadSequence),
+    ),
+    (
+        b"sequenceNumber=7\\\n8\ntimestamp=2024-01-01T00:00:00Z",
+        Err(StateError::BadEscape),
+    ),
+    (
+        b";sequenceNumber=8\nsequenceNumber=7\ntimestamp=2024-01-01T00:00:00Z # UTC",
+        Err(StateError::BadTime),
+    ),
 ];
 
 #[test]
 fn the_first_fault_is_named(rt: HostRuntime) {
-    for (place, (text, state)) in TEXTS.iter().enumerate() {
-        assert_eq!(rt; read(*text), *state, "text {place}");
+    for (index, (text, state)) in TEXTS.iter().enumerate() {
+        assert_eq!(rt; read(*text), *state, "text {index}");
     }
 }
 
