@@ -14,8 +14,8 @@ use Rattle.std.specs.List.Sorted.{IsStrictlySortedBy}
 use Rattle.std.specs.declared.cmp.Ordering.{Ordering}
 use Rattle.std.specs.Map.{lookup}
 use Rattle.std.specs.Ordering.{nat_cmp}
-use Rattle.osm_opl.specs.Laws.LineLaws.{one_change}
-use Rattle.osm_opl.specs.Laws.RoundTrip.{line_spells}
+use Rattle.osm_opl.proofs.LineLaws.{one_change}
+use Rattle.osm_opl.proofs.RoundTrip.{line_spells}
 use Rattle.osm_opl.specs.Written.{line_text}
 use Rattle.std.specs.Prelude.{if◌then◌else◌, ◌==◌, ◌↔◌, count_by, IsTrue, Contains, nat_eq}
 use Rattle.std.specs.List.{AllByRecursion}

@@ -5,7 +5,8 @@ use osm_follow::event::Reply;
 use osm_follow::view::View;
 use osm_model::memory::WantOfMemory;
 use osm_model::time::time_read;
-use osm_opl::lines::{LineError, read_line, split_line};
+use osm_opl::lines::{LineError, read_line};
+use osm_reading::lines::split_line;
 use std::alloc::{AllocError, AllocFailed, Global};
 
 /// Why a text isn't read.
