@@ -2,8 +2,7 @@
 //! several times, and prints how fast.
 #![tactic(auto)]
 
-mod changes;
-
+use made_changes::mixed;
 use osm_model::batch::Batch;
 use osm_model::form::ChangeForm;
 use osm_o5c::o5c::O5c;
@@ -61,10 +60,10 @@ fn measure<R: Print + Clock>(rt: &R, alloc: Global, batch: &Batch) -> anyhow::Re
 fn main(rt: HostRuntime) -> anyhow::Result<()> {
     let alloc = rt.alloc();
     if let Some(count) = env::args(&rt)?.nth(1) {
-        let batch = changes::mixed(alloc, count.as_str().parse::<u32>()?)?;
+        let batch = mixed(alloc, count.as_str().parse::<u32>()?)?;
         return measure(&rt, alloc, &batch);
     }
-    let batch = changes::mixed(alloc, 24)?;
+    let batch = mixed(alloc, 24)?;
     let bytes = O5c::write(alloc, &batch)?;
     let same = O5c::read(alloc, bytes.as_slice())? == batch;
     println!(rt;

@@ -1,6 +1,7 @@
 -- A map whose objects stand under their own keys, read as a list of objects.
-use Rattle.std.proofs.Common.{◌≡◌, ℕ, ◌<◌, List, [], ◌∷◌, map, refl, ap, sym, ◌∙◌, true, false, Bool, Option, Some, cond}
-use Rattle.std.specs.Prelude.{if◌then◌else◌}
+use Rattle.std.proofs.Common.{◌≡◌, ℕ, ◌<◌, List, [], ◌∷◌, map, refl, ap, sym, ◌∙◌, true, false, Bool, Option, Some, None, cond, Bor}
+use Rattle.std.specs.Prelude.{if◌then◌else◌, MatchOption}
+use Rattle.std.specs.Option.{option_copied}
 use Rattle.std.specs.BTreeMap.{is_at, insert_entry}
 use Rattle.std.specs.List.{AllByRecursion}
 use Rattle.std.specs.Map.{lookup, remove_entry, keys_of}
@@ -50,3 +51,8 @@ above-insert_entry (e ∷ es) n count above all = by_order (nat_cmp n e.0) (abov
     by_order Less rest = (above, all)
     by_order Equal rest = (above, all.1)
     by_order Greater rest = (all.0, rest)
+
+-- what a look-up of a map gives, behind a reference
+pub found_is : (r : Option (Bor ChangeValue)) (o : Option ChangeValue) → option_copied r ≡ o → MatchOption r (o ≡ None) (λ c. o ≡ Some c.now)
+found_is None o e = sym e
+found_is (Some c) o e = sym e

@@ -1,24 +1,32 @@
 -- A step's reply is allowed by the history before it.
 use Rattle.std.proofs.Common.{◌≡◌, ℕ, ◌+◌, ◌<◌, ◌≤◌, List, [], ◌∷◌, ◌++◌, length, ap, sym, ◌∙◌, true, false, arith, length-append}
+use Rattle.std.specs.Prelude.{Ok, Err}
 use Rattle.std.specs.Ordering.{nat_cmp}
 use Rattle.std.specs.Prelude.{Contains}
 use Rattle.osm_model.specs.Change.{ChangeValue}
 use Rattle.osm_follow.specs.Correct.{IsInStep}
 use Rattle.osm_follow.specs.Follower.{IsState}
 use Rattle.osm_follow.specs.History as hist
-use Rattle.osm_follow.specs.Legal.{IsOpen, IsWork, CanClose, Allowed, IsLegal}
+use Rattle.osm_follow.specs.Legal.{IsOpen, IsNext, IsWork, Allowed, IsLegal}
 use Rattle.osm_follow.specs.Mirror.{NeedsMemory}
-use Rattle.osm_follow.specs.Published.{changes_at, last_time}
+use Rattle.osm_follow.specs.Published.{IsSequence, changes_at, sequence_at}
+use Rattle.osm_follow.specs.Publisher.{PublisherValue}
 use Rattle.osm_follow.specs.Reach.{Reaches}
 use Rattle.osm_follow.specs.Step as step
 use Rattle.osm_follow.specs.View.{ViewValue, IsView, view_of}
 use Rattle.osm_follow.specs.World.{WorldValue}
+use Rattle.osm_follow.specs.declared.delivery.Delivered.{Delivered}
+use Rattle.osm_follow.specs.declared.delivery.Delivered.TheVariants as answers
+use Rattle.osm_follow.specs.declared.delivery.DeliverError.{DeliverError}
+use Rattle.osm_follow.specs.declared.delivery.DeliverError.TheVariants as errors
 use Rattle.osm_follow.specs.declared.event.Event.{Event}
 use Rattle.osm_follow.specs.declared.event.Event.TheVariants.{Edit, Close, Deliver, Show}
 use Rattle.osm_follow.specs.declared.event.Reply.{Reply}
-use Rattle.osm_follow.specs.declared.event.Reply.TheVariants.{Edited, BatchFull, WantOfMemory, Closed, SequenceFull, TimeBack, NotPublished, Broken, Old, TooEarly, Applied, Broke, Shown}
+use Rattle.osm_follow.specs.declared.event.Reply.TheVariants.{Edited, BatchFull, WantOfMemory, Closed, SequenceFull, TimeBack, TooLarge, NotPublished, Broken, Old, TooEarly, Applied, Broke, Shown}
 use Rattle.osm_follow.proofs.MirrorLemmas.{rising-nil}
-use Rattle.osm_follow.proofs.StepLemmas.{none_accepted}
+use Rattle.osm_follow.proofs.DeliveryLemmas.{FollowerStep}
+use Rattle.osm_follow.proofs.FollowLemmas.{none_accepted}
+use Rattle.osm_follow.proofs.StepLemmas.{AreLawful, delivered_as, published_at}
 
 whole_of : (h : hist.History) (a : WorldValue) → IsInStep h a → a.follower.is_broken ≡ false → hist.is_broken h ≡ false
 whole_of h a s whole = sym s.broken ∙ whole
@@ -26,10 +34,16 @@ whole_of h a s whole = sym s.broken ∙ whole
 state_of : (h : hist.History) (a : WorldValue) → IsInStep h a → a.follower.is_broken ≡ false → IsState (hist.published_of h) (hist.start_of h) (hist.accepted_of h) a.follower
 state_of h a s whole = s.state (whole_of h a s whole)
 
-open_of : (h : hist.History) (a : WorldValue) (k : ℕ) → IsInStep h a → 0 < k → k ≤ length a.published → a.follower.is_broken ≡ false → IsOpen h k a.follower.number
+published_is : (h : hist.History) (a : WorldValue) → IsInStep h a → a.publisher.number ≡ length (hist.published_of h)
+published_is h a s = ap (λ (p : PublisherValue). p.number) s.publisher
+
+pending_is : (h : hist.History) (a : WorldValue) → IsInStep h a → a.publisher.pending ≡ hist.pending_of h
+pending_is h a s = ap (λ (p : PublisherValue). p.pending) s.publisher
+
+open_of : (h : hist.History) (a : WorldValue) (k : ℕ) → IsInStep h a → 0 < k → k ≤ a.publisher.number → a.follower.is_broken ≡ false → IsOpen h k a.follower.number
 open_of h a k s above there whole = record {
   above = above;
-  there = rw s.published at there;
+  there = (let n : a.publisher.number ≡ length (hist.published_of h) = published_is h a s in rw n at there);
   whole = whole_of h a s whole;
   number = (let state = state_of h a s whole in state.reach);
 }
@@ -49,20 +63,26 @@ reaches_next h a k s whole next = record {
 some_of : (cs before after : List ChangeValue) (c : ChangeValue) → cs ≡ before ++ c ∷ after → 0 < length cs
 some_of cs before after c e = let many : length (before ++ c ∷ after) ≡ length before + length (c ∷ after) = length-append before (c ∷ after) in omega (arith, ap length e)
 
-work_of : (h : hist.History) (a : WorldValue) (k : ℕ) → IsInStep h a → a.follower.is_broken ≡ false → k ≡ a.follower.number + 1 → NeedsMemory a.follower.mirror (changes_at a.published k) → IsWork h k
+work_of : (h : hist.History) (a : WorldValue) (k : ℕ) → IsInStep h a → a.follower.is_broken ≡ false → k ≡ a.follower.number + 1 → NeedsMemory a.follower.mirror (changes_at (hist.published_of h) k) → IsWork h k
 work_of h a k s whole next needs =
-    let some : 0 < length (changes_at (hist.published_of h) k) = rw s.published at (some_of (changes_at a.published k) needs.before needs.after needs.change needs.is) in
+    let some : 0 < length (changes_at (hist.published_of h) k) = some_of (changes_at (hist.published_of h) k) needs.before needs.after needs.change needs.is in
     record {
       count = 0;
       reach = (let here : k + 0 ≡ k = omega arith in rw here (reaches_next h a k s whole next));
       some = rw length-append (omega arith);
     }
 
+-- the next number is the one that was delivered
+next_of : (h : hist.History) (a : WorldValue) (k : ℕ) → IsInStep h a → 0 < k → k ≤ a.publisher.number → a.follower.is_broken ≡ false → (sequence_at (hist.published_of h) k).number ≡ a.follower.number + 1 → IsNext h k a.follower.number
+next_of h a k s above there whole next =
+    let is : IsSequence k (sequence_at (hist.published_of h) k) = published_at h a k s above there in
+    record { is_open = open_of h a k s above there whole; next = sym is.number_is ∙ next }
+
 view_is : (h : hist.History) (a : WorldValue) (v : ViewValue) → IsInStep h a → a.follower.is_broken ≡ false → v ≡ view_of a.follower → IsView (hist.published_of h) (hist.start_of h) (hist.accepted_of h) v
 view_is h a v s whole is = let state = state_of h a s whole in rw is (record {
   reach = state.reach;
-  time = state.time;
-  mirror = state.mirror;
+  time = state.follows.time;
+  mirror = state.follows.mirror;
   rising = rising-nil nat_cmp;
   held = λ j. (λ has. absurd (nowhere j has), λ both. absurd (let out : hist.accepted_of h j ≡ false = none_above h a j s whole both.0 in let bad : true ≡ false = sym both.1 ∙ out in cc));
 })
@@ -70,35 +90,46 @@ view_is h a v s whole is = let state = state_of h a s whole in rw is (record {
     nowhere : (j : ℕ) → Contains [] j → ⊥
     nowhere j has = let below = has.1 in omega arith
 
-can_close : (h : hist.History) (a : WorldValue) (t : ℕ) → IsInStep h a → length a.published < 999999999 → last_time a.published ≤ t → CanClose h t
-can_close h a t s room onward = record { room = rw s.published at room; onward = rw s.published at onward }
-
-pub step_allowed : (h : hist.History) (e : Event) (r : Reply) (a b : WorldValue) → IsInStep h a → step.Step a e r b → Allowed h e r
-step_allowed h (Edit c) Edited a b s t = rw s.pending at t.0
-step_allowed h (Edit c) BatchFull a b s t = rw s.pending at t.0
-step_allowed h (Edit c) WantOfMemory a b s t = rw s.pending at t.0
-step_allowed h (Edit c) r a b s t = absurd t
-step_allowed h (Close m) (Closed n) a b s t = (can_close h a m s t.0 t.1, rw s.published at t.2)
-step_allowed h (Close m) SequenceFull a b s t = rw s.published at t.0
-step_allowed h (Close m) TimeBack a b s t = (rw s.published at t.0, rw s.published at t.1)
-step_allowed h (Close m) WantOfMemory a b s t = can_close h a m s t.0 t.1
-step_allowed h (Close m) r a b s t = absurd t
-step_allowed h (Deliver k form) NotPublished a b s t = rw s.published at t.0
-step_allowed h (Deliver k form) Broken a b s t = (t.above, rw s.published at t.there, sym s.broken ∙ t.step.0)
-step_allowed h (Deliver k form) Old a b s t = (a.follower.number, open_of h a k s t.above t.there t.step.0, t.step.1)
-step_allowed h (Deliver k form) TooEarly a b s t =
-    (a.follower.number, open_of h a k s t.above t.there t.step.0, t.step.1, none_above h a k s t.step.0 (let far = t.step.1 in omega arith))
-step_allowed h (Deliver k form) WantOfMemory a b s t =
-    (a.follower.number, record { is_open = open_of h a k s t.above t.there t.step.0; next = t.step.1 }, rw s.published at t.step.2)
-step_allowed h (Deliver k form) (Applied low high) a b s t =
-    (a.follower.number, record { is_open = open_of h a k s t.above t.there t.step.0; next = t.step.1 }, t.step.2, rw t.step.3 (reaches_next h a k s t.step.0 t.step.1))
-step_allowed h (Deliver k form) Broke a b s t =
-    (a.follower.number, record { is_open = open_of h a k s t.above t.there t.step.0; next = t.step.1 }, work_of h a k s t.step.0 t.step.1 t.step.2.needs)
-step_allowed h (Deliver k form) r a b s t = absurd t.step
-step_allowed h Show Broken a b s t = sym s.broken ∙ t.0
-step_allowed h Show (Shown v) a b s t = (whole_of h a s t.0, view_is h a v s t.0 t.1)
-step_allowed h Show WantOfMemory a b s t = whole_of h a s t.0
-step_allowed h Show r a b s t = absurd t
+pub step_allowed : AreLawful → (h : hist.History) (e : Event) (r : Reply) (a b : WorldValue) → IsInStep h a → step.Step a e r b → Allowed h e r
+step_allowed laws h (Edit c) Edited a b s t = (let cs : a.publisher.pending ≡ hist.pending_of h = pending_is h a s in rw cs at t.0)
+step_allowed laws h (Edit c) BatchFull a b s t = (let cs : a.publisher.pending ≡ hist.pending_of h = pending_is h a s in rw cs at t.0)
+step_allowed laws h (Edit c) WantOfMemory a b s t = (let cs : a.publisher.pending ≡ hist.pending_of h = pending_is h a s in rw cs at t.0)
+step_allowed laws h (Edit c) r a b s t = absurd t
+step_allowed laws h (Close m) (Closed n) a b s t = (rw s.publisher at t.0, (let cs : a.publisher.pending ≡ hist.pending_of h = pending_is h a s in rw cs at t.2), t.3 ∙ ap (λ (k : ℕ). k + 1) (published_is h a s))
+step_allowed laws h (Close m) SequenceFull a b s t = (let n : a.publisher.number ≡ length (hist.published_of h) = published_is h a s in rw n at t.0)
+step_allowed laws h (Close m) TimeBack a b s t = ((let n : a.publisher.number ≡ length (hist.published_of h) = published_is h a s in rw n at t.0), rw s.publisher at t.1)
+step_allowed laws h (Close m) TooLarge a b s t = (rw s.publisher at t.0, (let cs : a.publisher.pending ≡ hist.pending_of h = pending_is h a s in rw cs at t.1))
+step_allowed laws h (Close m) WantOfMemory a b s t = rw s.publisher at t.0
+step_allowed laws h (Close m) r a b s t = absurd t
+step_allowed laws h (Deliver k form) NotPublished a b s t = (let n : a.publisher.number ≡ length (hist.published_of h) = published_is h a s in rw n at t.0)
+step_allowed laws h (Deliver k form) Broken a b s t = (t.above, (let n : a.publisher.number ≡ length (hist.published_of h) = published_is h a s in rw n at t.there), sym s.broken ∙ t.replies.0)
+step_allowed laws h (Deliver k form) Old a b s t =
+    let is : IsSequence k (sequence_at (hist.published_of h) k) = published_at h a k s t.above t.there in
+    let d : FollowerStep a.follower (sequence_at (hist.published_of h) k) (Ok answers.Old) b.follower = delivered_as laws h a b k form (Ok answers.Old) s t.above t.there t.replies in
+    (a.follower.number, open_of h a k s t.above t.there d.0, (let n = is.number_is in let below = d.1 in omega arith))
+step_allowed laws h (Deliver k form) TooEarly a b s t =
+    let is : IsSequence k (sequence_at (hist.published_of h) k) = published_at h a k s t.above t.there in
+    let number : (sequence_at (hist.published_of h) k).number ≡ k = is.number_is in
+    let d : FollowerStep a.follower (sequence_at (hist.published_of h) k) (Err errors.TooEarly) b.follower = delivered_as laws h a b k form (Err errors.TooEarly) s t.above t.there t.replies in
+    let past : a.follower.number + 1 < k = rw number at d.1 in
+    (a.follower.number, open_of h a k s t.above t.there d.0, past, none_above h a k s d.0 (omega arith))
+step_allowed laws h (Deliver k form) WantOfMemory a b s t =
+    let d : FollowerStep a.follower (sequence_at (hist.published_of h) k) (Err errors.WantOfMemory) b.follower = delivered_as laws h a b k form (Err errors.WantOfMemory) s t.above t.there t.replies in
+    (a.follower.number, next_of h a k s t.above t.there d.0 d.1, d.2)
+step_allowed laws h (Deliver k form) (Applied low high) a b s t =
+    let is : IsSequence k (sequence_at (hist.published_of h) k) = published_at h a k s t.above t.there in
+    let d : FollowerStep a.follower (sequence_at (hist.published_of h) k) (Ok (answers.Applied low high)) b.follower = delivered_as laws h a b k form (Ok (answers.Applied low high)) s t.above t.there t.replies in
+    let high_is : high ≡ k = d.3 ∙ is.number_is in
+    (a.follower.number, next_of h a k s t.above t.there d.0 d.1, d.2 ∙ is.number_is, rw high_is (reaches_next h a k s d.0 (sym is.number_is ∙ d.1)))
+step_allowed laws h (Deliver k form) Broke a b s t =
+    let is : IsSequence k (sequence_at (hist.published_of h) k) = published_at h a k s t.above t.there in
+    let d : FollowerStep a.follower (sequence_at (hist.published_of h) k) (Err errors.Broke) b.follower = delivered_as laws h a b k form (Err errors.Broke) s t.above t.there t.replies in
+    (a.follower.number, next_of h a k s t.above t.there d.0 d.1, work_of h a k s d.0 (sym is.number_is ∙ d.1) d.2.needs)
+step_allowed laws h (Deliver k form) r a b s t = absurd t.replies
+step_allowed laws h Show Broken a b s t = sym s.broken ∙ t.0
+step_allowed laws h Show (Shown v) a b s t = (whole_of h a s t.0, view_is h a v s t.0 t.1)
+step_allowed laws h Show WantOfMemory a b s t = whole_of h a s t.0
+step_allowed laws h Show r a b s t = absurd t
 
 pub legal_none : IsLegal []
 legal_none = record { each = λ later before e r is. absurd (none later before (e, r) is) }

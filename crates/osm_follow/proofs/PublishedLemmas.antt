@@ -1,27 +1,39 @@
--- Published sequences with more behind them, and one sequence after another.
-use Rattle.std.proofs.Common.{◌≡◌, ℕ, zero, suc, ◌+◌, ◌-◌, ◌<◌, ◌≤◌, List, [], ◌∷◌, ◌++◌, length, take, get_or, refl, ap, sym, ◌∙◌, Some, arith, append-nil}
+-- Published sequences with more after them, and one sequence after another.
+use Rattle.std.proofs.Common.{◌≡◌, ℕ, zero, suc, ◌+◌, ◌-◌, ◌<◌, ◌≤◌, List, [], ◌∷◌, ◌++◌, length, take, get_or, refl, ap, sym, ◌∙◌, Some, arith, append-nil, map, inl, inr, length-append}
 use Rattle.std.specs.List.{flat_map, slice_get}
 use Rattle.std.proofs.lemmas.Grind.{flat_map-append}
-use Rattle.std.proofs.lemmas.List.{take_more, take-append-le, get_or_append_left}
+use Rattle.std.proofs.lemmas.List.{take_more, take-append-le, get_or_append_left, get_or-append-add, get_or-map}
+use Rattle.std.proofs.lemmas.Bool.{cases_lt}
 use Rattle.osm_model.specs.Change.{ChangeValue}
-use Rattle.osm_follow.specs.Published.{PublishedValue, unpublished, sequence_at, changes_at, time_at, changes_up_to, last_time}
+use Rattle.osm_follow.specs.Published.{PublishedValue, PublishedTexts, unpublished, no_texts, texts_at, written_of, IsSequence, AreSequences, sequence_at, changes_at, time_at, changes_up_to, last_time}
 
-last_at : (ps : List PublishedValue) (p : PublishedValue) (n : ℕ) → length ps ≡ suc n → slice_get ps n ≡ Some p → last_time ps ≡ p.time
-last_at [] p n h e = absurd (omega arith)
-last_at (q ∷ []) p zero h e = let same : q ≡ p = cc in ap (λ (x : PublishedValue). x.time) same
-last_at (q ∷ []) p (suc n) h e = absurd (omega arith)
-last_at (q ∷ r ∷ ps) p zero h e = absurd (omega arith)
-last_at (q ∷ r ∷ ps) p (suc n) h e = last_at (r ∷ ps) p n (omega arith) e
+pub last_time-snoc : (ps : List PublishedValue) (p : PublishedValue) → last_time (ps ++ p ∷ []) ≡ p.time
+last_time-snoc [] p = refl
+last_time-snoc (q ∷ []) p = refl
+last_time-snoc (q ∷ r ∷ ps) p = last_time-snoc (r ∷ ps) p
 
-pub last_time-last : (ps : List PublishedValue) (p : PublishedValue) → slice_get ps (length ps - 1) ≡ Some p → last_time ps ≡ p.time
-last_time-last [] p e = cc
-last_time-last (q ∷ ps) p e = last_at (q ∷ ps) p (length ps) refl (let index : length (q ∷ ps) - 1 ≡ length ps = omega arith in rw index at e)
-
-pub changes_within : (ps more : List PublishedValue) (n : ℕ) → n ≤ length ps → changes_up_to (ps ++ more) n ≡ changes_up_to ps n
-changes_within ps more n h = ap (flat_map (λ (p : PublishedValue). p.changes)) (take-append-le n ps more h)
+-- the texts of a sequence in the archive of all written texts
+pub texts_at-written : (ps : List PublishedValue) (k : ℕ) → 0 < k → k ≤ length ps → texts_at (map written_of ps) k ≡ written_of (sequence_at ps k)
+texts_at-written ps k above within = get_or-map written_of ps (k - 1) unpublished no_texts (omega arith)
 
 pub sequence_within : (ps more : List PublishedValue) (k : ℕ) → 0 < k → k ≤ length ps → sequence_at (ps ++ more) k ≡ sequence_at ps k
 sequence_within ps more k above within = get_or_append_left ps more unpublished (k - 1) (omega arith)
+
+-- one sequence more
+pub sequences-snoc : (ps : List PublishedValue) (p : PublishedValue) → AreSequences ps → IsSequence (length ps + 1) p → AreSequences (ps ++ p ∷ [])
+sequences-snoc ps p each last k above within =
+    let all : length (ps ++ p ∷ []) ≡ length ps + 1 = length-append ps (p ∷ []) in
+    elim (cases_lt (length ps) k) [
+      | inr below ↦ rw (sequence_within ps (p ∷ []) k above below) (each k above below)
+      | inl past ↦ (
+          let is : k ≡ length ps + 1 = omega arith in
+          let index : length ps + 1 - 1 ≡ length ps + 0 = omega arith in
+          let here : get_or (ps ++ p ∷ []) (length ps + 1 - 1) unpublished ≡ p = rw index (get_or-append-add ps (p ∷ []) 0 unpublished) in
+          rw (is, here) last)
+    ]
+
+pub changes_within : (ps more : List PublishedValue) (n : ℕ) → n ≤ length ps → changes_up_to (ps ++ more) n ≡ changes_up_to ps n
+changes_within ps more n h = ap (flat_map (λ (p : PublishedValue). p.changes)) (take-append-le n ps more h)
 
 pub time_within : (ps more : List PublishedValue) (n : ℕ) → n ≤ length ps → time_at (ps ++ more) n ≡ time_at ps n
 time_within ps more zero h = refl

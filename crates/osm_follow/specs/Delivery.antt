@@ -1,35 +1,89 @@
--- What the delivery of a published sequence may do to a follower.
-use Rattle.std.specs.Prelude.{◌≡◌, ℕ, ◌+◌, ◌<◌, ◌≤◌, Some, true, false, length}
+-- What a delivery answers, and the follower after it, by the state text and the bytes that are
+-- delivered: in what form the bytes are is a parameter.
+use Rattle.std.specs.Prelude.{◌≡◌, ℕ, ◌+◌, ◌<◌, ◌≤◌, List, [], length, Some, true, false, Result, Ok, Err}
+use Rattle.osm_model.specs.Change.{ChangeValue}
+use Rattle.osm_model.specs.ChangeForm.{SpellsNothing}
+use Rattle.osm_model.specs.Limits.{max_file}
+use Rattle.osm_model.specs.declared.form.FormError.{FormError}
+use Rattle.osm_model.specs.declared.form.FormError.TheVariants as faults
+use Rattle.osm_state.specs.State.{StateValue}
+use Rattle.osm_state.specs.StateFault.{FaultOf}
+use Rattle.osm_state.specs.StateText.{StateOf}
 use Rattle.osm_follow.specs.Follower.{FollowerValue}
 use Rattle.osm_follow.specs.Mirror.{Applies, NeedsMemory}
 use Rattle.osm_follow.specs.Published.{PublishedValue}
-use Rattle.osm_follow.specs.declared.event.Reply.{Reply}
-use Rattle.osm_follow.specs.declared.event.Reply.TheVariants.{Broken, Old, TooEarly, WantOfMemory, Applied, Broke}
+use Rattle.osm_follow.specs.declared.delivery.Delivered.{Delivered}
+use Rattle.osm_follow.specs.declared.delivery.Delivered.TheVariants.{Old, Applied}
+use Rattle.osm_follow.specs.declared.delivery.DeliverError.{DeliverError}
+use Rattle.osm_follow.specs.declared.delivery.DeliverError.TheVariants.{Broken, BadState, BadSequence}
+use Rattle.osm_follow.specs.declared.delivery.DeliverError.TheVariants.{TooEarly, BadChange}
+use Rattle.osm_follow.specs.declared.delivery.DeliverError.TheVariants.{WantOfMemory, Broke}
+
+-- which batches bytes spell
+abbrev pub Spelling : Type 1
+Spelling = List ℕ → List ChangeValue → Type 0
+
+-- at which place bytes that spell no batch have their fault
+abbrev pub FaultPlaces : Type 1
+FaultPlaces = List ℕ → ℕ → Type 0
 
 -- the sequence was applied, and the follower is at its number
-pub record Takes (f : FollowerValue) (k : ℕ) (p : PublishedValue) (g : FollowerValue) : Type 0 where
+pub record Takes (f : FollowerValue) (p : PublishedValue) (g : FollowerValue) : Type 0 where
   pub applied : Applies f.mirror p.changes g.mirror
-  pub rest : g ≡ record f { number = k; time = Some p.time; mirror = g.mirror }
+  pub rest : g ≡ record f { number = p.number; time = Some p.time; mirror = g.mirror }
 
--- the application was stopped half way, at a change that needs a new entry
-pub record Breaks (f : FollowerValue) (p : PublishedValue) (g : FollowerValue) : Type 0 where
-  pub needs : NeedsMemory f.mirror p.changes
+-- the application was stopped part of the way, at a change that needs a new entry
+pub record Breaks (f : FollowerValue) (changes : List ChangeValue) (g : FollowerValue) : Type 0 where
+  pub needs : NeedsMemory f.mirror changes
   pub rest : g ≡ record f { mirror = g.mirror; is_broken = true }
 
--- the next number was taken, as the reply says
-abbrev pub TakeStep : FollowerValue → ℕ → PublishedValue → Reply → FollowerValue → Type 0
-TakeStep f k p (Applied low high) g = (low ≡ k) × (high ≡ k) × Takes f k p g
-TakeStep f k p Broke g = Breaks f p g
-TakeStep f k p r g = ⊥
+-- the answers that are given before the bytes are read, and when: they depend on the follower and
+-- on the state text alone
+abbrev pub AnswersUnread :
+    FollowerValue → List ℕ → Result Delivered DeliverError → Type 0
+AnswersUnread f state (Err Broken) = f.is_broken ≡ true
+AnswersUnread f state (Err (BadState fault)) = (f.is_broken ≡ false) × FaultOf state fault
+AnswersUnread f state (Err BadSequence) =
+    (s : StateValue) × (f.is_broken ≡ false) × StateOf state s × (s.sequence ≡ 0)
+AnswersUnread f state (Ok Old) =
+    (s : StateValue) × (f.is_broken ≡ false) × StateOf state s
+    × (0 < s.sequence) × (s.sequence ≤ f.number)
+AnswersUnread f state (Err TooEarly) =
+    (s : StateValue) × (f.is_broken ≡ false) × StateOf state s × (f.number + 1 < s.sequence)
+AnswersUnread f state answer = ⊥
 
--- sequence k, published as p, was delivered
-abbrev pub FollowerStep : FollowerValue → ℕ → PublishedValue → Reply → FollowerValue → Type 0
-FollowerStep f k p Broken g = (f.is_broken ≡ true) × (g ≡ f)
-FollowerStep f k p Old g = (f.is_broken ≡ false) × (k ≤ f.number) × (g ≡ f)
-FollowerStep f k p TooEarly g = (f.is_broken ≡ false) × (f.number + 1 < k) × (g ≡ f)
-FollowerStep f k p WantOfMemory g =
-    (f.is_broken ≡ false) × (k ≡ f.number + 1) × (0 < length p.changes) × (g ≡ f)
-FollowerStep f k p (Applied low high) g =
-    (f.is_broken ≡ false) × (k ≡ f.number + 1) × (low ≡ k) × (high ≡ k) × Takes f k p g
-FollowerStep f k p Broke g = (f.is_broken ≡ false) × (k ≡ f.number + 1) × Breaks f p g
-FollowerStep f k p r g = ⊥
+-- the follower isn't broken, and the state text names the next number: the bytes are read
+pub record IsTurn (f : FollowerValue) (state : List ℕ) (s : StateValue) : Type 0 where
+  pub whole : f.is_broken ≡ false
+  pub names : StateOf state s
+  pub next : s.sequence ≡ f.number + 1
+
+-- the sequence of that state with those changes
+abbrev pub sequence_of : StateValue → List ChangeValue → PublishedValue
+sequence_of s changes = record { number = s.sequence; changes = changes; time = s.time }
+
+-- how bytes are refused that are read, memory aside
+abbrev pub IsBadChange : Spelling → FaultPlaces → List ℕ → FormError → Type 0
+IsBadChange spells fault_place bytes faults.TooLarge = max_file < length bytes
+IsBadChange spells fault_place bytes (faults.Fault place why) =
+    (length bytes ≤ max_file) × SpellsNothing spells bytes × fault_place bytes place
+IsBadChange spells fault_place bytes faults.WantOfMemory = ⊥
+
+-- the state text and the bytes were delivered to the follower: each answer with all its conditions,
+-- so that no two apply, except that memory may be refused in place of an application
+abbrev pub Delivers :
+    Spelling → FaultPlaces → FollowerValue → List ℕ → List ℕ
+    → Result Delivered DeliverError → FollowerValue → Type 0
+Delivers spells fault_place f state bytes (Ok (Applied low high)) g =
+    (s : StateValue) × (changes : List ChangeValue) × IsTurn f state s
+    × (length bytes ≤ max_file) × spells bytes changes
+    × (low ≡ s.sequence) × (high ≡ s.sequence) × Takes f (sequence_of s changes) g
+Delivers spells fault_place f state bytes (Err Broke) g =
+    (s : StateValue) × (changes : List ChangeValue) × IsTurn f state s
+    × (length bytes ≤ max_file) × spells bytes changes × Breaks f changes g
+Delivers spells fault_place f state bytes (Err (BadChange fault)) g =
+    (s : StateValue) × IsTurn f state s × IsBadChange spells fault_place bytes fault × (g ≡ f)
+Delivers spells fault_place f state bytes (Err WantOfMemory) g =
+    (s : StateValue) × IsTurn f state s
+    × (length bytes ≤ max_file) × (spells bytes [] → ⊥) × (g ≡ f)
+Delivers spells fault_place f state bytes answer g = AnswersUnread f state answer × (g ≡ f)

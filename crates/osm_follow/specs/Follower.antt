@@ -1,5 +1,6 @@
 -- A follower: its number, the time of that sequence, and its mirror.
-use Rattle.std.specs.Prelude.{◌≡◌, ℕ, ◌+◌, ◌*◌, ◌<◌, ◌≤◌, List, length, Bool, true, false, Option, None, Some, if◌then◌else◌, IsTrue}
+use Rattle.std.specs.Prelude.{◌≡◌, ℕ, ◌+◌, ◌*◌, ◌<◌, ◌≤◌, List, length, Bool, true, false, Option, None}
+use Rattle.std.specs.Prelude.{Some, if◌then◌else◌, IsTrue}
 use Rattle.osm_model.specs.Limits.{max_sequence, max_changes}
 use Rattle.osm_follow.specs.Mirror.{MirrorValue, IsMirrorOf, IsWithin, no_mirror}
 use Rattle.osm_follow.specs.Published.{PublishedValue, sequence_at, changes_up_to, time_at}
@@ -25,14 +26,21 @@ pub record IsBounded (number : ℕ) (mirror : MirrorValue) (is_broken : Bool) : 
   pub most : number ≤ max_sequence
   pub counts : ¬ IsTrue is_broken → IsWithin (max_changes * number) mirror
 
--- what a follower holds, by what was published, where it started and which numbers it accepted: it
--- is at the greatest number reached without a gap, holds exactly the mirror and counts of sequences
--- 1 to its number, and holds each accepted number above it
-pub record IsState (published : List PublishedValue) (start : ℕ) (is_accepted : ℕ → Bool) (f : FollowerValue) : Type 0 where
-  pub reach : Reaches is_accepted start f.number
+-- the follower holds exactly the mirror, the counts and the time of published sequences 1 to its
+-- number; what it holds back is a published sequence that comes after the next, within its window
+pub record Follows (published : List PublishedValue) (f : FollowerValue) : Type 0 where
   pub within : f.number ≤ length published
   pub mirror : IsMirrorOf (changes_up_to published f.number) f.mirror
   pub time : f.time ≡ time_at published f.number
-  pub held : (j : ℕ) → f.number < j → held_at f j ≡ (if is_accepted j then Some (sequence_at published j) else None)
-  pub released : (j : ℕ) → j ≤ f.number → held_at f j ≡ None
-  pub window : (j : ℕ) → f.number < j → is_accepted j ≡ true → (j ≤ f.number + 64) × (j ≤ length published)
+  pub held : (j : ℕ) (p : PublishedValue) → held_at f j ≡ Some p →
+      (f.number + 1 < j) × (j ≤ f.number + 64) × (j ≤ length published)
+      × (p ≡ sequence_at published j)
+
+-- what a follower is, by what was published, where it started and which numbers it accepted: it is
+-- at the greatest number reached without a gap, and holds back each accepted number above it
+pub record IsState (published : List PublishedValue) (start : ℕ) (is_accepted : ℕ → Bool)
+    (f : FollowerValue) : Type 0 where
+  pub reach : Reaches is_accepted start f.number
+  pub follows : Follows published f
+  pub held : (j : ℕ) → f.number < j →
+      held_at f j ≡ (if is_accepted j then Some (sequence_at published j) else None)

@@ -1,9 +1,11 @@
--- What a history of events and replies says. The model reads only these: no state stands in it. A
--- history has its newest pair first.
-use Rattle.std.specs.Prelude.{ℕ, ◌+◌, ◌-◌, length, List, [], ◌∷◌, ◌++◌, Bool, true, false, ◌||◌, ◌==◌, if◌then◌else◌, reverse}
+-- What a history of events and replies says. The model reads only these, and no state. A history has
+-- its newest pair first.
+use Rattle.std.specs.Prelude.{ℕ, ◌+◌, ◌-◌, length, List, [], ◌∷◌, ◌++◌, Bool, true, false, ◌||◌}
+use Rattle.std.specs.Prelude.{◌==◌, if◌then◌else◌, reverse}
 use Rattle.std.specs.List.{zip}
 use Rattle.osm_model.specs.Change.{ChangeValue}
-use Rattle.osm_follow.specs.Published.{PublishedValue}
+use Rattle.osm_follow.specs.Published.{PublishedValue, last_time}
+use Rattle.osm_follow.specs.Publisher.{PublisherValue}
 use Rattle.osm_follow.specs.Reach.{numbers}
 use Rattle.osm_follow.specs.declared.event.Event.{Event}
 use Rattle.osm_follow.specs.declared.event.Event.TheVariants.{Edit, Close, Deliver}
@@ -60,7 +62,19 @@ pending_of (p ∷ h) = if closes p.0 p.1 then [] else (pending_of h ++ edit_of p
 abbrev pub published_of : History → List PublishedValue
 published_of [] = []
 published_of (p ∷ h) =
-    if closes p.0 p.1 then (published_of h ++ (record { number = length (published_of h) + 1; changes = pending_of h; time = time_of p.0 }) ∷ []) else published_of h
+    if closes p.0 p.1 then (published_of h ++ (record {
+      number = length (published_of h) + 1;
+      changes = pending_of h;
+      time = time_of p.0;
+    }) ∷ []) else published_of h
+
+-- the publisher after a history
+abbrev pub publisher_of : History → PublisherValue
+publisher_of h = record {
+  number = length (published_of h);
+  time = last_time (published_of h);
+  pending = pending_of h;
+}
 
 -- the number that the follower started at: 0, as long as nothing is saved
 abbrev pub start_of : History → ℕ

@@ -2,14 +2,19 @@
 -- exactly where its conditions hold; only a refusal of memory may stand in place of another.
 use Rattle.std.specs.Prelude.{◌≡◌, ℕ, ◌+◌, ◌<◌, ◌≤◌, ◌∷◌, ◌++◌, length, true, false, ◌⊎◌}
 use Rattle.osm_model.specs.Limits.{max_changes, max_sequence}
-use Rattle.osm_follow.specs.History.{History, published_of, pending_of, start_of, accepted_of, is_broken}
+use Rattle.osm_follow.specs.History.{History, published_of, pending_of, publisher_of, start_of}
+use Rattle.osm_follow.specs.History.{accepted_of, is_broken}
 use Rattle.osm_follow.specs.Published.{last_time, changes_at}
+use Rattle.osm_follow.specs.Publisher.{CanClose, IsSmall, IsTooLarge}
 use Rattle.osm_follow.specs.Reach.{Reaches, between}
 use Rattle.osm_follow.specs.View.{IsView}
 use Rattle.osm_follow.specs.declared.event.Event.{Event}
 use Rattle.osm_follow.specs.declared.event.Event.TheVariants.{Edit, Close, Deliver, Show}
 use Rattle.osm_follow.specs.declared.event.Reply.{Reply}
-use Rattle.osm_follow.specs.declared.event.Reply.TheVariants.{Edited, BatchFull, WantOfMemory, Closed, SequenceFull, TimeBack, NotPublished, Broken, Old, TooEarly, Applied, Broke, Shown}
+use Rattle.osm_follow.specs.declared.event.Reply.TheVariants.{Edited, BatchFull, WantOfMemory, Closed}
+use Rattle.osm_follow.specs.declared.event.Reply.TheVariants.{SequenceFull, TimeBack, TooLarge}
+use Rattle.osm_follow.specs.declared.event.Reply.TheVariants.{NotPublished, Broken, Old, TooEarly}
+use Rattle.osm_follow.specs.declared.event.Reply.TheVariants.{Applied, Broke, Shown}
 
 -- the number of a history: the greatest such that it and all below it, above the start, were accepted
 abbrev pub IsNumber : History → ℕ → Type 0
@@ -39,16 +44,14 @@ AllowedEdit h BatchFull = length (pending_of h) ≡ max_changes
 AllowedEdit h WantOfMemory = length (pending_of h) < max_changes
 AllowedEdit h r = ⊥
 
--- the time of a close isn't below the last one's
-pub record CanClose (h : History) (t : ℕ) : Type 0 where
-  pub room : length (published_of h) < max_sequence
-  pub onward : last_time (published_of h) ≤ t
-
 abbrev pub AllowedClose : History → ℕ → Reply → Type 0
-AllowedClose h t (Closed n) = CanClose h t × (n ≡ length (published_of h) + 1)
+AllowedClose h t (Closed n) =
+    CanClose (publisher_of h) t × IsSmall (pending_of h) × (n ≡ length (published_of h) + 1)
 AllowedClose h t SequenceFull = length (published_of h) ≡ max_sequence
-AllowedClose h t TimeBack = (length (published_of h) < max_sequence) × (t < last_time (published_of h))
-AllowedClose h t WantOfMemory = CanClose h t
+AllowedClose h t TimeBack =
+    (length (published_of h) < max_sequence) × (t < last_time (published_of h))
+AllowedClose h t TooLarge = CanClose (publisher_of h) t × IsTooLarge (pending_of h)
+AllowedClose h t WantOfMemory = CanClose (publisher_of h) t
 AllowedClose h t r = ⊥
 
 abbrev pub AllowedDeliver : History → ℕ → Reply → Type 0

@@ -8,6 +8,8 @@ use Rattle.std.specs.Ordering.{nat_cmp}
 use Rattle.osm_model.specs.Change.{ChangeValue}
 use Rattle.osm_model.specs.Content.{content_of, over, standing_of, edits_by_user, edits_by_changeset}
 use Rattle.osm_model.specs.KeyOrder.{key_cmp, same_key}
+use Rattle.osm_model.specs.declared.change.What.{What}
+use Rattle.osm_model.specs.declared.change.What.TheVariants.{Deleted}
 use Rattle.osm_model.specs.declared.kind.Key.{Key}
 
 -- a number with its count of edits
@@ -76,6 +78,13 @@ pub record NeedsMemory (m : MirrorValue) (changes : List ChangeValue) : Type 0 w
   pub after : List ChangeValue
   pub is : changes ≡ before ++ change ∷ after
   pub place : NeedsNewEntry m before change
+
+-- the change deletes, and its user and its changeset have edits already: such a change needs no new
+-- entry, and so no memory
+pub record IsKnownDeletion (m : MirrorValue) (c : ChangeValue) : Type 0 where
+  pub user : 0 < count_at m.users c.meta.uid
+  pub changeset : 0 < count_at m.changesets c.meta.changeset
+  pub deletes : c.what ≡ Deleted
 
 -- the empty mirror
 abbrev pub no_mirror : MirrorValue

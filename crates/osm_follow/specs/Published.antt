@@ -1,15 +1,39 @@
 -- Published sequences, counted from 1 (OSM wiki, Planet.osm/diffs): each a batch of changes and the
 -- time of its state. Sequence 0 is the empty start.
-use Rattle.std.specs.Prelude.{◌≡◌, ℕ, zero, suc, ◌-◌, ◌<◌, ◌≤◌, length, List, Option, Some, None, take, get_or, [], ◌∷◌}
+use Rattle.std.specs.Prelude.{◌≡◌, ℕ, zero, suc, ◌-◌, ◌<◌, ◌≤◌, length, List, Option, Some, None}
+use Rattle.std.specs.Prelude.{take, get_or, [], ◌∷◌}
 use Rattle.std.specs.List.{flat_map}
+use Rattle.osm_model.specs.Batch.{IsBatch}
 use Rattle.osm_model.specs.Change.{ChangeValue}
+use Rattle.osm_model.specs.Limits.{IsPositive, max_sequence}
+use Rattle.osm_o5c.specs.Written.{o5c_text}
+use Rattle.osm_opl.specs.Written.{opl_text}
+use Rattle.osm_state.specs.StateText.{state_text}
 
+-- a sequence: its number, its changes and its time
 pub record PublishedValue : Type 0 where
   pub number : ℕ
   pub changes : List ChangeValue
   pub time : ℕ
 
--- what stands where nothing was published
+-- what a publisher gives out of a sequence: its number, the text of its state, and its changes as
+-- an o5c file and as an OPL file
+pub record PublishedTexts : Type 0 where
+  pub number : ℕ
+  pub state : List ℕ
+  pub o5c : List ℕ
+  pub opl : List ℕ
+
+-- the texts of a sequence, as they are written
+abbrev pub written_of : PublishedValue → PublishedTexts
+written_of p = record {
+  number = p.number;
+  state = state_text (record { sequence = p.number; time = p.time });
+  o5c = o5c_text p.changes;
+  opl = opl_text p.changes;
+}
+
+-- stands for a sequence that wasn't published
 abbrev pub unpublished : PublishedValue
 unpublished = record { number = 0; changes = []; time = 0 }
 
@@ -17,9 +41,25 @@ unpublished = record { number = 0; changes = []; time = 0 }
 abbrev pub sequence_at : List PublishedValue → ℕ → PublishedValue
 sequence_at published number = get_or published (number - 1) unpublished
 
--- each sequence stands at its own number
-abbrev pub AreNumbered : List PublishedValue → Type 0
-AreNumbered published = (k : ℕ) → 0 < k → k ≤ length published → (sequence_at published k).number ≡ k
+-- stands for the texts of a sequence that wasn't published
+abbrev pub no_texts : PublishedTexts
+no_texts = record { number = 0; state = []; o5c = []; opl = [] }
+
+-- the archived texts of the sequence of that number
+abbrev pub texts_at : List PublishedTexts → ℕ → PublishedTexts
+texts_at archive number = get_or archive (number - 1) no_texts
+
+-- the sequence has that number and is within the limits
+pub record IsSequence (number : ℕ) (p : PublishedValue) : Type 0 where
+  pub number_is : p.number ≡ number
+  pub most : number ≤ max_sequence
+  pub changes : IsBatch p.changes
+  pub time : IsPositive p.time
+
+-- the sequences are numbered from 1 and within the limits
+abbrev pub AreSequences : List PublishedValue → Type 0
+AreSequences published =
+    (k : ℕ) → 0 < k → k ≤ length published → IsSequence k (sequence_at published k)
 
 -- the changes of that sequence
 abbrev pub changes_at : List PublishedValue → ℕ → List ChangeValue

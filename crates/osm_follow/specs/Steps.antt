@@ -1,3 +1,5 @@
 -- Steps of proofs that clauses of private functions cite: no clause of a public function cites them.
 pub mod Entries
 pub mod Room
+pub mod Taking
+pub mod Archive

@@ -1,11 +1,13 @@
 -- What a follower shows of itself.
-use Rattle.std.specs.Prelude.{◌≡◌, ℕ, ◌<◌, List, [], Bool, true, Option, Contains, ◌↔◌}
+use Rattle.std.specs.Prelude.{◌≡◌, ℕ, ◌<◌, List, [], Bool, true, false, Option, Contains, ◌↔◌}
 use Rattle.std.specs.List.Sorted.{IsStrictlySortedBy}
 use Rattle.std.specs.Ordering.{nat_cmp}
 use Rattle.osm_follow.specs.Follower.{FollowerValue}
-use Rattle.osm_follow.specs.Mirror.{MirrorValue, IsMirrorOf}
+use Rattle.osm_follow.specs.Mirror.{MirrorValue, HoldsSome, IsMirrorOf}
 use Rattle.osm_follow.specs.Published.{PublishedValue, changes_up_to, time_at}
 use Rattle.osm_follow.specs.Reach.{Reaches}
+use Rattle.osm_follow.specs.declared.view.ViewError.{ViewError}
+use Rattle.osm_follow.specs.declared.view.ViewError.TheVariants.{Broken, WantOfMemory}
 
 pub record ViewValue : Type 0 where
   pub number : ℕ
@@ -17,9 +19,16 @@ pub record ViewValue : Type 0 where
 abbrev pub view_of : FollowerValue → ViewValue
 view_of f = record { number = f.number; time = f.time; mirror = f.mirror; held = [] }
 
--- the view of one that started there, and accepted those numbers of what was published: the objects
--- in the order of their keys, users and changesets with counts above 0 rising, held numbers rising
-pub record IsView (published : List PublishedValue) (start : ℕ) (is_accepted : ℕ → Bool) (v : ViewValue) : Type 0 where
+-- why a follower shows nothing: an empty mirror takes no memory
+abbrev pub ViewRefused : FollowerValue → ViewError → Type 0
+ViewRefused f Broken = f.is_broken ≡ true
+ViewRefused f WantOfMemory = (f.is_broken ≡ false) × HoldsSome f.mirror
+
+-- the view of a follower that started there, and accepted those numbers of what was published: the
+-- objects in the order of their keys, users and changesets with counts above 0 rising, held numbers
+-- rising
+pub record IsView (published : List PublishedValue) (start : ℕ) (is_accepted : ℕ → Bool)
+    (v : ViewValue) : Type 0 where
   pub reach : Reaches is_accepted start v.number
   pub time : v.time ≡ time_at published v.number
   pub mirror : IsMirrorOf (changes_up_to published v.number) v.mirror

@@ -1,14 +1,14 @@
--- A world: what is pending, what was published, and the follower.
+-- A world: a publisher, the texts of what it published, and a follower.
 use Rattle.std.specs.Prelude.{List, []}
-use Rattle.osm_model.specs.Change.{ChangeValue}
 use Rattle.osm_follow.specs.Follower.{FollowerValue, new_follower}
-use Rattle.osm_follow.specs.Published.{PublishedValue}
+use Rattle.osm_follow.specs.Published.{PublishedTexts}
+use Rattle.osm_follow.specs.Publisher.{PublisherValue, new_publisher}
 
 pub record WorldValue : Type 0 where
-  pub pending : List ChangeValue
-  pub published : List PublishedValue
+  pub publisher : PublisherValue
+  pub archive : List PublishedTexts
   pub follower : FollowerValue
 
 -- the world before any event
 abbrev pub new_world : WorldValue
-new_world = record { pending = []; published = []; follower = new_follower }
+new_world = record { publisher = new_publisher; archive = []; follower = new_follower }

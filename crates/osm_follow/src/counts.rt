@@ -1,6 +1,7 @@
 //! Edits counted by a number: a user's or a changeset's.
 
-ghost use Rattle.std.specs.Prelude.{◌≡◌, ℕ, ◌+◌, ◌<◌, ◌≤◌, ◌==◌, ◌^◌, [], length, IfOk, OnOk, OnErr, if◌then◌else◌};
+ghost use Rattle.std.specs.Prelude.{◌≡◌, ℕ, ◌+◌, ◌<◌, ◌≤◌, ◌==◌, ◌^◌, [], length, IfOk, OnOk};
+ghost use Rattle.std.specs.Prelude.{OnErr, if◌then◌else◌};
 ghost use Rattle.osm_follow.specs.Mirror.{AreCountsAboveZero, count_at};
 
 use osm_model::memory::WantOfMemory;
@@ -36,15 +37,23 @@ impl Counts {
         }
     }
 
+    /// The count of that number; 0 if there is none.
+    pub fn get(&self, number: u32) -> u64
+        ensures { result ≡ count_at self.now number }
+    {
+        self.counts.get(&number).copied().unwrap_or(0)
+    }
+
     /// Counts one edit more. After a refusal nothing has changed.
     pub fn add_one(&mut self, number: u32) -> Result<(), WantOfMemory>
         requires { count_at self.old number + 1 < 2 ^ 64 }
-        ensures counted { OnOk result ((n : ℕ) → count_at self.new n ≡ count_at self.old n + (if number == n then 1 else 0)) }
+        ensures counted { OnOk result ((n : ℕ) →
+            count_at self.new n ≡ count_at self.old n + (if number == n then 1 else 0)) }
         ensures grown { length self.new ≤ length self.old + 1 }
         ensures refused { OnErr result (count_at self.old number ≡ 0) }
         ensures unchanged { OnErr result (self.new ≡ self.old) }
     {
-        let count = self.counts.get(&number).copied().unwrap_or(0);
+        let count = self.get(number);
         self.counts.insert(number, count + 1)?;
         Ok(())
     }

@@ -7,6 +7,7 @@ use osm_model::change::Change;
 #[derive(Clone, Copy, Debug, PartialEq, Eq)]
 pub enum Form {
     Opl,
+    O5c,
 }
 
 #[derive(Debug, Drop)]
@@ -16,7 +17,8 @@ pub enum Event {
     /// The publisher closes the pending edits into the next sequence, at that time in seconds since
     /// 1970-01-01T00:00:00Z.
     Close(u32),
-    /// A published sequence is delivered to the follower.
+    /// The archived files of a sequence are delivered to the follower: its state text, and its
+    /// changes in that form.
     Deliver { number: u32, form: Form },
     /// The follower shows itself.
     Show,
@@ -34,15 +36,17 @@ pub enum Reply {
     SequenceFull,
     /// The time is below the last one.
     TimeBack,
+    /// The o5c file or the OPL file of the pending edits would pass 64 MiB.
+    TooLarge,
     NotPublished,
-    /// The follower is broken since an application was stopped half way for want of memory.
+    /// The follower is broken: an application ran out of memory part of the way.
     Broken,
     /// The number was applied before.
     Old,
-    /// The number's turn hasn't come.
+    /// A number before it is missing.
     TooEarly,
     Applied { low: u32, high: u32 },
-    /// Memory was refused half way through an application: the follower is broken from now on.
+    /// An application ran out of memory part of the way: the follower is broken from now on.
     Broke,
     Shown(View),
 }

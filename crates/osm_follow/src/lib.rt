@@ -2,11 +2,13 @@
 #![tactic(auto)]
 
 mod counts;
+pub mod delivery;
 pub mod event;
-mod follower;
+pub mod follower;
 pub mod laws;
 mod mirror;
 mod objects;
-mod published;
+pub mod published;
+pub mod publisher;
 pub mod view;
 pub mod world;

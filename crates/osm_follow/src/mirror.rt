@@ -1,12 +1,15 @@
 //! A mirror of all objects, with the edits by user and by changeset.
 
-ghost use Rattle.std.specs.Prelude.{◌≡◌, ◌<◌, [], ◌∷◌, length, OnOk, OnErr, IfOk};
-ghost use Rattle.osm_follow.specs.Mirror.{Applies, IsOrderly, NeedsMemory, NeedsNewEntry, no_mirror};
+ghost use Rattle.std.specs.Prelude.{◌≡◌, ◌<◌, [], ◌∷◌, length, OnOk, OnErr, IfOk, None, Some};
+ghost use Rattle.std.specs.Prelude.{MatchOption};
+ghost use Rattle.osm_follow.specs.Mirror.{Applies, IsOrderly, NeedsMemory};
+ghost use Rattle.osm_follow.specs.Mirror.{NeedsNewEntry, count_at, no_mirror, object_at};
 ghost use Rattle.osm_follow.specs.Steps.Room.{GrowsBy, HasRoom};
 
 use crate::counts::Counts;
 use crate::objects::Objects;
 use osm_model::change::Change;
+use osm_model::kind::Key;
 use osm_model::memory::WantOfMemory;
 use std::alloc::Global;
 use std::marker::Model;
@@ -81,6 +84,29 @@ impl Mirror {
         self.objects.keys_rise();
         self.users.counts_rise();
         self.changesets.counts_rise();
+    }
+
+    /// The object of that key.
+    pub fn get(&self, key: Key) -> Option<&Change>
+        ensures { MatchOption result
+            (object_at self.now.objects key ≡ None)
+            (λ c. object_at self.now.objects key ≡ Some c.now) }
+    {
+        self.objects.get(key)
+    }
+
+    /// The edits of a user.
+    pub fn user_count(&self, uid: u32) -> u64
+        ensures { result ≡ count_at self.now.users uid }
+    {
+        self.users.get(uid)
+    }
+
+    /// The edits in a changeset.
+    pub fn changeset_count(&self, id: u32) -> u64
+        ensures { result ≡ count_at self.now.changesets id }
+    {
+        self.changesets.get(id)
     }
 
     /// Copies of all objects, their keys rising.

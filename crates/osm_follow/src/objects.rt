@@ -1,6 +1,7 @@
 //! The objects that stand, each under its key.
 
-ghost use Rattle.std.specs.Prelude.{◌≡◌, ℕ, ◌+◌, ◌<◌, ◌≤◌, [], length, Some, None, IfOk, OnOk, OnErr, if◌then◌else◌};
+ghost use Rattle.std.specs.Prelude.{◌≡◌, ℕ, ◌+◌, ◌<◌, ◌≤◌, [], length, Some, None, IfOk, OnOk};
+ghost use Rattle.std.specs.Prelude.{OnErr, MatchOption, if◌then◌else◌};
 ghost use Rattle.osm_model.specs.Content.{standing_of};
 ghost use Rattle.osm_model.specs.KeyOrder.{same_key};
 ghost use Rattle.osm_model.specs.declared.kind.Key.{Key};
@@ -43,13 +44,23 @@ impl Objects {
         }
     }
 
+    /// The object of that key.
+    pub fn get(&self, key: Key) -> Option<&Change>
+        ensures { MatchOption result
+            (object_at self.now key ≡ None)
+            (λ c. object_at self.now key ≡ Some c.now) }
+    {
+        self.objects.get(&key)
+    }
+
     /// Makes one change: a deletion takes its object out, any other becomes its key's object. After a
     /// refusal nothing has changed.
     pub fn put(&mut self, change: Change) -> Result<(), WantOfMemory>
         ensures put { OnOk result ((k : Key) → object_at self.new k
             ≡ (if same_key change.key k then standing_of change else object_at self.old k)) }
         ensures grown { length self.new ≤ length self.old + 1 }
-        ensures refused { OnErr result ((standing_of change ≡ Some change) × (object_at self.old change.key ≡ None)) }
+        ensures refused { OnErr result
+            ((standing_of change ≡ Some change) × (object_at self.old change.key ≡ None)) }
         ensures unchanged { OnErr result (self.new ≡ self.old) }
     {
         if change.is_deletion() {

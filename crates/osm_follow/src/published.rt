@@ -1,78 +1,109 @@
-//! Published sequences.
+//! Published sequences, as files.
 
-ghost use Rattle.std.specs.Prelude.{◌≡◌, ◌≤◌};
-ghost use Rattle.osm_model.specs.Limits.{IsPositive};
-ghost use Rattle.osm_state.specs.StateText.{state_text};
+ghost use Rattle.std.specs.Prelude.{◌≡◌, ◌≤◌, length, IfOk, OnOk, IfErr};
+ghost use Rattle.osm_model.specs.Limits.{max_file};
+ghost use Rattle.osm_follow.specs.Published.{written_of};
+ghost use Rattle.osm_follow.specs.Publisher.{IsSmall, IsTooLarge};
+ghost use Rattle.osm_follow.specs.Steps.Archive.{TextRefused, WriteStops};
 
+use crate::publisher::CloseError;
 use osm_model::batch::Batch;
+use osm_model::form::{ChangeForm, FormError};
+use osm_o5c::o5c::O5c;
+use osm_opl::opl::Opl;
 use osm_state::state::State;
-use osm_state::state_text::state_read;
+use osm_state::state_text::state_write;
+use std::alloc::Global;
 use std::marker::Model;
 
-/// A closed batch and the text of its state.
+/// The files of a sequence: its state text, and its changes in o5c and in OPL.
 #[derive(Debug, Drop)]
 pub struct Published {
     number: u32,
-    time: u32,
-    batch: Batch,
     state: Vec<u8>,
+    o5c: Vec<u8>,
+    opl: Vec<u8>,
 }
 
 impl Model for Published {
-    ghost use Rattle.std.specs.Prelude.{◌≡◌};
-    ghost use Rattle.osm_follow.specs.Published.{PublishedValue};
-    ghost use Rattle.osm_state.specs.State.{IsState};
-    ghost use Rattle.osm_state.specs.StateText.{state_text};
+    ghost use Rattle.osm_follow.specs.Published.{PublishedTexts};
 
-    ghost Value = { PublishedValue };
+    ghost Value = { PublishedTexts };
 
-    ghost view = { λ a. record { number = a.number; changes = a.batch; time = a.time } };
-
-    ghost invariant = { λ a.
-        (a.state.items ≡ state_text (record { sequence = a.number; time = a.time }))
-        × IsState (record { sequence = a.number; time = a.time }) };
+    ghost view = { λ a. record {
+      number = a.number;
+      state = a.state.items;
+      o5c = a.o5c.items;
+      opl = a.opl.items;
+    } };
 }
 
 impl Published {
-    /// The batch of that state, whose text it is.
-    pub(crate) fn new(batch: Batch, state: State, text: Vec<u8>) -> Published
-        requires { text.items ≡ state_text state }
-        ensures { result ≡ record { number = state.sequence; changes = batch; time = state.time } }
+    /// The files of the sequence with that state and those changes.
+    pub(crate) fn write(
+        alloc: Global,
+        state: &State,
+        batch: &Batch,
+    ) -> Result<Published, CloseError>
+        ensures written { IfOk result (λ p. p ≡ written_of (record {
+          number = state.now.sequence;
+          changes = batch.now;
+          time = state.now.time;
+        })) }
+        ensures small { OnOk result (IsSmall batch.now) }
+        ensures refused { IfErr result (WriteStops batch.now) }
     {
-        Published {
+        let opl = write_text::<Opl>(alloc, batch)?;
+        let o5c = write_text::<O5c>(alloc, batch)?;
+        let Ok(text) = state_write(alloc, state) else {
+            return Err(CloseError::WantOfMemory);
+        };
+        Ok(Published {
             number: state.sequence(),
-            time: state.time(),
-            batch,
             state: text,
-        }
+            o5c,
+            opl,
+        })
     }
 
-    /// The number and the time, as the state text says them.
-    pub fn state(&self) -> State
-        ensures number { result.sequence ≡ self.now.number }
-        ensures time { result.time ≡ self.now.time }
-        ensures limits { IsPositive self.now.time }
+    pub fn number(&self) -> u32
+        ensures { result ≡ self.now.number }
     {
-        state_read(self.state.as_slice()).unwrap()
+        self.number
     }
 
     /// The text of the state file.
-    pub fn state_text(&self) -> &[u8]
-        ensures { result.now ≡ state_text (record { sequence = self.now.number; time = self.now.time }) }
+    pub fn state(&self) -> &[u8]
+        ensures { result.now ≡ self.now.state }
     {
         self.state.as_slice()
     }
 
-    pub fn batch(&self) -> &Batch
-        ensures { result.now ≡ self.now.changes }
+    /// The changes as an o5c file.
+    pub fn o5c(&self) -> &[u8]
+        ensures { result.now ≡ self.now.o5c }
     {
-        &self.batch
+        self.o5c.as_slice()
     }
 
-    /// The batch, where the refusal of a place gives it back.
-    pub(crate) fn into_batch(self) -> Batch
-        ensures { result ≡ self.changes }
+    /// The changes as an OPL file.
+    pub fn opl(&self) -> &[u8]
+        ensures { result.now ≡ self.now.opl }
     {
-        self.batch
+        self.opl.as_slice()
+    }
+}
+
+// The written text of a batch, in a form. A write is never a fault.
+fn write_text<F: ChangeForm>(alloc: Global, batch: &Batch) -> Result<Vec<u8>, CloseError>
+    ensures text { IfOk result (λ v. v.items ≡ F.text batch.now) }
+    ensures small { OnOk result (length (F.text batch.now) ≤ max_file) }
+    ensures refused { IfErr result (TextRefused (F.text batch.now)) }
+{
+    match F::write(alloc, batch) {
+        Ok(text) => Ok(text),
+        Err(FormError::TooLarge) => Err(CloseError::TooLarge),
+        Err(FormError::WantOfMemory) => Err(CloseError::WantOfMemory),
+        Err(FormError::Fault { place: _, why: _ }) => unreachable!(),
     }
 }

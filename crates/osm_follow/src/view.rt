@@ -8,6 +8,18 @@ use osm_model::change::Change;
 use osm_model::memory::WantOfMemory;
 use std::alloc::Global;
 use std::marker::Model;
+use thiserror::Error;
+
+/// Why a follower shows nothing of itself.
+#[derive(Clone, Copy, Debug, PartialEq, Eq, Error)]
+pub enum ViewError {
+    /// The follower is broken.
+    #[error("Broken")]
+    Broken,
+    /// Memory was refused.
+    #[error("WantOfMemory")]
+    WantOfMemory,
+}
 
 /// A copy of all that a follower holds: the objects in the order of their keys, the users and the
 /// changesets with their counts of edits, rising, and the numbers that are held, rising.
@@ -29,7 +41,11 @@ impl Model for View {
     ghost view = { λ a. record {
       number = a.number;
       time = a.time;
-      mirror = record { objects = a.objects.items; users = a.users.items; changesets = a.changesets.items };
+      mirror = record {
+        objects = a.objects.items;
+        users = a.users.items;
+        changesets = a.changesets.items;
+      };
       held = a.held.items;
     } };
 }
@@ -47,7 +63,11 @@ impl View {
         ensures { result ≡ record {
           number = number;
           time = time;
-          mirror = record { objects = objects.items; users = users.items; changesets = changesets.items };
+          mirror = record {
+            objects = objects.items;
+            users = users.items;
+            changesets = changesets.items;
+          };
           held = held.items;
         } }
     {
@@ -62,13 +82,18 @@ impl View {
     }
 
     /// The view of a follower with that number, time and mirror, which holds nothing.
-    pub fn of(
+    pub(crate) fn of(
         alloc: Global,
         number: u32,
         time: Option<u32>,
         mirror: &Mirror,
     ) -> Result<View, WantOfMemory>
-        ensures copies { IfOk result (λ v. v ≡ record { number = number; time = time; mirror = mirror.now; held = [] }) }
+        ensures copies { IfOk result (λ v. v ≡ record {
+          number = number;
+          time = time;
+          mirror = mirror.now;
+          held = [];
+        }) }
         ensures refused { OnErr result (HoldsSome mirror.now) }
     {
         let objects = mirror.objects(alloc)?;

@@ -1,44 +1,53 @@
 //! A publisher, its archive and a follower, which take events one by one.
 
-ghost use Rattle.std.specs.Prelude.{◌≡◌, ◌<◌, ◌≤◌, ◌⊎◌, length, IsOk, IfOk, OnErr, MatchOption};
-ghost use Rattle.osm_model.specs.Limits.{max_sequence};
+ghost use Rattle.std.specs.Prelude.{◌≡◌, ℕ, ◌<◌, ◌≤◌, ◌⊎◌, ◌↔◌, ◌+◌, length, IsOk, IsNone, IfOk, IfSome};
+ghost use Rattle.std.specs.Prelude.{OnErr};
+ghost use Rattle.osm_model.specs.Batch.{IsBatch};
 ghost use Rattle.osm_follow.specs.Correct.{IsRun};
-ghost use Rattle.osm_follow.specs.Published.{last_time, sequence_at};
-ghost use Rattle.osm_follow.specs.Step.{CloseStep, DeliverStep, EditStep, ShowStep, Step};
+ghost use Rattle.osm_follow.specs.Published.{texts_at};
+ghost use Rattle.osm_follow.specs.Step.{CloseStep, DeliverStep, EditStep, Replies, ShowStep, Step};
+ghost use Rattle.osm_follow.specs.Step.{bytes_in, fault_in, spells_in};
+ghost use Rattle.osm_follow.specs.Steps.Archive.{AreReadable, ClosesInto, IsArchive, IsReadable};
 ghost use Rattle.osm_follow.specs.World.{new_world};
 
-use crate::event::{Event, Reply};
+use crate::delivery::{DeliverError, Delivered};
+use crate::event::{Event, Form, Reply};
 use crate::follower::Follower;
+use crate::laws::laws_of_runs;
 use crate::published::Published;
-use osm_model::batch::{Batch, PushError};
+use crate::publisher::{CloseError, EditError, Publisher};
+use crate::view::ViewError;
 use osm_model::change::Change;
-use osm_model::limits::MAX_SEQUENCE;
+use osm_model::form::ChangeForm;
 use osm_model::memory::WantOfMemory;
-use osm_state::state::State;
-use osm_state::state_text::state_write;
+use osm_o5c::o5c::O5c;
+use osm_opl::opl::Opl;
+use osm_state::laws::laws_of_state;
 use std::alloc::Global;
 use std::marker::Model;
 
-/// The pending edits, the published sequences, and a follower of them.
+/// A publisher, the files of what it published, and a follower of them.
 #[derive(Debug, Drop)]
 pub struct World {
     alloc: Global,
-    pending: Batch,
+    publisher: Publisher,
     archive: Vec<Published>,
     follower: Follower,
 }
 
 impl Model for World {
-    ghost use Rattle.std.specs.Prelude.{◌≤◌, length};
-    ghost use Rattle.osm_model.specs.Limits.{max_sequence};
-    ghost use Rattle.osm_follow.specs.Published.{AreNumbered};
+    ghost use Rattle.osm_follow.specs.Steps.Archive.{IsArchive};
     ghost use Rattle.osm_follow.specs.World.{WorldValue};
 
     ghost Value = { WorldValue };
 
-    ghost view = { λ a. record { pending = a.pending; published = a.archive.items; follower = a.follower } };
+    ghost view = { λ a. record {
+      publisher = a.publisher;
+      archive = a.archive.items;
+      follower = a.follower;
+    } };
 
-    ghost invariant = { λ a. (length a.archive.items ≤ max_sequence) × AreNumbered a.archive.items };
+    ghost invariant = { λ a. IsArchive a.publisher.number a.archive.items };
 }
 
 /// A world after some events, and what it replied to each of them.
@@ -49,14 +58,14 @@ pub struct Run {
 }
 
 impl World {
-    /// Nothing is pending, nothing was published, and the follower is at sequence 0.
+    /// A new publisher, an empty archive and a new follower.
     pub fn new(alloc: Global) -> Result<World, WantOfMemory>
         ensures new { IfOk result (λ w. w ≡ new_world) }
         ensures enough { IsOk result }
     {
         Ok(World {
             alloc,
-            pending: Batch::new(alloc),
+            publisher: Publisher::new(alloc),
             archive: Vec::new(alloc),
             follower: Follower::new(alloc),
         })
@@ -69,6 +78,7 @@ impl World {
     {
         let mut world = World::new(alloc)?;
         let mut replies = Vec::with_capacity(alloc, events.len())?;
+        laws_of_runs();
         for event in events {
             let reply = world.step(event);
             replies.push(reply).unwrap();
@@ -83,79 +93,131 @@ impl World {
         match event {
             Event::Edit(change) => self.edit(change),
             Event::Close(time) => self.close(time),
-            Event::Deliver { number, form: _ } => self.deliver(number),
+            Event::Deliver { number, form } => self.deliver(number, form),
             Event::Show => self.show(),
         }
+    }
+
+    pub fn publisher(&self) -> &Publisher
+        ensures { result.now ≡ self.now.publisher }
+    {
+        &self.publisher
+    }
+
+    pub fn follower(&self) -> &Follower
+        ensures { result.now ≡ self.now.follower }
+    {
+        &self.follower
+    }
+
+    /// The files of that sequence; none if the number is 0 or above the publisher's.
+    pub fn published(&self, number: u32) -> Option<&Published>
+        ensures none { IsNone result ↔ ((number ≡ 0) ⊎ (self.now.publisher.number < number)) }
+        ensures texts { IfSome result (λ p. p.now ≡ texts_at self.now.archive number) }
+    {
+        if number == 0 || number > self.publisher.number() {
+            return None;
+        }
+        Some(&self.archive[number as usize - 1])
     }
 
     fn edit(&mut self, change: Change) -> Reply
         ensures { EditStep self.old change result self.new }
     {
-        match self.pending.push(change) {
+        match self.publisher.edit(change) {
             Ok(()) => Reply::Edited,
-            Err(PushError::Full(_)) => Reply::BatchFull,
-            Err(PushError::WantOfMemory(_)) => Reply::WantOfMemory,
+            Err(EditError::BatchFull(_)) => Reply::BatchFull,
+            Err(EditError::WantOfMemory(_)) => Reply::WantOfMemory,
         }
     }
 
     fn close(&mut self, time: u32) -> Reply
         ensures { CloseStep self.old time result self.new }
     {
-        let number = self.archive.len() as u32;
-        if number >= MAX_SEQUENCE {
-            return Reply::SequenceFull;
-        }
-        if time < last_time_of(self.archive.as_slice()) {
-            return Reply::TimeBack;
-        }
-        let alloc = self.alloc;
-        let state = State::new(number + 1, time).unwrap();
-        let Ok(text) = state_write(alloc, &state) else {
-            return Reply::WantOfMemory;
-        };
-        let batch = std::mem::replace(&mut self.pending, Batch::new(alloc));
-        match self.archive.push(Published::new(batch, state, text)) {
-            Ok(()) => Reply::Closed(number + 1),
-            Err(refused) => {
-                self.pending = refused.value.into_batch();
-                Reply::WantOfMemory
-            }
+        match close_into(&mut self.publisher, &mut self.archive, self.alloc, time) {
+            Ok(number) => Reply::Closed(number),
+            Err(CloseError::SequenceFull) => Reply::SequenceFull,
+            Err(CloseError::TimeBack) => Reply::TimeBack,
+            Err(CloseError::TooLarge) => Reply::TooLarge,
+            Err(CloseError::WantOfMemory) => Reply::WantOfMemory,
         }
     }
 
-    fn deliver(&mut self, number: u32) -> Reply
-        ensures { DeliverStep self.old number result self.new }
+    fn deliver(&mut self, number: u32, form: Form) -> Reply
+        ensures { DeliverStep self.old number form result self.new }
     {
-        if number == 0 || number as usize > self.archive.len() {
+        if number == 0 || number > self.publisher.number() {
             return Reply::NotPublished;
         }
-        let alloc = self.alloc;
         let published = &self.archive[number as usize - 1];
-        self.follower
-            .deliver(alloc, &published.state(), published.batch())
+        deliver_text(&mut self.follower, self.alloc, published, form)
     }
 
     fn show(&mut self) -> Reply
         ensures { ShowStep self.old result self.new }
     {
-        if self.follower.is_broken() {
-            return Reply::Broken;
-        }
-        let alloc = self.alloc;
-        match self.follower.view(alloc) {
+        match self.follower.view(self.alloc) {
             Ok(view) => Reply::Shown(view),
-            Err(WantOfMemory) => Reply::WantOfMemory,
+            Err(ViewError::Broken) => Reply::Broken,
+            Err(ViewError::WantOfMemory) => Reply::WantOfMemory,
         }
     }
 }
 
-// The time that the next close may not fall below: the last one's, or 1 before the first.
-fn last_time_of(archive: &[Published]) -> u32
-    ensures time { result ≡ last_time archive.now }
-    ensures above { 1 ≤ result }
+// Makes room in the archive first, so that a refusal changes nothing.
+fn close_into(
+    publisher: &mut Publisher,
+    archive: &mut Vec<Published>,
+    alloc: Global,
+    time: u32,
+) -> Result<u32, CloseError>
+    requires { IsArchive publisher.old.number archive.old.items }
+    ensures closes { ClosesInto publisher.old archive.old.items time result publisher.new archive.new.items }
+    ensures archive { IsArchive publisher.new.number archive.new.items }
 {
-    match archive.last() {
-        Some(published) => published.state().time(),
-        None => 1,
+    publisher.check_close(time)?;
+    if archive.reserve(1).is_err() {
+        return Err(CloseError::WantOfMemory);
+    }
+    let published = publisher.close(alloc, time)?;
+    laws_of_state();
+    Opl::laws();
+    O5c::laws();
+    archive.push(published).unwrap();
+    Ok(publisher.number())
+}
+
+fn deliver_text(follower: &mut Follower, alloc: Global, published: &Published, form: Form) -> Reply
+    requires { AreReadable published.now }
+    ensures { Replies (spells_in form) (fault_in form) follower.old published.now.state
+        (bytes_in form published.now) result follower.new }
+{
+    let state = published.state();
+    match form {
+        Form::Opl => deliver_in::<Opl>(follower, alloc, state, published.opl()),
+        Form::O5c => deliver_in::<O5c>(follower, alloc, state, published.o5c()),
+    }
+}
+
+// Texts that can be read are refused neither for the state nor for the changes.
+fn deliver_in<F: ChangeForm>(
+    follower: &mut Follower,
+    alloc: Global,
+    state: &[u8],
+    bytes: &[u8],
+) -> Reply
+    requires { IsReadable F.spells state.now bytes.now }
+    ensures { Replies F.spells F.fault_place follower.old state.now bytes.now result follower.new }
+{
+    match follower.deliver::<F>(alloc, state, bytes) {
+        Ok(Delivered::Old) => Reply::Old,
+        Ok(Delivered::Applied { low, high }) => Reply::Applied { low, high },
+        Err(DeliverError::Broken) => Reply::Broken,
+        Err(DeliverError::TooEarly) => Reply::TooEarly,
+        Err(DeliverError::WantOfMemory) => Reply::WantOfMemory,
+        Err(DeliverError::Broke) => Reply::Broke,
+        Err(DeliverError::BadState(_)) => unreachable!(),
+        Err(DeliverError::BadSequence) => unreachable!(),
+        Err(DeliverError::BadChange(_)) => unreachable!(),
     }
 }

@@ -13,18 +13,18 @@ use Rattle.osm_model.specs.declared.change.What.{What}
 use Rattle.osm_model.specs.declared.change.What.TheVariants.{Deleted}
 use Rattle.osm_model.specs.declared.lists.Member.{Member}
 use Rattle.osm_model.specs.declared.lists.Tag.{Tag}
-use Rattle.osm_o5c.specs.Counting.{counted_members, wrapped_of}
-use Rattle.osm_o5c.specs.NumberReading.{signed_at, part_at, id_at, longitude_at, latitude_at, is_id, is_longitude, is_latitude}
-use Rattle.osm_o5c.specs.StringReading.{pair_at, single_at, text_of, tag_at}
-use Rattle.osm_o5c.specs.ObjectReading.{many_at, ref_at, kind_of_digit, role_of, member_at, tags_at, refs_at, members_at, node_at, way_at, relation_at, what_at}
-use Rattle.osm_o5c.specs.Steps.{and_then, when}
+use Rattle.osm_o5c.specs.Written.{member_counter}
+use Rattle.osm_o5c.specs.Steps.NumberReading.{wrapped_of, signed_at, part_at, id_at, longitude_at, latitude_at, is_id, is_longitude, is_latitude}
+use Rattle.osm_o5c.specs.Steps.StringReading.{pair_at, single_at, text_of, tag_at}
+use Rattle.osm_o5c.specs.Steps.ObjectReading.{many_at, ref_at, kind_of_digit, role_of, member_at, tags_at, refs_at, members_at, node_at, way_at, relation_at, what_at}
+use Rattle.osm_reading.specs.Steps.Answers.{and_then, when}
 use Rattle.osm_o5c.specs.declared.reader.Reader.{Reader}
 use Rattle.osm_o5c.specs.declared.strings.Entry.{Entry}
-use Rattle.osm_o5c.specs.Laws.StepLemmas.{some_then, some_when}
-use Rattle.osm_o5c.specs.Laws.CounterLemmas.{is_id_is, is_longitude_is, is_latitude_is}
-use Rattle.osm_o5c.specs.Laws.StringLemmas.{text_takes}
-use Rattle.osm_o5c.specs.Laws.FieldLemmas.{IsMember, made_member}
-use Rattle.osm_o5c.specs.Laws.ObjectLemmas.{are_ids, are_roles, made_node, made_way, made_relation}
+use Rattle.osm_reading.proofs.StepLemmas.{some_then, some_when}
+use Rattle.osm_o5c.proofs.CounterLemmas.{is_id_is, is_longitude_is, is_latitude_is}
+use Rattle.osm_o5c.proofs.StringLemmas.{text_takes}
+use Rattle.osm_o5c.proofs.FieldLemmas.{IsMember, made_member}
+use Rattle.osm_o5c.proofs.ObjectLemmas.{are_ids, are_roles, made_node, made_way, made_relation}
 
 record Listed {A : Type 0} (limits : A → Type 0) (most : ℕ) (xs : List A) : Type 0 where
   few : length xs ≤ most
@@ -75,12 +75,12 @@ role_limits (b ∷ bs) x e =
 member_limits : (s : Reader) (bytes : List ℕ) (x : Member × Reader × List ℕ) → member_at s bytes ≡ Some x → IsMember x.0
 unfolding member_at
 member_limits s bytes x e =
-    let d = some_then (signed_at bytes) (λ d. and_then (single_at s.strings d.1) (λ t. and_then (role_of t.0) (λ r. when (is_id (counted_members r.0 s.counters +ℤ d.0)) (Some (made_member s d.0 t r))))) x e in
-    let t = some_then (single_at s.strings d.0.1) (λ t. and_then (role_of t.0) (λ r. when (is_id (counted_members r.0 s.counters +ℤ d.0.0)) (Some (made_member s d.0.0 t r)))) x d.2 in
-    let r = some_then (role_of t.0.0) (λ r. when (is_id (counted_members r.0 s.counters +ℤ d.0.0)) (Some (made_member s d.0.0 t.0 r))) x t.2 in
-    let g = some_when (is_id (counted_members r.0.0 s.counters +ℤ d.0.0)) (Some (made_member s d.0.0 t.0 r.0)) x r.2 in
+    let d = some_then (signed_at bytes) (λ d. and_then (single_at s.strings d.1) (λ t. and_then (role_of t.0) (λ r. when (is_id (member_counter r.0 s.counters +ℤ d.0)) (Some (made_member s d.0 t r))))) x e in
+    let t = some_then (single_at s.strings d.0.1) (λ t. and_then (role_of t.0) (λ r. when (is_id (member_counter r.0 s.counters +ℤ d.0.0)) (Some (made_member s d.0.0 t r)))) x d.2 in
+    let r = some_then (role_of t.0.0) (λ r. when (is_id (member_counter r.0 s.counters +ℤ d.0.0)) (Some (made_member s d.0.0 t.0 r))) x t.2 in
+    let g = some_when (is_id (member_counter r.0.0 s.counters +ℤ d.0.0)) (Some (made_member s d.0.0 t.0 r.0)) x r.2 in
     subst (λ (q : Member × Reader × List ℕ). IsMember q.0) (same_Some (made_member s d.0.0 t.0 r.0) x g.1)
-    (record { id = is_id_is (counted_members r.0.0 s.counters +ℤ d.0.0) g.0; role = role_limits t.0.0 r.0 r.1 })
+    (record { id = is_id_is (member_counter r.0.0 s.counters +ℤ d.0.0) g.0; role = role_limits t.0.0 r.0 r.1 })
 
 are_tags : (table : List Entry) (bytes : List ℕ) (t : List Tag × List Entry) → tags_at table bytes ≡ Some t → AreTags t.0
 are_tags table bytes t e = let l = many_limits IsTag tag_at tag_limits 5000 table bytes t e in record { few = l.few; each = l.each }

@@ -7,19 +7,19 @@ use Rattle.osm_model.specs.Change.{ChangeValue}
 use Rattle.osm_model.specs.declared.kind.Kind.{Kind}
 use Rattle.osm_o5c.specs.Context.{Context}
 use Rattle.osm_o5c.specs.File.{Front, Longest}
-use Rattle.osm_o5c.specs.FileReading.{new_reader, Place, place, step, dataset_at, dataset_of, object_dataset_at, other_dataset_at, with_found, kind_of_byte}
-use Rattle.osm_o5c.specs.Laws.FieldLemmas.{reader_of}
-use Rattle.osm_o5c.specs.Laws.FrontLemmas.{walk, Ends, apart, front_walks, longest_ends, none_later, same_behind, same_front}
-use Rattle.osm_o5c.specs.Laws.NumberLemmas.{part_takes, unsigned_again}
-use Rattle.osm_o5c.specs.Laws.StepLemmas.{chosen, some_then, some_when}
+use Rattle.osm_o5c.specs.Steps.FileReading.{new_reader, Position, position, step, dataset_at, dataset_of, object_dataset_at, other_dataset_at, with_found, kind_of_byte}
+use Rattle.osm_o5c.proofs.FieldLemmas.{reader_of}
+use Rattle.osm_o5c.proofs.FrontLemmas.{walk, Ends, apart, front_walks, longest_ends, none_later, same_behind, same_front}
+use Rattle.osm_o5c.proofs.NumberLemmas.{part_takes, unsigned_again}
+use Rattle.osm_reading.proofs.StepLemmas.{chosen, some_then, some_when}
 use Rattle.osm_o5c.specs.Number.{SpellsNumber}
-use Rattle.osm_o5c.specs.NumberReading.{part_at, unsigned_at}
-use Rattle.osm_o5c.specs.ObjectReading.{object_at}
-use Rattle.osm_o5c.specs.Steps.{and_then}
+use Rattle.osm_o5c.specs.Steps.NumberReading.{part_at, unsigned_at}
+use Rattle.osm_o5c.specs.Steps.ObjectReading.{object_at}
+use Rattle.osm_reading.specs.Steps.Answers.{and_then}
 use Rattle.osm_o5c.specs.declared.reader.Reader.{Reader}
 
 part_shrinks : (bytes : List ℕ) (x : List ℕ × List ℕ) → part_at bytes ≡ Some x → length x.1 ≤ length bytes
-part_shrinks bytes x e = let t = part_takes bytes x e in omega (arith, ap length t.parts, length-append t.front x.1)
+part_shrinks bytes x e = let t = part_takes bytes x e in omega (arith, ap length t.parts, length-append t.prefix x.1)
 
 object_shrinks : (k : Kind) (s : Reader) (bytes : List ℕ) (x : Option ChangeValue × Reader × List ℕ) → object_dataset_at k s bytes ≡ Some x → length x.2 ≤ length bytes
 unfolding object_dataset_at
@@ -52,28 +52,28 @@ unfolding dataset_at
 dataset_shrinks s [] x e = absurd cc
 dataset_shrinks s (t ∷ bytes) x e = omega (arith, of_shrinks (kind_of_byte t) t s bytes x e)
 
-found_shrinks : (xs : List ChangeValue) (x : Option ChangeValue × Reader × List ℕ) (q : Place) → with_found xs x ≡ Some q → length q.rest ≤ length x.2
-found_shrinks xs (None, s, more) q e = subst (λ (p : Place). length p.rest ≤ length more) (same_Some (place s xs more) q e) (omega arith)
+found_shrinks : (xs : List ChangeValue) (x : Option ChangeValue × Reader × List ℕ) (q : Position) → with_found xs x ≡ Some q → length q.rest ≤ length x.2
+found_shrinks xs (None, s, more) q e = subst (λ (p : Position). length p.rest ≤ length more) (same_Some (position s xs more) q e) (omega arith)
 found_shrinks xs (Some c, s, more) q e =
-    let g = some_when (ltb (length xs) 100000) (Some (place s (xs ++ c ∷ []) more)) q e in
-    subst (λ (p : Place). length p.rest ≤ length more) (same_Some (place s (xs ++ c ∷ []) more) q g.1) (omega arith)
+    let g = some_when (ltb (length xs) 100000) (Some (position s (xs ++ c ∷ []) more)) q e in
+    subst (λ (p : Position). length p.rest ≤ length more) (same_Some (position s (xs ++ c ∷ []) more) q g.1) (omega arith)
 
-step_shrinks : (p q : Place) → step p ≡ Some q → length q.rest ≤ length p.rest
+step_shrinks : (p q : Position) → step p ≡ Some q → length q.rest ≤ length p.rest
 unfolding step
 step_shrinks p q e =
     let x = some_then (dataset_at p.reader p.rest) (with_found p.changes) q e in
     omega (arith, found_shrinks p.changes x.0 q x.2, dataset_shrinks p.reader p.rest x.0 x.1)
 
-walk_shrinks : (bytes : List ℕ) (k j : ℕ) (p q : Place) → walk k bytes ≡ Some p → walk (k + j) bytes ≡ Some q → length q.rest ≤ length p.rest
+walk_shrinks : (bytes : List ℕ) (k j : ℕ) (p q : Position) → walk k bytes ≡ Some p → walk (k + j) bytes ≡ Some q → length q.rest ≤ length p.rest
 walk_shrinks bytes k zero p q a b =
     let same : p ≡ q = same_Some p q (sym a ∙ subst (λ (i : ℕ). walk i bytes ≡ Some q) (let z : k + 0 ≡ k = omega arith in z) b) in
-    omega (arith, ap (λ (r : Place). length r.rest) same)
+    omega (arith, ap (λ (r : Position). length r.rest) same)
 walk_shrinks bytes k (suc j) p q a b =
     let last : walk (suc (k + j)) bytes ≡ Some q = subst (λ (i : ℕ). walk i bytes ≡ Some q) (let z : k + suc j ≡ suc (k + j) = omega arith in z) b in
     let r = some_then (walk (k + j) bytes) step q last in
     omega (arith, walk_shrinks bytes k j p r.0 a r.1, step_shrinks r.0 q r.2)
 
-walked_back : (bytes : List ℕ) (k : ℕ) (p q : Place) → walk k bytes ≡ Some p → Ends bytes q → length q.rest ≤ length p.rest
+walked_back : (bytes : List ℕ) (k : ℕ) (p q : Position) → walk k bytes ≡ Some p → Ends bytes q → length q.rest ≤ length p.rest
 walked_back bytes k p q here ends =
     elim (cases_lt ends.count k) [
       | inl less ↦ apart (walk k bytes) p (none_later bytes k ends.count q less ends.leads ends.stuck) here
@@ -81,18 +81,18 @@ walked_back bytes k p q here ends =
     ]
 
 -- each front that the bytes begin with is at most as long
-pub longest_of_all : (bytes front rest other more : List ℕ) (C : Context) (xs : List ChangeValue) → Longest bytes front rest → Front other C xs → bytes ≡ other ++ more → length other ≤ length front
-longest_of_all bytes front rest other more C xs l f whole =
+pub longest_of_all : (bytes prefix rest other more : List ℕ) (C : Context) (xs : List ChangeValue) → Longest bytes prefix rest → Front other C xs → bytes ≡ other ++ more → length other ≤ length prefix
+longest_of_all bytes prefix rest other more C xs l f whole =
     let w = front_walks other C xs more f in
-    let end = longest_ends bytes front rest l in
+    let end = longest_ends bytes prefix rest l in
     let same : end.behind ≡ w.behind ++ more = same_behind end.behind (w.behind ++ more) (sym end.begins ∙ whole ∙ ap (λ (b : List ℕ). b ++ more) w.begins) in
-    let back : length rest ≤ length more = walked_back (w.behind ++ more) w.count (place (reader_of C) xs more) (place (reader_of l.context) l.changes rest) w.leads (subst (λ (b : List ℕ). Ends b (place (reader_of l.context) l.changes rest)) same end.ends) in
-    omega (arith, ap length whole, ap length l.whole, length-append front rest, length-append other more)
+    let back : length rest ≤ length more = walked_back (w.behind ++ more) w.count (position (reader_of C) xs more) (position (reader_of l.context) l.changes rest) w.leads (subst (λ (b : List ℕ). Ends b (position (reader_of l.context) l.changes rest)) same end.ends) in
+    omega (arith, ap length whole, ap length l.whole, length-append prefix rest, length-append other more)
 
--- two spellings of numbers at the front of the same bytes are one, of one number
-pub one_number : (front rest other more : List ℕ) (n m : ℕ) → SpellsNumber front n → SpellsNumber other m → front ++ rest ≡ other ++ more → (n ≡ m) × (front ≡ other)
-one_number front rest other more n m a b e =
-    let first : unsigned_at (front ++ rest) ≡ Some (n, rest) = unsigned_again front n rest a in
-    let second : unsigned_at (front ++ rest) ≡ Some (m, more) = rw e (unsigned_again other m more b) in
+-- two spellings of numbers at the start of the same bytes are one, of one number
+pub one_number : (prefix rest other more : List ℕ) (n m : ℕ) → SpellsNumber prefix n → SpellsNumber other m → prefix ++ rest ≡ other ++ more → (n ≡ m) × (prefix ≡ other)
+one_number prefix rest other more n m a b e =
+    let first : unsigned_at (prefix ++ rest) ≡ Some (n, rest) = unsigned_again prefix n rest a in
+    let second : unsigned_at (prefix ++ rest) ≡ Some (m, more) = rw e (unsigned_again other m more b) in
     let parts = some_pair_parts n m rest more (sym first ∙ second) in
-    (parts.0, same_front front rest other more parts.1 e)
+    (parts.0, same_front prefix rest other more parts.1 e)

@@ -5,28 +5,28 @@ use Rattle.std.proofs.lemmas.Option.{same_Some}
 use Rattle.std.proofs.lemmas.List.{length-append}
 use Rattle.osm_model.specs.declared.lists.Member.{Member}
 use Rattle.osm_model.specs.declared.lists.Tag.{Tag}
-use Rattle.osm_o5c.specs.Counting.{counted_members}
-use Rattle.osm_o5c.specs.NumberReading.{unsigned_at, signed_at, id_at, is_id}
-use Rattle.osm_o5c.specs.StringReading.{until_nul_at, latest, entered, pair_of, single_of, pair_at, single_at, text_of, tag_at}
-use Rattle.osm_o5c.specs.ObjectReading.{ref_at, role_of, member_at}
-use Rattle.osm_o5c.specs.Steps.{and_then, when}
+use Rattle.osm_o5c.specs.Written.{member_counter}
+use Rattle.osm_o5c.specs.Steps.NumberReading.{unsigned_at, signed_at, id_at, is_id}
+use Rattle.osm_o5c.specs.Steps.StringReading.{until_nul_at, latest, entered, pair_of, single_of, pair_at, single_at, text_of, tag_at}
+use Rattle.osm_o5c.specs.Steps.ObjectReading.{ref_at, role_of, member_at}
+use Rattle.osm_reading.specs.Steps.Answers.{and_then, when}
 use Rattle.osm_o5c.specs.declared.reader.Reader.{Reader}
 use Rattle.osm_o5c.specs.declared.strings.Entry.{Entry}
 use Rattle.osm_o5c.specs.declared.strings.Entry.TheVariants.{Pair, Single}
-use Rattle.osm_o5c.specs.Laws.StepLemmas.{some_then, some_when, chosen}
-use Rattle.osm_o5c.specs.Laws.NumberLemmas.{unsigned_takes, signed_takes, number_some}
-use Rattle.osm_o5c.specs.Laws.StringLemmas.{Before, until_takes}
-use Rattle.osm_o5c.specs.Laws.FieldLemmas.{made_member}
+use Rattle.osm_reading.proofs.StepLemmas.{some_then, some_when, chosen}
+use Rattle.osm_o5c.proofs.NumberLemmas.{unsigned_takes, signed_takes, number_some}
+use Rattle.osm_o5c.proofs.StringLemmas.{Before, until_takes}
+use Rattle.osm_o5c.proofs.FieldLemmas.{made_member}
 
 unsigned_shorter : (bytes : List ℕ) (x : ℕ × List ℕ) → unsigned_at bytes ≡ Some x → length x.1 < length bytes
 unsigned_shorter bytes x e =
     let t = unsigned_takes bytes x e in
-    omega (arith, number_some t.front x.0 t.spelled, ap length t.parts, length-append t.front x.1)
+    omega (arith, number_some t.prefix x.0 t.spelled, ap length t.parts, length-append t.prefix x.1)
 
 signed_shorter : (bytes : List ℕ) (x : ℤ × List ℕ) → signed_at bytes ≡ Some x → length x.1 < length bytes
 signed_shorter bytes x e =
     let t = signed_takes bytes x e in
-    omega (arith, number_some t.front _ t.spelled.unsigned, ap length t.parts, length-append t.front x.1)
+    omega (arith, number_some t.prefix _ t.spelled.unsigned, ap length t.parts, length-append t.prefix x.1)
 
 until_shorter : (bytes : List ℕ) (x : List ℕ × List ℕ) → until_nul_at bytes ≡ Some x → length x.1 < length bytes
 until_shorter bytes x e =
@@ -87,9 +87,9 @@ ref_shorter before bytes id after rest e =
 pub member_shorter : (s : Reader) (bytes : List ℕ) (m : Member) (after : Reader) (rest : List ℕ) → member_at s bytes ≡ Some (m, after, rest) → length rest < length bytes
 unfolding member_at
 member_shorter s bytes m after rest e =
-    let d = some_then (signed_at bytes) (λ d. and_then (single_at s.strings d.1) (λ t. and_then (role_of t.0) (λ r. when (is_id (counted_members r.0 s.counters +ℤ d.0)) (Some (made_member s d.0 t r))))) (m, after, rest) e in
-    let t = some_then (single_at s.strings d.0.1) (λ t. and_then (role_of t.0) (λ r. when (is_id (counted_members r.0 s.counters +ℤ d.0.0)) (Some (made_member s d.0.0 t r)))) (m, after, rest) d.2 in
-    let r = some_then (role_of t.0.0) (λ r. when (is_id (counted_members r.0 s.counters +ℤ d.0.0)) (Some (made_member s d.0.0 t.0 r))) (m, after, rest) t.2 in
-    let g = some_when (is_id (counted_members r.0.0 s.counters +ℤ d.0.0)) (Some (made_member s d.0.0 t.0 r.0)) (m, after, rest) r.2 in
+    let d = some_then (signed_at bytes) (λ d. and_then (single_at s.strings d.1) (λ t. and_then (role_of t.0) (λ r. when (is_id (member_counter r.0 s.counters +ℤ d.0)) (Some (made_member s d.0 t r))))) (m, after, rest) e in
+    let t = some_then (single_at s.strings d.0.1) (λ t. and_then (role_of t.0) (λ r. when (is_id (member_counter r.0 s.counters +ℤ d.0.0)) (Some (made_member s d.0.0 t r)))) (m, after, rest) d.2 in
+    let r = some_then (role_of t.0.0) (λ r. when (is_id (member_counter r.0 s.counters +ℤ d.0.0)) (Some (made_member s d.0.0 t.0 r))) (m, after, rest) t.2 in
+    let g = some_when (is_id (member_counter r.0.0 s.counters +ℤ d.0.0)) (Some (made_member s d.0.0 t.0 r.0)) (m, after, rest) r.2 in
     subst (λ (q : Member × Reader × List ℕ). length q.2 < length bytes) (same_Some (made_member s d.0.0 t.0 r.0) (m, after, rest) g.1)
     (omega (arith, signed_shorter bytes d.0 d.1, single_shorter s.strings d.0.1 t.0 t.1))

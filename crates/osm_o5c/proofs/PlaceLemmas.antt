@@ -1,4 +1,4 @@
--- Bytes go wrong at one place, and only where they spell nothing.
+-- Bytes go wrong at one place, and only if they spell nothing.
 use Rattle.std.proofs.Common.{◌≡◌, ℕ, zero, suc, ◌+◌, ◌-◌, ◌<◌, ◌≤◌, Bool, true, false, cond, eqb, ltb, List, [], ◌∷◌, ◌++◌, length, get_or, take, drop, Option, Some, None, refl, sym, ap, subst, ◌∙◌, arith, inl, inr, ◌⊎◌}
 use Rattle.std.specs.Prelude.{◌≢◌, IsSome}
 use Rattle.std.proofs.lemmas.Bool.{cases_lt, cases_eq}
@@ -11,23 +11,23 @@ use Rattle.osm_model.specs.Change.{ChangeValue}
 use Rattle.osm_model.specs.declared.kind.Kind.{Kind}
 use Rattle.osm_o5c.specs.Context.{Context}
 use Rattle.osm_o5c.specs.File.{beginning, Front, SpellsO5c, Longest, FaultPlace, no_beginning, after_end, no_dataset}
-use Rattle.osm_o5c.specs.FileReading.{new_reader, Place, place, step, dataset_at, object_dataset_at, other_dataset_at, dataset_of, with_found, kind_of_byte, BeginsObject}
-use Rattle.osm_o5c.specs.NumberReading.{part_at}
-use Rattle.osm_o5c.specs.ObjectReading.{object_at}
-use Rattle.osm_o5c.specs.Steps.{and_then}
+use Rattle.osm_o5c.specs.Steps.FileReading.{new_reader, Position, position, step, dataset_at, object_dataset_at, other_dataset_at, dataset_of, with_found, kind_of_byte, BeginsObject}
+use Rattle.osm_o5c.specs.Steps.NumberReading.{part_at}
+use Rattle.osm_o5c.specs.Steps.ObjectReading.{object_at}
+use Rattle.osm_reading.specs.Steps.Answers.{and_then}
 use Rattle.osm_o5c.specs.declared.reader.Reader.{Reader}
-use Rattle.osm_o5c.specs.Laws.StepLemmas.{some_then, some_when, chosen}
-use Rattle.osm_o5c.specs.Laws.FieldLemmas.{reader_of}
-use Rattle.osm_o5c.specs.Laws.FrontLemmas.{Stands, stands_first, stands_more, stands_longest, step_shorter, walk, Ends, EndsAt, one_end_at, same_behind, none_later, apart, longest_ends, spelled_ends, front_walks}
+use Rattle.osm_reading.proofs.StepLemmas.{some_then, some_when, chosen}
+use Rattle.osm_o5c.proofs.FieldLemmas.{reader_of}
+use Rattle.osm_o5c.proofs.FrontLemmas.{IsReached, reached_first, reached_more, reached_longest, step_shorter, walk, Ends, EndsAt, one_end_at, same_behind, none_later, apart, longest_ends, spelled_ends, front_walks}
 
--- how far behind the longest front the place of the fault is, by what follows the front
+-- how far after the longest front the place of the fault is, by what follows the front
 abbrev offset : List ℕ → Option ℕ
 offset [] = Some 0
 offset (b ∷ []) = cond (eqb b 254) None (Some 0)
 offset (b ∷ c ∷ r) = cond (eqb b 254) (Some 1) (Some 0)
 
 record FaultParts (bytes : List ℕ) (p : ℕ) : Type 0 where
-  at_end : Place
+  at_end : Position
   ends : EndsAt bytes at_end
   more : ℕ
   behind : offset at_end.rest ≡ Some more
@@ -44,36 +44,36 @@ pub record Unbegun (bytes : List ℕ) : Type 0 where
 
 fault_parts : (bytes : List ℕ) (p : ℕ) → FaultPlace bytes p → (Unbegun bytes × (p ≡ 0)) ⊎ FaultParts bytes p
 fault_parts _ _ (no_beginning bytes h) = inl (record { never = h }, refl)
-fault_parts _ _ (after_end bytes front b more l) = inr (record {
-  at_end = place (reader_of l.context) l.changes (254 ∷ b ∷ more);
-  ends = longest_ends bytes front (254 ∷ b ∷ more) l;
+fault_parts _ _ (after_end bytes prefix b more l) = inr (record {
+  at_end = position (reader_of l.context) l.changes (254 ∷ b ∷ more);
+  ends = longest_ends bytes prefix (254 ∷ b ∷ more) l;
   more = 1;
   behind = refl;
-  sum = omega (arith, ap length l.whole, length-append front (254 ∷ b ∷ more));
+  sum = omega (arith, ap length l.whole, length-append prefix (254 ∷ b ∷ more));
 })
-fault_parts _ _ (no_dataset bytes front rest l h) = inr (record {
-  at_end = place (reader_of l.context) l.changes rest;
-  ends = longest_ends bytes front rest l;
+fault_parts _ _ (no_dataset bytes prefix rest l h) = inr (record {
+  at_end = position (reader_of l.context) l.changes rest;
+  ends = longest_ends bytes prefix rest l;
   more = 0;
   behind = no_offset rest h;
-  sum = omega (arith, ap length l.whole, length-append front rest);
+  sum = omega (arith, ap length l.whole, length-append prefix rest);
 })
 
--- where a front was read, the bytes begin
-front_begins : (bytes front rest : List ℕ) (C : Context) (xs : List ChangeValue) → Front front C xs → bytes ≡ front ++ rest → Unbegun bytes → ⊥
-front_begins bytes front rest C xs f whole u =
-    let w = front_walks front C xs rest f in
+-- if a front was read, the bytes have the beginning
+front_begins : (bytes prefix rest : List ℕ) (C : Context) (xs : List ChangeValue) → Front prefix C xs → bytes ≡ prefix ++ rest → Unbegun bytes → ⊥
+front_begins bytes prefix rest C xs f whole u =
+    let w = front_walks prefix C xs rest f in
     u.never (w.behind ++ rest) (whole ∙ ap (λ (l : List ℕ). l ++ rest) w.begins)
 
 begun : (bytes : List ℕ) (p : ℕ) → Unbegun bytes → FaultPlace bytes p → p ≡ 0
 begun _ _ u (no_beginning bytes h) = refl
-begun _ _ u (after_end bytes front b more l) = absurd (front_begins bytes front (254 ∷ b ∷ more) l.context l.changes l.is_front l.whole u)
-begun _ _ u (no_dataset bytes front rest l h) = absurd (front_begins bytes front rest l.context l.changes l.is_front l.whole u)
+begun _ _ u (after_end bytes prefix b more l) = absurd (front_begins bytes prefix (254 ∷ b ∷ more) l.context l.changes l.is_front l.whole u)
+begun _ _ u (no_dataset bytes prefix rest l h) = absurd (front_begins bytes prefix rest l.context l.changes l.is_front l.whole u)
 
 same_parts : (bytes : List ℕ) (p q : ℕ) → FaultParts bytes p → FaultParts bytes q → p ≡ q
 same_parts bytes p q a b =
     let same : a.at_end ≡ b.at_end = one_end_at bytes a.at_end b.at_end a.ends b.ends in
-    let rest : a.at_end.rest ≡ b.at_end.rest = ap (λ (e : Place). e.rest) same in
+    let rest : a.at_end.rest ≡ b.at_end.rest = ap (λ (e : Position). e.rest) same in
     let more : a.more ≡ b.more = same_Some a.more b.more (sym a.behind ∙ ap offset rest ∙ b.behind) in
     let s : p + length a.at_end.rest ≡ length bytes + a.more = a.sum in
     let t : q + length b.at_end.rest ≡ length bytes + b.more = b.sum in
@@ -97,19 +97,19 @@ none_some o n a b = cc
 pub spelled_or_wrong : (bytes : List ℕ) (batch : List ChangeValue) (p : ℕ) → SpellsO5c bytes batch → FaultPlace bytes p → ⊥
 spelled_or_wrong bytes batch p s f =
     elim (fault_parts bytes p f) [
-      | inl x ↦ front_begins bytes s.front (254 ∷ []) s.context batch s.is_front s.whole x.0
+      | inl x ↦ front_begins bytes s.prefix (254 ∷ []) s.context batch s.is_front s.whole x.0
       | inr x ↦
-          let same : place (reader_of s.context) batch (254 ∷ []) ≡ x.at_end = one_end_at bytes (place (reader_of s.context) batch (254 ∷ [])) x.at_end (spelled_ends bytes batch s) x.ends in
-          none_some (offset x.at_end.rest) x.more (ap (λ (e : Place). offset e.rest) (sym same)) x.behind
+          let same : position (reader_of s.context) batch (254 ∷ []) ≡ x.at_end = one_end_at bytes (position (reader_of s.context) batch (254 ∷ [])) x.at_end (spelled_ends bytes batch s) x.ends in
+          none_some (offset x.at_end.rest) x.more (ap (λ (e : Position). offset e.rest) (sym same)) x.behind
     ]
 
 -- ---- what a reader finds
 
-stands_wrong : (bytes : List ℕ) (p : Place) (n : ℕ) → Stands bytes p → step p ≡ None → ((more : List ℕ) → p.rest ≡ 254 ∷ more → ⊥) → n + length p.rest ≡ length bytes → FaultPlace bytes n
+stands_wrong : (bytes : List ℕ) (p : Position) (n : ℕ) → IsReached bytes p → step p ≡ None → ((more : List ℕ) → p.rest ≡ 254 ∷ more → ⊥) → n + length p.rest ≡ length bytes → FaultPlace bytes n
 stands_wrong bytes p n s e other at =
-    let l : Longest bytes s.front p.rest = stands_longest bytes p s e in
-    let w : length s.front ≡ n = omega (arith, ap length s.whole, length-append s.front p.rest) in
-    subst (FaultPlace bytes) w (no_dataset bytes s.front p.rest l other)
+    let l : Longest bytes s.prefix p.rest = reached_longest bytes p s e in
+    let w : length s.prefix ≡ n = omega (arith, ap length s.whole, length-append s.prefix p.rest) in
+    subst (FaultPlace bytes) w (no_dataset bytes s.prefix p.rest l other)
 
 first_is : (rest : List ℕ) (b : ℕ) → 0 < length rest → get_or rest 0 0 ≡ b → rest ≡ b ∷ drop 1 rest
 first_is [] b h e = absurd (omega arith)
@@ -119,41 +119,41 @@ nothing_left : (rest : List ℕ) → length rest ≡ 0 → rest ≡ []
 nothing_left [] e = refl
 nothing_left (b ∷ r) e = absurd (omega arith)
 
-step_end : (p : Place) (more : List ℕ) → p.rest ≡ 254 ∷ more → step p ≡ None
+step_end : (p : Position) (more : List ℕ) → p.rest ≡ 254 ∷ more → step p ≡ None
 unfolding step dataset_at other_dataset_at and_then
 step_end p more e = rw e refl
 
-step_empty : (p : Place) → p.rest ≡ [] → step p ≡ None
+step_empty : (p : Position) → p.rest ≡ [] → step p ≡ None
 unfolding step dataset_at and_then
 step_empty p e = rw e refl
 
 -- the bytes stop being datasets
-pub exit_bad : (bytes : List ℕ) (p : Place) → Stands bytes p → step p ≡ None → get_or p.rest 0 0 ≢ 254 → FaultPlace bytes (length bytes - length p.rest)
+pub exit_bad : (bytes : List ℕ) (p : Position) → IsReached bytes p → step p ≡ None → get_or p.rest 0 0 ≢ 254 → FaultPlace bytes (length bytes - length p.rest)
 exit_bad bytes p s e other =
-    stands_wrong bytes p (length bytes - length p.rest) s e (λ more is. other (ap (λ (l : List ℕ). get_or l 0 0) is)) (omega (arith, ap length s.whole, length-append s.front p.rest))
+    stands_wrong bytes p (length bytes - length p.rest) s e (λ more is. other (ap (λ (l : List ℕ). get_or l 0 0) is)) (omega (arith, ap length s.whole, length-append s.prefix p.rest))
 
 -- the bytes end without the end byte
-pub exit_empty : (bytes : List ℕ) (p : Place) → Stands bytes p → length p.rest ≡ 0 → FaultPlace bytes (length bytes)
+pub exit_empty : (bytes : List ℕ) (p : Position) → IsReached bytes p → length p.rest ≡ 0 → FaultPlace bytes (length bytes)
 exit_empty bytes p s none =
     let is : p.rest ≡ [] = nothing_left p.rest none in
     stands_wrong bytes p (length bytes) s (step_empty p is) (λ more e. omega (arith, ap length e)) (omega arith)
 
 -- bytes follow the end byte
-pub exit_more : (bytes : List ℕ) (p : Place) → Stands bytes p → 1 < length p.rest → get_or p.rest 0 0 ≡ 254 → FaultPlace bytes (length bytes - length p.rest + 1)
+pub exit_more : (bytes : List ℕ) (p : Position) → IsReached bytes p → 1 < length p.rest → get_or p.rest 0 0 ≡ 254 → FaultPlace bytes (length bytes - length p.rest + 1)
 exit_more bytes p s long e =
     let is : p.rest ≡ 254 ∷ drop 1 p.rest = first_is p.rest 254 (omega arith) e in
     let more : drop 1 p.rest ≡ get_or (drop 1 p.rest) 0 0 ∷ drop 1 (drop 1 p.rest) = first_is (drop 1 p.rest) (get_or (drop 1 p.rest) 0 0) (omega (arith, length-drop 1 p.rest)) refl in
     let whole : p.rest ≡ 254 ∷ get_or (drop 1 p.rest) 0 0 ∷ drop 1 (drop 1 p.rest) = is ∙ ap (λ (l : List ℕ). 254 ∷ l) more in
-    let l : Longest bytes s.front p.rest = stands_longest bytes p s (step_end p (drop 1 p.rest) is) in
-    let w : length s.front + 1 ≡ length bytes - length p.rest + 1 = omega (arith, ap length s.whole, length-append s.front p.rest) in
-    subst (FaultPlace bytes) w (after_end bytes s.front (get_or (drop 1 p.rest) 0 0) (drop 1 (drop 1 p.rest)) (subst (Longest bytes s.front) whole l))
+    let l : Longest bytes s.prefix p.rest = reached_longest bytes p s (step_end p (drop 1 p.rest) is) in
+    let w : length s.prefix + 1 ≡ length bytes - length p.rest + 1 = omega (arith, ap length s.whole, length-append s.prefix p.rest) in
+    subst (FaultPlace bytes) w (after_end bytes s.prefix (get_or (drop 1 p.rest) 0 0) (drop 1 (drop 1 p.rest)) (subst (Longest bytes s.prefix) whole l))
 
 -- the end byte is the last
-pub exit_ok : (bytes : List ℕ) (p : Place) → Stands bytes p → length p.rest ≡ 1 → get_or p.rest 0 0 ≡ 254 → SpellsO5c bytes p.changes
+pub exit_ok : (bytes : List ℕ) (p : Position) → IsReached bytes p → length p.rest ≡ 1 → get_or p.rest 0 0 ≡ 254 → SpellsO5c bytes p.changes
 exit_ok bytes p s one e =
     let is : p.rest ≡ 254 ∷ drop 1 p.rest = first_is p.rest 254 (omega arith) e in
     let none : drop 1 p.rest ≡ [] = nothing_left (drop 1 p.rest) (omega (arith, length-drop 1 p.rest)) in
-    record { front = s.front; context = s.context; is_front = s.is_front; whole = s.whole ∙ ap (λ (l : List ℕ). s.front ++ l) (is ∙ ap (λ (l : List ℕ). 254 ∷ l) none) }
+    record { prefix = s.prefix; context = s.context; is_front = s.is_front; whole = s.whole ∙ ap (λ (l : List ℕ). s.prefix ++ l) (is ∙ ap (λ (l : List ℕ). 254 ∷ l) none) }
 
 -- ---- one of the two
 
@@ -161,7 +161,7 @@ data Answer (bytes : List ℕ) : Type 0 where
   spelled : (batch : List ChangeValue) → SpellsO5c bytes batch → Answer bytes
   wrong : (p : ℕ) → FaultPlace bytes p → Answer bytes
 
-stopped : (bytes : List ℕ) (p : Place) → Stands bytes p → step p ≡ None → Answer bytes
+stopped : (bytes : List ℕ) (p : Position) → IsReached bytes p → step p ≡ None → Answer bytes
 stopped bytes p s e =
     elim (cases_eq (get_or p.rest 0 0) 254) [
       | inr other ↦ wrong (length bytes - length p.rest) (exit_bad bytes p s e other)
@@ -178,12 +178,12 @@ which : {A : Type 0} (o : Option A) → (o ≡ None) ⊎ ((x : A) × (o ≡ Some
 which None = inl refl
 which (Some x) = inr (x, refl)
 
-settled : (n : ℕ) (bytes : List ℕ) (p : Place) → length p.rest ≤ n → Stands bytes p → Answer bytes
+settled : (n : ℕ) (bytes : List ℕ) (p : Position) → length p.rest ≤ n → IsReached bytes p → Answer bytes
 settled zero bytes p fits s = wrong (length bytes) (exit_empty bytes p s (omega arith))
 settled (suc n) bytes p fits s =
     elim (which (step p)) [
       | inl none ↦ stopped bytes p s none
-      | inr more ↦ settled n bytes more.0 (omega (arith, step_shorter bytes p more.0 s more.1)) (stands_more bytes p more.0 s more.1)
+      | inr more ↦ settled n bytes more.0 (omega (arith, step_shorter bytes p more.0 s more.1)) (reached_more bytes p more.0 s more.1)
     ]
 
 true_or_false : (b : Bool) → (b ≡ true) ⊎ (b ≡ false)
@@ -205,7 +205,7 @@ begin_or_not bytes =
 answered : (bytes : List ℕ) → Answer bytes
 answered bytes =
     elim (begin_or_not bytes) [
-      | inl is ↦ settled (length (drop 7 bytes)) bytes (place new_reader [] (drop 7 bytes)) (omega arith) (stands_first bytes (drop 7 bytes) is)
+      | inl is ↦ settled (length (drop 7 bytes)) bytes (position new_reader [] (drop 7 bytes)) (omega arith) (reached_first bytes (drop 7 bytes) is)
       | inr u ↦ wrong 0 (no_beginning bytes u.never)
     ]
 
@@ -216,21 +216,21 @@ fault_of bytes never = elim (answered bytes) [
   | wrong p f ↦ (p, f)
 ]
 
--- ---- where memory is wanted
+-- ---- out of memory
 
 -- changes are only added
-found_grows : (xs : List ChangeValue) (x : Option ChangeValue × Reader × List ℕ) (q : Place) → with_found xs x ≡ Some q → length xs ≤ length q.changes
-found_grows xs (None, s, more) q e = subst (λ (p : Place). length xs ≤ length p.changes) (same_Some (place s xs more) q e) (omega arith)
+found_grows : (xs : List ChangeValue) (x : Option ChangeValue × Reader × List ℕ) (q : Position) → with_found xs x ≡ Some q → length xs ≤ length q.changes
+found_grows xs (None, s, more) q e = subst (λ (p : Position). length xs ≤ length p.changes) (same_Some (position s xs more) q e) (omega arith)
 found_grows xs (Some c, s, more) q e =
-    let g = some_when (ltb (length xs) 100000) (Some (place s (xs ++ c ∷ []) more)) q e in
-    subst (λ (p : Place). length xs ≤ length p.changes) (same_Some (place s (xs ++ c ∷ []) more) q g.1) (omega (arith, length-append xs (c ∷ [])))
+    let g = some_when (ltb (length xs) 100000) (Some (position s (xs ++ c ∷ []) more)) q e in
+    subst (λ (p : Position). length xs ≤ length p.changes) (same_Some (position s (xs ++ c ∷ []) more) q g.1) (omega (arith, length-append xs (c ∷ [])))
 
-found_adds : (xs : List ChangeValue) (c : ChangeValue) (s : Reader) (more : List ℕ) (q : Place) → with_found xs (Some c, s, more) ≡ Some q → 0 < length q.changes
+found_adds : (xs : List ChangeValue) (c : ChangeValue) (s : Reader) (more : List ℕ) (q : Position) → with_found xs (Some c, s, more) ≡ Some q → 0 < length q.changes
 found_adds xs c s more q e =
-    let g = some_when (ltb (length xs) 100000) (Some (place s (xs ++ c ∷ []) more)) q e in
-    subst (λ (p : Place). 0 < length p.changes) (same_Some (place s (xs ++ c ∷ []) more) q g.1) (omega (arith, length-append xs (c ∷ [])))
+    let g = some_when (ltb (length xs) 100000) (Some (position s (xs ++ c ∷ []) more)) q e in
+    subst (λ (p : Position). 0 < length p.changes) (same_Some (position s (xs ++ c ∷ []) more) q g.1) (omega (arith, length-append xs (c ∷ [])))
 
-step_grows : (p q : Place) → step p ≡ Some q → length p.changes ≤ length q.changes
+step_grows : (p q : Position) → step p ≡ Some q → length p.changes ≤ length q.changes
 unfolding step
 step_grows p q e =
     let x = some_then (dataset_at p.reader p.rest) (with_found p.changes) q e in
@@ -255,36 +255,36 @@ unfolding dataset_at
 begins_found s [] x h e = absurd h
 begins_found s (t ∷ bytes) x h e = of_found (kind_of_byte t) t s bytes x h e
 
-step_adds : (p q : Place) → BeginsObject p.rest → step p ≡ Some q → 0 < length q.changes
+step_adds : (p q : Position) → BeginsObject p.rest → step p ≡ Some q → 0 < length q.changes
 unfolding step
 step_adds p q h e =
     let x = some_then (dataset_at p.reader p.rest) (with_found p.changes) q e in
     let c = begins_found p.reader p.rest x.0 h x.1 in
     found_adds p.changes c.0 x.0.1 x.0.2 q (subst (λ (o : Option ChangeValue). with_found p.changes (o, x.0.1, x.0.2) ≡ Some q) c.1 x.2)
 
-walk_grows : (bytes : List ℕ) (k j : ℕ) (p q : Place) → walk k bytes ≡ Some p → walk (k + j) bytes ≡ Some q → length p.changes ≤ length q.changes
+walk_grows : (bytes : List ℕ) (k j : ℕ) (p q : Position) → walk k bytes ≡ Some p → walk (k + j) bytes ≡ Some q → length p.changes ≤ length q.changes
 walk_grows bytes k zero p q a b =
     let same : p ≡ q = same_Some p q (sym a ∙ subst (λ (i : ℕ). walk i bytes ≡ Some q) (let z : k + 0 ≡ k = omega arith in z) b) in
-    omega (arith, ap (λ (r : Place). length r.changes) same)
+    omega (arith, ap (λ (r : Position). length r.changes) same)
 walk_grows bytes k (suc j) p q a b =
     let last : walk (suc (k + j)) bytes ≡ Some q = subst (λ (i : ℕ). walk i bytes ≡ Some q) (let z : k + suc j ≡ suc (k + j) = omega arith in z) b in
     let r = some_then (walk (k + j) bytes) step q last in
     omega (arith, walk_grows bytes k j p r.0 a r.1, step_grows r.0 q r.2)
 
--- so many steps led where a reader stands
-stands_walked : (bytes : List ℕ) (p : Place) → Stands bytes p → (behind : List ℕ) × (bytes ≡ beginning ++ behind) × ((k : ℕ) × (walk k behind ≡ Some p))
+-- so many steps led to where a reader is
+stands_walked : (bytes : List ℕ) (p : Position) → IsReached bytes p → (behind : List ℕ) × (bytes ≡ beginning ++ behind) × ((k : ℕ) × (walk k behind ≡ Some p))
 stands_walked bytes p s =
-    let w = front_walks s.front s.context p.changes p.rest s.is_front in (
+    let w = front_walks s.prefix s.context p.changes p.rest s.is_front in (
       w.behind ++ p.rest,
       s.whole ∙ ap (λ (l : List ℕ). l ++ p.rest) w.begins,
-      (w.count, w.leads ∙ ap (λ (r : Reader). Some (place r p.changes p.rest)) (sym s.same)),
+      (w.count, w.leads ∙ ap (λ (r : Reader). Some (position r p.changes p.rest)) (sym s.same)),
     )
 
-walked_one : (bytes : List ℕ) (k : ℕ) (p q : Place) → walk k bytes ≡ Some p → step p ≡ Some q → walk (suc k) bytes ≡ Some q
+walked_one : (bytes : List ℕ) (k : ℕ) (p q : Position) → walk k bytes ≡ Some p → step p ≡ Some q → walk (suc k) bytes ≡ Some q
 unfolding and_then
 walked_one bytes k p q here e = rw here e
 
-empty_later : (bytes : List ℕ) (k : ℕ) (p : Place) (q : Place) → walk k bytes ≡ Some p → BeginsObject p.rest → q.changes ≡ [] → Ends bytes q → (BeginsObject q.rest → ⊥) → ⊥
+empty_later : (bytes : List ℕ) (k : ℕ) (p : Position) (q : Position) → walk k bytes ≡ Some p → BeginsObject p.rest → q.changes ≡ [] → Ends bytes q → (BeginsObject q.rest → ⊥) → ⊥
 empty_later bytes k p q here object none ends other =
     elim (cases_lt k ends.count) [
       | inl less ↦
@@ -300,23 +300,23 @@ empty_later bytes k p q here object none ends other =
         | inl less ↦ apart (walk k bytes) p (none_later bytes k ends.count q less ends.leads ends.stuck) here
         | inr same ↦
             let equal : q ≡ p = same_Some q p (sym ends.leads ∙ subst (λ (i : ℕ). walk i bytes ≡ Some p) (let e : k ≡ ends.count = omega arith in e) here) in
-            other (subst (λ (r : Place). BeginsObject r.rest) (sym equal) object)
+            other (subst (λ (r : Position). BeginsObject r.rest) (sym equal) object)
       ]
     ]
 
--- where an object begins behind what was read, the bytes don't spell the empty batch
-pub wanted_at_object : (bytes : List ℕ) (p : Place) → Stands bytes p → BeginsObject p.rest → SpellsO5c bytes [] → ⊥
+-- if an object begins after what was read, the bytes don't spell the empty batch
+pub wanted_at_object : (bytes : List ℕ) (p : Position) → IsReached bytes p → BeginsObject p.rest → SpellsO5c bytes [] → ⊥
 wanted_at_object bytes p s object empty =
     let here = stands_walked bytes p s in
-    let ends : EndsAt bytes (place (reader_of empty.context) [] (254 ∷ [])) = spelled_ends bytes [] empty in
+    let ends : EndsAt bytes (position (reader_of empty.context) [] (254 ∷ [])) = spelled_ends bytes [] empty in
     let same : ends.behind ≡ here.0 = same_behind ends.behind here.0 (sym ends.begins ∙ here.1) in
-    empty_later here.0 here.2.0 p (place (reader_of empty.context) [] (254 ∷ [])) here.2.1 object refl (subst (λ (l : List ℕ). Ends l (place (reader_of empty.context) [] (254 ∷ []))) same ends.ends) no_some
+    empty_later here.0 here.2.0 p (position (reader_of empty.context) [] (254 ∷ [])) here.2.1 object refl (subst (λ (l : List ℕ). Ends l (position (reader_of empty.context) [] (254 ∷ []))) same ends.ends) no_some
 
 no_found : (s : Reader) (bytes : List ℕ) (c : ChangeValue) (after : Reader) (rest : List ℕ) → ◌≡◌ {A = Option (Option ChangeValue × Reader × List ℕ)} (Some (None, s, bytes)) (Some (Some c, after, rest)) → ⊥
 no_found s bytes c after rest e =
     let found : ◌≡◌ {A = Option ChangeValue} None (Some c) = ap (λ (q : Option ChangeValue × Reader × List ℕ). q.0) (same_Some (None, s, bytes) (Some c, after, rest) e) in cc
 
--- where a change is found, an object begins
+-- if a change is found, an object begins
 other_found : (t : ℕ) (s : Reader) (bytes : List ℕ) (c : ChangeValue) (after : Reader) (rest : List ℕ) → other_dataset_at t s bytes ≡ Some (Some c, after, rest) → ⊥
 unfolding other_dataset_at
 other_found t s bytes c after rest e =
@@ -342,5 +342,5 @@ found_begins s (t ∷ bytes) c after rest e = of_begins (kind_of_byte t) t s byt
 pub unbegun_place : (bytes : List ℕ) → bytes_eq (take 7 bytes) beginning ≡ false → FaultPlace bytes 0
 unbegun_place bytes not_so = no_beginning bytes (λ more e. none_true (bytes_eq (take 7 bytes) beginning) not_so ((bytes_eq-Decides (take 7 bytes) beginning).1 (ap (take 7) e)))
 
-pub begun_stands : (bytes rest : List ℕ) (r : Reader) (xs : List ChangeValue) → bytes_eq (take 7 bytes) beginning ≡ true → rest ≡ drop 7 bytes → r ≡ new_reader → xs ≡ [] → Stands bytes (place r xs rest)
-begun_stands bytes rest r xs so is same none = rw (is, same, none) (stands_first bytes (drop 7 bytes) (sym (take-append-drop 7 bytes) ∙ ap (λ (l : List ℕ). l ++ drop 7 bytes) ((bytes_eq-Decides (take 7 bytes) beginning).0 so)))
+pub begun_reached : (bytes rest : List ℕ) (r : Reader) (xs : List ChangeValue) → bytes_eq (take 7 bytes) beginning ≡ true → rest ≡ drop 7 bytes → r ≡ new_reader → xs ≡ [] → IsReached bytes (position r xs rest)
+begun_reached bytes rest r xs so is same none = rw (is, same, none) (reached_first bytes (drop 7 bytes) (sym (take-append-drop 7 bytes) ∙ ap (λ (l : List ℕ). l ++ drop 7 bytes) ((bytes_eq-Decides (take 7 bytes) beginning).0 so)))

@@ -8,48 +8,47 @@ use Rattle.osm_model.specs.declared.kind.Kind.TheVariants as kinds
 use Rattle.osm_model.specs.declared.change.What.TheVariants.{Node, Way, Relation, Deleted}
 use Rattle.osm_o5c.specs.Number.{SpellsNumber}
 use Rattle.osm_o5c.specs.Context.{IsWrapped}
-use Rattle.osm_o5c.specs.Counting.{no_counters}
-use Rattle.osm_o5c.specs.Written.{groups_text, number_text, signed_text, dataset_text, o5c_text}
+use Rattle.osm_o5c.specs.Written.{no_counters, varint_text, number_text, signed_text, dataset_text, o5c_text}
 
 unsigned_5 : number_text 5 ≡ 5 ∷ []
-unfolding groups_text
+unfolding varint_text
 unsigned_5 = refl
 
 unsigned_127 : number_text 127 ≡ 0x7f ∷ []
-unfolding groups_text
+unfolding varint_text
 unsigned_127 = refl
 
 unsigned_323 : number_text 323 ≡ 0xc3 ∷ 0x02 ∷ []
-unfolding groups_text
+unfolding varint_text
 unsigned_323 = refl
 
 unsigned_16384 : number_text 16384 ≡ 0x80 ∷ 0x80 ∷ 0x01 ∷ []
-unfolding groups_text
+unfolding varint_text
 unsigned_16384 = refl
 
 signed_4 : signed_text (pos 4) ≡ 0x08 ∷ []
-unfolding groups_text
+unfolding varint_text
 signed_4 = refl
 
 signed_64 : signed_text (pos 64) ≡ 0x80 ∷ 0x01 ∷ []
-unfolding groups_text
+unfolding varint_text
 signed_64 = refl
 
 signed_minus_2 : signed_text (negsuc 1) ≡ 0x03 ∷ []
-unfolding groups_text
+unfolding varint_text
 signed_minus_2 = refl
 
 signed_minus_65 : signed_text (negsuc 64) ≡ 0x81 ∷ 0x01 ∷ []
-unfolding groups_text
+unfolding varint_text
 signed_minus_65 = refl
 
--- a group of zeros at the end
+-- a last byte that adds nothing
 padded_5 : SpellsNumber (0x85 ∷ 0x00 ∷ []) 5
-padded_5 = record { groups = (omega arith, omega arith); value = refl; short = omega arith; small = omega arith }
+padded_5 = record { varint = (omega arith, omega arith); value = refl; short = omega arith; small = omega arith }
 
 -- one step past 180 degrees east by a difference in 32 bits is 180 degrees west
 wrapped_180 : IsWrapped (neg_ℤ (pos 1800000000)) (pos 2494967296)
-wrapped_180 = record { turns = pos 1; low = omega (arith, ints); high = omega (arith, ints); differs = refl }
+wrapped_180 = record { multiple = pos 1; low = omega (arith, ints); high = omega (arith, ints); differs = refl }
 
 -- version 1, changeset 7, 2024-01-01T00:00:00Z, user 5, `ann`
 ann : MetaValue
@@ -62,13 +61,13 @@ with_meta head tail =
 -- node 1 at 1 degree east and 2 degrees north
 node_dataset : dataset_text no_counters (record { key = record { kind = kinds.Node; id = pos 1 }; meta = ann; what = Node (pos 10000000) (pos 20000000) [] })
     ≡ with_meta (0x10 ∷ 0x17 ∷ 0x02 ∷ []) (0x80 ∷ 0xda ∷ 0xc4 ∷ 0x09 ∷ 0x80 ∷ 0xb4 ∷ 0x89 ∷ 0x13 ∷ [])
-unfolding groups_text ann
+unfolding varint_text ann
 node_dataset = refl
 
 -- way 10 with the nodes 1, 2, 5 and the tag `highway=path`
 way_dataset : dataset_text no_counters (record { key = record { kind = kinds.Way; id = pos 10 }; meta = ann; what = Way (pos 1 ∷ pos 2 ∷ pos 5 ∷ []) (record { key = 0x68 ∷ 0x69 ∷ 0x67 ∷ 0x68 ∷ 0x77 ∷ 0x61 ∷ 0x79 ∷ []; value = 0x70 ∷ 0x61 ∷ 0x74 ∷ 0x68 ∷ [] } ∷ []) })
     ≡ with_meta (0x11 ∷ 0x21 ∷ 0x14 ∷ []) (0x03 ∷ 0x02 ∷ 0x02 ∷ 0x06 ∷ 0x00 ∷ 0x68 ∷ 0x69 ∷ 0x67 ∷ 0x68 ∷ 0x77 ∷ 0x61 ∷ 0x79 ∷ 0x00 ∷ 0x70 ∷ 0x61 ∷ 0x74 ∷ 0x68 ∷ 0x00 ∷ [])
-unfolding groups_text ann
+unfolding varint_text ann
 way_dataset = refl
 
 -- relation 3 with the members node 1, way 10 as `outer`, and node 4
@@ -81,16 +80,28 @@ relation_dataset : dataset_text no_counters (record {
       ∷ record { key = record { kind = kinds.Node; id = pos 4 }; role = [] } ∷ []) [];
 })
     ≡ with_meta (0x12 ∷ 0x21 ∷ 0x06 ∷ []) (0x11 ∷ 0x02 ∷ 0x00 ∷ 0x30 ∷ 0x00 ∷ 0x14 ∷ 0x00 ∷ 0x31 ∷ 0x6f ∷ 0x75 ∷ 0x74 ∷ 0x65 ∷ 0x72 ∷ 0x00 ∷ 0x06 ∷ 0x00 ∷ 0x30 ∷ 0x00 ∷ [])
-unfolding groups_text ann
+unfolding varint_text ann
 relation_dataset = refl
+
+-- relation 3 with the members way 10 as `outer` and relation 20
+nested_dataset : dataset_text no_counters (record {
+  key = record { kind = kinds.Relation; id = pos 3 };
+  meta = ann;
+  what = Relation (
+      record { key = record { kind = kinds.Way; id = pos 10 }; role = 0x6f ∷ 0x75 ∷ 0x74 ∷ 0x65 ∷ 0x72 ∷ [] }
+      ∷ record { key = record { kind = kinds.Relation; id = pos 20 }; role = [] } ∷ []) [];
+})
+    ≡ with_meta (0x12 ∷ 0x1d ∷ 0x06 ∷ []) (0x0d ∷ 0x14 ∷ 0x00 ∷ 0x31 ∷ 0x6f ∷ 0x75 ∷ 0x74 ∷ 0x65 ∷ 0x72 ∷ 0x00 ∷ 0x28 ∷ 0x00 ∷ 0x32 ∷ 0x00 ∷ [])
+unfolding varint_text ann
+nested_dataset = refl
 
 -- way 10 without nodes and tags, and its deletion
 empty_way_dataset : dataset_text no_counters (record { key = record { kind = kinds.Way; id = pos 10 }; meta = ann; what = Way [] [] }) ≡ with_meta (0x11 ∷ 0x10 ∷ 0x14 ∷ []) (0x00 ∷ [])
-unfolding groups_text ann
+unfolding varint_text ann
 empty_way_dataset = refl
 
 deletion_dataset : dataset_text no_counters (record { key = record { kind = kinds.Way; id = pos 10 }; meta = ann; what = Deleted }) ≡ with_meta (0x11 ∷ 0x0f ∷ 0x14 ∷ []) []
-unfolding groups_text ann
+unfolding varint_text ann
 deletion_dataset = refl
 
 empty_batch : o5c_text [] ≡ 0xff ∷ 0xe0 ∷ 0x04 ∷ 0x6f ∷ 0x35 ∷ 0x63 ∷ 0x32 ∷ 0xfe ∷ []

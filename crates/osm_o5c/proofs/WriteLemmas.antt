@@ -4,61 +4,60 @@ use Rattle.std.specs.Prelude.{ℤ, pos, negsuc, ◌-ℤ◌, ◌≤ℤ◌, ◌<�
 use Rattle.std.proofs.lemmas.Bool.Decides.{nat_tests}
 use Rattle.std.proofs.lemmas.Int.{ints}
 use Rattle.std.proofs.lemmas.List.{append-nil, length-append}
-use Rattle.osm_o5c.specs.Number.{folded}
+use Rattle.osm_o5c.specs.Number.{zigzag}
 use Rattle.osm_model.specs.Change.{ChangeValue}
 use Rattle.osm_model.specs.declared.kind.Kind.{Kind}
-use Rattle.osm_o5c.specs.Counting.{no_counters}
+use Rattle.osm_o5c.specs.Written.{no_counters, varint_text, change_text, after_change, objects_text, o5c_text}
 use Rattle.osm_o5c.specs.File.{beginning}
-use Rattle.osm_o5c.specs.Written.{groups_text, change_text, after_change, objects_text, o5c_text}
 use Rattle.osm_o5c.specs.declared.counters.Counters.{Counters}
 
--- what holds where a call succeeds
+-- what holds if a call succeeds
 pub on_ok : {T E P Q : Type 0} (r : Result T E) → OnOk r P → (P → Q) → OnOk r Q
 on_ok (Ok x) p f = f p
 on_ok (Err e) p f = tt
 
 -- ---- numbers
 
-pub groups_none : (n : ℕ) (old : List ℕ) → old ≡ old ++ groups_text 0 n
-unfolding groups_text
-groups_none n old = sym (append-nil old)
+pub varint_none : (n : ℕ) (old : List ℕ) → old ≡ old ++ varint_text 0 n
+unfolding varint_text
+varint_none n old = sym (append-nil old)
 
-last_group : (most n : ℕ) → 0 < most → n < 128 → groups_text most n ≡ n ∷ []
-unfolding groups_text
-last_group zero n some small = absurd (omega arith)
-last_group (suc k) n some small = let t : ltb n 128 ≡ true = grind (arith, nat_tests) in rw t refl
+last_byte : (most n : ℕ) → 0 < most → n < 128 → varint_text most n ≡ n ∷ []
+unfolding varint_text
+last_byte zero n some small = absurd (omega arith)
+last_byte (suc k) n some small = let t : ltb n 128 ≡ true = grind (arith, nat_tests) in rw t refl
 
-more_groups : (most n : ℕ) → 0 < most → 128 ≤ n → groups_text most n ≡ (n % 128 + 128) ∷ groups_text (most - 1) (n / 128)
-unfolding groups_text
-more_groups zero n some big = absurd (omega arith)
-more_groups (suc k) n some big =
+more_varint : (most n : ℕ) → 0 < most → 128 ≤ n → varint_text most n ≡ (n % 128 + 128) ∷ varint_text (most - 1) (n / 128)
+unfolding varint_text
+more_varint zero n some big = absurd (omega arith)
+more_varint (suc k) n some big =
     let t : ltb n 128 ≡ false = grind (arith, nat_tests) in
     let j : suc k - 1 ≡ k = omega arith in
     rw (t, j) refl
 
-pub groups_last : (most n : ℕ) (old new : List ℕ) → 0 < most → n < 128 → new ≡ old ++ n ∷ [] → new ≡ old ++ groups_text most n
-groups_last most n old new some small e = e ∙ ap (λ (l : List ℕ). old ++ l) (sym (last_group most n some small))
+pub varint_last : (most n : ℕ) (old new : List ℕ) → 0 < most → n < 128 → new ≡ old ++ n ∷ [] → new ≡ old ++ varint_text most n
+varint_last most n old new some small e = e ∙ ap (λ (l : List ℕ). old ++ l) (sym (last_byte most n some small))
 
-pub groups_more : (most n : ℕ) (old mid new : List ℕ) → 0 < most → 128 ≤ n → mid ≡ old ++ (n % 128 + 128) ∷ [] → new ≡ mid ++ groups_text (most - 1) (n / 128) → new ≡ old ++ groups_text most n
-groups_more most n old mid new some big m e =
-    e ∙ ap (λ (l : List ℕ). l ++ groups_text (most - 1) (n / 128)) m ∙ append_assoc old ((n % 128 + 128) ∷ []) (groups_text (most - 1) (n / 128)) ∙ ap (λ (l : List ℕ). old ++ l) (sym (more_groups most n some big))
+pub varint_more : (most n : ℕ) (old mid new : List ℕ) → 0 < most → 128 ≤ n → mid ≡ old ++ (n % 128 + 128) ∷ [] → new ≡ mid ++ varint_text (most - 1) (n / 128) → new ≡ old ++ varint_text most n
+varint_more most n old mid new some big m e =
+    e ∙ ap (λ (l : List ℕ). l ++ varint_text (most - 1) (n / 128)) m ∙ append_assoc old ((n % 128 + 128) ∷ []) (varint_text (most - 1) (n / 128)) ∙ ap (λ (l : List ℕ). old ++ l) (sym (more_varint most n some big))
 
-folded_up : (z : ℤ) → pos 0 ≤ℤ z → folded z ≡ 2 * unsigned_abs z
-folded_up (pos n) h = refl
-folded_up (negsuc n) h = absurd (omega (arith, ints))
+zigzag_up : (z : ℤ) → pos 0 ≤ℤ z → zigzag z ≡ 2 * unsigned_abs z
+zigzag_up (pos n) h = refl
+zigzag_up (negsuc n) h = absurd (omega (arith, ints))
 
-folded_down : (z : ℤ) → z <ℤ pos 0 → folded z + 1 ≡ 2 * unsigned_abs z
-folded_down (pos n) h = absurd (omega (arith, ints))
-folded_down (negsuc n) h = omega arith
+zigzag_down : (z : ℤ) → z <ℤ pos 0 → zigzag z + 1 ≡ 2 * unsigned_abs z
+zigzag_down (pos n) h = absurd (omega (arith, ints))
+zigzag_down (negsuc n) h = omega arith
 
-pub difference_up : (before value : ℤ) → before ≤ℤ value → folded (value -ℤ before) ≡ 2 * unsigned_abs (value -ℤ before)
-difference_up before value h = folded_up (value -ℤ before) (omega (arith, ints))
+pub difference_up : (before value : ℤ) → before ≤ℤ value → zigzag (value -ℤ before) ≡ 2 * unsigned_abs (value -ℤ before)
+difference_up before value h = zigzag_up (value -ℤ before) (omega (arith, ints))
 
-pub difference_down : (before value : ℤ) → value <ℤ before → folded (value -ℤ before) + 1 ≡ 2 * unsigned_abs (value -ℤ before)
-difference_down before value h = folded_down (value -ℤ before) (omega (arith, ints))
+pub difference_down : (before value : ℤ) → value <ℤ before → zigzag (value -ℤ before) + 1 ≡ 2 * unsigned_abs (value -ℤ before)
+difference_down before value h = zigzag_down (value -ℤ before) (omega (arith, ints))
 
-pub as_difference : (n : ℕ) (before value : ℤ) (old new : List ℕ) → n ≡ folded (value -ℤ before) → new ≡ old ++ groups_text 10 n → new ≡ old ++ groups_text 10 (folded (value -ℤ before))
-as_difference n before value old new is e = e ∙ ap (λ (m : ℕ). old ++ groups_text 10 m) is
+pub as_difference : (n : ℕ) (before value : ℤ) (old new : List ℕ) → n ≡ zigzag (value -ℤ before) → new ≡ old ++ varint_text 10 n → new ≡ old ++ varint_text 10 (zigzag (value -ℤ before))
+as_difference n before value old new is e = e ∙ ap (λ (m : ℕ). old ++ varint_text 10 m) is
 
 -- three pieces, one after another
 pub three_pieces : (old a b new x y z : List ℕ) → a ≡ old ++ x → b ≡ a ++ y → new ≡ b ++ z → new ≡ old ++ (x ++ y ++ z)
@@ -79,8 +78,8 @@ objects_from before s cs i c h is =
 
 -- the loop's step: what is written and what is left stay together
 pub objects_more : (before kind : Option Kind) (s t : Counters) (cs : List ChangeValue) (i : ℕ) (c : ChangeValue) (old new whole : List ℕ) → i < length cs → get_or cs i c ≡ c → old ++ objects_text before s (drop i cs) ≡ whole → new ≡ old ++ change_text before s c → t ≡ after_change before s c → kind ≡ Some c.key.kind → new ++ objects_text kind t (drop (i + 1) cs) ≡ whole
-objects_more before kind s t cs i c old new whole h is w e counted k =
-    rw (e, counted, k) (append_assoc old (change_text before s c) (objects_text (Some c.key.kind) (after_change before s c) (drop (i + 1) cs)) ∙ ap (λ (l : List ℕ). old ++ l) (sym (objects_from before s cs i c h is)) ∙ w)
+objects_more before kind s t cs i c old new whole h is w e counters_are k =
+    rw (e, counters_are, k) (append_assoc old (change_text before s c) (objects_text (Some c.key.kind) (after_change before s c) (drop (i + 1) cs)) ∙ ap (λ (l : List ℕ). old ++ l) (sym (objects_from before s cs i c h is)) ∙ w)
 
 -- what is written is no longer than the whole text
 pub written_short : (cs : List ChangeValue) (out left : List ℕ) (most : ℕ) → out ++ left ≡ beginning ++ objects_text None no_counters cs → most < length out → most < length (o5c_text cs)

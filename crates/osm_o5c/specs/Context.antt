@@ -1,4 +1,5 @@
--- What stands since the last reset, and what it makes of a number (OSM wiki, O5m: delta coding).
+-- What a file said since its last reset, and the numbers that differences make of it (OSM wiki,
+-- O5m: delta coding).
 use Rattle.std.specs.Prelude.{◌≡◌, List, [], ◌∷◌, ◌++◌, ℕ, ℤ, pos, neg_ℤ, ◌+ℤ◌, ◌*ℤ◌, ◌≤ℤ◌}
 use Rattle.osm_model.specs.declared.kind.Kind.{Kind}
 use Rattle.osm_model.specs.declared.kind.Kind.TheVariants.{Node, Way, Relation}
@@ -40,10 +41,10 @@ total (d ∷ ds) = d +ℤ total ds
 
 -- the number from -2^31 to 2^31 - 1 that differs from the sum by a multiple of 2^32
 pub record IsWrapped (value sum : ℤ) : Type 0 where
-  pub turns : ℤ
+  pub multiple : ℤ
   pub low : neg_ℤ (pos 2147483648) ≤ℤ value
   pub high : value ≤ℤ pos 2147483647
-  pub differs : sum ≡ value +ℤ pos 4294967296 *ℤ turns
+  pub differs : sum ≡ value +ℤ pos 4294967296 *ℤ multiple
 
 -- a difference that makes the sum of its counter this number
 pub record SpellsSum (before : List ℤ) (bytes : List ℕ) (sum : ℤ) (after : List ℤ) : Type 0 where
@@ -53,7 +54,8 @@ pub record SpellsSum (before : List ℤ) (bytes : List ℕ) (sum : ℤ) (after :
   pub sum_is : sum ≡ total after
 
 -- a difference that makes the sum of its counter, in 32 bits, this number
-pub record SpellsWrapped (before : List ℤ) (bytes : List ℕ) (value : ℤ) (after : List ℤ) : Type 0 where
+pub record SpellsWrapped (before : List ℤ) (bytes : List ℕ) (value : ℤ)
+    (after : List ℤ) : Type 0 where
   pub difference : ℤ
   pub signed : SpellsSigned bytes difference
   pub added : after ≡ before ++ difference ∷ []

@@ -1,5 +1,6 @@
 -- Strings, and the table of those that a reference names (OSM wiki, O5m: strings).
-use Rattle.std.specs.Prelude.{◌≡◌, ℕ, ◌+◌, ◌-◌, List, [], ◌∷◌, ◌++◌, length, Contains, Option, Some, None, slice_get, nat_le, ◌&&◌, if◌then◌else◌}
+use Rattle.std.specs.Prelude.{◌≡◌, ℕ, ◌+◌, ◌-◌, List, [], ◌∷◌, ◌++◌, length, Contains, Option, Some}
+use Rattle.std.specs.Prelude.{None, slice_get, nat_le, ◌&&◌, if◌then◌else◌}
 use Rattle.osm_o5c.specs.Number.{SpellsNumber}
 use Rattle.osm_o5c.specs.declared.strings.Entry.{Entry}
 use Rattle.osm_o5c.specs.declared.strings.Entry.TheVariants.{Pair, Single}
@@ -9,7 +10,7 @@ abbrev pub size_of : Entry → ℕ
 size_of (Pair first second) = length first + length second
 size_of (Single text) = length text
 
--- the longest string that is entered
+-- the size of the longest string that is entered
 abbrev pub max_size : ℕ
 max_size = 250
 
@@ -17,12 +18,12 @@ max_size = 250
 abbrev pub max_entries : ℕ
 max_entries = 15000
 
--- of the strings in line, those that are entered: all but the longest, equal ones included
+-- the strings in line that are entered: all but those that are too long, equal ones included
 abbrev pub entries_of : List Entry → List Entry
 entries_of [] = []
 entries_of (s ∷ ss) = if nat_le (size_of s) max_size then s ∷ entries_of ss else entries_of ss
 
--- the k-th most recent entry, 1 being the latest, if there is one
+-- the k-th most recent entry, counted from 1, if there is one
 abbrev pub named : List Entry → ℕ → Option Entry
 named entries k =
     if nat_le 1 k && nat_le k max_entries && nat_le k (length entries)
@@ -31,8 +32,10 @@ named entries k =
 -- a pair of strings: `00 first 00 second 00`, or the number of an entry that is this pair; the
 -- strings in line since the last reset before it and after it
 pub data SpellsPair : List Entry → List ℕ → List ℕ → List ℕ → List Entry → Type 0 where
-  in_line : (strings : List Entry) (first second : List ℕ) → ¬ Contains first 0 → ¬ Contains second 0
-      → SpellsPair strings (0 ∷ first ++ 0 ∷ second ++ 0 ∷ []) first second (strings ++ Pair first second ∷ [])
+  in_line : (strings : List Entry) (first second : List ℕ)
+      → ¬ Contains first 0 → ¬ Contains second 0
+      → SpellsPair strings (0 ∷ first ++ 0 ∷ second ++ 0 ∷ []) first second
+      (strings ++ Pair first second ∷ [])
   reference : (strings : List Entry) (bytes : List ℕ) (k : ℕ) (first second : List ℕ)
       → SpellsNumber bytes k → named (entries_of strings) k ≡ Some (Pair first second)
       → SpellsPair strings bytes first second strings

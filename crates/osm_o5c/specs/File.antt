@@ -1,11 +1,10 @@
--- Files of datasets, and where their bytes go wrong (OSM wiki, O5m: the file).
-use Rattle.std.specs.Prelude.{◌≡◌, ℕ, ◌+◌, ◌<◌, ◌≤◌, List, [], ◌∷◌, ◌++◌, length, Option, Some, None}
+-- Files of datasets, and the places of their faults (OSM wiki, O5m: the file).
+use Rattle.std.specs.Prelude.{◌≡◌, ℕ, ◌+◌, ◌<◌, ◌≤◌, List, [], ◌∷◌, ◌++◌, length, Option, Some}
+use Rattle.std.specs.Prelude.{None}
 use Rattle.osm_model.specs.Change.{ChangeValue}
 use Rattle.osm_model.specs.Limits.{max_changes}
 use Rattle.osm_model.specs.declared.kind.Kind.{Kind}
 use Rattle.osm_model.specs.declared.kind.Kind.TheVariants.{Node, Way, Relation}
-use Rattle.osm_model.specs.declared.form.FormError.{FormError}
-use Rattle.osm_model.specs.declared.form.FormError.TheVariants.{WantOfMemory, TooLarge, Fault}
 use Rattle.osm_o5c.specs.Number.{SpellsNumber}
 use Rattle.osm_o5c.specs.Context.{Context, fresh}
 use Rattle.osm_o5c.specs.Object.{SpellsObject}
@@ -31,7 +30,8 @@ pub data Dataset : Context → List ℕ → Option ChangeValue → Context → T
       → SpellsNumber length_bytes (length content) → SpellsObject C content c after
       → Dataset C (kind_byte c.key.kind ∷ length_bytes ++ content) (Some c) after
   skipped : (C : Context) (kind : ℕ) (length_bytes content : List ℕ)
-      → kind < 0xf0 → ((k : Kind) → kind ≡ kind_byte k → ⊥) → SpellsNumber length_bytes (length content)
+      → kind < 0xf0 → ((k : Kind) → kind ≡ kind_byte k → ⊥)
+      → SpellsNumber length_bytes (length content)
       → Dataset C (kind ∷ length_bytes ++ content) None C
   lone : (C : Context) (kind : ℕ) → 0xf0 ≤ kind → kind < 0xfe → Dataset C (kind ∷ []) None C
   reset : (C : Context) → Dataset C (0xff ∷ []) None fresh
@@ -44,53 +44,36 @@ changes_with changes (Some c) = changes ++ c ∷ []
 -- the beginning, or a front followed by one dataset; at most 100,000 changes
 pub data Front : List ℕ → Context → List ChangeValue → Type 0 where
   begin : Front beginning fresh []
-  next : (front : List ℕ) (C : Context) (changes : List ChangeValue) (dataset : List ℕ) (found : Option ChangeValue) (after : Context)
-      → Front front C changes → Dataset C dataset found after
+  next : (prefix : List ℕ) (C : Context) (changes : List ChangeValue) (dataset : List ℕ)
+      (found : Option ChangeValue) (after : Context)
+      → Front prefix C changes → Dataset C dataset found after
       → length (changes_with changes found) ≤ max_changes
-      → Front (front ++ dataset) after (changes_with changes found)
+      → Front (prefix ++ dataset) after (changes_with changes found)
 
 -- a front with the changes of the batch, the end byte, and nothing else
 pub record SpellsO5c (bytes : List ℕ) (batch : List ChangeValue) : Type 0 where
-  pub front : List ℕ
+  pub prefix : List ℕ
   pub context : Context
-  pub is_front : Front front context batch
-  pub whole : bytes ≡ front ++ end_byte ∷ []
+  pub is_front : Front prefix context batch
+  pub whole : bytes ≡ prefix ++ end_byte ∷ []
 
--- the bytes begin with a front that no dataset lengthens to another
-pub record Longest (bytes front rest : List ℕ) : Type 0 where
+-- the bytes begin with a front that no dataset lengthens to another front
+pub record Longest (bytes prefix rest : List ℕ) : Type 0 where
   pub context : Context
   pub changes : List ChangeValue
-  pub is_front : Front front context changes
-  pub whole : bytes ≡ front ++ rest
+  pub is_front : Front prefix context changes
+  pub whole : bytes ≡ prefix ++ rest
   pub last : (dataset : List ℕ) (found : Option ChangeValue) (after : Context) (more : List ℕ)
       → Dataset context dataset found after → length (changes_with changes found) ≤ max_changes
       → rest ≡ dataset ++ more → ⊥
 
--- the place of a fault: 0 where the bytes don't have the beginning; else one past the longest front
--- where the end byte follows it and more bytes follow that; else right behind the longest front
+-- the place of a fault: 0 if the bytes don't have the beginning; one past the longest front if the
+-- end byte follows it and more bytes follow that; otherwise the end of the longest front
 pub data FaultPlace : List ℕ → ℕ → Type 0 where
-  no_beginning : (bytes : List ℕ) → ((more : List ℕ) → bytes ≡ beginning ++ more → ⊥) → FaultPlace bytes 0
-  after_end : (bytes front : List ℕ) (b : ℕ) (more : List ℕ)
-      → Longest bytes front (end_byte ∷ b ∷ more) → FaultPlace bytes (length front + 1)
-  no_dataset : (bytes front rest : List ℕ)
-      → Longest bytes front rest → ((more : List ℕ) → rest ≡ end_byte ∷ more → ⊥)
-      → FaultPlace bytes (length front)
-
--- where a file that isn't too large is refused: for memory only where it doesn't spell the empty
--- batch, and else where it goes wrong
-abbrev pub FileRefused : List ℕ → FormError → Type 0
-FileRefused bytes WantOfMemory = SpellsO5c bytes [] → ⊥
-FileRefused bytes TooLarge = ⊥
-FileRefused bytes (Fault place why) = FaultPlace bytes place
-
--- the file is too large, or memory was refused
-abbrev pub IsTooLargeOrWant : FormError → Type 0
-IsTooLargeOrWant WantOfMemory = Unit {0}
-IsTooLargeOrWant TooLarge = Unit {0}
-IsTooLargeOrWant (Fault place why) = ⊥
-
--- the fault stands at this place, memory and size aside
-abbrev pub IsAtOrElse : ℕ → FormError → Type 0
-IsAtOrElse place WantOfMemory = Unit {0}
-IsAtOrElse place TooLarge = Unit {0}
-IsAtOrElse place (Fault other why) = other ≡ place
+  no_beginning : (bytes : List ℕ) → ((more : List ℕ) → bytes ≡ beginning ++ more → ⊥)
+      → FaultPlace bytes 0
+  after_end : (bytes prefix : List ℕ) (b : ℕ) (more : List ℕ)
+      → Longest bytes prefix (end_byte ∷ b ∷ more) → FaultPlace bytes (length prefix + 1)
+  no_dataset : (bytes prefix rest : List ℕ)
+      → Longest bytes prefix rest → ((more : List ℕ) → rest ≡ end_byte ∷ more → ⊥)
+      → FaultPlace bytes (length prefix)

@@ -4,12 +4,5 @@ pub mod Context
 pub mod Many
 pub mod Object
 pub mod File
-pub mod Counting
 pub mod Written
-pub mod Ring
 pub mod Steps
-pub mod NumberReading
-pub mod StringReading
-pub mod ObjectReading
-pub mod FileReading
-pub mod Laws

@@ -10,18 +10,21 @@ use Rattle.osm_model.specs.declared.lists.Member.{Member}
 use Rattle.osm_model.specs.declared.lists.Tag.{Tag}
 use Rattle.osm_o5c.specs.Number.{SpellsNumber}
 use Rattle.osm_o5c.specs.Entries.{SpellsPair, SpellsSingle}
-use Rattle.osm_o5c.specs.Context.{Context, SpellsSum, SpellsWrapped, members_of, with_members, with_strings, kind_digit}
+use Rattle.osm_o5c.specs.Context.{Context, SpellsSum, SpellsWrapped, members_of, with_members}
+use Rattle.osm_o5c.specs.Context.{with_strings, kind_digit}
 use Rattle.osm_o5c.specs.Many.{SpellsMany}
 use Rattle.osm_o5c.specs.declared.strings.Entry.{Entry}
 
 -- a user: the pair of the bytes of one unsigned number, and the name
-pub record SpellsUser (strings : List Entry) (bytes : List ℕ) (uid : ℕ) (name : List ℕ) (after : List Entry) : Type 0 where
+pub record SpellsUser (strings : List Entry) (bytes : List ℕ) (uid : ℕ) (name : List ℕ)
+    (after : List Entry) : Type 0 where
   pub first : List ℕ
   pub pair : SpellsPair strings bytes first name after
   pub number : SpellsNumber first uid
 
 -- version, time, changeset and user
-pub record SpellsMeta (C : Context) (bytes : List ℕ) (m : MetaValue) (after : Context) : Type 0 where
+pub record SpellsMeta (C : Context) (bytes : List ℕ) (m : MetaValue) (after : Context)
+    : Type 0 where
   pub version_bytes : List ℕ
   pub time_bytes : List ℕ
   pub changeset_bytes : List ℕ
@@ -48,8 +51,8 @@ SpellsTags = SpellsMany SpellsTag
 abbrev pub SpellsRefs : List ℤ → List ℕ → List ℤ → List ℤ → Type 0
 SpellsRefs = SpellsMany SpellsSum
 
--- a member: its id as a difference to the counter of its kind, then its kind's digit and its role as
--- one string
+-- a member: its id as a difference to the counter of its kind, then its kind's digit and its role
+-- as one string
 pub record SpellsMember (C : Context) (bytes : List ℕ) (m : Member) (after : Context) : Type 0 where
   pub id_bytes : List ℕ
   pub role_bytes : List ℕ
@@ -65,7 +68,8 @@ abbrev pub SpellsMembers : Context → List ℕ → List Member → Context → 
 SpellsMembers = SpellsMany SpellsMember
 
 -- a node: longitude, latitude, tags
-pub record SpellsNode (C : Context) (bytes : List ℕ) (lon lat : ℤ) (tags : List Tag) (after : Context) : Type 0 where
+pub record SpellsNode (C : Context) (bytes : List ℕ) (lon lat : ℤ) (tags : List Tag)
+    (after : Context) : Type 0 where
   pub lon_bytes : List ℕ
   pub lat_bytes : List ℕ
   pub tag_bytes : List ℕ
@@ -79,7 +83,8 @@ pub record SpellsNode (C : Context) (bytes : List ℕ) (lon lat : ℤ) (tags : L
   pub context : after ≡ record C { lons = lons; lats = lats; strings = strings }
 
 -- a way: the length of the reference part, the references, tags
-pub record SpellsWay (C : Context) (bytes : List ℕ) (refs : List ℤ) (tags : List Tag) (after : Context) : Type 0 where
+pub record SpellsWay (C : Context) (bytes : List ℕ) (refs : List ℤ) (tags : List Tag)
+    (after : Context) : Type 0 where
   pub length_bytes : List ℕ
   pub part : List ℕ
   pub tag_bytes : List ℕ
@@ -92,7 +97,8 @@ pub record SpellsWay (C : Context) (bytes : List ℕ) (refs : List ℤ) (tags : 
   pub context : after ≡ record C { way_nodes = way_nodes; strings = strings }
 
 -- a relation: the length of the reference part, the members, tags
-pub record SpellsRelation (C : Context) (bytes : List ℕ) (members : List Member) (tags : List Tag) (after : Context) : Type 0 where
+pub record SpellsRelation (C : Context) (bytes : List ℕ) (members : List Member) (tags : List Tag)
+    (after : Context) : Type 0 where
   pub length_bytes : List ℕ
   pub part : List ℕ
   pub tag_bytes : List ℕ
@@ -104,15 +110,19 @@ pub record SpellsRelation (C : Context) (bytes : List ℕ) (members : List Membe
   pub tags_are : SpellsTags then.strings tag_bytes tags strings
   pub context : after ≡ with_strings then strings
 
--- what an object of that kind is: nothing where it is deleted
+-- what an object of that kind is: nothing if it is deleted
 abbrev pub SpellsWhat : Kind → Context → List ℕ → What → Context → Type 0
-SpellsWhat kind C bytes (Node lon lat tags) after = (kind ≡ kinds.Node) × SpellsNode C bytes lon lat tags after
-SpellsWhat kind C bytes (Way refs tags) after = (kind ≡ kinds.Way) × SpellsWay C bytes refs tags after
-SpellsWhat kind C bytes (Relation members tags) after = (kind ≡ kinds.Relation) × SpellsRelation C bytes members tags after
+SpellsWhat kind C bytes (Node lon lat tags) after =
+    (kind ≡ kinds.Node) × SpellsNode C bytes lon lat tags after
+SpellsWhat kind C bytes (Way refs tags) after =
+    (kind ≡ kinds.Way) × SpellsWay C bytes refs tags after
+SpellsWhat kind C bytes (Relation members tags) after =
+    (kind ≡ kinds.Relation) × SpellsRelation C bytes members tags after
 SpellsWhat kind C bytes Deleted after = (bytes ≡ []) × (after ≡ C)
 
 -- a change within the limits: id, metadata, and what the object is
-pub record SpellsObject (C : Context) (bytes : List ℕ) (c : ChangeValue) (after : Context) : Type 0 where
+pub record SpellsObject (C : Context) (bytes : List ℕ) (c : ChangeValue) (after : Context)
+    : Type 0 where
   pub id_bytes : List ℕ
   pub meta_bytes : List ℕ
   pub what_bytes : List ℕ

@@ -1,35 +1,7 @@
--- Readings that may fail, one step after another, and what an answer of the code says of them.
-use Rattle.std.specs.Prelude.{◌≡◌, Bool, true, false, Option, Some, None, Result, Ok, Err}
-use Rattle.osm_model.specs.declared.form.Why.{Why}
-use Rattle.osm_o5c.specs.declared.refusal.Refusal.{Refusal}
-use Rattle.osm_o5c.specs.declared.refusal.Refusal.TheVariants.{WantOfMemory, Bad}
-
--- the next step, where the one before gave something
-unfoldable pub and_then : {A B : Type 0} → Option A → (A → Option B) → Option B
-and_then (Some x) f = f x
-and_then None f = None
-
--- the step, where the test holds
-unfoldable pub when : {A : Type 0} → Bool → Option A → Option A
-when true step = step
-when false step = None
-
--- the answer, seen by view, is what the reading gives
-abbrev pub Finds : {A B : Type 0} → (A → B) → Result A Why → Option B → Type 0
-Finds view (Ok x) reading = reading ≡ Some (view x)
-Finds view (Err why) reading = reading ≡ None
-
--- nothing was read, memory aside
-abbrev pub Fails : {A : Type 0} → Refusal → Option A → Type 0
-Fails WantOfMemory reading = Unit {0}
-Fails (Bad why) reading = reading ≡ None
-
--- the answer, seen by view, is what the reading gives, memory aside
-abbrev pub Gives : {A B : Type 0} → (A → B) → Result A Refusal → Option B → Type 0
-Gives view (Ok x) reading = reading ≡ Some (view x)
-Gives view (Err refusal) reading = Fails refusal reading
-
--- memory was not refused
-abbrev pub IsNoWant : Refusal → Type 0
-IsNoWant WantOfMemory = ⊥
-IsNoWant (Bad why) = Unit {0}
+-- No public clause cites a word of this folder: each reader once more as a function, for the
+-- clauses of private functions.
+pub mod Ring
+pub mod NumberReading
+pub mod StringReading
+pub mod ObjectReading
+pub mod FileReading

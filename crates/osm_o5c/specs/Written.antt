@@ -1,31 +1,59 @@
 -- The written text of a batch (our choice of spelling): every number in its fewest bytes, exact
--- differences, every string in line, a reset exactly where the kind changes.
-use Rattle.std.specs.Prelude.{ℕ, zero, suc, ◌+◌, ◌/◌, ◌%◌, List, [], ◌∷◌, ◌++◌, length, Option, Some, None, Bool, true, false, if◌then◌else◌, nat_lt, ◌==◌, ℤ, pos, ◌-ℤ◌}
+-- differences, every string in line, a reset exactly if the kind changes.
+use Rattle.std.specs.Prelude.{ℕ, zero, suc, ◌+◌, ◌/◌, ◌%◌, List, [], ◌∷◌, ◌++◌, length, Option}
+use Rattle.std.specs.Prelude.{Some, None, Bool, true, false, if◌then◌else◌, nat_lt, ◌==◌, ℤ, pos}
+use Rattle.std.specs.Prelude.{◌-ℤ◌}
 use Rattle.osm_model.specs.Change.{ChangeValue}
 use Rattle.osm_model.specs.Meta.{MetaValue}
 use Rattle.osm_model.specs.declared.kind.Kind.{Kind}
+use Rattle.osm_model.specs.declared.kind.Kind.TheVariants as kinds
 use Rattle.osm_model.specs.declared.change.What.{What}
 use Rattle.osm_model.specs.declared.change.What.TheVariants.{Node, Way, Relation, Deleted}
 use Rattle.osm_model.specs.declared.lists.Member.{Member}
 use Rattle.osm_model.specs.declared.lists.Tag.{Tag}
-use Rattle.osm_o5c.specs.Number.{folded}
+use Rattle.osm_o5c.specs.Number.{zigzag}
 use Rattle.osm_o5c.specs.Context.{kind_digit}
-use Rattle.osm_o5c.specs.Counting.{no_counters, counted_members, with_counted_members}
 use Rattle.osm_o5c.specs.File.{beginning, kind_byte, end_byte}
 use Rattle.osm_o5c.specs.declared.counters.Counters.{Counters}
 
--- the number in its fewest groups of seven bits, the least significant first; in so many at most
-unfoldable pub groups_text : ℕ → ℕ → List ℕ
-groups_text zero n = []
-groups_text (suc k) n = if nat_lt n 128 then n ∷ [] else (n % 128 + 128) ∷ groups_text k (n / 128)
+-- the counters: the last value of each field since the last reset; all 0 right after one
+abbrev pub no_counters : Counters
+no_counters = record {
+  id = pos 0;
+  time = pos 0;
+  changeset = pos 0;
+  lon = pos 0;
+  lat = pos 0;
+  way_node = pos 0;
+  node_member = pos 0;
+  way_member = pos 0;
+  relation_member = pos 0;
+}
+
+-- the counter of the members of a kind
+abbrev pub member_counter : Kind → Counters → ℤ
+member_counter kinds.Node s = s.node_member
+member_counter kinds.Way s = s.way_member
+member_counter kinds.Relation s = s.relation_member
+
+-- the counters with this one of the members of a kind
+abbrev pub with_member_counter : Kind → Counters → ℤ → Counters
+with_member_counter kinds.Node s id = record s { node_member = id }
+with_member_counter kinds.Way s id = record s { way_member = id }
+with_member_counter kinds.Relation s id = record s { relation_member = id }
+
+-- the varint of a number, the least significant seven bits first, in so many bytes at most
+unfoldable pub varint_text : ℕ → ℕ → List ℕ
+varint_text zero n = []
+varint_text (suc k) n = if nat_lt n 128 then n ∷ [] else (n % 128 + 128) ∷ varint_text k (n / 128)
 
 -- an unsigned number below 2^64 in its fewest bytes
 abbrev pub number_text : ℕ → List ℕ
-number_text n = groups_text 10 n
+number_text n = varint_text 10 n
 
 -- a signed number in its fewest bytes
 abbrev pub signed_text : ℤ → List ℕ
-signed_text v = number_text (folded v)
+signed_text v = number_text (zigzag v)
 
 -- the exact difference of a number to the last value of its counter
 abbrev pub difference_text : ℤ → ℤ → List ℕ
@@ -39,7 +67,7 @@ pair_text first second = 0 ∷ first ++ 0 ∷ second ++ 0 ∷ []
 abbrev pub single_text : List ℕ → List ℕ
 single_text text = 0 ∷ text ++ 0 ∷ []
 
--- bytes behind their length
+-- a length, and so many bytes
 abbrev pub part_text : List ℕ → List ℕ
 part_text part = number_text (length part) ++ part
 
@@ -67,12 +95,12 @@ last_ref before (r ∷ rs) = last_ref r rs
 -- each member's id as the difference to the one of its kind before it, then its digit and its role
 abbrev pub member_text : Counters → Member → List ℕ
 member_text s m =
-    difference_text (counted_members m.key.kind s) m.key.id
+    difference_text (member_counter m.key.kind s) m.key.id
     ++ single_text (kind_digit m.key.kind ∷ m.role)
 
 -- the counters after a member
 abbrev pub after_member : Counters → Member → Counters
-after_member s m = with_counted_members m.key.kind s m.key.id
+after_member s m = with_member_counter m.key.kind s m.key.id
 
 abbrev pub members_text : Counters → List Member → List ℕ
 members_text s [] = []
@@ -115,16 +143,16 @@ object_text s c =
 abbrev pub after_object : Counters → ChangeValue → Counters
 after_object s c = after_what (after_meta s c) c.what
 
--- an object behind its type and its length
+-- the type of an object, its length, and its content
 abbrev pub dataset_text : Counters → ChangeValue → List ℕ
 dataset_text s c = kind_byte c.key.kind ∷ part_text (object_text s c)
 
--- whether the object before was of another kind; before the first there is none
+-- whether the object before was of another kind; before the first object there is none
 abbrev pub is_other : Option Kind → Kind → Bool
 is_other None kind = false
 is_other (Some before) kind = if kind_byte before == kind_byte kind then false else true
 
--- a reset where the kind changes
+-- a reset if the kind changes
 abbrev pub reset_text : Option Kind → Kind → List ℕ
 reset_text before kind = if is_other before kind then 0xff ∷ [] else []
 
@@ -132,9 +160,10 @@ reset_text before kind = if is_other before kind then 0xff ∷ [] else []
 abbrev pub counters_before : Option Kind → Counters → Kind → Counters
 counters_before before s kind = if is_other before kind then no_counters else s
 
--- an object, behind a reset where the kind changes
+-- an object, after a reset if the kind changes
 abbrev pub change_text : Option Kind → Counters → ChangeValue → List ℕ
-change_text before s c = reset_text before c.key.kind ++ dataset_text (counters_before before s c.key.kind) c
+change_text before s c =
+    reset_text before c.key.kind ++ dataset_text (counters_before before s c.key.kind) c
 
 -- the counters after it
 abbrev pub after_change : Option Kind → Counters → ChangeValue → Counters

@@ -2,9 +2,10 @@
 
 ghost use Rattle.std.specs.Prelude.{◌≡◌, ◌≤◌, ◌+ℤ◌, IfOk};
 ghost use Rattle.osm_model.specs.Limits.{IsId};
-ghost use Rattle.osm_o5c.specs.Counting.{no_counters, counted_members, with_counted_members, wrapped_of};
-ghost use Rattle.osm_o5c.specs.NumberReading.{counted_at, id_at, longitude_at, latitude_at};
-ghost use Rattle.osm_o5c.specs.Steps.{Finds};
+ghost use Rattle.osm_o5c.specs.Written.{no_counters, member_counter, with_member_counter};
+ghost use Rattle.osm_o5c.specs.Steps.NumberReading.{wrapped_of, positive_sum_at, id_at};
+ghost use Rattle.osm_o5c.specs.Steps.NumberReading.{longitude_at, latitude_at};
+ghost use Rattle.osm_reading.specs.Steps.Answers.{Finds};
 
 use crate::numbers::signed;
 use osm_model::form::Why;
@@ -45,7 +46,7 @@ impl Counters {
 
     /// The counter of the members of a kind.
     pub fn member(&self, kind: Kind) -> i64
-        ensures { result ≡ counted_members kind self.now }
+        ensures { result ≡ member_counter kind self.now }
     {
         match kind {
             Kind::Node => self.node_member,
@@ -54,8 +55,9 @@ impl Counters {
         }
     }
 
+    /// Moves the counter of the members of a kind on.
     pub fn set_member(&mut self, kind: Kind, id: i64)
-        ensures { self.new ≡ with_counted_members kind self.old id }
+        ensures { self.new ≡ with_member_counter kind self.old id }
     {
         match kind {
             Kind::Node => self.node_member = id,
@@ -66,7 +68,7 @@ impl Counters {
 }
 
 /// The id that a difference to the counter gives, and the bytes after the difference.
-#[tactic(auto, unfolding(crate::specs::NumberReading::id_at, crate::specs::Steps::and_then, crate::specs::Steps::when))]
+#[tactic(auto, unfolding(crate::specs::Steps::NumberReading::id_at, osm_reading::specs::Steps::Answers::and_then, osm_reading::specs::Steps::Answers::when))]
 pub fn id(counter: i64, bytes: &[u8]) -> Result<(i64, &[u8]), Why>
     ensures limits { IfOk result (λ r. IsId r.0) }
     ensures finds { Finds (λ r. (r.0, r.1.now)) result (id_at counter bytes.now) }
@@ -80,9 +82,9 @@ pub fn id(counter: i64, bytes: &[u8]) -> Result<(i64, &[u8]), Why>
 }
 
 /// The time or changeset that a difference to the counter gives.
-#[tactic(auto, unfolding(crate::specs::NumberReading::counted_at, crate::specs::Steps::and_then, crate::specs::Steps::when))]
-pub fn counted(counter: i64, bytes: &[u8]) -> Result<(u32, &[u8]), Why>
-    ensures finds { Finds (λ r. (r.0, r.1.now)) result (counted_at counter bytes.now) }
+#[tactic(auto, unfolding(crate::specs::Steps::NumberReading::positive_sum_at, osm_reading::specs::Steps::Answers::and_then, osm_reading::specs::Steps::Answers::when))]
+pub fn positive_sum(counter: i64, bytes: &[u8]) -> Result<(u32, &[u8]), Why>
+    ensures finds { Finds (λ r. (r.0, r.1.now)) result (positive_sum_at counter bytes.now) }
     ensures limits { IfOk result (λ r. 1 ≤ r.0) }
 {
     let (difference, rest) = signed(bytes)?;
@@ -94,7 +96,7 @@ pub fn counted(counter: i64, bytes: &[u8]) -> Result<(u32, &[u8]), Why>
 }
 
 /// The longitude that a difference in 32 bits gives.
-#[tactic(auto, unfolding(crate::specs::NumberReading::longitude_at, crate::specs::Steps::and_then, crate::specs::Steps::when))]
+#[tactic(auto, unfolding(crate::specs::Steps::NumberReading::longitude_at, osm_reading::specs::Steps::Answers::and_then, osm_reading::specs::Steps::Answers::when))]
 pub fn longitude(counter: i32, bytes: &[u8]) -> Result<(i32, &[u8]), Why>
     ensures { Finds (λ r. (r.0, r.1.now)) result (longitude_at counter bytes.now) }
 {
@@ -108,7 +110,7 @@ pub fn longitude(counter: i32, bytes: &[u8]) -> Result<(i32, &[u8]), Why>
 }
 
 /// The latitude that a difference in 32 bits gives.
-#[tactic(auto, unfolding(crate::specs::NumberReading::latitude_at, crate::specs::Steps::and_then, crate::specs::Steps::when))]
+#[tactic(auto, unfolding(crate::specs::Steps::NumberReading::latitude_at, osm_reading::specs::Steps::Answers::and_then, osm_reading::specs::Steps::Answers::when))]
 pub fn latitude(counter: i32, bytes: &[u8]) -> Result<(i32, &[u8]), Why>
     ensures { Finds (λ r. (r.0, r.1.now)) result (latitude_at counter bytes.now) }
 {
@@ -121,15 +123,15 @@ pub fn latitude(counter: i32, bytes: &[u8]) -> Result<(i32, &[u8]), Why>
     }
 }
 
-const TURN: i64 = 4_294_967_296;
+const TWO_TO_32: i64 = 4_294_967_296;
 
 // The sum in 32 bits.
 fn wrapped(counter: i32, difference: i64) -> i32
     ensures { result ≡ wrapped_of (counter +ℤ difference) }
 {
-    let sum = counter as i64 + difference.rem_euclid(TURN);
-    if sum >= TURN / 2 {
-        (sum - TURN) as i32
+    let sum = counter as i64 + difference.rem_euclid(TWO_TO_32);
+    if sum >= TWO_TO_32 / 2 {
+        (sum - TWO_TO_32) as i32
     } else {
         sum as i32
     }

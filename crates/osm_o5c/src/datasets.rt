@@ -1,29 +1,28 @@
 //! Datasets: objects with their lengths, resets, and what is skipped.
 
 ghost use Rattle.std.specs.Prelude.{◌≡◌, ◌≤◌, ◌++◌, length, Option, OnOk, IfOk, IfErr};
-ghost use Rattle.osm_o5c.specs.FileReading.{kind_of_byte, object_dataset_at, other_dataset_at, dataset_at, place, step, WantsAt};
+ghost use Rattle.osm_o5c.specs.Steps.FileReading.{kind_of_byte, object_dataset_at};
+ghost use Rattle.osm_o5c.specs.Steps.FileReading.{other_dataset_at, dataset_at, position, step};
+ghost use Rattle.osm_o5c.specs.Steps.FileReading.{FileRefused, WantsAt};
 ghost use Rattle.osm_model.specs.ChangeForm.{WriteRefused};
 ghost use Rattle.osm_model.specs.Limits.{max_file};
-ghost use Rattle.osm_o5c.specs.Counting.{no_counters};
-ghost use Rattle.osm_o5c.specs.File.{beginning, kind_byte, SpellsO5c, FileRefused};
-ghost use Rattle.osm_o5c.specs.Written.{is_other, reset_text, counters_before, dataset_text, after_object, change_text, after_change, o5c_text};
-ghost use Rattle.osm_o5c.specs.Steps.{Gives, Finds};
+ghost use Rattle.osm_o5c.specs.Written.{is_other, reset_text, counters_before, dataset_text};
+ghost use Rattle.osm_o5c.specs.Written.{after_object, change_text, after_change, o5c_text};
+ghost use Rattle.osm_o5c.specs.File.{kind_byte, SpellsO5c};
+ghost use Rattle.osm_reading.specs.Steps.Answers.{Gives, Finds};
 
 use crate::counters::Counters;
 use crate::numbers::{part, write_unsigned};
-use crate::objects::Drafts;
 use crate::reader::Reader;
-use crate::refusal::Refusal;
+use crate::writer::{BEGINNING, Writer};
 use osm_model::batch::{Batch, PushError};
 use osm_model::change::Change;
 use osm_model::form::{FormError, Why};
 use osm_model::kind::Kind;
 use osm_model::limits::MAX_FILE;
 use osm_model::memory::WantOfMemory;
+use osm_reading::refusal::Refusal;
 use std::alloc::Global;
-
-/// Reset, header, length 4, `o5c2`.
-const BEGINNING: [u8; 7] = [0xff, 0xe0, 4, 0x6f, 0x35, 0x63, 0x32];
 
 const END: u8 = 0xfe;
 
@@ -41,28 +40,30 @@ fn kind_of(byte: u8) -> Option<Kind>
 }
 
 impl<'a> Reader<'a> {
-    #[tactic(auto, unfolding(crate::specs::FileReading::object_dataset_at, crate::specs::Steps::and_then))]
+    #[tactic(auto, unfolding(crate::specs::Steps::FileReading::object_dataset_at, osm_reading::specs::Steps::Answers::and_then))]
     fn object_dataset(
         &mut self,
         alloc: Global,
         kind: Kind,
         bytes: &'a [u8],
     ) -> Result<(Option<Change>, &'a [u8]), Refusal>
-        ensures { Gives (λ r. (r.0, self.new, r.1.now)) result (object_dataset_at kind self.old bytes.now) }
+        ensures { Gives (λ r. (r.0, self.new, r.1.now)) result
+            (object_dataset_at kind self.old bytes.now) }
     {
         let (content, rest) = part(bytes, Why::Truncated)?;
         let change = self.object(alloc, kind, content)?;
         Ok((Some(change), rest))
     }
 
-    // What has no content is passed over, and so is what is skipped; a reset forgets.
-    #[tactic(auto, unfolding(crate::specs::FileReading::other_dataset_at, crate::specs::Steps::and_then))]
+    // Passes over a dataset that is no object; a reset forgets counters and strings.
+    #[tactic(auto, unfolding(crate::specs::Steps::FileReading::other_dataset_at, osm_reading::specs::Steps::Answers::and_then))]
     fn other_dataset(
         &mut self,
         first: u8,
         bytes: &'a [u8],
     ) -> Result<(Option<Change>, &'a [u8]), Why>
-        ensures { Finds (λ r. (r.0, self.new, r.1.now)) result (other_dataset_at first self.old bytes.now) }
+        ensures { Finds (λ r. (r.0, self.new, r.1.now)) result
+            (other_dataset_at first self.old bytes.now) }
     {
         if first < 0xf0 {
             let (_content, rest) = part(bytes, Why::Truncated)?;
@@ -78,43 +79,45 @@ impl<'a> Reader<'a> {
         Err(Why::Truncated)
     }
 
-    #[tactic(auto, unfolding(crate::specs::FileReading::dataset_at))]
+    #[tactic(auto, unfolding(crate::specs::Steps::FileReading::dataset_at))]
     fn dataset(
         &mut self,
         alloc: Global,
         bytes: &'a [u8],
     ) -> Result<(Option<Change>, &'a [u8]), Refusal>
-        ensures gives { Gives (λ r. (r.0, self.new, r.1.now)) result (dataset_at self.old bytes.now) }
+        ensures gives { Gives (λ r. (r.0, self.new, r.1.now)) result
+            (dataset_at self.old bytes.now) }
         ensures memory { IfErr result (WantsAt bytes.now) }
     {
         let Some((first, rest)) = bytes.split_first() else {
-            return Err(Refusal::Bad(Why::Truncated));
+            return Err(Refusal::Fault(Why::Truncated));
         };
         match kind_of(*first) {
             Some(kind) => self.object_dataset(alloc, kind, rest),
             None => match self.other_dataset(*first, rest) {
                 Ok(read) => Ok(read),
-                Err(why) => Err(Refusal::Bad(why)),
+                Err(why) => Err(Refusal::Fault(why)),
             },
         }
     }
 
-    // Reads one dataset more, and gives the bytes after it.
-    #[tactic(auto, using(crate::proofs::PlaceLemmas::found_begins), unfolding(crate::specs::FileReading::step, crate::specs::Steps::and_then, crate::specs::Steps::when))]
+    // Reads one more dataset, and gives the bytes after it.
+    #[tactic(auto, using(crate::proofs::PlaceLemmas::found_begins), unfolding(crate::specs::Steps::FileReading::step, osm_reading::specs::Steps::Answers::and_then, osm_reading::specs::Steps::Answers::when))]
     fn next(
         &mut self,
         alloc: Global,
         batch: &mut Batch,
         rest: &'a [u8],
     ) -> Result<&'a [u8], Refusal>
-        ensures gives { Gives (λ r. place self.new batch.new r.now) result (step (place self.old batch.old rest.now)) }
+        ensures gives { Gives (λ r. position self.new batch.new r.now) result
+            (step (position self.old batch.old rest.now)) }
         ensures memory { IfErr result (WantsAt rest.now) }
     {
         let (found, after) = self.dataset(alloc, rest)?;
         if let Some(change) = found {
             match batch.push(change) {
                 Ok(()) => {}
-                Err(PushError::Full(_)) => return Err(Refusal::Bad(Why::TooMany)),
+                Err(PushError::Full(_)) => return Err(Refusal::Fault(Why::TooMany)),
                 Err(PushError::WantOfMemory(_)) => return Err(Refusal::WantOfMemory),
             }
         }
@@ -141,7 +144,7 @@ pub fn read_file(alloc: Global, bytes: &[u8]) -> Result<Batch, FormError>
                 rest = after;
             }
             Err(Refusal::WantOfMemory) => return Err(FormError::WantOfMemory),
-            Err(Refusal::Bad(why)) => {
+            Err(Refusal::Fault(why)) => {
                 let place = (bytes.len() - rest.len()) as u64;
                 return Err(FormError::Fault { place, why });
             }
@@ -162,15 +165,6 @@ pub fn read_file(alloc: Global, bytes: &[u8]) -> Result<Batch, FormError>
         place,
         why: Why::TrailingBytes,
     })
-}
-
-/// What a writer keeps between datasets: what is written, and the kind of the last object.
-#[derive(Drop)]
-struct Writer {
-    out: Vec<u8>,
-    drafts: Drafts,
-    counters: Counters,
-    kind: Option<Kind>,
 }
 
 fn byte_of(kind: Kind) -> u8
@@ -194,24 +188,12 @@ fn is_another(before: Option<Kind>, kind: Kind) -> bool
 }
 
 impl Writer {
-    // The beginning is written.
-    fn new(alloc: Global) -> Result<Writer, WantOfMemory>
-        ensures { IfOk result (λ w. (w.out.items ≡ beginning) × (w.counters ≡ no_counters) × (w.kind ≡ Option.None)) }
-    {
-        let mut out = Vec::new(alloc);
-        out.extend_from_slice(&BEGINNING)?;
-        Ok(Writer {
-            out,
-            drafts: Drafts::new(alloc),
-            counters: Counters::new(),
-            kind: None,
-        })
-    }
-
-    // Appends a reset where the kind changes.
+    // Appends a reset if the kind changes.
     fn write_reset(&mut self, kind: Kind) -> Result<(), WantOfMemory>
-        ensures text { OnOk result (self.new.out.items ≡ self.old.out.items ++ reset_text self.old.kind kind) }
-        ensures counted { OnOk result (self.new.counters ≡ counters_before self.old.kind self.old.counters kind) }
+        ensures text { OnOk result
+            (self.new.out.items ≡ self.old.out.items ++ reset_text self.old.kind kind) }
+        ensures counters_are { OnOk result
+            (self.new.counters ≡ counters_before self.old.kind self.old.counters kind) }
     {
         if is_another(self.kind, kind) {
             self.out.push(RESET)?;
@@ -220,22 +202,27 @@ impl Writer {
         Ok(())
     }
 
-    // Appends an object behind its type and its length.
+    // Appends the type of an object, its length, and its content.
     fn write_dataset(&mut self, change: &Change) -> Result<(), WantOfMemory>
-        ensures text { OnOk result (self.new.out.items ≡ self.old.out.items ++ dataset_text self.old.counters change.now) }
-        ensures counted { OnOk result (self.new.counters ≡ after_object self.old.counters change.now) }
+        ensures text { OnOk result
+            (self.new.out.items ≡ self.old.out.items ++ dataset_text self.old.counters change.now) }
+        ensures counters_are { OnOk result
+            (self.new.counters ≡ after_object self.old.counters change.now) }
     {
-        self.drafts.write_object(&mut self.counters, change)?;
+        self.buffers.write_object(&mut self.counters, change)?;
         self.out.push(byte_of(change.key().kind))?;
-        write_unsigned(&mut self.out, self.drafts.content.len() as u64)?;
-        self.out.extend_from_slice(self.drafts.content.as_slice())?;
+        write_unsigned(&mut self.out, self.buffers.content.len() as u64)?;
+        self.out.extend_from_slice(self.buffers.content.as_slice())?;
         Ok(())
     }
 
-    // Appends an object, behind a reset where it is of another kind than the one before.
+    // Appends an object, after a reset if it is of another kind than the object before it.
     fn write_change(&mut self, change: &Change) -> Result<(), WantOfMemory>
-        ensures text { OnOk result (self.new.out.items ≡ self.old.out.items ++ change_text self.old.kind self.old.counters change.now) }
-        ensures counted { OnOk result (self.new.counters ≡ after_change self.old.kind self.old.counters change.now) }
+        ensures text { OnOk result
+            (self.new.out.items ≡ self.old.out.items
+            ++ change_text self.old.kind self.old.counters change.now) }
+        ensures counters_are { OnOk result
+            (self.new.counters ≡ after_change self.old.kind self.old.counters change.now) }
         ensures kind { OnOk result (self.new.kind ≡ Option.Some change.now.key.kind) }
     {
         let kind = change.key().kind;

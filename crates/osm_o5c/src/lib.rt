@@ -9,8 +9,6 @@ pub mod o5c;
 mod objects;
 mod reader;
 mod references;
-mod refusal;
 mod strings;
 mod tags;
-#[cfg(test)]
-mod tests;
+mod writer;

@@ -2,24 +2,24 @@
 
 ghost use Rattle.std.specs.Prelude.{◌≡◌, ◌≤◌, ◌++◌, OnOk, IfOk};
 ghost use Rattle.osm_model.specs.Meta.{IsMeta};
-ghost use Rattle.osm_o5c.specs.ObjectReading.{meta_at};
-ghost use Rattle.osm_o5c.specs.Steps.{Gives, Finds};
-ghost use Rattle.osm_o5c.specs.StringReading.{uid_of, user_at};
+ghost use Rattle.osm_o5c.specs.Steps.ObjectReading.{meta_at};
+ghost use Rattle.osm_reading.specs.Steps.Answers.{Gives, Finds};
+ghost use Rattle.osm_o5c.specs.Steps.StringReading.{uid_of, user_at};
 ghost use Rattle.osm_o5c.specs.Written.{number_text, pair_text, meta_text};
 
-use crate::counters::{Counters, counted};
+use crate::counters::{Counters, positive_sum};
 use crate::numbers::{positive, unsigned, write_difference, write_unsigned};
 use crate::reader::Reader;
-use crate::refusal::Refusal;
 use crate::strings::{StringTable, text};
 use osm_model::form::Why;
 use osm_model::memory::WantOfMemory;
 use osm_model::meta::Meta;
 use osm_model::text::Text;
+use osm_reading::refusal::Refusal;
 use std::alloc::Global;
 
 // The user id that is all of those bytes.
-#[tactic(auto, using(crate::specs::Laws::FieldLemmas::no_uid), unfolding(crate::specs::StringReading::uid_of, crate::specs::Steps::and_then, crate::specs::Steps::when))]
+#[tactic(auto, using(crate::proofs::FieldLemmas::no_uid), unfolding(crate::specs::Steps::StringReading::uid_of, osm_reading::specs::Steps::Answers::and_then, osm_reading::specs::Steps::Answers::when))]
 fn uid(bytes: &[u8]) -> Result<u32, Why>
     ensures finds { Finds (λ n. n) result (uid_of bytes.now) }
     ensures limits { IfOk result (λ n. 1 ≤ n) }
@@ -42,14 +42,15 @@ fn uid(bytes: &[u8]) -> Result<u32, Why>
     Ok(number as u32)
 }
 
-// The user id and the user's name at the front, and the bytes after them.
-#[tactic(auto, unfolding(crate::specs::StringReading::user_at, crate::specs::Steps::and_then))]
+// The user id and the user's name at the start, and the bytes after them.
+#[tactic(auto, unfolding(crate::specs::Steps::StringReading::user_at, osm_reading::specs::Steps::Answers::and_then))]
 fn user<'a>(
     strings: &mut StringTable<'a>,
     alloc: Global,
     bytes: &'a [u8],
 ) -> Result<(u32, Text, &'a [u8]), Refusal>
-    ensures gives { Gives (λ r. ((r.0, r.1), strings.new, r.2.now)) result (user_at strings.old bytes.now) }
+    ensures gives { Gives (λ r. ((r.0, r.1), strings.new, r.2.now)) result
+        (user_at strings.old bytes.now) }
     ensures limits { IfOk result (λ r. 1 ≤ r.0) }
 {
     let (first, second, rest) = strings.pair(alloc, bytes)?;
@@ -59,21 +60,21 @@ fn user<'a>(
 }
 
 impl<'a> Reader<'a> {
-    /// The metadata at the front, and the bytes after it.
-    #[tactic(auto, unfolding(crate::specs::ObjectReading::meta_at, crate::specs::Steps::and_then))]
+    /// The metadata at the start, and the bytes after it.
+    #[tactic(auto, unfolding(crate::specs::Steps::ObjectReading::meta_at, osm_reading::specs::Steps::Answers::and_then))]
     pub fn meta(&mut self, alloc: Global, bytes: &'a [u8]) -> Result<(Meta, &'a [u8]), Refusal>
         ensures gives { Gives (λ r. (r.0, self.new, r.1.now)) result (meta_at self.old bytes.now) }
         ensures limits { IfOk result (λ r. IsMeta r.0) }
     {
         let (version, rest) = positive(bytes)?;
-        let (time, rest) = counted(self.counters.time, rest)?;
-        let (changeset, rest) = counted(self.counters.changeset, rest)?;
+        let (time, rest) = positive_sum(self.counters.time, rest)?;
+        let (changeset, rest) = positive_sum(self.counters.changeset, rest)?;
         let (uid, name, rest) = user(&mut self.strings, alloc, rest)?;
         self.counters.time = time as i64;
         self.counters.changeset = changeset as i64;
         match Meta::new(version, time, changeset, uid, name) {
             Ok(meta) => Ok((meta, rest)),
-            Err(_) => Err(Refusal::Bad(Why::NoMetadata)),
+            Err(_) => Err(Refusal::Fault(Why::NoMetadata)),
         }
     }
 }

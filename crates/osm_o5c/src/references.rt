@@ -2,14 +2,15 @@
 
 ghost use Rattle.std.specs.Prelude.{◌≡◌, ◌++◌, OnOk};
 ghost use Rattle.osm_o5c.specs.Context.{kind_digit};
-ghost use Rattle.osm_o5c.specs.ObjectReading.{refs_at, ref_at, role_of, member_at, members_at};
-ghost use Rattle.osm_o5c.specs.Steps.{Gives, Finds};
-ghost use Rattle.osm_o5c.specs.Written.{difference_text, refs_text, last_ref, member_text, after_member, members_text, after_members};
+ghost use Rattle.osm_o5c.specs.Steps.ObjectReading.{refs_at, ref_at, role_of, member_at};
+ghost use Rattle.osm_o5c.specs.Steps.ObjectReading.{members_at};
+ghost use Rattle.osm_reading.specs.Steps.Answers.{Gives, Finds};
+ghost use Rattle.osm_o5c.specs.Written.{difference_text, refs_text, last_ref, member_text};
+ghost use Rattle.osm_o5c.specs.Written.{after_member, members_text, after_members};
 
 use crate::counters::{Counters, id};
 use crate::numbers::{signed, write_difference};
 use crate::reader::Reader;
-use crate::refusal::Refusal;
 use crate::strings::{text, write_single};
 use osm_model::form::Why;
 use osm_model::kind::{Key, Kind};
@@ -17,13 +18,16 @@ use osm_model::limits::{MAX_ID, MAX_REFS};
 use osm_model::lists::{Member, Members, Refs};
 use osm_model::memory::WantOfMemory;
 use osm_model::text::Text;
+use osm_reading::refusal::Refusal;
 use std::alloc::Global;
 
-// The reference at the front, to which the counter of way nodes moves on, and the bytes after it.
-#[tactic(auto, unfolding(crate::specs::ObjectReading::ref_at, crate::specs::Steps::and_then))]
+// The reference at the start, which becomes the counter of way nodes, and the bytes after it.
+#[tactic(auto, unfolding(crate::specs::Steps::ObjectReading::ref_at, osm_reading::specs::Steps::Answers::and_then))]
 fn reference<'b>(counters: &mut Counters, bytes: &'b [u8]) -> Result<(i64, &'b [u8]), Why>
-    ensures finds { Finds (λ r. (r.0, counters.new.way_node, r.1.now)) result (ref_at counters.old.way_node bytes.now) }
-    ensures others { OnOk result (counters.new ≡ record counters.old { way_node = counters.new.way_node }) }
+    ensures finds { Finds (λ r. (r.0, counters.new.way_node, r.1.now)) result
+        (ref_at counters.old.way_node bytes.now) }
+    ensures others { OnOk result
+        (counters.new ≡ record counters.old { way_node = counters.new.way_node }) }
 {
     let (id, rest) = id(counters.way_node, bytes)?;
     counters.way_node = id;
@@ -32,18 +36,20 @@ fn reference<'b>(counters: &mut Counters, bytes: &'b [u8]) -> Result<(i64, &'b [
 
 /// The references up to the end of the part, at most 32,000; the counter of way nodes moves on.
 pub fn refs(counters: &mut Counters, alloc: Global, part: &[u8]) -> Result<Refs, Refusal>
-    ensures gives { Gives (λ r. (r, counters.new.way_node)) result (refs_at counters.old.way_node part.now) }
-    ensures others { OnOk result (counters.new ≡ record counters.old { way_node = counters.new.way_node }) }
+    ensures gives { Gives (λ r. (r, counters.new.way_node)) result
+        (refs_at counters.old.way_node part.now) }
+    ensures others { OnOk result
+        (counters.new ≡ record counters.old { way_node = counters.new.way_node }) }
 {
     let mut found = Vec::new(alloc);
     let mut rest = part;
     while !rest.is_empty() {
         if found.len() >= MAX_REFS {
-            return Err(Refusal::Bad(Why::TooMany));
+            return Err(Refusal::Fault(Why::TooMany));
         }
         let (one, after) = match reference(counters, rest) {
             Ok(read) => read,
-            Err(why) => return Err(Refusal::Bad(why)),
+            Err(why) => return Err(Refusal::Fault(why)),
         };
         if found.push(one).is_err() {
             return Err(Refusal::WantOfMemory);
@@ -53,27 +59,27 @@ pub fn refs(counters: &mut Counters, alloc: Global, part: &[u8]) -> Result<Refs,
     Ok(Refs::from_vec(found))
 }
 
-// The kind that the digit in front of a role names, and the role.
-#[tactic(auto, unfolding(crate::specs::ObjectReading::role_of, crate::specs::Steps::and_then))]
+// The kind that the digit before a role names, and the role.
+#[tactic(auto, unfolding(crate::specs::Steps::ObjectReading::role_of, osm_reading::specs::Steps::Answers::and_then))]
 fn role(alloc: Global, bytes: &[u8]) -> Result<(Kind, Text), Refusal>
     ensures { Gives (λ r. (r.0, r.1)) result (role_of bytes.now) }
 {
     let Some((digit, rest)) = bytes.split_first() else {
-        return Err(Refusal::Bad(Why::BadKind));
+        return Err(Refusal::Fault(Why::BadKind));
     };
     let kind = match *digit {
         b'0' => Kind::Node,
         b'1' => Kind::Way,
         b'2' => Kind::Relation,
-        _ => return Err(Refusal::Bad(Why::BadKind)),
+        _ => return Err(Refusal::Fault(Why::BadKind)),
     };
     let role = text(alloc, rest)?;
     Ok((kind, role))
 }
 
 impl<'a> Reader<'a> {
-    // The member at the front, and the bytes after it.
-    #[tactic(auto, unfolding(crate::specs::ObjectReading::member_at, crate::specs::Steps::and_then, crate::specs::Steps::when))]
+    // The member at the start, and the bytes after it.
+    #[tactic(auto, unfolding(crate::specs::Steps::ObjectReading::member_at, osm_reading::specs::Steps::Answers::and_then, osm_reading::specs::Steps::Answers::when))]
     fn member(&mut self, alloc: Global, bytes: &'a [u8]) -> Result<(Member, &'a [u8]), Refusal>
         ensures { Gives (λ r. (r.0, self.new, r.1.now)) result (member_at self.old bytes.now) }
     {
@@ -86,7 +92,7 @@ impl<'a> Reader<'a> {
                 let key = Key { kind, id };
                 Ok((Member { key, role }, rest))
             }
-            _ => Err(Refusal::Bad(Why::OutOfRange)),
+            _ => Err(Refusal::Fault(Why::OutOfRange)),
         }
     }
 
@@ -98,7 +104,7 @@ impl<'a> Reader<'a> {
         let mut rest = part;
         while !rest.is_empty() {
             if found.len() >= MAX_REFS {
-                return Err(Refusal::Bad(Why::TooMany));
+                return Err(Refusal::Fault(Why::TooMany));
             }
             let (one, after) = match self.member(alloc, rest) {
                 Ok(read) => read,
@@ -115,8 +121,9 @@ impl<'a> Reader<'a> {
 
 // Appends a reference as the difference to the counter of way nodes, which moves on.
 fn write_reference(out: &mut Vec<u8>, counters: &mut Counters, id: &i64) -> Result<(), WantOfMemory>
-    ensures text { OnOk result (out.new.items ≡ out.old.items ++ difference_text counters.old.way_node id.now) }
-    ensures counted { OnOk result (counters.new ≡ record counters.old { way_node = id.now }) }
+    ensures text { OnOk result
+        (out.new.items ≡ out.old.items ++ difference_text counters.old.way_node id.now) }
+    ensures counters_are { OnOk result (counters.new ≡ record counters.old { way_node = id.now }) }
 {
     write_difference(out, counters.way_node, *id)?;
     counters.way_node = *id;
@@ -129,8 +136,11 @@ pub fn write_refs(
     counters: &mut Counters,
     refs: &[i64],
 ) -> Result<(), WantOfMemory>
-    ensures text { OnOk result (out.new.items ≡ out.old.items ++ refs_text counters.old.way_node refs.now) }
-    ensures counted { OnOk result (counters.new ≡ record counters.old { way_node = last_ref counters.old.way_node refs.now }) }
+    ensures text { OnOk result
+        (out.new.items ≡ out.old.items ++ refs_text counters.old.way_node refs.now) }
+    ensures counters_are { OnOk result
+        (counters.new
+        ≡ record counters.old { way_node = last_ref counters.old.way_node refs.now }) }
 {
     for id in refs {
         write_reference(out, counters, id)?;
@@ -154,8 +164,9 @@ fn write_member(
     counters: &mut Counters,
     member: &Member,
 ) -> Result<(), WantOfMemory>
-    ensures text { OnOk result (out.new.items ≡ out.old.items ++ member_text counters.old member.now) }
-    ensures counted { OnOk result (counters.new ≡ after_member counters.old member.now) }
+    ensures text { OnOk result
+        (out.new.items ≡ out.old.items ++ member_text counters.old member.now) }
+    ensures counters_are { OnOk result (counters.new ≡ after_member counters.old member.now) }
 {
     let key = member.key;
     write_difference(out, counters.member(key.kind), key.id)?;
@@ -170,8 +181,9 @@ pub fn write_members(
     counters: &mut Counters,
     members: &[Member],
 ) -> Result<(), WantOfMemory>
-    ensures text { OnOk result (out.new.items ≡ out.old.items ++ members_text counters.old members.now) }
-    ensures counted { OnOk result (counters.new ≡ after_members counters.old members.now) }
+    ensures text { OnOk result
+        (out.new.items ≡ out.old.items ++ members_text counters.old members.now) }
+    ensures counters_are { OnOk result (counters.new ≡ after_members counters.old members.now) }
 {
     for member in members {
         write_member(out, counters, member)?;

@@ -2,16 +2,17 @@
 
 ghost use Rattle.std.specs.Prelude.{◌≡◌, [], ◌∷◌, ◌++◌, OnOk, option_copied};
 ghost use Rattle.circular_buffer.specs.Buffer.{keep_last};
-ghost use Rattle.osm_o5c.specs.Steps.{Gives, Finds};
-ghost use Rattle.osm_o5c.specs.StringReading.{entered, latest, until_nul_at, pair_at, single_at, text_of};
+ghost use Rattle.osm_reading.specs.Steps.Answers.{Gives, Finds};
+ghost use Rattle.osm_o5c.specs.Steps.StringReading.{entered, latest, until_nul_at, pair_at};
+ghost use Rattle.osm_o5c.specs.Steps.StringReading.{single_at, text_of};
 ghost use Rattle.osm_o5c.specs.Written.{pair_text, single_text};
 
 use crate::numbers::unsigned;
-use crate::refusal::Refusal;
 use circular_buffer::HeapCircularBuffer;
 use osm_model::form::Why;
 use osm_model::memory::WantOfMemory;
 use osm_model::text::{Text, TextError};
+use osm_reading::refusal::Refusal;
 use std::alloc::Global;
 use std::marker::Model;
 
@@ -56,8 +57,8 @@ const MAX_SIZE: usize = 250;
 /// How many of the last entries can be named.
 const MAX_ENTRIES: usize = 15_000;
 
-/// The last 15,000 strings in line since the last reset but those of more than 250 bytes. It borrows
-/// them from the file, and its ring is made when the first is entered.
+/// The last 15,000 strings in line since the last reset, except those of more than 250 bytes. It
+/// borrows them from the file, and makes its ring when the first is entered.
 #[derive(Drop)]
 pub struct StringTable<'a> {
     ring: Option<HeapCircularBuffer<Entry<'a>>>,
@@ -69,7 +70,7 @@ impl<'a> Model for StringTable<'a> {
 
     ghost Value = { List Entry };
 
-    ghost use Rattle.osm_o5c.specs.Ring.{items_of, IsRing};
+    ghost use Rattle.osm_o5c.specs.Steps.Ring.{items_of, IsRing};
 
     ghost view = { λ a. items_of a.ring };
 
@@ -110,7 +111,7 @@ impl<'a> StringTable<'a> {
     }
 
     // The k-th most recent entry.
-    #[tactic(auto, unfolding(crate::specs::StringReading::latest))]
+    #[tactic(auto, unfolding(crate::specs::Steps::StringReading::latest))]
     fn get(&self, k: u64) -> Option<&Entry<'a>>
         ensures { option_copied result ≡ latest self.now k }
     {
@@ -124,7 +125,7 @@ impl<'a> StringTable<'a> {
     }
 
     // Enters a pair, unless it is too long.
-    #[tactic(auto, unfolding(crate::specs::StringReading::entered))]
+    #[tactic(auto, unfolding(crate::specs::Steps::StringReading::entered))]
     fn enter_pair(
         &mut self,
         alloc: Global,
@@ -142,7 +143,7 @@ impl<'a> StringTable<'a> {
     }
 
     // Enters a single string, unless it is too long.
-    #[tactic(auto, unfolding(crate::specs::StringReading::entered))]
+    #[tactic(auto, unfolding(crate::specs::Steps::StringReading::entered))]
     fn enter_single(&mut self, alloc: Global, text: &'a [u8]) -> Result<(), WantOfMemory>
         ensures { OnOk result (self.new ≡ entered self.old (Entry.Single text.now)) }
     {
@@ -153,17 +154,18 @@ impl<'a> StringTable<'a> {
         Ok(())
     }
 
-    /// The pair of strings at the front, and the bytes after it.
-    #[tactic(auto, unfolding(crate::specs::StringReading::pair_at, crate::specs::Steps::and_then))]
+    /// The pair of strings at the start, and the bytes after it.
+    #[tactic(auto, unfolding(crate::specs::Steps::StringReading::pair_at, osm_reading::specs::Steps::Answers::and_then))]
     pub fn pair(
         &mut self,
         alloc: Global,
         bytes: &'a [u8],
     ) -> Result<(&'a [u8], &'a [u8], &'a [u8]), Refusal>
-        ensures { Gives (λ r. ((r.0.now, r.1.now), self.new, r.2.now)) result (pair_at self.old bytes.now) }
+        ensures { Gives (λ r. ((r.0.now, r.1.now), self.new, r.2.now)) result
+            (pair_at self.old bytes.now) }
     {
         let Some((first, rest)) = bytes.split_first() else {
-            return Err(Refusal::Bad(Why::BadLength));
+            return Err(Refusal::Fault(Why::BadLength));
         };
         if *first == 0 {
             let (first, rest) = until_nul(rest)?;
@@ -176,12 +178,12 @@ impl<'a> StringTable<'a> {
             Some(Entry::Pair { first, second }) => {
                 Ok((first.as_slice(), second.as_slice(), rest))
             }
-            _ => Err(Refusal::Bad(Why::BadReference)),
+            _ => Err(Refusal::Fault(Why::BadReference)),
         }
     }
 
-    /// The single string at the front, and the bytes after it.
-    #[tactic(auto, unfolding(crate::specs::StringReading::single_at, crate::specs::Steps::and_then))]
+    /// The single string at the start, and the bytes after it.
+    #[tactic(auto, unfolding(crate::specs::Steps::StringReading::single_at, osm_reading::specs::Steps::Answers::and_then))]
     pub fn single(
         &mut self,
         alloc: Global,
@@ -190,7 +192,7 @@ impl<'a> StringTable<'a> {
         ensures { Gives (λ r. (r.0.now, self.new, r.1.now)) result (single_at self.old bytes.now) }
     {
         let Some((first, rest)) = bytes.split_first() else {
-            return Err(Refusal::Bad(Why::BadLength));
+            return Err(Refusal::Fault(Why::BadLength));
         };
         if *first == 0 {
             let (text, rest) = until_nul(rest)?;
@@ -200,7 +202,7 @@ impl<'a> StringTable<'a> {
         let (k, rest) = unsigned(bytes)?;
         match self.get(k) {
             Some(Entry::Single { text }) => Ok((text.as_slice(), rest)),
-            _ => Err(Refusal::Bad(Why::BadReference)),
+            _ => Err(Refusal::Fault(Why::BadReference)),
         }
     }
 }
@@ -224,13 +226,13 @@ pub fn text(alloc: Global, bytes: &[u8]) -> Result<Text, Refusal>
     ensures { Gives (λ t. t) result (text_of bytes.now) }
 {
     let Ok(characters) = str::from_utf8(bytes) else {
-        return Err(Refusal::Bad(Why::BadText));
+        return Err(Refusal::Fault(Why::BadText));
     };
     match Text::new(alloc, characters) {
         Ok(text) => Ok(text),
         Err(TextError::WantOfMemory) => Err(Refusal::WantOfMemory),
-        Err(TextError::HasNul) => Err(Refusal::Bad(Why::BadText)),
-        Err(TextError::TooLong) => Err(Refusal::Bad(Why::BadText)),
+        Err(TextError::HasNul) => Err(Refusal::Fault(Why::BadText)),
+        Err(TextError::TooLong) => Err(Refusal::Fault(Why::BadText)),
     }
 }
 

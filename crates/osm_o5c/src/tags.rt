@@ -1,21 +1,21 @@
 //! Tags up to the end of an object.
 
 ghost use Rattle.std.specs.Prelude.{◌≡◌, ◌++◌, OnOk};
-ghost use Rattle.osm_o5c.specs.ObjectReading.{tags_at};
-ghost use Rattle.osm_o5c.specs.Steps.{Gives};
-ghost use Rattle.osm_o5c.specs.StringReading.{tag_at};
+ghost use Rattle.osm_o5c.specs.Steps.ObjectReading.{tags_at};
+ghost use Rattle.osm_reading.specs.Steps.Answers.{Gives};
+ghost use Rattle.osm_o5c.specs.Steps.StringReading.{tag_at};
 ghost use Rattle.osm_o5c.specs.Written.{tags_text};
 
-use crate::refusal::Refusal;
 use crate::strings::{StringTable, text, write_pair};
 use osm_model::form::Why;
 use osm_model::limits::MAX_TAGS;
 use osm_model::lists::{Tag, Tags};
 use osm_model::memory::WantOfMemory;
+use osm_reading::refusal::Refusal;
 use std::alloc::Global;
 
-// The tag at the front, and the bytes after it.
-#[tactic(auto, unfolding(crate::specs::StringReading::tag_at, crate::specs::Steps::and_then))]
+// The tag at the start, and the bytes after it.
+#[tactic(auto, unfolding(crate::specs::Steps::StringReading::tag_at, osm_reading::specs::Steps::Answers::and_then))]
 fn tag<'a>(
     strings: &mut StringTable<'a>,
     alloc: Global,
@@ -41,7 +41,7 @@ pub fn tags<'a>(
     let mut rest = bytes;
     while !rest.is_empty() {
         if found.len() >= MAX_TAGS {
-            return Err(Refusal::Bad(Why::TooMany));
+            return Err(Refusal::Fault(Why::TooMany));
         }
         let (one, after) = match tag(strings, alloc, rest) {
             Ok(read) => read,

@@ -5,7 +5,7 @@ use Rattle.std.proofs.lemmas.Bool.Decides.{nat_tests}
 use Rattle.std.proofs.lemmas.Option.{same_Some}
 use Rattle.std.specs.Str.{bytes_eq}
 use Rattle.std.proofs.lemmas.Slice.Eq.{bytes_eq-Decides}
-use Rattle.osm_model.specs.Clock.{loose_moment}
+use Rattle.osm_model.specs.Steps.Clock.{loose_moment}
 use Rattle.osm_model.specs.Time.{Shows, TimeText, seconds_of}
 use Rattle.osm_model.proofs.TimeLemmas.{loose_moment-moment_text, has_digits, one_text}
 use Rattle.osm_model.specs.CivilTime.{time_text}

@@ -18,3 +18,4 @@ pub mod WrittenTexts
 pub mod WrittenLists
 pub mod WrittenFields
 pub mod RoundTrip
+mod StandardFacts

@@ -10,5 +10,3 @@ mod metadata;
 mod numbers;
 mod objects;
 pub mod opl;
-#[cfg(test)]
-mod tests;

@@ -39,7 +39,7 @@ pub fn write_line(change: &Change, out: &mut Vec<u8>) -> Result<(), WantOfMemory
     result
 }
 
-#[tactic(auto, using(crate::proofs::WrittenLemmas::starts_back), unfolding(crate::specs::Written::line_text))]
+#[tactic(auto, unfolding(crate::specs::Written::line_text))]
 fn append_line(change: &Change, out: &mut Vec<u8>) -> Result<(), WantOfMemory>
     ensures ok { OnOk result (out.new.items ≡ out.old.items ++ line_text change.now) }
     ensures err { OnErr result (StartsWith out.new.items out.old.items) }
@@ -55,7 +55,8 @@ fn append_line(change: &Change, out: &mut Vec<u8>) -> Result<(), WantOfMemory>
 pub fn read_line(alloc: Global, line: &[u8]) -> Result<Change, LineError>
     ensures spelled { IfOk result (λ c. SpellsLine line.now c) }
     ensures refused { IfErr result (LineRefused line.now) }
-    ensures only { (c : ChangeValue) → SpellsLine line.now c → MatchResult result (λ d. d ≡ c) IsWant }
+    ensures only { (change : ChangeValue) → SpellsLine line.now change
+        → MatchResult result (λ c. c ≡ change) IsWant }
 {
     read_change(alloc, line)
 }

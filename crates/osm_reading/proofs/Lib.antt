@@ -1,3 +1,4 @@
 pub mod StepLemmas
 pub mod PieceLemmas
 pub mod SequenceLemmas
+mod StandardFacts

@@ -1,2 +1,4 @@
 mod model;
 mod state;
+mod o5c;
+mod opl;

@@ -9,7 +9,7 @@ use Rattle.std.specs.Str.{is_utf8, bytes_eq}
 use Rattle.std.specs.Str.Parse.{digits_value}
 use lib.Utf8.{scalar}
 use Rattle.osm_model.specs.Change.{ChangeValue}
-use Rattle.osm_model.specs.Clock.{loose_moment}
+use Rattle.osm_model.specs.Steps.Clock.{loose_moment}
 use Rattle.osm_model.specs.Meta.{MetaValue}
 use Rattle.osm_model.specs.Time.{seconds_of}
 use Rattle.osm_model.specs.declared.change.What.{What}

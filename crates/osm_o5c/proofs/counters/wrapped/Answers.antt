@@ -1,8 +1,8 @@
--- The sum is taken by the rest of the difference after whole turns.
+-- The sum is taken with the remainder of the difference by 2^32.
 use Rattle.std.proofs.Common.{arith, w64, ◌≡◌, pos}
 use Rattle.std.specs.Int.{int_rem_euclid}
 use Rattle.std.proofs.lemmas.Int.{ints, to_z-of_z}
-use Rattle.osm_o5c.specs.Laws.WrapLemmas.{wrapped_high, wrapped_low}
+use Rattle.osm_o5c.proofs.WrapLemmas.{wrapped_high, wrapped_low}
 use Rattle.osm_o5c.proofs.counters.wrapped.Goals as goal
 
 pub returns-then-sum : goal.returns-then-sum

@@ -1,7 +1,6 @@
 use Rattle.std.proofs.Common.{◌≡◌, ◌++◌, None, drop}
-use Rattle.osm_o5c.specs.Counting.{no_counters}
+use Rattle.osm_o5c.specs.Written.{no_counters, objects_text}
 use Rattle.osm_o5c.specs.File.{beginning}
-use Rattle.osm_o5c.specs.Written.{objects_text}
 use Rattle.osm_o5c.proofs.datasets.write_file.Given as goal
 
 abbrev pub invariant-loop-change : goal.invariant-loop-change

@@ -1,6 +1,7 @@
-use Rattle.osm_o5c.specs.Laws.FrontLemmas.{spelled_limits, one_batch, one_front, no_longer}
+use Rattle.osm_o5c.proofs.FrontLemmas.{spelled_limits, one_batch, one_front, no_longer}
 use Rattle.osm_o5c.proofs.LongestLemmas.{longest_of_all, one_number}
 use Rattle.osm_o5c.proofs.PlaceLemmas.{spelled_or_wrong, one_place, fault_of}
+use Rattle.osm_o5c.proofs.WrittenNumbers.{fewest_bytes, fewest_signed}
 use Rattle.osm_o5c.proofs.o5c.laws_of_o5c.Goals as goal
 
 pub returns-clause-limits : goal.returns-clause-limits
@@ -15,8 +16,14 @@ returns-clause-apart c = spelled_or_wrong
 pub returns-clause-one_place : goal.returns-clause-one_place
 returns-clause-one_place c = one_place
 
-pub returns-clause-some_place : goal.returns-clause-some_place
-returns-clause-some_place c = fault_of
+pub returns-clause-has_place : goal.returns-clause-has_place
+returns-clause-has_place c = fault_of
+
+pub returns-clause-fewest_bytes : goal.returns-clause-fewest_bytes
+returns-clause-fewest_bytes c = fewest_bytes
+
+pub returns-clause-fewest_signed : goal.returns-clause-fewest_signed
+returns-clause-fewest_signed c = fewest_signed
 
 pub returns-clause-one_front : goal.returns-clause-one_front
 returns-clause-one_front c = one_front

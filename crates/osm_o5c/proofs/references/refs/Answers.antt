@@ -1,16 +1,16 @@
 use Rattle.std.proofs.Common.{rules, arith, ◌≡◌, ◌++◌, ◌∷◌, ◌-◌, ◌+◌, [], length}
 use Rattle.std.proofs.lemmas.List.{length-append}
-use Rattle.osm_o5c.specs.ObjectReading.{ref_at}
-use Rattle.osm_o5c.specs.declared.refusal.Refusal.TheVariants.{Bad}
+use Rattle.osm_o5c.specs.Steps.ObjectReading.{ref_at}
+use Rattle.osm_reading.specs.declared.refusal.Refusal.TheVariants.{Fault}
 use Rattle.osm_o5c.proofs.LoopLemmas.{ref_shorter}
-use Rattle.osm_o5c.specs.Laws.ManyLemmas.{loop_over, loop_wrong, loop_end, loop_more}
+use Rattle.osm_o5c.proofs.ManyLemmas.{loop_over, loop_wrong, loop_end, loop_more}
 use Rattle.osm_o5c.proofs.references.refs.Goals as goal
 
 pub returns-then-len-ge-MAX_REFS-clause-gives : goal.returns-then-len-ge-MAX_REFS-clause-gives
 returns-then-len-ge-MAX_REFS-clause-gives c = loop_over ref_at (32000 - length c.loop-rest.found.items) c.loop-rest.counters.way_node c.loop-rest.rest.now c.loop-rest.found.items _ c.loop-rest.invariant.same (search rules) (search rules)
 
 pub returns-in-Err-clause-gives : goal.returns-in-Err-clause-gives
-returns-in-Err-clause-gives c = loop_wrong ref_at (32000 - length c.loop-rest.found.items) c.loop-rest.counters.way_node c.loop-rest.rest.now c.loop-rest.found.items _ (Bad c.in-Err.why) c.loop-rest.invariant.same (search rules) (search rules)
+returns-in-Err-clause-gives c = loop_wrong ref_at (32000 - length c.loop-rest.found.items) c.loop-rest.counters.way_node c.loop-rest.rest.now c.loop-rest.found.items _ (Fault c.in-Err.why) c.loop-rest.invariant.same (search rules) (search rules)
 
 pub loop-rest-smaller : goal.loop-rest-smaller
 loop-rest-smaller c = ref_shorter c.loop-rest.counters.way_node c.loop-rest.rest.now c.in-Ok.read.0 c.reference.new.counters.way_node c.in-Ok.read.1.now (search rules)

@@ -1,6 +1,6 @@
 use Rattle.std.proofs.Common.{◌≡◌, ◌-◌, ◌≤◌, length}
-use Rattle.osm_o5c.specs.ObjectReading.{many_at, ref_at}
-use Rattle.osm_o5c.specs.Laws.ManyLemmas.{behind}
+use Rattle.osm_o5c.specs.Steps.ObjectReading.{many_at, ref_at}
+use Rattle.osm_o5c.proofs.ManyLemmas.{behind}
 use Rattle.osm_o5c.proofs.references.refs.Given as goal
 
 abbrev pub invariant-loop-rest : goal.invariant-loop-rest

@@ -5,5 +5,5 @@ use Rattle.osm_o5c.proofs.references.write_members.Given as goal
 abbrev pub invariant-loop-member : goal.invariant-loop-member
 invariant-loop-member l = record {
   text : l.out.items ++ members_text l.counters (drop l.member-index l.members) ≡ l.fn.out.items ++ members_text l.fn.counters l.members;
-  counted : after_members l.counters (drop l.member-index l.members) ≡ after_members l.fn.counters l.members;
+  counters_are : after_members l.counters (drop l.member-index l.members) ≡ after_members l.fn.counters l.members;
 }

@@ -1,6 +1,6 @@
 use Rattle.std.proofs.Common.{ap, Err}
 use Rattle.osm_model.specs.declared.text.TextError.{TextError}
-use Rattle.osm_o5c.specs.Laws.StringLemmas.{text_none, text_found, text_nul, text_long}
+use Rattle.osm_o5c.proofs.StringLemmas.{text_none, text_found, text_nul, text_long}
 use Rattle.osm_o5c.proofs.strings.text.Goals as goal
 
 pub returns-in_default : goal.returns-in_default

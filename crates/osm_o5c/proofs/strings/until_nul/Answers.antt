@@ -1,6 +1,6 @@
 use Rattle.std.proofs.Common.{rules, ◌+◌, arith}
 use Rattle.std.proofs.lemmas.List.{take_rest}
-use Rattle.osm_o5c.specs.Laws.StringLemmas.{until_found, until_none}
+use Rattle.osm_o5c.proofs.StringLemmas.{until_found, until_none}
 use Rattle.osm_o5c.proofs.strings.until_nul.Goals as goal
 
 pub returns-then-bytes-at-eq0 : goal.returns-then-bytes-at-eq0

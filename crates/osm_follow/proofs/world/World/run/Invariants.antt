@@ -1,9 +1,7 @@
 use Rattle.std.specs.Vec.Iter.{into_iter_items}
 use Rattle.std.specs.Vec.{vec_capacity}
 use Rattle.std.proofs.Common.{◌≤◌, ◌++◌, ◌≡◌, length}
-use Rattle.osm_follow.specs.Correct.{IsInStep}
-use Rattle.osm_follow.specs.History.{history_of}
-use Rattle.osm_follow.specs.Legal.{IsLegal}
+use Rattle.osm_follow.specs.Correct.{IsRun}
 use Rattle.osm_follow.proofs.world.World.run.Given as goal
 
 abbrev pub invariant-loop-event : goal.invariant-loop-event
@@ -11,6 +9,5 @@ invariant-loop-event l = record {
   room : length l.fn.events.items ≤ vec_capacity l.replies;
   rest : l.yielded ++ into_iter_items l.event-iterator ≡ l.fn.events.items;
   many : length l.replies.items ≡ length l.yielded;
-  legal : IsLegal (history_of l.yielded l.replies.items);
-  in_step : IsInStep (history_of l.yielded l.replies.items) l.world;
+  run : IsRun l.yielded l.replies.items l.world;
 }

@@ -1,0 +1,77 @@
+-- A delivery of texts that are those of a sequence, read as the delivery of that sequence.
+use Rattle.std.proofs.Common.{◌≡◌, ℕ, ◌+◌, ◌<◌, ◌≤◌, List, [], ◌∷◌, length, refl, ap, sym, ◌∙◌, true, false, arith, Some, subst}
+use Rattle.std.specs.Prelude.{Result, Ok, Err}
+use Rattle.osm_model.specs.Change.{ChangeValue}
+use Rattle.osm_state.proofs.StateLemmas.{one_state}
+use Rattle.osm_state.specs.State.{StateValue}
+use Rattle.osm_state.specs.StateFault.{FaultOf}
+use Rattle.osm_state.specs.StateText.{StateOf}
+use Rattle.osm_state.specs.declared.state_text.StateError.{StateError}
+use Rattle.osm_follow.specs.Delivery as table
+use Rattle.osm_follow.specs.Follower.{FollowerValue}
+use Rattle.osm_follow.specs.Published.{PublishedValue}
+use Rattle.osm_follow.specs.declared.delivery.Delivered.{Delivered}
+use Rattle.osm_follow.specs.declared.delivery.Delivered.TheVariants.{Old, Applied}
+use Rattle.osm_follow.specs.declared.delivery.DeliverError.{DeliverError}
+use Rattle.osm_follow.specs.declared.delivery.DeliverError.TheVariants.{Broken, BadState, BadSequence, TooEarly, BadChange, WantOfMemory, Broke}
+
+-- bytes spell at most one batch
+abbrev pub OneBatch : table.Spelling → Type 0
+OneBatch spells = (bytes : List ℕ) (a b : List ChangeValue) → spells bytes a → spells bytes b → a ≡ b
+
+-- a text doesn't have both a state and a fault
+abbrev pub NoFaultBeside : Type 0
+NoFaultBeside = (text : List ℕ) (s : StateValue) (e : StateError) → StateOf text s → FaultOf text e → ⊥
+
+-- the state that a sequence's text names
+abbrev pub state_of : PublishedValue → StateValue
+state_of p = record { sequence = p.number; time = p.time }
+
+-- what the delivery of a sequence does to a follower
+abbrev pub FollowerStep : FollowerValue → PublishedValue → Result Delivered DeliverError → FollowerValue → Type 0
+FollowerStep f p (Err Broken) g = (f.is_broken ≡ true) × (g ≡ f)
+FollowerStep f p (Ok Old) g = (f.is_broken ≡ false) × (p.number ≤ f.number) × (g ≡ f)
+FollowerStep f p (Err TooEarly) g = (f.is_broken ≡ false) × (f.number + 1 < p.number) × (g ≡ f)
+FollowerStep f p (Err (BadChange e)) g = (f.is_broken ≡ false) × (p.number ≡ f.number + 1) × (g ≡ f)
+FollowerStep f p (Err WantOfMemory) g =
+    (f.is_broken ≡ false) × (p.number ≡ f.number + 1) × (0 < length p.changes) × (g ≡ f)
+FollowerStep f p (Ok (Applied low high)) g =
+    (f.is_broken ≡ false) × (p.number ≡ f.number + 1) × (low ≡ p.number) × (high ≡ p.number) × table.Takes f p g
+FollowerStep f p (Err Broke) g = (f.is_broken ≡ false) × (p.number ≡ f.number + 1) × table.Breaks f p.changes g
+FollowerStep f p answer g = ⊥
+
+some_changes : (spells : table.Spelling) (bytes : List ℕ) (cs : List ChangeValue) → spells bytes cs → (spells bytes [] → ⊥) → 0 < length cs
+some_changes spells bytes [] s none = absurd (none s)
+some_changes spells bytes (c ∷ cs) s none = omega arith
+
+same_sequence : (s : StateValue) (cs : List ChangeValue) (p : PublishedValue) → s ≡ state_of p → cs ≡ p.changes → table.sequence_of s cs ≡ p
+same_sequence s cs p e f = rw (e, f) refl
+
+turn_next : (s : StateValue) (p : PublishedValue) (n : ℕ) → s ≡ state_of p → s.sequence ≡ n → p.number ≡ n
+turn_next s p n e h = sym (ap (λ (t : StateValue). t.sequence) e) ∙ h
+
+pub read_as : (spells : table.Spelling) (fault_place : table.FaultPlaces) → OneBatch spells → NoFaultBeside → (f g : FollowerValue) (state bytes : List ℕ) (p : PublishedValue) → 0 < p.number → StateOf state (state_of p) → spells bytes p.changes → (answer : Result Delivered DeliverError) → table.Delivers spells fault_place f state bytes answer g → FollowerStep f p answer g
+read_as spells fp one apart f g state bytes p above names spelled (Err Broken) d = (d.0, d.1)
+read_as spells fp one apart f g state bytes p above names spelled (Err (BadState e)) d = absurd (apart state (state_of p) e names d.0.1)
+read_as spells fp one apart f g state bytes p above names spelled (Err BadSequence) d =
+    let none : p.number ≡ 0 = turn_next d.0.0 p 0 (one_state state d.0.0 (state_of p) d.0.2 names) d.0.3 in absurd (omega arith)
+read_as spells fp one apart f g state bytes p above names spelled (Ok Old) d =
+    (d.0.1, (let is : p.number ≡ d.0.0.sequence = turn_next d.0.0 p d.0.0.sequence (one_state state d.0.0 (state_of p) d.0.2 names) refl in let below = d.0.4 in omega arith), d.1)
+read_as spells fp one apart f g state bytes p above names spelled (Err TooEarly) d =
+    (d.0.1, (let is : p.number ≡ d.0.0.sequence = turn_next d.0.0 p d.0.0.sequence (one_state state d.0.0 (state_of p) d.0.2 names) refl in let past = d.0.3 in omega arith), d.1)
+read_as spells fp one apart f g state bytes p above names spelled (Err (BadChange e)) d =
+    (d.1.whole, turn_next d.0 p (f.number + 1) (one_state state d.0 (state_of p) d.1.names names) d.1.next, d.3)
+read_as spells fp one apart f g state bytes p above names spelled (Err WantOfMemory) d =
+    (d.1.whole, turn_next d.0 p (f.number + 1) (one_state state d.0 (state_of p) d.1.names names) d.1.next, some_changes spells bytes p.changes spelled d.3, d.4)
+read_as spells fp one apart f g state bytes p above names spelled (Ok (Applied low high)) d =
+    let same : d.0 ≡ state_of p = one_state state d.0 (state_of p) d.2.names names in
+    let number : d.0.sequence ≡ p.number = ap (λ (t : StateValue). t.sequence) same in (
+      d.2.whole,
+      turn_next d.0 p (f.number + 1) same d.2.next,
+      d.5 ∙ number,
+      d.6 ∙ number,
+      subst (λ (q : PublishedValue). table.Takes f q g) (same_sequence d.0 d.1 p same (one bytes d.1 p.changes d.4 spelled)) d.7,
+    )
+read_as spells fp one apart f g state bytes p above names spelled (Err Broke) d =
+    let same : d.0 ≡ state_of p = one_state state d.0 (state_of p) d.2.names names in
+    (d.2.whole, turn_next d.0 p (f.number + 1) same d.2.next, subst (λ (cs : List ChangeValue). table.Breaks f cs g) (one bytes d.1 p.changes d.4 spelled) d.5)

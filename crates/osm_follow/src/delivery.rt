@@ -1,0 +1,40 @@
+//! What a follower answers to a delivery.
+
+use osm_model::form::FormError;
+use osm_state::state_text::StateError;
+use thiserror::Error;
+
+/// What became of a sequence that was delivered.
+#[derive(Clone, Copy, Debug, PartialEq, Eq)]
+pub enum Delivered {
+    /// The number was applied before.
+    Old,
+    /// The sequences from `low` to `high` were applied.
+    Applied { low: u32, high: u32 },
+}
+
+/// Why a sequence that was delivered isn't taken. Nothing has changed, except after `Broke`.
+#[derive(Clone, Copy, Debug, PartialEq, Eq, Error)]
+pub enum DeliverError {
+    /// The follower is broken.
+    #[error("Broken")]
+    Broken,
+    /// The state text can't be read.
+    #[error("BadState")]
+    BadState(StateError),
+    /// The state text names sequence 0, which has no change file.
+    #[error("BadSequence")]
+    BadSequence,
+    /// A number before it is missing.
+    #[error("TooEarly")]
+    TooEarly,
+    /// The bytes spell no batch, or are more than 64 MiB.
+    #[error("BadChange")]
+    BadChange(FormError),
+    /// Memory was refused while the bytes were read.
+    #[error("WantOfMemory")]
+    WantOfMemory,
+    /// Memory was refused part of the way through the application: the follower is broken from now on.
+    #[error("Broke")]
+    Broke,
+}

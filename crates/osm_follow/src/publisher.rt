@@ -1,0 +1,159 @@
+//! A publisher of sequences.
+
+ghost use Rattle.std.specs.Prelude.{◌≡◌, ◌<◌, ◌≤◌, ◌++◌, [], ◌∷◌, length, OnOk, OnErr, IfErr};
+ghost use Rattle.osm_model.specs.Batch.{IsBatch};
+ghost use Rattle.osm_model.specs.Limits.{IsPositive, max_changes, max_sequence};
+ghost use Rattle.osm_follow.specs.Publisher.{CanClose, Closes, EditRefused, new_publisher};
+ghost use Rattle.osm_follow.specs.Steps.Archive.{CloseBarred};
+
+use crate::published::Published;
+use osm_model::batch::{Batch, PushError};
+use osm_model::change::Change;
+use osm_model::limits::MAX_SEQUENCE;
+use osm_state::state::State;
+use std::alloc::Global;
+use std::marker::Model;
+use thiserror::Error;
+
+/// The number and the time of the last sequence, and the edits since then.
+#[derive(Debug, Drop)]
+pub struct Publisher {
+    number: u32,
+    time: u32,
+    pending: Batch,
+}
+
+impl Model for Publisher {
+    ghost use Rattle.std.specs.Prelude.{◌≤◌};
+    ghost use Rattle.osm_model.specs.Limits.{IsPositive, max_sequence};
+    ghost use Rattle.osm_follow.specs.Publisher.{PublisherValue};
+
+    ghost Value = { PublisherValue };
+
+    ghost view = { λ a. record { number = a.number; time = a.time; pending = a.pending } };
+
+    ghost invariant = { λ a. (a.number ≤ max_sequence) × IsPositive a.time };
+}
+
+/// Why an edit isn't taken; it is handed back.
+#[derive(Debug, Drop, PartialEq, Error)]
+pub enum EditError {
+    /// 100,000 edits are pending.
+    #[error("BatchFull")]
+    BatchFull(Change),
+    /// Memory was refused.
+    #[error("WantOfMemory")]
+    WantOfMemory(Change),
+}
+
+/// Why the pending edits aren't published; they stay pending.
+#[derive(Clone, Copy, Debug, PartialEq, Eq, Error)]
+pub enum CloseError {
+    /// The last sequence, 999,999,999, is published.
+    #[error("SequenceFull")]
+    SequenceFull,
+    /// The time is below the last one.
+    #[error("TimeBack")]
+    TimeBack,
+    /// The o5c file or the OPL file would pass 64 MiB.
+    #[error("TooLarge")]
+    TooLarge,
+    /// Memory was refused.
+    #[error("WantOfMemory")]
+    WantOfMemory,
+}
+
+impl Publisher {
+    /// Before the first sequence.
+    pub fn new(alloc: Global) -> Publisher
+        ensures { result ≡ new_publisher }
+    {
+        Publisher {
+            number: 0,
+            time: 1,
+            pending: Batch::new(alloc),
+        }
+    }
+
+    /// After the sequence of that state, with nothing pending.
+    pub fn resume(alloc: Global, state: &State) -> Publisher
+        ensures { result ≡ record { number = state.now.sequence; time = state.now.time; pending = [] } }
+    {
+        Publisher {
+            number: state.sequence(),
+            time: state.time(),
+            pending: Batch::new(alloc),
+        }
+    }
+
+    /// The number of the last sequence; 0 before the first.
+    pub fn number(&self) -> u32
+        ensures number { result ≡ self.now.number }
+        ensures most { result ≤ max_sequence }
+    {
+        self.number
+    }
+
+    /// The edits since the last sequence.
+    pub fn pending(&self) -> &Batch
+        ensures { result.now ≡ self.now.pending }
+    {
+        &self.pending
+    }
+
+    /// Takes an edit, as the last of the pending ones.
+    pub fn edit(&mut self, change: Change) -> Result<(), EditError>
+        ensures taken { OnOk result (self.new
+            ≡ record self.old { pending = self.old.pending ++ change ∷ [] }) }
+        ensures room { OnOk result (length self.old.pending < max_changes) }
+        ensures limits { IsBatch self.new.pending }
+        ensures refused { IfErr result (EditRefused self.old change) }
+        ensures unchanged { OnErr result (self.new ≡ self.old) }
+    {
+        match self.pending.push(change) {
+            Ok(()) => {
+                let _changes = self.pending.changes();
+                Ok(())
+            }
+            Err(PushError::Full(change)) => {
+                let _changes = self.pending.changes();
+                Err(EditError::BatchFull(change))
+            }
+            Err(PushError::WantOfMemory(change)) => {
+                let _changes = self.pending.changes();
+                Err(EditError::WantOfMemory(change))
+            }
+        }
+    }
+
+    /// Refused if no close at that time can succeed, whatever is pending.
+    pub(crate) fn check_close(&self, time: u32) -> Result<(), CloseError>
+        ensures open { OnOk result (CanClose self.now time) }
+        ensures time { OnOk result (IsPositive time) }
+        ensures pending { IsBatch self.now.pending }
+        ensures refused { IfErr result (CloseBarred self.now time) }
+    {
+        let _changes = self.pending.changes();
+        if self.number >= MAX_SEQUENCE {
+            return Err(CloseError::SequenceFull);
+        }
+        if time < self.time {
+            return Err(CloseError::TimeBack);
+        }
+        Ok(())
+    }
+
+    /// Publishes the pending edits as the next sequence, at that time in seconds since
+    /// 1970-01-01T00:00:00Z.
+    pub fn close(&mut self, alloc: Global, time: u32) -> Result<Published, CloseError>
+        ensures { Closes self.old time result self.new }
+    {
+        self.check_close(time)?;
+        let state = State::new(self.number + 1, time).unwrap();
+        let published = Published::write(alloc, &state, &self.pending)?;
+        self.number += 1;
+        self.time = time;
+        self.pending = Batch::new(alloc);
+        Ok(published)
+    }
+}

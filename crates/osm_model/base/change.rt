@@ -1,0 +1,286 @@
+//! One change of one object.
+
+ghost use Rattle.std.specs.Prelude.{◌≡◌, ◌<◌, ◌↔◌, length, IfOk, IsErrOf, IsTrue, Some, None};
+ghost use Rattle.std.specs.List.{AllByRecursion};
+ghost use Rattle.osm_model.specs.Limits.{IsId, IsLocation, max_tags, max_refs};
+ghost use Rattle.osm_model.specs.Change.{IsChange, IsWhat, HasMemberId};
+ghost use Rattle.osm_model.specs.Content.{standing_of};
+
+use crate::kind::{Key, Kind};
+use crate::limits::{MAX_ID, MAX_LAT, MAX_LON, MAX_REFS, MAX_TAGS};
+use crate::lists::{Member, Members, Refs, Tags};
+use crate::memory::WantOfMemory;
+use crate::meta::Meta;
+use std::alloc::Global;
+use std::marker::Model;
+use thiserror::Error;
+
+/// What an object is after a change. A location is in units of 10^-7 degree.
+#[derive(Debug, Drop, PartialEq)]
+pub enum What {
+    Node { lon: i32, lat: i32, tags: Tags },
+    Way { refs: Refs, tags: Tags },
+    Relation { members: Members, tags: Tags },
+    Deleted,
+}
+
+impl What {
+    fn copy(&self, alloc: Global) -> Result<What, WantOfMemory>
+        ensures { IfOk result (λ w. w ≡ self.now) }
+    {
+        match self {
+            What::Node { lon, lat, tags } => Ok(What::Node {
+                lon: *lon,
+                lat: *lat,
+                tags: tags.copy(alloc)?,
+            }),
+            What::Way { refs, tags } => Ok(What::Way {
+                refs: refs.copy(alloc)?,
+                tags: tags.copy(alloc)?,
+            }),
+            What::Relation { members, tags } => Ok(What::Relation {
+                members: members.copy(alloc)?,
+                tags: tags.copy(alloc)?,
+            }),
+            What::Deleted => Ok(What::Deleted),
+        }
+    }
+}
+
+/// One change of one object: who made it and when, and what the object is from then on.
+#[derive(Debug, Drop, PartialEq)]
+pub struct Change {
+    key: Key,
+    meta: Meta,
+    what: What,
+}
+
+impl Model for Change {
+    ghost use Rattle.osm_model.specs.Change.{ChangeValue, IsChange};
+
+    ghost Value = { ChangeValue };
+
+    ghost view = { λ a. record { key = a.key; meta = a.meta; what = a.what } };
+
+    ghost invariant = { λ a. IsChange (record { key = a.key; meta = a.meta; what = a.what }) };
+
+    ghost inverse = { λ c. record { key = c.key; meta = c.meta; what = c.what } };
+}
+
+/// Why a change is refused; what was handed in is then dropped.
+#[derive(Clone, Copy, Debug, PartialEq, Eq, Error)]
+pub enum ChangeError {
+    /// The id, the location, or the id of a node or a member is outside its limits.
+    #[error("OutOfRange")]
+    OutOfRange,
+    /// There are more than 5,000 tags.
+    #[error("TooManyTags")]
+    TooManyTags,
+    /// There are more than 32,000 nodes or members.
+    #[error("TooManyRefs")]
+    TooManyRefs,
+}
+
+fn is_id(id: i64) -> bool
+    ensures { IsTrue result ↔ IsId id }
+{
+    -MAX_ID <= id && id <= MAX_ID
+}
+
+fn are_ids(ids: &[i64]) -> bool
+    ensures { IsTrue result ↔ AllByRecursion IsId ids.now }
+{
+    for id in ids {
+        if !is_id(*id) {
+            return false;
+        }
+    }
+    true
+}
+
+fn have_ids(members: &[Member]) -> bool
+    ensures { IsTrue result ↔ AllByRecursion HasMemberId members.now }
+{
+    for member in members {
+        if !is_id(member.key.id) {
+            return false;
+        }
+    }
+    true
+}
+
+fn is_location(lon: i32, lat: i32) -> bool
+    ensures { IsTrue result ↔ IsLocation lon lat }
+{
+    -MAX_LON <= lon && lon <= MAX_LON && -MAX_LAT <= lat && lat <= MAX_LAT
+}
+
+impl Change {
+    /// A node at that location.
+    pub fn node(id: i64, meta: Meta, lon: i32, lat: i32, tags: Tags) -> Result<Change, ChangeError>
+        ensures out_of_range { IsErrOf result ChangeError.OutOfRange ↔ ¬ (IsId id × IsLocation lon lat) }
+        ensures too_many_tags { IsErrOf result ChangeError.TooManyTags
+            ↔ (IsId id × IsLocation lon lat × (max_tags < length tags)) }
+        ensures never { ¬ IsErrOf result ChangeError.TooManyRefs }
+        ensures value { IfOk result (λ c. c ≡ record {
+          key = record { kind = Kind.Node; id = id };
+          meta = meta;
+          what = What.Node lon lat tags;
+        }) }
+    {
+        let _version = meta.version();
+        if !is_id(id) || !is_location(lon, lat) {
+            return Err(ChangeError::OutOfRange);
+        }
+        if tags.as_slice().len() > MAX_TAGS {
+            return Err(ChangeError::TooManyTags);
+        }
+        Ok(Change {
+            key: Key {
+                kind: Kind::Node,
+                id,
+            },
+            meta,
+            what: What::Node { lon, lat, tags },
+        })
+    }
+
+    /// A way along those nodes.
+    pub fn way(id: i64, meta: Meta, refs: Refs, tags: Tags) -> Result<Change, ChangeError>
+        ensures out_of_range { IsErrOf result ChangeError.OutOfRange ↔ ¬ (IsId id × AllByRecursion IsId refs) }
+        ensures too_many_tags { IsErrOf result ChangeError.TooManyTags
+            ↔ (IsId id × AllByRecursion IsId refs × (max_tags < length tags)) }
+        ensures too_many_refs { IsErrOf result ChangeError.TooManyRefs
+            ↔ (IsId id × AllByRecursion IsId refs × ¬ (max_tags < length tags) × (max_refs < length refs)) }
+        ensures value { IfOk result (λ c. c ≡ record {
+          key = record { kind = Kind.Way; id = id };
+          meta = meta;
+          what = What.Way refs tags;
+        }) }
+    {
+        let _version = meta.version();
+        if !is_id(id) || !are_ids(refs.as_slice()) {
+            return Err(ChangeError::OutOfRange);
+        }
+        if tags.as_slice().len() > MAX_TAGS {
+            return Err(ChangeError::TooManyTags);
+        }
+        if refs.as_slice().len() > MAX_REFS {
+            return Err(ChangeError::TooManyRefs);
+        }
+        Ok(Change {
+            key: Key {
+                kind: Kind::Way,
+                id,
+            },
+            meta,
+            what: What::Way { refs, tags },
+        })
+    }
+
+    /// A relation of those members.
+    pub fn relation(
+        id: i64,
+        meta: Meta,
+        members: Members,
+        tags: Tags,
+    ) -> Result<Change, ChangeError>
+        ensures out_of_range { IsErrOf result ChangeError.OutOfRange
+            ↔ ¬ (IsId id × AllByRecursion HasMemberId members) }
+        ensures too_many_tags { IsErrOf result ChangeError.TooManyTags
+            ↔ (IsId id × AllByRecursion HasMemberId members × (max_tags < length tags)) }
+        ensures too_many_refs { IsErrOf result ChangeError.TooManyRefs
+            ↔ (IsId id × AllByRecursion HasMemberId members × ¬ (max_tags < length tags) × (max_refs < length members)) }
+        ensures value { IfOk result (λ c. c ≡ record {
+          key = record { kind = Kind.Relation; id = id };
+          meta = meta;
+          what = What.Relation members tags;
+        }) }
+    {
+        let _version = meta.version();
+        if !is_id(id) || !have_ids(members.as_slice()) {
+            return Err(ChangeError::OutOfRange);
+        }
+        if tags.as_slice().len() > MAX_TAGS {
+            return Err(ChangeError::TooManyTags);
+        }
+        if members.as_slice().len() > MAX_REFS {
+            return Err(ChangeError::TooManyRefs);
+        }
+        Ok(Change {
+            key: Key {
+                kind: Kind::Relation,
+                id,
+            },
+            meta,
+            what: What::Relation { members, tags },
+        })
+    }
+
+    /// The deletion of an object.
+    pub fn deleted(key: Key, meta: Meta) -> Result<Change, ChangeError>
+        ensures out_of_range { IsErrOf result ChangeError.OutOfRange ↔ ¬ IsId key.id }
+        ensures never { ¬ IsErrOf result ChangeError.TooManyTags × ¬ IsErrOf result ChangeError.TooManyRefs }
+        ensures value { IfOk result (λ c. c ≡ record { key = key; meta = meta; what = What.Deleted }) }
+    {
+        let _version = meta.version();
+        if !is_id(key.id) {
+            return Err(ChangeError::OutOfRange);
+        }
+        Ok(Change {
+            key,
+            meta,
+            what: What::Deleted,
+        })
+    }
+
+    /// The change of those parts, which are known to be within the limits. Nothing is looked through
+    /// again.
+    pub fn within_limits(key: Key, meta: Meta, what: What) -> Change
+        requires { IsId key.id × IsWhat key.kind what }
+        ensures { result ≡ record { key = key; meta = meta; what = what } }
+    {
+        let _version = meta.version();
+        Change { key, meta, what }
+    }
+
+    pub fn key(&self) -> Key
+        ensures key { result ≡ self.now.key }
+        ensures limits { IsChange self.now }
+    {
+        self.key
+    }
+
+    pub fn meta(&self) -> &Meta
+        ensures { result.now ≡ self.now.meta }
+    {
+        &self.meta
+    }
+
+    /// Whether the change is a deletion, which leaves nothing of the object.
+    pub fn is_deletion(&self) -> bool
+        ensures deletion { IsTrue result → standing_of self.now ≡ None }
+        ensures other { ¬ IsTrue result → standing_of self.now ≡ Some self.now }
+    {
+        matches!(self.what, What::Deleted)
+    }
+
+    pub fn what(&self) -> &What
+        ensures { result.now ≡ self.now.what }
+    {
+        &self.what
+    }
+
+    /// An equal change.
+    pub fn copy(&self, alloc: Global) -> Result<Change, WantOfMemory>
+        ensures { IfOk result (λ c. c ≡ self.now) }
+    {
+        let meta = self.meta.copy(alloc)?;
+        let what = self.what.copy(alloc)?;
+        Ok(Change {
+            key: self.key,
+            meta,
+            what,
+        })
+    }
+}

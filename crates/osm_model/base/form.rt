@@ -1,0 +1,117 @@
+//! What a form of change files is: what its bytes spell, what is written, and where a fault stands.
+
+ghost use Rattle.std.specs.Prelude.{◌≡◌, ℕ, List, ◌≤◌, length, IfOk, OnOk, IfErr};
+ghost use Rattle.osm_model.specs.Batch.{IsBatch};
+ghost use Rattle.osm_model.specs.Change.{ChangeValue};
+ghost use Rattle.osm_model.specs.ChangeForm.{ReadRefused, WriteRefused};
+ghost use Rattle.osm_model.specs.Limits.{max_file};
+
+use crate::batch::Batch;
+use std::alloc::Global;
+use thiserror::Error;
+
+/// Why a line or a dataset can't be read. Where several causes apply, which of them is named is open.
+#[derive(Clone, Copy, Debug, PartialEq, Eq, Error)]
+pub enum Why {
+    /// The first letter of a line, or the kind of a member, is none of the three.
+    #[error("BadKind")]
+    BadKind,
+    /// A field is missing, out of order or of a wrong shape.
+    #[error("BadField")]
+    BadField,
+    /// A number isn't spelled as the form wants it.
+    #[error("BadNumber")]
+    BadNumber,
+    /// A number is outside its limits.
+    #[error("OutOfRange")]
+    OutOfRange,
+    /// A timestamp isn't a text of a time.
+    #[error("BadTime")]
+    BadTime,
+    /// An escape names no character.
+    #[error("BadEscape")]
+    BadEscape,
+    /// A text isn't UTF-8, holds U+0000 or has more than 1,020 bytes.
+    #[error("BadText")]
+    BadText,
+    /// A visible node has no location.
+    #[error("NoLocation")]
+    NoLocation,
+    /// Version, time, changeset or user is empty, absent or 0.
+    #[error("NoMetadata")]
+    NoMetadata,
+    /// There are more than 5,000 tags, 32,000 nodes or members, or 100,000 changes.
+    #[error("TooMany")]
+    TooMany,
+    /// An o5c file doesn't begin with the reset and the header.
+    #[error("BadHeader")]
+    BadHeader,
+    /// An o5c file ends inside a dataset or without the end byte.
+    #[error("Truncated")]
+    Truncated,
+    /// A reference names no string of the table, or one of the other sort.
+    #[error("BadReference")]
+    BadReference,
+    /// The fields don't fill their dataset, or the references their part, exactly.
+    #[error("BadLength")]
+    BadLength,
+    /// Bytes follow the end byte of an o5c file.
+    #[error("TrailingBytes")]
+    TrailingBytes,
+}
+
+/// Why a change file isn't read or written.
+#[derive(Clone, Copy, Debug, PartialEq, Eq, Error)]
+pub enum FormError {
+    /// Memory was refused.
+    #[error("WantOfMemory")]
+    WantOfMemory,
+    /// The file has more than 64 MiB.
+    #[error("TooLarge")]
+    TooLarge,
+    /// The bytes spell no batch. The form says what its places count.
+    #[error("Fault")]
+    Fault { place: u64, why: Why },
+}
+
+/// A form of change files.
+pub trait ChangeForm {
+    /// The bytes spell the batch.
+    ghost spells: { List ℕ → List ChangeValue → Type 0 };
+
+    /// The written text of a batch.
+    ghost text: { List ChangeValue → List ℕ };
+
+    /// The fault of bytes that spell no batch stands there.
+    ghost fault_place: { List ℕ → ℕ → Type 0 };
+
+    /// The written text of a batch, which is never a fault.
+    fn write(alloc: Global, batch: &Batch) -> Result<Vec<u8>, FormError>
+        ensures text { IfOk result (λ v. v.items ≡ text batch.now) }
+        ensures small { IfOk result (λ v. length v.items ≤ max_file) }
+        ensures refused { IfErr result (WriteRefused (text batch.now)) };
+
+    /// The batch that the bytes spell.
+    fn read(alloc: Global, bytes: &[u8]) -> Result<Batch, FormError>
+        ensures spelled { IfOk result (λ b. spells bytes.now b) }
+        ensures small { OnOk result (length bytes.now ≤ max_file) }
+        ensures refused { IfErr result (ReadRefused spells fault_place bytes.now) };
+
+    /// The laws of the form; does nothing at run time. The written text of a batch within the limits
+    /// spells it, and one list of bytes spells at most one batch.
+    fn laws()
+        ensures text_spells { (batch : List ChangeValue) → IsBatch batch → spells (text batch) batch }
+        ensures one_batch { (bytes : List ℕ) (a b : List ChangeValue) → spells bytes a → spells bytes b → a ≡ b };
+}
+
+/// What is written is read back as it was: the law that a publisher and its followers rest on,
+/// whatever the form.
+pub fn there_and_back<F: ChangeForm>(alloc: Global, batch: &Batch) -> Result<Batch, FormError>
+    ensures same { IfOk result (λ b. b ≡ batch.now) }
+    ensures refused { IfErr result (WriteRefused (F.text batch.now)) }
+{
+    F::laws();
+    let _changes = batch.changes();
+    let bytes = F::write(alloc, batch)?;
+    F::read(alloc, bytes.as_slice())
+}

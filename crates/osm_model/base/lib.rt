@@ -1,0 +1,15 @@
+//! Changes of OpenStreetMap objects as values within their limits, batches of them, times, and what
+//! a form of change files is.
+#![tactic(auto)]
+
+pub mod batch;
+pub mod change;
+pub mod content;
+pub mod form;
+pub mod kind;
+pub mod limits;
+pub mod lists;
+pub mod memory;
+pub mod meta;
+pub mod text;
+pub mod time;

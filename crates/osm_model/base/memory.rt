@@ -1,0 +1,21 @@
+//! Memory was refused.
+
+use std::alloc::{AllocError, AllocFailed};
+use thiserror::Error;
+
+/// A growth was refused, and what grew is as it was before the call, unless the call says more.
+#[derive(Clone, Copy, Debug, PartialEq, Eq, Error)]
+#[error("WantOfMemory")]
+pub struct WantOfMemory;
+
+impl From<AllocError> for WantOfMemory {
+    fn from(_error: AllocError) -> WantOfMemory {
+        WantOfMemory
+    }
+}
+
+impl<T: Drop> From<AllocFailed<T>> for WantOfMemory {
+    fn from(_error: AllocFailed<T>) -> WantOfMemory {
+        WantOfMemory
+    }
+}

@@ -1,0 +1,191 @@
+//! Times as texts of 20 bytes, as `2024-01-01T00:00:00Z`: read loosely, written in the one form, and
+//! compared.
+
+ghost use Rattle.std.specs.Prelude.{◌≡◌, ℕ, List, ◌+◌, ◌-◌, ◌*◌, ◌/◌, ◌%◌, ◌<◌, ◌≤◌, ◌^◌, ◌↔◌, Some, IsTrue, IsNone, IfSome, min, pos, codes, ◌+ℤ◌, ◌*ℤ◌, ◌≤ℤ◌};
+ghost use Rattle.jiff_core.specs.Calendar.{IsCivilDate};
+ghost use Rattle.jiff_core.specs.Date.{epoch_day};
+ghost use Rattle.osm_model.specs.CivilTime.{time_text};
+ghost use Rattle.osm_model.specs.Clock.{moment_of, HasDigits, loose_moment};
+ghost use Rattle.osm_model.specs.Limits.{IsPositive};
+ghost use Rattle.osm_model.specs.Time.{Moment, IsMoment, Shows, TimeText, moment_text, seconds_of};
+
+use jiff::civil::Date;
+
+#[derive(Clone, Copy, Debug, PartialEq, Eq)]
+struct Clock {
+    year: u16,
+    month: u8,
+    day: u8,
+    hour: u8,
+    minute: u8,
+    second: u8,
+}
+
+/// The seconds since 1970-01-01T00:00:00Z of a text `YYYY-MM-DDTHH:MM:SSZ` of a real date and time
+/// (ISO 8601; no leap second), from 1970-01-01T00:00:01Z to 2106-02-07T06:28:15Z; none for all else.
+pub fn time_read(bytes: &[u8]) -> Option<u32>
+    ensures sound { IfSome result (λ t. TimeText bytes.now t) }
+    ensures complete { (t : ℕ) → TimeText bytes.now t → result ≡ Some t }
+{
+    let text: &[u8; 20] = bytes.try_into().ok()?;
+    read_form(text)
+}
+
+/// The text of that many seconds since 1970-01-01T00:00:00Z.
+pub fn time_write(seconds: u32) -> [u8; 20]
+    ensures value { result ≡ time_text seconds }
+    ensures shows { Shows result seconds }
+    ensures text { 1 ≤ seconds → TimeText result seconds }
+    ensures only { (bytes : List ℕ) → Shows bytes seconds → bytes ≡ result }
+{
+    text_at(seconds)
+}
+
+fn read_form(text: &[u8; 20]) -> Option<u32>
+    ensures sound { IfSome result (λ t. TimeText text.now t) }
+    ensures complete { (t : ℕ) → TimeText text.now t → result ≡ Some t }
+{
+    let clock = loose_clock(text);
+    if !is_text_of(text, clock) {
+        return None;
+    }
+    let seconds = seconds_since(clock)?;
+    within_limits(seconds)
+}
+
+fn digit(byte: u8) -> u8
+    ensures { result ≡ min (byte - 48) 9 }
+{
+    byte.saturating_sub(b'0').min(9)
+}
+
+fn pair(tens: u8, ones: u8) -> u8
+    ensures value { result ≡ 10 * min (tens - 48) 9 + min (ones - 48) 9 }
+    ensures bound { result < 100 }
+{
+    10 * digit(tens) + digit(ones)
+}
+
+// What stands at the places of the digits, whatever it is.
+fn loose_clock(text: &[u8; 20]) -> Clock
+    ensures value { moment_of result ≡ loose_moment text.now }
+    ensures digits { HasDigits (moment_of result) }
+{
+    Clock {
+        year: 100 * pair(text[0], text[1]) as u16 + pair(text[2], text[3]) as u16,
+        month: pair(text[5], text[6]),
+        day: pair(text[8], text[9]),
+        hour: pair(text[11], text[12]),
+        minute: pair(text[14], text[15]),
+        second: pair(text[17], text[18]),
+    }
+}
+
+fn text_of(clock: Clock) -> [u8; 20]
+    requires { HasDigits (moment_of clock) }
+    ensures { result ≡ moment_text (moment_of clock) }
+{
+    [
+        b'0' + (clock.year / 1000 % 10) as u8,
+        b'0' + (clock.year / 100 % 10) as u8,
+        b'0' + (clock.year / 10 % 10) as u8,
+        b'0' + (clock.year % 10) as u8,
+        b'-',
+        b'0' + clock.month / 10 % 10,
+        b'0' + clock.month % 10,
+        b'-',
+        b'0' + clock.day / 10 % 10,
+        b'0' + clock.day % 10,
+        b'T',
+        b'0' + clock.hour / 10 % 10,
+        b'0' + clock.hour % 10,
+        b':',
+        b'0' + clock.minute / 10 % 10,
+        b'0' + clock.minute % 10,
+        b':',
+        b'0' + clock.second / 10 % 10,
+        b'0' + clock.second % 10,
+        b'Z',
+    ]
+}
+
+fn is_text_of(text: &[u8; 20], clock: Clock) -> bool
+    requires { HasDigits (moment_of clock) }
+    ensures { IsTrue result ↔ (text.now ≡ moment_text (moment_of clock)) }
+{
+    text_of(clock) == *text
+}
+
+fn within_limits(seconds: i64) -> Option<u32>
+    ensures some { IfSome result (λ t. (seconds ≡ pos t) × IsPositive t) }
+    ensures none { (t : ℕ) → seconds ≡ pos t → IsPositive t → result ≡ Some t }
+{
+    if 0 < seconds && seconds <= u32::MAX as i64 {
+        Some(seconds as u32)
+    } else {
+        None
+    }
+}
+
+// The seconds since 1970, where the calendar and the clock have this moment.
+#[tactic(auto, unfolding(crate::specs::Time::seconds_of))]
+fn seconds_since(clock: Clock) -> Option<i64>
+    requires { HasDigits (moment_of clock) }
+    ensures some { IfSome result (λ t. (t ≡ seconds_of (moment_of clock)) × IsMoment (moment_of clock)) }
+    ensures none { IsNone result → ¬ IsMoment (moment_of clock) }
+{
+    if clock.hour >= 24 || clock.minute >= 60 || clock.second >= 60 {
+        return None;
+    }
+    let date = Date::new(clock.year as i16, clock.month as i8, clock.day as i8).ok()?;
+    Some(total(
+        date.to_plain().to_unix_epoch_day(),
+        clock.hour,
+        clock.minute,
+        clock.second,
+    ))
+}
+
+fn total(day: i32, hour: u8, minute: u8, second: u8) -> i64
+    requires { (hour < 24) × (minute < 60) × (second < 60) }
+    ensures { result ≡ day *ℤ pos 86400 +ℤ pos (hour * 3600 + minute * 60 + second) }
+{
+    let second_of_day = hour as u32 * 3600 + minute as u32 * 60 + second as u32;
+    day as i64 * 86400 + second_of_day as i64
+}
+
+fn text_at(seconds: u32) -> [u8; 20]
+    ensures { Shows result seconds }
+{
+    let clock = clock_at(date_of(seconds / 86400), seconds % 86400);
+    text_of(clock)
+}
+
+// The date with that day number.
+fn date_of(day: u32) -> Date
+    requires { day < 49711 }
+    ensures day { epoch_day result ≡ pos day }
+    ensures date { IsCivilDate result.year result.month result.day }
+    ensures year { pos 1970 ≤ℤ result.year }
+{
+    let plain = jiff_core::civil::Date::from_unix_epoch_day(day as i64).unwrap();
+    Date::from_plain(plain)
+}
+
+// The moment so many seconds after the date's midnight.
+fn clock_at(date: Date, second_of_day: u32) -> Clock
+    requires within { second_of_day < 86400 }
+    requires date { IsCivilDate date.year date.month date.day }
+    requires year { pos 1970 ≤ℤ date.year }
+    ensures moment { IsMoment (moment_of result) }
+    ensures seconds { seconds_of (moment_of result) ≡ epoch_day date *ℤ pos 86400 +ℤ pos second_of_day }
+{
+    Clock {
+        year: date.year() as u16,
+        month: date.month() as u8,
+        day: date.day() as u8,
+        hour: (second_of_day / 3600) as u8,
+        minute: (second_of_day / 60 % 60) as u8,
+        second: (second_of_day % 60) as u8,
+    }
+}

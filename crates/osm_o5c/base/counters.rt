@@ -1,0 +1,143 @@
+//! The counters of differences (OSM wiki, O5m: delta coding).
+
+ghost use Rattle.std.specs.Prelude.{◌≡◌, ◌≤◌, ◌+ℤ◌, IfOk};
+ghost use Rattle.osm_model.specs.Limits.{IsId};
+ghost use Rattle.osm_o5c.specs.Written.{no_counters, member_counter, with_member_counter};
+ghost use Rattle.osm_o5c.specs.Steps.NumberReading.{
+  wrapped_of,
+  positive_sum_at,
+  id_at,
+  longitude_at,
+  latitude_at,
+};
+ghost use Rattle.osm_reading.specs.Steps.Answers.{Finds};
+
+use crate::numbers::signed;
+use osm_model::form::Why;
+use osm_model::kind::Kind;
+use osm_model::limits::{MAX_ID, MAX_LAT, MAX_LON};
+
+/// The last value of each field since the last reset, or 0. A location is in units of 10^-7 degree.
+#[derive(Clone, Copy)]
+pub struct Counters {
+    pub id: i64,
+    pub time: i64,
+    pub changeset: i64,
+    pub lon: i32,
+    pub lat: i32,
+    pub way_node: i64,
+    pub node_member: i64,
+    pub way_member: i64,
+    pub relation_member: i64,
+}
+
+impl Counters {
+    /// After a reset: all are 0.
+    pub fn new() -> Counters
+        ensures { result ≡ no_counters }
+    {
+        Counters {
+            id: 0,
+            time: 0,
+            changeset: 0,
+            lon: 0,
+            lat: 0,
+            way_node: 0,
+            node_member: 0,
+            way_member: 0,
+            relation_member: 0,
+        }
+    }
+
+    /// The counter of the members of a kind.
+    pub fn member(&self, kind: Kind) -> i64
+        ensures { result ≡ member_counter kind self.now }
+    {
+        match kind {
+            Kind::Node => self.node_member,
+            Kind::Way => self.way_member,
+            Kind::Relation => self.relation_member,
+        }
+    }
+
+    /// Moves the counter of the members of a kind on.
+    pub fn set_member(&mut self, kind: Kind, id: i64)
+        ensures { self.new ≡ with_member_counter kind self.old id }
+    {
+        match kind {
+            Kind::Node => self.node_member = id,
+            Kind::Way => self.way_member = id,
+            Kind::Relation => self.relation_member = id,
+        }
+    }
+}
+
+/// The id that a difference to the counter gives, and the bytes after the difference.
+#[tactic(auto, unfolding(crate::specs::Steps::NumberReading::id_at, osm_reading::specs::Steps::Answers::and_then, osm_reading::specs::Steps::Answers::when))]
+pub fn id(counter: i64, bytes: &[u8]) -> Result<(i64, &[u8]), Why>
+    ensures limits { IfOk result (λ r. IsId r.0) }
+    ensures finds { Finds (λ r. (r.0, r.1.now)) result (id_at counter bytes.now) }
+{
+    let (difference, rest) = signed(bytes)?;
+    let sum = counter.checked_add(difference);
+    match sum {
+        Some(id) if -MAX_ID <= id && id <= MAX_ID => Ok((id, rest)),
+        _ => Err(Why::OutOfRange),
+    }
+}
+
+/// The time or changeset that a difference to the counter gives.
+#[tactic(auto, unfolding(crate::specs::Steps::NumberReading::positive_sum_at, osm_reading::specs::Steps::Answers::and_then, osm_reading::specs::Steps::Answers::when))]
+pub fn positive_sum(counter: i64, bytes: &[u8]) -> Result<(u32, &[u8]), Why>
+    ensures finds { Finds (λ r. (r.0, r.1.now)) result (positive_sum_at counter bytes.now) }
+    ensures limits { IfOk result (λ r. 1 ≤ r.0) }
+{
+    let (difference, rest) = signed(bytes)?;
+    match counter.checked_add(difference) {
+        Some(0) => Err(Why::NoMetadata),
+        Some(sum) if 0 < sum && sum <= u32::MAX as i64 => Ok((sum as u32, rest)),
+        _ => Err(Why::OutOfRange),
+    }
+}
+
+/// The longitude that a difference in 32 bits gives.
+#[tactic(auto, unfolding(crate::specs::Steps::NumberReading::longitude_at, osm_reading::specs::Steps::Answers::and_then, osm_reading::specs::Steps::Answers::when))]
+pub fn longitude(counter: i32, bytes: &[u8]) -> Result<(i32, &[u8]), Why>
+    ensures { Finds (λ r. (r.0, r.1.now)) result (longitude_at counter bytes.now) }
+{
+    let (difference, rest) = signed(bytes)?;
+    let lon = wrapped(counter, difference);
+    if -MAX_LON <= lon && lon <= MAX_LON {
+        Ok((lon, rest))
+    } else {
+        Err(Why::OutOfRange)
+    }
+}
+
+/// The latitude that a difference in 32 bits gives.
+#[tactic(auto, unfolding(crate::specs::Steps::NumberReading::latitude_at, osm_reading::specs::Steps::Answers::and_then, osm_reading::specs::Steps::Answers::when))]
+pub fn latitude(counter: i32, bytes: &[u8]) -> Result<(i32, &[u8]), Why>
+    ensures { Finds (λ r. (r.0, r.1.now)) result (latitude_at counter bytes.now) }
+{
+    let (difference, rest) = signed(bytes)?;
+    let lat = wrapped(counter, difference);
+    if -MAX_LAT <= lat && lat <= MAX_LAT {
+        Ok((lat, rest))
+    } else {
+        Err(Why::OutOfRange)
+    }
+}
+
+const TWO_TO_32: i64 = 4_294_967_296;
+
+// The sum in 32 bits.
+fn wrapped(counter: i32, difference: i64) -> i32
+    ensures { result ≡ wrapped_of (counter +ℤ difference) }
+{
+    let sum = counter as i64 + difference.rem_euclid(TWO_TO_32);
+    if sum >= TWO_TO_32 / 2 {
+        (sum - TWO_TO_32) as i32
+    } else {
+        sum as i32
+    }
+}

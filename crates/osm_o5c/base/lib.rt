@@ -1,0 +1,14 @@
+//! Change files in the form o5c (OSM wiki, O5m).
+#![tactic(auto)]
+
+mod counters;
+mod datasets;
+mod metadata;
+mod numbers;
+pub mod o5c;
+mod objects;
+mod reader;
+mod references;
+mod strings;
+mod tags;
+mod writer;

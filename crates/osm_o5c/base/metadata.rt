@@ -1,0 +1,102 @@
+//! Who changed an object, and when: version, time, changeset and user.
+
+ghost use Rattle.std.specs.Prelude.{◌≡◌, ◌≤◌, ◌++◌, OnOk, IfOk};
+ghost use Rattle.osm_model.specs.Meta.{IsMeta};
+ghost use Rattle.osm_o5c.specs.Steps.ObjectReading.{meta_at};
+ghost use Rattle.osm_reading.specs.Steps.Answers.{Gives, Finds};
+ghost use Rattle.osm_o5c.specs.Steps.StringReading.{uid_of, user_at};
+ghost use Rattle.osm_o5c.specs.Written.{number_text, pair_text, meta_text};
+
+use crate::counters::{Counters, positive_sum};
+use crate::numbers::{positive, unsigned, write_difference, write_unsigned};
+use crate::reader::Reader;
+use crate::strings::{StringTable, text};
+use osm_model::form::Why;
+use osm_model::memory::WantOfMemory;
+use osm_model::meta::Meta;
+use osm_model::text::Text;
+use osm_reading::refusal::Refusal;
+use std::alloc::Global;
+
+// The user id that is all of those bytes.
+#[tactic(auto, using(crate::proofs::FieldLemmas::no_uid), unfolding(crate::specs::Steps::StringReading::uid_of, osm_reading::specs::Steps::Answers::and_then, osm_reading::specs::Steps::Answers::when))]
+fn uid(bytes: &[u8]) -> Result<u32, Why>
+    ensures finds { Finds (λ n. n) result (uid_of bytes.now) }
+    ensures limits { IfOk result (λ n. 1 ≤ n) }
+{
+    if bytes.is_empty() {
+        return Err(Why::NoMetadata);
+    }
+    let Ok((number, rest)) = unsigned(bytes) else {
+        return Err(Why::BadNumber);
+    };
+    if !rest.is_empty() {
+        return Err(Why::BadNumber);
+    }
+    if number == 0 {
+        return Err(Why::NoMetadata);
+    }
+    if number > u32::MAX as u64 {
+        return Err(Why::OutOfRange);
+    }
+    Ok(number as u32)
+}
+
+// The user id and the user's name at the start, and the bytes after them.
+#[tactic(auto, unfolding(crate::specs::Steps::StringReading::user_at, osm_reading::specs::Steps::Answers::and_then))]
+fn user<'a>(
+    strings: &mut StringTable<'a>,
+    alloc: Global,
+    bytes: &'a [u8],
+) -> Result<(u32, Text, &'a [u8]), Refusal>
+    ensures gives { Gives (λ r. ((r.0, r.1), strings.new, r.2.now)) result
+        (user_at strings.old bytes.now) }
+    ensures limits { IfOk result (λ r. 1 ≤ r.0) }
+{
+    let (first, second, rest) = strings.pair(alloc, bytes)?;
+    let uid = uid(first)?;
+    let name = text(alloc, second)?;
+    Ok((uid, name, rest))
+}
+
+impl<'a> Reader<'a> {
+    /// The metadata at the start, and the bytes after it.
+    #[tactic(auto, unfolding(crate::specs::Steps::ObjectReading::meta_at, osm_reading::specs::Steps::Answers::and_then))]
+    pub fn meta(&mut self, alloc: Global, bytes: &'a [u8]) -> Result<(Meta, &'a [u8]), Refusal>
+        ensures gives { Gives (λ r. (r.0, self.new, r.1.now)) result (meta_at self.old bytes.now) }
+        ensures limits { IfOk result (λ r. IsMeta r.0) }
+    {
+        let (version, rest) = positive(bytes)?;
+        let (time, rest) = positive_sum(self.counters.time, rest)?;
+        let (changeset, rest) = positive_sum(self.counters.changeset, rest)?;
+        let (uid, name, rest) = user(&mut self.strings, alloc, rest)?;
+        self.counters.time = time as i64;
+        self.counters.changeset = changeset as i64;
+        match Meta::new(version, time, changeset, uid, name) {
+            Ok(meta) => Ok((meta, rest)),
+            Err(_) => Err(Refusal::Fault(Why::NoMetadata)),
+        }
+    }
+}
+
+// Appends a user: the pair of the bytes of the user id, and the name.
+fn write_user(out: &mut Vec<u8>, uid: u32, name: &Text) -> Result<(), WantOfMemory>
+    ensures { OnOk result (out.new.items ≡ out.old.items ++ pair_text (number_text uid) name.now) }
+{
+    out.push(0)?;
+    write_unsigned(out, uid as u64)?;
+    out.push(0)?;
+    out.extend_from_slice(name.as_str().as_bytes())?;
+    out.push(0)?;
+    Ok(())
+}
+
+/// Appends the metadata.
+pub fn write_meta(out: &mut Vec<u8>, counters: &Counters, meta: &Meta) -> Result<(), WantOfMemory>
+    ensures { OnOk result (out.new.items ≡ out.old.items ++ meta_text counters.now meta.now) }
+{
+    write_unsigned(out, meta.version() as u64)?;
+    write_difference(out, counters.time, meta.time() as i64)?;
+    write_difference(out, counters.changeset, meta.changeset() as i64)?;
+    write_user(out, meta.uid(), meta.user())
+}

@@ -1,0 +1,148 @@
+//! Numbers as varints, signed ones by zigzag (OSM wiki, O5m).
+
+ghost use Rattle.std.specs.Prelude.{◌≡◌, ◌++◌, ◌<◌, ◌≤◌, ◌^◌, ◌-ℤ◌, OnOk, IfOk};
+ghost use Rattle.osm_o5c.specs.Number.{zigzag};
+ghost use Rattle.osm_o5c.specs.Steps.NumberReading.{
+  varint_at,
+  unsigned_at,
+  signed_at,
+  part_at,
+  positive_at,
+};
+ghost use Rattle.osm_reading.specs.Steps.Answers.{Finds};
+ghost use Rattle.osm_o5c.specs.Written.{varint_text, number_text, difference_text};
+
+use osm_model::form::Why;
+use osm_model::memory::WantOfMemory;
+
+/// The unsigned number at the start, of at most 10 bytes, and the bytes after it.
+pub fn unsigned(bytes: &[u8]) -> Result<(u64, &[u8]), Why>
+    ensures { Finds (λ r. (r.0, r.1.now)) result (unsigned_at bytes.now) }
+{
+    varint(bytes, 10)
+}
+
+// The varint at the start, of at most so many bytes, and the bytes after it.
+#[tactic(auto, unfolding(crate::specs::Steps::NumberReading::varint_at, osm_reading::specs::Steps::Answers::and_then, osm_reading::specs::Steps::Answers::when))]
+fn varint(bytes: &[u8], most: usize) -> Result<(u64, &[u8]), Why>
+    ensures { Finds (λ r. (r.0, r.1.now)) result (varint_at most bytes.now) }
+{
+    if most == 0 {
+        return Err(Why::BadNumber);
+    }
+    let Some((first, rest)) = bytes.split_first() else {
+        return Err(Why::BadLength);
+    };
+    if *first < 128 {
+        return Ok((*first as u64, rest));
+    }
+    let (high, rest) = varint(rest, most - 1)?;
+    let low = (*first % 128) as u64;
+    let Some(shifted) = high.checked_mul(128) else {
+        return Err(Why::BadNumber);
+    };
+    Ok((low + shifted, rest))
+}
+
+/// The signed number at the start, and the bytes after it.
+#[tactic(auto, unfolding(crate::specs::Steps::NumberReading::signed_at, osm_reading::specs::Steps::Answers::and_then))]
+pub fn signed(bytes: &[u8]) -> Result<(i64, &[u8]), Why>
+    ensures { Finds (λ r. (r.0, r.1.now)) result (signed_at bytes.now) }
+{
+    let (zigzag, rest) = unsigned(bytes)?;
+    let half = (zigzag / 2) as i64;
+    if zigzag % 2 == 0 {
+        Ok((half, rest))
+    } else {
+        Ok((-half - 1, rest))
+    }
+}
+
+/// A length at the start, so many bytes, and the bytes after them; `past` is the cause if there are
+/// fewer.
+#[tactic(auto, unfolding(crate::specs::Steps::NumberReading::part_at, osm_reading::specs::Steps::Answers::and_then, osm_reading::specs::Steps::Answers::when))]
+pub fn part(bytes: &[u8], past: Why) -> Result<(&[u8], &[u8]), Why>
+    ensures { Finds (λ r. (r.0.now, r.1.now)) result (part_at bytes.now) }
+{
+    let (length, rest) = match unsigned(bytes) {
+        Ok(found) => found,
+        Err(Why::BadLength) => return Err(past),
+        Err(why) => return Err(why),
+    };
+    if length > rest.len() as u64 {
+        return Err(past);
+    }
+    Ok(rest.split_at(length as usize))
+}
+
+/// A version, changeset or user id: an unsigned number from 1 to 4,294,967,295.
+#[tactic(auto, unfolding(crate::specs::Steps::NumberReading::positive_at, osm_reading::specs::Steps::Answers::and_then, osm_reading::specs::Steps::Answers::when))]
+pub fn positive(bytes: &[u8]) -> Result<(u32, &[u8]), Why>
+    ensures finds { Finds (λ r. (r.0, r.1.now)) result (positive_at bytes.now) }
+    ensures limits { IfOk result (λ r. 1 ≤ r.0) }
+{
+    let (number, rest) = unsigned(bytes)?;
+    if number == 0 {
+        return Err(Why::NoMetadata);
+    }
+    if number > u32::MAX as u64 {
+        return Err(Why::OutOfRange);
+    }
+    Ok((number as u32, rest))
+}
+
+/// Appends an unsigned number in its fewest bytes.
+pub fn write_unsigned(out: &mut Vec<u8>, number: u64) -> Result<(), WantOfMemory>
+    ensures { OnOk result (out.new.items ≡ out.old.items ++ number_text number) }
+{
+    write_varint(out, number, 10)
+}
+
+// Appends the varint of a number, in at most so many bytes.
+fn write_varint(out: &mut Vec<u8>, number: u64, most: usize) -> Result<(), WantOfMemory>
+    ensures { OnOk result (out.new.items ≡ out.old.items ++ varint_text most number) }
+{
+    if most == 0 {
+        return Ok(());
+    }
+    if number < 128 {
+        out.push(number as u8)?;
+        return Ok(());
+    }
+    out.push((number % 128) as u8 + 128)?;
+    write_varint(out, number / 128, most - 1)
+}
+
+/// Appends the difference of two numbers in its fewest bytes.
+pub fn write_difference(out: &mut Vec<u8>, before: i64, value: i64) -> Result<(), WantOfMemory>
+    ensures { OnOk result (out.new.items ≡ out.old.items ++ difference_text before value) }
+{
+    // The zigzag of a difference may have 65 bits; all but the lowest seven fit in 64.
+    let zigzag = zigzag_difference(before, value);
+    if zigzag < 128 {
+        out.push(zigzag as u8)?;
+        return Ok(());
+    }
+    out.push((zigzag % 128) as u8 + 128)?;
+    write_varint(out, (zigzag / 128) as u64, 9)
+}
+
+/// Appends the exact difference of two coordinates, in units of 10^-7 degree.
+pub fn write_coordinate(out: &mut Vec<u8>, before: i32, value: i32) -> Result<(), WantOfMemory>
+    ensures { OnOk result (out.new.items ≡ out.old.items ++ difference_text before value) }
+{
+    write_difference(out, before as i64, value as i64)
+}
+
+// The zigzag of the difference.
+fn zigzag_difference(before: i64, value: i64) -> u128
+    ensures value { result ≡ zigzag (value -ℤ before) }
+    ensures bound { result < 2 ^ 65 }
+{
+    let distance = value.abs_diff(before) as u128;
+    if value >= before {
+        2 * distance
+    } else {
+        2 * distance - 1
+    }
+}

@@ -1,0 +1,34 @@
+//! What a reader keeps between datasets.
+
+ghost use Rattle.std.specs.Prelude.{◌≡◌};
+ghost use Rattle.osm_o5c.specs.Steps.FileReading.{new_reader};
+
+use crate::counters::Counters;
+use crate::strings::StringTable;
+
+/// The counters and the string table since the last reset.
+#[derive(Drop)]
+pub struct Reader<'a> {
+    pub counters: Counters,
+    pub strings: StringTable<'a>,
+}
+
+impl<'a> Reader<'a> {
+    /// At the beginning of a file, which takes no memory.
+    pub fn new() -> Reader<'a>
+        ensures { result ≡ new_reader }
+    {
+        Reader {
+            counters: Counters::new(),
+            strings: StringTable::new(),
+        }
+    }
+
+    /// All counters are 0, and no string is known.
+    pub fn reset(&mut self)
+        ensures { self.new ≡ new_reader }
+    {
+        self.counters = Counters::new();
+        self.strings.clear();
+    }
+}

@@ -1,0 +1,204 @@
+//! The reference part of a way or a relation.
+
+ghost use Rattle.std.specs.Prelude.{◌≡◌, ◌++◌, OnOk};
+ghost use Rattle.osm_o5c.specs.Context.{kind_digit};
+ghost use Rattle.osm_o5c.specs.Steps.ObjectReading.{
+  refs_at,
+  ref_at,
+  role_of,
+  member_at,
+  members_at,
+};
+ghost use Rattle.osm_reading.specs.Steps.Answers.{Gives, Finds};
+ghost use Rattle.osm_o5c.specs.Written.{
+  difference_text,
+  refs_text,
+  last_ref,
+  member_text,
+  after_member,
+  members_text,
+  after_members,
+};
+
+use crate::counters::{Counters, id};
+use crate::numbers::{signed, write_difference};
+use crate::reader::Reader;
+use crate::strings::{text, write_single};
+use osm_model::form::Why;
+use osm_model::kind::{Key, Kind};
+use osm_model::limits::{MAX_ID, MAX_REFS};
+use osm_model::lists::{Member, Members, Refs};
+use osm_model::memory::WantOfMemory;
+use osm_model::text::Text;
+use osm_reading::refusal::Refusal;
+use std::alloc::Global;
+
+// The reference at the start, which becomes the counter of way nodes, and the bytes after it.
+#[tactic(auto, unfolding(crate::specs::Steps::ObjectReading::ref_at, osm_reading::specs::Steps::Answers::and_then))]
+fn reference<'b>(counters: &mut Counters, bytes: &'b [u8]) -> Result<(i64, &'b [u8]), Why>
+    ensures finds { Finds (λ r. (r.0, counters.new.way_node, r.1.now)) result
+        (ref_at counters.old.way_node bytes.now) }
+    ensures others { OnOk result
+        (counters.new ≡ record counters.old { way_node = counters.new.way_node }) }
+{
+    let (id, rest) = id(counters.way_node, bytes)?;
+    counters.way_node = id;
+    Ok((id, rest))
+}
+
+/// The references up to the end of the part, at most 32,000; the counter of way nodes moves on.
+pub fn refs(counters: &mut Counters, alloc: Global, part: &[u8]) -> Result<Refs, Refusal>
+    ensures gives { Gives (λ r. (r, counters.new.way_node)) result
+        (refs_at counters.old.way_node part.now) }
+    ensures others { OnOk result
+        (counters.new ≡ record counters.old { way_node = counters.new.way_node }) }
+{
+    let mut found = Vec::new(alloc);
+    let mut rest = part;
+    while !rest.is_empty() {
+        if found.len() >= MAX_REFS {
+            return Err(Refusal::Fault(Why::TooMany));
+        }
+        let (one, after) = match reference(counters, rest) {
+            Ok(read) => read,
+            Err(why) => return Err(Refusal::Fault(why)),
+        };
+        if found.push(one).is_err() {
+            return Err(Refusal::WantOfMemory);
+        }
+        rest = after;
+    }
+    Ok(Refs::from_vec(found))
+}
+
+// The kind that the digit before a role names, and the role.
+#[tactic(auto, unfolding(crate::specs::Steps::ObjectReading::role_of, osm_reading::specs::Steps::Answers::and_then))]
+fn role(alloc: Global, bytes: &[u8]) -> Result<(Kind, Text), Refusal>
+    ensures { Gives (λ r. (r.0, r.1)) result (role_of bytes.now) }
+{
+    let Some((digit, rest)) = bytes.split_first() else {
+        return Err(Refusal::Fault(Why::BadKind));
+    };
+    let kind = match *digit {
+        b'0' => Kind::Node,
+        b'1' => Kind::Way,
+        b'2' => Kind::Relation,
+        _ => return Err(Refusal::Fault(Why::BadKind)),
+    };
+    let role = text(alloc, rest)?;
+    Ok((kind, role))
+}
+
+impl<'a> Reader<'a> {
+    // The member at the start, and the bytes after it.
+    #[tactic(auto, unfolding(crate::specs::Steps::ObjectReading::member_at, osm_reading::specs::Steps::Answers::and_then, osm_reading::specs::Steps::Answers::when))]
+    fn member(&mut self, alloc: Global, bytes: &'a [u8]) -> Result<(Member, &'a [u8]), Refusal>
+        ensures { Gives (λ r. (r.0, self.new, r.1.now)) result (member_at self.old bytes.now) }
+    {
+        let (difference, rest) = signed(bytes)?;
+        let (string, rest) = self.strings.single(alloc, rest)?;
+        let (kind, role) = role(alloc, string)?;
+        match self.counters.member(kind).checked_add(difference) {
+            Some(id) if -MAX_ID <= id && id <= MAX_ID => {
+                self.counters.set_member(kind, id);
+                let key = Key { kind, id };
+                Ok((Member { key, role }, rest))
+            }
+            _ => Err(Refusal::Fault(Why::OutOfRange)),
+        }
+    }
+
+    /// The members up to the end of the part, at most 32,000.
+    pub fn members(&mut self, alloc: Global, part: &'a [u8]) -> Result<Members, Refusal>
+        ensures { Gives (λ m. (m, self.new)) result (members_at self.old part.now) }
+    {
+        let mut found = Vec::new(alloc);
+        let mut rest = part;
+        while !rest.is_empty() {
+            if found.len() >= MAX_REFS {
+                return Err(Refusal::Fault(Why::TooMany));
+            }
+            let (one, after) = match self.member(alloc, rest) {
+                Ok(read) => read,
+                Err(refusal) => return Err(refusal),
+            };
+            if found.push(one).is_err() {
+                return Err(Refusal::WantOfMemory);
+            }
+            rest = after;
+        }
+        Ok(Members::from_vec(found))
+    }
+}
+
+// Appends a reference as the difference to the counter of way nodes, which moves on.
+fn write_reference(out: &mut Vec<u8>, counters: &mut Counters, id: &i64) -> Result<(), WantOfMemory>
+    ensures text { OnOk result
+        (out.new.items ≡ out.old.items ++ difference_text counters.old.way_node id.now) }
+    ensures counters_are { OnOk result (counters.new ≡ record counters.old { way_node = id.now }) }
+{
+    write_difference(out, counters.way_node, *id)?;
+    counters.way_node = *id;
+    Ok(())
+}
+
+/// Appends references, each as the difference to the one before it.
+pub fn write_refs(
+    out: &mut Vec<u8>,
+    counters: &mut Counters,
+    refs: &[i64],
+) -> Result<(), WantOfMemory>
+    ensures text { OnOk result
+        (out.new.items ≡ out.old.items ++ refs_text counters.old.way_node refs.now) }
+    ensures counters_are { OnOk result
+        (counters.new
+        ≡ record counters.old { way_node = last_ref counters.old.way_node refs.now }) }
+{
+    for id in refs {
+        write_reference(out, counters, id)?;
+    }
+    Ok(())
+}
+
+fn digit_of(kind: Kind) -> u8
+    ensures { result ≡ kind_digit kind }
+{
+    match kind {
+        Kind::Node => b'0',
+        Kind::Way => b'1',
+        Kind::Relation => b'2',
+    }
+}
+
+// Appends a member, its id as the difference to the counter of its kind, which moves on.
+fn write_member(
+    out: &mut Vec<u8>,
+    counters: &mut Counters,
+    member: &Member,
+) -> Result<(), WantOfMemory>
+    ensures text { OnOk result
+        (out.new.items ≡ out.old.items ++ member_text counters.old member.now) }
+    ensures counters_are { OnOk result (counters.new ≡ after_member counters.old member.now) }
+{
+    let key = member.key;
+    write_difference(out, counters.member(key.kind), key.id)?;
+    write_single(out, digit_of(key.kind), member.role.as_str().as_bytes())?;
+    counters.set_member(key.kind, key.id);
+    Ok(())
+}
+
+/// Appends members, each id as the difference to the one of its kind before it.
+pub fn write_members(
+    out: &mut Vec<u8>,
+    counters: &mut Counters,
+    members: &[Member],
+) -> Result<(), WantOfMemory>
+    ensures text { OnOk result
+        (out.new.items ≡ out.old.items ++ members_text counters.old members.now) }
+    ensures counters_are { OnOk result (counters.new ≡ after_members counters.old members.now) }
+{
+    for member in members {
+        write_member(out, counters, member)?;
+    }
+    Ok(())
+}

@@ -1,0 +1,266 @@
+//! Strings, in line or by reference, and the table of those that a reference names (OSM wiki, O5m).
+
+ghost use Rattle.std.specs.Prelude.{◌≡◌, [], ◌∷◌, ◌++◌, OnOk, option_copied};
+ghost use Rattle.circular_buffer.specs.Buffer.{keep_last};
+ghost use Rattle.osm_reading.specs.Steps.Answers.{Gives, Finds};
+ghost use Rattle.osm_o5c.specs.Steps.StringReading.{
+  entered,
+  latest,
+  until_nul_at,
+  pair_at,
+  single_at,
+  text_of,
+};
+ghost use Rattle.osm_o5c.specs.Written.{pair_text, single_text};
+
+use crate::numbers::unsigned;
+use circular_buffer::HeapCircularBuffer;
+use osm_model::form::Why;
+use osm_model::memory::WantOfMemory;
+use osm_model::text::{Text, TextError};
+use osm_reading::refusal::Refusal;
+use std::alloc::Global;
+use std::marker::Model;
+
+/// Some of the bytes of the file that is read.
+#[derive(Drop)]
+pub struct Bytes<'a> {
+    bytes: &'a [u8],
+}
+
+impl<'a> Model for Bytes<'a> {
+    ghost use Rattle.std.specs.Prelude.{ℕ, List};
+
+    ghost Value = { List ℕ };
+
+    ghost view = { λ a. a.bytes.now };
+}
+
+impl<'a> Bytes<'a> {
+    fn new(bytes: &'a [u8]) -> Bytes<'a>
+        ensures { result ≡ bytes.now }
+    {
+        Bytes { bytes }
+    }
+
+    fn as_slice(&self) -> &'a [u8]
+        ensures { result.now ≡ self.now }
+    {
+        self.bytes
+    }
+}
+
+/// A string that was in line: a pair, or a single one.
+#[derive(Drop)]
+pub enum Entry<'a> {
+    Pair { first: Bytes<'a>, second: Bytes<'a> },
+    Single { text: Bytes<'a> },
+}
+
+/// The longest string that is entered, in bytes; of a pair both together.
+const MAX_SIZE: usize = 250;
+
+/// How many of the last entries can be named.
+const MAX_ENTRIES: usize = 15_000;
+
+/// The last 15,000 strings in line since the last reset, except those of more than 250 bytes. It
+/// borrows them from the file, and makes its ring when the first is entered.
+#[derive(Drop)]
+pub struct StringTable<'a> {
+    ring: Option<HeapCircularBuffer<Entry<'a>>>,
+}
+
+impl<'a> Model for StringTable<'a> {
+    ghost use Rattle.std.specs.Prelude.{List};
+    ghost use Rattle.osm_o5c.specs.declared.strings.Entry.{Entry};
+
+    ghost Value = { List Entry };
+
+    ghost use Rattle.osm_o5c.specs.Steps.Ring.{items_of, IsRing};
+
+    ghost view = { λ a. items_of a.ring };
+
+    ghost invariant = { λ a. IsRing a.ring };
+}
+
+impl<'a> StringTable<'a> {
+    /// The empty table, which takes no memory.
+    pub fn new() -> StringTable<'a>
+        ensures { result ≡ [] }
+    {
+        StringTable { ring: None }
+    }
+
+    /// Forgets all strings, and keeps the ring.
+    pub fn clear(&mut self)
+        ensures { self.new ≡ [] }
+    {
+        if let Some(ring) = &mut self.ring {
+            ring.clear();
+        }
+    }
+
+    fn push(&mut self, alloc: Global, item: Entry<'a>) -> Result<(), WantOfMemory>
+        ensures { OnOk result (self.new ≡ keep_last 15000 (self.old ++ item.entry ∷ [])) }
+    {
+        match &mut self.ring {
+            Some(ring) => {
+                ring.push_back(item);
+            }
+            None => {
+                let mut ring = HeapCircularBuffer::with_capacity(alloc, MAX_ENTRIES)?;
+                ring.push_back(item);
+                self.ring = Some(ring);
+            }
+        }
+        Ok(())
+    }
+
+    // The k-th most recent entry.
+    #[tactic(auto, unfolding(crate::specs::Steps::StringReading::latest))]
+    fn get(&self, k: u64) -> Option<&Entry<'a>>
+        ensures { option_copied result ≡ latest self.now k }
+    {
+        if k == 0 {
+            return None;
+        }
+        match &self.ring {
+            None => None,
+            Some(ring) => ring.nth_back(k as usize - 1),
+        }
+    }
+
+    // Enters a pair, unless it is too long.
+    #[tactic(auto, unfolding(crate::specs::Steps::StringReading::entered))]
+    fn enter_pair(
+        &mut self,
+        alloc: Global,
+        first: &'a [u8],
+        second: &'a [u8],
+    ) -> Result<(), WantOfMemory>
+        ensures { OnOk result (self.new ≡ entered self.old (Entry.Pair first.now second.now)) }
+    {
+        if first.len() + second.len() <= MAX_SIZE {
+            let first = Bytes::new(first);
+            let second = Bytes::new(second);
+            self.push(alloc, Entry::Pair { first, second })?;
+        }
+        Ok(())
+    }
+
+    // Enters a single string, unless it is too long.
+    #[tactic(auto, unfolding(crate::specs::Steps::StringReading::entered))]
+    fn enter_single(&mut self, alloc: Global, text: &'a [u8]) -> Result<(), WantOfMemory>
+        ensures { OnOk result (self.new ≡ entered self.old (Entry.Single text.now)) }
+    {
+        if text.len() <= MAX_SIZE {
+            let text = Bytes::new(text);
+            self.push(alloc, Entry::Single { text })?;
+        }
+        Ok(())
+    }
+
+    /// The pair of strings at the start, and the bytes after it.
+    #[tactic(auto, unfolding(crate::specs::Steps::StringReading::pair_at, osm_reading::specs::Steps::Answers::and_then))]
+    pub fn pair(
+        &mut self,
+        alloc: Global,
+        bytes: &'a [u8],
+    ) -> Result<(&'a [u8], &'a [u8], &'a [u8]), Refusal>
+        ensures { Gives (λ r. ((r.0.now, r.1.now), self.new, r.2.now)) result
+            (pair_at self.old bytes.now) }
+    {
+        let Some((first, rest)) = bytes.split_first() else {
+            return Err(Refusal::Fault(Why::BadLength));
+        };
+        if *first == 0 {
+            let (first, rest) = until_nul(rest)?;
+            let (second, rest) = until_nul(rest)?;
+            self.enter_pair(alloc, first, second)?;
+            return Ok((first, second, rest));
+        }
+        let (k, rest) = unsigned(bytes)?;
+        match self.get(k) {
+            Some(Entry::Pair { first, second }) => {
+                Ok((first.as_slice(), second.as_slice(), rest))
+            }
+            _ => Err(Refusal::Fault(Why::BadReference)),
+        }
+    }
+
+    /// The single string at the start, and the bytes after it.
+    #[tactic(auto, unfolding(crate::specs::Steps::StringReading::single_at, osm_reading::specs::Steps::Answers::and_then))]
+    pub fn single(
+        &mut self,
+        alloc: Global,
+        bytes: &'a [u8],
+    ) -> Result<(&'a [u8], &'a [u8]), Refusal>
+        ensures { Gives (λ r. (r.0.now, self.new, r.1.now)) result (single_at self.old bytes.now) }
+    {
+        let Some((first, rest)) = bytes.split_first() else {
+            return Err(Refusal::Fault(Why::BadLength));
+        };
+        if *first == 0 {
+            let (text, rest) = until_nul(rest)?;
+            self.enter_single(alloc, text)?;
+            return Ok((text, rest));
+        }
+        let (k, rest) = unsigned(bytes)?;
+        match self.get(k) {
+            Some(Entry::Single { text }) => Ok((text.as_slice(), rest)),
+            _ => Err(Refusal::Fault(Why::BadReference)),
+        }
+    }
+}
+
+// The bytes up to the first 00, and those after it.
+fn until_nul(bytes: &[u8]) -> Result<(&[u8], &[u8]), Why>
+    ensures { Finds (λ r. (r.0.now, r.1.now)) result (until_nul_at bytes.now) }
+{
+    let mut at = 0;
+    while at < bytes.len() {
+        if bytes[at] == 0 {
+            return Ok((&bytes[..at], &bytes[at + 1..]));
+        }
+        at += 1;
+    }
+    Err(Why::BadLength)
+}
+
+/// The text of those bytes.
+pub fn text(alloc: Global, bytes: &[u8]) -> Result<Text, Refusal>
+    ensures { Gives (λ t. t) result (text_of bytes.now) }
+{
+    let Ok(characters) = str::from_utf8(bytes) else {
+        return Err(Refusal::Fault(Why::BadText));
+    };
+    match Text::new(alloc, characters) {
+        Ok(text) => Ok(text),
+        Err(TextError::WantOfMemory) => Err(Refusal::WantOfMemory),
+        Err(TextError::HasNul) => Err(Refusal::Fault(Why::BadText)),
+        Err(TextError::TooLong) => Err(Refusal::Fault(Why::BadText)),
+    }
+}
+
+/// Appends a pair in line: `00 first 00 second 00`.
+pub fn write_pair(out: &mut Vec<u8>, first: &[u8], second: &[u8]) -> Result<(), WantOfMemory>
+    ensures { OnOk result (out.new.items ≡ out.old.items ++ pair_text first.now second.now) }
+{
+    out.push(0)?;
+    out.extend_from_slice(first)?;
+    out.push(0)?;
+    out.extend_from_slice(second)?;
+    out.push(0)?;
+    Ok(())
+}
+
+/// Appends a single string in line, as `00 digit role 00`.
+pub fn write_single(out: &mut Vec<u8>, digit: u8, role: &[u8]) -> Result<(), WantOfMemory>
+    ensures { OnOk result (out.new.items ≡ out.old.items ++ single_text (digit ∷ role.now)) }
+{
+    out.push(0)?;
+    out.push(digit)?;
+    out.extend_from_slice(role)?;
+    out.push(0)?;
+    Ok(())
+}

@@ -1,0 +1,70 @@
+//! Tags up to the end of an object.
+
+ghost use Rattle.std.specs.Prelude.{◌≡◌, ◌++◌, OnOk};
+ghost use Rattle.osm_o5c.specs.Steps.ObjectReading.{tags_at};
+ghost use Rattle.osm_reading.specs.Steps.Answers.{Gives};
+ghost use Rattle.osm_o5c.specs.Steps.StringReading.{tag_at};
+ghost use Rattle.osm_o5c.specs.Written.{tags_text};
+
+use crate::strings::{StringTable, text, write_pair};
+use osm_model::form::Why;
+use osm_model::limits::MAX_TAGS;
+use osm_model::lists::{Tag, Tags};
+use osm_model::memory::WantOfMemory;
+use osm_reading::refusal::Refusal;
+use std::alloc::Global;
+
+// The tag at the start, and the bytes after it.
+#[tactic(auto, unfolding(crate::specs::Steps::StringReading::tag_at, osm_reading::specs::Steps::Answers::and_then))]
+fn tag<'a>(
+    strings: &mut StringTable<'a>,
+    alloc: Global,
+    bytes: &'a [u8],
+) -> Result<(Tag, &'a [u8]), Refusal>
+    ensures { Gives (λ r. (r.0, strings.new, r.1.now)) result (tag_at strings.old bytes.now) }
+{
+    let (key, value, rest) = strings.pair(alloc, bytes)?;
+    let key = text(alloc, key)?;
+    let value = text(alloc, value)?;
+    Ok((Tag { key, value }, rest))
+}
+
+/// The tags up to the end of the bytes, at most 5,000.
+pub fn tags<'a>(
+    strings: &mut StringTable<'a>,
+    alloc: Global,
+    bytes: &'a [u8],
+) -> Result<Tags, Refusal>
+    ensures { Gives (λ t. (t, strings.new)) result (tags_at strings.old bytes.now) }
+{
+    let mut found = Vec::new(alloc);
+    let mut rest = bytes;
+    while !rest.is_empty() {
+        if found.len() >= MAX_TAGS {
+            return Err(Refusal::Fault(Why::TooMany));
+        }
+        let (one, after) = match tag(strings, alloc, rest) {
+            Ok(read) => read,
+            Err(refusal) => return Err(refusal),
+        };
+        if found.push(one).is_err() {
+            return Err(Refusal::WantOfMemory);
+        }
+        rest = after;
+    }
+    Ok(Tags::from_vec(found))
+}
+
+/// Appends tags, each a pair in line.
+pub fn write_tags(out: &mut Vec<u8>, tags: &[Tag]) -> Result<(), WantOfMemory>
+    ensures { OnOk result (out.new.items ≡ out.old.items ++ tags_text tags.now) }
+{
+    for tag in tags {
+        write_pair(
+            out,
+            tag.key.as_str().as_bytes(),
+            tag.value.as_str().as_bytes(),
+        )?;
+    }
+    Ok(())
+}

@@ -1,0 +1,56 @@
+//! What a writer keeps between datasets.
+
+ghost use Rattle.std.specs.Prelude.{◌≡◌, Option, IfOk};
+ghost use Rattle.osm_o5c.specs.File.{beginning};
+ghost use Rattle.osm_o5c.specs.Written.{no_counters};
+
+use crate::counters::Counters;
+use osm_model::kind::Kind;
+use osm_model::memory::WantOfMemory;
+use std::alloc::Global;
+
+/// Reset, header, length 4, `o5c2`.
+pub const BEGINNING: [u8; 7] = [0xff, 0xe0, 4, 0x6f, 0x35, 0x63, 0x32];
+
+/// The file so far, the counters since the last reset, and the kind of the last object.
+#[derive(Drop)]
+pub struct Writer {
+    pub out: Vec<u8>,
+    pub buffers: Buffers,
+    pub counters: Counters,
+    pub kind: Option<Kind>,
+}
+
+/// The content of an object and its reference part, written here before their lengths are known.
+#[derive(Drop)]
+pub struct Buffers {
+    pub content: Vec<u8>,
+    pub part: Vec<u8>,
+}
+
+impl Writer {
+    /// A file that is only its beginning.
+    pub fn new(alloc: Global) -> Result<Writer, WantOfMemory>
+        ensures { IfOk result (λ w. (w.out.items ≡ beginning) × (w.counters ≡ no_counters)
+            × (w.kind ≡ Option.None)) }
+    {
+        let mut out = Vec::new(alloc);
+        out.extend_from_slice(&BEGINNING)?;
+        Ok(Writer {
+            out,
+            buffers: Buffers::new(alloc),
+            counters: Counters::new(),
+            kind: None,
+        })
+    }
+}
+
+impl Buffers {
+    /// Both are empty.
+    pub fn new(alloc: Global) -> Buffers {
+        Buffers {
+            content: Vec::new(alloc),
+            part: Vec::new(alloc),
+        }
+    }
+}

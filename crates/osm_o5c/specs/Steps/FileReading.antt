@@ -1,0 +1,85 @@
+-- The dataset at the start of bytes, and how far a file is read.
+use Rattle.std.specs.Prelude.{ℕ, ◌==◌, List, [], ◌∷◌, ◌++◌, length, Option, Some, None, IsSome}
+use Rattle.std.specs.Prelude.{if◌then◌else◌, nat_lt}
+use Rattle.osm_model.specs.Change.{ChangeValue}
+use Rattle.osm_model.specs.Limits.{max_changes}
+use Rattle.osm_model.specs.declared.kind.Kind.{Kind}
+use Rattle.osm_model.specs.declared.kind.Kind.TheVariants as kinds
+use Rattle.osm_reading.specs.Steps.Answers.{and_then, when}
+use Rattle.osm_o5c.specs.Written.{no_counters}
+use Rattle.osm_o5c.specs.Steps.NumberReading.{part_at}
+use Rattle.osm_o5c.specs.Steps.ObjectReading.{object_at}
+use Rattle.osm_o5c.specs.File.{SpellsO5c, FaultPlace}
+use Rattle.osm_model.specs.declared.form.FormError.{FormError}
+use Rattle.osm_model.specs.declared.form.FormError.TheVariants as errors
+use Rattle.osm_reading.specs.declared.refusal.Refusal.{Refusal}
+use Rattle.osm_reading.specs.declared.refusal.Refusal.TheVariants.{WantOfMemory, Fault}
+use Rattle.osm_o5c.specs.declared.reader.Reader.{Reader}
+
+-- a reader after a reset
+abbrev pub new_reader : Reader
+new_reader = record { counters = no_counters; strings = [] }
+
+abbrev pub kind_of_byte : ℕ → Option Kind
+kind_of_byte t =
+    if t == 16 then Some kinds.Node else (if t == 17 then Some kinds.Way
+    else (if t == 18 then Some kinds.Relation else None))
+
+unfoldable pub object_dataset_at : Kind → Reader → List ℕ
+    → Option (Option ChangeValue × Reader × List ℕ)
+object_dataset_at kind s bytes = and_then (part_at bytes) (λ p.
+    and_then (object_at kind s p.0) (λ x. Some (Some x.0, x.1, p.1)))
+
+unfoldable pub other_dataset_at : ℕ → Reader → List ℕ
+    → Option (Option ChangeValue × Reader × List ℕ)
+other_dataset_at t s bytes =
+    if nat_lt t 240 then and_then (part_at bytes) (λ p. Some (None, s, p.1))
+    else (if nat_lt t 254 then Some (None, s, bytes)
+    else (if t == 255 then Some (None, new_reader, bytes) else None))
+
+-- by the kind of an object, if it is one
+abbrev pub dataset_of : Option Kind → ℕ → Reader → List ℕ
+    → Option (Option ChangeValue × Reader × List ℕ)
+dataset_of (Some kind) t = object_dataset_at kind
+dataset_of None t = other_dataset_at t
+
+-- a dataset: the change if it is an object, the reader after it, and the bytes after it
+unfoldable pub dataset_at : Reader → List ℕ → Option (Option ChangeValue × Reader × List ℕ)
+dataset_at s [] = None
+dataset_at s (t ∷ bytes) = dataset_of (kind_of_byte t) t s bytes
+
+-- the bytes begin with the type of an object
+abbrev pub BeginsObject : List ℕ → Type 0
+BeginsObject [] = ⊥
+BeginsObject (t ∷ bytes) = IsSome (kind_of_byte t)
+
+-- memory is refused only at an object
+abbrev pub WantsAt : List ℕ → Refusal → Type 0
+WantsAt bytes WantOfMemory = BeginsObject bytes
+WantsAt bytes (Fault why) = Unit {0}
+
+-- where a reader is in its file
+pub record Position : Type 0 where
+  pub reader : Reader
+  pub changes : List ChangeValue
+  pub rest : List ℕ
+
+abbrev pub position : Reader → List ChangeValue → List ℕ → Position
+position reader changes rest = record { reader = reader; changes = changes; rest = rest }
+
+-- the change is added, if there is one and room for it
+abbrev pub with_found : List ChangeValue → Option ChangeValue × Reader × List ℕ → Option Position
+with_found changes (None, reader, rest) = Some (position reader changes rest)
+with_found changes (Some c, reader, rest) =
+    when (nat_lt (length changes) max_changes) (Some (position reader (changes ++ c ∷ []) rest))
+
+-- one dataset more
+unfoldable pub step : Position → Option Position
+step p = and_then (dataset_at p.reader p.rest) (with_found p.changes)
+
+-- where a file that isn't too large is refused: for memory only if it doesn't spell the empty
+-- batch, and otherwise where it goes wrong
+abbrev pub FileRefused : List ℕ → FormError → Type 0
+FileRefused bytes errors.WantOfMemory = SpellsO5c bytes [] → ⊥
+FileRefused bytes errors.TooLarge = ⊥
+FileRefused bytes (errors.Fault place why) = FaultPlace bytes place

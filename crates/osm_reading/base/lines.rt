@@ -1,0 +1,38 @@
+//! The lines of a text: an OPL file, a script, a state file.
+
+ghost use Rattle.std.specs.Prelude.{◌≡◌, ◌∷◌, ◌<◌, length, IfSome};
+ghost use Rattle.osm_reading.specs.Lines.{BeginsWithLine, is_skipped, lines_after, lines_of};
+ghost use Rattle.osm_reading.specs.Lines.{without_cr};
+
+use crate::pieces::cut;
+
+/// The first line, without its end, and what follows the LF that ends it, if there is one. A line
+/// ends with LF or CR LF.
+pub fn split_line(bytes: &[u8]) -> (&[u8], Option<&[u8]>)
+    ensures lines { lines_of bytes.now ≡ result.0.now ∷ lines_after result.1 }
+    ensures rest { IfSome result.1 (λ rest. BeginsWithLine bytes.now result.0.now rest.now) }
+    ensures shorter { IfSome result.1 (λ rest. length rest.now < length bytes.now) }
+{
+    let (line, rest) = cut(bytes, b'\n');
+    (trim_end(line), rest)
+}
+
+#[tactic(auto, using(crate::proofs::PieceLemmas::line_ends))]
+fn trim_end(line: &[u8]) -> &[u8]
+    ensures { result.now ≡ without_cr line.now }
+{
+    let Some((last, prefix)) = line.split_last() else {
+        return line;
+    };
+    if *last == b'\r' { prefix } else { line }
+}
+
+/// Whether a line says nothing: it is empty or begins with `#` (our choice).
+pub fn is_skipped_line(line: &[u8]) -> bool
+    ensures { result ≡ is_skipped line.now }
+{
+    match line.first() {
+        None => true,
+        Some(first) => *first == b'#',
+    }
+}

@@ -1,0 +1,2 @@
+mod model;
+mod o5c;
