@@ -1,46 +1,41 @@
--- Fronts and ends of lines, numerals, and which event a line can be.
-use Rattle.std.proofs.Common.{◌≡◌, ℕ, ◌+◌, ◌-◌, ◌<◌, ◌≤◌, ◌^◌, List, [], ◌∷◌, ◌++◌, length, take, drop, get_or, ap, sym, ◌∙◌, true, false, arith, Some, None, length-append, append-nil, subst, Option}
+-- Prefixes and suffixes of lines, which event a line can be, and how far a script was read.
+use Rattle.std.proofs.Common.{◌≡◌, ℕ, ◌+◌, ◌-◌, ◌<◌, ◌≤◌, ◌^◌, List, [], ◌∷◌, ◌++◌, length, take, drop, get_or, refl, append_assoc, ap, sym, ◌∙◌, true, false, arith, Some, None, length-append, append-nil, subst, Option}
 use Rattle.std.proofs.Math.Seq.{take-append_seam, drop-append_seam}
 use Rattle.std.proofs.lemmas.List.{take-append-drop, append_cancel_left, append_cancel_right}
 use Rattle.std.specs.Cmp.Lexicographic.{pointwise, same_text, other_text}
-use Rattle.std.proofs.Math.Nat.{pow-le-pow_right}
-use Rattle.std.proofs.lemmas.Int.Digits.{digits_value-lt}
 use Rattle.std.proofs.lemmas.List.Elements.{filter-append}
-use Rattle.std.proofs.lemmas.Str.Parse.{without_leading_plus_none}
-use Rattle.std.specs.Char.{digit_value}
-use Rattle.std.specs.Str.Parse.{IsNumeral, digits_value, without_leading_plus}
-use Rattle.osm_reading.specs.Lines.{is_skipped}
+use Rattle.osm_reading.specs.Lines.{lines_of, lines_after, is_skipped}
+use Rattle.osm_reading.specs.Sequence.{SpellsSequence}
 use Rattle.std.specs.Borrow.{Bor}
 use Rattle.std.specs.List.{AllZip}
-use Rattle.osm_repl.specs.Reading.{left_of}
 use Rattle.std.specs.Prelude.{IfSome, nat_eq, not, codes, Result, Ok, Err, IfErr}
-use Rattle.osm_repl.specs.Parsing.{IsEditOf, IsCloseOf, IsDeliverOf, Refused}
-use Rattle.osm_repl.specs.Script.{IsEventLine, form_text, SpellsSequence, AreEvents, said_of}
+use Rattle.osm_repl.specs.Steps.Parsing.{IsEditOf, IsCloseOf, IsDeliverOf, Refused, IsSaid}
+use Rattle.osm_repl.specs.Script.{IsEventLine, ScriptOf, form_text, AreEvents, said_of}
 use Rattle.osm_follow.specs.declared.event.Event.{Event}
 use Rattle.osm_follow.specs.declared.event.Event.TheVariants.{Edit, Close, Deliver, Show}
 use Rattle.osm_follow.specs.declared.event.Form.TheVariants.{Opl}
 use Rattle.osm_repl.specs.declared.script.LineFault.{LineFault}
 use Rattle.osm_repl.specs.declared.script.LineFault.TheVariants.{WantOfMemory, NoEvent}
 
-pub front_is : (line front rest : List ℕ) → pointwise nat_eq (take (length front) line) front ≡ true → rest ≡ drop (length front) line → line ≡ front ++ rest
-front_is line front rest e r =
-    sym (take-append-drop (length front) line)
-    ∙ (ap (λ (xs : List ℕ). xs ++ drop (length front) line) (same_text (take (length front) line) front (sym e)) ∙ ap (λ (ys : List ℕ). front ++ ys) (sym r))
+pub prefix_is : (line prefix rest : List ℕ) → pointwise nat_eq (take (length prefix) line) prefix ≡ true → rest ≡ drop (length prefix) line → line ≡ prefix ++ rest
+prefix_is line prefix rest e r =
+    sym (take-append-drop (length prefix) line)
+    ∙ (ap (λ (xs : List ℕ). xs ++ drop (length prefix) line) (same_text (take (length prefix) line) prefix (sym e)) ∙ ap (λ (ys : List ℕ). prefix ++ ys) (sym r))
 
-pub no_front : (line front rest : List ℕ) → pointwise nat_eq (take (length front) line) front ≡ false → line ≡ front ++ rest → ⊥
-no_front line front rest e is = other_text _ _ (sym e) (ap (take (length front)) is ∙ take-append_seam front rest)
+pub no_prefix : (line prefix rest : List ℕ) → pointwise nat_eq (take (length prefix) line) prefix ≡ false → line ≡ prefix ++ rest → ⊥
+no_prefix line prefix rest e is = other_text _ _ (sym e) (ap (take (length prefix)) is ∙ take-append_seam prefix rest)
 
-pub end_is : (words end rest : List ℕ) → pointwise nat_eq (drop (length words - length end) words) end ≡ true → rest ≡ take (length words - length end) words → words ≡ rest ++ end
-end_is words end rest e r =
-    sym (take-append-drop (length words - length end) words)
-    ∙ (ap (λ (ys : List ℕ). take (length words - length end) words ++ ys) (same_text (drop (length words - length end) words) end (sym e)) ∙ ap (λ (xs : List ℕ). xs ++ end) (sym r))
+pub suffix_is : (words suffix rest : List ℕ) → pointwise nat_eq (drop (length words - length suffix) words) suffix ≡ true → rest ≡ take (length words - length suffix) words → words ≡ rest ++ suffix
+suffix_is words suffix rest e r =
+    sym (take-append-drop (length words - length suffix) words)
+    ∙ (ap (λ (ys : List ℕ). take (length words - length suffix) words ++ ys) (same_text (drop (length words - length suffix) words) suffix (sym e)) ∙ ap (λ (xs : List ℕ). xs ++ suffix) (sym r))
 
-pub no_end : (words end rest : List ℕ) → pointwise nat_eq (drop (length words - length end) words) end ≡ false → words ≡ rest ++ end → ⊥
-no_end words end rest e is =
-    let many : length words ≡ length rest + length end = ap length is ∙ length-append rest end in
-    let index : length words - length end ≡ length rest = omega arith in
-    let same : drop (length words - length end) words ≡ end = ap (λ (n : ℕ). drop n words) index ∙ (ap (drop (length rest)) is ∙ drop-append_seam rest end) in
-    other_text (drop (length words - length end) words) end (sym e) same
+pub no_suffix : (words suffix rest : List ℕ) → pointwise nat_eq (drop (length words - length suffix) words) suffix ≡ false → words ≡ rest ++ suffix → ⊥
+no_suffix words suffix rest e is =
+    let many : length words ≡ length rest + length suffix = ap length is ∙ length-append rest suffix in
+    let index : length words - length suffix ≡ length rest = omega arith in
+    let same : drop (length words - length suffix) words ≡ suffix = ap (λ (n : ℕ). drop n words) index ∙ (ap (drop (length rest)) is ∙ drop-append_seam rest suffix) in
+    other_text (drop (length words - length suffix) words) suffix (sym e) same
 
 -- the first byte of an event's line
 first_of : Event → ℕ
@@ -59,7 +54,7 @@ first_is line Show h = ap (λ (l : List ℕ). get_or l 0 0) h
 apart : (n m : ℕ) (line : List ℕ) → get_or line 0 0 ≡ n → get_or line 0 0 ≡ m → (n ≡ m → ⊥) → ⊥
 apart n m line p q ne = ne (sym p ∙ q)
 
--- a line with the front of an event is no other event
+-- a line that begins as one event is no other event
 pub only_edit : (line object : List ℕ) (e : Event) → line ≡ codes "edit " ++ object → IsEventLine line e → IsEditOf object e
 unfolding first_of
 only_edit line object (Edit c) is h = let same : h.object ≡ object = append_cancel_left (codes "edit ") h.object object (sym h.parts ∙ is) in rw (← same) h.spelled
@@ -97,20 +92,6 @@ deliver_words words digits (Close t) is h = absurd h
 deliver_words words digits (Deliver n Opl) is h = let same : h.digits ≡ digits = append_cancel_right h.digits digits (codes " opl") (sym h.parts ∙ is) in (n, rw (← same) h.spelled)
 deliver_words words digits Show is h = absurd h
 
-no_plus : (bs : List ℕ) → IsNumeral 10 bs → get_or bs 0 0 ≡ 43 → ⊥
-no_plus [] h e = absurd (omega (arith, h.0))
-no_plus (b ∷ bs) h e =
-    let plus : b ≡ 43 = e in
-    let digit : digit_value 43 < 10 = subst (λ (x : ℕ). digit_value x < 10) plus h.1.0 in
-    absurd (omega arith)
-
--- 9 digits are read as a number of 32 bits
-pub small_numeral : (bs : List ℕ) → IsNumeral 10 bs → length bs ≤ 9 → IsNumeral 10 (without_leading_plus bs) × (digits_value 10 (without_leading_plus bs) < 2 ^ 32)
-small_numeral bs h few =
-    let below : digits_value 10 bs < 10 ^ length bs = digits_value-lt 10 bs h.1 in
-    let most : 10 ^ length bs ≤ 10 ^ 9 = pow-le-pow_right (omega arith) few in
-    rw (without_leading_plus_none bs (no_plus bs h)) (h, omega arith)
-
 -- one line more, which says nothing or is an event
 pub AreEvents-skipped : (lines : List (List ℕ)) (events : List Event) (line : List ℕ) → AreEvents lines events → is_skipped line ≡ true → AreEvents (lines ++ line ∷ []) events
 AreEvents-skipped lines events line h skipped = rw (filter-append (λ (l : List ℕ). not (is_skipped l)) lines (line ∷ []), skipped, append-nil) h
@@ -124,7 +105,66 @@ zip-push (k ∷ ls) (d ∷ es) l e h is = (h.0, zip-push ls es l e h.1 is)
 pub AreEvents-more : (lines : List (List ℕ)) (events : List Event) (line : List ℕ) (e : Event) → AreEvents lines events → is_skipped line ≡ false → IsEventLine line e → AreEvents (lines ++ line ∷ []) (events ++ e ∷ [])
 AreEvents-more lines events line e h said is = rw (filter-append (λ (l : List ℕ). not (is_skipped l)) lines (line ∷ []), said) (zip-push (said_of lines) events line e h is)
 
+-- what is left to read, with one for the line that begins it
+abbrev pub left_of : Option (Bor (List ℕ)) → ℕ
+left_of None = 0
+left_of (Some rest) = length rest.now + 1
+
 -- what follows a line is less than the line's text
-pub left_after : (rest : Option (Bor (List ℕ))) (n : ℕ) → IfSome rest (λ r. length r.now < n) → left_of rest ≤ n
+left_after : (rest : Option (Bor (List ℕ))) (n : ℕ) → IfSome rest (λ r. length r.now < n) → left_of rest ≤ n
 left_after None n h = omega arith
 left_after (Some r) n h = omega (arith, h)
+
+-- how far a script was read: the lines that were passed, how many they are, and their events
+pub record IsReadTo (script : List ℕ) (rest : Option (Bor (List ℕ))) (number : ℕ) (events : List Event) : Type 0 where
+  pub passed : List (List ℕ)
+  pub lines : lines_of script ≡ passed ++ lines_after rest
+  pub are_events : AreEvents passed events
+  pub counted : number ≡ length passed
+  pub room : number + left_of rest ≤ length script + 1
+
+pub read_none : (script : Bor (List ℕ)) → IsReadTo script.now (Some script) 0 []
+read_none script = record {
+  passed = [];
+  lines = refl;
+  are_events = tt;
+  counted = refl;
+  room = omega arith;
+}
+
+-- the text's first line and what follows it
+pub record IsSplit (bytes line : List ℕ) (after : Option (Bor (List ℕ))) : Type 0 where
+  pub lines : lines_of bytes ≡ line ∷ lines_after after
+  pub shorter : IfSome after (λ r. length r.now < length bytes)
+
+-- a line more is passed, which says nothing
+pub read_skipped : (script : List ℕ) (bytes : Bor (List ℕ)) (line : List ℕ) (after : Option (Bor (List ℕ))) (number : ℕ) (events : List Event)
+    → IsReadTo script (Some bytes) number events → IsSplit bytes.now line after → is_skipped line ≡ true → IsReadTo script after (number + 1) events
+read_skipped script bytes line after number events i split skipped =
+    let less : left_of after ≤ length bytes.now = left_after after (length bytes.now) split.shorter in
+    let room : number + (length bytes.now + 1) ≤ length script + 1 = i.room in
+    record {
+      passed = i.passed ++ line ∷ [];
+      lines = i.lines ∙ (ap (λ (ls : List (List ℕ)). i.passed ++ ls) split.lines ∙ sym (append_assoc i.passed (line ∷ []) (lines_after after)));
+      are_events = AreEvents-skipped i.passed events line i.are_events skipped;
+      counted = omega (arith, i.counted, length-append i.passed (line ∷ []));
+      room = omega arith;
+    }
+
+-- a line more is passed, which is an event
+pub read_event : (script : List ℕ) (bytes : Bor (List ℕ)) (line : List ℕ) (after : Option (Bor (List ℕ))) (number : ℕ) (events : List Event) (event : Event)
+    → IsReadTo script (Some bytes) number events → IsSplit bytes.now line after → IsSaid line (Some event) → IsReadTo script after (number + 1) (events ++ event ∷ [])
+read_event script bytes line after number events event i split said =
+    let less : left_of after ≤ length bytes.now = left_after after (length bytes.now) split.shorter in
+    let room : number + (length bytes.now + 1) ≤ length script + 1 = i.room in
+    record {
+      passed = i.passed ++ line ∷ [];
+      lines = i.lines ∙ (ap (λ (ls : List (List ℕ)). i.passed ++ ls) split.lines ∙ sym (append_assoc i.passed (line ∷ []) (lines_after after)));
+      are_events = AreEvents-more i.passed events line event i.are_events said.0 said.1;
+      counted = omega (arith, i.counted, length-append i.passed (line ∷ []));
+      room = omega arith;
+    }
+
+-- all lines are passed
+pub read_all : (script : List ℕ) (number : ℕ) (events : List Event) → IsReadTo script None number events → ScriptOf script events
+read_all script number events i = rw (i.lines, append-nil) i.are_events

@@ -9,7 +9,9 @@ abbrev pub replay_app : App
 replay_app = new_app (codes "replay")
 
 abbrev pub program_app : App
-program_app = let app = new_app (codes "osmrepl") in record app { top = record app.top { has_version = true; subcommand_required = true } }
+program_app =
+    let app = new_app (codes "osmrepl") in
+    record app { top = record app.top { has_version = true; subcommand_required = true } }
 
 abbrev pub osmrepl_app : App
 osmrepl_app = with_subcommand program_app replay_app.top

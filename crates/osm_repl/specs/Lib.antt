@@ -1,6 +1,6 @@
 pub mod Script
 pub mod Replies
 pub mod Replay
-pub mod Parsing
-pub mod Reading
 pub mod CommandLine
+pub mod Ending
+pub mod Steps

@@ -1,16 +1,17 @@
 -- What a replay reads and writes.
-use Rattle.std.specs.Prelude.{◌≡◌, ℕ, ◌<◌, List, length, Option, take, IfSome}
+use Rattle.std.specs.Prelude.{◌≡◌, ℕ, ◌<◌, ◌≤◌, List, length, Option, take, IfSome}
 use Rattle.std.specs.Io.KnownBytes.{Consumes, Appends}
 use Rattle.osm_model.specs.Limits.{max_file}
 use Rattle.osm_follow.specs.Correct.{IsRun}
-use Rattle.osm_repl.specs.Replies.{replies_text}
-use Rattle.osm_repl.specs.Script.{ScriptOf, IsBadLine, SaysSome}
 use Rattle.osm_follow.specs.World.{WorldValue}
 use Rattle.osm_follow.specs.declared.event.Event.{Event}
 use Rattle.osm_follow.specs.declared.event.Reply.{Reply}
+use Rattle.osm_repl.specs.Replies.{replies_text}
+use Rattle.osm_repl.specs.Script.{ScriptOf, IsBadLine}
 use Rattle.osm_repl.specs.declared.fault.FileName.TheVariants.{Input, Output}
 use Rattle.osm_repl.specs.declared.fault.RunFault.{RunFault}
-use Rattle.osm_repl.specs.declared.fault.RunFault.TheVariants.{WantOfMemory, ReadFault, WriteFault, TooLarge, BadScript}
+use Rattle.osm_repl.specs.declared.fault.RunFault.TheVariants.{WantOfMemory, ReadFault, WriteFault}
+use Rattle.osm_repl.specs.declared.fault.RunFault.TheVariants.{TooLarge, BadScript}
 
 -- the text is the reply text of a run over the events of the script
 pub record RepliesTo (script text : List ℕ) : Type 0 where
@@ -21,10 +22,11 @@ pub record RepliesTo (script text : List ℕ) : Type 0 where
   pub is_run : IsRun events replies world
   pub text_is : text ≡ replies_text replies
 
--- where the reader's bytes are known, they are a script, and what was written is its reply text
+-- if the reader's bytes are known, they are a script of at most 64 MiB, and its reply text was
+-- written
 abbrev pub Replays : Option (List ℕ) → Option (List ℕ) → Option (List ℕ) → Type 0
-Replays input old new =
-    IfSome input (λ script. (text : List ℕ) × RepliesTo script text × Appends old new text)
+Replays input old new = IfSome input (λ script.
+    (length script ≤ max_file) × ((text : List ℕ) × RepliesTo script text × Appends old new text))
 
 -- what a fault of a replay says of the reader's bytes, before and after
 abbrev pub ReplayFault : Option (List ℕ) → Option (List ℕ) → RunFault → Type 0
@@ -36,28 +38,14 @@ ReplayFault input rest (TooLarge file) =
 ReplayFault input rest (BadScript line) = IfSome input (λ script.
     IsBadLine script line × ((events : List Event) → ScriptOf script events → ⊥))
 
--- what a fault of a replay leaves written: a front of the reply text where writing failed, else nothing
+-- what a fault of a replay leaves written: a prefix of the reply text if writing failed, else
+-- nothing
 abbrev pub ReplayLeaves : Option (List ℕ) → Option (List ℕ) → Option (List ℕ) → RunFault → Type 0
-ReplayLeaves input old new (WriteFault file) =
-    IfSome input (λ script. (text : List ℕ) × RepliesTo script text × ((n : ℕ) × Appends old new (take n text)))
+ReplayLeaves input old new (WriteFault file) = IfSome input (λ script.
+    (text : List ℕ) × RepliesTo script text × ((n : ℕ) × Appends old new (take n text)))
 ReplayLeaves input old new fault = new ≡ old
 
--- why a reader's bytes aren't a script's: more than 64 MiB were read, or reading failed, or memory was
--- refused
-abbrev pub ReadingFault : Option (List ℕ) → Option (List ℕ) → RunFault → Type 0
-ReadingFault old new WantOfMemory = IfSome old (λ bytes. 0 < length bytes)
-ReadingFault old new (ReadFault file) = file ≡ Input
-ReadingFault old new (TooLarge file) =
-    (file ≡ Input) × ((bytes : List ℕ) × Consumes old new bytes × (max_file < length bytes))
-ReadingFault old new fault = ⊥
-
--- why a script has no reply text: memory was refused, or a line is no event
-abbrev pub AnswerFault : List ℕ → RunFault → Type 0
-AnswerFault script WantOfMemory = SaysSome script
-AnswerFault script (BadScript line) = IsBadLine script line
-AnswerFault script fault = ⊥
-
--- writing failed, and a front of the text went out
-abbrev pub WritingFault : Option (List ℕ) → Option (List ℕ) → List ℕ → RunFault → Type 0
-WritingFault old new text (WriteFault file) = (file ≡ Output) × ((n : ℕ) × Appends old new (take n text))
-WritingFault old new text fault = ⊥
+-- a write failed
+abbrev pub IsWriteFault : RunFault → Type 0
+IsWriteFault (WriteFault file) = Unit {0}
+IsWriteFault fault = ⊥

@@ -7,7 +7,10 @@ use Rattle.osm_opl.specs.Written.{line_text}
 use Rattle.osm_follow.specs.Mirror.{Counted}
 use Rattle.osm_follow.specs.View.{ViewValue}
 use Rattle.osm_follow.specs.declared.event.Reply.{Reply}
-use Rattle.osm_follow.specs.declared.event.Reply.TheVariants.{Edited, BatchFull, WantOfMemory, Closed, SequenceFull, TimeBack, NotPublished, Broken, Old, TooEarly, Applied, Broke, Shown}
+use Rattle.osm_follow.specs.declared.event.Reply.TheVariants.{Edited, BatchFull, WantOfMemory}
+use Rattle.osm_follow.specs.declared.event.Reply.TheVariants.{Closed, SequenceFull, TimeBack}
+use Rattle.osm_follow.specs.declared.event.Reply.TheVariants.{NotPublished, Broken, Old, TooEarly}
+use Rattle.osm_follow.specs.declared.event.Reply.TheVariants.{Applied, Broke, Shown}
 
 -- `NAME N` and LF
 abbrev pub numbered_line : List ℕ → ℕ → List ℕ
@@ -32,7 +35,8 @@ number_line n = decimal n ++ 10 ∷ []
 
 -- how many objects there are, and their lines
 unfoldable pub objects_text : List ChangeValue → List ℕ
-objects_text objects = numbered_line (codes "objects ") (length objects) ++ flat_map object_line objects
+objects_text objects =
+    numbered_line (codes "objects ") (length objects) ++ flat_map object_line objects
 
 -- how many counts there are, and their lines
 unfoldable pub counts_text : List ℕ → List Counted → List ℕ
@@ -47,7 +51,8 @@ held_text numbers = numbered_line (codes "held ") (length numbers) ++ flat_map n
 unfoldable pub view_text : ViewValue → List ℕ
 view_text v =
     numbered_line (codes "number ") v.number ++ time_line v.time ++ objects_text v.mirror.objects
-    ++ counts_text (codes "users ") v.mirror.users ++ counts_text (codes "changesets ") v.mirror.changesets
+    ++ counts_text (codes "users ") v.mirror.users
+    ++ counts_text (codes "changesets ") v.mirror.changesets
     ++ held_text v.held
 
 -- a reply's lines
@@ -62,7 +67,8 @@ reply_text NotPublished = codes "not published\n"
 reply_text Broken = codes "broken\n"
 reply_text Old = codes "old\n"
 reply_text TooEarly = codes "too early\n"
-reply_text (Applied low high) = codes "applied " ++ decimal low ++ codes ".." ++ decimal high ++ 10 ∷ []
+reply_text (Applied low high) =
+    codes "applied " ++ decimal low ++ codes ".." ++ decimal high ++ 10 ∷ []
 reply_text Broke = codes "broke\n"
 reply_text (Shown view) = view_text view
 

@@ -1,21 +1,17 @@
 -- A script: a text whose lines are events. Empty lines and lines that begin with `#` say nothing.
 use Rattle.std.specs.Prelude.{◌≡◌, ℕ, ◌+◌, ◌<◌, ◌≤◌, List, ◌∷◌, ◌++◌, length, codes, false, not}
 use Rattle.std.specs.List.{AllZip, filter}
-use Rattle.std.specs.Str.Parse.{IsNumeral, digits_value}
 use Rattle.osm_model.specs.Change.{ChangeValue}
 use Rattle.osm_model.specs.Time.{TimeText}
 use Rattle.osm_opl.specs.Line.{SpellsLine}
 use Rattle.osm_reading.specs.Lines.{lines_of, is_skipped}
+use Rattle.osm_reading.specs.Sequence.{SpellsSequence}
 use Rattle.osm_follow.specs.declared.event.Event.{Event}
 use Rattle.osm_follow.specs.declared.event.Event.TheVariants.{Edit, Close, Deliver, Show}
 use Rattle.osm_follow.specs.declared.event.Form.{Form}
 use Rattle.osm_follow.specs.declared.event.Form.TheVariants.{Opl}
-
--- 1 to 9 digits, zeros in front accepted
-pub record SpellsSequence (digits : List ℕ) (number : ℕ) : Type 0 where
-  pub numeral : IsNumeral 10 digits
-  pub short : length digits ≤ 9
-  pub value : number ≡ digits_value 10 digits
+use Rattle.osm_repl.specs.declared.fault.RunFault.{RunFault}
+use Rattle.osm_repl.specs.declared.fault.RunFault.TheVariants.{WantOfMemory, BadScript}
 
 -- a blank and the name of a form
 abbrev pub form_text : Form → List ℕ
@@ -64,13 +60,20 @@ SaysSome script = 0 < length (said_of (lines_of script))
 
 -- the line of that number, counted from 1 over all lines, is the first that is neither skipped nor
 -- an event
-pub record IsBadLine (script : List ℕ) (place : ℕ) : Type 0 where
+pub record IsBadLine (script : List ℕ) (number : ℕ) : Type 0 where
   pub before : List (List ℕ)
   pub line : List ℕ
   pub after : List (List ℕ)
   pub parts : lines_of script ≡ before ++ line ∷ after
-  pub number : place ≡ length before + 1
+  pub counted : number ≡ length before + 1
   pub events : List Event
   pub earlier : AreEvents before events
   pub said : is_skipped line ≡ false
   pub none : (e : Event) → IsEventLine line e → ⊥
+
+-- a script that says something may be refused for memory, and any script at its first line that is
+-- no event
+abbrev pub ScriptRefused : List ℕ → RunFault → Type 0
+ScriptRefused script WantOfMemory = SaysSome script
+ScriptRefused script (BadScript line) = IsBadLine script line
+ScriptRefused script fault = ⊥

@@ -13,10 +13,12 @@ use std::alloc::{AllocError, Global};
 const STATUSES: &str = "Exit statuses:
   0  done
   2  the words of the command line are refused
-  3  any other fault, want of memory included; one line on standard error says which";
+  3  any other fault, out of memory included; one line on standard error says which";
 
-const SCRIPTS: &str =
-    "A script has one event a line; empty lines and lines that begin with # say nothing:
+const SCRIPTS: &str = "The script is read from standard input, as in
+  osmrepl replay <script.txt >replies.txt
+
+It has one event a line; empty lines and lines that begin with # say nothing:
   edit LINE      the publisher takes an edit, a line of an OPL file, as
                  n1 v1 dV c7 t2024-01-01T00:00:00Z i5 uann T x1 y2
   close TIME     the pending edits are published as the next sequence, at a time as
@@ -26,7 +28,7 @@ const SCRIPTS: &str =
 
 A line that is no event is a fault, and nothing is written then.";
 
-/// What the words ask for, the program's name first. Refused where `clap` refuses the words, and where
+/// What the words ask for, the program's name first. Refused if `clap` refuses the words, and if
 /// they ask for help or the version.
 pub fn order<'a>(alloc: Global, words: &'a [&'a str]) -> Result<Order, Error>
     ensures order { IfOk result (IsOrderOf (map (λ s. s.now) words.entry.now)) }

@@ -1,35 +1,47 @@
 //! A replay: a script is read whole, run, and answered by its reply text.
 
-ghost use Rattle.std.specs.Prelude.{◌≡◌, ℕ, ◌≤◌, List, length, IfOk, OnOk, IfErr, take};
+ghost use Rattle.std.specs.Prelude.{◌≡◌, ℕ, ◌≤◌, List, Option, length, IfOk, OnOk, IfErr};
 ghost use Rattle.std.specs.Io.KnownBytes.{Appends, Consumes, IsAtEnd};
 ghost use Rattle.osm_model.specs.Limits.{max_file};
-ghost use Rattle.osm_repl.specs.Replay.{AnswerFault, ReadingFault, ReplayFault, ReplayLeaves, Replays, RepliesTo, WritingFault};
+ghost use Rattle.osm_repl.specs.Replay.{IsWriteFault, ReplayFault, ReplayLeaves, Replays};
+ghost use Rattle.osm_repl.specs.Replay.{RepliesTo};
+ghost use Rattle.osm_repl.specs.Script.{ScriptRefused};
+ghost use Rattle.osm_repl.specs.Steps.Replaying.{IsAnswered, ReadingFault, WritingFault};
+ghost use Rattle.osm_repl.specs.Steps.Replaying.{most_reads};
+ghost use Rattle.osm_repl.specs.declared.fault.RunFault.{RunFault};
 
+use crate::asks::Asks;
 use crate::fault::{FileName, RunFault};
-use crate::replies::write_replies;
-use crate::script::parse_script;
+use crate::replies::write_reply;
+use crate::script::line_event;
+use osm_follow::event::Event;
+use osm_follow::laws::laws_of_runs;
 use osm_follow::world::World;
 use osm_model::limits::MAX_FILE;
+use osm_model::memory::WantOfMemory;
+use osm_reading::lines::split_line;
 use std::alloc::Global;
 use std::io::{Read, Write};
 
 // One read for each byte of the largest script, one that finds the byte too much, and one more.
 const MOST_READS: u64 = 67_108_866;
 
-/// Reads a whole script, runs its events in a new world, and writes the reply text. The reader is asked
-/// at most 67,108,866 times. Nothing was written after any fault but `WriteFault`; after that a front of
-/// the reply text was. Every error of the reader or the writer is a fault, an interruption too, and so
-/// is a write that takes 0 bytes.
+/// Reads a whole script, runs its events in a new world, and writes the reply text. The reader is
+/// asked at most 67,108,866 times. Nothing was written after any fault but `WriteFault`; after that
+/// a prefix of the reply text was. Every error of the reader or the writer is a fault, an
+/// interruption too, and so is a write that takes 0 bytes.
 pub fn replay_run<R: Read, W: Write>(
     alloc: Global,
     reader: &mut R,
     writer: &mut W,
 ) -> Result<(), RunFault>
-    ensures replays { OnOk result (Replays (R.remaining reader.old) (W.contents writer.old) (W.contents writer.new)) }
+    ensures replays { OnOk result
+        (Replays (R.remaining reader.old) (W.contents writer.old) (W.contents writer.new)) }
     ensures fault { IfErr result (ReplayFault (R.remaining reader.old) (R.remaining reader.new)) }
-    ensures leaves { IfErr result (ReplayLeaves (R.remaining reader.old) (W.contents writer.old) (W.contents writer.new)) }
+    ensures leaves { IfErr result
+        (ReplayLeaves (R.remaining reader.old) (W.contents writer.old) (W.contents writer.new)) }
 {
-    let script = match read_script(alloc, reader) {
+    let script = match read_script(alloc, reader, &mut Asks::none()) {
         Ok(script) => script,
         Err(fault) => return Err(fault),
     };
@@ -40,25 +52,19 @@ pub fn replay_run<R: Read, W: Write>(
     write_text(writer, text.as_slice())
 }
 
-// The reply text of a script.
-fn reply_text_of(alloc: Global, script: &[u8]) -> Result<Vec<u8>, RunFault>
-    requires { length script.now ≤ max_file }
-    ensures text { IfOk result (λ text. RepliesTo script.now text.items) }
-    ensures fault { IfErr result (AnswerFault script.now) }
-{
-    let events = parse_script(alloc, script)?;
-    let Ok(run) = World::run(alloc, events) else {
-        return Err(RunFault::WantOfMemory);
-    };
-    match write_replies(alloc, run.replies.as_slice()) {
-        Ok(text) => Ok(text),
-        Err(_) => Err(RunFault::WantOfMemory),
-    }
-}
+/// What the definitions of a replay say: a fault other than a failed write leaves nothing written.
+/// Does nothing at run time.
+pub fn laws_of_replays()
+    ensures silent { (input old new : Option (List ℕ)) (fault : RunFault)
+        → ReplayLeaves input old new fault → (IsWriteFault fault → ⊥) → new ≡ old }
+{}
 
 // All that the reader has, up to the largest script; the only place that asks a reader.
-fn read_script<R: Read>(alloc: Global, reader: &mut R) -> Result<Vec<u8>, RunFault>
-    ensures script { IfOk result (λ bytes. Consumes (R.remaining reader.old) (R.remaining reader.new) bytes.items) }
+fn read_script<R: Read>(alloc: Global, reader: &mut R, asks: &mut Asks) -> Result<Vec<u8>, RunFault>
+    requires { asks.old ≡ 0 }
+    ensures asked { asks.new ≤ most_reads }
+    ensures script { IfOk result
+        (λ bytes. Consumes (R.remaining reader.old) (R.remaining reader.new) bytes.items) }
     ensures end { OnOk result (IsAtEnd (R.remaining reader.new)) }
     ensures small { IfOk result (λ bytes. length bytes.items ≤ max_file) }
     ensures fault { IfErr result (ReadingFault (R.remaining reader.old) (R.remaining reader.new)) }
@@ -66,7 +72,7 @@ fn read_script<R: Read>(alloc: Global, reader: &mut R) -> Result<Vec<u8>, RunFau
     let mut script = Vec::new(alloc);
     let mut block = [0u8; 16384];
     for _ in 0..MOST_READS {
-        let Ok(count) = reader.read(&mut block) else {
+        let Ok(count) = asks.ask(reader, &mut block) else {
             return Err(RunFault::ReadFault(FileName::Input));
         };
         if count == 0 {
@@ -82,10 +88,49 @@ fn read_script<R: Read>(alloc: Global, reader: &mut R) -> Result<Vec<u8>, RunFau
     Err(RunFault::TooLarge(FileName::Input))
 }
 
-// Writes all the text, or a front of it.
+// The reply text of a script. Each line's event is taken as soon as it is read, and each reply is
+// dropped once its lines are written: the events and the views of a script are many times its size.
+fn reply_text_of(alloc: Global, script: &[u8]) -> Result<Vec<u8>, RunFault>
+    requires { length script.now ≤ max_file }
+    ensures text { IfOk result (λ text. RepliesTo script.now text.items) }
+    ensures fault { IfErr result (ScriptRefused script.now) }
+{
+    laws_of_runs();
+    let mut world = World::new(alloc).unwrap();
+    let mut text = Vec::new(alloc);
+    let mut rest = Some(script);
+    let mut number = 0u64;
+    while let Some(bytes) = rest {
+        let (line, after) = split_line(bytes);
+        number += 1;
+        match line_event(alloc, line, number) {
+            Ok(None) => {}
+            Ok(Some(event)) => {
+                let Ok(()) = answer(&mut world, event, &mut text) else {
+                    return Err(RunFault::WantOfMemory);
+                };
+            }
+            Err(fault) => return Err(fault),
+        }
+        rest = after;
+    }
+    Ok(text)
+}
+
+// The world takes the event, and the lines of its reply are appended.
+fn answer(world: &mut World, event: Event, text: &mut Vec<u8>) -> Result<(), WantOfMemory>
+    ensures { OnOk result (IsAnswered world.old event world.new text.old.items text.new.items) }
+{
+    let reply = world.step(event);
+    write_reply(&reply, text)
+}
+
+// Writes all the text, or a prefix of it.
 fn write_text<W: Write>(writer: &mut W, text: &[u8]) -> Result<(), RunFault>
-    ensures written { OnOk result (Appends (W.contents writer.old) (W.contents writer.new) text.now) }
-    ensures fault { IfErr result (WritingFault (W.contents writer.old) (W.contents writer.new) text.now) }
+    ensures written { OnOk result
+        (Appends (W.contents writer.old) (W.contents writer.new) text.now) }
+    ensures fault { IfErr result
+        (WritingFault (W.contents writer.old) (W.contents writer.new) text.now) }
 {
     let mut at = 0usize;
     while at < text.len() {

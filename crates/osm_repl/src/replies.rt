@@ -1,12 +1,15 @@
 //! The reply text: a line for each reply, and more for a view.
 
-ghost use Rattle.std.specs.Prelude.{◌≡◌, ◌<◌, ◌++◌, ◌∷◌, [], length, codes, decimal, IfOk, OnOk, OnErr};
+ghost use Rattle.std.specs.Prelude.{◌≡◌, ◌<◌, ◌++◌, ◌∷◌, [], length, codes, decimal};
+ghost use Rattle.std.specs.Prelude.{IfOk, OnOk, OnErr};
 ghost use Rattle.std.specs.List.{flat_map};
-ghost use Rattle.osm_repl.specs.Replies.{count_line, counts_text, held_text, number_line, numbered_line, object_line, objects_text, replies_text, reply_text, time_line, view_text};
+ghost use Rattle.osm_repl.specs.Replies.{count_line, counts_text, held_text, number_line};
+ghost use Rattle.osm_repl.specs.Replies.{numbered_line, object_line, objects_text};
+ghost use Rattle.osm_repl.specs.Replies.{replies_text, reply_text, time_line, view_text};
 
+use itoa::Buffer;
 use osm_follow::event::Reply;
 use osm_follow::view::View;
-use itoa::Buffer;
 use osm_model::change::Change;
 use osm_model::memory::WantOfMemory;
 use osm_model::time::time_write;
@@ -25,7 +28,7 @@ pub fn write_replies(alloc: Global, replies: &[Reply]) -> Result<Vec<u8>, WantOf
     Ok(text)
 }
 
-fn write_reply(reply: &Reply, text: &mut Vec<u8>) -> Result<(), WantOfMemory>
+pub(crate) fn write_reply(reply: &Reply, text: &mut Vec<u8>) -> Result<(), WantOfMemory>
     ensures { OnOk result (text.new.items ≡ text.old.items ++ reply_text reply.now) }
 {
     match reply {
@@ -46,7 +49,9 @@ fn write_reply(reply: &Reply, text: &mut Vec<u8>) -> Result<(), WantOfMemory>
 }
 
 fn write_applied(low: u32, high: u32, text: &mut Vec<u8>) -> Result<(), WantOfMemory>
-    ensures { OnOk result (text.new.items ≡ text.old.items ++ (codes "applied " ++ decimal low ++ codes ".." ++ decimal high ++ 10 ∷ [])) }
+    ensures { OnOk result (text.new.items
+        ≡ text.old.items
+        ++ (codes "applied " ++ decimal low ++ codes ".." ++ decimal high ++ 10 ∷ [])) }
 {
     write_bytes(b"applied ", text)?;
     write_number(low as u64, text)?;

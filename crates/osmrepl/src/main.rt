@@ -2,9 +2,10 @@
 #![tactic(auto)]
 
 use clap::Error;
-use clap::error::ErrorKind;
 use osm_repl::command_line::order;
-use osm_repl::fault::RunFault;
+use osm_repl::echo::echoes;
+use osm_repl::ending::{Ending, Said, Stream, explained, reported};
+use osm_repl::fault::{FileName, RunFault};
 use osm_repl::orders::Order;
 use osm_repl::replay::replay_run;
 use std::process::ExitCode;
@@ -41,7 +42,7 @@ fn run(rt: &HostRuntime) -> u8 {
     };
     match order(alloc, words.as_slice()) {
         Ok(Order::Replay) => replay(rt),
-        Err(error) => explain(rt, &error),
+        Err(error) => explain(rt, &error, words.as_slice()),
     }
 }
 
@@ -52,20 +53,43 @@ fn replay(rt: &HostRuntime) -> u8 {
     }
 }
 
+// Says why the words gave no order. The text is the one that `clap` makes of the words' echoes,
+// since it repeats a word that it refuses.
+fn explain(rt: &HostRuntime, error: &Error, words: &[&str]) -> u8 {
+    let alloc = rt.alloc();
+    let Ok(echoes) = echoes(alloc, words) else {
+        return report(rt, RunFault::WantOfMemory);
+    };
+    let Ok(echoed) = echoes
+        .iter()
+        .map(|word| word.as_str())
+        .collect::<Vec<&str>>(alloc)
+    else {
+        return report(rt, RunFault::WantOfMemory);
+    };
+    match order(alloc, echoed.as_slice()) {
+        Ok(Order::Replay) => end(rt, explained(error.kind()), error),
+        Err(shown) => end(rt, explained(shown.kind()), &shown),
+    }
+}
+
 // One line on standard error, and the fault's status.
 fn report(rt: &HostRuntime, fault: RunFault) -> u8 {
     let _ = eprintln!(rt; "osmrepl: {fault}");
-    fault.status()
+    reported(fault).status
 }
 
-// Help and the version on standard output, all else on standard error.
-fn explain(rt: &HostRuntime, error: &Error) -> u8 {
-    if error.kind() == ErrorKind::OutOfMemory {
-        return report(rt, RunFault::WantOfMemory);
-    }
-    if error.print(rt).is_err() || error.use_stderr() {
-        USAGE
-    } else {
-        0
+// Says what the ending says, where it says it. If standard output doesn't take it, that is a fault.
+fn end(rt: &HostRuntime, ending: Ending, error: &Error) -> u8 {
+    match (ending.said, ending.stream) {
+        (Said::Fault(fault), _) => report(rt, fault),
+        (Said::ByClap, Stream::Error) => {
+            let _ = eprint!(rt; "{error}");
+            ending.status
+        }
+        (Said::ByClap, Stream::Output) => match print!(rt; "{error}") {
+            Ok(()) => ending.status,
+            Err(_) => report(rt, RunFault::WriteFault(FileName::Output)),
+        },
     }
 }

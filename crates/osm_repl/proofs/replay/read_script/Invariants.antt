@@ -1,4 +1,4 @@
-use Rattle.std.proofs.Common.{◌≤◌, length}
+use Rattle.std.proofs.Common.{◌≡◌, ◌≤◌, length}
 use Rattle.std.specs.Io.KnownBytes.{Consumes}
 use Rattle.osm_repl.proofs.replay.read_script.Given as goal
 
@@ -7,4 +7,5 @@ invariant-loop g l = record {
   consumed : Consumes (g.R.Read.remaining l.initial.reader) (g.R.Read.remaining l.reader) l.script.items;
   small : length l.script.items ≤ 67108864;
   counted : l.counter ≤ length l.script.items;
+  asked : l.asks ≡ l.counter;
 }

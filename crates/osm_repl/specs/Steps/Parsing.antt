@@ -1,8 +1,10 @@
--- What the reader of scripts answers.
-use Rattle.std.specs.Prelude.{◌≡◌, ℕ, List, ◌++◌}
+-- What the reader of scripts answers line by line.
+use Rattle.std.specs.Prelude.{◌≡◌, ℕ, List, ◌++◌, Option, Some, None, true, false}
 use Rattle.osm_model.specs.Time.{TimeText}
 use Rattle.osm_opl.specs.Line.{SpellsLine}
-use Rattle.osm_repl.specs.Script.{IsBadLine, SaysSome, SpellsSequence, form_text}
+use Rattle.osm_reading.specs.Lines.{is_skipped}
+use Rattle.osm_reading.specs.Sequence.{SpellsSequence}
+use Rattle.osm_repl.specs.Script.{IsEventLine, form_text}
 use Rattle.osm_follow.specs.declared.event.Event.{Event}
 use Rattle.osm_follow.specs.declared.event.Event.TheVariants.{Edit, Close, Deliver}
 use Rattle.osm_follow.specs.declared.event.Form.{Form}
@@ -11,11 +13,12 @@ use Rattle.osm_repl.specs.declared.fault.RunFault.TheVariants as faults
 use Rattle.osm_repl.specs.declared.script.LineFault.{LineFault}
 use Rattle.osm_repl.specs.declared.script.LineFault.TheVariants.{WantOfMemory, NoEvent}
 
--- what stands behind `edit `, behind `close ` and behind `deliver `, as the event
+-- what follows `edit ` is the event
 abbrev pub IsEditOf : List ℕ → Event → Type 0
 IsEditOf object (Edit change) = SpellsLine object change
 IsEditOf object e = ⊥
 
+-- what follows `close ` is the event
 abbrev pub IsCloseOf : List ℕ → Event → Type 0
 IsCloseOf text (Close time) = TimeText text time
 IsCloseOf text e = ⊥
@@ -26,17 +29,24 @@ pub record AreWords (words : List ℕ) (number : ℕ) (form : Form) : Type 0 whe
   pub parts : words ≡ digits ++ form_text form
   pub spelled : SpellsSequence digits number
 
+-- what follows `deliver ` is the event
 abbrev pub IsDeliverOf : List ℕ → Event → Type 0
 IsDeliverOf words (Deliver number form) = AreWords words number form
 IsDeliverOf words e = ⊥
 
--- a line is refused as no event only where it is none
+-- a line is refused as no event only if it is none
 abbrev pub Refused : (Event → Type 0) → LineFault → Type 0
 Refused IsIt WantOfMemory = Unit {0}
 Refused IsIt NoEvent = (e : Event) → IsIt e → ⊥
 
--- a script that says something may be refused for memory, and any at its first line that is no event
-abbrev pub ScriptRefused : List ℕ → RunFault → Type 0
-ScriptRefused script faults.WantOfMemory = SaysSome script
-ScriptRefused script (faults.BadScript line) = IsBadLine script line
-ScriptRefused script fault = ⊥
+-- a line says nothing, or that event
+abbrev pub IsSaid : List ℕ → Option Event → Type 0
+IsSaid line None = is_skipped line ≡ true
+IsSaid line (Some event) = (is_skipped line ≡ false) × IsEventLine line event
+
+-- a line that says something is no event, or memory was refused
+abbrev pub LineRefused : List ℕ → ℕ → RunFault → Type 0
+LineRefused line number faults.WantOfMemory = is_skipped line ≡ false
+LineRefused line number (faults.BadScript n) =
+    (n ≡ number) × (is_skipped line ≡ false) × ((e : Event) → IsEventLine line e → ⊥)
+LineRefused line number fault = ⊥

@@ -1,0 +1,40 @@
+-- What the parts of a replay do: reading the script, answering an event, writing the text.
+use Rattle.std.specs.Prelude.{◌≡◌, ℕ, ◌<◌, List, ◌++◌, length, Option, take, IfSome}
+use Rattle.std.specs.Io.KnownBytes.{Consumes, Appends}
+use Rattle.osm_model.specs.Limits.{max_file}
+use Rattle.osm_follow.specs.Step.{Step}
+use Rattle.osm_follow.specs.World.{WorldValue}
+use Rattle.osm_follow.specs.declared.event.Event.{Event}
+use Rattle.osm_follow.specs.declared.event.Reply.{Reply}
+use Rattle.osm_repl.specs.Replies.{reply_text}
+use Rattle.osm_repl.specs.declared.fault.FileName.TheVariants.{Input, Output}
+use Rattle.osm_repl.specs.declared.fault.RunFault.{RunFault}
+use Rattle.osm_repl.specs.declared.fault.RunFault.TheVariants.{WantOfMemory, ReadFault, WriteFault}
+use Rattle.osm_repl.specs.declared.fault.RunFault.TheVariants.{TooLarge}
+
+-- how often a reader is asked at most: for each byte of the largest script, for a byte too much,
+-- and once more
+abbrev pub most_reads : ℕ
+most_reads = 67108866
+
+-- why a reader's bytes aren't a script's: more than 64 MiB were read, or reading failed, or memory
+-- was refused
+abbrev pub ReadingFault : Option (List ℕ) → Option (List ℕ) → RunFault → Type 0
+ReadingFault old new WantOfMemory = IfSome old (λ bytes. 0 < length bytes)
+ReadingFault old new (ReadFault file) = file ≡ Input
+ReadingFault old new (TooLarge file) =
+    (file ≡ Input) × ((bytes : List ℕ) × Consumes old new bytes × (max_file < length bytes))
+ReadingFault old new fault = ⊥
+
+-- the world took the event, and the lines of its reply were appended
+pub record IsAnswered (old : WorldValue) (event : Event) (new : WorldValue) (before after : List ℕ)
+    : Type 0 where
+  pub reply : Reply
+  pub step : Step old event reply new
+  pub text : after ≡ before ++ reply_text reply
+
+-- writing failed, and a prefix of the text was written
+abbrev pub WritingFault : Option (List ℕ) → Option (List ℕ) → List ℕ → RunFault → Type 0
+WritingFault old new text (WriteFault file) =
+    (file ≡ Output) × ((n : ℕ) × Appends old new (take n text))
+WritingFault old new text fault = ⊥
