@@ -1,2 +1,0 @@
-mod model;
-mod o5c;
