@@ -10,6 +10,7 @@ saves, restarts, and batches that are held until their turn comes (WINDOW). The 
 files are those of files with all strings in line."""
 
 import datetime
+import functools
 import re
 import sys
 
@@ -51,6 +52,9 @@ MEMBER = re.compile(f"([nwr]){ID}@{TEXT}")
 
 def meant(text):
     """What a text says, each escape as its character."""
+    if "%" not in text:
+        return text
+
     def character(part):
         code = int(part[1], 16) if part[1] else ord(part[0])
         if code == 0 or 0xD800 <= code <= 0xDFFF:
@@ -60,6 +64,7 @@ def meant(text):
     return PART.sub(character, text)
 
 
+@functools.cache
 def written(text):
     """A text as a show writes it: what isn't bare ASCII as escapes in lower-case digits."""
     return "".join(c if "!" <= c <= "~" and c not in "%,=@" else f"%{ord(c):02x}%" for c in text)
