@@ -71,7 +71,7 @@ pub sum_of : (before : List ℤ) (prefix : List ℕ) (sum : ℤ) (after : List �
 sum_of before prefix sum after s = sym (total-push before s.difference) ∙ ap total (sym s.added) ∙ sym s.sum_is
 
 pub id_again : (before : List ℤ) (prefix : List ℕ) (id : ℤ) (after : List ℤ) (rest : List ℕ) → SpellsSum before prefix id after → IsId id → id_at (total before) (prefix ++ rest) ≡ Some (id, rest)
-unfolding id_at and_then when
+unfolding id_at
 id_again before prefix id after rest s limits =
     let read : signed_at (prefix ++ rest) ≡ Some (s.difference, rest) = signed_again prefix s.difference rest s.signed in
     rw (read, sum_of before prefix id after s, is_id_again id limits) refl
@@ -105,7 +105,7 @@ positive_sum_takes before bytes x e =
     })
 
 pub positive_sum_again : (before : List ℤ) (prefix : List ℕ) (n : ℕ) (after : List ℤ) (rest : List ℕ) → SpellsSum before prefix (pos n) after → IsPositive n → positive_sum_at (total before) (prefix ++ rest) ≡ Some (n, rest)
-unfolding positive_sum_at and_then when
+unfolding positive_sum_at
 positive_sum_again before prefix n after rest s limits =
     let read : signed_at (prefix ++ rest) ≡ Some (s.difference, rest) = signed_again prefix s.difference rest s.signed in
     rw (read, sum_of before prefix (pos n) after s, is_positive_again n limits) refl
@@ -154,7 +154,7 @@ longitude_takes before bytes x e =
     })
 
 pub longitude_again : (before : List ℤ) (prefix : List ℕ) (v : ℤ) (after : List ℤ) (rest : List ℕ) → SpellsWrapped before prefix v after → IsLongitude v → longitude_at (wrapped_total before) (prefix ++ rest) ≡ Some (v, rest)
-unfolding longitude_at and_then when
+unfolding longitude_at
 longitude_again before prefix v after rest s limits =
     let read : signed_at (prefix ++ rest) ≡ Some (s.difference, rest) = signed_again prefix s.difference rest s.signed in
     rw (read, wrapped_value before prefix v after s, is_longitude_again v limits) refl
@@ -179,7 +179,7 @@ latitude_takes before bytes x e =
     })
 
 pub latitude_again : (before : List ℤ) (prefix : List ℕ) (v : ℤ) (after : List ℤ) (rest : List ℕ) → SpellsWrapped before prefix v after → IsLatitude v → latitude_at (wrapped_total before) (prefix ++ rest) ≡ Some (v, rest)
-unfolding latitude_at and_then when
+unfolding latitude_at
 latitude_again before prefix v after rest s limits =
     let read : signed_at (prefix ++ rest) ≡ Some (s.difference, rest) = signed_again prefix s.difference rest s.signed in
     rw (read, wrapped_value before prefix v after s, is_latitude_again v limits) refl

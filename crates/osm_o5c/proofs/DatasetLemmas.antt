@@ -125,11 +125,11 @@ dataset_takes C [] x e = absurd cc
 dataset_takes C (t ∷ bytes) x e = of_takes (kind_of_byte t) t C bytes x refl e
 
 object_data_again : (C : Context) (length_bytes content : List ℕ) (c : ChangeValue) (after : Context) (rest : List ℕ) → part_at (length_bytes ++ content ++ rest) ≡ Some (content, rest) → object_at c.key.kind (reader_of C) content ≡ Some (c, reader_of after) → object_dataset_at c.key.kind (reader_of C) (length_bytes ++ content ++ rest) ≡ Some (Some c, reader_of after, rest)
-unfolding object_dataset_at and_then
+unfolding object_dataset_at
 object_data_again C length_bytes content c after rest p o = rw (p, o) refl
 
 skipped_again : (C : Context) (t : ℕ) (length_bytes content rest : List ℕ) → t < 240 → part_at (length_bytes ++ content ++ rest) ≡ Some (content, rest) → other_dataset_at t (reader_of C) (length_bytes ++ content ++ rest) ≡ Some (None, reader_of C, rest)
-unfolding other_dataset_at and_then
+unfolding other_dataset_at
 skipped_again C t length_bytes content rest low p = let l : ltb t 240 ≡ true = grind (arith, nat_tests) in rw (l, p) refl
 
 lone_again : (C : Context) (t : ℕ) (rest : List ℕ) → 240 ≤ t → t < 254 → other_dataset_at t (reader_of C) rest ≡ Some (None, reader_of C, rest)
@@ -196,13 +196,12 @@ step_takes C xs rest q e =
     found_takes C xs rest x.0 q (dataset_takes C rest x.0 x.1) x.2
 
 found_again : (s : Reader) (xs : List ChangeValue) (found : Option ChangeValue) (more : List ℕ) → length (changes_with xs found) ≤ 100000 → with_found xs (found, s, more) ≡ Some (position s (changes_with xs found) more)
-unfolding when
 found_again s xs None more few = refl
 found_again s xs (Some c) more few =
     let room : ltb (length xs) 100000 ≡ true = let o : length xs < 100000 = omega (arith, length-append xs (c ∷ [])) in grind (arith, nat_tests) in
     rw room refl
 
 pub step_again : (C : Context) (xs : List ChangeValue) (dataset : List ℕ) (found : Option ChangeValue) (after : Context) (more : List ℕ) → Dataset C dataset found after → length (changes_with xs found) ≤ 100000 → step (position (reader_of C) xs (dataset ++ more)) ≡ Some (position (reader_of after) (changes_with xs found) more)
-unfolding step and_then
+unfolding step
 step_again C xs dataset found after more s few =
     rw (dataset_again C dataset found after more s) (found_again (reader_of after) xs found more few)

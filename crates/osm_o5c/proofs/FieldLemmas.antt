@@ -73,14 +73,14 @@ uid_takes bytes uid e =
     (record { spells = subst (λ (l : List ℕ). SpellsNumber l n.0.0) (sym whole) t.spelled; limits = is_positive_is n.0.0 h.0 })
 
 uid_again : (bytes : List ℕ) (uid : ℕ) → SpellsNumber bytes uid → IsPositive uid → uid_of bytes ≡ Some uid
-unfolding uid_of and_then when
+unfolding uid_of
 uid_again bytes uid s p =
     let read : unsigned_at bytes ≡ Some (uid, []) = subst (λ (l : List ℕ). unsigned_at l ≡ Some (uid, [])) (append-nil bytes) (unsigned_again bytes uid [] s) in
     rw (read, is_positive_again uid p) refl
 
 -- nothing is no user id
 pub no_uid : (bytes : List ℕ) → length bytes ≡ 0 → uid_of bytes ≡ None
-unfolding uid_of varint_at and_then
+unfolding uid_of varint_at
 no_uid [] e = refl
 no_uid (b ∷ bs) e = absurd (omega arith)
 
@@ -112,7 +112,7 @@ user_takes ss bytes x e =
     })
 
 pub user_again : (ss : List Entry) (prefix : List ℕ) (uid : ℕ) (name : List ℕ) (after : List Entry) (rest : List ℕ) → SpellsUser ss prefix uid name after → IsPositive uid → IsText name → user_at (table_of ss) (prefix ++ rest) ≡ Some ((uid, name), table_of after, rest)
-unfolding user_at and_then
+unfolding user_at
 user_again ss prefix uid name after rest s p t =
     rw (pair_again ss prefix s.first name after rest s.pair, uid_again s.first uid s.number p, text_again name t) refl
 
@@ -132,7 +132,7 @@ tag_takes ss bytes x e =
     (record { prefix = t.prefix; after = t.after; parts = t.parts; spelled = record { spelled_so = spells; within = record { key = key.1; value = value.1 } }; same = t.same })
 
 pub tag_again : (ss : List Entry) (prefix : List ℕ) (t : Tag) (after : List Entry) (rest : List ℕ) → SpellsTag ss prefix t after → IsTag t → tag_at (table_of ss) (prefix ++ rest) ≡ Some (t, table_of after, rest)
-unfolding tag_at and_then
+unfolding tag_at
 tag_again ss prefix t after rest s l =
     rw (pair_again ss prefix t.key t.value after rest s, text_again t.key l.key, text_again t.value l.value) refl
 
@@ -150,7 +150,7 @@ ref_takes before bytes x e =
     (record { prefix = t.prefix; after = t.after; parts = t.parts; spelled = record { spelled_so = t.spelled.spells; within = t.spelled.limits }; same = t.same })
 
 pub ref_again : (before : List ℤ) (prefix : List ℕ) (id : ℤ) (after : List ℤ) (rest : List ℕ) → SpellsSum before prefix id after → IsId id → ref_at (total before) (prefix ++ rest) ≡ Some (id, total after, rest)
-unfolding ref_at and_then
+unfolding ref_at
 ref_again before prefix id after rest s l = rw (id_again before prefix id after rest s l, ← s.sum_is) refl
 
 pub ref_exact : IsExact total ref_at SpellsSum IsId
@@ -188,7 +188,7 @@ role_takes (b ∷ bs) x e =
     (record { whole = ap (λ (i : ℕ). i ∷ bs) (kind_takes b k.0 k.1) ∙ ap (λ (l : List ℕ). kind_digit k.0 ∷ l) t.0; limits = t.1 })
 
 role_again : (kind : Kind) (role : List ℕ) → IsText role → role_of (kind_digit kind ∷ role) ≡ Some (kind, role)
-unfolding role_of and_then
+unfolding role_of
 role_again kind role t = rw (kind_again kind, text_again role t) refl
 
 -- a counter of members is the total of their differences
@@ -252,7 +252,7 @@ member_takes C bytes x e =
     })
 
 pub member_again : (C : Context) (prefix : List ℕ) (m : Member) (after : Context) (rest : List ℕ) → SpellsMember C prefix m after → IsMember m → member_at (reader_of C) (prefix ++ rest) ≡ Some (m, reader_of after, rest)
-unfolding member_at and_then when
+unfolding member_at
 member_again C prefix m after rest s l =
     let number : signed_at (s.id_bytes ++ (s.role_bytes ++ rest)) ≡ Some (s.id.difference, s.role_bytes ++ rest) = signed_again s.id_bytes s.id.difference (s.role_bytes ++ rest) s.id.signed in
     let string : single_at (table_of C.strings) (s.role_bytes ++ rest) ≡ Some (kind_digit m.key.kind ∷ m.role, table_of s.strings, rest) = single_again C.strings s.role_bytes (kind_digit m.key.kind ∷ m.role) s.strings rest s.role in
@@ -325,7 +325,7 @@ meta_takes C bytes x e =
     })
 
 pub meta_again : (C : Context) (prefix : List ℕ) (m : MetaValue) (after : Context) (rest : List ℕ) → SpellsMeta C prefix m after → IsMeta m → meta_at (reader_of C) (prefix ++ rest) ≡ Some (m, reader_of after, rest)
-unfolding meta_at and_then
+unfolding meta_at
 meta_again C prefix m after rest s l =
     let user : user_at (table_of C.strings) (s.user_bytes ++ rest) ≡ Some ((m.uid, m.user), table_of s.strings, rest) = user_again C.strings s.user_bytes m.uid m.user s.strings rest s.user l.uid l.user in
     let changeset : positive_sum_at (total C.changesets) (s.changeset_bytes ++ (s.user_bytes ++ rest)) ≡ Some (m.changeset, s.user_bytes ++ rest) = positive_sum_again C.changesets s.changeset_bytes m.changeset s.changesets (s.user_bytes ++ rest) s.changeset l.changeset in

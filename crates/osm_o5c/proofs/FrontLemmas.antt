@@ -31,7 +31,6 @@ pub record Walked (prefix : List ℕ) (rest : List ℕ) (p : Position) : Type 0 
   pub leads : walk count (behind ++ rest) ≡ Some p
 
 pub front_walks : (prefix : List ℕ) (C : Context) (xs : List ChangeValue) (rest : List ℕ) → Front prefix C xs → Walked prefix rest (position (reader_of C) xs rest)
-unfolding and_then
 front_walks _ _ _ rest begin = record { behind = []; begins = refl; count = 0; leads = ap (λ (r : Reader). Some (position r [] rest)) fresh_reader }
 front_walks _ _ _ rest (next prefix C xs d found after f s few) =
     let before : Walked prefix (d ++ rest) (position (reader_of C) xs (d ++ rest)) = front_walks prefix C xs (d ++ rest) f in
@@ -73,7 +72,6 @@ pub record Ends (bytes : List ℕ) (p : Position) : Type 0 where
   pub stuck : step p ≡ None
 
 pub none_later : (bytes : List ℕ) (k i : ℕ) (p : Position) → i < k → walk i bytes ≡ Some p → step p ≡ None → walk k bytes ≡ None
-unfolding and_then
 none_later bytes zero i p lt e s = absurd (omega arith)
 none_later bytes (suc k) i p lt e s =
     elim (cases_eq i k) [

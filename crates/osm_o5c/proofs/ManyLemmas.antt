@@ -24,7 +24,6 @@ module _ {S A : Type 0} where
   behind_none None = refl
 
   behind_one : (prefix : List A) (x : A) (reading : Option (List A × S)) → behind prefix (and_then reading (λ m. Some (x ∷ m.0, m.1))) ≡ behind (prefix ++ x ∷ []) reading
-  unfolding and_then
   behind_one prefix x (Some m) = rw (append_assoc prefix (x ∷ []) m.0) refl
   behind_one prefix x None = refl
 
@@ -44,13 +43,11 @@ module _ {S A : Type 0} where
   many_end one (suc k) s = refl
 
   many_bad : (one : S → List ℕ → Option (A × S × List ℕ)) (k : ℕ) (s : S) (bytes : List ℕ) → 0 < length bytes → one s bytes ≡ None → many_at one k s bytes ≡ None
-  unfolding and_then
   many_bad one zero s bytes h e = many_full one s bytes h
   many_bad one (suc k) s bytes h e = many_one one k s bytes h ∙ rw e refl
 
   -- one part more at the loop's step
   pub loop_more : (one : S → List ℕ → Option (A × S × List ℕ)) (k j : ℕ) (s : S) (bytes : List ℕ) (x : A) (t : S) (rest : List ℕ) (found : List A) (whole : Option (List A × S)) → 0 < length bytes → k ≡ suc j → one s bytes ≡ Some (x, t, rest) → whole ≡ behind found (many_at one k s bytes) → whole ≡ behind (found ++ x ∷ []) (many_at one j t rest)
-  unfolding and_then
   loop_more one k j s bytes x t rest found whole h is e w =
       let step : many_at one k s bytes ≡ and_then (many_at one j t rest) (λ m. Some (x ∷ m.0, m.1)) = rw (is, many_one one j s bytes h, e) refl in
       w ∙ ap (behind found) step ∙ behind_one found x (many_at one j t rest)
@@ -113,7 +110,6 @@ module _ {Ctx S A : Type 0} where
       (longer state_of spells limits k C (b ∷ bs) y.0.0 y.0.1 y.0.2 m.0.0 m.0.1 t tail)
 
   pub many_again : (state_of : Ctx → S) (one : S → List ℕ → Option (A × S × List ℕ)) (spells : Ctx → List ℕ → A → Ctx → Type 0) (limits : A → Type 0) → IsExact state_of one spells limits → (most : ℕ) (C : Ctx) (bytes : List ℕ) (xs : List A) (after : Ctx) → SpellsMany spells C bytes xs after → length xs ≤ most → AllByRecursion limits xs → many_at one most (state_of C) bytes ≡ Some (xs, state_of after)
-  unfolding and_then
   many_again state_of one spells limits law most _ _ _ _ (none C) few each = many_end one most (state_of C)
   many_again state_of one spells limits law zero _ _ _ _ (more C prefix x D rest xs after s m) few each = absurd (omega arith)
   many_again state_of one spells limits law (suc k) _ _ _ _ (more C prefix x D rest xs after s m) few each =

@@ -49,7 +49,7 @@ varint_take (suc k) (b ∷ bs) x e =
     (record { prefix = b ∷ t.prefix; parts = ap (λ (l : List ℕ). b ∷ l) t.parts; spelled = one_more k b (b % 128 + 128 * h.0.0) h.0.0 t.prefix big refl fits t.spelled }))
 
 varint_again : (most : ℕ) (prefix : List ℕ) (n : ℕ) (rest : List ℕ) → TakesVarint most n prefix → varint_at most (prefix ++ rest) ≡ Some (n, rest)
-unfolding varint_at and_then when
+unfolding varint_at
 varint_again most [] n rest g = absurd g.varint
 varint_again zero (b ∷ bs) n rest g = let s : length (b ∷ bs) ≤ 0 = g.short in absurd (omega arith)
 varint_again (suc k) (b ∷ []) n rest g =
@@ -107,7 +107,7 @@ signed_takes bytes x e =
     (record { prefix = t.prefix; parts = t.parts; spelled = record { unsigned = rw (zigzag-from_zigzag n.0.0) t.spelled } })
 
 pub signed_again : (prefix : List ℕ) (v : ℤ) (rest : List ℕ) → SpellsSigned prefix v → signed_at (prefix ++ rest) ≡ Some (v, rest)
-unfolding signed_at and_then
+unfolding signed_at
 signed_again prefix v rest s = rw (unsigned_again prefix (zigzag v) rest s.unsigned, from_zigzag-zigzag v) refl
 
 -- ---- numbers within the limits
@@ -142,7 +142,7 @@ positive_takes bytes x e =
     (record { prefix = t.prefix; parts = t.parts; spelled = record { spells = t.spelled; limits = is_positive_is n.0.0 g.0 } })
 
 pub positive_again : (prefix : List ℕ) (n : ℕ) (rest : List ℕ) → SpellsNumber prefix n → IsPositive n → positive_at (prefix ++ rest) ≡ Some (n, rest)
-unfolding positive_at and_then when
+unfolding positive_at
 positive_again prefix n rest s p = rw (unsigned_again prefix n rest s, is_positive_again n p) refl
 
 -- ---- a length and its bytes
@@ -168,7 +168,7 @@ part_takes bytes x e =
     })
 
 pub part_again : (length_bytes part rest : List ℕ) → SpellsNumber length_bytes (length part) → part_at (length_bytes ++ part ++ rest) ≡ Some (part, rest)
-unfolding part_at and_then when
+unfolding part_at
 part_again length_bytes part rest s =
     let number : unsigned_at (length_bytes ++ (part ++ rest)) ≡ Some (length part, part ++ rest) = unsigned_again length_bytes (length part) (part ++ rest) s in
     let fits : leb (length part) (length (part ++ rest)) ≡ true = let o : length part ≤ length (part ++ rest) = omega (arith, length-append part rest) in grind (arith, nat_tests) in

@@ -110,7 +110,7 @@ node_takes C bytes x e =
     })
 
 node_again : (C : Context) (bytes : List ℕ) (lon lat : ℤ) (tags : List Tag) (after : Context) → SpellsNode C bytes lon lat tags after → IsLocation lon lat → AreTags tags → node_at (reader_of C) bytes ≡ Some (Node lon lat tags, reader_of after)
-unfolding node_at and_then
+unfolding node_at
 node_again C bytes lon lat tags after s place l =
     let x : longitude_at (wrapped_total C.lons) (s.lon_bytes ++ (s.lat_bytes ++ s.tag_bytes)) ≡ Some (lon, s.lat_bytes ++ s.tag_bytes) = longitude_again C.lons s.lon_bytes lon s.lons (s.lat_bytes ++ s.tag_bytes) s.longitude place.longitude in
     let y : latitude_at (wrapped_total C.lats) (s.lat_bytes ++ s.tag_bytes) ≡ Some (lat, s.tag_bytes) = latitude_again C.lats s.lat_bytes lat s.lats s.tag_bytes s.latitude place.latitude in
@@ -156,7 +156,7 @@ way_takes C bytes x e =
     })
 
 way_again : (C : Context) (bytes : List ℕ) (refs : List ℤ) (tags : List Tag) (after : Context) → SpellsWay C bytes refs tags after → AreRefs refs → AreTags tags → way_at (reader_of C) bytes ≡ Some (Way refs tags, reader_of after)
-unfolding way_at and_then
+unfolding way_at
 way_again C bytes refs tags after s r l =
     let p : part_at (s.length_bytes ++ s.part ++ s.tag_bytes) ≡ Some (s.part, s.tag_bytes) = part_again s.length_bytes s.part s.tag_bytes s.part_length in
     let read : refs_at (total C.way_nodes) s.part ≡ Some (refs, total s.way_nodes) = refs_again C.way_nodes s.part refs s.way_nodes s.refs_are r in
@@ -201,7 +201,7 @@ relation_takes C bytes x e =
     })
 
 relation_again : (C : Context) (bytes : List ℕ) (members : List Member) (tags : List Tag) (after : Context) → SpellsRelation C bytes members tags after → AreMembers members → AreTags tags → relation_at (reader_of C) bytes ≡ Some (Relation members tags, reader_of after)
-unfolding relation_at and_then
+unfolding relation_at
 relation_again C bytes members tags after s r l =
     let p : part_at (s.length_bytes ++ s.part ++ s.tag_bytes) ≡ Some (s.part, s.tag_bytes) = part_again s.length_bytes s.part s.tag_bytes s.part_length in
     let read : members_at (reader_of C) s.part ≡ Some (members, reader_of s.then) = members_again C s.part members s.then s.members_are r in
@@ -296,7 +296,7 @@ object_takes kind C bytes x e =
     })
 
 pub object_again : (C : Context) (bytes : List ℕ) (c : ChangeValue) (after : Context) → SpellsObject C bytes c after → object_at c.key.kind (reader_of C) bytes ≡ Some (c, reader_of after)
-unfolding object_at and_then
+unfolding object_at
 object_again C bytes c after s =
     let id : id_at (total C.ids) (s.id_bytes ++ (s.meta_bytes ++ s.what_bytes)) ≡ Some (c.key.id, s.meta_bytes ++ s.what_bytes) = id_again C.ids s.id_bytes c.key.id s.ids (s.meta_bytes ++ s.what_bytes) s.id s.limits.id in
     let meta : meta_at (reader_of (record C { ids = s.ids })) (s.meta_bytes ++ s.what_bytes) ≡ Some (c.meta, reader_of s.then, s.what_bytes) = meta_again (record C { ids = s.ids }) s.meta_bytes c.meta s.then s.what_bytes s.meta s.limits.meta in

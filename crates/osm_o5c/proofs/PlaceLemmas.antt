@@ -120,11 +120,11 @@ nothing_left [] e = refl
 nothing_left (b ∷ r) e = absurd (omega arith)
 
 step_end : (p : Position) (more : List ℕ) → p.rest ≡ 254 ∷ more → step p ≡ None
-unfolding step dataset_at other_dataset_at and_then
+unfolding step dataset_at other_dataset_at
 step_end p more e = rw e refl
 
 step_empty : (p : Position) → p.rest ≡ [] → step p ≡ None
-unfolding step dataset_at and_then
+unfolding step dataset_at
 step_empty p e = rw e refl
 
 -- the bytes stop being datasets
@@ -281,7 +281,6 @@ stands_walked bytes p s =
     )
 
 walked_one : (bytes : List ℕ) (k : ℕ) (p q : Position) → walk k bytes ≡ Some p → step p ≡ Some q → walk (suc k) bytes ≡ Some q
-unfolding and_then
 walked_one bytes k p q here e = rw here e
 
 empty_later : (bytes : List ℕ) (k : ℕ) (p : Position) (q : Position) → walk k bytes ≡ Some p → BeginsObject p.rest → q.changes ≡ [] → Ends bytes q → (BeginsObject q.rest → ⊥) → ⊥

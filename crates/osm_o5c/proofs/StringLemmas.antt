@@ -46,7 +46,7 @@ until_takes (b ∷ bs) x e =
     (record { parts = ap (λ (l : List ℕ). b ∷ l) t.parts; no_nul = none_before b y.0.0 n t.no_nul }))
 
 pub until_again : (s rest : List ℕ) → ¬ Contains s 0 → until_nul_at (s ++ 0 ∷ rest) ≡ Some (s, rest)
-unfolding until_nul_at and_then
+unfolding until_nul_at
 until_again [] rest none = refl
 until_again (b ∷ bs) rest none =
     let n : b ≢ 0 = λ z. none (0, omega arith, z) in
@@ -56,7 +56,7 @@ until_again (b ∷ bs) rest none =
 
 -- where the code finds the first 00
 pub until_found : (bytes : List ℕ) (i : ℕ) → i < length bytes → get_or bytes i 0 ≡ 0 → ((k : ℕ) → k < i → get_or bytes k 0 ≢ 0) → until_nul_at bytes ≡ Some (take i bytes, drop (i + 1) bytes)
-unfolding until_nul_at and_then
+unfolding until_nul_at
 until_found [] i h e none = absurd (omega arith)
 until_found (b ∷ bs) zero h e none = rw e refl
 until_found (b ∷ bs) (suc i) h e none =
@@ -66,7 +66,7 @@ until_found (b ∷ bs) (suc i) h e none =
     rw (other, rest, next) refl
 
 pub until_none : (bytes : List ℕ) → ((k : ℕ) → k < length bytes → get_or bytes k 0 ≢ 0) → until_nul_at bytes ≡ None
-unfolding until_nul_at and_then
+unfolding until_nul_at
 until_none [] none = refl
 until_none (b ∷ bs) none =
     let other : eqb b 0 ≡ false = let n : b ≢ 0 = none 0 (omega arith) in grind (arith, nat_tests) in
@@ -139,7 +139,7 @@ pair_takes ss (b ∷ bs) x e =
     }))
 
 pub pair_again : (ss : List Entry) (prefix first second : List ℕ) (after : List Entry) (rest : List ℕ) → SpellsPair ss prefix first second after → pair_at (table_of ss) (prefix ++ rest) ≡ Some ((first, second), table_of after, rest)
-unfolding pair_at and_then
+unfolding pair_at
 pair_again _ _ _ _ _ rest (in_line ss first second no_first no_second) =
     let one : until_nul_at (first ++ 0 ∷ (second ++ 0 ∷ rest)) ≡ Some (first, second ++ 0 ∷ rest) = until_again first (second ++ 0 ∷ rest) no_first in
     let two : until_nul_at (second ++ 0 ∷ rest) ≡ Some (second, rest) = until_again second rest no_second in
@@ -191,7 +191,7 @@ single_takes ss (b ∷ bs) x e =
     }))
 
 pub single_again : (ss : List Entry) (prefix text : List ℕ) (after : List Entry) (rest : List ℕ) → SpellsSingle ss prefix text after → single_at (table_of ss) (prefix ++ rest) ≡ Some (text, table_of after, rest)
-unfolding single_at and_then
+unfolding single_at
 single_again _ _ _ _ rest (in_line_single ss text no_nul) =
     let one : until_nul_at (text ++ 0 ∷ rest) ≡ Some (text, rest) = until_again text rest no_nul in
     let whole : (text ++ 0 ∷ []) ++ rest ≡ text ++ 0 ∷ rest = simp append_assoc in
@@ -251,7 +251,7 @@ text_takes bs t e =
     (same, subst IsText same (is_text_is bs g.0))
 
 pub text_again : (bs : List ℕ) → IsText bs → text_of bs ≡ Some bs
-unfolding text_of when
+unfolding text_of
 text_again bs t = rw (is_text_again bs t) refl
 
 is_text_true : (b : Bool) → (b ≡ true → ⊥) → b ≡ false
@@ -260,7 +260,7 @@ is_text_true false h = refl
 
 -- what the code answers if it is no text
 pub text_none : (bs : List ℕ) → (IsText bs → ⊥) → text_of bs ≡ None
-unfolding text_of when
+unfolding text_of
 text_none bs h = rw (is_text_true (is_text bs) (λ e. h (is_text_is bs e))) refl
 
 pub text_found : (bs s t : List ℕ) → t ≡ s → s ≡ bs → IsText s → text_of bs ≡ Some t

@@ -68,7 +68,7 @@ impl Counters {
 }
 
 /// The id that a difference to the counter gives, and the bytes after the difference.
-#[tactic(auto, unfolding(crate::specs::Steps::NumberReading::id_at, osm_reading::specs::Steps::Answers::and_then, osm_reading::specs::Steps::Answers::when))]
+#[tactic(auto, unfolding(crate::specs::Steps::NumberReading::id_at))]
 pub fn id(counter: i64, bytes: &[u8]) -> Result<(i64, &[u8]), Why>
     ensures limits { IfOk result (λ r. IsId r.0) }
     ensures finds { Finds (λ r. (r.0, r.1.now)) result (id_at counter bytes.now) }
@@ -82,7 +82,7 @@ pub fn id(counter: i64, bytes: &[u8]) -> Result<(i64, &[u8]), Why>
 }
 
 /// The time or changeset that a difference to the counter gives.
-#[tactic(auto, unfolding(crate::specs::Steps::NumberReading::positive_sum_at, osm_reading::specs::Steps::Answers::and_then, osm_reading::specs::Steps::Answers::when))]
+#[tactic(auto, unfolding(crate::specs::Steps::NumberReading::positive_sum_at))]
 pub fn positive_sum(counter: i64, bytes: &[u8]) -> Result<(u32, &[u8]), Why>
     ensures finds { Finds (λ r. (r.0, r.1.now)) result (positive_sum_at counter bytes.now) }
     ensures limits { IfOk result (λ r. 1 ≤ r.0) }
@@ -96,7 +96,7 @@ pub fn positive_sum(counter: i64, bytes: &[u8]) -> Result<(u32, &[u8]), Why>
 }
 
 /// The longitude that a difference in 32 bits gives.
-#[tactic(auto, unfolding(crate::specs::Steps::NumberReading::longitude_at, osm_reading::specs::Steps::Answers::and_then, osm_reading::specs::Steps::Answers::when))]
+#[tactic(auto, unfolding(crate::specs::Steps::NumberReading::longitude_at))]
 pub fn longitude(counter: i32, bytes: &[u8]) -> Result<(i32, &[u8]), Why>
     ensures { Finds (λ r. (r.0, r.1.now)) result (longitude_at counter bytes.now) }
 {
@@ -110,7 +110,7 @@ pub fn longitude(counter: i32, bytes: &[u8]) -> Result<(i32, &[u8]), Why>
 }
 
 /// The latitude that a difference in 32 bits gives.
-#[tactic(auto, unfolding(crate::specs::Steps::NumberReading::latitude_at, osm_reading::specs::Steps::Answers::and_then, osm_reading::specs::Steps::Answers::when))]
+#[tactic(auto, unfolding(crate::specs::Steps::NumberReading::latitude_at))]
 pub fn latitude(counter: i32, bytes: &[u8]) -> Result<(i32, &[u8]), Why>
     ensures { Finds (λ r. (r.0, r.1.now)) result (latitude_at counter bytes.now) }
 {

@@ -40,7 +40,7 @@ fn kind_of(byte: u8) -> Option<Kind>
 }
 
 impl<'a> Reader<'a> {
-    #[tactic(auto, unfolding(crate::specs::Steps::FileReading::object_dataset_at, osm_reading::specs::Steps::Answers::and_then))]
+    #[tactic(auto, unfolding(crate::specs::Steps::FileReading::object_dataset_at))]
     fn object_dataset(
         &mut self,
         alloc: Global,
@@ -56,7 +56,7 @@ impl<'a> Reader<'a> {
     }
 
     // Passes over a dataset that is no object; a reset forgets counters and strings.
-    #[tactic(auto, unfolding(crate::specs::Steps::FileReading::other_dataset_at, osm_reading::specs::Steps::Answers::and_then))]
+    #[tactic(auto, unfolding(crate::specs::Steps::FileReading::other_dataset_at))]
     fn other_dataset(
         &mut self,
         first: u8,
@@ -102,7 +102,7 @@ impl<'a> Reader<'a> {
     }
 
     // Reads one more dataset, and gives the bytes after it.
-    #[tactic(auto, using(crate::proofs::PlaceLemmas::found_begins), unfolding(crate::specs::Steps::FileReading::step, osm_reading::specs::Steps::Answers::and_then, osm_reading::specs::Steps::Answers::when))]
+    #[tactic(auto, using(crate::proofs::PlaceLemmas::found_begins), unfolding(crate::specs::Steps::FileReading::step))]
     fn next(
         &mut self,
         alloc: Global,

@@ -19,7 +19,7 @@ use osm_reading::refusal::Refusal;
 use std::alloc::Global;
 
 // The user id that is all of those bytes.
-#[tactic(auto, using(crate::proofs::FieldLemmas::no_uid), unfolding(crate::specs::Steps::StringReading::uid_of, osm_reading::specs::Steps::Answers::and_then, osm_reading::specs::Steps::Answers::when))]
+#[tactic(auto, using(crate::proofs::FieldLemmas::no_uid), unfolding(crate::specs::Steps::StringReading::uid_of))]
 fn uid(bytes: &[u8]) -> Result<u32, Why>
     ensures finds { Finds (λ n. n) result (uid_of bytes.now) }
     ensures limits { IfOk result (λ n. 1 ≤ n) }
@@ -43,7 +43,7 @@ fn uid(bytes: &[u8]) -> Result<u32, Why>
 }
 
 // The user id and the user's name at the start, and the bytes after them.
-#[tactic(auto, unfolding(crate::specs::Steps::StringReading::user_at, osm_reading::specs::Steps::Answers::and_then))]
+#[tactic(auto, unfolding(crate::specs::Steps::StringReading::user_at))]
 fn user<'a>(
     strings: &mut StringTable<'a>,
     alloc: Global,
@@ -61,7 +61,7 @@ fn user<'a>(
 
 impl<'a> Reader<'a> {
     /// The metadata at the start, and the bytes after it.
-    #[tactic(auto, unfolding(crate::specs::Steps::ObjectReading::meta_at, osm_reading::specs::Steps::Answers::and_then))]
+    #[tactic(auto, unfolding(crate::specs::Steps::ObjectReading::meta_at))]
     pub fn meta(&mut self, alloc: Global, bytes: &'a [u8]) -> Result<(Meta, &'a [u8]), Refusal>
         ensures gives { Gives (λ r. (r.0, self.new, r.1.now)) result (meta_at self.old bytes.now) }
         ensures limits { IfOk result (λ r. IsMeta r.0) }

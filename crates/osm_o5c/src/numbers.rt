@@ -18,7 +18,7 @@ pub fn unsigned(bytes: &[u8]) -> Result<(u64, &[u8]), Why>
 }
 
 // The varint at the start, of at most so many bytes, and the bytes after it.
-#[tactic(auto, unfolding(crate::specs::Steps::NumberReading::varint_at, osm_reading::specs::Steps::Answers::and_then, osm_reading::specs::Steps::Answers::when))]
+#[tactic(auto, unfolding(crate::specs::Steps::NumberReading::varint_at))]
 fn varint(bytes: &[u8], most: usize) -> Result<(u64, &[u8]), Why>
     ensures { Finds (λ r. (r.0, r.1.now)) result (varint_at most bytes.now) }
 {
@@ -40,7 +40,7 @@ fn varint(bytes: &[u8], most: usize) -> Result<(u64, &[u8]), Why>
 }
 
 /// The signed number at the start, and the bytes after it.
-#[tactic(auto, unfolding(crate::specs::Steps::NumberReading::signed_at, osm_reading::specs::Steps::Answers::and_then))]
+#[tactic(auto, unfolding(crate::specs::Steps::NumberReading::signed_at))]
 pub fn signed(bytes: &[u8]) -> Result<(i64, &[u8]), Why>
     ensures { Finds (λ r. (r.0, r.1.now)) result (signed_at bytes.now) }
 {
@@ -55,7 +55,7 @@ pub fn signed(bytes: &[u8]) -> Result<(i64, &[u8]), Why>
 
 /// A length at the start, so many bytes, and the bytes after them; `past` is the cause if there are
 /// fewer.
-#[tactic(auto, unfolding(crate::specs::Steps::NumberReading::part_at, osm_reading::specs::Steps::Answers::and_then, osm_reading::specs::Steps::Answers::when))]
+#[tactic(auto, unfolding(crate::specs::Steps::NumberReading::part_at))]
 pub fn part(bytes: &[u8], past: Why) -> Result<(&[u8], &[u8]), Why>
     ensures { Finds (λ r. (r.0.now, r.1.now)) result (part_at bytes.now) }
 {
@@ -71,7 +71,7 @@ pub fn part(bytes: &[u8], past: Why) -> Result<(&[u8], &[u8]), Why>
 }
 
 /// A version, changeset or user id: an unsigned number from 1 to 4,294,967,295.
-#[tactic(auto, unfolding(crate::specs::Steps::NumberReading::positive_at, osm_reading::specs::Steps::Answers::and_then, osm_reading::specs::Steps::Answers::when))]
+#[tactic(auto, unfolding(crate::specs::Steps::NumberReading::positive_at))]
 pub fn positive(bytes: &[u8]) -> Result<(u32, &[u8]), Why>
     ensures finds { Finds (λ r. (r.0, r.1.now)) result (positive_at bytes.now) }
     ensures limits { IfOk result (λ r. 1 ≤ r.0) }

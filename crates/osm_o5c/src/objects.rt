@@ -24,7 +24,7 @@ use std::alloc::Global;
 
 impl<'a> Reader<'a> {
     // `longitude latitude tags`
-    #[tactic(auto, unfolding(crate::specs::Steps::ObjectReading::node_at, osm_reading::specs::Steps::Answers::and_then))]
+    #[tactic(auto, unfolding(crate::specs::Steps::ObjectReading::node_at))]
     fn node(&mut self, alloc: Global, bytes: &'a [u8]) -> Result<What, Refusal>
         ensures { Gives (λ w. (w, self.new)) result (node_at self.old bytes.now) }
     {
@@ -37,7 +37,7 @@ impl<'a> Reader<'a> {
     }
 
     // `length references tags`
-    #[tactic(auto, unfolding(crate::specs::Steps::ObjectReading::way_at, osm_reading::specs::Steps::Answers::and_then))]
+    #[tactic(auto, unfolding(crate::specs::Steps::ObjectReading::way_at))]
     fn way(&mut self, alloc: Global, bytes: &'a [u8]) -> Result<What, Refusal>
         ensures { Gives (λ w. (w, self.new)) result (way_at self.old bytes.now) }
     {
@@ -48,7 +48,7 @@ impl<'a> Reader<'a> {
     }
 
     // `length members tags`
-    #[tactic(auto, unfolding(crate::specs::Steps::ObjectReading::relation_at, osm_reading::specs::Steps::Answers::and_then))]
+    #[tactic(auto, unfolding(crate::specs::Steps::ObjectReading::relation_at))]
     fn relation(&mut self, alloc: Global, bytes: &'a [u8]) -> Result<What, Refusal>
         ensures { Gives (λ w. (w, self.new)) result (relation_at self.old bytes.now) }
     {
@@ -74,7 +74,7 @@ impl<'a> Reader<'a> {
     }
 
     /// The change that is all of those bytes.
-    #[tactic(auto, unfolding(crate::specs::Steps::ObjectReading::object_at, osm_reading::specs::Steps::Answers::and_then))]
+    #[tactic(auto, unfolding(crate::specs::Steps::ObjectReading::object_at))]
     pub fn object(&mut self, alloc: Global, kind: Kind, bytes: &'a [u8]) -> Result<Change, Refusal>
         ensures { Gives (λ c. (c, self.new)) result (object_at kind self.old bytes.now) }
     {

@@ -22,7 +22,7 @@ use osm_reading::refusal::Refusal;
 use std::alloc::Global;
 
 // The reference at the start, which becomes the counter of way nodes, and the bytes after it.
-#[tactic(auto, unfolding(crate::specs::Steps::ObjectReading::ref_at, osm_reading::specs::Steps::Answers::and_then))]
+#[tactic(auto, unfolding(crate::specs::Steps::ObjectReading::ref_at))]
 fn reference<'b>(counters: &mut Counters, bytes: &'b [u8]) -> Result<(i64, &'b [u8]), Why>
     ensures finds { Finds (λ r. (r.0, counters.new.way_node, r.1.now)) result
         (ref_at counters.old.way_node bytes.now) }
@@ -60,7 +60,7 @@ pub fn refs(counters: &mut Counters, alloc: Global, part: &[u8]) -> Result<Refs,
 }
 
 // The kind that the digit before a role names, and the role.
-#[tactic(auto, unfolding(crate::specs::Steps::ObjectReading::role_of, osm_reading::specs::Steps::Answers::and_then))]
+#[tactic(auto, unfolding(crate::specs::Steps::ObjectReading::role_of))]
 fn role(alloc: Global, bytes: &[u8]) -> Result<(Kind, Text), Refusal>
     ensures { Gives (λ r. (r.0, r.1)) result (role_of bytes.now) }
 {
@@ -79,7 +79,7 @@ fn role(alloc: Global, bytes: &[u8]) -> Result<(Kind, Text), Refusal>
 
 impl<'a> Reader<'a> {
     // The member at the start, and the bytes after it.
-    #[tactic(auto, unfolding(crate::specs::Steps::ObjectReading::member_at, osm_reading::specs::Steps::Answers::and_then, osm_reading::specs::Steps::Answers::when))]
+    #[tactic(auto, unfolding(crate::specs::Steps::ObjectReading::member_at))]
     fn member(&mut self, alloc: Global, bytes: &'a [u8]) -> Result<(Member, &'a [u8]), Refusal>
         ensures { Gives (λ r. (r.0, self.new, r.1.now)) result (member_at self.old bytes.now) }
     {

@@ -155,7 +155,7 @@ impl<'a> StringTable<'a> {
     }
 
     /// The pair of strings at the start, and the bytes after it.
-    #[tactic(auto, unfolding(crate::specs::Steps::StringReading::pair_at, osm_reading::specs::Steps::Answers::and_then))]
+    #[tactic(auto, unfolding(crate::specs::Steps::StringReading::pair_at))]
     pub fn pair(
         &mut self,
         alloc: Global,
@@ -183,7 +183,7 @@ impl<'a> StringTable<'a> {
     }
 
     /// The single string at the start, and the bytes after it.
-    #[tactic(auto, unfolding(crate::specs::Steps::StringReading::single_at, osm_reading::specs::Steps::Answers::and_then))]
+    #[tactic(auto, unfolding(crate::specs::Steps::StringReading::single_at))]
     pub fn single(
         &mut self,
         alloc: Global,

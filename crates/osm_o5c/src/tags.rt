@@ -15,7 +15,7 @@ use osm_reading::refusal::Refusal;
 use std::alloc::Global;
 
 // The tag at the start, and the bytes after it.
-#[tactic(auto, unfolding(crate::specs::Steps::StringReading::tag_at, osm_reading::specs::Steps::Answers::and_then))]
+#[tactic(auto, unfolding(crate::specs::Steps::StringReading::tag_at))]
 fn tag<'a>(
     strings: &mut StringTable<'a>,
     alloc: Global,
