@@ -41,26 +41,26 @@ def lines_of(text):
 
 BARE = r"[^\0\t\n\r %,=@]"
 PART = re.compile(BARE + r"|%([0-9a-fA-F]{1,8})%")
-TEXT = rf"((?:{BARE}|%[0-9a-fA-F]{{1,8}}%)*)"
+TEXT = re.compile(rf"(?:{BARE}|%[0-9a-fA-F]{{1,8}}%)*")
 ID, DIGITS, COORDINATE = r"(-?[0-9]{1,20})", r"([0-9]{1,20})", r"(-?[0-9]{1,3}(?:\.[0-9]{1,7})?)?"
 LISTS = {"n": f"x{COORDINATE} y{COORDINATE}", "w": "N([^ ]*)", "r": "M([^ ]*)"}
-LINE = {kind: re.compile(rf"{kind}{ID} v{DIGITS} d([VD]) c{DIGITS} t([^ ]{{20}}) i{DIGITS} u{TEXT} "
+LINE = {kind: re.compile(rf"{kind}{ID} v{DIGITS} d([VD]) c{DIGITS} t([^ ]{{20}}) i{DIGITS} u([^ ]*) "
                          rf"T([^ ]*) {fields}") for kind, fields in LISTS.items()}
-TAG, REFERENCE = re.compile(f"{TEXT}={TEXT}"), re.compile(f"n{ID}")
-MEMBER = re.compile(f"([nwr]){ID}@{TEXT}")
+TAG, REFERENCE = re.compile("([^=]*)=([^=]*)"), re.compile(f"n{ID}")
+MEMBER = re.compile(f"([nwr]){ID}@([^@]*)")
 
 
+@functools.cache
 def meant(text):
     """What a text says, each escape as its character."""
-    if "%" not in text:
-        return text
-
     def character(part):
         code = int(part[1], 16) if part[1] else ord(part[0])
         if code == 0 or 0xD800 <= code <= 0xDFFF:
             raise NoScript(text)
         return chr(code)
 
+    if not TEXT.fullmatch(text):
+        raise NoScript(text)
     return PART.sub(character, text)
 
 
