@@ -1,5 +1,5 @@
 -- A delivery of texts that are those of a sequence, read as the delivery of that sequence.
-use Rattle.std.proofs.Common.{◌≡◌, ℕ, ◌+◌, ◌<◌, ◌≤◌, List, [], ◌∷◌, length, refl, ap, sym, ◌∙◌, true, false, arith, Some, subst}
+use Rattle.std.proofs.Common.{◌≡◌, ℕ, ◌+◌, ◌<◌, ◌≤◌, List, [], ◌∷◌, length, refl, ap, sym, ◌∙◌, true, false, arith, subst}
 use Rattle.std.specs.Prelude.{Result, Ok, Err}
 use Rattle.osm_model.specs.Change.{ChangeValue}
 use Rattle.osm_state.proofs.StateLemmas.{one_state}

@@ -1,10 +1,10 @@
 -- A follower that follows what was published, after more was published and after a delivery.
-use Rattle.std.proofs.Common.{◌≡◌, ℕ, ◌+◌, ◌<◌, ◌≤◌, List, ◌∷◌, ◌++◌, length, refl, ap, sym, ◌∙◌, Bool, true, false, arith, Some, None, length-append, subst}
+use Rattle.std.proofs.Common.{◌≡◌, ℕ, ◌+◌, ◌<◌, ◌≤◌, List, ◌++◌, length, refl, ap, sym, ◌∙◌, Bool, true, false, arith, Some, None, length-append}
 use Rattle.std.specs.Prelude.{if◌then◌else◌, Result, Ok, Err}
 use Rattle.osm_state.specs.StateText.{StateOf}
 use Rattle.osm_follow.specs.Delivery as table
 use Rattle.osm_follow.specs.Follower.{FollowerValue, Follows, IsState}
-use Rattle.osm_follow.specs.Published.{PublishedValue, AreSequences, sequence_at, changes_at, time_at, changes_up_to}
+use Rattle.osm_follow.specs.Published.{PublishedValue, AreSequences, sequence_at, changes_at}
 use Rattle.osm_follow.specs.declared.delivery.Delivered.{Delivered}
 use Rattle.osm_follow.specs.declared.delivery.Delivered.TheVariants.{Old, Applied}
 use Rattle.osm_follow.specs.declared.delivery.DeliverError.{DeliverError}

@@ -15,9 +15,7 @@ use Rattle.osm_follow.specs.Reach.{Reaches}
 use Rattle.osm_follow.specs.Step as step
 use Rattle.osm_follow.specs.View.{ViewValue, IsView, view_of}
 use Rattle.osm_follow.specs.World.{WorldValue}
-use Rattle.osm_follow.specs.declared.delivery.Delivered.{Delivered}
 use Rattle.osm_follow.specs.declared.delivery.Delivered.TheVariants as answers
-use Rattle.osm_follow.specs.declared.delivery.DeliverError.{DeliverError}
 use Rattle.osm_follow.specs.declared.delivery.DeliverError.TheVariants as errors
 use Rattle.osm_follow.specs.declared.event.Event.{Event}
 use Rattle.osm_follow.specs.declared.event.Event.TheVariants.{Edit, Close, Deliver, Show}

@@ -62,12 +62,12 @@ room_left a b before after c room f =
 
 -- what needs a place after some changes needs one among them all
 pub needs_memory : (a b : MirrorValue) (before after : List ChangeValue) (c : ChangeValue) → Applies a before b → NeedsNewEntry b [] c → NeedsMemory a (before ++ c ∷ after)
-needs_memory a b before after c f place = record { before = before; change = c; after = after; is = refl; place = by_place place }
+needs_memory a b before after c f entry = record { before = before; change = c; after = after; is = refl; entry = by_entry entry }
   where
-    by_place : NeedsNewEntry b [] c → NeedsNewEntry a before c
-    by_place (inl user) = inl (let p = f.users c.meta.uid in omega arith)
-    by_place (inr (inl changeset)) = inr (inl (let p = f.changesets c.meta.changeset in omega arith))
-    by_place (inr (inr object)) = inr (inr (object.0, sym (f.objects c.key) ∙ object.1))
+    by_entry : NeedsNewEntry b [] c → NeedsNewEntry a before c
+    by_entry (inl user) = inl (let p = f.users c.meta.uid in omega arith)
+    by_entry (inr (inl changeset)) = inr (inl (let p = f.changesets c.meta.changeset in omega arith))
+    by_entry (inr (inr object)) = inr (inr (object.0, sym (f.objects c.key) ∙ object.1))
 
 -- a mirror of some changes with more applied is the mirror of them all
 pub mirror_grown : (a b : MirrorValue) (xs ys : List ChangeValue) → IsMirrorOf xs a → Applies a ys b → IsMirrorOf (xs ++ ys) b

@@ -1,11 +1,11 @@
 -- Published sequences with more after them, and one sequence after another.
 use Rattle.std.proofs.Common.{◌≡◌, ℕ, zero, suc, ◌+◌, ◌-◌, ◌<◌, ◌≤◌, List, [], ◌∷◌, ◌++◌, length, take, get_or, refl, ap, sym, ◌∙◌, Some, arith, append-nil, map, inl, inr, length-append}
-use Rattle.std.specs.List.{flat_map, slice_get}
+use Rattle.std.specs.List.{flat_map}
 use Rattle.std.proofs.lemmas.Grind.{flat_map-append}
 use Rattle.std.proofs.lemmas.List.{take_more, take-append-le, get_or_append_left, get_or-append-add, get_or-map}
 use Rattle.std.proofs.lemmas.Bool.{cases_lt}
 use Rattle.osm_model.specs.Change.{ChangeValue}
-use Rattle.osm_follow.specs.Published.{PublishedValue, PublishedTexts, unpublished, no_texts, texts_at, written_of, IsSequence, AreSequences, sequence_at, changes_at, time_at, changes_up_to, last_time}
+use Rattle.osm_follow.specs.Published.{PublishedValue, unpublished, no_texts, texts_at, written_of, IsSequence, AreSequences, sequence_at, changes_at, time_at, changes_up_to, last_time}
 
 pub last_time-snoc : (ps : List PublishedValue) (p : PublishedValue) → last_time (ps ++ p ∷ []) ≡ p.time
 last_time-snoc [] p = refl

@@ -1,11 +1,11 @@
 -- What a legal history has reported as applied.
-use Rattle.std.proofs.Common.{◌≡◌, ℕ, zero, suc, ◌+◌, ◌-◌, ◌<◌, ◌≤◌, List, [], ◌∷◌, ◌++◌, length, get_or, refl, ap, sym, ◌∙◌, Bool, true, false, arith, append-nil, append_assoc, length-append, inl, inr, subst}
+use Rattle.std.proofs.Common.{◌≡◌, ℕ, zero, suc, ◌+◌, ◌-◌, ◌<◌, [], ◌∷◌, ◌++◌, length, get_or, refl, ap, sym, ◌∙◌, Bool, true, false, arith, append-nil, append_assoc, length-append, inl, inr, subst}
 use Rattle.std.specs.Prelude.{◌==◌, ◌||◌}
 use Rattle.std.proofs.lemmas.Bool.{cases_eq, cases_lt, eq-eqb, ne_eqb, or_left, or_right, or_from}
 use Rattle.std.proofs.lemmas.List.{get_or_append_left, get_or-append-add}
 use Rattle.osm_follow.specs.Correct.{IsReported}
 use Rattle.osm_follow.specs.History as hist
-use Rattle.osm_follow.specs.Legal.{IsLegal, IsNext, IsNumber, Allowed}
+use Rattle.osm_follow.specs.Legal.{IsLegal, IsNumber, Allowed}
 use Rattle.osm_follow.specs.Reach.{Reaches, numbers}
 use Rattle.osm_follow.specs.declared.event.Event.{Event}
 use Rattle.osm_follow.specs.declared.event.Event.TheVariants.{Edit, Close, Deliver, Show}

@@ -1,5 +1,5 @@
 -- A step keeps a world in step with its history.
-use Rattle.std.proofs.Common.{◌≡◌, ℕ, suc, ◌+◌, ◌-◌, ◌<◌, ◌≤◌, List, [], ◌∷◌, ◌++◌, length, map, refl, ap, sym, ◌∙◌, Bool, true, false, arith, Some, None, Option, append-nil, length-append, inl, inr, subst}
+use Rattle.std.proofs.Common.{◌≡◌, ℕ, suc, ◌+◌, ◌-◌, ◌<◌, ◌≤◌, List, [], ◌∷◌, ◌++◌, length, refl, ap, sym, ◌∙◌, Bool, true, false, arith, Some, None, Option, append-nil, length-append, inl, inr, subst}
 use Rattle.std.specs.Prelude.{◌==◌, if◌then◌else◌, ◌||◌, Result, Ok, Err}
 use Rattle.std.specs.List.{zip}
 use Rattle.std.proofs.lemmas.List.{reverse-append, map-append}
@@ -11,9 +11,9 @@ use Rattle.osm_state.proofs.WrittenLemmas.{written_is_read}
 use Rattle.osm_state.specs.StateText.{StateOf}
 use Rattle.osm_follow.specs.Correct.{IsInStep, IsReported}
 use Rattle.osm_follow.specs.Delivery as table
-use Rattle.osm_follow.specs.Follower.{FollowerValue, Follows, IsState}
+use Rattle.osm_follow.specs.Follower.{FollowerValue, IsState}
 use Rattle.osm_follow.specs.History as hist
-use Rattle.osm_follow.specs.Published.{PublishedValue, PublishedTexts, AreSequences, IsSequence, sequence_at, changes_at, texts_at, last_time, written_of}
+use Rattle.osm_follow.specs.Published.{PublishedValue, PublishedTexts, IsSequence, sequence_at, texts_at, last_time, written_of}
 use Rattle.osm_follow.specs.Publisher.{PublisherValue, CanClose, closed, closing}
 use Rattle.osm_follow.specs.Reach.{numbers}
 use Rattle.osm_follow.specs.Step.{Step, DeliversTo, bytes_in, fault_in, spells_in}

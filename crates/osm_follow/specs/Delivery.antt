@@ -1,6 +1,21 @@
 -- What a delivery answers, and the follower after it, by the state text and the bytes that are
 -- delivered: in what form the bytes are is a parameter.
-use Rattle.std.specs.Prelude.{◌≡◌, ℕ, ◌+◌, ◌<◌, ◌≤◌, List, [], length, Some, true, false, Result, Ok, Err}
+use Rattle.std.specs.Prelude.{
+  ◌≡◌,
+  ℕ,
+  ◌+◌,
+  ◌<◌,
+  ◌≤◌,
+  List,
+  [],
+  length,
+  Some,
+  true,
+  false,
+  Result,
+  Ok,
+  Err,
+}
 use Rattle.osm_model.specs.Change.{ChangeValue}
 use Rattle.osm_model.specs.ChangeForm.{SpellsNothing}
 use Rattle.osm_model.specs.Limits.{max_file}
@@ -15,7 +30,11 @@ use Rattle.osm_follow.specs.Published.{PublishedValue}
 use Rattle.osm_follow.specs.declared.delivery.Delivered.{Delivered}
 use Rattle.osm_follow.specs.declared.delivery.Delivered.TheVariants.{Old, Applied}
 use Rattle.osm_follow.specs.declared.delivery.DeliverError.{DeliverError}
-use Rattle.osm_follow.specs.declared.delivery.DeliverError.TheVariants.{Broken, BadState, BadSequence}
+use Rattle.osm_follow.specs.declared.delivery.DeliverError.TheVariants.{
+  Broken,
+  BadState,
+  BadSequence,
+}
 use Rattle.osm_follow.specs.declared.delivery.DeliverError.TheVariants.{TooEarly, BadChange}
 use Rattle.osm_follow.specs.declared.delivery.DeliverError.TheVariants.{WantOfMemory, Broke}
 
@@ -23,7 +42,7 @@ use Rattle.osm_follow.specs.declared.delivery.DeliverError.TheVariants.{WantOfMe
 abbrev pub Spelling : Type 1
 Spelling = List ℕ → List ChangeValue → Type 0
 
--- at which place bytes that spell no batch have their fault
+-- the place of the fault of bytes that spell no batch
 abbrev pub FaultPlaces : Type 1
 FaultPlaces = List ℕ → ℕ → Type 0
 
@@ -33,7 +52,8 @@ pub record Takes (f : FollowerValue) (p : PublishedValue) (g : FollowerValue) : 
   pub rest : g ≡ record f { number = p.number; time = Some p.time; mirror = g.mirror }
 
 -- the application was stopped part of the way, at a change that needs a new entry
-pub record Breaks (f : FollowerValue) (changes : List ChangeValue) (g : FollowerValue) : Type 0 where
+pub record Breaks (f : FollowerValue) (changes : List ChangeValue) (g : FollowerValue)
+    : Type 0 where
   pub needs : NeedsMemory f.mirror changes
   pub rest : g ≡ record f { mirror = g.mirror; is_broken = true }
 

@@ -1,5 +1,5 @@
 -- A follower: its number, the time of that sequence, and its mirror.
-use Rattle.std.specs.Prelude.{◌≡◌, ℕ, ◌+◌, ◌*◌, ◌<◌, ◌≤◌, List, length, Bool, true, false, Option, None}
+use Rattle.std.specs.Prelude.{◌≡◌, ℕ, ◌+◌, ◌*◌, ◌<◌, ◌≤◌, List, length, Bool, false, Option, None}
 use Rattle.std.specs.Prelude.{Some, if◌then◌else◌, IsTrue}
 use Rattle.osm_model.specs.Limits.{max_sequence, max_changes}
 use Rattle.osm_follow.specs.Mirror.{MirrorValue, IsMirrorOf, IsWithin, no_mirror}

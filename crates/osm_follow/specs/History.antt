@@ -1,5 +1,5 @@
--- What a history of events and replies says. The model reads only these, and no state. A history has
--- its newest pair first.
+-- What a history of events and replies says. The model reads only these, and no state. A history
+-- has its newest pair first.
 use Rattle.std.specs.Prelude.{ℕ, ◌+◌, ◌-◌, length, List, [], ◌∷◌, ◌++◌, Bool, true, false, ◌||◌}
 use Rattle.std.specs.Prelude.{◌==◌, if◌then◌else◌, reverse}
 use Rattle.std.specs.List.{zip}
@@ -58,7 +58,8 @@ abbrev pub pending_of : History → List ChangeValue
 pending_of [] = []
 pending_of (p ∷ h) = if closes p.0 p.1 then [] else (pending_of h ++ edit_of p.0 p.1)
 
--- the sequences that were published: each the edits taken since the one before, and its close's time
+-- the sequences that were published: each the edits taken since the one before, and the time of its
+-- close
 abbrev pub published_of : History → List PublishedValue
 published_of [] = []
 published_of (p ∷ h) =

@@ -1,5 +1,5 @@
--- Which reply may follow a history. The rows of an event exclude one another, so each reply is given
--- exactly where its conditions hold; only a refusal of memory may stand in place of another.
+-- Which reply may follow a history. The rows of an event exclude one another, so each reply is
+-- given exactly if its conditions hold, except that memory may be refused in place of another reply.
 use Rattle.std.specs.Prelude.{◌≡◌, ℕ, ◌+◌, ◌<◌, ◌≤◌, ◌∷◌, ◌++◌, length, true, false, ◌⊎◌}
 use Rattle.osm_model.specs.Limits.{max_changes, max_sequence}
 use Rattle.osm_follow.specs.History.{History, published_of, pending_of, publisher_of, start_of}
@@ -11,12 +11,18 @@ use Rattle.osm_follow.specs.View.{IsView}
 use Rattle.osm_follow.specs.declared.event.Event.{Event}
 use Rattle.osm_follow.specs.declared.event.Event.TheVariants.{Edit, Close, Deliver, Show}
 use Rattle.osm_follow.specs.declared.event.Reply.{Reply}
-use Rattle.osm_follow.specs.declared.event.Reply.TheVariants.{Edited, BatchFull, WantOfMemory, Closed}
+use Rattle.osm_follow.specs.declared.event.Reply.TheVariants.{
+  Edited,
+  BatchFull,
+  WantOfMemory,
+  Closed,
+}
 use Rattle.osm_follow.specs.declared.event.Reply.TheVariants.{SequenceFull, TimeBack, TooLarge}
 use Rattle.osm_follow.specs.declared.event.Reply.TheVariants.{NotPublished, Broken, Old, TooEarly}
 use Rattle.osm_follow.specs.declared.event.Reply.TheVariants.{Applied, Broke, Shown}
 
--- the number of a history: the greatest such that it and all below it, above the start, were accepted
+-- the number of a history: the greatest such that it and all below it, above the start, were
+-- accepted
 abbrev pub IsNumber : History → ℕ → Type 0
 IsNumber h n = Reaches (accepted_of h) (start_of h) n
 
@@ -27,7 +33,7 @@ pub record IsOpen (h : History) (k n : ℕ) : Type 0 where
   pub whole : is_broken h ≡ false
   pub number : IsNumber h n
 
--- besides, k is the next
+-- and k is the next number
 pub record IsNext (h : History) (k n : ℕ) : Type 0 where
   pub is_open : IsOpen h k n
   pub next : k ≡ n + 1
@@ -36,7 +42,8 @@ pub record IsNext (h : History) (k n : ℕ) : Type 0 where
 pub record IsWork (h : History) (k : ℕ) : Type 0 where
   pub count : ℕ
   pub reach : Reaches (accepted_of h) k (k + count)
-  pub some : 0 < length (changes_at (published_of h) k ++ between (changes_at (published_of h)) k count)
+  pub some :
+      0 < length (changes_at (published_of h) k ++ between (changes_at (published_of h)) k count)
 
 abbrev pub AllowedEdit : History → Reply → Type 0
 AllowedEdit h Edited = length (pending_of h) < max_changes
@@ -59,7 +66,8 @@ AllowedDeliver h k NotPublished = (k ≡ 0) ⊎ (length (published_of h) < k)
 AllowedDeliver h k Broken = (0 < k) × (k ≤ length (published_of h)) × (is_broken h ≡ true)
 AllowedDeliver h k Old = (n : ℕ) × IsOpen h k n × (k ≤ n)
 AllowedDeliver h k TooEarly = (n : ℕ) × IsOpen h k n × (n + 1 < k) × (accepted_of h k ≡ false)
-AllowedDeliver h k WantOfMemory = (n : ℕ) × IsNext h k n × (0 < length (changes_at (published_of h) k))
+AllowedDeliver h k WantOfMemory =
+    (n : ℕ) × IsNext h k n × (0 < length (changes_at (published_of h) k))
 AllowedDeliver h k (Applied low high) =
     (n : ℕ) × IsNext h k n × (low ≡ k) × Reaches (accepted_of h) k high
 AllowedDeliver h k Broke = (n : ℕ) × IsNext h k n × IsWork h k

@@ -1,14 +1,39 @@
--- A mirror: the objects that stand, and the edits by user and by changeset, as lists that rise.
-use Rattle.std.specs.Prelude.{◌≡◌, ℕ, ◌+◌, ◌<◌, ◌≤◌, List, [], ◌∷◌, ◌++◌, length, map, Option, Some, None, if◌then◌else◌, unwrap_or, ◌⊎◌}
+-- A mirror: the objects that aren't deleted, and the edits by user and by changeset, as lists that
+-- rise.
+use Rattle.std.specs.Prelude.{
+  ◌≡◌,
+  ℕ,
+  ◌+◌,
+  ◌<◌,
+  ◌≤◌,
+  List,
+  [],
+  ◌∷◌,
+  ◌++◌,
+  length,
+  map,
+  Option,
+  Some,
+  None,
+  if◌then◌else◌,
+  unwrap_or,
+  IsSome,
+  ◌⊎◌,
+}
 use Rattle.std.specs.BTreeMap.{is_at}
 use Rattle.std.specs.List.{AllByRecursion}
 use Rattle.std.specs.List.Sorted.{IsStrictlySortedBy}
 use Rattle.std.specs.Map.{lookup}
 use Rattle.std.specs.Ordering.{nat_cmp}
 use Rattle.osm_model.specs.Change.{ChangeValue}
-use Rattle.osm_model.specs.Content.{content_of, over, standing_of, edits_by_user, edits_by_changeset}
+use Rattle.osm_model.specs.Content.{
+  content_of,
+  over,
+  standing_of,
+  edits_by_user,
+  edits_by_changeset,
+}
 use Rattle.osm_model.specs.KeyOrder.{key_cmp, same_key}
-use Rattle.osm_model.specs.declared.change.What.{What}
 use Rattle.osm_model.specs.declared.change.What.TheVariants.{Deleted}
 use Rattle.osm_model.specs.declared.kind.Key.{Key}
 
@@ -26,7 +51,7 @@ abbrev pub object_at : List ChangeValue → Key → Option ChangeValue
 object_at [] k = None
 object_at (c ∷ cs) k = if same_key k c.key then Some c else object_at cs k
 
--- the count of a list at that number: 0 where it has none
+-- the count of a list at that number: 0 if it has none
 abbrev pub count_at : List Counted → ℕ → ℕ
 count_at counts n = unwrap_or (lookup (is_at (nat_cmp n)) counts) 0
 
@@ -57,10 +82,12 @@ pub record IsMirrorOf (changes : List ChangeValue) (m : MirrorValue) : Type 0 wh
   pub changesets : (id : ℕ) → count_at m.changesets id ≡ edits_by_changeset changes id
 
 -- the mirror with the changes applied in their order, each counted once
-pub record Applies (old : MirrorValue) (changes : List ChangeValue) (new : MirrorValue) : Type 0 where
+pub record Applies (old : MirrorValue) (changes : List ChangeValue) (new : MirrorValue)
+    : Type 0 where
   pub orderly : IsOrderly new
   pub objects : (k : Key) → object_at new.objects k ≡ over (object_at old.objects) changes k
-  pub users : (uid : ℕ) → count_at new.users uid ≡ count_at old.users uid + edits_by_user changes uid
+  pub users : (uid : ℕ) →
+      count_at new.users uid ≡ count_at old.users uid + edits_by_user changes uid
   pub changesets : (id : ℕ) →
       count_at new.changesets id ≡ count_at old.changesets id + edits_by_changeset changes id
 
@@ -77,14 +104,23 @@ pub record NeedsMemory (m : MirrorValue) (changes : List ChangeValue) : Type 0 w
   pub change : ChangeValue
   pub after : List ChangeValue
   pub is : changes ≡ before ++ change ∷ after
-  pub place : NeedsNewEntry m before change
+  pub entry : NeedsNewEntry m before change
 
--- the change deletes, and its user and its changeset have edits already: such a change needs no new
--- entry, and so no memory
-pub record IsKnownDeletion (m : MirrorValue) (c : ChangeValue) : Type 0 where
+-- the user and the changeset of the change have edits already
+pub record IsByKnown (m : MirrorValue) (c : ChangeValue) : Type 0 where
   pub user : 0 < count_at m.users c.meta.uid
   pub changeset : 0 < count_at m.changesets c.meta.changeset
+
+-- such a change that deletes needs no new entry
+pub record IsKnownDeletion (m : MirrorValue) (c : ChangeValue) : Type 0 where
+  pub known : IsByKnown m c
   pub deletes : c.what ≡ Deleted
+
+-- nor does one that changes an object of the mirror and doesn't delete it
+pub record IsKnownEdit (m : MirrorValue) (c : ChangeValue) : Type 0 where
+  pub known : IsByKnown m c
+  pub edits : standing_of c ≡ Some c
+  pub there : IsSome (object_at m.objects c.key)
 
 -- the empty mirror
 abbrev pub no_mirror : MirrorValue

@@ -33,7 +33,7 @@ written_of p = record {
   opl = opl_text p.changes;
 }
 
--- stands for a sequence that wasn't published
+-- in place of a sequence that wasn't published
 abbrev pub unpublished : PublishedValue
 unpublished = record { number = 0; changes = []; time = 0 }
 
@@ -41,7 +41,7 @@ unpublished = record { number = 0; changes = []; time = 0 }
 abbrev pub sequence_at : List PublishedValue → ℕ → PublishedValue
 sequence_at published number = get_or published (number - 1) unpublished
 
--- stands for the texts of a sequence that wasn't published
+-- in place of the texts of a sequence that wasn't published
 abbrev pub no_texts : PublishedTexts
 no_texts = record { number = 0; state = []; o5c = []; opl = [] }
 

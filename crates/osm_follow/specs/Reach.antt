@@ -1,5 +1,20 @@
 -- Numbers without a gap.
-use Rattle.std.specs.Prelude.{◌≡◌, ℕ, zero, suc, ◌+◌, ◌<◌, ◌≤◌, List, [], ◌∷◌, ◌++◌, Bool, true, false}
+use Rattle.std.specs.Prelude.{
+  ◌≡◌,
+  ℕ,
+  zero,
+  suc,
+  ◌+◌,
+  ◌<◌,
+  ◌≤◌,
+  List,
+  [],
+  ◌∷◌,
+  ◌++◌,
+  Bool,
+  true,
+  false,
+}
 
 -- after n all up to m are in, and m + 1 isn't: m is the greatest number reached without a gap
 pub record Reaches (is_in : ℕ → Bool) (n m : ℕ) : Type 0 where

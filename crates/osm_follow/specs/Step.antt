@@ -1,5 +1,5 @@
--- What an event may do to a world, with its reply: each reply's conditions are complete, so that two
--- replies are never both right, except that memory may be refused.
+-- What an event may do to a world, with its reply: each reply's conditions are complete, so that
+-- two replies are never both right, except that memory may be refused.
 use Rattle.std.specs.Prelude.{◌≡◌, ℕ, ◌+◌, ◌<◌, ◌≤◌, List, [], ◌∷◌, ◌++◌, length, true, false, ◌⊎◌}
 use Rattle.std.specs.Prelude.{Ok, Err}
 use Rattle.osm_model.specs.Batch.{IsBatch}
@@ -20,7 +20,12 @@ use Rattle.osm_follow.specs.declared.event.Event.TheVariants.{Edit, Close, Deliv
 use Rattle.osm_follow.specs.declared.event.Form.{Form}
 use Rattle.osm_follow.specs.declared.event.Form.TheVariants.{Opl, O5c}
 use Rattle.osm_follow.specs.declared.event.Reply.{Reply}
-use Rattle.osm_follow.specs.declared.event.Reply.TheVariants.{Edited, BatchFull, WantOfMemory, Closed}
+use Rattle.osm_follow.specs.declared.event.Reply.TheVariants.{
+  Edited,
+  BatchFull,
+  WantOfMemory,
+  Closed,
+}
 use Rattle.osm_follow.specs.declared.event.Reply.TheVariants.{SequenceFull, TimeBack, TooLarge}
 use Rattle.osm_follow.specs.declared.event.Reply.TheVariants.{NotPublished, Broken, Old, TooEarly}
 use Rattle.osm_follow.specs.declared.event.Reply.TheVariants.{Applied, Broke, Shown}
@@ -30,7 +35,7 @@ abbrev pub spells_in : Form → Spelling
 spells_in Opl = SpellsOpl
 spells_in O5c = SpellsO5c
 
--- where bytes have their fault in a form
+-- the place of the fault of bytes in a form
 abbrev pub fault_in : Form → FaultPlaces
 fault_in Opl = FaultLine
 fault_in O5c = FaultPlace
@@ -86,7 +91,8 @@ Replies spells fault_place f state bytes Broke g =
 Replies spells fault_place f state bytes r g = ⊥
 
 -- a delivery of the archived texts of a number, in the form that was named, to the follower
-pub record DeliversTo (a : WorldValue) (k : ℕ) (form : Form) (r : Reply) (b : WorldValue) : Type 0 where
+pub record DeliversTo (a : WorldValue) (k : ℕ) (form : Form) (r : Reply) (b : WorldValue)
+    : Type 0 where
   pub above : 0 < k
   pub there : k ≤ a.publisher.number
   pub replies : Replies (spells_in form) (fault_in form) a.follower

@@ -1,4 +1,5 @@
--- Steps of proofs that clauses of private functions cite: no clause of a public function cites them.
+-- Steps of proofs that clauses of private functions cite.
+-- No clause of a public function cites them.
 pub mod Entries
 pub mod Room
 pub mod Taking

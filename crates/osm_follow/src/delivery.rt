@@ -34,7 +34,8 @@ pub enum DeliverError {
     /// Memory was refused while the bytes were read.
     #[error("WantOfMemory")]
     WantOfMemory,
-    /// Memory was refused part of the way through the application: the follower is broken from now on.
+    /// Memory was refused part of the way through the application: the follower is broken from now
+    /// on.
     #[error("Broke")]
     Broke,
 }

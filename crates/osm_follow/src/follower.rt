@@ -78,7 +78,8 @@ impl Follower {
         state: &[u8],
         bytes: &[u8],
     ) -> Result<Delivered, DeliverError>
-        ensures answer { Delivers F.spells F.fault_place self.old state.now bytes.now result self.new }
+        ensures answer { Delivers F.spells F.fault_place self.old
+            state.now bytes.now result self.new }
 
         // If an answer is due before the bytes are read, it is given, whatever the bytes.
         ensures unread { (answer : Result Delivered DeliverError) →

@@ -1,6 +1,18 @@
 //! What holds of runs, histories, deliveries and mirrors, whatever the code does.
 
-ghost use Rattle.std.specs.Prelude.{◌≡◌, ℕ, ◌+◌, ◌<◌, ◌≤◌, List, [], ◌∷◌, ◌++◌, length, slice_index};
+ghost use Rattle.std.specs.Prelude.{
+  ◌≡◌,
+  ℕ,
+  ◌+◌,
+  ◌<◌,
+  ◌≤◌,
+  List,
+  [],
+  ◌∷◌,
+  ◌++◌,
+  length,
+  slice_index,
+};
 ghost use Rattle.std.specs.Prelude.{Contains, Result, Err, false};
 ghost use Rattle.osm_model.specs.Change.{ChangeValue};
 ghost use Rattle.osm_state.specs.StateText.{StateOf};
@@ -9,7 +21,7 @@ ghost use Rattle.osm_follow.specs.Delivery.{Delivers};
 ghost use Rattle.osm_follow.specs.Follower.{FollowerValue, Follows};
 ghost use Rattle.osm_follow.specs.History.{History, is_broken, reported_of, start_of};
 ghost use Rattle.osm_follow.specs.Legal.{IsLegal, IsNumber};
-ghost use Rattle.osm_follow.specs.Mirror.{IsKnownDeletion, MirrorValue, NeedsMemory};
+ghost use Rattle.osm_follow.specs.Mirror.{IsKnownDeletion, IsKnownEdit, MirrorValue, NeedsMemory};
 ghost use Rattle.osm_follow.specs.Published.{AreSequences, PublishedValue, changes_at, sequence_at};
 ghost use Rattle.osm_follow.specs.Step.{Step};
 ghost use Rattle.osm_follow.specs.World.{WorldValue, new_world};
@@ -61,10 +73,13 @@ pub fn laws_of_histories()
         → i < length (reported_of h) → slice_index (reported_of h) i ≡ start_of h + i + 1 }
 {}
 
-/// Deletions by users and in changesets that have edits already need no memory. Does nothing at run
-/// time.
+/// Changes by users and in changesets that have edits already need no memory if all of them are
+/// deletions, or if none is and the mirror has all their objects. Does nothing at run time.
 pub fn laws_of_mirrors()
     ensures deletions { (m : MirrorValue) (changes : List ChangeValue)
         → ((c : ChangeValue) → Contains changes c → IsKnownDeletion m c)
+        → NeedsMemory m changes → ⊥ }
+    ensures edits { (m : MirrorValue) (changes : List ChangeValue)
+        → ((c : ChangeValue) → Contains changes c → IsKnownEdit m c)
         → NeedsMemory m changes → ⊥ }
 {}

@@ -26,7 +26,11 @@ impl Model for Mirror {
 
     ghost Value = { MirrorValue };
 
-    ghost view = { λ a. record { objects = a.objects; users = a.users; changesets = a.changesets } };
+    ghost view = { λ a. record {
+      objects = a.objects;
+      users = a.users;
+      changesets = a.changesets;
+    } };
 }
 
 impl Mirror {

@@ -1,4 +1,4 @@
-//! The objects that stand, each under its key.
+//! The objects of a mirror, each under its key.
 
 ghost use Rattle.std.specs.Prelude.{◌≡◌, ℕ, ◌+◌, ◌<◌, ◌≤◌, [], length, Some, None, IfOk, OnOk};
 ghost use Rattle.std.specs.Prelude.{OnErr, MatchOption, if◌then◌else◌};
@@ -15,7 +15,7 @@ use std::alloc::Global;
 use std::collections::BTreeMap;
 use std::marker::Model;
 
-/// The last change of each object that stands, by its key.
+/// The last change of each object that isn't deleted, by its key.
 #[derive(Debug, Drop)]
 pub struct Objects {
     objects: BTreeMap<Key, Change>,
@@ -53,8 +53,8 @@ impl Objects {
         self.objects.get(&key)
     }
 
-    /// Makes one change: a deletion takes its object out, any other becomes its key's object. After a
-    /// refusal nothing has changed.
+    /// Makes one change: a deletion takes its object out, any other becomes its key's object. After
+    /// a refusal nothing has changed.
     pub fn put(&mut self, change: Change) -> Result<(), WantOfMemory>
         ensures put { OnOk result ((k : Key) → object_at self.new k
             ≡ (if same_key change.key k then standing_of change else object_at self.old k)) }
@@ -105,7 +105,8 @@ fn enter(objects: &mut BTreeMap<Key, Change>, change: Change) -> Result<(), Want
     requires { HaveOwnKeys objects.old.entries }
     ensures own_keys { HaveOwnKeys objects.new.entries }
     ensures entered { OnOk result ((k : Key) → object_at (objects_of objects.new.entries) k
-        ≡ (if same_key change.key k then Some change else object_at (objects_of objects.old.entries) k)) }
+        ≡ (if same_key change.key k then Some change
+        else object_at (objects_of objects.old.entries) k)) }
     ensures grown { length objects.new.entries ≤ length objects.old.entries + 1 }
     ensures refused { OnErr result (object_at (objects_of objects.old.entries) change.key ≡ None) }
     ensures unchanged { OnErr result (objects.new.entries ≡ objects.old.entries) }

@@ -77,7 +77,11 @@ impl Publisher {
 
     /// After the sequence of that state, with nothing pending.
     pub fn resume(alloc: Global, state: &State) -> Publisher
-        ensures { result ≡ record { number = state.now.sequence; time = state.now.time; pending = [] } }
+        ensures { result ≡ record {
+          number = state.now.sequence;
+          time = state.now.time;
+          pending = [];
+        } }
     {
         Publisher {
             number: state.sequence(),

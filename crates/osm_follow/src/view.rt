@@ -115,7 +115,7 @@ impl View {
         self.time
     }
 
-    /// The objects that stand, in the order of their keys.
+    /// The objects, in the order of their keys.
     pub fn objects(&self) -> &[Change]
         ensures { result.now ≡ self.now.mirror.objects }
     {

@@ -1,6 +1,19 @@
 //! A publisher, its archive and a follower, which take events one by one.
 
-ghost use Rattle.std.specs.Prelude.{◌≡◌, ℕ, ◌<◌, ◌≤◌, ◌⊎◌, ◌↔◌, ◌+◌, length, IsOk, IsNone, IfOk, IfSome};
+ghost use Rattle.std.specs.Prelude.{
+  ◌≡◌,
+  ℕ,
+  ◌<◌,
+  ◌≤◌,
+  ◌⊎◌,
+  ◌↔◌,
+  ◌+◌,
+  length,
+  IsOk,
+  IsNone,
+  IfOk,
+  IfSome,
+};
 ghost use Rattle.std.specs.Prelude.{OnErr};
 ghost use Rattle.osm_model.specs.Batch.{IsBatch};
 ghost use Rattle.osm_follow.specs.Correct.{IsRun};
@@ -172,7 +185,8 @@ fn close_into(
     time: u32,
 ) -> Result<u32, CloseError>
     requires { IsArchive publisher.old.number archive.old.items }
-    ensures closes { ClosesInto publisher.old archive.old.items time result publisher.new archive.new.items }
+    ensures closes { ClosesInto publisher.old archive.old.items time result
+        publisher.new archive.new.items }
     ensures archive { IsArchive publisher.new.number archive.new.items }
 {
     publisher.check_close(time)?;

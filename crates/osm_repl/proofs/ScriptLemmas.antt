@@ -1,5 +1,5 @@
 -- Prefixes and suffixes of lines, which event a line can be, and how far a script was read.
-use Rattle.std.proofs.Common.{◌≡◌, ℕ, ◌+◌, ◌-◌, ◌<◌, ◌≤◌, ◌^◌, List, [], ◌∷◌, ◌++◌, length, take, drop, get_or, refl, append_assoc, ap, sym, ◌∙◌, true, false, arith, Some, None, length-append, append-nil, subst, Option}
+use Rattle.std.proofs.Common.{◌≡◌, ℕ, ◌+◌, ◌-◌, ◌<◌, ◌≤◌, List, [], ◌∷◌, ◌++◌, length, take, drop, get_or, refl, append_assoc, ap, sym, ◌∙◌, true, false, arith, Some, None, length-append, append-nil, Option}
 use Rattle.std.proofs.Math.Seq.{take-append_seam, drop-append_seam}
 use Rattle.std.proofs.lemmas.List.{take-append-drop, append_cancel_left, append_cancel_right}
 use Rattle.std.specs.Cmp.Lexicographic.{pointwise, same_text, other_text}
@@ -13,7 +13,8 @@ use Rattle.osm_repl.specs.Steps.Parsing.{IsEditOf, IsCloseOf, IsDeliverOf, Refus
 use Rattle.osm_repl.specs.Script.{IsEventLine, ScriptOf, form_text, AreEvents, said_of}
 use Rattle.osm_follow.specs.declared.event.Event.{Event}
 use Rattle.osm_follow.specs.declared.event.Event.TheVariants.{Edit, Close, Deliver, Show}
-use Rattle.osm_follow.specs.declared.event.Form.TheVariants.{Opl}
+use Rattle.osm_follow.specs.declared.event.Form.{Form}
+use Rattle.osm_follow.specs.declared.event.Form.TheVariants.{Opl, O5c}
 use Rattle.osm_repl.specs.declared.script.LineFault.{LineFault}
 use Rattle.osm_repl.specs.declared.script.LineFault.TheVariants.{WantOfMemory, NoEvent}
 
@@ -86,11 +87,25 @@ refused_more (Ok e) A B more h = tt
 refused_more (Err WantOfMemory) A B more h = tt
 refused_more (Err NoEvent) A B more h = λ e b. h e (more e b)
 
-pub deliver_words : (words digits : List ℕ) (e : Event) → words ≡ digits ++ codes " opl" → IsDeliverOf words e → (n : ℕ) × SpellsSequence digits n
-deliver_words words digits (Edit c) is h = absurd h
-deliver_words words digits (Close t) is h = absurd h
-deliver_words words digits (Deliver n Opl) is h = let same : h.digits ≡ digits = append_cancel_right h.digits digits (codes " opl") (sym h.parts ∙ is) in (n, rw (← same) h.spelled)
-deliver_words words digits Show is h = absurd h
+four_bytes : (form : Form) → length (form_text form) ≡ 4
+four_bytes Opl = refl
+four_bytes O5c = refl
+
+-- words that name a form have the digits before its name, whichever form it is
+pub deliver_words : (words digits : List ℕ) (form : Form) (e : Event) → words ≡ digits ++ form_text form → IsDeliverOf words e → (n : ℕ) × SpellsSequence digits n
+deliver_words words digits form (Edit c) is h = absurd h
+deliver_words words digits form (Close t) is h = absurd h
+deliver_words words digits form (Deliver n g) is h =
+    let many : length words ≡ length digits + length (form_text form) = ap length is ∙ length-append digits (form_text form) in
+    let others : length words ≡ length h.digits + length (form_text g) = ap length h.parts ∙ length-append h.digits (form_text g) in
+    let as_many : length h.digits ≡ length digits = omega (arith, four_bytes form, four_bytes g) in
+    let same : h.digits ≡ digits =
+        sym (take-append_seam h.digits (form_text g))
+        ∙ (ap (take (length h.digits)) (sym h.parts)
+        ∙ (ap (λ (m : ℕ). take m words) as_many
+        ∙ (ap (take (length digits)) is ∙ take-append_seam digits (form_text form)))) in
+    (n, rw (← same) h.spelled)
+deliver_words words digits form Show is h = absurd h
 
 -- one line more, which says nothing or is an event
 pub AreEvents-skipped : (lines : List (List ℕ)) (events : List Event) (line : List ℕ) → AreEvents lines events → is_skipped line ≡ true → AreEvents (lines ++ line ∷ []) events

@@ -63,6 +63,7 @@ reply_text WantOfMemory = codes "no memory\n"
 reply_text (Closed n) = numbered_line (codes "closed ") n
 reply_text SequenceFull = codes "sequence full\n"
 reply_text TimeBack = codes "time back\n"
+reply_text TooLarge = codes "too large\n"
 reply_text NotPublished = codes "not published\n"
 reply_text Broken = codes "broken\n"
 reply_text Old = codes "old\n"

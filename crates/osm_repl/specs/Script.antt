@@ -1,5 +1,5 @@
 -- A script: a text whose lines are events. Empty lines and lines that begin with `#` say nothing.
-use Rattle.std.specs.Prelude.{◌≡◌, ℕ, ◌+◌, ◌<◌, ◌≤◌, List, ◌∷◌, ◌++◌, length, codes, false, not}
+use Rattle.std.specs.Prelude.{◌≡◌, ℕ, ◌+◌, ◌<◌, List, ◌∷◌, ◌++◌, length, codes, false, not}
 use Rattle.std.specs.List.{AllZip, filter}
 use Rattle.osm_model.specs.Change.{ChangeValue}
 use Rattle.osm_model.specs.Time.{TimeText}
@@ -9,13 +9,14 @@ use Rattle.osm_reading.specs.Sequence.{SpellsSequence}
 use Rattle.osm_follow.specs.declared.event.Event.{Event}
 use Rattle.osm_follow.specs.declared.event.Event.TheVariants.{Edit, Close, Deliver, Show}
 use Rattle.osm_follow.specs.declared.event.Form.{Form}
-use Rattle.osm_follow.specs.declared.event.Form.TheVariants.{Opl}
+use Rattle.osm_follow.specs.declared.event.Form.TheVariants.{Opl, O5c}
 use Rattle.osm_repl.specs.declared.fault.RunFault.{RunFault}
 use Rattle.osm_repl.specs.declared.fault.RunFault.TheVariants.{WantOfMemory, BadScript}
 
 -- a blank and the name of a form
 abbrev pub form_text : Form → List ℕ
 form_text Opl = codes " opl"
+form_text O5c = codes " o5c"
 
 -- `edit LINE`, with a line of an OPL file
 pub record IsEdit (line : List ℕ) (change : ChangeValue) : Type 0 where

@@ -23,7 +23,8 @@ It has one event a line; empty lines and lines that begin with # say nothing:
                  n1 v1 dV c7 t2024-01-01T00:00:00Z i5 uann T x1 y2
   close TIME     the pending edits are published as the next sequence, at a time as
                  2024-01-01T00:00:00Z
-  deliver N opl  published sequence N is delivered to the follower
+  deliver N opl  published sequence N is delivered to the follower as an OPL file
+  deliver N o5c  the same as an o5c file
   show           the follower shows its number, time, objects and counts of edits
 
 A line that is no event is a fault, and nothing is written then.";

@@ -59,7 +59,7 @@ pub fn laws_of_replays()
         → ReplayLeaves input old new fault → (IsWriteFault fault → ⊥) → new ≡ old }
 {}
 
-// All that the reader has, up to the largest script; the only place that asks a reader.
+// All that the reader has, up to the largest script. No other function asks a reader.
 fn read_script<R: Read>(alloc: Global, reader: &mut R, asks: &mut Asks) -> Result<Vec<u8>, RunFault>
     requires { asks.old ≡ 0 }
     ensures asked { asks.new ≤ most_reads }

@@ -38,6 +38,7 @@ pub(crate) fn write_reply(reply: &Reply, text: &mut Vec<u8>) -> Result<(), WantO
         Reply::Closed(number) => write_numbered(b"closed ", *number as u64, text),
         Reply::SequenceFull => write_bytes(b"sequence full\n", text),
         Reply::TimeBack => write_bytes(b"time back\n", text),
+        Reply::TooLarge => write_bytes(b"too large\n", text),
         Reply::NotPublished => write_bytes(b"not published\n", text),
         Reply::Broken => write_bytes(b"broken\n", text),
         Reply::Old => write_bytes(b"old\n", text),

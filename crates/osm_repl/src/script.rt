@@ -1,10 +1,11 @@
 //! Scripts: a line an event, as `edit n1 v1 dV c7 t2024-01-01T00:00:00Z i5 uann T x1 y2`,
-//! `close 2024-01-01T00:00:00Z`, `deliver 1 opl` and `show`. Empty lines and lines that begin with
+//! `close 2024-01-01T00:00:00Z`, `deliver 1 opl`, `deliver 1 o5c` and `show`. Empty lines and lines that begin with
 //! `#` say nothing.
 
 ghost use Rattle.std.specs.Prelude.{◌≡◌, ℕ, ◌<◌, ◌++◌, ◌^◌, List, length, IfOk, IfErr};
 ghost use Rattle.std.specs.Prelude.{IfSome, IfNone};
-ghost use Rattle.osm_repl.specs.Script.{IsEventLine, ScriptOf, ScriptRefused};
+ghost use Rattle.osm_repl.specs.Script.{IsEventLine, ScriptOf, ScriptRefused, form_text};
+ghost use Rattle.osm_follow.specs.declared.event.Form.{Form};
 ghost use Rattle.osm_repl.specs.Steps.Parsing.{IsCloseOf, IsDeliverOf, IsEditOf, IsSaid};
 ghost use Rattle.osm_repl.specs.Steps.Parsing.{LineRefused, Refused};
 
@@ -109,16 +110,28 @@ fn parse_deliver(words: &[u8]) -> Result<Event, LineFault>
     ensures event { IfOk result (λ e. IsDeliverOf words.now e) }
     ensures refused { IfErr result (Refused (IsDeliverOf words.now)) }
 {
-    let Some(digits) = before_suffix(words, b" opl") else {
+    let Some((digits, form)) = before_form(words) else {
         return Err(LineFault::NoEvent);
     };
     match sequence_read(digits) {
-        Some(number) => Ok(Event::Deliver {
-            number,
-            form: Form::Opl,
-        }),
+        Some(number) => Ok(Event::Deliver { number, form }),
         None => Err(LineFault::NoEvent),
     }
+}
+
+// The form that the words name last, and what comes before its name.
+fn before_form(words: &[u8]) -> Option<(&[u8], Form)>
+    ensures found { IfSome result (λ r. words.now ≡ r.0.now ++ form_text r.1) }
+    ensures none { IfNone result ((digits : List ℕ) (form : Form)
+        → words.now ≡ digits ++ form_text form → ⊥) }
+{
+    if let Some(digits) = before_suffix(words, b" opl") {
+        return Some((digits, Form::Opl));
+    }
+    if let Some(digits) = before_suffix(words, b" o5c") {
+        return Some((digits, Form::O5c));
+    }
+    None
 }
 
 // The rest of a line that begins with the prefix.

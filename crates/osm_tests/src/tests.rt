@@ -1,4 +1,5 @@
 mod model;
-mod state;
 mod o5c;
 mod opl;
+mod repl;
+mod state;

@@ -11,7 +11,14 @@ use Rattle.osm_state.specs.StateText.{StateOf}
 use Rattle.osm_state.specs.declared.state_text.StateError.{StateError}
 use Rattle.osm_follow.specs.Delivery.{Spelling}
 use Rattle.osm_follow.specs.Published.{PublishedTexts, texts_at, written_of}
-use Rattle.osm_follow.specs.Publisher.{PublisherValue, CanClose, IsSmall, IsTooLarge, closing, closed}
+use Rattle.osm_follow.specs.Publisher.{
+  PublisherValue,
+  CanClose,
+  IsSmall,
+  IsTooLarge,
+  closing,
+  closed,
+}
 use Rattle.osm_follow.specs.declared.publisher.CloseError.{CloseError}
 use Rattle.osm_follow.specs.declared.publisher.CloseError.TheVariants.{SequenceFull, TimeBack}
 use Rattle.osm_follow.specs.declared.publisher.CloseError.TheVariants.{TooLarge, WantOfMemory}

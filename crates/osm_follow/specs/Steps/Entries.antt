@@ -4,7 +4,7 @@ use Rattle.std.specs.List.{AllByRecursion}
 use Rattle.osm_model.specs.Change.{ChangeValue}
 use Rattle.osm_model.specs.declared.kind.Key.{Key}
 
--- an object stands under its own key
+-- an object has its own key in the map
 abbrev pub HasOwnKey : Key × ChangeValue → Type 0
 HasOwnKey e = e.0 ≡ e.1.key
 

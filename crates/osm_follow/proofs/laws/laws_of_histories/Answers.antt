@@ -1,4 +1,4 @@
-use Rattle.std.proofs.Common.{◌≡◌, ◌+◌, ◌<◌, ap, arith, length}
+use Rattle.std.proofs.Common.{◌≡◌, arith, length}
 use Rattle.osm_follow.specs.Correct.{IsReported}
 use Rattle.osm_follow.specs.History.{reported_of, start_of}
 use Rattle.osm_follow.proofs.ReportLemmas.{reported_is, length-numbers, get_or-numbers}

@@ -1,7 +1,7 @@
-use Rattle.std.proofs.Common.{◌≡◌, ◌+◌, ◌<◌, ◌≤◌, ◌++◌, ◌∷◌, [], ap, refl, arith, rules}
+use Rattle.std.proofs.Common.{◌≡◌, ◌+◌, ◌++◌, ◌∷◌, [], ap, refl, arith, rules}
 use Rattle.osm_follow.specs.Published.{PublishedValue, written_of}
 use Rattle.osm_follow.specs.Publisher.{PublisherValue, closing}
-use Rattle.osm_follow.specs.Steps.Archive.{AreReadable, IsArchive}
+use Rattle.osm_follow.specs.Steps.Archive.{AreReadable}
 use Rattle.osm_follow.proofs.ArchiveLemmas.{written_readable, archive_grown}
 use Rattle.osm_follow.proofs.RunLemmas.{lawful}
 use Rattle.osm_follow.proofs.world.close_into.Goals as goal

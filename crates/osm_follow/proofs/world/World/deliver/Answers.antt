@@ -1,4 +1,4 @@
-use Rattle.std.proofs.Common.{◌≡◌, ◌≤◌, arith, length, rules}
+use Rattle.std.proofs.Common.{◌≡◌, arith, rules}
 use Rattle.osm_follow.proofs.ArchiveLemmas.{readable_at}
 use Rattle.osm_follow.proofs.world.World.deliver.Goals as goal
 
