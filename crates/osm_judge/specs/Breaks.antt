@@ -1,5 +1,5 @@
--- At which deliveries a follower may break: once the application of a batch has begun, memory is taken
--- for new entries alone.
+-- At which deliveries a follower may break: once the application of a batch has begun, memory is
+-- taken for new entries alone.
 use Rattle.std.specs.Prelude.{◌≡◌, ℕ, ◌-◌, ◌≤◌, List, Some, None, [], ◌∷◌, length, take, ◌⊎◌}
 use Rattle.std.specs.Bool.{⊤}
 use Rattle.std.specs.List.{slice_get}

@@ -78,8 +78,8 @@ fn is_new_entry(before: &[Change], change: &Change) -> bool
 }
 
 fn is_new_object(before: &[Change], change: &Change) -> bool
-    ensures { IsTrue result
-        → (standing_of change.now ≡ Some change.now) × (content_of before.now change.now.key ≡ None) }
+    ensures { IsTrue result → (standing_of change.now ≡ Some change.now)
+        × (content_of before.now change.now.key ≡ None) }
 {
     !change.is_deletion() && plain_content_of(before, change.key()).is_none()
 }

@@ -17,8 +17,8 @@ use osm_repl::replies::write_replies;
 use osm_repl::script::parse_script;
 use std::alloc::Global;
 
-/// Whether the text may be the reply text of the script: that of one reply for each event, each reply
-/// allowed after what came before it. Refused if the script is none, or for memory.
+/// Whether the text may be the reply text of the script: that of one reply for each event, each
+/// reply allowed after what came before it. Refused if the script is none, or for memory.
 pub fn may_answer(alloc: Global, script: &[u8], text: &[u8]) -> Result<bool, RunFault>
     requires { length script.now < 2 ^ 63 }
     ensures { IfOk result (λ b. IsTrue b → MayAnswer script.now text.now) }

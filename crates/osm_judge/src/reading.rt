@@ -52,6 +52,7 @@ pub fn read_reply(alloc: Global, text: &[u8]) -> Result<(Reply, &[u8]), Unread> 
         b"no memory" => Reply::WantOfMemory,
         b"sequence full" => Reply::SequenceFull,
         b"time back" => Reply::TimeBack,
+        b"too large" => Reply::TooLarge,
         b"not published" => Reply::NotPublished,
         b"broken" => Reply::Broken,
         b"old" => Reply::Old,

@@ -1,3 +1,4 @@
+mod judge;
 mod model;
 mod o5c;
 mod opl;
