@@ -1,10 +1,10 @@
 -- What a script's bad line says of the script, and how far a script was answered.
-use Rattle.std.proofs.Common.{◌≡◌, ℕ, ◌+◌, ◌<◌, length, arith, List, [], ◌∷◌, ◌++◌, refl, ap, sym, ◌∙◌, true, Option, Some, None, append-nil, subst}
+use Rattle.std.proofs.Common.{◌≡◌, ℕ, ◌+◌, ◌<◌, length, arith, length-append, List, [], ◌∷◌, ◌++◌, refl, ap, sym, ◌∙◌, true, false, Option, Some, None, append-nil, subst}
 use Rattle.std.proofs.lemmas.List.Elements.{filter-append}
 use Rattle.std.specs.Io.KnownBytes.{Consumes, IsAtEnd}
 use Rattle.std.specs.List.{AllZip}
 use Rattle.std.specs.Prelude.{not, IfSome}
-use Rattle.osm_reading.specs.Lines.{lines_of, is_skipped}
+use Rattle.osm_reading.specs.Lines.{lines_of, lines_after, is_skipped}
 use Rattle.osm_reading.specs.Pieces.{pieces}
 use Rattle.osm_repl.specs.Replay.{IsWriteFault, ReplayFault, ReplayLeaves, RepliesTo}
 use Rattle.osm_repl.specs.Replies.{reply_text, replies_text}
@@ -17,7 +17,7 @@ use Rattle.osm_follow.specs.Step.{Step}
 use Rattle.osm_follow.specs.World.{WorldValue, new_world}
 use Rattle.osm_follow.specs.declared.event.Event.{Event}
 use Rattle.osm_follow.specs.declared.event.Reply.{Reply}
-use Rattle.osm_repl.specs.Steps.Parsing.{IsSaid}
+use Rattle.osm_repl.specs.Steps.Parsing.{IsSaid, LineRefused}
 use Rattle.osm_repl.proofs.ScriptLemmas.{IsReadTo, IsSplit, read_none, read_skipped, read_event, read_all}
 use Rattle.osm_repl.specs.declared.fault.RunFault.{RunFault}
 use Rattle.osm_repl.specs.declared.fault.RunFault.TheVariants.{WantOfMemory, ReadFault, WriteFault, TooLarge, BadScript}
@@ -115,3 +115,31 @@ answered_all script number world text i = record {
   is_run = i.is_run;
   text_is = i.text_is;
 }
+
+-- a line that is refused refuses the script
+pub answered_refused : (script : List ℕ) (bytes : Bor (List ℕ)) (line : List ℕ) (after : Option (Bor (List ℕ))) (number : ℕ) (world : WorldValue) (text : List ℕ) (fault : RunFault)
+    → IsAnsweredTo script (Some bytes) number world text → IsSplit bytes.now line after → LineRefused line (number + 1) fault → ScriptRefused script fault
+answered_refused script bytes line after number world text fault i split refused = by_fault fault refused
+  where
+    parts : lines_of script ≡ i.read.passed ++ line ∷ lines_after after
+    parts = i.read.lines ∙ ap (λ (ls : List (List ℕ)). i.read.passed ++ ls) split.lines
+
+    says : is_skipped line ≡ false → SaysSome script
+    says said =
+        let is : said_of (lines_of script) ≡ said_of i.read.passed ++ line ∷ said_of (lines_after after) = ap said_of parts ∙ rw (filter-append (λ (l : List ℕ). not (is_skipped l)) i.read.passed (line ∷ lines_after after), said) refl in
+        rw is (omega (arith, length-append (said_of i.read.passed) (line ∷ said_of (lines_after after))))
+
+    by_fault : (f : RunFault) → LineRefused line (number + 1) f → ScriptRefused script f
+    by_fault WantOfMemory r = says r
+    by_fault (BadScript n) r = record {
+      before = i.read.passed;
+      line = line;
+      after = lines_after after;
+      parts = parts;
+      counted = r.0 ∙ ap (λ (k : ℕ). k + 1) i.read.counted;
+      events = i.events;
+      earlier = i.read.are_events;
+      said = r.1;
+      none = r.2;
+    }
+    by_fault f r = absurd r

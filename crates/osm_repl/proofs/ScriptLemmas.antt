@@ -100,10 +100,10 @@ deliver_words words digits form (Deliver n g) is h =
     let others : length words ≡ length h.digits + length (form_text g) = ap length h.parts ∙ length-append h.digits (form_text g) in
     let as_many : length h.digits ≡ length digits = omega (arith, four_bytes form, four_bytes g) in
     let same : h.digits ≡ digits =
-        sym (take-append_seam h.digits (form_text g))
-        ∙ (ap (take (length h.digits)) (sym h.parts)
-        ∙ (ap (λ (m : ℕ). take m words) as_many
-        ∙ (ap (take (length digits)) is ∙ take-append_seam digits (form_text form)))) in
+    sym (take-append_seam h.digits (form_text g))
+    ∙ (ap (take (length h.digits)) (sym h.parts)
+    ∙ (ap (λ (m : ℕ). take m words) as_many
+    ∙ (ap (take (length digits)) is ∙ take-append_seam digits (form_text form)))) in
     (n, rw (← same) h.spelled)
 deliver_words words digits form Show is h = absurd h
 

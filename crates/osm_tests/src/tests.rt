@@ -1,3 +1,4 @@
+mod follow;
 mod judge;
 mod model;
 mod o5c;

@@ -1,7 +1,7 @@
 use Rattle.std.proofs.Common.{◌≡◌, true, Some}
 use Rattle.osm_reading.specs.Lines.{is_skipped}
 use Rattle.osm_repl.specs.Steps.Parsing.{IsSaid}
-use Rattle.osm_repl.proofs.ReplayLemmas.{IsAnsweredTo, answered_skipped, answered_event}
+use Rattle.osm_repl.proofs.ReplayLemmas.{IsAnsweredTo, answered_skipped, answered_event, answered_refused}
 use Rattle.osm_repl.proofs.ScriptLemmas.{IsSplit}
 use Rattle.osm_repl.proofs.replay.reply_text_of.Goals as goal
 
@@ -20,3 +20,10 @@ loop-rest-preserved c =
     let split : IsSplit c.in-Some.bytes.now c.split_line.result.0.now c.split_line.result.1 = record { lines = c.split_line.ensures.lines; shorter = c.split_line.ensures.shorter } in
     let said : IsSaid c.split_line.result.0.now (Some c.in-Ok-Some.event) = rw c.in-Ok-Some.field-0-is at c.in-Ok-Some.ensures.said in
     answered_event c.laws_of_runs.ensures.next c.args.script.now c.in-Some.bytes c.split_line.result.0.now c.split_line.result.1 c.loop-rest.number c.loop-rest.world c.loop-rest.text.items c.in-Ok-Some.event c.answer.new.world c.answer.new.text.items sofar split said c.in-Ok.ensures
+
+-- the line is refused, and so is the script
+pub returns-in-Err-clause-fault : goal.returns-in-Err-clause-fault
+returns-in-Err-clause-fault c =
+    let sofar : IsAnsweredTo c.args.script.now (Some c.in-Some.bytes) c.loop-rest.number c.loop-rest.world c.loop-rest.text.items = rw c.in-Some.is at c.loop-rest.invariant in
+    let split : IsSplit c.in-Some.bytes.now c.split_line.result.0.now c.split_line.result.1 = record { lines = c.split_line.ensures.lines; shorter = c.split_line.ensures.shorter } in
+    answered_refused c.args.script.now c.in-Some.bytes c.split_line.result.0.now c.split_line.result.1 c.loop-rest.number c.loop-rest.world c.loop-rest.text.items c.in-Err.fault sofar split c.in-Err.ensures.refused

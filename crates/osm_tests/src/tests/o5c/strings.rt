@@ -4,7 +4,7 @@ use super::makes::{META, TIME, batch_of, fault, file, joined, member, meta, refu
 use osm_model::change::{Change, What};
 use osm_model::form::{ChangeForm, Why};
 use osm_model::kind::Kind;
-use osm_model::lists::{Members, Tag, Tags};
+use osm_model::lists::{Members, Part, Tag, Tags};
 use osm_o5c::o5c::O5c;
 use std::alloc::Global;
 use std::test::Fail;
