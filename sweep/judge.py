@@ -3,16 +3,17 @@
 be refused at any growth? It shares nothing with the program and its definitions but the language of
 scripts, and does what a person does who reads the replies one by one. As a program it reads a
 script, a line `--` and a text, as the proved judge does, and says `allowed`, `forbidden` or `not
-judged`. It takes each spelling of a line, and leaves it to the program to check limits.
+judged`; if files are named it says so of each. It takes each spelling of a line, and leaves it to
+the program to check limits.
 
-It knows more than today's program answers: deliveries in the form `o5c`, a close that is too large,
-saves, restarts, and batches that are held until their turn comes (WINDOW). The sizes of change
-files are those of files with all strings in line."""
+It knows more than today's program answers: saves, restarts, and batches that are held until their
+turn comes (WINDOW). The sizes of change files are those of files with all strings in line."""
 
 import datetime
 import functools
 import re
 import sys
+from pathlib import Path
 
 MOST_CHANGES = 100_000
 MOST_SEQUENCES = 999_999_999
@@ -358,15 +359,22 @@ def judge(script, text):
         raise Forbidden(f"{rest[:80]!r} to no event")
 
 
-def main():
-    script, text = re.split(rb"^--\n", sys.stdin.buffer.read(), maxsplit=1, flags=re.MULTILINE)
+def judged(answer):
+    script, text = re.split(rb"^--\n", answer, maxsplit=1, flags=re.MULTILINE)
     try:
         judge(script, text)
-        print("allowed")
+        return "allowed"
     except Forbidden:
-        print("forbidden")
+        return "forbidden"
     except NoScript:
-        print("not judged")
+        return "not judged"
+
+
+def main():
+    for path in sys.argv[1:]:
+        print(f"{path} {judged(Path(path).read_bytes())}")
+    if not sys.argv[1:]:
+        print(judged(sys.stdin.buffer.read()))
 
 
 if __name__ == "__main__":
