@@ -1,121 +1,380 @@
 #!/usr/bin/env python3
-"""A second judge of reply texts, unproved: which replies may a script be answered by, when memory may be
-refused at any growth? It knows nothing of the program and of its definitions but the script language, and
-stands for a person who reads the replies one by one. As a program it reads a script, a line `--` and a text,
-as the proved judge does, and says `allowed` or `forbidden`."""
+"""A second judge of reply texts, unproved: which replies may a script be answered by, if memory may
+be refused at any growth? It shares nothing with the program and its definitions but the language of
+scripts, and does what a person does who reads the replies one by one. As a program it reads a
+script, a line `--` and a text, as the proved judge does, and says `allowed`, `forbidden` or `not
+judged`; if files are named it says so of each. It takes each spelling of a line, and leaves it to
+the program to check limits.
 
+It knows more than today's program answers: saves, restarts, and batches that are held until their
+turn comes (WINDOW). The sizes of change files are those of files with all strings in line."""
+
+import datetime
+import functools
 import re
 import sys
+from pathlib import Path
 
 MOST_CHANGES = 100_000
+MOST_SEQUENCES = 999_999_999
+MOST_BYTES = 64 * 1024 * 1024
+# A follower at n takes numbers n + 1 to n + WINDOW, and holds those above n + 1.
+WINDOW = 1
+
+
+class NoScript(Exception):
+    """A line that is no event."""
 
 
 class Forbidden(Exception):
-    """A reply that may not stand there."""
+    """A reply that is not allowed after those before it."""
 
 
-def fields(line):
-    """Key, user, changeset and whether it is a deletion, of an object's line."""
-    words = line.split(" ")
-    kind, number = words[0][0], int(words[0][1:])
-    return (("nwr".index(kind), number), int(words[5][1:]), int(words[3][1:]), words[2] == "dD")
+def lines_of(text):
+    """The pieces between line feeds, less one carriage return at the end of each."""
+    pieces = text.split(b"\n")
+    if not pieces[-1]:
+        pieces.pop()
+    return [piece[:-1] if piece.endswith(b"\r") else piece for piece in pieces]
+
+
+# An object's line: any spelling is read, and one is written.
+
+BARE = r"[^\0\t\n\r %,=@]"
+PART = re.compile(BARE + r"|%([0-9a-fA-F]{1,8})%")
+TEXT = re.compile(rf"(?:{BARE}|%[0-9a-fA-F]{{1,8}}%)*")
+ID, DIGITS, COORDINATE = r"(-?[0-9]{1,20})", r"([0-9]{1,20})", r"(-?[0-9]{1,3}(?:\.[0-9]{1,7})?)?"
+LISTS = {"n": f"x{COORDINATE} y{COORDINATE}", "w": "N([^ ]*)", "r": "M([^ ]*)"}
+LINE = {kind: re.compile(rf"{kind}{ID} v{DIGITS} d([VD]) c{DIGITS} t([^ ]{{20}}) i{DIGITS} u([^ ]*) "
+                         rf"T([^ ]*) {fields}") for kind, fields in LISTS.items()}
+TAG, REFERENCE = re.compile("([^=]*)=([^=]*)"), re.compile(f"n{ID}")
+MEMBER = re.compile(f"([nwr]){ID}@([^@]*)")
+
+
+@functools.cache
+def meant(text):
+    """What a text says, each escape as its character."""
+    def character(part):
+        code = int(part[1], 16) if part[1] else ord(part[0])
+        if code == 0 or 0xD800 <= code <= 0xDFFF:
+            raise NoScript(text)
+        return chr(code)
+
+    if not TEXT.fullmatch(text):
+        raise NoScript(text)
+    return PART.sub(character, text)
+
+
+@functools.cache
+def written(text):
+    """A text as a show writes it: what isn't bare ASCII as escapes in lower-case digits."""
+    return "".join(c if "!" <= c <= "~" and c not in "%,=@" else f"%{ord(c):02x}%" for c in text)
+
+
+def parts_of(pattern, text):
+    """The values of the parts between commas; no part if the text is empty."""
+    matches = [pattern.fullmatch(part) for part in text.split(",")] if text else []
+    if None in matches:
+        raise NoScript(text)
+    return [match.groups() for match in matches]
+
+
+def units(text):
+    """A coordinate in units of 10^-7 degree."""
+    whole, _, decimals = text.lstrip("-").partition(".")
+    value = int(whole) * 10**7 + int(decimals.ljust(7, "0"))
+    return -value if text.startswith("-") else value
+
+
+def degrees(value):
+    """A coordinate as a show writes it, with no zeros but those that are needed."""
+    digits = f"{abs(value) // 10**7}.{abs(value) % 10**7:07d}".rstrip("0").rstrip(".")
+    return "-" + digits if value < 0 else digits
+
+
+class Change:
+    """A change of an object, from its line."""
+
+    def __init__(self, line):
+        line = line.decode()
+        match = LINE[line[0]].fullmatch(line)
+        if not match:
+            raise NoScript(line)
+        key, version, status, changeset, self.time, user, name, tags, *others = match.groups()
+        self.kind, self.is_deletion = line[0], status == "D"
+        self.key = ("nwr".index(self.kind), int(key))
+        self.version, self.changeset, self.user = int(version), int(changeset), int(user)
+        self.name = meant(name)
+        if not self.is_deletion:
+            self.tags = [(meant(k), meant(v)) for k, v in parts_of(TAG, tags)]
+            self.read_others(others)
+
+    def read_others(self, others):
+        if self.kind == "n":
+            self.location = [units(text) for text in others]
+        elif self.kind == "w":
+            self.references = [int(key) for key, in parts_of(REFERENCE, others[0])]
+        else:
+            self.members = [(kind, int(key), meant(role))
+                            for kind, key, role in parts_of(MEMBER, others[0])]
+
+    def line(self):
+        """The line as a show writes it."""
+        status = "D" if self.is_deletion else "V"
+        begin = (f"{self.kind}{self.key[1]} v{self.version} d{status} c{self.changeset} "
+                 f"t{self.time} i{self.user} u{written(self.name)} T")
+        if self.is_deletion:
+            return begin + {"n": " x y", "w": " N", "r": " M"}[self.kind]
+        return begin + ",".join(f"{written(k)}={written(v)}" for k, v in self.tags) + self.others()
+
+    def others(self):
+        if self.kind == "n":
+            return " x{} y{}".format(*map(degrees, self.location))
+        if self.kind == "w":
+            return " N" + ",".join(f"n{key}" for key in self.references)
+        return " M" + ",".join(f"{kind}{key}@{written(role)}" for kind, key, role in self.members)
+
+
+# Events: each line of a script is one of these.
+
+EVENT = re.compile(
+    rb"(?P<edit>edit) (?P<line>[nwr].*)|(?P<close>close) (?P<time>[^ ]{20})"
+    rb"|(?P<deliver>deliver) (?P<number>[0-9]{1,9}) (?:opl|o5c)"
+    rb"|(?P<save>save)|(?P<restart>restart)|(?P<show>show)",
+    re.DOTALL,
+)
+
+
+def events_of(script):
+    """The word of each event, and what follows it."""
+    for line in lines_of(script):
+        if not line or line.startswith(b"#"):
+            continue
+        match = EVENT.fullmatch(line)
+        if not match:
+            raise NoScript(line)
+        word = line.split(b" ")[0].decode()
+        try:
+            yield word, {"edit": lambda: Change(match["line"]), "close": lambda: match["time"],
+                         "deliver": lambda: int(match["number"])}.get(word, lambda: None)()
+        except (ValueError, IndexError, KeyError, AttributeError):
+            raise NoScript(line) from None
 
 
 class World:
+    """What the replies so far say. The method of an event gives the replies that are allowed now: a
+    dictionary from a reply's text to what the reply does, or to None if it changes nothing."""
+
     def __init__(self):
-        self.pending = []
-        self.published = []
-        self.number = 0
-        self.broken = False
+        self.pending, self.published = [], []
+        self.start, self.saved = 0, None
+        self.restart_at(0)
 
-    def view(self):
-        changes = [line for batch, _ in self.published[: self.number] for line in batch]
-        objects, users, changesets = {}, {}, {}
-        for line in changes:
-            key, user, changeset, is_deleted = fields(line)
-            objects.pop(key, None)
-            if not is_deleted:
-                objects[key] = line
-            users[user] = users.get(user, 0) + 1
-            changesets[changeset] = changesets.get(changeset, 0) + 1
-        time = self.published[self.number - 1][1] if self.number else "none"
-        lines = [f"number {self.number}", f"time {time}", f"objects {len(objects)}"]
-        lines += [objects[key] for key in sorted(objects)]
-        for name, counts in (("users", users), ("changesets", changesets)):
-            lines += [f"{name} {len(counts)}"] + [f"{n} {counts[n]}" for n in sorted(counts)]
-        return lines + ["held 0"]
+    def restart_at(self, number):
+        self.start = self.number = number
+        self.held, self.broken = set(), False
 
-    def edit(self, line, reply):
+    def edit(self, change):
         if len(self.pending) == MOST_CHANGES:
-            return reply == "batch full"
-        if reply == "edited":
-            self.pending.append(line)
-        return reply in ("edited", "no memory")
+            return {"batch full": None}
+        return {"edited": lambda: self.pending.append(change), "no memory": None}
 
-    def close(self, time, reply):
+    def close(self, time):
+        if len(self.published) == MOST_SEQUENCES:
+            return {"sequence full": None}
         if self.published and time < self.published[-1][1]:
-            return reply == "time back"
-        if reply == "no memory":
-            return True
+            return {"time back": None}
+        if max(opl_size(self.pending), o5c_size(self.pending)) > MOST_BYTES:
+            return {"too large": None, "no memory": None}
+        return {f"closed {len(self.published) + 1}": lambda: self.publish(time), "no memory": None}
+
+    def publish(self, time):
         self.published.append((self.pending, time))
         self.pending = []
-        return reply == f"closed {len(self.published)}"
 
-    def deliver(self, number, reply):
+    def deliver(self, number):
         if not 1 <= number <= len(self.published):
-            return reply == "not published"
+            return {"not published": None}
         if self.broken:
-            return reply == "broken"
+            return {"broken": None}
         if number <= self.number:
-            return reply == "old"
+            return {"old": None}
+        if number in self.held:
+            return {"again": None}
+        if number > self.number + WINDOW:
+            return {"too early": None}
         if number > self.number + 1:
-            return reply == "too early"
-        if reply == "broke":
-            self.broken = True
-        if reply in ("broke", "no memory"):
-            return bool(self.published[number - 1][0])
-        self.number = number
-        return reply == f"applied {number}..{number}"
+            return {"held": lambda: self.held.add(number), "no memory": None}
+        high = number
+        while high + 1 in self.held:
+            high += 1
+        replies = {f"applied {number}..{high}": lambda: self.apply_to(high)}
+        if self.published[number - 1][0]:
+            replies["no memory"] = None
+        if self.needs_new_entry(high):
+            replies["broke"] = self.break_off
+        return replies
+
+    def apply_to(self, high):
+        self.number = high
+        self.held = {number for number in self.held if number > high}
+
+    def break_off(self):
+        self.broken = True
+
+    def needs_new_entry(self, high):
+        """Whether a change up to that number is the first one of its user or changeset, or brings
+        an object whose key has none: nothing else takes memory once an application has begun."""
+        objects, users, changesets = content(self.changes_up_to(self.number))
+        for change in self.changes_up_to(high)[len(self.changes_up_to(self.number)):]:
+            if change.user not in users or change.changeset not in changesets:
+                return True
+            if not change.is_deletion and change.key not in objects:
+                return True
+            if change.is_deletion:
+                objects.pop(change.key, None)
+        return False
+
+    def save(self, _):
+        if self.broken:
+            return {"broken": None}
+        return {f"saved {self.number}": self.keep_number, "no memory": None}
+
+    def keep_number(self):
+        self.saved = self.number
+
+    def restart(self, _):
+        start = self.saved or 0
+        replies = {f"restarted {start}": lambda: self.restart_at(start)}
+        if self.saved is not None:
+            replies["no memory"] = self.break_off
+        return replies
+
+    def show(self, _):
+        if self.broken:
+            return {"broken": None}
+        return {self.view(): None, "no memory": None}
+
+    def changes_up_to(self, number):
+        return [change for changes, _ in self.published[:number] for change in changes]
+
+    def view(self):
+        objects, users, changesets = content(self.changes_up_to(self.number))
+        time = self.published[self.number - 1][1].decode() if self.number else "none"
+        lines = [f"number {self.number}", f"time {time}", f"objects {len(objects)}"]
+        lines += [objects[key].line() for key in sorted(objects)]
+        for name, counts in (("users", users), ("changesets", changesets)):
+            lines += [f"{name} {len(counts)}"] + [f"{n} {counts[n]}" for n in sorted(counts)]
+        lines += [f"held {len(self.held)}"] + [str(number) for number in sorted(self.held)]
+        return "\n".join(lines)
+
+
+def content(changes):
+    """The objects that the changes leave, and how many edits each user and each changeset has."""
+    objects, users, changesets = {}, {}, {}
+    for change in changes:
+        objects.pop(change.key, None)
+        if not change.is_deletion:
+            objects[change.key] = change
+        users[change.user] = users.get(change.user, 0) + 1
+        changesets[change.changeset] = changesets.get(change.changeset, 0) + 1
+    return objects, users, changesets
+
+
+# The sizes of the two change files of a batch.
+
+def opl_size(changes):
+    return sum(len(change.line()) + 1 for change in changes)
+
+
+def varint(value):
+    """How many bytes an unsigned number takes."""
+    return max(1, -(-value.bit_length() // 7))
+
+
+def zigzag(value):
+    """How many bytes a signed number takes."""
+    return varint(2 * value if value >= 0 else -2 * value - 1)
+
+
+class Counters(dict):
+    """The last value of each field; a number is written as its difference to it."""
+
+    def step(self, name, value):
+        difference = value - self.get(name, 0)
+        self[name] = value
+        return zigzag(difference)
+
+
+def o5c_size(changes):
+    """The beginning, the objects with their types and lengths, a reset between kinds, the end."""
+    size, counters, kind = 7 + 1, Counters(), None
+    for change in changes:
+        if kind not in (None, change.kind):
+            size, counters = size + 1, Counters()
+        kind = change.kind
+        content = content_size(change, counters)
+        size += 1 + varint(content) + content
+    return size
+
+
+def content_size(change, counters):
+    seconds = datetime.datetime.fromisoformat(change.time[:-1] + "+00:00").timestamp()
+    size = counters.step("id", change.key[1]) + varint(change.version)
+    size += counters.step("time", int(seconds)) + counters.step("changeset", change.changeset)
+    size += 3 + varint(change.user) + len(change.name.encode())
+    if change.is_deletion:
+        return size
+    if change.kind == "n":
+        longitude, latitude = change.location
+        size += counters.step("longitude", longitude) + counters.step("latitude", latitude)
+    else:
+        part = part_size(change, counters)
+        size += varint(part) + part
+    return size + sum(3 + len((k + v).encode()) for k, v in change.tags)
+
+
+def part_size(change, counters):
+    if change.kind == "w":
+        return sum(counters.step("reference", key) for key in change.references)
+    return sum(counters.step(kind, key) + 3 + len(role.encode())
+               for kind, key, role in change.members)
 
 
 def judge(script, text):
-    """Raises Forbidden where a reply may not follow what came before it."""
-    world, replies = World(), text.splitlines()
-    if text and not text.endswith("\n"):
-        raise Forbidden("the last line has no end")
-    for event in script.splitlines():
-        if not event or event.startswith("#"):
-            continue
-        if not replies:
-            raise Forbidden(f"no reply to {event!r}")
-        word, _, rest = event.partition(" ")
-        if word == "show":
-            wanted = ["broken"] if world.broken else world.view()
-            if not world.broken and replies[0] == "no memory":
-                wanted = ["no memory"]
-            if replies[: len(wanted)] != wanted:
-                raise Forbidden(f"{replies[: len(wanted)]!r} to {event!r}")
-            replies = replies[len(wanted):]
-            continue
-        reply = replies.pop(0)
-        allowed = {
-            "edit": lambda: world.edit(rest, reply),
-            "close": lambda: world.close(rest, reply),
-            "deliver": lambda: world.deliver(int(rest.split(" ")[0]), reply),
-        }[word]()
-        if not allowed:
-            raise Forbidden(f"{reply!r} to {event!r}")
-    if replies:
-        raise Forbidden(f"{replies[0]!r} to no event")
+    """Raises Forbidden if a reply isn't allowed after those before it."""
+    world, rest = World(), text
+    for word, value in list(events_of(script)):
+        replies = getattr(world, word)(value)
+        for reply, effect in replies.items():
+            line = reply.encode() + b"\n"
+            if rest.startswith(line):
+                break
+        else:
+            raise Forbidden(f"{rest[:80]!r} to {word} {value!r}, not one of {list(replies)!r}")
+        if effect:
+            effect()
+        rest = rest[len(line):]
+    if rest:
+        raise Forbidden(f"{rest[:80]!r} to no event")
+
+
+def judged(answer):
+    script, text = re.split(rb"^--\n", answer, maxsplit=1, flags=re.MULTILINE)
+    try:
+        judge(script, text)
+        return "allowed"
+    except Forbidden:
+        return "forbidden"
+    except NoScript:
+        return "not judged"
 
 
 def main():
-    script, text = re.split(r"^--\n", sys.stdin.read(), maxsplit=1, flags=re.MULTILINE)
-    try:
-        judge(script, text)
-        print("allowed")
-    except Forbidden:
-        print("forbidden")
+    for path in sys.argv[1:]:
+        print(f"{path} {judged(Path(path).read_bytes())}")
+    if not sys.argv[1:]:
+        print(judged(sys.stdin.buffer.read()))
 
 
 if __name__ == "__main__":

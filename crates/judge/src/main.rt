@@ -1,5 +1,5 @@
-//! Whether a reply text may answer a script: standard input is the script, a line `--` and the text;
-//! `allowed` is written and the status is 0, or `forbidden`, and it is 1.
+//! Tells whether a reply text may answer a script. Standard input is the script, a line `--` and
+//! the text. The program writes `allowed` and ends with 0, or `forbidden` and ends with 1.
 #![tactic(auto)]
 
 ghost use Rattle.std.specs.Prelude.{◌<◌, length};
@@ -23,7 +23,7 @@ fn main(rt: HostRuntime) -> ExitCode {
     }
 }
 
-// Why there is no judgement: the input fails, has no separator, or begins with no script.
+// Why there is no judgement: the input can't be read, has no separator, or has no script before it.
 #[derive(Clone, Copy, Debug)]
 enum Unjudged {
     Input,
@@ -46,20 +46,20 @@ fn judged(rt: &HostRuntime) -> Result<bool, Unjudged> {
     }
 }
 
-// What stands before the first line `--`, and behind it.
+// The bytes before the first line `--`, and those after it.
 fn parts(input: &[u8]) -> Option<(&[u8], &[u8])> {
-    for place in 0..input.len() {
-        if let Some(text) = input[place..].strip_prefix(SEPARATOR)
-            && begins_line(input, place)
+    for index in 0..input.len() {
+        if let Some(text) = input[index..].strip_prefix(SEPARATOR)
+            && begins_line(input, index)
         {
-            return Some((&input[..place], text));
+            return Some((&input[..index], text));
         }
     }
     None
 }
 
-fn begins_line(input: &[u8], place: usize) -> bool
-    requires { place < length input.now }
+fn begins_line(input: &[u8], index: usize) -> bool
+    requires { index < length input.now }
 {
-    place == 0 || input[place - 1] == b'\n'
+    index == 0 || input[index - 1] == b'\n'
 }

@@ -6,12 +6,15 @@ use Rattle.std.proofs.lemmas.Bool.{cases_lt}
 use Rattle.std.specs.List.{flat_map, zip}
 use Rattle.std.specs.Prelude.{◌↔◌, IsTrue}
 use Rattle.osm_model.specs.Change.{ChangeValue}
-use Rattle.osm_follow.specs.History.{History, accepted_of, published_of}
+use Rattle.osm_model.specs.Limits.{max_changes}
+use Rattle.osm_follow.specs.History.{History, accepted_of, pending_of, published_of}
 use Rattle.osm_follow.proofs.LegalLemmas.{legal_none, legal_more}
 use Rattle.osm_follow.specs.Legal.{Allowed, IsLegal, IsNumber, IsOpen, IsNext, IsWork}
 use Rattle.osm_follow.specs.declared.event.Event.{Event}
+use Rattle.osm_follow.specs.declared.event.Event.TheVariants.{Edit, Close, Deliver, Show}
 use Rattle.osm_follow.specs.declared.event.Reply.{Reply}
-use Rattle.osm_follow.specs.Published.{PublishedValue, unpublished, changes_at, flat}
+use Rattle.osm_follow.specs.declared.event.Reply.TheVariants.{Edited, BatchFull, WantOfMemory, Closed, SequenceFull, TimeBack, TooLarge}
+use Rattle.osm_follow.specs.Published.{PublishedValue, unpublished, changes_at, changes_up_to}
 use Rattle.osm_follow.specs.Reach.{Reaches, between}
 
 below_not : (f : ℕ → Bool) (s n m : ℕ) → Reaches f s n → Reaches f s m → n < m → ⊥
@@ -37,8 +40,8 @@ pub next_row : (h : History) (k reached : ℕ) (Q : ℕ → Type 0) (r : Bool) �
 next_row h k reached Q r number told = (λ t. (let both = told.0 t in (reached, both.0, both.1)), λ row. told.1 (subst (λ (m : ℕ). IsNext h k m × Q m) (one_reach (accepted_of h) 0 row.0 reached row.1.is_open.number number) (row.1, row.2)))
 
 -- a sequence more, also behind the last: there is no change there
-flat_more : (ps : List PublishedValue) (n : ℕ) → flat ps (n + 1) ≡ flat ps n ++ changes_at ps (n + 1)
-flat_more ps n = elim (cases_lt n (length ps)) [
+changes_up_to_more : (ps : List PublishedValue) (n : ℕ) → changes_up_to ps (n + 1) ≡ changes_up_to ps n ++ changes_at ps (n + 1)
+changes_up_to_more ps n = elim (cases_lt n (length ps)) [
   | inl within ↦ within_more within
   | inr past ↦ past_more past
 ]
@@ -49,90 +52,109 @@ flat_more ps n = elim (cases_lt n (length ps)) [
     here : changes_at ps (n + 1) ≡ (get_or ps n unpublished).changes
     here = ap (λ (i : ℕ). (get_or ps i unpublished).changes) index
 
-    within_more : n < length ps → flat ps (n + 1) ≡ flat ps n ++ changes_at ps (n + 1)
+    within_more : n < length ps → changes_up_to ps (n + 1) ≡ changes_up_to ps n ++ changes_at ps (n + 1)
     within_more within =
         ap (flat_map (λ (p : PublishedValue). p.changes)) (take_more ps n unpublished within)
         ∙ (flat_map-append (λ (p : PublishedValue). p.changes) (take n ps) (get_or ps n unpublished ∷ [])
-        ∙ ap (λ (cs : List ChangeValue). flat ps n ++ cs) (append-nil (get_or ps n unpublished).changes ∙ sym here))
+        ∙ ap (λ (cs : List ChangeValue). changes_up_to ps n ++ cs) (append-nil (get_or ps n unpublished).changes ∙ sym here))
 
-    past_more : length ps ≤ n → flat ps (n + 1) ≡ flat ps n ++ changes_at ps (n + 1)
+    past_more : length ps ≤ n → changes_up_to ps (n + 1) ≡ changes_up_to ps n ++ changes_at ps (n + 1)
     past_more past =
         let whole : take (n + 1) ps ≡ take n ps = take_all (n + 1) ps (omega arith) ∙ sym (take_all n ps (omega arith)) in
         let none : changes_at ps (n + 1) ≡ [] = here ∙ ap (λ (p : PublishedValue). p.changes) (get_or_past ps n unpublished (omega arith)) in
-        ap (flat_map (λ (p : PublishedValue). p.changes)) whole ∙ sym (ap (λ (cs : List ChangeValue). flat ps n ++ cs) none ∙ append-nil (flat ps n))
+        ap (flat_map (λ (p : PublishedValue). p.changes)) whole ∙ sym (ap (λ (cs : List ChangeValue). changes_up_to ps n ++ cs) none ∙ append-nil (changes_up_to ps n))
 
-flat_between : (ps : List PublishedValue) (n count : ℕ) → length (flat ps (n + count)) ≡ length (flat ps n) + length (between (changes_at ps) n count)
-flat_between ps n zero = let same : n + 0 ≡ n = omega arith in rw same (omega arith)
-flat_between ps n (suc count) =
+changes_up_to_between : (ps : List PublishedValue) (n count : ℕ) → length (changes_up_to ps (n + count)) ≡ length (changes_up_to ps n) + length (between (changes_at ps) n count)
+changes_up_to_between ps n zero = let same : n + 0 ≡ n = omega arith in rw same (omega arith)
+changes_up_to_between ps n (suc count) =
     let next : n + suc count ≡ n + count + 1 = omega arith in
-    let more : length (flat ps (n + count + 1)) ≡ length (flat ps (n + count)) + length (changes_at ps (n + count + 1)) = ap length (flat_more ps (n + count)) ∙ length-append (flat ps (n + count)) (changes_at ps (n + count + 1)) in
-    let rest : length (flat ps (n + count)) ≡ length (flat ps n) + length (between (changes_at ps) n count) = flat_between ps n count in
+    let more : length (changes_up_to ps (n + count + 1)) ≡ length (changes_up_to ps (n + count)) + length (changes_at ps (n + count + 1)) = ap length (changes_up_to_more ps (n + count)) ∙ length-append (changes_up_to ps (n + count)) (changes_at ps (n + count + 1)) in
+    let rest : length (changes_up_to ps (n + count)) ≡ length (changes_up_to ps n) + length (between (changes_at ps) n count) = changes_up_to_between ps n count in
     let both : length (between (changes_at ps) n (suc count)) ≡ length (between (changes_at ps) n count) + length (changes_at ps (n + suc count)) = length-append (between (changes_at ps) n count) (changes_at ps (n + suc count)) in
-    let here : length (flat ps (n + suc count)) ≡ length (flat ps (n + count + 1)) = ap (λ (j : ℕ). length (flat ps j)) next in
+    let here : length (changes_up_to ps (n + suc count)) ≡ length (changes_up_to ps (n + count + 1)) = ap (λ (j : ℕ). length (changes_up_to ps j)) next in
     let last : length (changes_at ps (n + suc count)) ≡ length (changes_at ps (n + count + 1)) = ap (λ (j : ℕ). length (changes_at ps j)) next in
     omega arith
 
 -- sequence k has a change exactly where more changes stand up to k than before it
-pub has_change : (ps : List PublishedValue) (k : ℕ) → 0 < k → (length (flat ps (k - 1)) < length (flat ps k)) ↔ (0 < length (changes_at ps k))
+pub has_change : (ps : List PublishedValue) (k : ℕ) → 0 < k → (length (changes_up_to ps (k - 1)) < length (changes_up_to ps k)) ↔ (0 < length (changes_at ps k))
 has_change ps k above = (λ less. omega (arith, longer), λ some. omega (arith, longer))
   where
     next : k - 1 + 1 ≡ k
     next = omega arith
 
-    longer : length (flat ps k) ≡ length (flat ps (k - 1)) + length (changes_at ps k)
-    longer = rw next at (ap length (flat_more ps (k - 1)) ∙ length-append (flat ps (k - 1)) (changes_at ps (k - 1 + 1)))
+    longer : length (changes_up_to ps k) ≡ length (changes_up_to ps (k - 1)) + length (changes_at ps k)
+    longer = rw next at (ap length (changes_up_to_more ps (k - 1)) ∙ length-append (changes_up_to ps (k - 1)) (changes_at ps (k - 1 + 1)))
 
 -- the same of those from k on up to high
-pub have_changes : (ps : List PublishedValue) (k count : ℕ) → 0 < k → length (flat ps (k + count)) ≡ length (flat ps (k - 1)) + length (changes_at ps k ++ between (changes_at ps) k count)
+pub have_changes : (ps : List PublishedValue) (k count : ℕ) → 0 < k → length (changes_up_to ps (k + count)) ≡ length (changes_up_to ps (k - 1)) + length (changes_at ps k ++ between (changes_at ps) k count)
 have_changes ps k count above =
     let next : k - 1 + 1 ≡ k = omega arith in
-    let one : length (flat ps k) ≡ length (flat ps (k - 1)) + length (changes_at ps k) = rw next at (ap length (flat_more ps (k - 1)) ∙ length-append (flat ps (k - 1)) (changes_at ps (k - 1 + 1))) in
-    let rest : length (flat ps (k + count)) ≡ length (flat ps k) + length (between (changes_at ps) k count) = flat_between ps k count in
+    let one : length (changes_up_to ps k) ≡ length (changes_up_to ps (k - 1)) + length (changes_at ps k) = rw next at (ap length (changes_up_to_more ps (k - 1)) ∙ length-append (changes_up_to ps (k - 1)) (changes_at ps (k - 1 + 1))) in
+    let rest : length (changes_up_to ps (k + count)) ≡ length (changes_up_to ps k) + length (between (changes_at ps) k count) = changes_up_to_between ps k count in
     let both : length (changes_at ps k ++ between (changes_at ps) k count) ≡ length (changes_at ps k) + length (between (changes_at ps) k count) = length-append (changes_at ps k) (between (changes_at ps) k count) in
     omega arith
 
-pub want_row : (h : History) (k reached : ℕ) (r : Bool) → IsNumber h reached → IsTrue r ↔ (IsNext h k reached × (length (flat (published_of h) (k - 1)) < length (flat (published_of h) k))) → IsTrue r ↔ ((n : ℕ) × IsNext h k n × (0 < length (changes_at (published_of h) k)))
+pub want_row : (h : History) (k reached : ℕ) (r : Bool) → IsNumber h reached → IsTrue r ↔ (IsNext h k reached × (length (changes_up_to (published_of h) (k - 1)) < length (changes_up_to (published_of h) k))) → IsTrue r ↔ ((n : ℕ) × IsNext h k n × (0 < length (changes_at (published_of h) k)))
 want_row h k reached r number told = next_row h k reached (λ n. 0 < length (changes_at (published_of h) k)) r number (
   λ t. (let both = told.0 t in (both.0, (has_change (published_of h) k both.0.is_open.above).0 both.1)),
   λ both. told.1 (both.0, (has_change (published_of h) k both.0.is_open.above).1 both.1),
 )
 
-pub broke_row : (h : History) (k reached high : ℕ) (r : Bool) → IsNumber h reached → Reaches (accepted_of h) k high → IsTrue r ↔ (IsNext h k reached × (length (flat (published_of h) (k - 1)) < length (flat (published_of h) high))) → IsTrue r ↔ ((n : ℕ) × IsNext h k n × IsWork h k)
+pub broke_row : (h : History) (k reached high : ℕ) (r : Bool) → IsNumber h reached → Reaches (accepted_of h) k high → IsTrue r ↔ (IsNext h k reached × (length (changes_up_to (published_of h) (k - 1)) < length (changes_up_to (published_of h) high))) → IsTrue r ↔ ((n : ℕ) × IsNext h k n × IsWork h k)
 broke_row h k reached high r number reach told = next_row h k reached (λ n. IsWork h k) r number (
   λ t. (let both = told.0 t in (both.0, work both.0.is_open.above both.1)),
   λ both. told.1 (both.0, less both.0.is_open.above both.1),
 )
   where
-    work : 0 < k → length (flat (published_of h) (k - 1)) < length (flat (published_of h) high) → IsWork h k
+    work : 0 < k → length (changes_up_to (published_of h) (k - 1)) < length (changes_up_to (published_of h) high) → IsWork h k
     work above more =
         let from = reach.from in
         let is : high ≡ k + (high - k) = omega arith in
         record {
           count = high - k;
           reach = rw is at reach;
-          some = (let many = have_changes (published_of h) k (high - k) above in let here : length (flat (published_of h) high) ≡ length (flat (published_of h) (k + (high - k))) = ap (λ (n : ℕ). length (flat (published_of h) n)) is in omega arith);
+          some = (let many = have_changes (published_of h) k (high - k) above in let here : length (changes_up_to (published_of h) high) ≡ length (changes_up_to (published_of h) (k + (high - k))) = ap (λ (n : ℕ). length (changes_up_to (published_of h) n)) is in omega arith);
         }
 
-    less : 0 < k → IsWork h k → length (flat (published_of h) (k - 1)) < length (flat (published_of h) high)
+    less : 0 < k → IsWork h k → length (changes_up_to (published_of h) (k - 1)) < length (changes_up_to (published_of h) high)
     less above work =
         let same : k + work.count ≡ high = one_reach (accepted_of h) k (k + work.count) high work.reach reach in
         let many = have_changes (published_of h) k work.count above in
-        let here : length (flat (published_of h) high) ≡ length (flat (published_of h) (k + work.count)) = ap (λ (n : ℕ). length (flat (published_of h) n)) (sym same) in
+        let here : length (changes_up_to (published_of h) high) ≡ length (changes_up_to (published_of h) (k + work.count)) = ap (λ (n : ℕ). length (changes_up_to (published_of h) n)) (sym same) in
         let some = work.some in
         omega arith
 
--- a history is legal where its newest reply is allowed, and what came before is legal
+-- a history is legal if its newest reply is allowed, and what came before is legal
 pub legal-nil : (r : Bool) → r ≡ true → IsTrue r ↔ IsLegal []
 legal-nil r is = (λ t. legal_none, λ legal. is)
 
-pub legal-cons : (h : History) (e : Event) (r : Reply) (b : Bool) → Allowed h e r → IsTrue b ↔ IsLegal h → IsTrue b ↔ IsLegal ((e, r) ∷ h)
-legal-cons h e r b first told = (λ t. legal_more h e r (told.0 t) first, λ legal. told.1 (rest legal))
-  where
-    rest : IsLegal ((e, r) ∷ h) → IsLegal h
-    rest legal = record { each = λ later before d q is. legal.each ((e, r) ∷ later) before d q (ap (λ (p : History). (e, r) ∷ p) is) }
+legal_before : (h : History) (e : Event) (r : Reply) → IsLegal ((e, r) ∷ h) → IsLegal h
+legal_before h e r legal = record { each = λ later before d q is. legal.each ((e, r) ∷ later) before d q (ap (λ (p : History). (e, r) ∷ p) is) }
 
-pub not_legal : (h : History) (e : Event) (r : Reply) (a b : Bool) → a ≡ false → b ≡ false → IsTrue a ↔ Allowed h e r → IsTrue b ↔ IsLegal ((e, r) ∷ h)
-not_legal h e r a b is out told = (λ t. absurd (let bad : false ≡ true = sym out ∙ t in cc), λ legal. absurd (let bad : false ≡ true = sym is ∙ told.1 (legal.each [] h e r refl) in cc))
+pub legal-cons : (h : History) (e : Event) (r : Reply) (b : Bool) → IsLegal h → IsTrue b ↔ Allowed h e r → IsTrue b ↔ IsLegal ((e, r) ∷ h)
+legal-cons h e r b before told = (λ t. legal_more h e r before (told.0 t), λ legal. told.1 (legal.each [] h e r refl))
+
+pub not_legal : (h : History) (e : Event) (r : Reply) (a b : Bool) → a ≡ false → b ≡ false → IsTrue a ↔ IsLegal h → IsTrue b ↔ IsLegal ((e, r) ∷ h)
+not_legal h e r a b is out told = (λ t. absurd (let bad : false ≡ true = sym out ∙ t in cc), λ legal. absurd (let bad : false ≡ true = sym is ∙ told.1 (legal_before h e r legal) in cc))
+
+-- after a legal history at most as many edits are pending as a batch can have
+few_more : (h : History) (e : Event) (r : Reply) → Allowed h e r → length (pending_of h) ≤ max_changes → length (pending_of ((e, r) ∷ h)) ≤ max_changes
+few_more h (Edit c) Edited allowed few = let grown : length (pending_of h ++ c ∷ []) ≡ length (pending_of h) + 1 = length-append (pending_of h) (c ∷ []) in omega (arith, grown, allowed)
+few_more h (Edit c) BatchFull allowed few = rw (append-nil (pending_of h)) few
+few_more h (Edit c) WantOfMemory allowed few = rw (append-nil (pending_of h)) few
+few_more h (Edit c) r allowed few = absurd allowed
+few_more h (Close t) (Closed n) allowed few = omega arith
+few_more h (Close t) SequenceFull allowed few = rw (append-nil (pending_of h)) few
+few_more h (Close t) TimeBack allowed few = rw (append-nil (pending_of h)) few
+few_more h (Close t) TooLarge allowed few = rw (append-nil (pending_of h)) few
+few_more h (Close t) WantOfMemory allowed few = rw (append-nil (pending_of h)) few
+few_more h (Close t) r allowed few = absurd allowed
+few_more h (Deliver k form) r allowed few = rw (append-nil (pending_of h)) few
+few_more h Show r allowed few = rw (append-nil (pending_of h)) few
+
+pub few_pending : (h : History) → IsLegal h → length (pending_of h) ≤ max_changes
+few_pending [] legal = omega arith
+few_pending ((e, r) ∷ h) legal = few_more h e r (legal.each [] h e r refl) (few_pending h (legal_before h e r legal))
 
 -- where one list is empty, no pair is left
 pub no_first : {X Y : Type 0} (xs : List X) (ys : List Y) (n : ℕ) → n ≡ length xs → n ≡ 0 → zip xs ys ≡ []

@@ -14,8 +14,8 @@ use Rattle.std.specs.List.Sorted.{IsStrictlySortedBy}
 use Rattle.std.specs.declared.cmp.Ordering.{Ordering}
 use Rattle.std.specs.Map.{lookup}
 use Rattle.std.specs.Ordering.{nat_cmp}
-use Rattle.osm_opl.specs.Laws.LineLaws.{one_change}
-use Rattle.osm_opl.specs.Laws.RoundTrip.{line_spells}
+use Rattle.osm_opl.proofs.LineLaws.{one_change}
+use Rattle.osm_opl.proofs.RoundTrip.{line_spells}
 use Rattle.osm_opl.specs.Written.{line_text}
 use Rattle.std.specs.Prelude.{if◌then◌else◌, ◌==◌, ◌↔◌, count_by, IsTrue, Contains, nat_eq}
 use Rattle.std.specs.List.{AllByRecursion}
@@ -26,7 +26,7 @@ use Rattle.osm_model.specs.declared.kind.Key.{Key}
 use Rattle.osm_model.proofs.ContentLemmas.{same_key-only}
 use Rattle.osm_follow.specs.History.{History, accepted_of, published_of, start_of}
 use Rattle.osm_follow.specs.Mirror.{object_at, count_at, Counted, IsMirrorOf}
-use Rattle.osm_follow.specs.Published.{flat, time_at}
+use Rattle.osm_follow.specs.Published.{changes_up_to, time_at}
 use Rattle.osm_follow.specs.Reach.{Reaches}
 use Rattle.osm_follow.specs.View.{ViewValue, IsView}
 
@@ -145,7 +145,7 @@ pub all_held : (Q : ℕ → Type 0) (held : List ℕ) → ((j : ℕ) → Contain
 all_held Q held exact = recursion_from_All Q held (λ k d within. (exact (slice_index_or held k d)).0 (All-contains_itself held k d within))
 
 -- number, time and mirror are those that the history asks for, so that the held numbers decide
-pub view_row : (h : History) (v : ViewValue) (n : ℕ) (r : Bool) → Reaches (accepted_of h) 0 n → v.number ≡ n → v.time ≡ time_at (published_of h) n → IsMirrorOf (flat (published_of h) n) v.mirror → IsTrue r ↔ (IsStrictlySortedBy nat_cmp v.held × ((j : ℕ) → Contains v.held j ↔ ((n < j) × (accepted_of h j ≡ true)))) → IsTrue r ↔ IsView (published_of h) (start_of h) (accepted_of h) v
+pub view_row : (h : History) (v : ViewValue) (n : ℕ) (r : Bool) → Reaches (accepted_of h) 0 n → v.number ≡ n → v.time ≡ time_at (published_of h) n → IsMirrorOf (changes_up_to (published_of h) n) v.mirror → IsTrue r ↔ (IsStrictlySortedBy nat_cmp v.held × ((j : ℕ) → Contains v.held j ↔ ((n < j) × (accepted_of h j ≡ true)))) → IsTrue r ↔ IsView (published_of h) (start_of h) (accepted_of h) v
 view_row h v n r reach number time mirror told = (
   λ t. (let both = told.0 t in record {
     reach = rw number reach;

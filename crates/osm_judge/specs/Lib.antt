@@ -1,1 +1,3 @@
+pub mod Breaks
 pub mod Judge
+pub mod Legal

@@ -1,14 +1,15 @@
 //! What a history of events and replies says, one pair at a time.
 
 ghost use Rattle.std.specs.Prelude.{◌≡◌, ℕ, ◌<◌, ◌≤◌, length, false, IfOk};
-ghost use Rattle.osm_follow.specs.History.{accepted_of, accepts, closes, pending_of, published_of, time_of};
+ghost use Rattle.osm_follow.specs.History.{accepted_of, accepts, closes, pending_of, published_of};
+ghost use Rattle.osm_follow.specs.History.{time_of};
 ghost use Rattle.osm_follow.specs.History as hist;
-ghost use Rattle.osm_follow.specs.Published.{flat, last_time, time_at};
+ghost use Rattle.osm_follow.specs.Published.{changes_up_to, last_time, time_at};
 ghost use Rattle.osm_follow.specs.Reach.{Reaches};
 
+use osm_follow::event::{Event, Reply};
 use osm_model::change::Change;
 use osm_model::memory::WantOfMemory;
-use osm_follow::event::{Event, Reply};
 use std::alloc::Global;
 
 /// An event and its reply. A history is a list of pairs, its newest first.
@@ -21,20 +22,20 @@ fn is_closing(pair: &Pair) -> bool
 }
 
 /// How many sequences were published.
-pub fn published(history: &[Pair]) -> usize
+pub fn published_count(history: &[Pair]) -> usize
     ensures count { result ≡ length (published_of history.now) }
     ensures most { result ≤ length history.now }
 {
     match history {
         [] => 0,
         [pair, before @ ..] => {
-            let count = published(before);
+            let count = published_count(before);
             if is_closing(pair) { count + 1 } else { count }
         }
     }
 }
 
-/// The edits taken since the last close that published.
+/// The edits that were taken since the last close that published.
 pub fn pending(alloc: Global, history: &[Pair]) -> Result<Vec<Change>, WantOfMemory>
     ensures { IfOk result (λ v. v.items ≡ pending_of history.now) }
 {
@@ -143,14 +144,18 @@ pub fn reach(history: &[Pair], from: u32) -> u32
 }
 
 /// The changes of sequences 1 to that number, joined.
-pub fn flat_to(alloc: Global, history: &[Pair], number: u32) -> Result<Vec<Change>, WantOfMemory>
-    ensures { IfOk result (λ v. v.items ≡ flat (published_of history.now) number) }
+pub fn joined_changes(
+    alloc: Global,
+    history: &[Pair],
+    number: u32,
+) -> Result<Vec<Change>, WantOfMemory>
+    ensures { IfOk result (λ v. v.items ≡ changes_up_to (published_of history.now) number) }
 {
     match history {
         [] => Ok(Vec::new(alloc)),
         [pair, before @ ..] => {
-            let mut changes = flat_to(alloc, before, number)?;
-            if is_closing(pair) && published(before) < number as usize {
+            let mut changes = joined_changes(alloc, before, number)?;
+            if is_closing(pair) && published_count(before) < number as usize {
                 let mut edits = pending(alloc, before)?;
                 changes.append(&mut edits)?;
             }
@@ -169,7 +174,7 @@ pub fn time_of_sequence(history: &[Pair], number: u32) -> Option<u32>
     match history {
         [] => Some(0),
         [(Event::Close(time), Reply::Closed(_)), before @ ..] => {
-            if published(before) + 1 == number as usize {
+            if published_count(before) + 1 == number as usize {
                 Some(*time)
             } else {
                 time_of_sequence(before, number)

@@ -2,20 +2,23 @@
 
 ghost use Rattle.std.specs.Prelude.{◌≡◌, ◌<◌, ◌^◌, length, IfOk, IfSome, IsTrue};
 ghost use Rattle.osm_follow.specs.History.{history_of};
+ghost use Rattle.osm_follow.specs.Legal.{IsLegal};
+ghost use Rattle.osm_judge.specs.Breaks.{AreBreaksNeeded};
 ghost use Rattle.osm_judge.specs.Judge.{MayAnswer};
 
+use crate::breaks::are_breaks_needed;
 use crate::history::Pair;
 use crate::legal::is_legal;
 use crate::reading::{Unread, read_reply};
-use osm_model::memory::WantOfMemory;
 use osm_follow::event::{Event, Reply};
+use osm_model::memory::WantOfMemory;
 use osm_repl::fault::RunFault;
 use osm_repl::replies::write_replies;
 use osm_repl::script::parse_script;
 use std::alloc::Global;
 
-/// Whether the text is the reply text of replies each of which may follow what came before it, at the
-/// events of the script. Refused where the script is no script, or for memory.
+/// Whether the text may be the reply text of the script: that of one reply for each event, each
+/// reply allowed after what came before it. Refused if the script is none, or for memory.
 pub fn may_answer(alloc: Global, script: &[u8], text: &[u8]) -> Result<bool, RunFault>
     requires { length script.now < 2 ^ 63 }
     ensures { IfOk result (λ b. IsTrue b → MayAnswer script.now text.now) }
@@ -36,10 +39,16 @@ pub fn may_answer(alloc: Global, script: &[u8], text: &[u8]) -> Result<bool, Run
         return Ok(false);
     }
     let history = pair_up(alloc, events, replies)?;
-    match is_legal(alloc, history.as_slice()) {
-        Ok(is_legal) => Ok(is_legal),
+    match is_right(alloc, history.as_slice()) {
+        Ok(is_right) => Ok(is_right),
         Err(WantOfMemory) => Err(RunFault::WantOfMemory),
     }
+}
+
+fn is_right(alloc: Global, history: &[Pair]) -> Result<bool, WantOfMemory>
+    ensures { IfOk result (λ b. IsTrue b → IsLegal history.now × AreBreaksNeeded history.now) }
+{
+    Ok(is_legal(alloc, history)? && are_breaks_needed(alloc, history)?)
 }
 
 fn read_replies(alloc: Global, text: &[u8], count: usize) -> Result<Vec<Reply>, Unread> {

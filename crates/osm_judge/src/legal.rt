@@ -1,31 +1,80 @@
 //! Which reply may follow a history.
 
-ghost use Rattle.std.specs.Prelude.{◌≡◌, ℕ, ◌+◌, ◌-◌, ◌<◌, ◌≤◌, ◌↔◌, false, length, IfOk, IsTrue};
-ghost use Rattle.osm_follow.specs.History.{accepted_of, published_of};
-ghost use Rattle.osm_follow.specs.Legal.{Allowed, AllowedClose, AllowedDeliver, AllowedEdit, AllowedShow, IsLegal, IsNext, IsNumber, IsOpen};
-ghost use Rattle.osm_follow.specs.Published.{flat};
+ghost use Rattle.std.specs.Prelude.{◌≡◌, ℕ, ◌+◌, ◌-◌, ◌<◌, ◌≤◌, ◌↔◌, false, length, IfErr, IfOk};
+ghost use Rattle.std.specs.Prelude.{IsTrue};
+ghost use Rattle.osm_model.specs.Limits.{max_changes, max_file};
+ghost use Rattle.osm_follow.specs.History.{accepted_of, pending_of, published_of, publisher_of};
+ghost use Rattle.osm_follow.specs.Legal.{Allowed, AllowedClose, AllowedDeliver, AllowedEdit};
+ghost use Rattle.osm_follow.specs.Legal.{AllowedShow, IsLegal, IsNext, IsNumber, IsOpen};
+ghost use Rattle.osm_follow.specs.Published.{changes_up_to};
+ghost use Rattle.osm_follow.specs.Publisher.{CanClose, IsSmall, IsTooLarge};
 ghost use Rattle.osm_follow.specs.Reach.{Reaches};
+ghost use Rattle.osm_judge.specs.Legal.{IsUnjudged};
 
 use crate::history::{
-    Pair, flat_to, is_accepted, is_broken, least_time, pending, published, reach,
+    Pair, is_accepted, is_broken, joined_changes, least_time, pending, published_count, reach,
 };
 use crate::views::is_view;
+use osm_follow::event::{Event, Reply};
+use osm_model::batch::{Batch, PushError};
+use osm_model::change::Change;
+use osm_model::form::{ChangeForm, FormError};
 use osm_model::limits::{MAX_CHANGES, MAX_SEQUENCE};
 use osm_model::memory::WantOfMemory;
-use osm_follow::event::{Event, Reply};
+use osm_o5c::o5c::O5c;
+use osm_opl::opl::Opl;
 use std::alloc::Global;
 
-/// Whether each reply of a history may follow what came before it.
+/// Why there is no judgement of a reply.
+#[derive(Clone, Copy, Debug, PartialEq, Eq)]
+pub enum Unjudged {
+    /// More than 100,000 edits are pending, as after no legal history.
+    TooManyPending,
+    /// Memory was refused.
+    WantOfMemory,
+}
+
+impl From<WantOfMemory> for Unjudged {
+    ghost use Rattle.std.specs.Prelude.{◌≡◌};
+    ghost use Rattle.osm_judge.specs.declared.legal.Unjudged.TheVariants as causes;
+
+    ghost from_gives = { λ _ e. e ≡ causes.WantOfMemory };
+
+    fn from(_error: WantOfMemory) -> Unjudged {
+        Unjudged::WantOfMemory
+    }
+}
+
+/// Whether each reply of a history may follow what came before it. The oldest is judged first.
 pub fn is_legal(alloc: Global, history: &[Pair]) -> Result<bool, WantOfMemory>
     ensures { IfOk result (λ b. IsTrue b ↔ IsLegal history.now) }
 {
     let Some((pair, before)) = history.split_first() else {
         return Ok(true);
     };
-    if !is_allowed(alloc, before, &pair.0, &pair.1)? {
+    if !is_legal(alloc, before)? {
         return Ok(false);
     }
-    is_legal(alloc, before)
+    is_allowed_next(alloc, before, &pair.0, &pair.1)
+}
+
+// Whether the reply may follow a legal history, after which no more edits are pending than a batch
+// can have.
+#[tactic(auto, using(crate::proofs::LegalLemmas::few_pending))]
+fn is_allowed_next(
+    alloc: Global,
+    history: &[Pair],
+    event: &Event,
+    reply: &Reply,
+) -> Result<bool, WantOfMemory>
+    requires { IsLegal history.now }
+    ensures { IfOk result (λ b. IsTrue b ↔ Allowed history.now event.now reply.now) }
+{
+    match is_allowed(alloc, history, event, reply) {
+        Ok(is_allowed) => Ok(is_allowed),
+        Err(Unjudged::WantOfMemory) => Err(WantOfMemory),
+        Err(Unjudged::TooManyPending) => unreachable!(),
+    }
 }
 
 /// Whether the reply may follow the history at that event.
@@ -34,14 +83,15 @@ pub fn is_allowed(
     history: &[Pair],
     event: &Event,
     reply: &Reply,
-) -> Result<bool, WantOfMemory>
-    ensures { IfOk result (λ b. IsTrue b ↔ Allowed history.now event.now reply.now) }
+) -> Result<bool, Unjudged>
+    ensures judged { IfOk result (λ b. IsTrue b ↔ Allowed history.now event.now reply.now) }
+    ensures refused { IfErr result (IsUnjudged history.now) }
 {
     match event {
-        Event::Edit(_) => is_edit_allowed(alloc, history, reply),
-        Event::Close(time) => Ok(is_close_allowed(history, *time, reply)),
-        Event::Deliver { number, .. } => is_deliver_allowed(alloc, history, *number, reply),
-        Event::Show => is_show_allowed(alloc, history, reply),
+        Event::Edit(_) => Ok(is_edit_allowed(alloc, history, reply)?),
+        Event::Close(time) => is_close_allowed(alloc, history, *time, reply),
+        Event::Deliver { number, .. } => Ok(is_deliver_allowed(alloc, history, *number, reply)?),
+        Event::Show => Ok(is_show_allowed(alloc, history, reply)?),
     }
 }
 
@@ -56,20 +106,85 @@ fn is_edit_allowed(alloc: Global, history: &[Pair], reply: &Reply) -> Result<boo
     }
 }
 
-fn is_close_allowed(history: &[Pair], time: u32, reply: &Reply) -> bool
-    ensures { IsTrue result ↔ AllowedClose history.now time reply.now }
+fn is_close_allowed(
+    alloc: Global,
+    history: &[Pair],
+    time: u32,
+    reply: &Reply,
+) -> Result<bool, Unjudged>
+    ensures judged { IfOk result (λ b. IsTrue b ↔ AllowedClose history.now time reply.now) }
+    ensures refused { IfErr result (IsUnjudged history.now) }
 {
-    let count = published(history);
+    let count = published_count(history);
     let least = least_time(history);
     match reply {
         Reply::Closed(number) => {
-            count < MAX_SEQUENCE as usize && least <= time && *number as usize == count + 1
+            let is_next = can_close(history, time) && *number as usize == count + 1;
+            Ok(is_next && is_small(alloc, history)?)
         }
-        Reply::SequenceFull => count == MAX_SEQUENCE as usize,
-        Reply::TimeBack => count < MAX_SEQUENCE as usize && time < least,
-        Reply::WantOfMemory => count < MAX_SEQUENCE as usize && least <= time,
-        _ => false,
+        Reply::SequenceFull => Ok(count == MAX_SEQUENCE as usize),
+        Reply::TimeBack => Ok(count < MAX_SEQUENCE as usize && time < least),
+        Reply::TooLarge => Ok(can_close(history, time) && !is_small(alloc, history)?),
+        Reply::WantOfMemory => Ok(can_close(history, time)),
+        _ => Ok(false),
     }
+}
+
+// Whether a number is left, and the time isn't below the last one.
+fn can_close(history: &[Pair], time: u32) -> bool
+    ensures { IsTrue result ↔ CanClose (publisher_of history.now) time }
+{
+    published_count(history) < MAX_SEQUENCE as usize && least_time(history) <= time
+}
+
+// Whether both files of the pending edits are within 64 MiB. They are written to be measured.
+fn is_small(alloc: Global, history: &[Pair]) -> Result<bool, Unjudged>
+    ensures small { IfOk result (λ b. IsTrue b ↔ IsSmall (pending_of history.now)) }
+    ensures large { IfOk result (λ b. (b ≡ false) ↔ IsTooLarge (pending_of history.now)) }
+    ensures refused { IfErr result (IsUnjudged history.now) }
+{
+    let batch = pending_batch(alloc, history)?;
+    let is_opl_small = is_written_small::<Opl>(alloc, &batch)?;
+    let is_o5c_small = is_written_small::<O5c>(alloc, &batch)?;
+    Ok(is_opl_small && is_o5c_small)
+}
+
+fn is_written_small<F: ChangeForm>(alloc: Global, batch: &Batch) -> Result<bool, WantOfMemory>
+    ensures { IfOk result (λ b. IsTrue b ↔ (length (F.text batch.now) ≤ max_file)) }
+{
+    match F::write(alloc, batch) {
+        Ok(_) => Ok(true),
+        Err(FormError::TooLarge) => Ok(false),
+        Err(FormError::WantOfMemory) => Err(WantOfMemory),
+        Err(FormError::Fault { place: _, why: _ }) => unreachable!(),
+    }
+}
+
+// The pending edits as a batch, which has at most 100,000.
+fn pending_batch(alloc: Global, history: &[Pair]) -> Result<Batch, Unjudged>
+    ensures batch { IfOk result (λ b. b ≡ pending_of history.now) }
+    ensures refused { IfErr result (IsUnjudged history.now) }
+{
+    let changes = pending(alloc, history)?;
+    if changes.len() > MAX_CHANGES {
+        return Err(Unjudged::TooManyPending);
+    }
+    Ok(batch_of(alloc, changes)?)
+}
+
+fn batch_of(alloc: Global, changes: Vec<Change>) -> Result<Batch, WantOfMemory>
+    requires { length changes.items ≤ max_changes }
+    ensures { IfOk result (λ b. b ≡ changes.items) }
+{
+    let mut batch = Batch::new(alloc);
+    for change in changes {
+        match batch.push(change) {
+            Ok(()) => {}
+            Err(PushError::Full(_)) => unreachable!(),
+            Err(PushError::WantOfMemory(_)) => return Err(WantOfMemory),
+        }
+    }
+    Ok(batch)
 }
 
 fn is_deliver_allowed(
@@ -99,10 +214,10 @@ fn is_deliver_allowed(
 fn is_published(history: &[Pair], number: u32) -> bool
     ensures { IsTrue result ↔ ((0 < number) × (number ≤ length (published_of history.now))) }
 {
-    0 < number && number as usize <= published(history)
+    0 < number && number as usize <= published_count(history)
 }
 
-// Whether the sequence was published, and the follower, at `reached`, isn't broken.
+// Whether the sequence was published, and the follower isn't broken and is at `reached`.
 fn is_open(history: &[Pair], number: u32, reached: u32) -> bool
     requires { IsNumber history.now reached }
     ensures { IsTrue result ↔ IsOpen history.now number reached }
@@ -110,7 +225,7 @@ fn is_open(history: &[Pair], number: u32, reached: u32) -> bool
     is_published(history, number) && !is_broken(history)
 }
 
-// Whether besides it is the next.
+// Whether it also is the next.
 fn is_next(history: &[Pair], number: u32, reached: u32) -> bool
     requires { IsNumber history.now reached }
     ensures { IsTrue result ↔ IsNext history.now number reached }
@@ -126,7 +241,7 @@ fn is_old(history: &[Pair], number: u32, reached: u32) -> bool
     is_open(history, number, reached) && number <= reached
 }
 
-// Whether it lies behind the next, and wasn't accepted.
+// Whether it is above the next, and wasn't accepted.
 fn is_early(history: &[Pair], number: u32, reached: u32) -> bool
     requires { IsNumber history.now reached }
     ensures { IsTrue result ↔ (IsOpen history.now number reached
@@ -137,7 +252,7 @@ fn is_early(history: &[Pair], number: u32, reached: u32) -> bool
         && !is_accepted(history, u64::from(number))
 }
 
-// Whether it is the next, and these are the sequences from it on that can then be applied.
+// Whether it is the next, and sequences `low` to `high` are those that can then be applied.
 fn is_applied(history: &[Pair], number: u32, reached: u32, low: u32, high: u32) -> bool
     requires { IsNumber history.now reached }
     ensures { IsTrue result ↔ (IsNext history.now number reached
@@ -152,7 +267,7 @@ fn is_reach(history: &[Pair], from: u32, high: u32) -> bool
     high == reach(history, from)
 }
 
-// Whether it is the next, and it and those above it up to `high`, joined, have a change.
+// Whether it is the next, and sequences `number` to `high` aren't all empty.
 fn is_next_with_changes(
     alloc: Global,
     history: &[Pair],
@@ -162,13 +277,14 @@ fn is_next_with_changes(
 ) -> Result<bool, WantOfMemory>
     requires { IsNumber history.now reached }
     ensures { IfOk result (λ b. IsTrue b ↔ (IsNext history.now number reached
-        × (length (flat (published_of history.now) (number - 1)) < length (flat (published_of history.now) high)))) }
+        × (length (changes_up_to (published_of history.now) (number - 1))
+        < length (changes_up_to (published_of history.now) high)))) }
 {
     if !is_next(history, number, reached) {
         return Ok(false);
     }
-    let before = flat_to(alloc, history, number - 1)?;
-    let after = flat_to(alloc, history, high)?;
+    let before = joined_changes(alloc, history, number - 1)?;
+    let after = joined_changes(alloc, history, high)?;
     Ok(before.len() < after.len())
 }
 

@@ -1,12 +1,11 @@
-//! Plain, slow judges of what a world replies, for tests: the contract of each is the definition that it
-//! computes.
+//! Plain, slow judges of what a world replies, for tests: the contract of each is the definition
+//! that it computes.
 #![tactic(auto)]
 
+pub mod breaks;
 pub mod history;
 pub mod judge;
 pub mod legal;
 pub mod plain;
 mod reading;
-#[cfg(test)]
-mod tests;
 pub mod views;

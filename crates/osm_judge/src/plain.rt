@@ -1,5 +1,5 @@
-//! The definitions of content and counts as slow, plain functions, for tests: each contract is the
-//! definition that it computes.
+//! The definitions of content and counts as slow, plain functions: each contract is the definition
+//! that the function computes.
 
 ghost use Rattle.std.specs.Prelude.{◌≡◌, option_copied};
 ghost use Rattle.osm_model.specs.Content.{content_of, edits_by_changeset, edits_by_user, last_of};

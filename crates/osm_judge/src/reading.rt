@@ -1,10 +1,12 @@
-//! Reply texts, read without a promise: who needs one writes what was read and compares.
+//! Reads reply texts, and promises nothing: a caller that needs a promise writes what was read and
+//! compares.
 
-use osm_model::memory::WantOfMemory;
-use osm_model::time::time_read;
-use osm_opl::lines::{LineError, read_line, split_line};
 use osm_follow::event::Reply;
 use osm_follow::view::View;
+use osm_model::memory::WantOfMemory;
+use osm_model::time::time_read;
+use osm_opl::lines::{LineError, read_line};
+use osm_reading::lines::split_line;
 use std::alloc::{AllocError, AllocFailed, Global};
 
 /// Why a text isn't read.
@@ -41,7 +43,7 @@ impl From<LineError> for Unread {
     }
 }
 
-/// A reply and the text behind it.
+/// A reply and the text after it.
 pub fn read_reply(alloc: Global, text: &[u8]) -> Result<(Reply, &[u8]), Unread> {
     let (line, rest) = next_line(text)?;
     let reply = match line {
@@ -50,6 +52,7 @@ pub fn read_reply(alloc: Global, text: &[u8]) -> Result<(Reply, &[u8]), Unread> 
         b"no memory" => Reply::WantOfMemory,
         b"sequence full" => Reply::SequenceFull,
         b"time back" => Reply::TimeBack,
+        b"too large" => Reply::TooLarge,
         b"not published" => Reply::NotPublished,
         b"broken" => Reply::Broken,
         b"old" => Reply::Old,
@@ -68,7 +71,7 @@ fn read_longer(alloc: Global, text: &[u8]) -> Result<(Reply, &[u8]), Unread> {
     if let Some(range) = line.strip_prefix(b"applied ") {
         let (low, high) = halves(range, b'.')?;
         let low = small(low)?;
-        let high = small(behind(high, b".")?)?;
+        let high = small(after_prefix(high, b".")?)?;
         return Ok((Reply::Applied { low, high }, rest));
     }
     let (view, rest) = read_view(alloc, text)?;
@@ -77,12 +80,12 @@ fn read_longer(alloc: Global, text: &[u8]) -> Result<(Reply, &[u8]), Unread> {
 
 fn read_view(alloc: Global, text: &[u8]) -> Result<(View, &[u8]), Unread> {
     let (line, rest) = next_line(text)?;
-    let number = small(behind(line, b"number ")?)?;
+    let number = small(after_prefix(line, b"number ")?)?;
     let (line, rest) = next_line(rest)?;
-    let time = time_read(behind(line, b"time ")?);
+    let time = time_read(after_prefix(line, b"time ")?);
     let (line, mut rest) = next_line(rest)?;
     let mut objects = Vec::new(alloc);
-    for _ in 0..count(behind(line, b"objects ")?)? {
+    for _ in 0..count(after_prefix(line, b"objects ")?)? {
         let (line, after) = next_line(rest)?;
         objects.push(read_line(alloc, line)?)?;
         rest = after;
@@ -91,7 +94,7 @@ fn read_view(alloc: Global, text: &[u8]) -> Result<(View, &[u8]), Unread> {
     let (changesets, rest) = read_counts(alloc, rest, b"changesets ")?;
     let (line, mut rest) = next_line(rest)?;
     let mut held = Vec::new(alloc);
-    for _ in 0..count(behind(line, b"held ")?)? {
+    for _ in 0..count(after_prefix(line, b"held ")?)? {
         let (line, after) = next_line(rest)?;
         held.push(small(line)?)?;
         rest = after;
@@ -109,7 +112,7 @@ fn read_counts<'a>(
 ) -> Result<(Vec<(u32, u64)>, &'a [u8]), Unread> {
     let (line, mut rest) = next_line(text)?;
     let mut counts = Vec::new(alloc);
-    for _ in 0..count(behind(line, name)?)? {
+    for _ in 0..count(after_prefix(line, name)?)? {
         let (line, after) = next_line(rest)?;
         let (number, edits) = halves(line, b' ')?;
         counts.push((small(number)?, count(edits)?))?;
@@ -125,13 +128,13 @@ fn next_line(text: &[u8]) -> Result<(&[u8], &[u8]), Unread> {
     }
 }
 
-fn behind<'a>(line: &'a [u8], name: &[u8]) -> Result<&'a [u8], Unread> {
-    line.strip_prefix(name).ok_or(Unread::NoReply)
+fn after_prefix<'a>(line: &'a [u8], prefix: &[u8]) -> Result<&'a [u8], Unread> {
+    line.strip_prefix(prefix).ok_or(Unread::NoReply)
 }
 
 fn halves(line: &[u8], at: u8) -> Result<(&[u8], &[u8]), Unread> {
     match line.iter().position(|byte| *byte == at) {
-        Some(place) => Ok((&line[..place], &line[place + 1..])),
+        Some(index) => Ok((&line[..index], &line[index + 1..])),
         None => Err(Unread::NoReply),
     }
 }

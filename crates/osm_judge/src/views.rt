@@ -1,6 +1,7 @@
 //! Whether a view is the one that a history asks for.
 
-ghost use Rattle.std.specs.Prelude.{◌≡◌, ℕ, ◌<◌, ◌↔◌, true, map, Contains, IfOk, IsTrue, option_copied};
+ghost use Rattle.std.specs.Prelude.{◌≡◌, ℕ, ◌<◌, ◌↔◌, true, map, Contains, IfOk, IsTrue};
+ghost use Rattle.std.specs.Prelude.{option_copied};
 ghost use Rattle.std.specs.List.{AllByRecursion};
 ghost use Rattle.std.specs.List.Sorted.{IsStrictlySortedBy};
 ghost use Rattle.std.specs.Ordering.{nat_cmp};
@@ -9,29 +10,31 @@ ghost use Rattle.osm_model.specs.Content.{content_of, edits_by_changeset, edits_
 ghost use Rattle.osm_model.specs.KeyOrder.{key_cmp};
 ghost use Rattle.osm_model.specs.declared.kind.Key.{Key};
 ghost use Rattle.osm_follow.specs.History.{accepted_of, accepts, published_of, start_of};
-ghost use Rattle.osm_follow.specs.Mirror.{AreCountsAboveZero, AreRising, IsAboveZero, IsMirrorOf, count_at, object_at};
-ghost use Rattle.osm_follow.specs.Published.{flat, time_at};
+ghost use Rattle.osm_follow.specs.Mirror.{AreCountsAboveZero, AreRising, IsAboveZero, IsMirrorOf};
+ghost use Rattle.osm_follow.specs.Mirror.{count_at, object_at};
+ghost use Rattle.osm_follow.specs.Published.{changes_up_to, time_at};
 ghost use Rattle.osm_follow.specs.View.{IsView};
 
-use crate::history::{Pair, flat_to, is_accepted, reach, time_of_sequence};
+use crate::history::{Pair, is_accepted, joined_changes, reach, time_of_sequence};
+use crate::plain::{plain_content_of, plain_edits_by_changeset, plain_edits_by_user};
+use osm_follow::event::{Event, Reply};
+use osm_follow::view::View;
 use osm_model::change::Change;
 use osm_model::kind::Key;
 use osm_model::memory::WantOfMemory;
 use osm_opl::lines::write_line;
-use osm_follow::event::{Event, Reply};
-use crate::plain::{plain_content_of, plain_edits_by_changeset, plain_edits_by_user};
-use osm_follow::view::View;
 use std::alloc::Global;
 
 /// Whether the view may be shown after the history.
 pub fn is_view(alloc: Global, history: &[Pair], view: &View) -> Result<bool, WantOfMemory>
-    ensures { IfOk result (λ b. IsTrue b ↔ IsView (published_of history.now) (start_of history.now) (accepted_of history.now) view.now) }
+    ensures { IfOk result (λ b. IsTrue b ↔ IsView (published_of history.now)
+        (start_of history.now) (accepted_of history.now) view.now) }
 {
     let number = reach(history, 0);
     if view.number() != number || view.time() != time_of_sequence(history, number) {
         return Ok(false);
     }
-    let changes = flat_to(alloc, history, number)?;
+    let changes = joined_changes(alloc, history, number)?;
     let is_mirror = is_mirror_of(alloc, view, changes.as_slice())?;
     if !is_mirror {
         return Ok(false);
@@ -66,7 +69,8 @@ fn are_exactly_held(history: &[Pair], number: u32, held: &[u32]) -> bool
 
 // Whether each of the numbers is above that number, and was accepted.
 fn are_accepted(history: &[Pair], number: u32, held: &[u32]) -> bool
-    ensures { IsTrue result ↔ AllByRecursion (λ j. (number < j) × (accepted_of history.now j ≡ true)) held.now }
+    ensures { IsTrue result
+        ↔ AllByRecursion (λ j. (number < j) × (accepted_of history.now j ≡ true)) held.now }
 {
     match held {
         [] => true,
@@ -80,7 +84,8 @@ fn are_accepted(history: &[Pair], number: u32, held: &[u32]) -> bool
 
 // Whether each number above that number that was accepted is held.
 fn are_all_held(history: &[Pair], number: u32, held: &[u32]) -> bool
-    ensures { IsTrue result ↔ ((j : ℕ) → number < j → accepted_of history.now j ≡ true → Contains held.now j) }
+    ensures { IsTrue result
+        ↔ ((j : ℕ) → number < j → accepted_of history.now j ≡ true → Contains held.now j) }
 {
     match history {
         [] => true,
@@ -92,7 +97,7 @@ fn are_all_held(history: &[Pair], number: u32, held: &[u32]) -> bool
     }
 }
 
-// The number that the pair accepts; 0, which is above no number, where it accepts none.
+// The number that the pair accepts; 0, which is above no number, if it accepts none.
 fn accepted_by(pair: &Pair) -> u32
     ensures some { 0 < result → accepts pair.now.0 pair.now.1 result ≡ true }
     ensures only { (j : ℕ) → accepts pair.now.0 pair.now.1 j ≡ true → j ≡ result }
@@ -137,7 +142,8 @@ fn are_rising(objects: &[Change]) -> bool
 }
 
 fn is_key_below(key: Key, others: &[Change]) -> bool
-    ensures { IsTrue result ↔ AllByRecursion (λ k. key_cmp key k ≡ Less) (map (λ c. c.key) others.now) }
+    ensures { IsTrue result
+        ↔ AllByRecursion (λ k. key_cmp key k ≡ Less) (map (λ c. c.key) others.now) }
 {
     match others {
         [] => true,
@@ -161,7 +167,8 @@ fn are_counts_rising(counts: &[(u32, u64)]) -> bool
 }
 
 fn is_count_below(number: u32, others: &[(u32, u64)]) -> bool
-    ensures { IsTrue result ↔ AllByRecursion (λ n. nat_cmp number n ≡ Less) (map (λ e. e.0) others.now) }
+    ensures { IsTrue result
+        ↔ AllByRecursion (λ n. nat_cmp number n ≡ Less) (map (λ e. e.0) others.now) }
 {
     match others {
         [] => true,
@@ -180,7 +187,8 @@ fn are_above_zero(counts: &[(u32, u64)]) -> bool
 
 // Whether the objects are what the changes leave, at each key.
 fn are_objects(alloc: Global, objects: &[Change], changes: &[Change]) -> Result<bool, WantOfMemory>
-    ensures { IfOk result (λ b. IsTrue b ↔ ((k : Key) → object_at objects.now k ≡ content_of changes.now k)) }
+    ensures { IfOk result (λ b. IsTrue b
+        ↔ ((k : Key) → object_at objects.now k ≡ content_of changes.now k)) }
 {
     let is_first = are_objects_at(alloc, objects, changes, objects)?;
     let is_second = are_objects_at(alloc, objects, changes, changes)?;
@@ -192,12 +200,12 @@ fn are_objects_at(
     alloc: Global,
     objects: &[Change],
     changes: &[Change],
-    places: &[Change],
+    list: &[Change],
 ) -> Result<bool, WantOfMemory>
-    ensures { IfOk result (λ b. IsTrue b
-        ↔ AllByRecursion (λ c. object_at objects.now c.key ≡ content_of changes.now c.key) places.now) }
+    ensures { IfOk result (λ b. IsTrue b ↔ AllByRecursion
+        (λ c. object_at objects.now c.key ≡ content_of changes.now c.key) list.now) }
 {
-    match places {
+    match list {
         [] => Ok(true),
         [first, others @ ..] => {
             let is_first = is_object(alloc, objects, changes, first.key())?;
@@ -212,7 +220,8 @@ fn is_object(
     changes: &[Change],
     key: Key,
 ) -> Result<bool, WantOfMemory>
-    ensures { IfOk result (λ b. IsTrue b ↔ (object_at objects.now key ≡ content_of changes.now key)) }
+    ensures { IfOk result (λ b. IsTrue b
+        ↔ (object_at objects.now key ≡ content_of changes.now key)) }
 {
     match (object_with(objects, key), plain_content_of(changes, key)) {
         (None, None) => Ok(true),
@@ -236,7 +245,7 @@ fn object_with<'a>(objects: &'a [Change], key: Key) -> Option<&'a Change>
     }
 }
 
-// Whether two changes are one: whether their lines are.
+// Whether two changes are equal: their lines are equal exactly if they are.
 fn is_same(alloc: Global, change: &Change, other: &Change) -> Result<bool, WantOfMemory>
     ensures { IfOk result (λ b. IsTrue b ↔ (change.now ≡ other.now)) }
 {
@@ -278,7 +287,8 @@ fn is_user(users: &[(u32, u64)], changes: &[Change], uid: u32) -> bool
 
 // Whether they are for the users of that list.
 fn are_users_listed(users: &[(u32, u64)], changes: &[Change], list: &[(u32, u64)]) -> bool
-    ensures { IsTrue result ↔ AllByRecursion (λ e. count_at users.now e.0 ≡ edits_by_user changes.now e.0) list.now }
+    ensures { IsTrue result
+        ↔ AllByRecursion (λ e. count_at users.now e.0 ≡ edits_by_user changes.now e.0) list.now }
 {
     match list.split_first() {
         None => true,
@@ -290,8 +300,8 @@ fn are_users_listed(users: &[(u32, u64)], changes: &[Change], list: &[(u32, u64)
 
 // Whether they are for the users of those changes.
 fn are_users_of(users: &[(u32, u64)], changes: &[Change], list: &[Change]) -> bool
-    ensures { IsTrue result
-        ↔ AllByRecursion (λ c. count_at users.now c.meta.uid ≡ edits_by_user changes.now c.meta.uid) list.now }
+    ensures { IsTrue result ↔ AllByRecursion
+        (λ c. count_at users.now c.meta.uid ≡ edits_by_user changes.now c.meta.uid) list.now }
 {
     match list.split_first() {
         None => true,
@@ -304,7 +314,8 @@ fn are_users_of(users: &[(u32, u64)], changes: &[Change], list: &[Change]) -> bo
 
 // Whether the changesets' counts are their edits in the changes, for each changeset.
 fn are_changesets(changesets: &[(u32, u64)], changes: &[Change]) -> bool
-    ensures { IsTrue result ↔ ((id : ℕ) → count_at changesets.now id ≡ edits_by_changeset changes.now id) }
+    ensures { IsTrue result
+        ↔ ((id : ℕ) → count_at changesets.now id ≡ edits_by_changeset changes.now id) }
 {
     are_changesets_listed(changesets, changes, changesets)
         && are_changesets_of(changesets, changes, changes)
@@ -318,8 +329,8 @@ fn is_changeset(changesets: &[(u32, u64)], changes: &[Change], id: u32) -> bool
 
 // Whether they are for the changesets of that list.
 fn are_changesets_listed(changesets: &[(u32, u64)], changes: &[Change], list: &[(u32, u64)]) -> bool
-    ensures { IsTrue result
-        ↔ AllByRecursion (λ e. count_at changesets.now e.0 ≡ edits_by_changeset changes.now e.0) list.now }
+    ensures { IsTrue result ↔ AllByRecursion
+        (λ e. count_at changesets.now e.0 ≡ edits_by_changeset changes.now e.0) list.now }
 {
     match list.split_first() {
         None => true,
@@ -332,8 +343,8 @@ fn are_changesets_listed(changesets: &[(u32, u64)], changes: &[Change], list: &[
 
 // Whether they are for the changesets of those changes.
 fn are_changesets_of(changesets: &[(u32, u64)], changes: &[Change], list: &[Change]) -> bool
-    ensures { IsTrue result ↔ AllByRecursion
-        (λ c. count_at changesets.now c.meta.changeset ≡ edits_by_changeset changes.now c.meta.changeset) list.now }
+    ensures { IsTrue result ↔ AllByRecursion (λ c. count_at changesets.now c.meta.changeset
+        ≡ edits_by_changeset changes.now c.meta.changeset) list.now }
 {
     match list.split_first() {
         None => true,

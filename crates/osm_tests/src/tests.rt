@@ -1,5 +1,7 @@
 mod follow;
+mod forms;
 mod holding;
+mod judge;
 mod model;
 mod o5c;
 mod opl;

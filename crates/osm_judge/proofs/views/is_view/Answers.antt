@@ -1,7 +1,7 @@
 use Rattle.std.proofs.Common.{◌≡◌, true, rules}
 use Rattle.osm_follow.specs.History.{published_of}
 use Rattle.osm_follow.specs.Mirror.{IsMirrorOf}
-use Rattle.osm_follow.specs.Published.{flat, time_at}
+use Rattle.osm_follow.specs.Published.{changes_up_to, time_at}
 use Rattle.osm_judge.proofs.ViewLemmas.{view_row}
 use Rattle.osm_judge.proofs.views.is_view.Goals as goal
 
@@ -9,7 +9,7 @@ pub returns : goal.returns
 returns c =
     let number : c.args.view.now.number ≡ c.reach-number.result = search rules in
     let time : c.args.view.now.time ≡ time_at (published_of c.args.history.now) c.reach-number.result = search rules in
-    let changes : c.as_slice.result.now ≡ flat (published_of c.args.history.now) c.reach-number.result = search rules in
+    let changes : c.as_slice.result.now ≡ changes_up_to (published_of c.args.history.now) c.reach-number.result = search rules in
     let is : c.in_ok-is_mirror.is_mirror ≡ true = search rules in
     let mirror : IsMirrorOf c.as_slice.result.now c.args.view.now.mirror = c.in_ok-is_mirror.ensures.0 is in
     view_row c.args.history.now c.args.view.now c.reach-number.result c.is_held.result c.reach-number.ensures number time

@@ -1,0 +1,106 @@
+//! Tests of osm_judge: which texts it judges, and its definitions on lists that a person wrote.
+
+use osm_judge::judge::may_answer;
+use osm_judge::plain::{plain_content_of, plain_edits_by_changeset, plain_edits_by_user};
+use osm_model::kind::{Key, Kind};
+use osm_opl::lines::{read_line, write_line};
+use osm_repl::fault::RunFault;
+use std::test::Fail;
+
+// Lines of changes, the line of node 1 that they leave (empty if they leave none), and how many
+// edits are of user 5 and of changeset 7.
+const LEFT: [(&str, &str, &str, usize, usize); 8] = [
+    ("nothing", "", "", 0, 0),
+    (
+        "one change",
+        "n1 v1 dV c7 t2024-01-01T00:00:00Z i5 uann T x1 y2",
+        "n1 v1 dV c7 t2024-01-01T00:00:00Z i5 uann T x1 y2",
+        1,
+        1,
+    ),
+    (
+        "the later change counts",
+        "n1 v5 dV c7 t2024-01-01T00:00:00Z i5 uann T x1 y2\n\
+n1 v2 dV c7 t2024-01-01T00:00:00Z i5 uann T x1 y2",
+        "n1 v2 dV c7 t2024-01-01T00:00:00Z i5 uann T x1 y2",
+        2,
+        2,
+    ),
+    (
+        "a deletion at the end",
+        "n1 v1 dV c7 t2024-01-01T00:00:00Z i5 uann T x1 y2\n\
+n1 v2 dV c7 t2024-01-01T00:00:00Z i5 uann T x1 y2\n\
+n1 v3 dD c7 t2024-01-01T00:00:00Z i5 uann T x y",
+        "",
+        3,
+        3,
+    ),
+    (
+        "a deletion between",
+        "n1 v1 dV c7 t2024-01-01T00:00:00Z i5 uann T x1 y2\n\
+n1 v3 dD c7 t2024-01-01T00:00:00Z i5 uann T x y\n\
+n1 v4 dV c7 t2024-01-01T00:00:00Z i5 uann T x1 y2",
+        "n1 v4 dV c7 t2024-01-01T00:00:00Z i5 uann T x1 y2",
+        3,
+        3,
+    ),
+    (
+        "only a deletion",
+        "n1 v3 dD c7 t2024-01-01T00:00:00Z i5 uann T x y",
+        "",
+        1,
+        1,
+    ),
+    (
+        "a way of the same id",
+        "n1 v1 dV c7 t2024-01-01T00:00:00Z i5 uann T x1 y2\n\
+w1 v1 dV c8 t2024-01-01T00:00:00Z i6 ub T N",
+        "n1 v1 dV c7 t2024-01-01T00:00:00Z i5 uann T x1 y2",
+        1,
+        1,
+    ),
+    (
+        "another name of the user",
+        "n1 v1 dV c7 t2024-01-01T00:00:00Z i5 uann T x1 y2\n\
+n1 v2 dV c7 t2024-01-01T00:00:00Z i5 ubea T x1 y2",
+        "n1 v2 dV c7 t2024-01-01T00:00:00Z i5 ubea T x1 y2",
+        2,
+        2,
+    ),
+];
+
+#[test]
+fn what_is_no_script_is_not_judged(rt: HostRuntime) {
+    let judged = may_answer(rt.alloc(), b"show\nx\n".as_slice(), b"old\n".as_slice());
+    assert!(rt; matches!(judged, Err(RunFault::BadScript(2))));
+}
+
+#[test]
+fn the_definitions_say_what_a_person_expects(rt: HostRuntime) -> Result<(), Fail> {
+    let alloc = rt.alloc();
+    for (name, lines, left, users, changesets) in LEFT {
+        let mut changes = Vec::new(alloc);
+        for line in lines.lines() {
+            changes.push(read_line(alloc, line.as_bytes())?)?;
+        }
+        let key = Key {
+            kind: Kind::Node,
+            id: 1,
+        };
+        match plain_content_of(changes.as_slice(), key) {
+            None => assert!(rt; left.is_empty(), "{name}"),
+            Some(change) => {
+                let mut line = Vec::new(alloc);
+                write_line(change, &mut line)?;
+                assert_eq!(rt; line.as_slice(), left.as_bytes(), "{name}");
+            }
+        }
+        assert_eq!(rt; plain_edits_by_user(changes.as_slice(), 5), users, "{name}");
+        assert_eq!(rt;
+            plain_edits_by_changeset(changes.as_slice(), 7),
+            changesets,
+            "{name}"
+        );
+    }
+    Ok(())
+}
