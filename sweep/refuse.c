@@ -1,4 +1,4 @@
-/* Refuses one allocation of the program that it is loaded into: the one whose number, from 1, stands in
+/* Refuses one allocation of the program that it is loaded into: the one whose number, from 1, is in
    REFUSE. Without that variable it counts them, and writes the count to descriptor 9 at the end. */
 #define _GNU_SOURCE
 #include <dlfcn.h>

@@ -1,5 +1,5 @@
-//! Takes mixed changes there and back through o5c. With a number as its argument it takes that many,
-//! several times, and prints how fast.
+//! Writes mixed changes as o5c and reads them back. With a number as its argument it takes that
+//! many, several times, and prints how fast.
 #![tactic(auto)]
 
 use made_changes::mixed;

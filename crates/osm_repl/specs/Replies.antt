@@ -8,7 +8,8 @@ use Rattle.osm_follow.specs.Mirror.{Counted}
 use Rattle.osm_follow.specs.View.{ViewValue}
 use Rattle.osm_follow.specs.declared.event.Reply.{Reply}
 use Rattle.osm_follow.specs.declared.event.Reply.TheVariants.{Edited, BatchFull, WantOfMemory}
-use Rattle.osm_follow.specs.declared.event.Reply.TheVariants.{Closed, SequenceFull, TimeBack, TooLarge}
+use Rattle.osm_follow.specs.declared.event.Reply.TheVariants.{Closed, SequenceFull}
+use Rattle.osm_follow.specs.declared.event.Reply.TheVariants.{TimeBack, TooLarge}
 use Rattle.osm_follow.specs.declared.event.Reply.TheVariants.{NotPublished, Broken, Old, TooEarly}
 use Rattle.osm_follow.specs.declared.event.Reply.TheVariants.{Applied, Broke, Shown}
 

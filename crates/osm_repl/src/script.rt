@@ -1,6 +1,6 @@
 //! Scripts: a line an event, as `edit n1 v1 dV c7 t2024-01-01T00:00:00Z i5 uann T x1 y2`,
-//! `close 2024-01-01T00:00:00Z`, `deliver 1 opl`, `deliver 1 o5c` and `show`. Empty lines and lines that begin with
-//! `#` say nothing.
+//! `close 2024-01-01T00:00:00Z`, `deliver 1 opl`, `deliver 1 o5c` and `show`. Empty lines and lines
+//! that begin with `#` say nothing.
 
 ghost use Rattle.std.specs.Prelude.{◌≡◌, ℕ, ◌<◌, ◌++◌, ◌^◌, List, length, IfOk, IfErr};
 ghost use Rattle.std.specs.Prelude.{IfSome, IfNone};
