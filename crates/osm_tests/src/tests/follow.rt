@@ -27,7 +27,8 @@ const NODE_FILE: &[u8] = b"n1 v1 dV c7 t2024-01-01T00:00:00Z i5 uann T x1 y2\n";
 const STATE: &[u8] = b"sequenceNumber=1\ntimestamp=2024-01-01T00\\:00\\:00Z\n";
 
 // The node in o5c (OSM wiki, O5m).
-const NODE_O5C: &[u8] = b"\xff\xe0\x04o5c2\x10\x17\x02\x01\x80\x82\x90\xd9\x0c\x0e\x00\x05\x00ann\x00\
+const NODE_O5C: &[u8] =
+    b"\xff\xe0\x04o5c2\x10\x17\x02\x01\x80\x82\x90\xd9\x0c\x0e\x00\x05\x00ann\x00\
       \x80\xda\xc4\x09\x80\xb4\x89\x13\xfe";
 
 #[test]
@@ -55,15 +56,29 @@ fn an_empty_sequence_is_eight_bytes_of_o5c_and_no_opl(rt: HostRuntime) -> Result
 }
 
 #[test]
-fn a_close_is_refused_at_the_last_number_and_for_an_earlier_time(rt: HostRuntime) -> Result<(), Fail> {
+fn a_close_is_refused_at_the_last_number_and_for_an_earlier_time(
+    rt: HostRuntime,
+) -> Result<(), Fail> {
     let alloc = rt.alloc();
     let state = State::new(999_999_998, NEW_YEAR).ok_or("a state")?;
     let mut publisher = Publisher::resume(alloc, &state);
-    assert_eq!(rt; publisher.close(alloc, NEW_YEAR - 1).err(), Some(CloseError::TimeBack));
+    assert_eq!(rt;
+        publisher.close(alloc, NEW_YEAR - 1).err(),
+        Some(CloseError::TimeBack)
+    );
     assert_eq!(rt; publisher.close(alloc, NEW_YEAR)?.number(), 999_999_999);
-    assert_eq!(rt; publisher.close(alloc, NEW_YEAR).err(), Some(CloseError::SequenceFull));
-    assert_eq!(rt; publisher.close(alloc, 0).err(), Some(CloseError::SequenceFull));
-    assert_eq!(rt; Publisher::new(alloc).close(alloc, 0).err(), Some(CloseError::TimeBack));
+    assert_eq!(rt;
+        publisher.close(alloc, NEW_YEAR).err(),
+        Some(CloseError::SequenceFull)
+    );
+    assert_eq!(rt;
+        publisher.close(alloc, 0).err(),
+        Some(CloseError::SequenceFull)
+    );
+    assert_eq!(rt;
+        Publisher::new(alloc).close(alloc, 0).err(),
+        Some(CloseError::TimeBack)
+    );
     Ok(())
 }
 
@@ -75,7 +90,10 @@ fn a_follower_reads_either_form(rt: HostRuntime) -> Result<(), Fail> {
     let applied = Ok(Delivered::Applied { low: 1, high: 1 });
     assert_eq!(rt; by_opl.deliver::<Opl>(alloc, STATE, NODE_FILE), applied);
     assert_eq!(rt; by_o5c.deliver::<O5c>(alloc, STATE, NODE_O5C), applied);
-    assert_eq!(rt; by_opl.deliver::<O5c>(alloc, STATE, b"no file"), Ok(Delivered::Old));
+    assert_eq!(rt;
+        by_opl.deliver::<O5c>(alloc, STATE, b"no file"),
+        Ok(Delivered::Old)
+    );
     for follower in [by_opl, by_o5c] {
         assert!(rt; !follower.is_broken());
         assert_eq!(rt; follower.number()?, 1);
@@ -108,7 +126,11 @@ fn a_delivery_is_refused_for_its_first_fault(rt: HostRuntime) {
         why: Why::BadHeader,
     };
     let cases: [(&[u8], &[u8], DeliverError); 4] = [
-        (b"", b"", DeliverError::BadState(StateError::MissingSequence)),
+        (
+            b"",
+            b"",
+            DeliverError::BadState(StateError::MissingSequence),
+        ),
         (zero, b"", DeliverError::BadSequence),
         (second, b"", DeliverError::TooEarly),
         (STATE, b"", DeliverError::BadChange(no_header)),
@@ -142,10 +164,22 @@ fn a_world_delivers_what_it_archived(rt: HostRuntime) -> Result<(), Fail> {
 fn refusals_are_named_as_they_are(rt: HostRuntime) -> Result<(), Fail> {
     let alloc = rt.alloc();
     let change = read_line(alloc, NODE)?;
-    assert_eq!(rt; format!(in alloc; "{}", EditError::BatchFull(change))?.as_str(), "BatchFull");
-    assert_eq!(rt; format!(in alloc; "{}", CloseError::TooLarge)?.as_str(), "TooLarge");
-    assert_eq!(rt; format!(in alloc; "{}", DeliverError::TooEarly)?.as_str(), "TooEarly");
-    assert_eq!(rt; format!(in alloc; "{}", ViewError::WantOfMemory)?.as_str(), "WantOfMemory");
+    assert_eq!(rt;
+        format!(in alloc; "{}", EditError::BatchFull(change))?.as_str(),
+        "BatchFull"
+    );
+    assert_eq!(rt;
+        format!(in alloc; "{}", CloseError::TooLarge)?.as_str(),
+        "TooLarge"
+    );
+    assert_eq!(rt;
+        format!(in alloc; "{}", DeliverError::TooEarly)?.as_str(),
+        "TooEarly"
+    );
+    assert_eq!(rt;
+        format!(in alloc; "{}", ViewError::WantOfMemory)?.as_str(),
+        "WantOfMemory"
+    );
     assert_eq!(rt; format!(in alloc; "{Broken}")?.as_str(), "Broken");
     Ok(())
 }
