@@ -2,4 +2,3 @@ mod model;
 mod state;
 mod o5c;
 mod opl;
-mod follow;
