@@ -1,5 +1,5 @@
 -- Which reply may follow a history. The rows of an event exclude one another, so each reply is
--- given exactly if its conditions hold, except that memory may be refused in place of another reply.
+-- given exactly if its conditions hold, except that memory may be refused in place of another.
 use Rattle.std.specs.Prelude.{◌≡◌, ℕ, ◌+◌, ◌<◌, ◌≤◌, ◌∷◌, ◌++◌, length, true, false, ◌⊎◌}
 use Rattle.osm_model.specs.Limits.{max_changes, max_sequence}
 use Rattle.osm_follow.specs.History.{History, published_of, pending_of, publisher_of, start_of}
