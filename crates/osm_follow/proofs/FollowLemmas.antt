@@ -10,7 +10,7 @@ use Rattle.osm_follow.specs.declared.delivery.Delivered.TheVariants.{Old, Applie
 use Rattle.osm_follow.specs.declared.delivery.DeliverError.{DeliverError}
 use Rattle.osm_follow.specs.declared.delivery.DeliverError.TheVariants.{Broken, BadState, BadSequence, TooEarly, BadChange, WantOfMemory, Broke}
 use Rattle.osm_follow.proofs.DeliveryLemmas.{OneBatch, NoFaultBeside, FollowerStep, read_as, state_of}
-use Rattle.osm_follow.proofs.MirrorLemmas.{mirror_grown}
+use Rattle.osm_mirror.proofs.MirrorLemmas.{mirror_grown}
 use Rattle.osm_follow.proofs.PublishedLemmas.{changes_within, changes_next, time_within, time_next}
 
 -- nothing is held, so no number above the follower's was accepted

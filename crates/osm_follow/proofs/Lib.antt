@@ -1,11 +1,3 @@
-pub mod EntryLemmas
-pub mod MirrorLemmas
 pub mod PublishedLemmas
 pub mod DeliveryLemmas
 pub mod FollowLemmas
-pub mod StepLemmas
-pub mod LegalLemmas
-pub mod ArchiveLemmas
-pub mod RunLemmas
-pub mod ReportLemmas
-pub mod MirrorLaws

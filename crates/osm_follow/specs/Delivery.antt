@@ -25,7 +25,7 @@ use Rattle.osm_state.specs.State.{StateValue}
 use Rattle.osm_state.specs.StateFault.{FaultOf}
 use Rattle.osm_state.specs.StateText.{StateOf}
 use Rattle.osm_follow.specs.Follower.{FollowerValue}
-use Rattle.osm_follow.specs.Mirror.{Applies, NeedsMemory}
+use Rattle.osm_mirror.specs.Mirror.{Applies, NeedsMemory}
 use Rattle.osm_follow.specs.Published.{PublishedValue}
 use Rattle.osm_follow.specs.declared.delivery.Delivered.{Delivered}
 use Rattle.osm_follow.specs.declared.delivery.Delivered.TheVariants.{Old, Applied}

@@ -2,7 +2,7 @@
 use Rattle.std.specs.Prelude.{◌≡◌, ℕ, ◌+◌, ◌*◌, ◌<◌, ◌≤◌, List, length, Bool, false, Option, None}
 use Rattle.std.specs.Prelude.{Some, if◌then◌else◌, IsTrue}
 use Rattle.osm_model.specs.Limits.{max_sequence, max_changes}
-use Rattle.osm_follow.specs.Mirror.{MirrorValue, IsMirrorOf, IsWithin, no_mirror}
+use Rattle.osm_mirror.specs.Mirror.{MirrorValue, IsMirrorOf, IsWithin, no_mirror}
 use Rattle.osm_follow.specs.Published.{PublishedValue, sequence_at, changes_up_to, time_at}
 use Rattle.osm_follow.specs.Reach.{Reaches}
 

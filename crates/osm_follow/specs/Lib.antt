@@ -1,13 +1,7 @@
 pub mod Published
 pub mod Publisher
 pub mod Reach
-pub mod Mirror
 pub mod Follower
 pub mod Delivery
-pub mod World
 pub mod View
-pub mod History
-pub mod Legal
-pub mod Correct
-pub mod Step
 pub mod Steps

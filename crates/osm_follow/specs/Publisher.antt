@@ -47,6 +47,12 @@ abbrev pub EditRefused : PublisherValue → ChangeValue → EditError → Type 0
 EditRefused p c (edits.BatchFull d) = (length p.pending ≡ max_changes) × (d ≡ c)
 EditRefused p c (edits.WantOfMemory d) = (length p.pending < max_changes) × (d ≡ c)
 
+-- why a publisher can't close at that time, whatever is pending
+abbrev pub CloseBarred : PublisherValue → ℕ → CloseError → Type 0
+CloseBarred p time SequenceFull = p.number ≡ max_sequence
+CloseBarred p time TimeBack = (p.number < max_sequence) × (time < p.time)
+CloseBarred p time error = ⊥
+
 -- what a close answers, and the publisher after it: nothing changes but by a sequence that is
 -- published, and a refusal names the first cause of its list that applies
 abbrev pub Closes :

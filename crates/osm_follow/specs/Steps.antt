@@ -1,6 +1,4 @@
 -- Steps of proofs that clauses of private functions cite.
 -- No clause of a public function cites them.
-pub mod Entries
-pub mod Room
 pub mod Taking
-pub mod Archive
+pub mod Closing

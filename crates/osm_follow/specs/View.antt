@@ -3,7 +3,7 @@ use Rattle.std.specs.Prelude.{◌≡◌, ℕ, ◌<◌, List, [], Bool, true, fal
 use Rattle.std.specs.List.Sorted.{IsStrictlySortedBy}
 use Rattle.std.specs.Ordering.{nat_cmp}
 use Rattle.osm_follow.specs.Follower.{FollowerValue}
-use Rattle.osm_follow.specs.Mirror.{MirrorValue, HoldsSome, IsMirrorOf}
+use Rattle.osm_mirror.specs.Mirror.{MirrorValue, HoldsSome, IsMirrorOf}
 use Rattle.osm_follow.specs.Published.{PublishedValue, changes_up_to, time_at}
 use Rattle.osm_follow.specs.Reach.{Reaches}
 use Rattle.osm_follow.specs.declared.view.ViewError.{ViewError}

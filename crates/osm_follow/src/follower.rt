@@ -6,14 +6,14 @@ ghost use Rattle.osm_model.specs.Limits.{max_changes, max_sequence};
 ghost use Rattle.osm_follow.specs.Delivery.{AnswersUnread, Breaks, Delivers, IsTurn, Takes};
 ghost use Rattle.osm_follow.specs.Delivery.{sequence_of};
 ghost use Rattle.osm_follow.specs.Follower.{new_follower};
-ghost use Rattle.osm_follow.specs.Mirror.{IsWithin, count_at, object_at};
+ghost use Rattle.osm_mirror.specs.Mirror.{IsWithin, count_at, object_at};
 ghost use Rattle.osm_follow.specs.Steps.Taking.{TakeAnswers};
 ghost use Rattle.osm_follow.specs.View.{ViewRefused, view_of};
 ghost use Rattle.osm_follow.specs.declared.delivery.Delivered.{Delivered};
 ghost use Rattle.osm_follow.specs.declared.delivery.DeliverError.{DeliverError};
 
 use crate::delivery::{DeliverError, Delivered};
-use crate::mirror::Mirror;
+use osm_mirror::mirror::Mirror;
 use crate::view::{View, ViewError};
 use osm_model::batch::Batch;
 use osm_model::change::Change;

@@ -4,7 +4,7 @@ ghost use Rattle.std.specs.Prelude.{◌≡◌, ◌≤◌, length, IfOk, OnOk, If
 ghost use Rattle.osm_model.specs.Limits.{max_file};
 ghost use Rattle.osm_follow.specs.Published.{written_of};
 ghost use Rattle.osm_follow.specs.Publisher.{IsSmall, IsTooLarge};
-ghost use Rattle.osm_follow.specs.Steps.Archive.{TextRefused, WriteStops};
+ghost use Rattle.osm_follow.specs.Steps.Closing.{TextRefused, WriteStops};
 
 use crate::publisher::CloseError;
 use osm_model::batch::Batch;

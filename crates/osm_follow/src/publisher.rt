@@ -3,8 +3,8 @@
 ghost use Rattle.std.specs.Prelude.{◌≡◌, ◌<◌, ◌≤◌, ◌++◌, [], ◌∷◌, length, OnOk, OnErr, IfErr};
 ghost use Rattle.osm_model.specs.Batch.{IsBatch};
 ghost use Rattle.osm_model.specs.Limits.{IsPositive, max_changes, max_sequence};
-ghost use Rattle.osm_follow.specs.Publisher.{CanClose, Closes, EditRefused, new_publisher};
-ghost use Rattle.osm_follow.specs.Steps.Archive.{CloseBarred};
+ghost use Rattle.osm_follow.specs.Publisher.{CanClose, CloseBarred, Closes, EditRefused};
+ghost use Rattle.osm_follow.specs.Publisher.{new_publisher};
 
 use crate::published::Published;
 use osm_model::batch::{Batch, PushError};
@@ -131,7 +131,7 @@ impl Publisher {
     }
 
     /// Refused if no close at that time can succeed, whatever is pending.
-    pub(crate) fn check_close(&self, time: u32) -> Result<(), CloseError>
+    pub fn check_close(&self, time: u32) -> Result<(), CloseError>
         ensures open { OnOk result (CanClose self.now time) }
         ensures time { OnOk result (IsPositive time) }
         ensures pending { IsBatch self.now.pending }

@@ -1,9 +1,9 @@
 //! What a follower shows of itself.
 
 ghost use Rattle.std.specs.Prelude.{◌≡◌, IfOk, OnErr, []};
-ghost use Rattle.osm_follow.specs.Mirror.{HoldsSome};
+ghost use Rattle.osm_mirror.specs.Mirror.{HoldsSome};
 
-use crate::mirror::Mirror;
+use osm_mirror::mirror::Mirror;
 use osm_model::change::Change;
 use osm_model::memory::WantOfMemory;
 use std::alloc::Global;

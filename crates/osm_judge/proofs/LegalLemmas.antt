@@ -7,13 +7,13 @@ use Rattle.std.specs.List.{flat_map, zip}
 use Rattle.std.specs.Prelude.{◌↔◌, IsTrue}
 use Rattle.osm_model.specs.Change.{ChangeValue}
 use Rattle.osm_model.specs.Limits.{max_changes}
-use Rattle.osm_follow.specs.History.{History, accepted_of, pending_of, published_of}
-use Rattle.osm_follow.proofs.LegalLemmas.{legal_none, legal_more}
-use Rattle.osm_follow.specs.Legal.{Allowed, IsLegal, IsNumber, IsOpen, IsNext, IsWork}
-use Rattle.osm_follow.specs.declared.event.Event.{Event}
-use Rattle.osm_follow.specs.declared.event.Event.TheVariants.{Edit, Close, Deliver, Show}
-use Rattle.osm_follow.specs.declared.event.Reply.{Reply}
-use Rattle.osm_follow.specs.declared.event.Reply.TheVariants.{Edited, BatchFull, WantOfMemory, Closed, SequenceFull, TimeBack, TooLarge}
+use Rattle.osm_world.specs.History.{History, accepted_of, pending_of, published_of}
+use Rattle.osm_world.proofs.LegalLemmas.{legal_none, legal_more}
+use Rattle.osm_world.specs.Legal.{Allowed, IsLegal, IsNumber, IsOpen, IsNext, IsWork}
+use Rattle.osm_world.specs.declared.event.Event.{Event}
+use Rattle.osm_world.specs.declared.event.Event.TheVariants.{Edit, Close, Deliver, Show}
+use Rattle.osm_world.specs.declared.event.Reply.{Reply}
+use Rattle.osm_world.specs.declared.event.Reply.TheVariants.{Edited, BatchFull, WantOfMemory, Closed, SequenceFull, TimeBack, TooLarge}
 use Rattle.osm_follow.specs.Published.{PublishedValue, unpublished, changes_at, changes_up_to}
 use Rattle.osm_follow.specs.Reach.{Reaches, between}
 

@@ -24,8 +24,8 @@ use Rattle.osm_model.specs.Content.{content_of, last_of, later_of, edits_by_user
 use Rattle.osm_model.specs.KeyOrder.{same_key}
 use Rattle.osm_model.specs.declared.kind.Key.{Key}
 use Rattle.osm_model.proofs.ContentLemmas.{same_key-only}
-use Rattle.osm_follow.specs.History.{History, accepted_of, published_of, start_of}
-use Rattle.osm_follow.specs.Mirror.{object_at, count_at, Counted, IsMirrorOf}
+use Rattle.osm_world.specs.History.{History, accepted_of, published_of, start_of}
+use Rattle.osm_mirror.specs.Mirror.{object_at, count_at, Counted, IsMirrorOf}
 use Rattle.osm_follow.specs.Published.{changes_up_to, time_at}
 use Rattle.osm_follow.specs.Reach.{Reaches}
 use Rattle.osm_follow.specs.View.{ViewValue, IsView}

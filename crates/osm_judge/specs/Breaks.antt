@@ -5,13 +5,13 @@ use Rattle.std.specs.Bool.{⊤}
 use Rattle.std.specs.List.{slice_get}
 use Rattle.osm_model.specs.Change.{ChangeValue}
 use Rattle.osm_model.specs.Content.{content_of, standing_of, edits_by_user, edits_by_changeset}
-use Rattle.osm_follow.specs.History.{History, accepted_of, published_of}
+use Rattle.osm_world.specs.History.{History, accepted_of, published_of}
 use Rattle.osm_follow.specs.Published.{changes_up_to}
 use Rattle.osm_follow.specs.Reach.{Reaches}
-use Rattle.osm_follow.specs.declared.event.Event.{Event}
-use Rattle.osm_follow.specs.declared.event.Event.TheVariants.{Deliver}
-use Rattle.osm_follow.specs.declared.event.Reply.{Reply}
-use Rattle.osm_follow.specs.declared.event.Reply.TheVariants.{Broke}
+use Rattle.osm_world.specs.declared.event.Event.{Event}
+use Rattle.osm_world.specs.declared.event.Event.TheVariants.{Deliver}
+use Rattle.osm_world.specs.declared.event.Reply.{Reply}
+use Rattle.osm_world.specs.declared.event.Reply.TheVariants.{Broke}
 
 -- after those changes, this one is the first edit of its user or of its changeset, or is an object
 -- whose key has none

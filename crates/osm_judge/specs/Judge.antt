@@ -1,12 +1,12 @@
 -- What may answer a script.
 use Rattle.std.specs.Prelude.{◌≡◌, ℕ, List, length}
-use Rattle.osm_follow.specs.History.{history_of}
-use Rattle.osm_follow.specs.Legal.{IsLegal}
+use Rattle.osm_world.specs.History.{history_of}
+use Rattle.osm_world.specs.Legal.{IsLegal}
 use Rattle.osm_judge.specs.Breaks.{AreBreaksNeeded}
 use Rattle.osm_repl.specs.Replies.{replies_text}
 use Rattle.osm_repl.specs.Script.{ScriptOf}
-use Rattle.osm_follow.specs.declared.event.Event.{Event}
-use Rattle.osm_follow.specs.declared.event.Reply.{Reply}
+use Rattle.osm_world.specs.declared.event.Event.{Event}
+use Rattle.osm_world.specs.declared.event.Reply.{Reply}
 
 -- the text is that of one reply for each event of the script, each reply allowed after what came
 -- before it, and the follower breaks only at a new entry

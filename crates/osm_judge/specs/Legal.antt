@@ -1,7 +1,7 @@
 -- When a judge doesn't say whether a reply may follow a history.
 use Rattle.std.specs.Prelude.{ℕ, ◌<◌, length}
 use Rattle.osm_model.specs.Limits.{max_changes}
-use Rattle.osm_follow.specs.History.{History, pending_of}
+use Rattle.osm_world.specs.History.{History, pending_of}
 use Rattle.osm_judge.specs.declared.legal.Unjudged.{Unjudged}
 use Rattle.osm_judge.specs.declared.legal.Unjudged.TheVariants.{TooManyPending, WantOfMemory}
 

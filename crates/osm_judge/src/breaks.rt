@@ -7,7 +7,7 @@ ghost use Rattle.osm_judge.specs.Breaks.{IsNeededBreak, IsNewEntry};
 
 use crate::history::{Pair, joined_changes, reach};
 use crate::plain::{plain_content_of, plain_edits_by_changeset, plain_edits_by_user};
-use osm_follow::event::{Event, Reply};
+use osm_world::event::{Event, Reply};
 use osm_model::change::Change;
 use osm_model::memory::WantOfMemory;
 use std::alloc::Global;

@@ -1,13 +1,13 @@
 //! What a history of events and replies says, one pair at a time.
 
 ghost use Rattle.std.specs.Prelude.{◌≡◌, ℕ, ◌<◌, ◌≤◌, length, false, IfOk};
-ghost use Rattle.osm_follow.specs.History.{accepted_of, accepts, closes, pending_of, published_of};
-ghost use Rattle.osm_follow.specs.History.{time_of};
-ghost use Rattle.osm_follow.specs.History as hist;
+ghost use Rattle.osm_world.specs.History.{accepted_of, accepts, closes, pending_of, published_of};
+ghost use Rattle.osm_world.specs.History.{time_of};
+ghost use Rattle.osm_world.specs.History as hist;
 ghost use Rattle.osm_follow.specs.Published.{changes_up_to, last_time, time_at};
 ghost use Rattle.osm_follow.specs.Reach.{Reaches};
 
-use osm_follow::event::{Event, Reply};
+use osm_world::event::{Event, Reply};
 use osm_model::change::Change;
 use osm_model::memory::WantOfMemory;
 use std::alloc::Global;

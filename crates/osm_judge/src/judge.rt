@@ -1,8 +1,8 @@
 //! Whether a reply text may be what a script is answered.
 
 ghost use Rattle.std.specs.Prelude.{◌≡◌, ◌<◌, ◌^◌, length, IfOk, IfSome, IsTrue};
-ghost use Rattle.osm_follow.specs.History.{history_of};
-ghost use Rattle.osm_follow.specs.Legal.{IsLegal};
+ghost use Rattle.osm_world.specs.History.{history_of};
+ghost use Rattle.osm_world.specs.Legal.{IsLegal};
 ghost use Rattle.osm_judge.specs.Breaks.{AreBreaksNeeded};
 ghost use Rattle.osm_judge.specs.Judge.{MayAnswer};
 
@@ -10,7 +10,7 @@ use crate::breaks::are_breaks_needed;
 use crate::history::Pair;
 use crate::legal::is_legal;
 use crate::reading::{Unread, read_reply};
-use osm_follow::event::{Event, Reply};
+use osm_world::event::{Event, Reply};
 use osm_model::memory::WantOfMemory;
 use osm_repl::fault::RunFault;
 use osm_repl::replies::write_replies;

@@ -3,9 +3,9 @@
 ghost use Rattle.std.specs.Prelude.{◌≡◌, ℕ, ◌+◌, ◌-◌, ◌<◌, ◌≤◌, ◌↔◌, false, length, IfErr, IfOk};
 ghost use Rattle.std.specs.Prelude.{IsTrue};
 ghost use Rattle.osm_model.specs.Limits.{max_changes, max_file};
-ghost use Rattle.osm_follow.specs.History.{accepted_of, pending_of, published_of, publisher_of};
-ghost use Rattle.osm_follow.specs.Legal.{Allowed, AllowedClose, AllowedDeliver, AllowedEdit};
-ghost use Rattle.osm_follow.specs.Legal.{AllowedShow, IsLegal, IsNext, IsNumber, IsOpen};
+ghost use Rattle.osm_world.specs.History.{accepted_of, pending_of, published_of, publisher_of};
+ghost use Rattle.osm_world.specs.Legal.{Allowed, AllowedClose, AllowedDeliver, AllowedEdit};
+ghost use Rattle.osm_world.specs.Legal.{AllowedShow, IsLegal, IsNext, IsNumber, IsOpen};
 ghost use Rattle.osm_follow.specs.Published.{changes_up_to};
 ghost use Rattle.osm_follow.specs.Publisher.{CanClose, IsSmall, IsTooLarge};
 ghost use Rattle.osm_follow.specs.Reach.{Reaches};
@@ -15,7 +15,7 @@ use crate::history::{
     Pair, is_accepted, is_broken, joined_changes, least_time, pending, published_count, reach,
 };
 use crate::views::is_view;
-use osm_follow::event::{Event, Reply};
+use osm_world::event::{Event, Reply};
 use osm_model::batch::{Batch, PushError};
 use osm_model::change::Change;
 use osm_model::form::{ChangeForm, FormError};

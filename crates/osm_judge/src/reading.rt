@@ -1,7 +1,7 @@
 //! Reads reply texts, and promises nothing: a caller that needs a promise writes what was read and
 //! compares.
 
-use osm_follow::event::Reply;
+use osm_world::event::Reply;
 use osm_follow::view::View;
 use osm_model::memory::WantOfMemory;
 use osm_model::time::time_read;

@@ -12,11 +12,11 @@ use Rattle.osm_repl.specs.Steps.Replaying.{IsAnswered}
 use Rattle.osm_repl.specs.Script.{IsEventLine, ScriptOf, ScriptRefused, IsBadLine, SaysSome, said_of}
 use Rattle.std.specs.Borrow.{Bor}
 use Rattle.std.proofs.lemmas.List.{flat_map_more}
-use Rattle.osm_follow.specs.Correct.{IsRun}
-use Rattle.osm_follow.specs.Step.{Step}
-use Rattle.osm_follow.specs.World.{WorldValue, new_world}
-use Rattle.osm_follow.specs.declared.event.Event.{Event}
-use Rattle.osm_follow.specs.declared.event.Reply.{Reply}
+use Rattle.osm_world.specs.Correct.{IsRun}
+use Rattle.osm_world.specs.Step.{Step}
+use Rattle.osm_world.specs.World.{WorldValue, new_world}
+use Rattle.osm_world.specs.declared.event.Event.{Event}
+use Rattle.osm_world.specs.declared.event.Reply.{Reply}
 use Rattle.osm_repl.specs.Steps.Parsing.{IsSaid, LineRefused}
 use Rattle.osm_repl.proofs.ScriptLemmas.{IsReadTo, IsSplit, read_none, read_skipped, read_event, read_all}
 use Rattle.osm_repl.specs.declared.fault.RunFault.{RunFault}

@@ -11,10 +11,10 @@ use Rattle.std.specs.List.{AllZip}
 use Rattle.std.specs.Prelude.{IfSome, nat_eq, not, codes, Result, Ok, Err, IfErr}
 use Rattle.osm_repl.specs.Steps.Parsing.{IsEditOf, IsCloseOf, IsDeliverOf, Refused, IsSaid}
 use Rattle.osm_repl.specs.Script.{IsEventLine, ScriptOf, form_text, AreEvents, said_of}
-use Rattle.osm_follow.specs.declared.event.Event.{Event}
-use Rattle.osm_follow.specs.declared.event.Event.TheVariants.{Edit, Close, Deliver, Show}
-use Rattle.osm_follow.specs.declared.event.Form.{Form}
-use Rattle.osm_follow.specs.declared.event.Form.TheVariants.{Opl, O5c}
+use Rattle.osm_world.specs.declared.event.Event.{Event}
+use Rattle.osm_world.specs.declared.event.Event.TheVariants.{Edit, Close, Deliver, Show}
+use Rattle.osm_world.specs.declared.event.Form.{Form}
+use Rattle.osm_world.specs.declared.event.Form.TheVariants.{Opl, O5c}
 use Rattle.osm_repl.specs.declared.script.LineFault.{LineFault}
 use Rattle.osm_repl.specs.declared.script.LineFault.TheVariants.{WantOfMemory, NoEvent}
 

@@ -2,10 +2,10 @@
 use Rattle.std.specs.Prelude.{◌≡◌, ℕ, ◌<◌, ◌≤◌, List, length, Option, take, IfSome}
 use Rattle.std.specs.Io.KnownBytes.{Consumes, Appends}
 use Rattle.osm_model.specs.Limits.{max_file}
-use Rattle.osm_follow.specs.Correct.{IsRun}
-use Rattle.osm_follow.specs.World.{WorldValue}
-use Rattle.osm_follow.specs.declared.event.Event.{Event}
-use Rattle.osm_follow.specs.declared.event.Reply.{Reply}
+use Rattle.osm_world.specs.Correct.{IsRun}
+use Rattle.osm_world.specs.World.{WorldValue}
+use Rattle.osm_world.specs.declared.event.Event.{Event}
+use Rattle.osm_world.specs.declared.event.Reply.{Reply}
 use Rattle.osm_repl.specs.Replies.{replies_text}
 use Rattle.osm_repl.specs.Script.{ScriptOf, IsBadLine}
 use Rattle.osm_repl.specs.declared.fault.FileName.TheVariants.{Input, Output}

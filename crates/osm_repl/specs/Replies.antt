@@ -4,14 +4,14 @@ use Rattle.std.specs.List.{flat_map}
 use Rattle.osm_model.specs.Change.{ChangeValue}
 use Rattle.osm_model.specs.CivilTime.{time_text}
 use Rattle.osm_opl.specs.Written.{line_text}
-use Rattle.osm_follow.specs.Mirror.{Counted}
+use Rattle.osm_mirror.specs.Mirror.{Counted}
 use Rattle.osm_follow.specs.View.{ViewValue}
-use Rattle.osm_follow.specs.declared.event.Reply.{Reply}
-use Rattle.osm_follow.specs.declared.event.Reply.TheVariants.{Edited, BatchFull, WantOfMemory}
-use Rattle.osm_follow.specs.declared.event.Reply.TheVariants.{Closed, SequenceFull}
-use Rattle.osm_follow.specs.declared.event.Reply.TheVariants.{TimeBack, TooLarge}
-use Rattle.osm_follow.specs.declared.event.Reply.TheVariants.{NotPublished, Broken, Old, TooEarly}
-use Rattle.osm_follow.specs.declared.event.Reply.TheVariants.{Applied, Broke, Shown}
+use Rattle.osm_world.specs.declared.event.Reply.{Reply}
+use Rattle.osm_world.specs.declared.event.Reply.TheVariants.{Edited, BatchFull, WantOfMemory}
+use Rattle.osm_world.specs.declared.event.Reply.TheVariants.{Closed, SequenceFull}
+use Rattle.osm_world.specs.declared.event.Reply.TheVariants.{TimeBack, TooLarge}
+use Rattle.osm_world.specs.declared.event.Reply.TheVariants.{NotPublished, Broken, Old, TooEarly}
+use Rattle.osm_world.specs.declared.event.Reply.TheVariants.{Applied, Broke, Shown}
 
 -- `NAME N` and LF
 abbrev pub numbered_line : List ℕ → ℕ → List ℕ

@@ -8,7 +8,7 @@ ghost use Rattle.osm_repl.specs.Replies.{numbered_line, object_line, objects_tex
 ghost use Rattle.osm_repl.specs.Replies.{replies_text, reply_text, time_line, view_text};
 
 use itoa::Buffer;
-use osm_follow::event::Reply;
+use osm_world::event::Reply;
 use osm_follow::view::View;
 use osm_model::change::Change;
 use osm_model::memory::WantOfMemory;

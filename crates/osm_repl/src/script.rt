@@ -5,12 +5,12 @@
 ghost use Rattle.std.specs.Prelude.{◌≡◌, ℕ, ◌<◌, ◌++◌, ◌^◌, List, length, IfOk, IfErr};
 ghost use Rattle.std.specs.Prelude.{IfSome, IfNone};
 ghost use Rattle.osm_repl.specs.Script.{IsEventLine, ScriptOf, ScriptRefused, form_text};
-ghost use Rattle.osm_follow.specs.declared.event.Form.{Form};
+ghost use Rattle.osm_world.specs.declared.event.Form.{Form};
 ghost use Rattle.osm_repl.specs.Steps.Parsing.{IsCloseOf, IsDeliverOf, IsEditOf, IsSaid};
 ghost use Rattle.osm_repl.specs.Steps.Parsing.{LineRefused, Refused};
 
 use crate::fault::RunFault;
-use osm_follow::event::{Event, Form};
+use osm_world::event::{Event, Form};
 use osm_model::time::time_read;
 use osm_opl::lines::{LineError, read_line};
 use osm_reading::lines::{is_skipped_line, split_line};

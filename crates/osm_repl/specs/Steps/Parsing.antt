@@ -5,9 +5,9 @@ use Rattle.osm_opl.specs.Line.{SpellsLine}
 use Rattle.osm_reading.specs.Lines.{is_skipped}
 use Rattle.osm_reading.specs.Sequence.{SpellsSequence}
 use Rattle.osm_repl.specs.Script.{IsEventLine, form_text}
-use Rattle.osm_follow.specs.declared.event.Event.{Event}
-use Rattle.osm_follow.specs.declared.event.Event.TheVariants.{Edit, Close, Deliver}
-use Rattle.osm_follow.specs.declared.event.Form.{Form}
+use Rattle.osm_world.specs.declared.event.Event.{Event}
+use Rattle.osm_world.specs.declared.event.Event.TheVariants.{Edit, Close, Deliver}
+use Rattle.osm_world.specs.declared.event.Form.{Form}
 use Rattle.osm_repl.specs.declared.fault.RunFault.{RunFault}
 use Rattle.osm_repl.specs.declared.fault.RunFault.TheVariants as faults
 use Rattle.osm_repl.specs.declared.script.LineFault.{LineFault}

@@ -2,11 +2,11 @@
 //! order, and each call once.
 
 use osm_follow::delivery::{DeliverError, Delivered};
-use osm_follow::event::{Event, Form, Reply};
+use osm_world::event::{Event, Form, Reply};
 use osm_follow::follower::{Broken, Follower};
 use osm_follow::publisher::{CloseError, EditError, Publisher};
 use osm_follow::view::ViewError;
-use osm_follow::world::World;
+use osm_world::world::World;
 use osm_model::form::{ChangeForm, FormError, Why};
 use osm_model::kind::{Key, Kind};
 use osm_o5c::o5c::O5c;

@@ -1,8 +1,8 @@
 //! Tests of scripts and replays: what a person expects, lines that are refused, readers and writers
 //! that fail, texts of faults, echoes of words.
 
-use osm_follow::event::{Event, Form, Reply};
-use osm_follow::world::World;
+use osm_world::event::{Event, Form, Reply};
+use osm_world::world::World;
 use osm_opl::lines::read_line;
 use osm_repl::echo::echoes;
 use osm_repl::fault::{FileName, RunFault};

@@ -1,6 +1,6 @@
 use Rattle.std.proofs.Common.{◌≡◌}
 use Rattle.osm_model.specs.Content.{edits_by_user}
-use Rattle.osm_follow.specs.Mirror.{count_at}
+use Rattle.osm_mirror.specs.Mirror.{count_at}
 use Rattle.osm_judge.proofs.ViewLemmas.{all-cons, not_cons}
 use Rattle.osm_judge.proofs.views.+are_users_of.Goals as goal
 

@@ -1,5 +1,5 @@
 use Rattle.std.proofs.Common.{◌≡◌}
-use Rattle.osm_follow.specs.Mirror.{count_at}
+use Rattle.osm_mirror.specs.Mirror.{count_at}
 use Rattle.osm_model.specs.Content.{edits_by_changeset}
 use Rattle.osm_judge.proofs.ViewLemmas.{changesets_everywhere, everywhere_in, both_ways}
 use Rattle.osm_judge.proofs.views.are_changesets.Goals as goal

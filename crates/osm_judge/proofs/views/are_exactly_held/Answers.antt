@@ -1,5 +1,5 @@
 use Rattle.std.proofs.Common.{◌≡◌, ◌<◌, true}
-use Rattle.osm_follow.specs.History.{accepted_of}
+use Rattle.osm_world.specs.History.{accepted_of}
 use Rattle.osm_judge.proofs.ViewLemmas.{exactly_held, all_held, both_ways}
 use Rattle.osm_judge.proofs.views.are_exactly_held.Goals as goal
 

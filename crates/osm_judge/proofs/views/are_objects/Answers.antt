@@ -1,6 +1,6 @@
 use Rattle.std.proofs.Common.{◌≡◌}
 use Rattle.osm_model.specs.Content.{content_of}
-use Rattle.osm_follow.specs.Mirror.{object_at}
+use Rattle.osm_mirror.specs.Mirror.{object_at}
 use Rattle.osm_judge.proofs.ViewLemmas.{right_everywhere, everywhere_in, both_ways}
 use Rattle.osm_judge.proofs.views.are_objects.Goals as goal
 

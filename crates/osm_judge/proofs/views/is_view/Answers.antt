@@ -1,6 +1,6 @@
 use Rattle.std.proofs.Common.{◌≡◌, true, rules}
-use Rattle.osm_follow.specs.History.{published_of}
-use Rattle.osm_follow.specs.Mirror.{IsMirrorOf}
+use Rattle.osm_world.specs.History.{published_of}
+use Rattle.osm_mirror.specs.Mirror.{IsMirrorOf}
 use Rattle.osm_follow.specs.Published.{changes_up_to, time_at}
 use Rattle.osm_judge.proofs.ViewLemmas.{view_row}
 use Rattle.osm_judge.proofs.views.is_view.Goals as goal

@@ -1,6 +1,0 @@
-use Rattle.std.proofs.Common.{rules}
-use Rattle.osm_follow.proofs.EntryLemmas.{keys-objects_of}
-use Rattle.osm_follow.proofs.objects.Objects.keys_rise.Goals as goal
-
-pub returns : goal.returns
-returns c = rw (← c.self.view_is, keys-objects_of c.self.inside.objects.entries c.self.invariant) (search rules)

@@ -1,0 +1,106 @@
+-- A mirror after one list of changes and another.
+use Rattle.std.proofs.Common.{◌≡◌, ℕ, ◌+◌, ◌*◌, ◌≤◌, List, [], ◌∷◌, ◌++◌, length, refl, ap, sym, ◌∙◌, None, Option, arith, inl, inr, length-append}
+use Rattle.std.proofs.lemmas.List.Sums.{count_by-le-length}
+use Rattle.std.specs.List.Sorted.{IsStrictlySortedBy}
+use Rattle.std.specs.Ordering.{nat_cmp}
+use Rattle.std.specs.Prelude.{◌==◌}
+use Rattle.std.specs.declared.cmp.Ordering.{Ordering}
+use Rattle.osm_model.specs.Change.{ChangeValue}
+use Rattle.osm_model.specs.Content.{over_at, last_of, edits_by_user, edits_by_changeset}
+use Rattle.osm_model.specs.KeyOrder.{key_cmp}
+use Rattle.osm_model.proofs.ContentLemmas.{over-append, edits_by_user-append, edits_by_changeset-append}
+use Rattle.osm_mirror.specs.Room.{GrowsBy, HasRoom}
+use Rattle.osm_mirror.specs.Mirror.{MirrorValue, object_at, Applies, IsOrderly, NeedsMemory, NeedsNewEntry, IsMirrorOf, IsWithin, no_mirror}
+
+pub rising-nil : {K : Type 0} (cmp : K → K → Ordering) → IsStrictlySortedBy cmp []
+unfolding IsStrictlySortedBy
+rising-nil cmp = tt
+
+-- the empty mirror is that of no change
+pub mirror_of-nil : IsMirrorOf [] no_mirror
+mirror_of-nil = record {
+  orderly = record {
+    objects = rising-nil key_cmp;
+    users = record { rising = rising-nil nat_cmp; above = tt };
+    changesets = record { rising = rising-nil nat_cmp; above = tt };
+  };
+  objects = λ k. refl;
+  users = λ uid. refl;
+  changesets = λ id. refl;
+}
+
+pub Applies-nil : (m : MirrorValue) → IsOrderly m → Applies m [] m
+Applies-nil m orderly = record {
+  orderly = orderly;
+  objects = λ k. refl;
+  users = λ uid. omega arith;
+  changesets = λ id. omega arith;
+}
+
+pub Applies-append : (a b c : MirrorValue) (xs ys : List ChangeValue) → Applies a xs b → Applies b ys c → Applies a (xs ++ ys) c
+Applies-append a b c xs ys f g = record {
+  orderly = g.orderly;
+  objects = λ k. g.objects k ∙ (ap (λ (o : Option ChangeValue). over_at o (last_of ys k)) (f.objects k) ∙ sym (over-append (object_at a.objects) xs ys k));
+  users = λ uid. (let p = f.users uid in let q = g.users uid in let r = edits_by_user-append xs ys uid in omega arith);
+  changesets = λ id. (let p = f.changesets id in let q = g.changesets id in let r = edits_by_changeset-append xs ys id in omega arith);
+}
+
+pub edits_by_user-most : (cs : List ChangeValue) (uid : ℕ) → edits_by_user cs uid ≤ length cs
+edits_by_user-most cs uid = count_by-le-length (λ (c : ChangeValue). c.meta.uid == uid) cs
+
+pub edits_by_changeset-most : (cs : List ChangeValue) (id : ℕ) → edits_by_changeset cs id ≤ length cs
+edits_by_changeset-most cs id = count_by-le-length (λ (c : ChangeValue). c.meta.changeset == id) cs
+
+-- room for all is room for one after those before it
+pub room_left : (a b : MirrorValue) (before after : List ChangeValue) (c : ChangeValue) → HasRoom (length (before ++ c ∷ after)) a → Applies a before b → HasRoom 1 b
+room_left a b before after c room f =
+    let all : length (before ++ c ∷ after) ≡ length before + length (c ∷ after) = length-append before (c ∷ after) in
+    record {
+      users = λ uid. (let r = room.users uid in let p = f.users uid in let q = edits_by_user-most before uid in omega arith);
+      changesets = λ id. (let r = room.changesets id in let p = f.changesets id in let q = edits_by_changeset-most before id in omega arith);
+    }
+
+-- what needs a place after some changes needs one among them all
+pub needs_memory : (a b : MirrorValue) (before after : List ChangeValue) (c : ChangeValue) → Applies a before b → NeedsNewEntry b [] c → NeedsMemory a (before ++ c ∷ after)
+needs_memory a b before after c f entry = record { before = before; change = c; after = after; is = refl; entry = by_entry entry }
+  where
+    by_entry : NeedsNewEntry b [] c → NeedsNewEntry a before c
+    by_entry (inl user) = inl (let p = f.users c.meta.uid in omega arith)
+    by_entry (inr (inl changeset)) = inr (inl (let p = f.changesets c.meta.changeset in omega arith))
+    by_entry (inr (inr object)) = inr (inr (object.0, sym (f.objects c.key) ∙ object.1))
+
+-- a mirror of some changes with more applied is the mirror of them all
+pub mirror_grown : (a b : MirrorValue) (xs ys : List ChangeValue) → IsMirrorOf xs a → Applies a ys b → IsMirrorOf (xs ++ ys) b
+mirror_grown a b xs ys m f = record {
+  orderly = f.orderly;
+  objects = λ k. f.objects k ∙ (ap (λ (o : Option ChangeValue). over_at o (last_of ys k)) (m.objects k) ∙ sym (over-append (λ key. None) xs ys k));
+  users = λ uid. (let p = f.users uid in let q = m.users uid in let r = edits_by_user-append xs ys uid in omega arith);
+  changesets = λ id. (let p = f.changesets id in let q = m.changesets id in let r = edits_by_changeset-append xs ys id in omega arith);
+}
+
+-- the bound of a number, one number on
+pub within_more : (a b : MirrorValue) (ys : List ChangeValue) (n most : ℕ) → IsWithin (100000 * n) a → Applies a ys b → GrowsBy (length ys) a b → length ys ≤ 100000 → most ≡ 100000 * (n + 1) → IsWithin most b
+within_more a b ys n most w f g few is =
+    let o = w.objects in
+    let u = w.users in
+    let s = w.changesets in
+    let go = g.objects in
+    let gu = g.users in
+    let gs = g.changesets in
+    record {
+      objects = omega arith;
+      users = omega arith;
+      changesets = omega arith;
+      user_counts = λ uid. (let p = f.users uid in let q = w.user_counts uid in let r = edits_by_user-most ys uid in omega arith);
+      changeset_counts = λ id. (let p = f.changesets id in let q = w.changeset_counts id in let r = edits_by_changeset-most ys id in omega arith);
+    }
+
+pub GrowsBy-more : (a b c : MirrorValue) (n more total : ℕ) → GrowsBy n a b → GrowsBy more b c → total ≡ n + more → GrowsBy total a c
+GrowsBy-more a b c n more total f g is =
+    let fo = f.objects in
+    let fu = f.users in
+    let fs = f.changesets in
+    let go = g.objects in
+    let gu = g.users in
+    let gs = g.changesets in
+    record { objects = omega arith; users = omega arith; changesets = omega arith }

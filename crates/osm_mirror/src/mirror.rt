@@ -1,0 +1,139 @@
+//! A mirror of all objects, with the edits by user and by changeset.
+
+ghost use Rattle.std.specs.Prelude.{◌≡◌, ◌<◌, [], ◌∷◌, length, OnOk, OnErr, IfOk, None, Some};
+ghost use Rattle.std.specs.Prelude.{MatchOption};
+ghost use Rattle.osm_mirror.specs.Mirror.{Applies, IsOrderly, NeedsMemory};
+ghost use Rattle.osm_mirror.specs.Mirror.{NeedsNewEntry, count_at, no_mirror, object_at};
+ghost use Rattle.osm_mirror.specs.Room.{GrowsBy, HasRoom};
+
+use crate::counts::Counts;
+use crate::objects::Objects;
+use osm_model::change::Change;
+use osm_model::kind::Key;
+use osm_model::memory::WantOfMemory;
+use std::alloc::Global;
+use std::marker::Model;
+
+#[derive(Debug, Drop)]
+pub struct Mirror {
+    objects: Objects,
+    users: Counts,
+    changesets: Counts,
+}
+
+impl Model for Mirror {
+    ghost use Rattle.osm_mirror.specs.Mirror.{MirrorValue};
+
+    ghost Value = { MirrorValue };
+
+    ghost view = { λ a. record {
+      objects = a.objects;
+      users = a.users;
+      changesets = a.changesets;
+    } };
+}
+
+impl Mirror {
+    /// No objects and no counts.
+    pub fn new(alloc: Global) -> Mirror
+        ensures { result ≡ no_mirror }
+    {
+        Mirror {
+            objects: Objects::new(alloc),
+            users: Counts::new(alloc),
+            changesets: Counts::new(alloc),
+        }
+    }
+
+    /// Makes the changes in their order, and counts each of them. Refused only for memory, and then
+    /// some of them may have been made.
+    pub fn apply(&mut self, changes: Vec<Change>) -> Result<(), WantOfMemory>
+        requires { HasRoom (length changes.items) self.old }
+        ensures applied { OnOk result (Applies self.old changes.items self.new) }
+        ensures grown { OnOk result (GrowsBy (length changes.items) self.old self.new) }
+        ensures refused { OnErr result (NeedsMemory self.old changes.items) }
+    {
+        self.lists_rise();
+        for change in changes {
+            let Ok(()) = self.apply_one(change) else {
+                return Err(WantOfMemory);
+            };
+        }
+        Ok(())
+    }
+
+    fn apply_one(&mut self, change: Change) -> Result<(), WantOfMemory>
+        requires { HasRoom 1 self.old }
+        ensures applied { OnOk result (Applies self.old (change ∷ []) self.new) }
+        ensures grown { OnOk result (GrowsBy 1 self.old self.new) }
+        ensures refused { OnErr result (NeedsNewEntry self.old [] change) }
+    {
+        let Ok(()) = self.users.add_one(change.meta().uid()) else {
+            return Err(WantOfMemory);
+        };
+        let Ok(()) = self.changesets.add_one(change.meta().changeset()) else {
+            return Err(WantOfMemory);
+        };
+        let Ok(()) = self.objects.put(change) else {
+            return Err(WantOfMemory);
+        };
+        self.lists_rise();
+        Ok(())
+    }
+
+    // Tells the prover that the lists rise; does nothing at run time.
+    fn lists_rise(&self)
+        ensures { IsOrderly self.now }
+    {
+        self.objects.keys_rise();
+        self.users.counts_rise();
+        self.changesets.counts_rise();
+    }
+
+    /// The object of that key.
+    pub fn get(&self, key: Key) -> Option<&Change>
+        ensures { MatchOption result
+            (object_at self.now.objects key ≡ None)
+            (λ c. object_at self.now.objects key ≡ Some c.now) }
+    {
+        self.objects.get(key)
+    }
+
+    /// The edits of a user.
+    pub fn user_count(&self, uid: u32) -> u64
+        ensures { result ≡ count_at self.now.users uid }
+    {
+        self.users.get(uid)
+    }
+
+    /// The edits in a changeset.
+    pub fn changeset_count(&self, id: u32) -> u64
+        ensures { result ≡ count_at self.now.changesets id }
+    {
+        self.changesets.get(id)
+    }
+
+    /// Copies of all objects, their keys rising.
+    pub fn objects(&self, alloc: Global) -> Result<Vec<Change>, WantOfMemory>
+        ensures copies { IfOk result (λ v. v.items ≡ self.now.objects) }
+        ensures refused { OnErr result (0 < length self.now.objects) }
+    {
+        self.objects.to_vec(alloc)
+    }
+
+    /// The users with their counts of edits, rising.
+    pub fn users(&self, alloc: Global) -> Result<Vec<(u32, u64)>, WantOfMemory>
+        ensures copies { IfOk result (λ v. v.items ≡ self.now.users) }
+        ensures refused { OnErr result (0 < length self.now.users) }
+    {
+        self.users.to_vec(alloc)
+    }
+
+    /// The changesets with their counts of edits, rising.
+    pub fn changesets(&self, alloc: Global) -> Result<Vec<(u32, u64)>, WantOfMemory>
+        ensures copies { IfOk result (λ v. v.items ≡ self.now.changesets) }
+        ensures refused { OnErr result (0 < length self.now.changesets) }
+    {
+        self.changesets.to_vec(alloc)
+    }
+}

@@ -1,0 +1,118 @@
+//! The objects of a mirror, each under its key.
+
+ghost use Rattle.std.specs.Prelude.{◌≡◌, ℕ, ◌+◌, ◌<◌, ◌≤◌, [], length, Some, None, IfOk, OnOk};
+ghost use Rattle.std.specs.Prelude.{OnErr, MatchOption, if◌then◌else◌};
+ghost use Rattle.osm_model.specs.Content.{standing_of};
+ghost use Rattle.osm_model.specs.KeyOrder.{same_key};
+ghost use Rattle.osm_model.specs.declared.kind.Key.{Key};
+ghost use Rattle.osm_mirror.specs.Steps.Entries.{HaveOwnKeys, objects_of};
+ghost use Rattle.osm_mirror.specs.Mirror.{AreRising, object_at};
+
+use osm_model::change::Change;
+use osm_model::kind::Key;
+use osm_model::memory::WantOfMemory;
+use std::alloc::Global;
+use std::collections::BTreeMap;
+use std::marker::Model;
+
+/// The last change of each object that isn't deleted, by its key.
+#[derive(Debug, Drop)]
+pub struct Objects {
+    objects: BTreeMap<Key, Change>,
+}
+
+impl Model for Objects {
+    ghost use Rattle.std.specs.Prelude.{List};
+    ghost use Rattle.osm_model.specs.Change.{ChangeValue};
+
+    ghost Value = { List ChangeValue };
+
+    ghost use Rattle.osm_mirror.specs.Steps.Entries.{HaveOwnKeys, objects_of};
+
+    ghost view = { λ a. objects_of a.objects.entries };
+
+    ghost invariant = { λ a. HaveOwnKeys a.objects.entries };
+}
+
+impl Objects {
+    /// No objects.
+    pub fn new(alloc: Global) -> Objects
+        ensures { result ≡ [] }
+    {
+        Objects {
+            objects: BTreeMap::new(alloc),
+        }
+    }
+
+    /// The object of that key.
+    pub fn get(&self, key: Key) -> Option<&Change>
+        ensures { MatchOption result
+            (object_at self.now key ≡ None)
+            (λ c. object_at self.now key ≡ Some c.now) }
+    {
+        self.objects.get(&key)
+    }
+
+    /// Makes one change: a deletion takes its object out, any other becomes its key's object. After
+    /// a refusal nothing has changed.
+    pub fn put(&mut self, change: Change) -> Result<(), WantOfMemory>
+        ensures put { OnOk result ((k : Key) → object_at self.new k
+            ≡ (if same_key change.key k then standing_of change else object_at self.old k)) }
+        ensures grown { length self.new ≤ length self.old + 1 }
+        ensures refused { OnErr result
+            ((standing_of change ≡ Some change) × (object_at self.old change.key ≡ None)) }
+        ensures unchanged { OnErr result (self.new ≡ self.old) }
+    {
+        if change.is_deletion() {
+            take_out(&mut self.objects, change.key());
+            Ok(())
+        } else {
+            enter(&mut self.objects, change)
+        }
+    }
+
+    /// Tells the prover that the keys rise; does nothing at run time.
+    pub fn keys_rise(&self)
+        ensures { AreRising self.now }
+    {
+        let _many = self.objects.len();
+    }
+
+    /// Copies of all objects, their keys rising.
+    pub fn to_vec(&self, alloc: Global) -> Result<Vec<Change>, WantOfMemory>
+        ensures copies { IfOk result (λ v. v.items ≡ self.now) }
+        ensures refused { OnErr result (0 < length self.now) }
+    {
+        let mut copies = Vec::with_capacity(alloc, self.objects.len())?;
+        for change in self.objects.values() {
+            copies.push(change.copy(alloc)?)?;
+        }
+        Ok(copies)
+    }
+}
+
+fn take_out(objects: &mut BTreeMap<Key, Change>, key: Key)
+    requires { HaveOwnKeys objects.old.entries }
+    ensures own_keys { HaveOwnKeys objects.new.entries }
+    ensures out { (k : Key) → object_at (objects_of objects.new.entries) k
+        ≡ (if same_key key k then None else object_at (objects_of objects.old.entries) k) }
+    ensures grown { length objects.new.entries ≤ length objects.old.entries }
+{
+    objects.remove(&key);
+}
+
+fn enter(objects: &mut BTreeMap<Key, Change>, change: Change) -> Result<(), WantOfMemory>
+    requires { HaveOwnKeys objects.old.entries }
+    ensures own_keys { HaveOwnKeys objects.new.entries }
+    ensures entered { OnOk result ((k : Key) → object_at (objects_of objects.new.entries) k
+        ≡ (if same_key change.key k then Some change
+        else object_at (objects_of objects.old.entries) k)) }
+    ensures grown { length objects.new.entries ≤ length objects.old.entries + 1 }
+    ensures refused { OnErr result (object_at (objects_of objects.old.entries) change.key ≡ None) }
+    ensures unchanged { OnErr result (objects.new.entries ≡ objects.old.entries) }
+{
+    let Ok(_) = objects.insert(change.key(), change) else {
+        return Err(WantOfMemory);
+    };
+    Ok(())
+}

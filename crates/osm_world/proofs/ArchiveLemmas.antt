@@ -1,0 +1,59 @@
+-- The texts of a sequence can be read, and an archive of such texts with one more.
+use Rattle.std.proofs.Common.{◌≡◌, ℕ, ◌+◌, ◌-◌, ◌<◌, ◌≤◌, List, [], ◌∷◌, ◌++◌, length, get_or, ap, sym, ◌∙◌, arith, inl, inr, length-append}
+use Rattle.std.proofs.lemmas.Bool.{cases_lt}
+use Rattle.std.proofs.lemmas.List.{get_or_append_left, get_or-append-add, get_or_default}
+use Rattle.osm_model.specs.Limits.{max_file}
+use Rattle.osm_state.proofs.StateLemmas.{one_state}
+use Rattle.osm_state.proofs.WrittenLemmas.{written_is_read}
+use Rattle.osm_state.specs.State.{StateValue}
+use Rattle.osm_state.specs.StateText.{StateOf}
+use Rattle.osm_follow.specs.Published.{PublishedValue, PublishedTexts, IsSequence, no_texts, texts_at, written_of}
+use Rattle.osm_follow.specs.Publisher.{IsSmall}
+use Rattle.osm_world.specs.Step.{bytes_in, spells_in}
+use Rattle.osm_world.specs.Steps.Archive.{AreReadable, IsArchive, IsReadable}
+use Rattle.osm_world.specs.declared.event.Form.{Form}
+use Rattle.osm_world.specs.declared.event.Form.TheVariants.{Opl, O5c}
+use Rattle.osm_follow.proofs.DeliveryLemmas.{state_of}
+use Rattle.osm_world.proofs.StepLemmas.{AreLawful}
+
+readable_in : AreLawful → (form : Form) (p : PublishedValue) → 0 < p.number → IsSequence p.number p → length (bytes_in form (written_of p)) ≤ max_file → IsReadable (spells_in form) (written_of p).state (bytes_in form (written_of p))
+readable_in laws form p above is small =
+    let named : StateOf (written_of p).state (state_of p) = written_is_read (state_of p) (record { sequence = is.most; time = is.time }) in
+    record {
+      named = λ e fault. laws.apart (written_of p).state (state_of p) e named fault;
+      above = λ s names. (let same : state_of p ≡ s = one_state (written_of p).state (state_of p) s named names in let number : p.number ≡ s.sequence = ap (λ (t : StateValue). t.sequence) same in omega arith);
+      small = small;
+      some = λ nothing. nothing p.changes (laws.spelled form p is.changes);
+    }
+
+pub written_readable : AreLawful → (p : PublishedValue) → 0 < p.number → IsSequence p.number p → IsSmall p.changes → AreReadable (written_of p)
+written_readable laws p above is small = record {
+  in_opl = readable_in laws Opl p above is small.opl;
+  in_o5c = readable_in laws O5c p above is small.o5c;
+}
+
+-- what was read from an archive can be delivered
+pub readable_at : (n : ℕ) (archive : List PublishedTexts) (i : ℕ) (p : PublishedTexts) → IsArchive n archive → i < length archive → p ≡ get_or archive i p → AreReadable p
+readable_at n archive i p a below is =
+    let index : i + 1 - 1 ≡ i = omega arith in
+    let here : texts_at archive (i + 1) ≡ p = ap (λ (j : ℕ). get_or archive j no_texts) index ∙ (get_or_default archive i no_texts p below ∙ sym is) in
+    rw here at (a.each (i + 1) (omega arith) (omega arith))
+
+pub archive_grown : (n : ℕ) (archive : List PublishedTexts) (p : PublishedTexts) → IsArchive n archive → AreReadable p → IsArchive (n + 1) (archive ++ p ∷ [])
+archive_grown n archive p a readable =
+    let all : length (archive ++ p ∷ []) ≡ length archive + 1 = length-append archive (p ∷ []) in
+    let count = a.count in
+    record { count = omega arith; each = each }
+  where
+    each : (k : ℕ) → 0 < k → k ≤ length (archive ++ p ∷ []) → AreReadable (texts_at (archive ++ p ∷ []) k)
+    each k above within =
+        let all : length (archive ++ p ∷ []) ≡ length archive + 1 = length-append archive (p ∷ []) in
+        elim (cases_lt (length archive) k) [
+          | inr below ↦ (
+              let here : texts_at (archive ++ p ∷ []) k ≡ texts_at archive k = get_or_append_left archive (p ∷ []) no_texts (k - 1) (omega arith) in
+              rw here (a.each k above below))
+          | inl past ↦ (
+              let index : k - 1 ≡ length archive + 0 = omega arith in
+              let here : texts_at (archive ++ p ∷ []) k ≡ p = ap (λ (i : ℕ). get_or (archive ++ p ∷ []) i no_texts) index ∙ get_or-append-add archive (p ∷ []) 0 no_texts in
+              rw here readable)
+        ]

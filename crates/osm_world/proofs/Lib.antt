@@ -1,0 +1,5 @@
+pub mod StepLemmas
+pub mod LegalLemmas
+pub mod ArchiveLemmas
+pub mod RunLemmas
+pub mod ReportLemmas

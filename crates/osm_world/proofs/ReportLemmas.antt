@@ -1,0 +1,138 @@
+-- What a legal history has reported as applied.
+use Rattle.std.proofs.Common.{◌≡◌, ℕ, zero, suc, ◌+◌, ◌-◌, ◌<◌, [], ◌∷◌, ◌++◌, length, get_or, refl, ap, sym, ◌∙◌, Bool, true, false, arith, append-nil, append_assoc, length-append, inl, inr, subst}
+use Rattle.std.specs.Prelude.{◌==◌, ◌||◌}
+use Rattle.std.proofs.lemmas.Bool.{cases_eq, cases_lt, eq-eqb, ne_eqb, or_left, or_right, or_from}
+use Rattle.std.proofs.lemmas.List.{get_or_append_left, get_or-append-add}
+use Rattle.osm_world.specs.Correct.{IsReported}
+use Rattle.osm_world.specs.History as hist
+use Rattle.osm_world.specs.Legal.{IsLegal, IsNumber, Allowed}
+use Rattle.osm_follow.specs.Reach.{Reaches, numbers}
+use Rattle.osm_world.specs.declared.event.Event.{Event}
+use Rattle.osm_world.specs.declared.event.Event.TheVariants.{Edit, Close, Deliver, Show}
+use Rattle.osm_world.specs.declared.event.Form.{Form}
+use Rattle.osm_world.specs.declared.event.Reply.{Reply}
+use Rattle.osm_world.specs.declared.event.Reply.TheVariants.{Edited, BatchFull, WantOfMemory, Closed, SequenceFull, TimeBack, TooLarge, NotPublished, Broken, Old, TooEarly, Applied, Broke, Shown}
+
+-- a number is reached without a gap only once
+pub one_reach : (is_in : ℕ → Bool) (n a b : ℕ) → Reaches is_in n a → Reaches is_in n b → a ≡ b
+one_reach is_in n a b p q = elim (cases_lt a b) [
+  | inl below ↦ absurd (past a b p q below)
+  | inr above ↦ elim (cases_lt b a) [
+    | inl below ↦ absurd (past b a q p below)
+    | inr same ↦ omega arith
+  ]
+]
+  where
+    past : (x y : ℕ) → Reaches is_in n x → Reaches is_in n y → x < y → ⊥
+    past x y r s below =
+        let from = r.from in
+        let yes : is_in (x + 1) ≡ true = s.all (x + 1) (omega arith) (omega arith) in
+        let none : is_in (x + 1) ≡ false = r.next in
+        let bad : true ≡ false = sym yes ∙ none in cc
+
+pub length-numbers : (n count : ℕ) → length (numbers n count) ≡ count
+length-numbers n zero = refl
+length-numbers n (suc count) = length-append (numbers n count) ((n + suc count) ∷ []) ∙ (let rest = length-numbers n count in omega arith)
+
+pub get_or-numbers : (n count i : ℕ) → i < count → get_or (numbers n count) i 0 ≡ n + i + 1
+get_or-numbers n zero i below = absurd (omega arith)
+get_or-numbers n (suc count) i below =
+    let many : length (numbers n count) ≡ count = length-numbers n count in
+    elim (cases_lt i count) [
+      | inl before ↦ get_or_append_left (numbers n count) ((n + suc count) ∷ []) 0 i (omega arith) ∙ get_or-numbers n count i before
+      | inr after ↦ (
+          let index : i ≡ length (numbers n count) + 0 = omega arith in
+          let last : get_or (numbers n count ++ (n + suc count) ∷ []) i 0 ≡ n + suc count = ap (λ (j : ℕ). get_or (numbers n count ++ (n + suc count) ∷ []) j 0) index ∙ get_or-append-add (numbers n count) ((n + suc count) ∷ []) 0 0 in
+          last ∙ omega arith)
+    ]
+
+pub numbers-append : (n a b : ℕ) → numbers n a ++ numbers (n + a) b ≡ numbers n (a + b)
+numbers-append n a zero = append-nil (numbers n a) ∙ ap (numbers n) (let same : a ≡ a + 0 = omega arith in same)
+numbers-append n a (suc b) =
+    let last : n + a + suc b ≡ n + suc (a + b) = omega arith in
+    let more : a + suc b ≡ suc (a + b) = omega arith in
+    sym (append_assoc (numbers n a) (numbers (n + a) b) ((n + a + suc b) ∷ []))
+    ∙ (ap (λ xs. xs ++ (n + a + suc b) ∷ []) (numbers-append n a b)
+    ∙ (ap (λ (j : ℕ). numbers n (a + b) ++ j ∷ []) last
+    ∙ sym (ap (numbers n) more)))
+
+legal_before : (h : hist.History) (e : Event) (r : Reply) → IsLegal ((e, r) ∷ h) → IsLegal h
+legal_before h e r legal = record { each = λ later before d q is. legal.each ((e, r) ∷ later) before d q (ap (λ (x : hist.History). (e, r) ∷ x) is) }
+
+-- what a pair that reports nothing leaves as it was
+record IsSilent (h : hist.History) (e : Event) (r : Reply) : Type 0 where
+  broken : hist.is_broken ((e, r) ∷ h) ≡ hist.is_broken h
+  accepted : hist.accepted_of ((e, r) ∷ h) ≡ hist.accepted_of h
+  reported : hist.reported_of ((e, r) ∷ h) ≡ hist.reported_of h ++ []
+
+silent : (h : hist.History) (e : Event) (r : Reply) → hist.is_broken ((e, r) ∷ h) ≡ hist.is_broken h → hist.accepted_of ((e, r) ∷ h) ≡ hist.accepted_of h → hist.reported_of ((e, r) ∷ h) ≡ hist.reported_of h ++ [] → IsSilent h e r
+silent h e r a b c = record { broken = a; accepted = b; reported = c }
+
+quiet_reports : (h : hist.History) (e : Event) (r : Reply) (n : ℕ) → IsSilent h e r → (hist.is_broken h ≡ false → IsNumber h n → IsReported (hist.reported_of h) (hist.start_of h) n) → hist.is_broken ((e, r) ∷ h) ≡ false → IsNumber ((e, r) ∷ h) n → IsReported (hist.reported_of ((e, r) ∷ h)) (hist.start_of h) n
+quiet_reports h e r n q before ok number =
+    let at : IsNumber h n = subst (λ (acc : ℕ → Bool). Reaches acc (hist.start_of h) n) q.accepted number in
+    rw (q.reported, append-nil) (before (sym q.broken ∙ ok) at)
+
+-- a pair that reports the next sequences
+applied_reports : (h : hist.History) (k low high n : ℕ) (form : Form) → Allowed h (Deliver k form) (Applied low high) → ((m : ℕ) → hist.is_broken h ≡ false → IsNumber h m → IsReported (hist.reported_of h) (hist.start_of h) m) → IsNumber ((Deliver k form, Applied low high) ∷ h) n → IsReported (hist.reported_of ((Deliver k form, Applied low high) ∷ h)) (hist.start_of h) n
+applied_reports h k low high n form allowed before number =
+    let m : ℕ = allowed.0 in
+    let next : k ≡ m + 1 = allowed.1.next in
+    let low_is : low ≡ k = allowed.2 in
+    let reach : Reaches (hist.accepted_of h) k high = allowed.3 in
+    let from = reach.from in
+    let here : IsNumber h m = allowed.1.is_open.number in
+    let start = here.from in
+    let p : IsReported (hist.reported_of h) (hist.start_of h) m = before m allowed.1.is_open.whole here in
+    let number_is : m ≡ hist.start_of h + p.count = p.number_is in
+    let reaches : Reaches (λ j. (k == j) || hist.accepted_of h j) (hist.start_of h) high = record {
+      from = omega arith;
+      all = λ j above below. elim (cases_eq k j) [
+        | inl is ↦ or_left (k == j) (hist.accepted_of h j) (eq-eqb k j is)
+        | inr ne ↦ or_right (k == j) (hist.accepted_of h j) (elim (cases_lt j k) [
+          | inl earlier ↦ here.all j above (omega arith)
+          | inr later ↦ reach.all j (omega arith) below
+        ])
+      ];
+      next = or_from (k == (high + 1)) (hist.accepted_of h (high + 1)) (ne_eqb k (high + 1) (λ e. omega arith)) reach.next;
+    } in
+    let is : n ≡ high = one_reach (λ j. (k == j) || hist.accepted_of h j) (hist.start_of h) n high number reaches in
+    let count : ℕ = high + 1 - low in
+    let first : low - 1 ≡ hist.start_of h + p.count = omega arith in
+    record {
+      count = p.count + count;
+      number_is = omega arith;
+      reported_is = rw (p.reported_is, first) (numbers-append (hist.start_of h) p.count count);
+    }
+
+pub reported_is : (h : hist.History) (n : ℕ) → IsLegal h → hist.is_broken h ≡ false → IsNumber h n → IsReported (hist.reported_of h) (hist.start_of h) n
+reported_is [] n legal ok number = elim (cases_lt 0 n) [
+  | inl above ↦ absurd (let yes : false ≡ true = number.all n above (omega arith) in cc)
+  | inr none ↦ record { count = 0; number_is = omega arith; reported_is = refl }
+]
+reported_is (p ∷ h) n legal ok number =
+    by_pair p.0 p.1 (legal.each [] h p.0 p.1 refl) (λ m whole at. reported_is h m (legal_before h p.0 p.1 legal) whole at) ok number
+  where
+    by_pair : (e : Event) (r : Reply) → Allowed h e r → ((m : ℕ) → hist.is_broken h ≡ false → IsNumber h m → IsReported (hist.reported_of h) (hist.start_of h) m) → hist.is_broken ((e, r) ∷ h) ≡ false → IsNumber ((e, r) ∷ h) n → IsReported (hist.reported_of ((e, r) ∷ h)) (hist.start_of h) n
+    by_pair (Edit c) Edited allowed before whole at = quiet_reports h (Edit c) Edited n (silent h (Edit c) Edited refl refl refl) (before n) whole at
+    by_pair (Edit c) BatchFull allowed before whole at = quiet_reports h (Edit c) BatchFull n (silent h (Edit c) BatchFull refl refl refl) (before n) whole at
+    by_pair (Edit c) WantOfMemory allowed before whole at = quiet_reports h (Edit c) WantOfMemory n (silent h (Edit c) WantOfMemory refl refl refl) (before n) whole at
+    by_pair (Edit c) r allowed before whole at = absurd allowed
+    by_pair (Close t) (Closed m) allowed before whole at = quiet_reports h (Close t) (Closed m) n (silent h (Close t) (Closed m) refl refl refl) (before n) whole at
+    by_pair (Close t) SequenceFull allowed before whole at = quiet_reports h (Close t) SequenceFull n (silent h (Close t) SequenceFull refl refl refl) (before n) whole at
+    by_pair (Close t) TimeBack allowed before whole at = quiet_reports h (Close t) TimeBack n (silent h (Close t) TimeBack refl refl refl) (before n) whole at
+    by_pair (Close t) TooLarge allowed before whole at = quiet_reports h (Close t) TooLarge n (silent h (Close t) TooLarge refl refl refl) (before n) whole at
+    by_pair (Close t) WantOfMemory allowed before whole at = quiet_reports h (Close t) WantOfMemory n (silent h (Close t) WantOfMemory refl refl refl) (before n) whole at
+    by_pair (Close t) r allowed before whole at = absurd allowed
+    by_pair (Deliver k form) NotPublished allowed before whole at = quiet_reports h (Deliver k form) NotPublished n (silent h (Deliver k form) NotPublished refl refl refl) (before n) whole at
+    by_pair (Deliver k form) Broken allowed before whole at = quiet_reports h (Deliver k form) Broken n (silent h (Deliver k form) Broken refl refl refl) (before n) whole at
+    by_pair (Deliver k form) Old allowed before whole at = quiet_reports h (Deliver k form) Old n (silent h (Deliver k form) Old refl refl refl) (before n) whole at
+    by_pair (Deliver k form) TooEarly allowed before whole at = quiet_reports h (Deliver k form) TooEarly n (silent h (Deliver k form) TooEarly refl refl refl) (before n) whole at
+    by_pair (Deliver k form) WantOfMemory allowed before whole at = quiet_reports h (Deliver k form) WantOfMemory n (silent h (Deliver k form) WantOfMemory refl refl refl) (before n) whole at
+    by_pair (Deliver k form) (Applied low high) allowed before whole at = applied_reports h k low high n form allowed before at
+    by_pair (Deliver k form) Broke allowed before whole at = cc
+    by_pair (Deliver k form) r allowed before whole at = absurd allowed
+    by_pair Show Broken allowed before whole at = quiet_reports h Show Broken n (silent h Show Broken refl refl refl) (before n) whole at
+    by_pair Show (Shown v) allowed before whole at = quiet_reports h Show (Shown v) n (silent h Show (Shown v) refl refl refl) (before n) whole at
+    by_pair Show WantOfMemory allowed before whole at = quiet_reports h Show WantOfMemory n (silent h Show WantOfMemory refl refl refl) (before n) whole at
+    by_pair Show r allowed before whole at = absurd allowed

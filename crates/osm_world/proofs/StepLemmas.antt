@@ -1,0 +1,254 @@
+-- A step keeps a world in step with its history.
+use Rattle.std.proofs.Common.{◌≡◌, ℕ, suc, ◌+◌, ◌-◌, ◌<◌, ◌≤◌, List, [], ◌∷◌, ◌++◌, length, refl, ap, sym, ◌∙◌, Bool, true, false, arith, Some, None, Option, append-nil, length-append, inl, inr, subst}
+use Rattle.std.specs.Prelude.{◌==◌, if◌then◌else◌, ◌||◌, Result, Ok, Err}
+use Rattle.std.specs.List.{zip}
+use Rattle.std.proofs.lemmas.List.{reverse-append, map-append}
+use Rattle.std.proofs.lemmas.Bool.{cases_eq, eq-eqb, ne_eqb, or_left, or_right, or_from}
+use Rattle.osm_model.specs.Batch.{IsBatch}
+use Rattle.osm_model.specs.Change.{ChangeValue}
+use Rattle.osm_model.specs.Limits.{IsPositive}
+use Rattle.osm_state.proofs.WrittenLemmas.{written_is_read}
+use Rattle.osm_state.specs.StateText.{StateOf}
+use Rattle.osm_world.specs.Correct.{IsInStep, IsReported}
+use Rattle.osm_follow.specs.Delivery as table
+use Rattle.osm_follow.specs.Follower.{FollowerValue, IsState}
+use Rattle.osm_world.specs.History as hist
+use Rattle.osm_follow.specs.Published.{PublishedValue, PublishedTexts, IsSequence, sequence_at, texts_at, last_time, written_of}
+use Rattle.osm_follow.specs.Publisher.{PublisherValue, CanClose, closed, closing}
+use Rattle.osm_follow.specs.Reach.{numbers}
+use Rattle.osm_world.specs.Step.{Step, DeliversTo, bytes_in, fault_in, spells_in}
+use Rattle.osm_world.specs.World.{WorldValue, new_world}
+use Rattle.osm_follow.specs.declared.delivery.Delivered.{Delivered}
+use Rattle.osm_follow.specs.declared.delivery.Delivered.TheVariants as answers
+use Rattle.osm_follow.specs.declared.delivery.DeliverError.{DeliverError}
+use Rattle.osm_follow.specs.declared.delivery.DeliverError.TheVariants as errors
+use Rattle.osm_world.specs.declared.event.Event.{Event}
+use Rattle.osm_world.specs.declared.event.Event.TheVariants.{Edit, Close, Deliver, Show}
+use Rattle.osm_world.specs.declared.event.Form.{Form}
+use Rattle.osm_world.specs.declared.event.Reply.{Reply}
+use Rattle.osm_world.specs.declared.event.Reply.TheVariants.{Edited, BatchFull, WantOfMemory, Closed, SequenceFull, TimeBack, TooLarge, NotPublished, Broken, Old, TooEarly, Applied, Broke, Shown}
+use Rattle.osm_follow.proofs.DeliveryLemmas.{OneBatch, NoFaultBeside, FollowerStep, read_as, state_of}
+use Rattle.osm_follow.proofs.FollowLemmas.{follows_taken, follows_grown, none_accepted}
+use Rattle.osm_mirror.proofs.MirrorLemmas.{mirror_of-nil}
+use Rattle.osm_follow.proofs.PublishedLemmas.{sequence_within, sequences-snoc, texts_at-written, last_time-snoc}
+
+-- one pair more at the end
+zip-snoc : (es : List Event) (rs : List Reply) (e : Event) (r : Reply) → length rs ≡ length es → zip (es ++ e ∷ []) (rs ++ r ∷ []) ≡ zip es rs ++ (e, r) ∷ []
+zip-snoc [] [] e r h = refl
+zip-snoc [] (q ∷ rs) e r h = absurd (omega arith)
+zip-snoc (d ∷ es) [] e r h = absurd (omega arith)
+zip-snoc (d ∷ es) (q ∷ rs) e r h = ap (λ x. (d, q) ∷ x) (zip-snoc es rs e r (omega arith))
+
+pub history_of-snoc : (es : List Event) (rs : List Reply) (e : Event) (r : Reply) → length rs ≡ length es → hist.history_of (es ++ e ∷ []) (rs ++ r ∷ []) ≡ (e, r) ∷ hist.history_of es rs
+history_of-snoc es rs e r h = rw (zip-snoc es rs e r h) (reverse-append (zip es rs) ((e, r) ∷ []))
+
+-- what a pair leaves as it was
+record IsQuiet (h : hist.History) (e : Event) (r : Reply) : Type 0 where
+  edit : hist.edit_of e r ≡ []
+  closed : hist.closes e r ≡ false
+  broken : hist.is_broken ((e, r) ∷ h) ≡ hist.is_broken h
+  accepted : hist.accepted_of ((e, r) ∷ h) ≡ hist.accepted_of h
+  reported : hist.reported_of ((e, r) ∷ h) ≡ hist.reported_of h ++ []
+
+quiet_keeps : (h : hist.History) (e : Event) (r : Reply) (a b : WorldValue) → IsQuiet h e r → IsInStep h a → b ≡ a → IsInStep ((e, r) ∷ h) b
+quiet_keeps h e r a b q s t = rw t (record {
+  publisher = rw (q.closed, q.edit, append-nil) s.publisher;
+  archive = rw q.closed s.archive;
+  sequences = rw q.closed s.sequences;
+  batch = rw (q.closed, q.edit, append-nil) s.batch;
+  broken = rw q.broken s.broken;
+  state = λ ok. rw (q.closed, q.accepted) (s.state (sym q.broken ∙ ok));
+  reported = λ ok. rw (q.reported, append-nil) (s.reported (sym q.broken ∙ ok));
+})
+
+-- the same, where all that changes is the follower, which stays as it was
+unmoved : (a b : WorldValue) → b ≡ record a { follower = b.follower } → b.follower ≡ a.follower → b ≡ a
+unmoved a b t u = t ∙ ap (λ (f : FollowerValue). (let w : WorldValue = record a { follower = f } in w)) u
+
+-- what is held of a number, read from more sequences
+held_more : (b : Bool) (p q : PublishedValue) → (b ≡ true → q ≡ p) → (if b then Some p else None) ≡ (if b then Some q else None)
+held_more true p q e = ap (λ (x : PublishedValue). let o : Option PublishedValue = Some x in o) (sym (e refl))
+held_more false p q e = refl
+
+state_grown : (ps more : List PublishedValue) (start : ℕ) (acc : ℕ → Bool) (f : FollowerValue) → IsState ps start acc f → IsState (ps ++ more) start acc f
+state_grown ps more start acc f s = record {
+  reach = s.reach;
+  follows = follows_grown ps more f s.follows;
+  held = λ j past. s.held j past ∙ held_more (acc j) (sequence_at ps j) (sequence_at (ps ++ more) j)
+      (λ t. sequence_within ps more j (omega arith)
+      (s.follows.held j (sequence_at ps j) (s.held j past ∙ ap (λ b. if b then Some (sequence_at ps j) else None) t)).2);
+}
+
+edited_keeps : (h : hist.History) (c : ChangeValue) (a b : WorldValue) → IsInStep h a → IsBatch b.publisher.pending → b ≡ record a { publisher = record a.publisher { pending = a.publisher.pending ++ c ∷ [] } } → IsInStep ((Edit c, Edited) ∷ h) b
+edited_keeps h c a b s batch t =
+    let pending : a.publisher.pending ≡ hist.pending_of h = ap (λ (p : PublisherValue). p.pending) s.publisher in
+    let grown : b.publisher.pending ≡ hist.pending_of h ++ c ∷ [] = ap (λ (w : WorldValue). w.publisher.pending) t ∙ ap (λ cs. cs ++ c ∷ []) pending in
+    let batch_is : IsBatch (hist.pending_of h ++ c ∷ []) = rw grown at batch in
+    rw t (record {
+      publisher = ap (λ (p : PublisherValue). (let q : PublisherValue = record p { pending = p.pending ++ c ∷ [] } in q)) s.publisher;
+      archive = s.archive;
+      sequences = s.sequences;
+      batch = batch_is;
+      broken = s.broken;
+      state = s.state;
+      reported = λ ok. rw append-nil (s.reported ok);
+    })
+
+empty_batch : IsBatch []
+empty_batch = record { few = omega arith; each = tt }
+
+closed_keeps : (h : hist.History) (t n : ℕ) (a b : WorldValue) → IsInStep h a → CanClose a.publisher t → IsPositive t → b ≡ record a { publisher = closed a.publisher t; archive = a.archive ++ written_of (closing a.publisher t) ∷ [] } → IsInStep ((Close t, Closed n) ∷ h) b
+closed_keeps h t n a b s can positive is =
+    let p : PublishedValue = record { number = length (hist.published_of h) + 1; changes = hist.pending_of h; time = t } in
+    let many : length (hist.published_of h ++ p ∷ []) ≡ length (hist.published_of h) + 1 = length-append (hist.published_of h) (p ∷ []) in
+    let last : last_time (hist.published_of h ++ p ∷ []) ≡ t = last_time-snoc (hist.published_of h) p in
+    let number : a.publisher.number ≡ length (hist.published_of h) = ap (λ (q : PublisherValue). q.number) s.publisher in
+    let room = can.room in
+    rw is (record {
+      publisher = rw (s.publisher, many, last) refl;
+      archive = rw (s.publisher, s.archive, map-append written_of (hist.published_of h) (p ∷ [])) refl;
+      sequences = sequences-snoc (hist.published_of h) p s.sequences (record { number_is = refl; most = omega arith; changes = s.batch; time = positive });
+      batch = empty_batch;
+      broken = s.broken;
+      state = λ ok. state_grown (hist.published_of h) (p ∷ []) (hist.start_of h) (hist.accepted_of h) a.follower (s.state ok);
+      reported = λ ok. rw append-nil (s.reported ok);
+    })
+
+taken_state : (ps : List PublishedValue) (start : ℕ) (acc : ℕ → Bool) (k : ℕ) (f g : FollowerValue) → IsState ps start acc f → k ≡ f.number + 1 → k ≤ length ps → (sequence_at ps k).number ≡ k → table.Takes f (sequence_at ps k) g → IsState ps start (λ j. (k == j) || acc j) g
+taken_state ps start acc k f g s next there number t =
+    let at : g.number ≡ k = ap (λ (x : FollowerValue). x.number) t.rest ∙ number in
+    let from = s.reach.from in
+    let none : (j : ℕ) → k < j → ((k == j) || acc j) ≡ false = λ j past. or_from (k == j) (acc j) (ne_eqb k j (λ e. omega arith)) (none_accepted ps start acc f s j (omega arith)) in
+    record {
+      reach = rw at (record {
+        from = omega arith;
+        all = λ j above below. elim (cases_eq k j) [
+          | inl is ↦ or_left (k == j) (acc j) (eq-eqb k j is)
+          | inr ne ↦ or_right (k == j) (acc j) (s.reach.all j above (omega arith))
+        ];
+        next = none (k + 1) (omega arith);
+      });
+      follows = follows_taken ps k f g s.follows next there number t;
+      held = λ j past. sym (ap (λ b. if b then Some (sequence_at ps j) else None) (none j (rw at at past)));
+    }
+
+reported_more : (reported : List ℕ) (start n k : ℕ) → k ≡ n + 1 → IsReported reported start n → IsReported (reported ++ numbers (k - 1) (k + 1 - k)) start k
+reported_more reported start n k e p =
+    let is = p.number_is in
+    let one : k + 1 - k ≡ 1 = omega arith in
+    let last : k - 1 + 1 ≡ start + (p.count + 1) = omega arith in
+    record {
+      count = p.count + 1;
+      number_is = omega arith;
+      reported_is = rw (one, p.reported_is) (ap (λ (j : ℕ). numbers start p.count ++ j ∷ []) last ∙ added start p.count (p.count + 1) refl);
+    }
+  where
+    added : (s c d : ℕ) → d ≡ c + 1 → numbers s c ++ (s + d) ∷ [] ≡ numbers s d
+    added s c d is = let more : d ≡ suc c = omega arith in rw more refl
+
+-- the laws of the two forms and of state texts
+pub record AreLawful : Type 0 where
+  pub spelled : (form : Form) (p : PublishedValue) → IsBatch p.changes → spells_in form (bytes_in form (written_of p)) p.changes
+  pub one : (form : Form) → OneBatch (spells_in form)
+  pub apart : NoFaultBeside
+
+-- the sequence that is delivered is the one that was published
+pub published_at : (h : hist.History) (a : WorldValue) (k : ℕ) → IsInStep h a → 0 < k → k ≤ a.publisher.number → IsSequence k (sequence_at (hist.published_of h) k)
+published_at h a k s above there =
+    let number : a.publisher.number ≡ length (hist.published_of h) = ap (λ (q : PublisherValue). q.number) s.publisher in
+    s.sequences k above (omega arith)
+
+pub delivered_as : AreLawful → (h : hist.History) (a b : WorldValue) (k : ℕ) (form : Form) (answer : Result Delivered DeliverError) → IsInStep h a → 0 < k → k ≤ a.publisher.number → table.Delivers (spells_in form) (fault_in form) a.follower (texts_at a.archive k).state (bytes_in form (texts_at a.archive k)) answer b.follower → FollowerStep a.follower (sequence_at (hist.published_of h) k) answer b.follower
+delivered_as laws h a b k form answer s above there d =
+    let number : a.publisher.number ≡ length (hist.published_of h) = ap (λ (q : PublisherValue). q.number) s.publisher in
+    let p : PublishedValue = sequence_at (hist.published_of h) k in
+    let is : IsSequence k p = published_at h a k s above there in
+    let number_is : p.number ≡ k = is.number_is in
+    let most = is.most in
+    let texts : texts_at a.archive k ≡ written_of p = rw s.archive (texts_at-written (hist.published_of h) k above (omega arith)) in
+    let named : StateOf (written_of p).state (state_of p) = written_is_read (state_of p) (record { sequence = omega arith; time = is.time }) in
+    let read : table.Delivers (spells_in form) (fault_in form) a.follower (written_of p).state (bytes_in form (written_of p)) answer b.follower =
+    subst (λ (x : PublishedTexts). table.Delivers (spells_in form) (fault_in form) a.follower x.state (bytes_in form x) answer b.follower) texts d in
+    read_as (spells_in form) (fault_in form) (laws.one form) laws.apart a.follower b.follower (written_of p).state (bytes_in form (written_of p)) p (omega arith) named (laws.spelled form p is.changes) answer read
+
+applied_keeps : AreLawful → (h : hist.History) (k low high : ℕ) (form : Form) (a b : WorldValue) → IsInStep h a → DeliversTo a k form (Applied low high) b → IsInStep ((Deliver k form, Applied low high) ∷ h) b
+applied_keeps laws h k low high form a b s t =
+    let p : PublishedValue = sequence_at (hist.published_of h) k in
+    let published : a.publisher.number ≡ length (hist.published_of h) = ap (λ (q : PublisherValue). q.number) s.publisher in
+    let is : IsSequence k p = published_at h a k s t.above t.there in
+    let number_is : p.number ≡ k = is.number_is in
+    let step : FollowerStep a.follower p (Ok (answers.Applied low high)) b.follower = delivered_as laws h a b k form (Ok (answers.Applied low high)) s t.above t.there t.replies in
+    let same : b.follower.is_broken ≡ a.follower.is_broken = ap (λ (f : FollowerValue). f.is_broken) step.4.rest in
+    let number : b.follower.number ≡ k = ap (λ (f : FollowerValue). f.number) step.4.rest ∙ number_is in
+    let next : k ≡ a.follower.number + 1 = (let n = step.1 in omega arith) in
+    let there : k ≤ length (hist.published_of h) = (let w = t.there in omega arith) in
+    rw t.rest (record {
+      publisher = rw append-nil s.publisher;
+      archive = s.archive;
+      sequences = s.sequences;
+      batch = rw append-nil s.batch;
+      broken = same ∙ s.broken;
+      state = λ ok. taken_state (hist.published_of h) (hist.start_of h) (hist.accepted_of h) k a.follower b.follower (s.state ok) next there number_is step.4;
+      reported = λ ok. rw (number, step.2 ∙ number_is, step.3 ∙ number_is) (reported_more (hist.reported_of h) (hist.start_of h) a.follower.number k next (s.reported ok));
+    })
+
+broke_keeps : AreLawful → (h : hist.History) (k : ℕ) (form : Form) (a b : WorldValue) → IsInStep h a → DeliversTo a k form Broke b → IsInStep ((Deliver k form, Broke) ∷ h) b
+broke_keeps laws h k form a b s t =
+    let step : FollowerStep a.follower (sequence_at (hist.published_of h) k) (Err errors.Broke) b.follower = delivered_as laws h a b k form (Err errors.Broke) s t.above t.there t.replies in
+    rw t.rest (record {
+      publisher = rw append-nil s.publisher;
+      archive = s.archive;
+      sequences = s.sequences;
+      batch = rw append-nil s.batch;
+      broken = ap (λ (f : FollowerValue). f.is_broken) step.2.rest;
+      state = λ ok. cc;
+      reported = λ ok. cc;
+    })
+
+still : (h : hist.History) (e : Event) (r : Reply) → hist.edit_of e r ≡ [] → hist.closes e r ≡ false → hist.is_broken ((e, r) ∷ h) ≡ hist.is_broken h → hist.accepted_of ((e, r) ∷ h) ≡ hist.accepted_of h → hist.reported_of ((e, r) ∷ h) ≡ hist.reported_of h ++ [] → IsQuiet h e r
+still h e r a b c d f = record { edit = a; closed = b; broken = c; accepted = d; reported = f }
+
+-- before any event
+pub new_in_step : IsInStep [] new_world
+new_in_step = record {
+  publisher = refl;
+  archive = refl;
+  sequences = λ k above within. absurd (omega arith);
+  batch = empty_batch;
+  broken = refl;
+  state = λ ok. record {
+    reach = record { from = omega arith; all = λ j above below. absurd (omega arith); next = refl };
+    follows = record {
+      within = omega arith;
+      mirror = mirror_of-nil;
+      time = refl;
+      held = λ j p e. absurd (let bad : None ≡ Some p = e in cc);
+    };
+    held = λ j past. refl;
+  };
+  reported = λ ok. record { count = 0; number_is = refl; reported_is = refl };
+}
+
+pub step_keeps : AreLawful → (h : hist.History) (e : Event) (r : Reply) (a b : WorldValue) → IsInStep h a → Step a e r b → IsInStep ((e, r) ∷ h) b
+step_keeps laws h (Edit c) Edited a b s t = edited_keeps h c a b s t.1 t.2
+step_keeps laws h (Edit c) BatchFull a b s t = quiet_keeps h (Edit c) BatchFull a b (still h (Edit c) BatchFull refl refl refl refl refl) s t.1
+step_keeps laws h (Edit c) WantOfMemory a b s t = quiet_keeps h (Edit c) WantOfMemory a b (still h (Edit c) WantOfMemory refl refl refl refl refl) s t.1
+step_keeps laws h (Edit c) r a b s t = absurd t
+step_keeps laws h (Close m) (Closed n) a b s t = closed_keeps h m n a b s t.0 t.1 t.4
+step_keeps laws h (Close m) SequenceFull a b s t = quiet_keeps h (Close m) SequenceFull a b (still h (Close m) SequenceFull refl refl refl refl refl) s t.1
+step_keeps laws h (Close m) TimeBack a b s t = quiet_keeps h (Close m) TimeBack a b (still h (Close m) TimeBack refl refl refl refl refl) s t.2
+step_keeps laws h (Close m) TooLarge a b s t = quiet_keeps h (Close m) TooLarge a b (still h (Close m) TooLarge refl refl refl refl refl) s t.2
+step_keeps laws h (Close m) WantOfMemory a b s t = quiet_keeps h (Close m) WantOfMemory a b (still h (Close m) WantOfMemory refl refl refl refl refl) s t.1
+step_keeps laws h (Close m) r a b s t = absurd t
+step_keeps laws h (Deliver k form) NotPublished a b s t = quiet_keeps h (Deliver k form) NotPublished a b (still h (Deliver k form) NotPublished refl refl refl refl refl) s t.1
+step_keeps laws h (Deliver k form) Broken a b s t = quiet_keeps h (Deliver k form) Broken a b (still h (Deliver k form) Broken refl refl refl refl refl) s (unmoved a b t.rest (delivered_as laws h a b k form (Err errors.Broken) s t.above t.there t.replies).1)
+step_keeps laws h (Deliver k form) Old a b s t = quiet_keeps h (Deliver k form) Old a b (still h (Deliver k form) Old refl refl refl refl refl) s (unmoved a b t.rest (delivered_as laws h a b k form (Ok answers.Old) s t.above t.there t.replies).2)
+step_keeps laws h (Deliver k form) TooEarly a b s t = quiet_keeps h (Deliver k form) TooEarly a b (still h (Deliver k form) TooEarly refl refl refl refl refl) s (unmoved a b t.rest (delivered_as laws h a b k form (Err errors.TooEarly) s t.above t.there t.replies).2)
+step_keeps laws h (Deliver k form) WantOfMemory a b s t = quiet_keeps h (Deliver k form) WantOfMemory a b (still h (Deliver k form) WantOfMemory refl refl refl refl refl) s (unmoved a b t.rest (delivered_as laws h a b k form (Err errors.WantOfMemory) s t.above t.there t.replies).3)
+step_keeps laws h (Deliver k form) (Applied low high) a b s t = applied_keeps laws h k low high form a b s t
+step_keeps laws h (Deliver k form) Broke a b s t = broke_keeps laws h k form a b s t
+step_keeps laws h (Deliver k form) r a b s t = absurd t.replies
+step_keeps laws h Show Broken a b s t = quiet_keeps h Show Broken a b (still h Show Broken refl refl refl refl refl) s t.1
+step_keeps laws h Show (Shown v) a b s t = quiet_keeps h Show (Shown v) a b (still h Show (Shown v) refl refl refl refl refl) s t.2
+step_keeps laws h Show WantOfMemory a b s t = quiet_keeps h Show WantOfMemory a b (still h Show WantOfMemory refl refl refl refl refl) s t.1
+step_keeps laws h Show r a b s t = absurd t

@@ -1,0 +1,39 @@
+-- The main statement. Over every list of events a follower that isn't broken holds exactly the
+-- mirror and the counts of edits of published sequences 1 to its own number, each applied once; and
+-- the numbers that it reports as applied are the next ones, each once and in order.
+use Rattle.std.specs.Prelude.{◌≡◌, ℕ, ◌+◌, List, length, map, false}
+use Rattle.osm_model.specs.Batch.{IsBatch}
+use Rattle.osm_follow.specs.Follower.{IsState}
+use Rattle.osm_world.specs.History.{History, history_of, pending_of, published_of, publisher_of}
+use Rattle.osm_world.specs.History.{start_of, accepted_of, reported_of, is_broken}
+use Rattle.osm_world.specs.Legal.{IsLegal}
+use Rattle.osm_follow.specs.Published.{AreSequences, written_of}
+use Rattle.osm_follow.specs.Reach.{numbers}
+use Rattle.osm_world.specs.World.{WorldValue}
+use Rattle.osm_world.specs.declared.event.Event.{Event}
+use Rattle.osm_world.specs.declared.event.Reply.{Reply}
+
+-- the numbers reported are those from the start up to the follower's number, once each, in order
+pub record IsReported (reported : List ℕ) (start number : ℕ) : Type 0 where
+  pub count : ℕ
+  pub number_is : number ≡ start + count
+  pub reported_is : reported ≡ numbers start count
+
+-- a world is what its history says: what is archived are the written texts of what was published,
+-- and a follower that isn't broken follows it
+pub record IsInStep (h : History) (w : WorldValue) : Type 0 where
+  pub publisher : w.publisher ≡ publisher_of h
+  pub archive : w.archive ≡ map written_of (published_of h)
+  pub sequences : AreSequences (published_of h)
+  pub batch : IsBatch (pending_of h)
+  pub broken : w.follower.is_broken ≡ is_broken h
+  pub state : is_broken h ≡ false →
+      IsState (published_of h) (start_of h) (accepted_of h) w.follower
+  pub reported : is_broken h ≡ false →
+      IsReported (reported_of h) (start_of h) w.follower.number
+
+-- the replies and the world of a run over the events
+pub record IsRun (events : List Event) (replies : List Reply) (world : WorldValue) : Type 0 where
+  pub one_each : length replies ≡ length events
+  pub legal : IsLegal (history_of events replies)
+  pub in_step : IsInStep (history_of events replies) world

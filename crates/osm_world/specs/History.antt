@@ -1,0 +1,97 @@
+-- What a history of events and replies says. The model reads only these, and no state. A history
+-- has its newest pair first.
+use Rattle.std.specs.Prelude.{ℕ, ◌+◌, ◌-◌, length, List, [], ◌∷◌, ◌++◌, Bool, true, false, ◌||◌}
+use Rattle.std.specs.Prelude.{◌==◌, if◌then◌else◌, reverse}
+use Rattle.std.specs.List.{zip}
+use Rattle.osm_model.specs.Change.{ChangeValue}
+use Rattle.osm_follow.specs.Published.{PublishedValue, last_time}
+use Rattle.osm_follow.specs.Publisher.{PublisherValue}
+use Rattle.osm_follow.specs.Reach.{numbers}
+use Rattle.osm_world.specs.declared.event.Event.{Event}
+use Rattle.osm_world.specs.declared.event.Event.TheVariants.{Edit, Close, Deliver}
+use Rattle.osm_world.specs.declared.event.Reply.{Reply}
+use Rattle.osm_world.specs.declared.event.Reply.TheVariants.{Edited, Closed, Applied, Broke}
+
+-- an event and its reply
+abbrev pub Pair : Type 0
+Pair = Event × Reply
+
+abbrev pub History : Type 0
+History = List Pair
+
+-- the history of a run
+abbrev pub history_of : List Event → List Reply → History
+history_of events replies = reverse (zip events replies)
+
+-- the change of an edit that was taken
+abbrev pub edit_of : Event → Reply → List ChangeValue
+edit_of (Edit c) Edited = c ∷ []
+edit_of e r = []
+
+-- whether the pair is a close that published
+abbrev pub closes : Event → Reply → Bool
+closes (Close t) (Closed n) = true
+closes e r = false
+
+-- the time of a close
+abbrev pub time_of : Event → ℕ
+time_of (Close t) = t
+time_of e = 0
+
+-- the numbers that the pair reports as applied, low to high
+abbrev pub applied_by : Reply → List ℕ
+applied_by (Applied low high) = numbers (low - 1) (high + 1 - low)
+applied_by r = []
+
+-- whether the pair accepts the number
+abbrev pub accepts : Event → Reply → ℕ → Bool
+accepts (Deliver k form) (Applied low high) j = k == j
+accepts e r j = false
+
+-- whether the follower is broken after the pair, given whether it was before
+abbrev pub broken_by : Reply → Bool → Bool
+broken_by Broke before = true
+broken_by r before = before
+
+-- the edits taken since the last close that published
+abbrev pub pending_of : History → List ChangeValue
+pending_of [] = []
+pending_of (p ∷ h) = if closes p.0 p.1 then [] else (pending_of h ++ edit_of p.0 p.1)
+
+-- the sequences that were published: each the edits taken since the one before, and the time of its
+-- close
+abbrev pub published_of : History → List PublishedValue
+published_of [] = []
+published_of (p ∷ h) =
+    if closes p.0 p.1 then (published_of h ++ (record {
+      number = length (published_of h) + 1;
+      changes = pending_of h;
+      time = time_of p.0;
+    }) ∷ []) else published_of h
+
+-- the publisher after a history
+abbrev pub publisher_of : History → PublisherValue
+publisher_of h = record {
+  number = length (published_of h);
+  time = last_time (published_of h);
+  pending = pending_of h;
+}
+
+-- the number that the follower started at: 0, as long as nothing is saved
+abbrev pub start_of : History → ℕ
+start_of h = 0
+
+-- whether the number was accepted
+abbrev pub accepted_of : History → ℕ → Bool
+accepted_of [] j = false
+accepted_of (p ∷ h) j = accepts p.0 p.1 j || accepted_of h j
+
+-- the numbers that were reported as applied, in order
+abbrev pub reported_of : History → List ℕ
+reported_of [] = []
+reported_of (p ∷ h) = reported_of h ++ applied_by p.1
+
+-- whether the follower is broken
+abbrev pub is_broken : History → Bool
+is_broken [] = false
+is_broken (p ∷ h) = broken_by p.1 (is_broken h)

@@ -1,0 +1,93 @@
+-- Which reply may follow a history. The rows of an event exclude one another, so each reply is
+-- given exactly if its conditions hold, except that memory may be refused in place of another.
+use Rattle.std.specs.Prelude.{◌≡◌, ℕ, ◌+◌, ◌<◌, ◌≤◌, ◌∷◌, ◌++◌, length, true, false, ◌⊎◌}
+use Rattle.osm_model.specs.Limits.{max_changes, max_sequence}
+use Rattle.osm_world.specs.History.{History, published_of, pending_of, publisher_of, start_of}
+use Rattle.osm_world.specs.History.{accepted_of, is_broken}
+use Rattle.osm_follow.specs.Published.{last_time, changes_at}
+use Rattle.osm_follow.specs.Publisher.{CanClose, IsSmall, IsTooLarge}
+use Rattle.osm_follow.specs.Reach.{Reaches, between}
+use Rattle.osm_follow.specs.View.{IsView}
+use Rattle.osm_world.specs.declared.event.Event.{Event}
+use Rattle.osm_world.specs.declared.event.Event.TheVariants.{Edit, Close, Deliver, Show}
+use Rattle.osm_world.specs.declared.event.Reply.{Reply}
+use Rattle.osm_world.specs.declared.event.Reply.TheVariants.{
+  Edited,
+  BatchFull,
+  WantOfMemory,
+  Closed,
+}
+use Rattle.osm_world.specs.declared.event.Reply.TheVariants.{SequenceFull, TimeBack, TooLarge}
+use Rattle.osm_world.specs.declared.event.Reply.TheVariants.{NotPublished, Broken, Old, TooEarly}
+use Rattle.osm_world.specs.declared.event.Reply.TheVariants.{Applied, Broke, Shown}
+
+-- the number of a history: the greatest such that it and all below it, above the start, were
+-- accepted
+abbrev pub IsNumber : History → ℕ → Type 0
+IsNumber h n = Reaches (accepted_of h) (start_of h) n
+
+-- sequence k was published, and the follower isn't broken and is at n
+pub record IsOpen (h : History) (k n : ℕ) : Type 0 where
+  pub above : 0 < k
+  pub there : k ≤ length (published_of h)
+  pub whole : is_broken h ≡ false
+  pub number : IsNumber h n
+
+-- and k is the next number
+pub record IsNext (h : History) (k n : ℕ) : Type 0 where
+  pub is_open : IsOpen h k n
+  pub next : k ≡ n + 1
+
+-- the sequences from k on up to the last that can then be applied aren't all empty
+pub record IsWork (h : History) (k : ℕ) : Type 0 where
+  pub count : ℕ
+  pub reach : Reaches (accepted_of h) k (k + count)
+  pub some :
+      0 < length (changes_at (published_of h) k ++ between (changes_at (published_of h)) k count)
+
+abbrev pub AllowedEdit : History → Reply → Type 0
+AllowedEdit h Edited = length (pending_of h) < max_changes
+AllowedEdit h BatchFull = length (pending_of h) ≡ max_changes
+AllowedEdit h WantOfMemory = length (pending_of h) < max_changes
+AllowedEdit h r = ⊥
+
+abbrev pub AllowedClose : History → ℕ → Reply → Type 0
+AllowedClose h t (Closed n) =
+    CanClose (publisher_of h) t × IsSmall (pending_of h) × (n ≡ length (published_of h) + 1)
+AllowedClose h t SequenceFull = length (published_of h) ≡ max_sequence
+AllowedClose h t TimeBack =
+    (length (published_of h) < max_sequence) × (t < last_time (published_of h))
+AllowedClose h t TooLarge = CanClose (publisher_of h) t × IsTooLarge (pending_of h)
+AllowedClose h t WantOfMemory = CanClose (publisher_of h) t
+AllowedClose h t r = ⊥
+
+abbrev pub AllowedDeliver : History → ℕ → Reply → Type 0
+AllowedDeliver h k NotPublished = (k ≡ 0) ⊎ (length (published_of h) < k)
+AllowedDeliver h k Broken = (0 < k) × (k ≤ length (published_of h)) × (is_broken h ≡ true)
+AllowedDeliver h k Old = (n : ℕ) × IsOpen h k n × (k ≤ n)
+AllowedDeliver h k TooEarly = (n : ℕ) × IsOpen h k n × (n + 1 < k) × (accepted_of h k ≡ false)
+AllowedDeliver h k WantOfMemory =
+    (n : ℕ) × IsNext h k n × (0 < length (changes_at (published_of h) k))
+AllowedDeliver h k (Applied low high) =
+    (n : ℕ) × IsNext h k n × (low ≡ k) × Reaches (accepted_of h) k high
+AllowedDeliver h k Broke = (n : ℕ) × IsNext h k n × IsWork h k
+AllowedDeliver h k r = ⊥
+
+abbrev pub AllowedShow : History → Reply → Type 0
+AllowedShow h Broken = is_broken h ≡ true
+AllowedShow h WantOfMemory = is_broken h ≡ false
+AllowedShow h (Shown v) =
+    (is_broken h ≡ false) × IsView (published_of h) (start_of h) (accepted_of h) v
+AllowedShow h r = ⊥
+
+-- the reply may follow the history at that event
+abbrev pub Allowed : History → Event → Reply → Type 0
+Allowed h (Edit c) r = AllowedEdit h r
+Allowed h (Close t) r = AllowedClose h t r
+Allowed h (Deliver k form) r = AllowedDeliver h k r
+Allowed h Show r = AllowedShow h r
+
+-- each reply of a history is allowed after what came before it
+pub record IsLegal (h : History) : Type 0 where
+  pub each : (later before : History) (e : Event) (r : Reply) →
+      h ≡ later ++ (e, r) ∷ before → Allowed before e r

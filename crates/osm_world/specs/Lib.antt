@@ -1,0 +1,6 @@
+pub mod World
+pub mod History
+pub mod Legal
+pub mod Correct
+pub mod Step
+pub mod Steps

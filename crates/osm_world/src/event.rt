@@ -1,0 +1,52 @@
+//! What may happen in a world, and what it replies.
+
+use osm_follow::view::View;
+use osm_model::change::Change;
+
+/// The form in which a sequence is delivered.
+#[derive(Clone, Copy, Debug, PartialEq, Eq)]
+pub enum Form {
+    Opl,
+    O5c,
+}
+
+#[derive(Debug, Drop)]
+pub enum Event {
+    /// The publisher takes an edit.
+    Edit(Change),
+    /// The publisher closes the pending edits into the next sequence, at that time in seconds since
+    /// 1970-01-01T00:00:00Z.
+    Close(u32),
+    /// The archived files of a sequence are delivered to the follower: its state text, and its
+    /// changes in that form.
+    Deliver { number: u32, form: Form },
+    /// The follower shows itself.
+    Show,
+}
+
+#[derive(Debug, Drop)]
+pub enum Reply {
+    Edited,
+    /// The batch has 100,000 changes; the edit is dropped.
+    BatchFull,
+    /// Memory was refused, and nothing has changed; an edit is dropped.
+    WantOfMemory,
+    Closed(u32),
+    /// The last sequence, 999,999,999, is published.
+    SequenceFull,
+    /// The time is below the last one.
+    TimeBack,
+    /// The o5c file or the OPL file of the pending edits would pass 64 MiB.
+    TooLarge,
+    NotPublished,
+    /// The follower is broken: an application ran out of memory part of the way.
+    Broken,
+    /// The number was applied before.
+    Old,
+    /// A number before it is missing.
+    TooEarly,
+    Applied { low: u32, high: u32 },
+    /// An application ran out of memory part of the way: the follower is broken from now on.
+    Broke,
+    Shown(View),
+}

@@ -1,0 +1,237 @@
+//! A publisher, its archive and a follower, which take events one by one.
+
+ghost use Rattle.std.specs.Prelude.{
+  ◌≡◌,
+  ℕ,
+  ◌<◌,
+  ◌≤◌,
+  ◌⊎◌,
+  ◌↔◌,
+  ◌+◌,
+  length,
+  IsOk,
+  IsNone,
+  IfOk,
+  IfSome,
+};
+ghost use Rattle.std.specs.Prelude.{OnErr};
+ghost use Rattle.osm_model.specs.Batch.{IsBatch};
+ghost use Rattle.osm_world.specs.Correct.{IsRun};
+ghost use Rattle.osm_follow.specs.Published.{texts_at};
+ghost use Rattle.osm_world.specs.Step.{CloseStep, DeliverStep, EditStep, Replies, ShowStep, Step};
+ghost use Rattle.osm_world.specs.Step.{bytes_in, fault_in, spells_in};
+ghost use Rattle.osm_world.specs.Steps.Archive.{AreReadable, ClosesInto, IsArchive, IsReadable};
+ghost use Rattle.osm_world.specs.World.{new_world};
+
+use osm_follow::delivery::{DeliverError, Delivered};
+use crate::event::{Event, Form, Reply};
+use osm_follow::follower::Follower;
+use crate::laws::laws_of_runs;
+use osm_follow::published::Published;
+use osm_follow::publisher::{CloseError, EditError, Publisher};
+use osm_follow::view::ViewError;
+use osm_model::change::Change;
+use osm_model::form::ChangeForm;
+use osm_model::memory::WantOfMemory;
+use osm_o5c::o5c::O5c;
+use osm_opl::opl::Opl;
+use osm_state::laws::laws_of_state;
+use std::alloc::Global;
+use std::marker::Model;
+
+/// A publisher, the files of what it published, and a follower of them.
+#[derive(Debug, Drop)]
+pub struct World {
+    alloc: Global,
+    publisher: Publisher,
+    archive: Vec<Published>,
+    follower: Follower,
+}
+
+impl Model for World {
+    ghost use Rattle.osm_world.specs.Steps.Archive.{IsArchive};
+    ghost use Rattle.osm_world.specs.World.{WorldValue};
+
+    ghost Value = { WorldValue };
+
+    ghost view = { λ a. record {
+      publisher = a.publisher;
+      archive = a.archive.items;
+      follower = a.follower;
+    } };
+
+    ghost invariant = { λ a. IsArchive a.publisher.number a.archive.items };
+}
+
+/// A world after some events, and what it replied to each of them.
+#[derive(Debug, Drop)]
+pub struct Run {
+    pub world: World,
+    pub replies: Vec<Reply>,
+}
+
+impl World {
+    /// A new publisher, an empty archive and a new follower.
+    pub fn new(alloc: Global) -> Result<World, WantOfMemory>
+        ensures new { IfOk result (λ w. w ≡ new_world) }
+        ensures enough { IsOk result }
+    {
+        Ok(World {
+            alloc,
+            publisher: Publisher::new(alloc),
+            archive: Vec::new(alloc),
+            follower: Follower::new(alloc),
+        })
+    }
+
+    /// A new world that has taken all the events in order. After a refusal no event was taken.
+    pub fn run(alloc: Global, events: Vec<Event>) -> Result<Run, WantOfMemory>
+        ensures run { IfOk result (λ r. IsRun events.items r.replies.items r.world) }
+        ensures refused { OnErr result (0 < length events.items) }
+    {
+        let mut world = World::new(alloc)?;
+        let mut replies = Vec::with_capacity(alloc, events.len())?;
+        laws_of_runs();
+        for event in events {
+            let reply = world.step(event);
+            replies.push(reply).unwrap();
+        }
+        Ok(Run { world, replies })
+    }
+
+    /// Takes one event.
+    pub fn step(&mut self, event: Event) -> Reply
+        ensures { Step self.old event result self.new }
+    {
+        match event {
+            Event::Edit(change) => self.edit(change),
+            Event::Close(time) => self.close(time),
+            Event::Deliver { number, form } => self.deliver(number, form),
+            Event::Show => self.show(),
+        }
+    }
+
+    pub fn publisher(&self) -> &Publisher
+        ensures { result.now ≡ self.now.publisher }
+    {
+        &self.publisher
+    }
+
+    pub fn follower(&self) -> &Follower
+        ensures { result.now ≡ self.now.follower }
+    {
+        &self.follower
+    }
+
+    /// The files of that sequence; none if the number is 0 or above the publisher's.
+    pub fn published(&self, number: u32) -> Option<&Published>
+        ensures none { IsNone result ↔ ((number ≡ 0) ⊎ (self.now.publisher.number < number)) }
+        ensures texts { IfSome result (λ p. p.now ≡ texts_at self.now.archive number) }
+    {
+        if number == 0 || number > self.publisher.number() {
+            return None;
+        }
+        Some(&self.archive[number as usize - 1])
+    }
+
+    fn edit(&mut self, change: Change) -> Reply
+        ensures { EditStep self.old change result self.new }
+    {
+        match self.publisher.edit(change) {
+            Ok(()) => Reply::Edited,
+            Err(EditError::BatchFull(_)) => Reply::BatchFull,
+            Err(EditError::WantOfMemory(_)) => Reply::WantOfMemory,
+        }
+    }
+
+    fn close(&mut self, time: u32) -> Reply
+        ensures { CloseStep self.old time result self.new }
+    {
+        match close_into(&mut self.publisher, &mut self.archive, self.alloc, time) {
+            Ok(number) => Reply::Closed(number),
+            Err(CloseError::SequenceFull) => Reply::SequenceFull,
+            Err(CloseError::TimeBack) => Reply::TimeBack,
+            Err(CloseError::TooLarge) => Reply::TooLarge,
+            Err(CloseError::WantOfMemory) => Reply::WantOfMemory,
+        }
+    }
+
+    fn deliver(&mut self, number: u32, form: Form) -> Reply
+        ensures { DeliverStep self.old number form result self.new }
+    {
+        if number == 0 || number > self.publisher.number() {
+            return Reply::NotPublished;
+        }
+        let published = &self.archive[number as usize - 1];
+        deliver_text(&mut self.follower, self.alloc, published, form)
+    }
+
+    fn show(&mut self) -> Reply
+        ensures { ShowStep self.old result self.new }
+    {
+        match self.follower.view(self.alloc) {
+            Ok(view) => Reply::Shown(view),
+            Err(ViewError::Broken) => Reply::Broken,
+            Err(ViewError::WantOfMemory) => Reply::WantOfMemory,
+        }
+    }
+}
+
+// Makes room in the archive first, so that a refusal changes nothing.
+fn close_into(
+    publisher: &mut Publisher,
+    archive: &mut Vec<Published>,
+    alloc: Global,
+    time: u32,
+) -> Result<u32, CloseError>
+    requires { IsArchive publisher.old.number archive.old.items }
+    ensures closes { ClosesInto publisher.old archive.old.items time result
+        publisher.new archive.new.items }
+    ensures archive { IsArchive publisher.new.number archive.new.items }
+{
+    publisher.check_close(time)?;
+    if archive.reserve(1).is_err() {
+        return Err(CloseError::WantOfMemory);
+    }
+    let published = publisher.close(alloc, time)?;
+    laws_of_state();
+    Opl::laws();
+    O5c::laws();
+    archive.push(published).unwrap();
+    Ok(publisher.number())
+}
+
+fn deliver_text(follower: &mut Follower, alloc: Global, published: &Published, form: Form) -> Reply
+    requires { AreReadable published.now }
+    ensures { Replies (spells_in form) (fault_in form) follower.old published.now.state
+        (bytes_in form published.now) result follower.new }
+{
+    let state = published.state();
+    match form {
+        Form::Opl => deliver_in::<Opl>(follower, alloc, state, published.opl()),
+        Form::O5c => deliver_in::<O5c>(follower, alloc, state, published.o5c()),
+    }
+}
+
+// Texts that can be read are refused neither for the state nor for the changes.
+fn deliver_in<F: ChangeForm>(
+    follower: &mut Follower,
+    alloc: Global,
+    state: &[u8],
+    bytes: &[u8],
+) -> Reply
+    requires { IsReadable F.spells state.now bytes.now }
+    ensures { Replies F.spells F.fault_place follower.old state.now bytes.now result follower.new }
+{
+    match follower.deliver::<F>(alloc, state, bytes) {
+        Ok(Delivered::Old) => Reply::Old,
+        Ok(Delivered::Applied { low, high }) => Reply::Applied { low, high },
+        Err(DeliverError::Broken) => Reply::Broken,
+        Err(DeliverError::TooEarly) => Reply::TooEarly,
+        Err(DeliverError::WantOfMemory) => Reply::WantOfMemory,
+        Err(DeliverError::Broke) => Reply::Broke,
+        Err(DeliverError::BadState(_)) => unreachable!(),
+        Err(DeliverError::BadSequence) => unreachable!(),
+        Err(DeliverError::BadChange(_)) => unreachable!(),
+    }
+}
