@@ -30,7 +30,8 @@ use std::alloc::Global;
 use std::marker::Model;
 use thiserror::Error;
 
-/// The mirror of sequences 1 to the follower's number, and those of the 64 after it that came early.
+/// The mirror of sequences 1 to the follower's number, and those of the 64 after it that came
+/// early.
 ///
 /// The follower is broken once an application ran out of memory part of the way, and then says
 /// nothing more of its mirror.
@@ -86,10 +87,10 @@ impl Follower {
         })
     }
 
-    /// Takes the sequence of that state text, whose changes the bytes spell in the form `F`. If it is
-    /// the next one, it is applied, and after it those that are held, up to the first gap; if it is
-    /// one of the 63 after that, it is held. The bytes are read only if it is one of these 64, and
-    /// isn't held already.
+    /// Takes the sequence of that state text, whose changes the bytes spell in the form `F`. If it
+    /// is the next one, it is applied, and after it those that are held, up to the first gap; if it
+    /// is one of the 63 after that, it is held. The bytes are read only if it is one of these 64,
+    /// and isn't held already.
     pub fn deliver<F: ChangeForm>(
         &mut self,
         alloc: Global,
@@ -119,7 +120,7 @@ impl Follower {
         self.take(&state, batch)
     }
 
-    // The state of a sequence whose bytes are to be read, or the answer that is due before the bytes are read.
+    // The state of a sequence whose bytes are to be read, or the answer that is due before that.
     fn turn(&self, state: &[u8]) -> Result<State, Result<Delivered, DeliverError>>
         ensures turn { IfOk result (λ s. IsTurn self.now state.now s) }
         ensures most { IfOk result (λ s. s.sequence ≤ max_sequence) }
