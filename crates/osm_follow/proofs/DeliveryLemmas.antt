@@ -1,6 +1,6 @@
 -- A delivery of texts that are those of a sequence, read as the delivery of that sequence.
-use Rattle.std.proofs.Common.{◌≡◌, ℕ, ◌+◌, ◌<◌, ◌≤◌, List, [], ◌∷◌, length, refl, ap, sym, ◌∙◌, true, false, arith, subst}
-use Rattle.std.specs.Prelude.{Result, Ok, Err}
+use Rattle.std.proofs.Common.{◌≡◌, ℕ, ◌+◌, ◌<◌, ◌≤◌, List, [], ◌∷◌, length, refl, ap, sym, ◌∙◌, true, false, arith, subst, None}
+use Rattle.std.specs.Prelude.{Result, Ok, Err, IsSome}
 use Rattle.osm_model.specs.Change.{ChangeValue}
 use Rattle.osm_state.proofs.StateLemmas.{one_state}
 use Rattle.osm_state.specs.State.{StateValue}
@@ -8,10 +8,10 @@ use Rattle.osm_state.specs.StateFault.{FaultOf}
 use Rattle.osm_state.specs.StateText.{StateOf}
 use Rattle.osm_state.specs.declared.state_text.StateError.{StateError}
 use Rattle.osm_follow.specs.Delivery as table
-use Rattle.osm_follow.specs.Follower.{FollowerValue}
+use Rattle.osm_follow.specs.Follower.{FollowerValue, held_at}
 use Rattle.osm_follow.specs.Published.{PublishedValue}
 use Rattle.osm_follow.specs.declared.delivery.Delivered.{Delivered}
-use Rattle.osm_follow.specs.declared.delivery.Delivered.TheVariants.{Old, Applied}
+use Rattle.osm_follow.specs.declared.delivery.Delivered.TheVariants.{Old, Again, Held, Applied}
 use Rattle.osm_follow.specs.declared.delivery.DeliverError.{DeliverError}
 use Rattle.osm_follow.specs.declared.delivery.DeliverError.TheVariants.{Broken, BadState, BadSequence, TooEarly, BadChange, WantOfMemory, Broke}
 
@@ -27,17 +27,25 @@ NoFaultBeside = (text : List ℕ) (s : StateValue) (e : StateError) → StateOf 
 abbrev pub state_of : PublishedValue → StateValue
 state_of p = record { sequence = p.number; time = p.time }
 
+-- the follower isn't broken, and the number is one of the 64 after its own, for which it holds nothing
+pub record IsWanted (f : FollowerValue) (number : ℕ) : Type 0 where
+  pub whole : f.is_broken ≡ false
+  pub above : f.number < number
+  pub within : number ≤ f.number + 64
+  pub fresh : held_at f number ≡ None
+
 -- what the delivery of a sequence does to a follower
 abbrev pub FollowerStep : FollowerValue → PublishedValue → Result Delivered DeliverError → FollowerValue → Type 0
 FollowerStep f p (Err Broken) g = (f.is_broken ≡ true) × (g ≡ f)
 FollowerStep f p (Ok Old) g = (f.is_broken ≡ false) × (p.number ≤ f.number) × (g ≡ f)
-FollowerStep f p (Err TooEarly) g = (f.is_broken ≡ false) × (f.number + 1 < p.number) × (g ≡ f)
-FollowerStep f p (Err (BadChange e)) g = (f.is_broken ≡ false) × (p.number ≡ f.number + 1) × (g ≡ f)
-FollowerStep f p (Err WantOfMemory) g =
-    (f.is_broken ≡ false) × (p.number ≡ f.number + 1) × (0 < length p.changes) × (g ≡ f)
+FollowerStep f p (Ok Again) g = (f.is_broken ≡ false) × (f.number < p.number) × IsSome (held_at f p.number) × (g ≡ f)
+FollowerStep f p (Err TooEarly) g = (f.is_broken ≡ false) × (f.number + 64 < p.number) × (held_at f p.number ≡ None) × (g ≡ f)
+FollowerStep f p (Err (BadChange e)) g = IsWanted f p.number × (g ≡ f)
+FollowerStep f p (Err WantOfMemory) g = IsWanted f p.number × (0 < length p.changes) × (g ≡ f)
+FollowerStep f p (Ok Held) g = IsWanted f p.number × (f.number + 1 < p.number) × table.Holds f p g
 FollowerStep f p (Ok (Applied low high)) g =
-    (f.is_broken ≡ false) × (p.number ≡ f.number + 1) × (low ≡ p.number) × (high ≡ p.number) × table.Takes f p g
-FollowerStep f p (Err Broke) g = (f.is_broken ≡ false) × (p.number ≡ f.number + 1) × table.Breaks f p.changes g
+    IsWanted f p.number × (p.number ≡ f.number + 1) × (low ≡ p.number) × table.Takes f p high g
+FollowerStep f p (Err Broke) g = IsWanted f p.number × (p.number ≡ f.number + 1) × table.Breaks f p g
 FollowerStep f p answer g = ⊥
 
 some_changes : (spells : table.Spelling) (bytes : List ℕ) (cs : List ChangeValue) → spells bytes cs → (spells bytes [] → ⊥) → 0 < length cs
@@ -47,31 +55,45 @@ some_changes spells bytes (c ∷ cs) s none = omega arith
 same_sequence : (s : StateValue) (cs : List ChangeValue) (p : PublishedValue) → s ≡ state_of p → cs ≡ p.changes → table.sequence_of s cs ≡ p
 same_sequence s cs p e f = rw (e, f) refl
 
-turn_next : (s : StateValue) (p : PublishedValue) (n : ℕ) → s ≡ state_of p → s.sequence ≡ n → p.number ≡ n
-turn_next s p n e h = sym (ap (λ (t : StateValue). t.sequence) e) ∙ h
+same_number : (s : StateValue) (p : PublishedValue) → s ≡ state_of p → s.sequence ≡ p.number
+same_number s p e = ap (λ (t : StateValue). t.sequence) e
+
+wanted : (f : FollowerValue) (state : List ℕ) (s : StateValue) (p : PublishedValue) → s ≡ state_of p → table.IsTurn f state s → IsWanted f p.number
+wanted f state s p e t =
+    let number : s.sequence ≡ p.number = same_number s p e in
+    record { whole = t.whole; above = rw number at t.above; within = rw number at t.within; fresh = rw number at t.fresh }
 
 pub read_as : (spells : table.Spelling) (fault_place : table.FaultPlaces) → OneBatch spells → NoFaultBeside → (f g : FollowerValue) (state bytes : List ℕ) (p : PublishedValue) → 0 < p.number → StateOf state (state_of p) → spells bytes p.changes → (answer : Result Delivered DeliverError) → table.Delivers spells fault_place f state bytes answer g → FollowerStep f p answer g
 read_as spells fp one apart f g state bytes p above names spelled (Err Broken) d = (d.0, d.1)
 read_as spells fp one apart f g state bytes p above names spelled (Err (BadState e)) d = absurd (apart state (state_of p) e names d.0.1)
 read_as spells fp one apart f g state bytes p above names spelled (Err BadSequence) d =
-    let none : p.number ≡ 0 = turn_next d.0.0 p 0 (one_state state d.0.0 (state_of p) d.0.2 names) d.0.3 in absurd (omega arith)
+    let number : d.0.0.sequence ≡ p.number = same_number d.0.0 p (one_state state d.0.0 (state_of p) d.0.2 names) in
+    let none = d.0.3 in
+    absurd (omega arith)
 read_as spells fp one apart f g state bytes p above names spelled (Ok Old) d =
-    (d.0.1, (let is : p.number ≡ d.0.0.sequence = turn_next d.0.0 p d.0.0.sequence (one_state state d.0.0 (state_of p) d.0.2 names) refl in let below = d.0.4 in omega arith), d.1)
+    let number : d.0.0.sequence ≡ p.number = same_number d.0.0 p (one_state state d.0.0 (state_of p) d.0.2 names) in
+    (d.0.1, rw number at d.0.4, d.1)
+read_as spells fp one apart f g state bytes p above names spelled (Ok Again) d =
+    let number : d.0.0.sequence ≡ p.number = same_number d.0.0 p (one_state state d.0.0 (state_of p) d.0.2 names) in
+    (d.0.1, rw number at d.0.3, rw number at d.0.4, d.1)
 read_as spells fp one apart f g state bytes p above names spelled (Err TooEarly) d =
-    (d.0.1, (let is : p.number ≡ d.0.0.sequence = turn_next d.0.0 p d.0.0.sequence (one_state state d.0.0 (state_of p) d.0.2 names) refl in let past = d.0.3 in omega arith), d.1)
+    let number : d.0.0.sequence ≡ p.number = same_number d.0.0 p (one_state state d.0.0 (state_of p) d.0.2 names) in
+    (d.0.1, rw number at d.0.3, rw number at d.0.4, d.1)
 read_as spells fp one apart f g state bytes p above names spelled (Err (BadChange e)) d =
-    (d.1.whole, turn_next d.0 p (f.number + 1) (one_state state d.0 (state_of p) d.1.names names) d.1.next, d.3)
+    (wanted f state d.0 p (one_state state d.0 (state_of p) d.1.names names) d.1, d.3)
 read_as spells fp one apart f g state bytes p above names spelled (Err WantOfMemory) d =
-    (d.1.whole, turn_next d.0 p (f.number + 1) (one_state state d.0 (state_of p) d.1.names names) d.1.next, some_changes spells bytes p.changes spelled d.3, d.4)
+    (wanted f state d.0 p (one_state state d.0 (state_of p) d.1.names names) d.1, some_changes spells bytes p.changes spelled d.3, d.4)
+read_as spells fp one apart f g state bytes p above names spelled (Ok Held) d =
+    let same : d.0 ≡ state_of p = one_state state d.0 (state_of p) d.2.names names in
+    (wanted f state d.0 p same d.2, rw (same_number d.0 p same) at d.3, subst (λ (q : PublishedValue). table.Holds f q g) (same_sequence d.0 d.1 p same (one bytes d.1 p.changes d.5 spelled)) d.6)
 read_as spells fp one apart f g state bytes p above names spelled (Ok (Applied low high)) d =
     let same : d.0 ≡ state_of p = one_state state d.0 (state_of p) d.2.names names in
-    let number : d.0.sequence ≡ p.number = ap (λ (t : StateValue). t.sequence) same in (
-      d.2.whole,
-      turn_next d.0 p (f.number + 1) same d.2.next,
-      d.5 ∙ number,
+    let number : d.0.sequence ≡ p.number = same_number d.0 p same in (
+      wanted f state d.0 p same d.2,
+      sym number ∙ d.3,
       d.6 ∙ number,
-      subst (λ (q : PublishedValue). table.Takes f q g) (same_sequence d.0 d.1 p same (one bytes d.1 p.changes d.4 spelled)) d.7,
+      subst (λ (q : PublishedValue). table.Takes f q high g) (same_sequence d.0 d.1 p same (one bytes d.1 p.changes d.5 spelled)) d.7,
     )
 read_as spells fp one apart f g state bytes p above names spelled (Err Broke) d =
     let same : d.0 ≡ state_of p = one_state state d.0 (state_of p) d.2.names names in
-    (d.2.whole, turn_next d.0 p (f.number + 1) same d.2.next, subst (λ (cs : List ChangeValue). table.Breaks f cs g) (one bytes d.1 p.changes d.4 spelled) d.5)
+    (wanted f state d.0 p same d.2, sym (same_number d.0 p same) ∙ d.3, subst (λ (q : PublishedValue). table.Breaks f q g) (same_sequence d.0 d.1 p same (one bytes d.1 p.changes d.5 spelled)) d.6)

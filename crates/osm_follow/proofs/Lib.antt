@@ -1,3 +1,5 @@
 pub mod PublishedLemmas
+pub mod ReachLemmas
+pub mod DrainLemmas
 pub mod DeliveryLemmas
 pub mod FollowLemmas

@@ -1,10 +1,11 @@
 -- Published sequences with more after them, and one sequence after another.
-use Rattle.std.proofs.Common.{◌≡◌, ℕ, zero, suc, ◌+◌, ◌-◌, ◌<◌, ◌≤◌, List, [], ◌∷◌, ◌++◌, length, take, get_or, refl, ap, sym, ◌∙◌, Some, arith, append-nil, map, inl, inr, length-append}
+use Rattle.std.proofs.Common.{◌≡◌, ℕ, zero, suc, ◌+◌, ◌-◌, ◌<◌, ◌≤◌, List, [], ◌∷◌, ◌++◌, length, take, get_or, refl, ap, sym, ◌∙◌, Some, arith, append-nil, append_assoc, map, inl, inr, length-append}
 use Rattle.std.specs.List.{flat_map}
 use Rattle.std.proofs.lemmas.Grind.{flat_map-append}
 use Rattle.std.proofs.lemmas.List.{take_more, take-append-le, get_or_append_left, get_or-append-add, get_or-map}
 use Rattle.std.proofs.lemmas.Bool.{cases_lt}
 use Rattle.osm_model.specs.Change.{ChangeValue}
+use Rattle.osm_follow.specs.Reach.{between}
 use Rattle.osm_follow.specs.Published.{PublishedValue, unpublished, no_texts, texts_at, written_of, IsSequence, AreSequences, sequence_at, changes_at, time_at, changes_up_to, last_time}
 
 pub last_time-snoc : (ps : List PublishedValue) (p : PublishedValue) → last_time (ps ++ p ∷ []) ≡ p.time
@@ -51,3 +52,11 @@ changes_next ps n k e h =
 pub time_next : (ps : List PublishedValue) (n k : ℕ) → k ≡ n + 1 → time_at ps k ≡ Some (sequence_at ps k).time
 time_next ps n zero e = absurd (omega arith)
 time_next ps n (suc k) e = refl
+
+-- the changes of so many sequences more
+pub changes_run : (ps : List PublishedValue) (n count : ℕ) → n + count ≤ length ps → changes_up_to ps (n + count) ≡ changes_up_to ps n ++ between (changes_at ps) n count
+changes_run ps n zero within = ap (changes_up_to ps) (let same : n + 0 ≡ n = omega arith in same) ∙ sym (append-nil (changes_up_to ps n))
+changes_run ps n (suc count) within =
+    changes_next ps (n + count) (n + suc count) (omega arith) within
+    ∙ (ap (λ (cs : List ChangeValue). cs ++ changes_at ps (n + suc count)) (changes_run ps n count (omega arith))
+    ∙ append_assoc (changes_up_to ps n) (between (changes_at ps) n count) (changes_at ps (n + suc count)))

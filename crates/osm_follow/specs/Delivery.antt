@@ -1,21 +1,7 @@
 -- What a delivery answers, and the follower after it, by the state text and the bytes that are
 -- delivered: in what form the bytes are is a parameter.
-use Rattle.std.specs.Prelude.{
-  ◌≡◌,
-  ℕ,
-  ◌+◌,
-  ◌<◌,
-  ◌≤◌,
-  List,
-  [],
-  length,
-  Some,
-  true,
-  false,
-  Result,
-  Ok,
-  Err,
-}
+use Rattle.std.specs.Prelude.{◌≡◌, ◌≢◌, ℕ, ◌+◌, ◌<◌, ◌≤◌, List, [], ◌++◌, length, None, Some}
+use Rattle.std.specs.Prelude.{IsSome, true, false, Result, Ok, Err}
 use Rattle.osm_model.specs.Change.{ChangeValue}
 use Rattle.osm_model.specs.ChangeForm.{SpellsNothing}
 use Rattle.osm_model.specs.Limits.{max_file}
@@ -24,17 +10,16 @@ use Rattle.osm_model.specs.declared.form.FormError.TheVariants as faults
 use Rattle.osm_state.specs.State.{StateValue}
 use Rattle.osm_state.specs.StateFault.{FaultOf}
 use Rattle.osm_state.specs.StateText.{StateOf}
-use Rattle.osm_follow.specs.Follower.{FollowerValue}
+use Rattle.osm_follow.specs.Follower.{FollowerValue, changes_held, held_at, is_held, time_in}
 use Rattle.osm_mirror.specs.Mirror.{Applies, NeedsMemory}
 use Rattle.osm_follow.specs.Published.{PublishedValue}
+use Rattle.osm_follow.specs.Reach.{Reaches, between}
 use Rattle.osm_follow.specs.declared.delivery.Delivered.{Delivered}
-use Rattle.osm_follow.specs.declared.delivery.Delivered.TheVariants.{Old, Applied}
+use Rattle.osm_follow.specs.declared.delivery.Delivered.TheVariants.{Old, Again, Held}
+use Rattle.osm_follow.specs.declared.delivery.Delivered.TheVariants.{Applied}
 use Rattle.osm_follow.specs.declared.delivery.DeliverError.{DeliverError}
-use Rattle.osm_follow.specs.declared.delivery.DeliverError.TheVariants.{
-  Broken,
-  BadState,
-  BadSequence,
-}
+use Rattle.osm_follow.specs.declared.delivery.DeliverError.TheVariants.{Broken, BadState}
+use Rattle.osm_follow.specs.declared.delivery.DeliverError.TheVariants.{BadSequence}
 use Rattle.osm_follow.specs.declared.delivery.DeliverError.TheVariants.{TooEarly, BadChange}
 use Rattle.osm_follow.specs.declared.delivery.DeliverError.TheVariants.{WantOfMemory, Broke}
 
@@ -46,16 +31,35 @@ Spelling = List ℕ → List ChangeValue → Type 0
 abbrev pub FaultPlaces : Type 1
 FaultPlaces = List ℕ → ℕ → Type 0
 
--- the sequence was applied, and the follower is at its number
-pub record Takes (f : FollowerValue) (p : PublishedValue) (g : FollowerValue) : Type 0 where
-  pub applied : Applies f.mirror p.changes g.mirror
-  pub rest : g ≡ record f { number = p.number; time = Some p.time; mirror = g.mirror }
+-- the sequence is held until its turn comes, and nothing else has changed
+pub record Holds (f : FollowerValue) (p : PublishedValue) (g : FollowerValue) : Type 0 where
+  pub here : held_at g p.number ≡ Some p
+  pub others : (j : ℕ) → j ≢ p.number → held_at g j ≡ held_at f j
+  pub rest : g ≡ record f { holding = g.holding }
 
--- the application was stopped part of the way, at a change that needs a new entry
-pub record Breaks (f : FollowerValue) (changes : List ChangeValue) (g : FollowerValue)
+-- the sequence was applied, and after it those that were held, in the order of their numbers, up to
+-- the greatest number that is reached without a gap
+pub record Takes (f : FollowerValue) (p : PublishedValue) (high : ℕ) (g : FollowerValue)
     : Type 0 where
-  pub needs : NeedsMemory f.mirror changes
-  pub rest : g ≡ record f { mirror = g.mirror; is_broken = true }
+  pub count : ℕ
+  pub high_is : high ≡ p.number + count
+  pub reach : Reaches (is_held f) p.number high
+  pub applied :
+      Applies f.mirror (p.changes ++ between (changes_held f) p.number count) g.mirror
+  pub number : g.number ≡ high
+  pub time : g.time ≡ Some (time_in f.holding high p.time)
+  pub whole : g.is_broken ≡ false
+  pub gone : (j : ℕ) → j ≤ high → held_at g j ≡ None
+  pub rest : (j : ℕ) → high < j → held_at g j ≡ held_at f j
+
+-- that application was stopped part of the way, at a change that needs a new entry
+pub record Breaks (f : FollowerValue) (p : PublishedValue) (g : FollowerValue) : Type 0 where
+  pub high : ℕ
+  pub count : ℕ
+  pub high_is : high ≡ p.number + count
+  pub reach : Reaches (is_held f) p.number high
+  pub needs : NeedsMemory f.mirror (p.changes ++ between (changes_held f) p.number count)
+  pub rest : g ≡ record f { mirror = g.mirror; holding = g.holding; is_broken = true }
 
 -- the answers that are given before the bytes are read, and when: they depend on the follower and
 -- on the state text alone
@@ -68,15 +72,22 @@ AnswersUnread f state (Err BadSequence) =
 AnswersUnread f state (Ok Old) =
     (s : StateValue) × (f.is_broken ≡ false) × StateOf state s
     × (0 < s.sequence) × (s.sequence ≤ f.number)
+AnswersUnread f state (Ok Again) =
+    (s : StateValue) × (f.is_broken ≡ false) × StateOf state s
+    × (f.number < s.sequence) × IsSome (held_at f s.sequence)
 AnswersUnread f state (Err TooEarly) =
-    (s : StateValue) × (f.is_broken ≡ false) × StateOf state s × (f.number + 1 < s.sequence)
+    (s : StateValue) × (f.is_broken ≡ false) × StateOf state s
+    × (f.number + 64 < s.sequence) × (held_at f s.sequence ≡ None)
 AnswersUnread f state answer = ⊥
 
--- the follower isn't broken, and the state text names the next number: the bytes are read
+-- the follower isn't broken, and the state text names one of the 64 numbers after the follower's,
+-- for which it holds nothing: the bytes are read
 pub record IsTurn (f : FollowerValue) (state : List ℕ) (s : StateValue) : Type 0 where
   pub whole : f.is_broken ≡ false
   pub names : StateOf state s
-  pub next : s.sequence ≡ f.number + 1
+  pub above : f.number < s.sequence
+  pub within : s.sequence ≤ f.number + 64
+  pub fresh : held_at f s.sequence ≡ None
 
 -- the sequence of that state with those changes
 abbrev pub sequence_of : StateValue → List ChangeValue → PublishedValue
@@ -94,13 +105,18 @@ IsBadChange spells fault_place bytes faults.WantOfMemory = ⊥
 abbrev pub Delivers :
     Spelling → FaultPlaces → FollowerValue → List ℕ → List ℕ
     → Result Delivered DeliverError → FollowerValue → Type 0
+Delivers spells fault_place f state bytes (Ok Held) g =
+    (s : StateValue) × (changes : List ChangeValue) × IsTurn f state s
+    × (f.number + 1 < s.sequence) × (length bytes ≤ max_file) × spells bytes changes
+    × Holds f (sequence_of s changes) g
 Delivers spells fault_place f state bytes (Ok (Applied low high)) g =
     (s : StateValue) × (changes : List ChangeValue) × IsTurn f state s
-    × (length bytes ≤ max_file) × spells bytes changes
-    × (low ≡ s.sequence) × (high ≡ s.sequence) × Takes f (sequence_of s changes) g
+    × (s.sequence ≡ f.number + 1) × (length bytes ≤ max_file) × spells bytes changes
+    × (low ≡ s.sequence) × Takes f (sequence_of s changes) high g
 Delivers spells fault_place f state bytes (Err Broke) g =
     (s : StateValue) × (changes : List ChangeValue) × IsTurn f state s
-    × (length bytes ≤ max_file) × spells bytes changes × Breaks f changes g
+    × (s.sequence ≡ f.number + 1) × (length bytes ≤ max_file) × spells bytes changes
+    × Breaks f (sequence_of s changes) g
 Delivers spells fault_place f state bytes (Err (BadChange fault)) g =
     (s : StateValue) × IsTurn f state s × IsBadChange spells fault_place bytes fault × (g ≡ f)
 Delivers spells fault_place f state bytes (Err WantOfMemory) g =

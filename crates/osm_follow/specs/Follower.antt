@@ -1,7 +1,11 @@
--- A follower: its number, the time of that sequence, and its mirror.
-use Rattle.std.specs.Prelude.{◌≡◌, ℕ, ◌+◌, ◌*◌, ◌<◌, ◌≤◌, List, length, Bool, false, Option, None}
-use Rattle.std.specs.Prelude.{Some, if◌then◌else◌, IsTrue}
-use Rattle.osm_model.specs.Limits.{max_sequence, max_changes}
+-- A follower: its number, the time of that sequence, its mirror, and the sequences that came early.
+use Rattle.std.specs.Prelude.{◌≡◌, ℕ, ◌+◌, ◌*◌, ◌<◌, ◌≤◌, List, [], length, Bool, false, Option}
+use Rattle.std.specs.Prelude.{None, Some, if◌then◌else◌, IsTrue, ◌↔◌, IfSome, is_some}
+use Rattle.std.specs.Option.{option_map, option_map_or}
+use Rattle.osm_holding.specs.Holding as area
+use Rattle.osm_holding.specs.Holding.{HoldingValue}
+use Rattle.osm_model.specs.Change.{ChangeValue}
+use Rattle.osm_model.specs.Limits.{IsPositive, max_sequence, max_changes}
 use Rattle.osm_mirror.specs.Mirror.{MirrorValue, IsMirrorOf, IsWithin, no_mirror}
 use Rattle.osm_follow.specs.Published.{PublishedValue, sequence_at, changes_up_to, time_at}
 use Rattle.osm_follow.specs.Reach.{Reaches}
@@ -10,21 +14,64 @@ pub record FollowerValue : Type 0 where
   pub number : ℕ
   pub time : Option ℕ
   pub mirror : MirrorValue
+  pub holding : HoldingValue
   pub is_broken : Bool
 
--- what is held for a number until its turn comes: nothing as yet
+-- the sequence that an area holds at a number
+abbrev pub sequence_in : HoldingValue → ℕ → Option PublishedValue
+sequence_in holding number =
+    option_map (λ h. record { number = number; changes = h.batch; time = h.time })
+    (area.held_at holding number)
+
+-- an area holds a sequence at the number
+abbrev pub is_in : HoldingValue → ℕ → Bool
+is_in holding number = is_some (sequence_in holding number)
+
+-- the changes that an area holds at a number: none if it holds no sequence there
+abbrev pub changes_in : HoldingValue → ℕ → List ChangeValue
+changes_in holding number = option_map_or (λ p. p.changes) (sequence_in holding number) []
+
+-- the time of the sequence that an area holds at a number; if it holds none there, the other one
+abbrev pub time_in : HoldingValue → ℕ → ℕ → ℕ
+time_in holding number other = option_map_or (λ p. p.time) (sequence_in holding number) other
+
+-- the sequence that a follower holds for a number until its turn comes
 abbrev pub held_at : FollowerValue → ℕ → Option PublishedValue
-held_at f number = None
+held_at f number = sequence_in f.holding number
+
+-- the follower holds a sequence for that number
+abbrev pub is_held : FollowerValue → ℕ → Bool
+is_held f number = is_in f.holding number
+
+-- the changes that it holds for that number
+abbrev pub changes_held : FollowerValue → ℕ → List ChangeValue
+changes_held f number = changes_in f.holding number
 
 -- the follower at sequence 0
 abbrev pub new_follower : FollowerValue
-new_follower = record { number = 0; time = None; mirror = no_mirror; is_broken = false }
+new_follower = record {
+  number = 0;
+  time = None;
+  mirror = no_mirror;
+  holding = record { base = 0; entries = [] };
+  is_broken = false;
+}
 
--- no count of a follower that isn't broken, and no number of its objects, users or changesets, is
--- above 100,000 times its number
-pub record IsBounded (number : ℕ) (mirror : MirrorValue) (is_broken : Bool) : Type 0 where
-  pub most : number ≤ max_sequence
-  pub counts : ¬ IsTrue is_broken → IsWithin (max_changes * number) mirror
+-- a follower that isn't broken: no count, and no number of its objects, users or changesets, is
+-- above 100,000 times its number; it has a time except at 0; it holds sequences after its number,
+-- the next one not among them; all times are within the limits
+pub record IsWhole (f : FollowerValue) : Type 0 where
+  pub counts : IsWithin (max_changes * f.number) f.mirror
+  pub timed : (f.time ≡ None) ↔ (f.number ≡ 0)
+  pub time : IfSome f.time IsPositive
+  pub base : f.holding.base ≡ f.number
+  pub next : held_at f (f.number + 1) ≡ None
+  pub times : (j : ℕ) → IfSome (held_at f j) (λ p. IsPositive p.time)
+
+-- a follower: its number is within the limits, and it is whole unless it is broken
+pub record IsFollower (f : FollowerValue) : Type 0 where
+  pub most : f.number ≤ max_sequence
+  pub whole : ¬ IsTrue f.is_broken → IsWhole f
 
 -- the follower holds exactly the mirror, the counts and the time of published sequences 1 to its
 -- number; what it holds back is a published sequence that comes after the next, within its window

@@ -1,7 +1,9 @@
 -- What a follower shows of itself.
-use Rattle.std.specs.Prelude.{◌≡◌, ℕ, ◌<◌, List, [], Bool, true, false, Option, Contains, ◌↔◌}
+use Rattle.std.specs.Prelude.{◌≡◌, ℕ, ◌<◌, List, length, Bool, true, false, Option, Contains}
+use Rattle.std.specs.Prelude.{◌↔◌, ◌⊎◌}
 use Rattle.std.specs.List.Sorted.{IsStrictlySortedBy}
 use Rattle.std.specs.Ordering.{nat_cmp}
+use Rattle.osm_holding.specs.Holding.{numbers_of}
 use Rattle.osm_follow.specs.Follower.{FollowerValue}
 use Rattle.osm_mirror.specs.Mirror.{MirrorValue, HoldsSome, IsMirrorOf}
 use Rattle.osm_follow.specs.Published.{PublishedValue, changes_up_to, time_at}
@@ -17,12 +19,18 @@ pub record ViewValue : Type 0 where
 
 -- the view of a follower
 abbrev pub view_of : FollowerValue → ViewValue
-view_of f = record { number = f.number; time = f.time; mirror = f.mirror; held = [] }
+view_of f = record {
+  number = f.number;
+  time = f.time;
+  mirror = f.mirror;
+  held = numbers_of f.holding;
+}
 
--- why a follower shows nothing: an empty mirror takes no memory
+-- why a follower shows nothing: if its mirror is empty and nothing is held, it takes no memory
 abbrev pub ViewRefused : FollowerValue → ViewError → Type 0
 ViewRefused f Broken = f.is_broken ≡ true
-ViewRefused f WantOfMemory = (f.is_broken ≡ false) × HoldsSome f.mirror
+ViewRefused f WantOfMemory =
+    (f.is_broken ≡ false) × (HoldsSome f.mirror ⊎ (0 < length (numbers_of f.holding)))
 
 -- the view of a follower that started there, and accepted those numbers of what was published: the
 -- objects in the order of their keys, users and changesets with counts above 0 rising, held numbers

@@ -9,6 +9,10 @@ use thiserror::Error;
 pub enum Delivered {
     /// The number was applied before.
     Old,
+    /// The number is held already.
+    Again,
+    /// The sequence is held until its turn comes.
+    Held,
     /// The sequences from `low` to `high` were applied.
     Applied { low: u32, high: u32 },
 }
@@ -25,7 +29,7 @@ pub enum DeliverError {
     /// The state text names sequence 0, which has no change file.
     #[error("BadSequence")]
     BadSequence,
-    /// A number before it is missing.
+    /// The number is more than 64 above the follower's.
     #[error("TooEarly")]
     TooEarly,
     /// The bytes spell no batch, or are more than 64 MiB.

@@ -1,11 +1,13 @@
 //! A follower of published sequences.
 
-ghost use Rattle.std.specs.Prelude.{◌≡◌, ◌+◌, ◌*◌, ◌<◌, ◌≤◌, Result, Err, None, Some, IfOk, OnOk};
-ghost use Rattle.std.specs.Prelude.{IfErr, IsErr, MatchOption, ◌↔◌, true, false, length};
+ghost use Rattle.std.specs.Prelude.{◌≡◌, ◌+◌, ◌*◌, ◌<◌, ◌≤◌, ℕ, Result, Err, None, Some, IfOk};
+ghost use Rattle.std.specs.Prelude.{IfErr, IsErr, IsSome, IsTrue, MatchOption, ◌↔◌, true, false};
+ghost use Rattle.std.specs.Prelude.{OnOk, length, Contains};
+ghost use Rattle.std.specs.List.Sorted.{IsStrictlySortedBy};
+ghost use Rattle.std.specs.Ordering.{nat_cmp};
 ghost use Rattle.osm_model.specs.Limits.{max_changes, max_sequence};
-ghost use Rattle.osm_follow.specs.Delivery.{AnswersUnread, Breaks, Delivers, IsTurn, Takes};
-ghost use Rattle.osm_follow.specs.Delivery.{sequence_of};
-ghost use Rattle.osm_follow.specs.Follower.{new_follower};
+ghost use Rattle.osm_follow.specs.Delivery.{AnswersUnread, Delivers, Holds, IsTurn, sequence_of};
+ghost use Rattle.osm_follow.specs.Follower.{held_at, new_follower};
 ghost use Rattle.osm_mirror.specs.Mirror.{IsWithin, count_at, object_at};
 ghost use Rattle.osm_follow.specs.Steps.Taking.{TakeAnswers};
 ghost use Rattle.osm_follow.specs.View.{ViewRefused, view_of};
@@ -13,19 +15,23 @@ ghost use Rattle.osm_follow.specs.declared.delivery.Delivered.{Delivered};
 ghost use Rattle.osm_follow.specs.declared.delivery.DeliverError.{DeliverError};
 
 use crate::delivery::{DeliverError, Delivered};
-use osm_mirror::mirror::Mirror;
+use crate::drain::drain;
 use crate::view::{View, ViewError};
+use osm_holding::holding::{Held, HoldingArea, WINDOW};
+use osm_mirror::mirror::Mirror;
 use osm_model::batch::Batch;
 use osm_model::change::Change;
 use osm_model::form::{ChangeForm, FormError};
 use osm_model::kind::Key;
+use osm_model::memory::WantOfMemory;
 use osm_state::state::State;
 use osm_state::state_text::state_read;
 use std::alloc::Global;
 use std::marker::Model;
 use thiserror::Error;
 
-/// The mirror of sequences 1 to the follower's number.
+/// The mirror of sequences 1 to the follower's number, and those of the 64 after it that came
+/// early.
 ///
 /// The follower is broken once an application ran out of memory part of the way, and then says
 /// nothing more of its mirror.
@@ -34,11 +40,12 @@ pub struct Follower {
     number: u32,
     time: Option<u32>,
     mirror: Mirror,
+    holding: HoldingArea,
     is_broken: bool,
 }
 
 impl Model for Follower {
-    ghost use Rattle.osm_follow.specs.Follower.{FollowerValue, IsBounded};
+    ghost use Rattle.osm_follow.specs.Follower.{FollowerValue, IsFollower};
 
     ghost Value = { FollowerValue };
 
@@ -46,10 +53,17 @@ impl Model for Follower {
       number = a.number;
       time = a.time;
       mirror = a.mirror;
+      holding = a.holding;
       is_broken = a.is_broken;
     } };
 
-    ghost invariant = { λ a. IsBounded a.number a.mirror a.is_broken };
+    ghost invariant = { λ a. IsFollower (record {
+      number = a.number;
+      time = a.time;
+      mirror = a.mirror;
+      holding = a.holding;
+      is_broken = a.is_broken;
+    }) };
 }
 
 /// The follower is broken.
@@ -58,20 +72,25 @@ impl Model for Follower {
 pub struct Broken;
 
 impl Follower {
-    /// At sequence 0, with nothing in its mirror.
-    pub fn new(alloc: Global) -> Follower
-        ensures { result ≡ new_follower }
+    /// At sequence 0, with nothing in its mirror and nothing held. Makes all the room for sequences
+    /// that come early.
+    pub fn new(alloc: Global) -> Result<Follower, WantOfMemory>
+        ensures new { IfOk result (λ f. f ≡ new_follower) }
     {
-        Follower {
+        let holding = HoldingArea::new(alloc, 0)?;
+        Ok(Follower {
             number: 0,
             time: None,
             mirror: Mirror::new(alloc),
+            holding,
             is_broken: false,
-        }
+        })
     }
 
-    /// Takes the sequence of that state text, whose changes the bytes spell in the form `F`, if it
-    /// is the next one. The bytes are read only then.
+    /// Takes the sequence of that state text, whose changes the bytes spell in the form `F`. If it
+    /// is the next one, it is applied, and after it those that are held, up to the first gap; if it
+    /// is one of the 63 after that, it is held. The bytes are read only if it is one of these 64,
+    /// and isn't held already.
     pub fn deliver<F: ChangeForm>(
         &mut self,
         alloc: Global,
@@ -89,14 +108,19 @@ impl Follower {
             Ok(state) => state,
             Err(answer) => return answer,
         };
-        match F::read(alloc, bytes) {
-            Ok(batch) => self.take(&state, batch),
-            Err(FormError::WantOfMemory) => Err(DeliverError::WantOfMemory),
-            Err(fault) => Err(DeliverError::BadChange(fault)),
+        let batch = match F::read(alloc, bytes) {
+            Ok(batch) => batch,
+            Err(FormError::WantOfMemory) => return Err(DeliverError::WantOfMemory),
+            Err(fault) => return Err(DeliverError::BadChange(fault)),
+        };
+        if state.sequence() > self.number + 1 {
+            self.hold(&state, batch);
+            return Ok(Delivered::Held);
         }
+        self.take(&state, batch)
     }
 
-    // The state of the next sequence, or the answer that is due before the bytes are read.
+    // The state of a sequence whose bytes are to be read, or the answer that is due before that.
     fn turn(&self, state: &[u8]) -> Result<State, Result<Delivered, DeliverError>>
         ensures turn { IfOk result (λ s. IsTurn self.now state.now s) }
         ensures most { IfOk result (λ s. s.sequence ≤ max_sequence) }
@@ -118,30 +142,45 @@ impl Follower {
         if number <= self.number {
             return Err(Ok(Delivered::Old));
         }
-        if number > self.number + 1 {
+        if self.holding.is_held(number) {
+            return Err(Ok(Delivered::Again));
+        }
+        if number > self.number + WINDOW {
             return Err(Err(DeliverError::TooEarly));
         }
         Ok(state)
     }
 
-    // Applies the next sequence.
+    // Keeps a sequence until its turn comes. Takes no memory.
+    fn hold(&mut self, state: &State, batch: Batch)
+        requires whole { self.old.is_broken ≡ false }
+        requires early { self.old.number + 1 < state.now.sequence }
+        requires within { state.now.sequence ≤ self.old.number + 64 }
+        requires most { state.now.sequence ≤ max_sequence }
+        requires fresh { held_at self.old state.now.sequence ≡ None }
+        ensures { Holds self.old (sequence_of state.now batch) self.new }
+    {
+        let time = state.time();
+        self.holding.hold(state.sequence(), Held { batch, time });
+    }
+
+    // Applies the next sequence, and those that are held after it up to the first gap.
     fn take(&mut self, state: &State, batch: Batch) -> Result<Delivered, DeliverError>
         requires whole { self.old.is_broken ≡ false }
         requires next { state.now.sequence ≡ self.old.number + 1 }
         requires most { state.now.sequence ≤ max_sequence }
         ensures { TakeAnswers self.old (sequence_of state.now batch) result self.new }
     {
-        let Ok(()) = self.mirror.apply(batch.into_changes()) else {
+        let low = state.sequence();
+        let time = state.time();
+        let Ok(last) = drain(&mut self.mirror, &mut self.holding, Held { batch, time }) else {
             self.is_broken = true;
             return Err(DeliverError::Broke);
         };
-        let number = state.sequence();
-        self.number = number;
-        self.time = Some(state.time());
-        Ok(Delivered::Applied {
-            low: number,
-            high: number,
-        })
+        let high = self.holding.base();
+        self.number = high;
+        self.time = Some(last);
+        Ok(Delivered::Applied { low, high })
     }
 
     pub fn is_broken(&self) -> bool
@@ -201,6 +240,15 @@ impl Follower {
         Ok(self.mirror.changeset_count(id))
     }
 
+    /// Whether a sequence of that number is held until its turn comes.
+    pub fn is_held(&self, number: u32) -> Result<bool, Broken>
+        ensures broken { IsErr result ↔ (self.now.is_broken ≡ true) }
+        ensures held { IfOk result (λ b. IsTrue b ↔ IsSome (held_at self.now number)) }
+    {
+        self.check_whole()?;
+        Ok(self.holding.is_held(number))
+    }
+
     fn check_whole(&self) -> Result<(), Broken>
         ensures broken { IsErr result ↔ (self.now.is_broken ≡ true) }
         ensures bounded { OnOk result (IsWithin (max_changes * self.now.number) self.now.mirror) }
@@ -215,12 +263,15 @@ impl Follower {
     pub fn view(&self, alloc: Global) -> Result<View, ViewError>
         ensures whole { OnOk result (self.now.is_broken ≡ false) }
         ensures copies { IfOk result (λ v. v ≡ view_of self.now) }
+        ensures rising { IfOk result (λ v. IsStrictlySortedBy nat_cmp v.held) }
+        ensures held { IfOk result (λ v. (number : ℕ) →
+            Contains v.held number ↔ IsSome (held_at self.now number)) }
         ensures refused { IfErr result (ViewRefused self.now) }
     {
         if self.is_broken {
             return Err(ViewError::Broken);
         }
-        match View::of(alloc, self.number, self.time, &self.mirror) {
+        match View::of(alloc, self.number, self.time, &self.mirror, &self.holding) {
             Ok(view) => Ok(view),
             Err(_) => Err(ViewError::WantOfMemory),
         }

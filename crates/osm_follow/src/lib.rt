@@ -2,6 +2,7 @@
 #![tactic(auto)]
 
 pub mod delivery;
+mod drain;
 pub mod follower;
 pub mod laws;
 pub mod published;

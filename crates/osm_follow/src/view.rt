@@ -1,8 +1,11 @@
 //! What a follower shows of itself.
 
-ghost use Rattle.std.specs.Prelude.{◌≡◌, IfOk, OnErr, []};
+ghost use Rattle.std.specs.Prelude.{◌≡◌, ◌<◌, ◌↔◌, ◌⊎◌, ℕ, IfOk, OnErr, IsSome, Contains, length};
+ghost use Rattle.std.specs.List.Sorted.{IsStrictlyIncreasing};
+ghost use Rattle.osm_holding.specs.Holding.{held_at, numbers_of};
 ghost use Rattle.osm_mirror.specs.Mirror.{HoldsSome};
 
+use osm_holding::holding::HoldingArea;
 use osm_mirror::mirror::Mirror;
 use osm_model::change::Change;
 use osm_model::memory::WantOfMemory;
@@ -81,25 +84,31 @@ impl View {
         }
     }
 
-    /// The view of a follower with that number, time and mirror, which holds nothing.
+    /// The view of a follower with that number, time, mirror and holding area.
     pub(crate) fn of(
         alloc: Global,
         number: u32,
         time: Option<u32>,
         mirror: &Mirror,
+        holding: &HoldingArea,
     ) -> Result<View, WantOfMemory>
         ensures copies { IfOk result (λ v. v ≡ record {
           number = number;
           time = time;
           mirror = mirror.now;
-          held = [];
+          held = numbers_of holding.now;
         }) }
-        ensures refused { OnErr result (HoldsSome mirror.now) }
+        ensures rising { IfOk result (λ v. IsStrictlyIncreasing v.held) }
+        ensures held { IfOk result (λ v. (number : ℕ) →
+            Contains v.held number ↔ IsSome (held_at holding.now number)) }
+        ensures refused { OnErr result
+            (HoldsSome mirror.now ⊎ (0 < length (numbers_of holding.now))) }
     {
         let objects = mirror.objects(alloc)?;
         let users = mirror.users(alloc)?;
         let changesets = mirror.changesets(alloc)?;
-        Ok(View::new(number, time, objects, users, changesets, Vec::new(alloc)))
+        let held = holding.numbers(alloc)?;
+        Ok(View::new(number, time, objects, users, changesets, held))
     }
 
     pub fn number(&self) -> u32

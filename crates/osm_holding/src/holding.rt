@@ -23,7 +23,7 @@ pub struct Held {
 }
 
 /// How many numbers after its base an area has room for.
-const WINDOW: u32 = 64;
+pub const WINDOW: u32 = 64;
 
 /// Room for the 64 sequences after a number, its base. `new` makes all of it; afterwards only
 /// `numbers` takes memory. No call except `clear` and `numbers` looks at more than one slot.

@@ -1,3 +1,4 @@
+pub mod MemoryLemmas
 pub mod EntryLemmas
 pub mod MirrorLemmas
 pub mod MirrorLaws

@@ -1,8 +1,13 @@
--- What the application of the next sequence answers.
-use Rattle.std.specs.Prelude.{◌≡◌, Result, Ok, Err}
+-- What the application of the next sequence answers, and what the one of the held ones leaves.
+use Rattle.std.specs.Prelude.{◌≡◌, ℕ, ◌+◌, ◌*◌, ◌<◌, ◌≤◌, ◌++◌, Result, Ok, Err, true}
+use Rattle.osm_holding.specs.Holding.{HoldingValue}
+use Rattle.osm_holding.specs.declared.holding.Held.{Held}
+use Rattle.osm_mirror.specs.Mirror.{Applies, IsWithin, MirrorValue, NeedsMemory}
+use Rattle.osm_model.specs.Limits.{max_changes}
 use Rattle.osm_follow.specs.Delivery.{Takes, Breaks}
-use Rattle.osm_follow.specs.Follower.{FollowerValue}
+use Rattle.osm_follow.specs.Follower.{FollowerValue, changes_in, is_in, sequence_in, time_in}
 use Rattle.osm_follow.specs.Published.{PublishedValue}
+use Rattle.osm_follow.specs.Reach.{Reaches, between}
 use Rattle.osm_follow.specs.declared.delivery.Delivered.{Delivered}
 use Rattle.osm_follow.specs.declared.delivery.Delivered.TheVariants.{Applied}
 use Rattle.osm_follow.specs.declared.delivery.DeliverError.{DeliverError}
@@ -11,6 +16,27 @@ use Rattle.osm_follow.specs.declared.delivery.DeliverError.TheVariants.{Broke}
 -- the sequence was applied, or the application was stopped part of the way
 abbrev pub TakeAnswers :
     FollowerValue → PublishedValue → Result Delivered DeliverError → FollowerValue → Type 0
-TakeAnswers f p (Ok (Applied low high)) g = (low ≡ p.number) × (high ≡ p.number) × Takes f p g
-TakeAnswers f p (Err Broke) g = Breaks f p.changes g
+TakeAnswers f p (Ok (Applied low high)) g = (low ≡ p.number) × Takes f p high g
+TakeAnswers f p (Err Broke) g = Breaks f p g
 TakeAnswers f p answer g = ⊥
+
+-- the sequence after the base of an area was applied, and after it what the area held without a
+-- gap: the new base is the last one's number, and that is its time
+pub record Drains (m : MirrorValue) (holding : HoldingValue) (first : Held)
+    (n : MirrorValue) (left : HoldingValue) (last : ℕ) : Type 0 where
+  pub count : ℕ
+  pub base : left.base ≡ holding.base + 1 + count
+  pub reach : Reaches (is_in holding) (holding.base + 1) left.base
+  pub applied :
+      Applies m (first.batch ++ between (changes_in holding) (holding.base + 1) count) n
+  pub within : IsWithin (max_changes * left.base) n
+  pub time : last ≡ time_in holding left.base first.time
+  pub rest : (j : ℕ) → left.base < j → sequence_in left j ≡ sequence_in holding j
+
+-- among the first sequence and so many after it, all of them held, some change needs a new entry
+pub record Stops (m : MirrorValue) (holding : HoldingValue) (first : Held) : Type 0 where
+  pub count : ℕ
+  pub all : (j : ℕ) → holding.base + 1 < j → j ≤ holding.base + 1 + count →
+      is_in holding j ≡ true
+  pub needs :
+      NeedsMemory m (first.batch ++ between (changes_in holding) (holding.base + 1) count)

@@ -1,0 +1,192 @@
+-- One held sequence more, and what the application of the held ones leaves.
+use Rattle.std.proofs.Common.{◌≡◌, ℕ, ◌+◌, ◌-◌, ◌*◌, ◌<◌, ◌≤◌, List, [], ◌∷◌, ◌++◌, refl, ap, sym, ◌∙◌, true, false, arith, None, Some, Option, append-nil, append_assoc, inl, inr}
+use Rattle.std.specs.Map.{lookup}
+use Rattle.std.specs.Option.{option_map, option_map_or}
+use Rattle.std.specs.Prelude.{◌==◌, IfSome, is_some, IsTrue}
+use Rattle.std.proofs.lemmas.Bool.{cases_eq, cases_lt, ne_eqb}
+use Rattle.osm_holding.specs.Holding as area
+use Rattle.osm_holding.specs.Holding.{ChangesAt, HoldingValue, IsHolding}
+use Rattle.osm_holding.specs.declared.holding.Held.{Held}
+use Rattle.osm_mirror.proofs.MemoryLemmas.{NeedsMemory-after, NeedsMemory-before}
+use Rattle.osm_mirror.proofs.MirrorLemmas.{Applies-append}
+use Rattle.osm_mirror.specs.Mirror.{Applies, IsWithin, MirrorValue, NeedsMemory}
+use Rattle.osm_model.specs.Change.{ChangeValue}
+use Rattle.osm_model.specs.Limits.{IsPositive, max_changes}
+use Rattle.osm_follow.specs.Delivery.{Breaks, Takes}
+use Rattle.osm_follow.specs.Follower.{FollowerValue, IsWhole, changes_in, is_in, sequence_in, time_in}
+use Rattle.osm_follow.specs.Published.{PublishedValue}
+use Rattle.osm_follow.specs.Reach.{Reaches, between}
+use Rattle.osm_follow.specs.Steps.Taking.{Drains, Stops}
+use Rattle.osm_follow.proofs.ReachLemmas.{all_more, between-append, between-suc, reaches_some}
+
+-- a held sequence, with its number
+abbrev pub numbered : ℕ → Held → PublishedValue
+numbered number h = record { number = number; changes = h.batch; time = h.time }
+
+pub is_none : (o : Option PublishedValue) → is_some o ≡ false → o ≡ None
+is_none None is = refl
+is_none (Some p) is = let bad : true ≡ false = is in cc
+
+pub none_is : (o : Option Held) (number : ℕ) → option_map (numbered number) o ≡ None → o ≡ None
+none_is None number is = refl
+none_is (Some h) number is = let bad : Some (numbered number h) ≡ None = is in cc
+
+-- what was applied so far
+pub record IsDrained (m : MirrorValue) (holding : HoldingValue) (first : Held) (n : MirrorValue) (left : HoldingValue) (last : ℕ) : Type 0 where
+  pub count : ℕ
+  pub base : left.base ≡ holding.base + 1 + count
+  pub all : (j : ℕ) → holding.base + 1 < j → j ≤ left.base → is_in holding j ≡ true
+  pub applied : Applies m (first.batch ++ between (changes_in holding) (holding.base + 1) count) n
+  pub within : IsWithin (max_changes * left.base) n
+  pub time : last ≡ time_in holding left.base first.time
+  pub rest : (j : ℕ) → left.base < j → sequence_in left j ≡ sequence_in holding j
+
+-- the first sequence was applied
+pub drained_first : (m n : MirrorValue) (holding left : HoldingValue) (first : Held) → sequence_in holding (holding.base + 1) ≡ None → Applies m first.batch n → left ≡ record holding { base = holding.base + 1 } → IsWithin (max_changes * left.base) n → IsDrained m holding first n left first.time
+drained_first m n holding left first free applied moved within =
+    let base : left.base ≡ holding.base + 1 = ap (λ (h : HoldingValue). h.base) moved in
+    record {
+      count = 0;
+      base = omega arith;
+      all = λ j above below. absurd (omega arith);
+      applied = rw (append-nil first.batch) applied;
+      within = within;
+      time = rw (base, free) refl;
+      rest = λ j above. ap (λ (h : HoldingValue). sequence_in h j) moved;
+    }
+
+-- what comes next was held from the first
+next_held : (m n : MirrorValue) (holding left : HoldingValue) (first held : Held) (last : ℕ) → IsDrained m holding first n left last → area.held_at left (left.base + 1) ≡ Some held → sequence_in holding (left.base + 1) ≡ Some (numbered (left.base + 1) held)
+next_held m n holding left first held last i value =
+    sym (i.rest (left.base + 1) (omega arith)) ∙ ap (option_map (numbered (left.base + 1))) value
+
+changes_more : (holding : HoldingValue) (count : ℕ) (k : ℕ) (first held : Held) → k ≡ holding.base + 1 + count + 1 → sequence_in holding k ≡ Some (numbered k held) → first.batch ++ between (changes_in holding) (holding.base + 1) (count + 1) ≡ (first.batch ++ between (changes_in holding) (holding.base + 1) count) ++ held.batch
+changes_more holding count k first held is there =
+    let here : changes_in holding k ≡ held.batch = ap (λ (o : Option PublishedValue). option_map_or (λ (p : PublishedValue). p.changes) o []) there in
+    ap (λ (cs : List ChangeValue). first.batch ++ cs) (between-suc (changes_in holding) (holding.base + 1) count k is ∙ ap (λ (cs : List ChangeValue). between (changes_in holding) (holding.base + 1) count ++ cs) here)
+    ∙ sym (append_assoc first.batch (between (changes_in holding) (holding.base + 1) count) held.batch)
+
+-- one held sequence more was applied
+pub drained_more : (m n o : MirrorValue) (holding left mid next : HoldingValue) (first held : Held) (last : ℕ) → IsDrained m holding first n left last → area.held_at left (left.base + 1) ≡ Some held → ChangesAt left mid (left.base + 1) None → Applies n held.batch o → next ≡ record mid { base = mid.base + 1 } → IsWithin (max_changes * next.base) o → IsDrained m holding first o next held.time
+drained_more m n o holding left mid next first held last i value taken applied moved within =
+    let k : ℕ = left.base + 1 in
+    let there : sequence_in holding k ≡ Some (numbered k held) = next_held m n holding left first held last i value in
+    let base : next.base ≡ k = ap (λ (h : HoldingValue). h.base) moved ∙ ap (λ (b : ℕ). b + 1) taken.base in
+    let at : left.base ≡ holding.base + 1 + i.count = i.base in
+    record {
+      count = i.count + 1;
+      base = omega arith;
+      all = λ j above below. all_more (is_in holding) (holding.base + 1) left.base i.all (ap is_some there) j above (omega arith);
+      applied = rw (changes_more holding i.count k first held (omega arith) there) (Applies-append m n o (first.batch ++ between (changes_in holding) (holding.base + 1) i.count) held.batch i.applied applied);
+      within = within;
+      time = rw (base, there) refl;
+      rest = λ j above. ap (λ (h : HoldingValue). sequence_in h j) moved ∙ (ap (option_map (numbered j)) (taken.others j (λ e. omega arith)) ∙ i.rest j (omega arith));
+    }
+
+-- nothing more is held without a gap
+pub drained_all : (m n : MirrorValue) (holding left mid : HoldingValue) (first : Held) (last : ℕ) → IsDrained m holding first n left last → area.held_at left (left.base + 1) ≡ None → ChangesAt left mid (left.base + 1) None → Drains m holding first n mid last
+drained_all m n holding left mid first last i value taken =
+    let base : mid.base ≡ left.base = taken.base in
+    let at : left.base ≡ holding.base + 1 + i.count = i.base in
+    let none : sequence_in holding (left.base + 1) ≡ None = sym (i.rest (left.base + 1) (omega arith)) ∙ ap (option_map (numbered (left.base + 1))) value in
+    record {
+      count = i.count;
+      base = omega arith;
+      reach = rw base (record { from = omega arith; all = i.all; next = ap is_some none });
+      applied = i.applied;
+      within = rw base i.within;
+      time = rw base i.time;
+      rest = λ j above. elim (cases_eq j (left.base + 1)) [
+        | inl same ↦ rw same (ap (option_map (numbered (left.base + 1))) taken.changed ∙ sym none)
+        | inr apart ↦ ap (option_map (numbered j)) (taken.others j apart) ∙ i.rest j (omega arith)
+      ];
+    }
+
+-- the application was stopped at the first sequence, or at a held one
+pub stopped_first : (m : MirrorValue) (holding : HoldingValue) (first : Held) → NeedsMemory m first.batch → Stops m holding first
+stopped_first m holding first needs = record {
+  count = 0;
+  all = λ j above below. absurd (omega arith);
+  needs = rw (append-nil first.batch) needs;
+}
+
+pub stopped_later : (m n : MirrorValue) (holding left : HoldingValue) (first held : Held) (last : ℕ) → IsDrained m holding first n left last → area.held_at left (left.base + 1) ≡ Some held → NeedsMemory n held.batch → Stops m holding first
+stopped_later m n holding left first held last i value needs =
+    let k : ℕ = left.base + 1 in
+    let at : left.base ≡ holding.base + 1 + i.count = i.base in
+    let there : sequence_in holding k ≡ Some (numbered k held) = next_held m n holding left first held last i value in
+    record {
+      count = i.count + 1;
+      all = λ j above below. all_more (is_in holding) (holding.base + 1) left.base i.all (ap is_some there) j above (omega arith);
+      needs = rw (changes_more holding i.count k first held (omega arith) there) (NeedsMemory-after m n (first.batch ++ between (changes_in holding) (holding.base + 1) i.count) held.batch i.applied needs);
+    }
+
+-- some number is above all that are held
+highest : (entries : List (ℕ × Held)) → (most : ℕ) × ((j : ℕ) → most < j → lookup (λ key. j == key) entries ≡ None)
+highest [] = (0, λ j above. refl)
+highest (e ∷ entries) = let rest = highest entries in (rest.0 + e.0, λ j above. let other : (j == e.0) ≡ false = ne_eqb j e.0 (λ is. omega arith) in rw other (rest.1 j (omega arith)))
+
+-- what stops among some of the held sequences stops among all that are reached without a gap
+pub breaks : (f g : FollowerValue) (p : PublishedValue) (time : ℕ) → p.number ≡ f.holding.base + 1 → Stops f.mirror f.holding (record { batch = p.changes; time = time }) → g ≡ record f { mirror = g.mirror; holding = g.holding; is_broken = true } → Breaks f p g
+breaks f g p time number stops rest =
+    let most = highest f.holding.entries in
+    let none : (j : ℕ) → p.number + most.0 < j → is_in f.holding j ≡ false = λ j above. ap (λ (o : Option Held). is_some (option_map (numbered j) o)) (most.1 j (omega arith)) in
+    let reached : (m : ℕ) × Reaches (is_in f.holding) p.number m = reaches_some (is_in f.holding) p.number most.0 none in
+    let far : p.number + stops.count ≤ reached.0 = elim (cases_lt reached.0 (p.number + stops.count)) [
+      | inr within ↦ within
+      | inl past ↦ absurd (let from = reached.1.from in
+          let is : is_in f.holding (reached.0 + 1) ≡ true = stops.all (reached.0 + 1) (omega arith) (omega arith) in
+          let bad : true ≡ false = sym is ∙ reached.1.next in cc)
+    ] in
+    let more : ℕ = reached.0 - (p.number + stops.count) in
+    let needs : NeedsMemory f.mirror (p.changes ++ between (changes_in f.holding) p.number stops.count) = rw number stops.needs in
+    record {
+      high = reached.0;
+      count = stops.count + more;
+      high_is = omega arith;
+      reach = reached.1;
+      needs = rw (← between-append (changes_in f.holding) p.number stops.count more, ← append_assoc p.changes (between (changes_in f.holding) p.number stops.count) (between (changes_in f.holding) (p.number + stops.count) more)) (NeedsMemory-before f.mirror (p.changes ++ between (changes_in f.holding) p.number stops.count) (between (changes_in f.holding) (p.number + stops.count) more) needs);
+      rest = rest;
+    }
+
+-- nothing is held up to the base
+none_below : (holding : HoldingValue) (j : ℕ) → IsHolding holding → j ≤ holding.base → sequence_in holding j ≡ None
+none_below holding j is below = by_slot (area.held_at holding j) refl
+  where
+    by_slot : (o : Option Held) → area.held_at holding j ≡ o → option_map (numbered j) o ≡ None
+    by_slot None e = refl
+    by_slot (Some h) e = absurd (let there : IsTrue (is_some (area.held_at holding j)) = ap is_some e in let window = is.window j there in let above = window.above in omega arith)
+
+pub takes : (f g : FollowerValue) (p : PublishedValue) (time last : ℕ) → p.number ≡ f.holding.base + 1 → Drains f.mirror f.holding (record { batch = p.changes; time = p.time }) g.mirror g.holding last → IsHolding g.holding → g.number ≡ g.holding.base → g.time ≡ Some last → g.is_broken ≡ false → Takes f p g.holding.base g
+takes f g p time last number d is at timed whole = record {
+  count = d.count;
+  high_is = (let base = d.base in omega arith);
+  reach = rw number d.reach;
+  applied = rw number d.applied;
+  number = at;
+  time = timed ∙ ap (λ (t : ℕ). Some t) d.time;
+  whole = whole;
+  gone = λ j below. none_below g.holding j is below;
+  rest = d.rest;
+}
+
+-- what is held still is timed, and so is the last that was applied
+timed_one : (o : Option PublishedValue) (other : ℕ) → IfSome o (λ p. IsPositive p.time) → IsPositive other → IsPositive (option_map_or (λ p. p.time) o other)
+timed_one None other one positive = positive
+timed_one (Some p) other one positive = one
+
+-- a follower is whole after the application
+pub still_whole : (f g : FollowerValue) (first : Held) (last : ℕ) → IsWhole f → IsPositive first.time → Drains f.mirror f.holding first g.mirror g.holding last → IsHolding g.holding → g.number ≡ g.holding.base → g.time ≡ Some last → IsWhole g
+still_whole f g first last w positive d is at timed =
+    let base = d.base in
+    record {
+      counts = rw at d.within;
+      timed = rw timed (λ none. absurd (let bad : Some last ≡ None = none in cc), λ zero_is. absurd (omega arith));
+      time = rw (timed, d.time) (timed_one (sequence_in f.holding g.holding.base) first.time (w.times g.holding.base) positive);
+      base = sym at;
+      next = rw at (d.rest (g.holding.base + 1) (omega arith) ∙ is_none (sequence_in f.holding (g.holding.base + 1)) d.reach.next);
+      times = λ j. elim (cases_lt g.holding.base j) [
+        | inl past ↦ rw (d.rest j past) (w.times j)
+        | inr below ↦ rw (none_below g.holding j is below) tt
+      ];
+    }

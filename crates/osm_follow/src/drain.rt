@@ -1,0 +1,55 @@
+//! The application of sequences that follow one another.
+
+ghost use Rattle.std.specs.Prelude.{◌≡◌, ◌+◌, ◌*◌, ◌<◌, None, OnOk, OnErr, IfOk};
+ghost use Rattle.osm_follow.specs.Follower.{sequence_in};
+ghost use Rattle.osm_follow.specs.Steps.Taking.{Drains, Stops};
+ghost use Rattle.osm_mirror.specs.Mirror.{Applies, IsWithin, NeedsMemory};
+ghost use Rattle.osm_model.specs.Limits.{max_changes, max_sequence};
+
+use osm_holding::holding::{Held, HoldingArea};
+use osm_mirror::mirror::Mirror;
+use osm_model::batch::Batch;
+use osm_model::memory::WantOfMemory;
+
+/// Applies the sequence after the area's base, and then those that the area holds, up to the first
+/// gap. Gives the time of the last one, in seconds since 1970-01-01T00:00:00Z.
+pub(crate) fn drain(
+    mirror: &mut Mirror,
+    holding: &mut HoldingArea,
+    first: Held,
+) -> Result<u32, WantOfMemory>
+    requires room { holding.old.base < max_sequence }
+    requires next { sequence_in holding.old (holding.old.base + 1) ≡ None }
+    requires counts { IsWithin (max_changes * holding.old.base) mirror.old }
+    ensures drained { IfOk result (λ time.
+        Drains mirror.old holding.old first mirror.new holding.new time) }
+    ensures stopped { OnErr result (Stops mirror.old holding.old first) }
+{
+    let mut time = first.time;
+    apply_next(mirror, holding, first.batch)?;
+    while let Some(held) = holding.take_next() {
+        time = held.time;
+        apply_next(mirror, holding, held.batch)?;
+    }
+    Ok(time)
+}
+
+// Applies the sequence after the area's base, which the area doesn't hold, and moves the base on.
+fn apply_next(
+    mirror: &mut Mirror,
+    holding: &mut HoldingArea,
+    batch: Batch,
+) -> Result<(), WantOfMemory>
+    requires room { holding.old.base < max_sequence }
+    requires next { sequence_in holding.old (holding.old.base + 1) ≡ None }
+    requires counts { IsWithin (max_changes * holding.old.base) mirror.old }
+    ensures applied { OnOk result (Applies mirror.old batch mirror.new) }
+    ensures moved { OnOk result (holding.new
+        ≡ record holding.old { base = holding.old.base + 1 }) }
+    ensures within { OnOk result (IsWithin (max_changes * holding.new.base) mirror.new) }
+    ensures refused { OnErr result (NeedsMemory mirror.old batch) }
+{
+    mirror.apply(batch.into_changes())?;
+    holding.move_on();
+    Ok(())
+}
