@@ -19,7 +19,7 @@ MOST_CHANGES = 100_000
 MOST_SEQUENCES = 999_999_999
 MOST_BYTES = 64 * 1024 * 1024
 # A follower at n takes numbers n + 1 to n + WINDOW, and holds those above n + 1.
-WINDOW = 1
+WINDOW = 64
 
 
 class NoScript(Exception):

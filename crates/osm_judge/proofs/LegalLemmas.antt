@@ -9,7 +9,7 @@ use Rattle.osm_model.specs.Change.{ChangeValue}
 use Rattle.osm_model.specs.Limits.{max_changes}
 use Rattle.osm_world.specs.History.{History, accepted_of, pending_of, published_of}
 use Rattle.osm_world.proofs.LegalLemmas.{legal_none, legal_more}
-use Rattle.osm_world.specs.Legal.{Allowed, IsLegal, IsNumber, IsOpen, IsNext, IsWork}
+use Rattle.osm_world.specs.Legal.{Allowed, IsLegal, IsNumber, IsOpen, IsWanted, IsWork}
 use Rattle.osm_world.specs.declared.event.Event.{Event}
 use Rattle.osm_world.specs.declared.event.Event.TheVariants.{Edit, Close, Deliver, Show}
 use Rattle.osm_world.specs.declared.event.Reply.{Reply}
@@ -36,8 +36,8 @@ one_reach f s n m a b = elim (cases_lt n m) [
 pub open_row : (h : History) (k reached : ℕ) (Q : ℕ → Type 0) (r : Bool) → IsNumber h reached → IsTrue r ↔ (IsOpen h k reached × Q reached) → IsTrue r ↔ ((n : ℕ) × IsOpen h k n × Q n)
 open_row h k reached Q r number told = (λ t. (let both = told.0 t in (reached, both.0, both.1)), λ row. told.1 (subst (λ (m : ℕ). IsOpen h k m × Q m) (one_reach (accepted_of h) 0 row.0 reached row.1.number number) (row.1, row.2)))
 
-pub next_row : (h : History) (k reached : ℕ) (Q : ℕ → Type 0) (r : Bool) → IsNumber h reached → IsTrue r ↔ (IsNext h k reached × Q reached) → IsTrue r ↔ ((n : ℕ) × IsNext h k n × Q n)
-next_row h k reached Q r number told = (λ t. (let both = told.0 t in (reached, both.0, both.1)), λ row. told.1 (subst (λ (m : ℕ). IsNext h k m × Q m) (one_reach (accepted_of h) 0 row.0 reached row.1.is_open.number number) (row.1, row.2)))
+pub wanted_row : (h : History) (k reached : ℕ) (Q : ℕ → Type 0) (r : Bool) → IsNumber h reached → IsTrue r ↔ (IsWanted h k reached × Q reached) → IsTrue r ↔ ((n : ℕ) × IsWanted h k n × Q n)
+wanted_row h k reached Q r number told = (λ t. (let both = told.0 t in (reached, both.0, both.1)), λ row. told.1 (subst (λ (m : ℕ). IsWanted h k m × Q m) (one_reach (accepted_of h) 0 row.0 reached row.1.is_open.number number) (row.1, row.2)))
 
 -- a sequence more, also behind the last: there is no change there
 changes_up_to_more : (ps : List PublishedValue) (n : ℕ) → changes_up_to ps (n + 1) ≡ changes_up_to ps n ++ changes_at ps (n + 1)
@@ -94,16 +94,20 @@ have_changes ps k count above =
     let both : length (changes_at ps k ++ between (changes_at ps) k count) ≡ length (changes_at ps k) + length (between (changes_at ps) k count) = length-append (changes_at ps k) (between (changes_at ps) k count) in
     omega arith
 
-pub want_row : (h : History) (k reached : ℕ) (r : Bool) → IsNumber h reached → IsTrue r ↔ (IsNext h k reached × (length (changes_up_to (published_of h) (k - 1)) < length (changes_up_to (published_of h) k))) → IsTrue r ↔ ((n : ℕ) × IsNext h k n × (0 < length (changes_at (published_of h) k)))
-want_row h k reached r number told = next_row h k reached (λ n. 0 < length (changes_at (published_of h) k)) r number (
+pub want_row : (h : History) (k reached : ℕ) (r : Bool) → IsNumber h reached → IsTrue r ↔ (IsWanted h k reached × (length (changes_up_to (published_of h) (k - 1)) < length (changes_up_to (published_of h) k))) → IsTrue r ↔ ((n : ℕ) × IsWanted h k n × (0 < length (changes_at (published_of h) k)))
+want_row h k reached r number told = wanted_row h k reached (λ n. 0 < length (changes_at (published_of h) k)) r number (
   λ t. (let both = told.0 t in (both.0, (has_change (published_of h) k both.0.is_open.above).0 both.1)),
   λ both. told.1 (both.0, (has_change (published_of h) k both.0.is_open.above).1 both.1),
 )
 
-pub broke_row : (h : History) (k reached high : ℕ) (r : Bool) → IsNumber h reached → Reaches (accepted_of h) k high → IsTrue r ↔ (IsNext h k reached × (length (changes_up_to (published_of h) (k - 1)) < length (changes_up_to (published_of h) high))) → IsTrue r ↔ ((n : ℕ) × IsNext h k n × IsWork h k)
-broke_row h k reached high r number reach told = next_row h k reached (λ n. IsWork h k) r number (
-  λ t. (let both = told.0 t in (both.0, work both.0.is_open.above both.1)),
-  λ both. told.1 (both.0, less both.0.is_open.above both.1),
+pub broke_row : (h : History) (k reached high : ℕ) (r : Bool) → IsNumber h reached → Reaches (accepted_of h) k high → IsTrue r ↔ (IsWanted h k reached × (k ≡ reached + 1) × (length (changes_up_to (published_of h) (k - 1)) < length (changes_up_to (published_of h) high))) → IsTrue r ↔ ((n : ℕ) × IsWanted h k n × (k ≡ n + 1) × IsWork h k)
+broke_row h k reached high r number reach told = (
+  λ t. (let all = told.0 t in (reached, all.0, all.1, work all.0.is_open.above all.2)),
+  λ row.
+      let same : row.0 ≡ reached = one_reach (accepted_of h) 0 row.0 reached row.1.is_open.number number in
+      let wanted : IsWanted h k reached = subst (λ (m : ℕ). IsWanted h k m) same row.1 in
+      let next : k ≡ reached + 1 = subst (λ (m : ℕ). k ≡ m + 1) same row.2 in
+      told.1 (wanted, next, less wanted.is_open.above row.3),
 )
   where
     work : 0 < k → length (changes_up_to (published_of h) (k - 1)) < length (changes_up_to (published_of h) high) → IsWork h k

@@ -100,7 +100,7 @@ fn is_accepting(pair: &Pair, number: u64) -> bool
                 number: delivered,
                 ..
             },
-            Reply::Applied { .. },
+            Reply::Held | Reply::Applied { .. },
         ) => u64::from(*delivered) == number,
         _ => false,
     }
@@ -123,7 +123,7 @@ fn most_accepted(history: &[Pair]) -> u32
     match history {
         [] => 0,
         [
-            (Event::Deliver { number, .. }, Reply::Applied { .. }),
+            (Event::Deliver { number, .. }, Reply::Held | Reply::Applied { .. }),
             before @ ..,
         ] => { most_accepted(before).max(*number) }
         [_, before @ ..] => most_accepted(before),

@@ -1,11 +1,11 @@
 //! Which reply may follow a history.
 
-ghost use Rattle.std.specs.Prelude.{◌≡◌, ℕ, ◌+◌, ◌-◌, ◌<◌, ◌≤◌, ◌↔◌, false, length, IfErr, IfOk};
-ghost use Rattle.std.specs.Prelude.{IsTrue};
+ghost use Rattle.std.specs.Prelude.{◌≡◌, ℕ, ◌+◌, ◌-◌, ◌<◌, ◌≤◌, ◌↔◌, true, false, length};
+ghost use Rattle.std.specs.Prelude.{IfErr, IfOk, IsTrue};
 ghost use Rattle.osm_model.specs.Limits.{max_changes, max_file};
 ghost use Rattle.osm_world.specs.History.{accepted_of, pending_of, published_of, publisher_of};
 ghost use Rattle.osm_world.specs.Legal.{Allowed, AllowedClose, AllowedDeliver, AllowedEdit};
-ghost use Rattle.osm_world.specs.Legal.{AllowedShow, IsLegal, IsNext, IsNumber, IsOpen};
+ghost use Rattle.osm_world.specs.Legal.{AllowedShow, IsLegal, IsNumber, IsOpen, IsWanted};
 ghost use Rattle.osm_follow.specs.Published.{changes_up_to};
 ghost use Rattle.osm_follow.specs.Publisher.{CanClose, IsSmall, IsTooLarge};
 ghost use Rattle.osm_follow.specs.Reach.{Reaches};
@@ -24,6 +24,9 @@ use osm_o5c::o5c::O5c;
 use osm_opl::opl::Opl;
 use osm_world::event::{Event, Reply};
 use std::alloc::Global;
+
+// A follower at n takes the sequences n + 1 to n + 64.
+const WINDOW: u64 = 64;
 
 /// Why there is no judgement of a reply.
 #[derive(Clone, Copy, Debug, PartialEq, Eq)]
@@ -200,8 +203,10 @@ fn is_deliver_allowed(
         Reply::NotPublished => Ok(!is_published(history, number)),
         Reply::Broken => Ok(is_published(history, number) && is_broken(history)),
         Reply::Old => Ok(is_old(history, number, reached)),
-        Reply::TooEarly => Ok(is_early(history, number, reached)),
-        Reply::WantOfMemory => is_next_with_changes(alloc, history, number, reached, number),
+        Reply::Again => Ok(is_again(history, number, reached)),
+        Reply::TooEarly => Ok(is_too_early(history, number, reached)),
+        Reply::WantOfMemory => is_wanted_with_changes(alloc, history, number, reached, number),
+        Reply::Held => Ok(is_early(history, number, reached)),
         Reply::Applied { low, high } => Ok(is_applied(history, number, reached, *low, *high)),
         Reply::Broke => {
             let high = reach(history, number);
@@ -225,14 +230,6 @@ fn is_open(history: &[Pair], number: u32, reached: u32) -> bool
     is_published(history, number) && !is_broken(history)
 }
 
-// Whether it also is the next.
-fn is_next(history: &[Pair], number: u32, reached: u32) -> bool
-    requires { IsNumber history.now reached }
-    ensures { IsTrue result ↔ IsNext history.now number reached }
-{
-    is_open(history, number, reached) && u64::from(number) == u64::from(reached) + 1
-}
-
 // Whether it was applied before.
 fn is_old(history: &[Pair], number: u32, reached: u32) -> bool
     requires { IsNumber history.now reached }
@@ -241,21 +238,55 @@ fn is_old(history: &[Pair], number: u32, reached: u32) -> bool
     is_open(history, number, reached) && number <= reached
 }
 
-// Whether it is above the next, and wasn't accepted.
-fn is_early(history: &[Pair], number: u32, reached: u32) -> bool
+// Whether it is above the number, and was accepted.
+fn is_again(history: &[Pair], number: u32, reached: u32) -> bool
     requires { IsNumber history.now reached }
     ensures { IsTrue result ↔ (IsOpen history.now number reached
-        × (reached + 1 < number) × (accepted_of history.now number ≡ false)) }
+        × (reached < number) × (accepted_of history.now number ≡ true)) }
+{
+    is_open(history, number, reached) && reached < number && is_accepted(history, u64::from(number))
+}
+
+// Whether it is above the window, and wasn't accepted.
+fn is_too_early(history: &[Pair], number: u32, reached: u32) -> bool
+    requires { IsNumber history.now reached }
+    ensures { IsTrue result ↔ (IsOpen history.now number reached
+        × (reached + 64 < number) × (accepted_of history.now number ≡ false)) }
 {
     is_open(history, number, reached)
-        && u64::from(reached) + 1 < u64::from(number)
+        && u64::from(reached) + WINDOW < u64::from(number)
         && !is_accepted(history, u64::from(number))
+}
+
+// Whether it is within the window, and wasn't accepted.
+fn is_wanted(history: &[Pair], number: u32, reached: u32) -> bool
+    requires { IsNumber history.now reached }
+    ensures { IsTrue result ↔ IsWanted history.now number reached }
+{
+    let is_within = reached < number && u64::from(number) <= u64::from(reached) + WINDOW;
+    is_open(history, number, reached) && is_within && !is_accepted(history, u64::from(number))
+}
+
+// Whether it is wanted, and a number before it is missing.
+fn is_early(history: &[Pair], number: u32, reached: u32) -> bool
+    requires { IsNumber history.now reached }
+    ensures { IsTrue result ↔ (IsWanted history.now number reached × (reached + 1 < number)) }
+{
+    is_wanted(history, number, reached) && u64::from(reached) + 1 < u64::from(number)
+}
+
+// Whether it is wanted, and no number before it is missing.
+fn is_next(history: &[Pair], number: u32, reached: u32) -> bool
+    requires { IsNumber history.now reached }
+    ensures { IsTrue result ↔ (IsWanted history.now number reached × (number ≡ reached + 1)) }
+{
+    is_wanted(history, number, reached) && u64::from(number) == u64::from(reached) + 1
 }
 
 // Whether it is the next, and sequences `low` to `high` are those that can then be applied.
 fn is_applied(history: &[Pair], number: u32, reached: u32, low: u32, high: u32) -> bool
     requires { IsNumber history.now reached }
-    ensures { IsTrue result ↔ (IsNext history.now number reached
+    ensures { IsTrue result ↔ (IsWanted history.now number reached × (number ≡ reached + 1)
         × (low ≡ number) × Reaches (accepted_of history.now) number high) }
 {
     is_next(history, number, reached) && low == number && is_reach(history, number, high)
@@ -267,6 +298,27 @@ fn is_reach(history: &[Pair], from: u32, high: u32) -> bool
     high == reach(history, from)
 }
 
+// Whether it is wanted, and sequences `number` to `high` aren't all empty.
+fn is_wanted_with_changes(
+    alloc: Global,
+    history: &[Pair],
+    number: u32,
+    reached: u32,
+    high: u32,
+) -> Result<bool, WantOfMemory>
+    requires { IsNumber history.now reached }
+    ensures { IfOk result (λ b. IsTrue b ↔ (IsWanted history.now number reached
+        × (length (changes_up_to (published_of history.now) (number - 1))
+        < length (changes_up_to (published_of history.now) high)))) }
+{
+    if !is_wanted(history, number, reached) {
+        return Ok(false);
+    }
+    let before = joined_changes(alloc, history, number - 1)?;
+    let after = joined_changes(alloc, history, high)?;
+    Ok(before.len() < after.len())
+}
+
 // Whether it is the next, and sequences `number` to `high` aren't all empty.
 fn is_next_with_changes(
     alloc: Global,
@@ -276,16 +328,14 @@ fn is_next_with_changes(
     high: u32,
 ) -> Result<bool, WantOfMemory>
     requires { IsNumber history.now reached }
-    ensures { IfOk result (λ b. IsTrue b ↔ (IsNext history.now number reached
-        × (length (changes_up_to (published_of history.now) (number - 1))
+    ensures { IfOk result (λ b. IsTrue b ↔ (IsWanted history.now number reached
+        × (number ≡ reached + 1) × (length (changes_up_to (published_of history.now) (number - 1))
         < length (changes_up_to (published_of history.now) high)))) }
 {
     if !is_next(history, number, reached) {
         return Ok(false);
     }
-    let before = joined_changes(alloc, history, number - 1)?;
-    let after = joined_changes(alloc, history, high)?;
-    Ok(before.len() < after.len())
+    is_wanted_with_changes(alloc, history, number, reached, high)
 }
 
 fn is_show_allowed(alloc: Global, history: &[Pair], reply: &Reply) -> Result<bool, WantOfMemory>

@@ -56,7 +56,9 @@ pub fn read_reply(alloc: Global, text: &[u8]) -> Result<(Reply, &[u8]), Unread> 
         b"not published" => Reply::NotPublished,
         b"broken" => Reply::Broken,
         b"old" => Reply::Old,
+        b"again" => Reply::Again,
         b"too early" => Reply::TooEarly,
+        b"held" => Reply::Held,
         b"broke" => Reply::Broke,
         _ => return read_longer(alloc, text),
     };

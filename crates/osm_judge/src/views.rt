@@ -103,7 +103,7 @@ fn accepted_by(pair: &Pair) -> u32
     ensures only { (j : ℕ) → accepts pair.now.0 pair.now.1 j ≡ true → j ≡ result }
 {
     match pair {
-        (Event::Deliver { number, .. }, Reply::Applied { .. }) => *number,
+        (Event::Deliver { number, .. }, Reply::Held | Reply::Applied { .. }) => *number,
         _ => 0,
     }
 }

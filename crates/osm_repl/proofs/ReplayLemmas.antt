@@ -1,15 +1,14 @@
 -- What a script's bad line says of the script, and how far a script was answered.
-use Rattle.std.proofs.Common.{◌≡◌, ℕ, ◌<◌, length, arith, List, [], ◌∷◌, ◌++◌, refl, ap, sym, ◌∙◌, Option, Some, None, append-nil, subst}
+use Rattle.std.proofs.Common.{◌≡◌, ℕ, List, [], ◌∷◌, ◌++◌, refl, ap, sym, ◌∙◌, Option, Some, None, append-nil, subst}
 use Rattle.std.proofs.lemmas.List.Elements.{filter-append}
 use Rattle.std.specs.Io.KnownBytes.{Consumes, IsAtEnd}
 use Rattle.std.specs.List.{AllZip}
 use Rattle.std.specs.Prelude.{not, IfSome}
 use Rattle.osm_reading.specs.Lines.{lines_of, is_skipped}
-use Rattle.osm_reading.specs.Pieces.{pieces}
 use Rattle.osm_repl.specs.Replay.{IsWriteFault, ReplayFault, ReplayLeaves, RepliesTo}
 use Rattle.osm_repl.specs.Replies.{reply_text}
-use Rattle.osm_repl.specs.Steps.Replaying.{IsAnswered}
-use Rattle.osm_repl.specs.Script.{IsEventLine, ScriptOf, ScriptRefused, IsBadLine, SaysSome, said_of}
+use Rattle.osm_repl.specs.Steps.Replaying.{IsAnswered, AnswerRefused}
+use Rattle.osm_repl.specs.Script.{IsEventLine, ScriptOf, IsBadLine, said_of}
 use Rattle.std.proofs.lemmas.List.{flat_map_more}
 use Rattle.osm_world.specs.Correct.{IsRun}
 use Rattle.osm_world.specs.Step.{Step}
@@ -41,15 +40,9 @@ all_read (Some xs) (Some ys) bytes P c e p =
     let all : xs ≡ bytes = c ∙ (ap (λ (zs : List ℕ). bytes ++ zs) e ∙ append-nil bytes) in
     subst P (sym all) p
 
--- a text with a line that says something isn't empty
-said_above : (script : List ℕ) → SaysSome script → 0 < length script
-unfolding pieces
-said_above [] h = absurd (let none : length (said_of (lines_of [])) ≡ 0 = refl in omega arith)
-said_above (b ∷ bs) h = omega arith
-
 -- what a fault says of the bytes that were read is what it says of all
-pub script_fault : (old new : Option (List ℕ)) (script : List ℕ) (fault : RunFault) → Consumes old new script → IsAtEnd new → ScriptRefused script fault → ReplayFault old new fault
-script_fault old new script WantOfMemory c e h = all_read old new script (λ s. 0 < length s) c e (said_above script h)
+pub script_fault : (old new : Option (List ℕ)) (script : List ℕ) (fault : RunFault) → Consumes old new script → IsAtEnd new → AnswerRefused script fault → ReplayFault old new fault
+script_fault old new script WantOfMemory c e h = tt
 script_fault old new script (BadScript line) c e h = all_read old new script (λ s. IsBadLine s line × ((events : List Event) → ScriptOf s events → ⊥)) c e (h, bad_line_none script line h)
 script_fault old new script fault c e h = absurd h
 

@@ -28,9 +28,10 @@ abbrev pub Replays : Option (List ℕ) → Option (List ℕ) → Option (List �
 Replays input old new = IfSome input (λ script.
     (length script ≤ max_file) × ((text : List ℕ) × RepliesTo script text × Appends old new text))
 
--- what a fault of a replay says of the reader's bytes, before and after
+-- what a fault of a replay says of the reader's bytes, before and after; memory may be refused for
+-- any of them, since a new world makes room for what it may hold
 abbrev pub ReplayFault : Option (List ℕ) → Option (List ℕ) → RunFault → Type 0
-ReplayFault input rest WantOfMemory = IfSome input (λ script. 0 < length script)
+ReplayFault input rest WantOfMemory = Unit {0}
 ReplayFault input rest (ReadFault file) = file ≡ Input
 ReplayFault input rest (WriteFault file) = file ≡ Output
 ReplayFault input rest (TooLarge file) =

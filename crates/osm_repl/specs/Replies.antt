@@ -10,8 +10,9 @@ use Rattle.osm_world.specs.declared.event.Reply.{Reply}
 use Rattle.osm_world.specs.declared.event.Reply.TheVariants.{Edited, BatchFull, WantOfMemory}
 use Rattle.osm_world.specs.declared.event.Reply.TheVariants.{Closed, SequenceFull}
 use Rattle.osm_world.specs.declared.event.Reply.TheVariants.{TimeBack, TooLarge}
-use Rattle.osm_world.specs.declared.event.Reply.TheVariants.{NotPublished, Broken, Old, TooEarly}
-use Rattle.osm_world.specs.declared.event.Reply.TheVariants.{Applied, Broke, Shown}
+use Rattle.osm_world.specs.declared.event.Reply.TheVariants.{NotPublished, Broken, Old, Again}
+use Rattle.osm_world.specs.declared.event.Reply.TheVariants.{TooEarly, Held, Applied, Broke}
+use Rattle.osm_world.specs.declared.event.Reply.TheVariants.{Shown}
 
 -- `NAME N` and LF
 abbrev pub numbered_line : List ℕ → ℕ → List ℕ
@@ -68,7 +69,9 @@ reply_text TooLarge = codes "too large\n"
 reply_text NotPublished = codes "not published\n"
 reply_text Broken = codes "broken\n"
 reply_text Old = codes "old\n"
+reply_text Again = codes "again\n"
 reply_text TooEarly = codes "too early\n"
+reply_text Held = codes "held\n"
 reply_text (Applied low high) =
     codes "applied " ++ decimal low ++ codes ".." ++ decimal high ++ 10 ∷ []
 reply_text Broke = codes "broke\n"

@@ -5,8 +5,8 @@ ghost use Rattle.std.specs.Io.KnownBytes.{Appends, Consumes, IsAtEnd};
 ghost use Rattle.osm_model.specs.Limits.{max_file};
 ghost use Rattle.osm_repl.specs.Replay.{IsWriteFault, ReplayFault, ReplayLeaves, Replays};
 ghost use Rattle.osm_repl.specs.Replay.{RepliesTo};
-ghost use Rattle.osm_repl.specs.Script.{ScriptRefused};
-ghost use Rattle.osm_repl.specs.Steps.Replaying.{ReadingFault, WritingFault, most_reads};
+ghost use Rattle.osm_repl.specs.Steps.Replaying.{AnswerRefused, ReadingFault, WritingFault};
+ghost use Rattle.osm_repl.specs.Steps.Replaying.{most_reads};
 ghost use Rattle.osm_repl.specs.declared.fault.RunFault.{RunFault};
 
 use crate::asks::Asks;
@@ -80,9 +80,9 @@ fn read_script<R: Read>(alloc: Global, reader: &mut R, asks: &mut Asks) -> Resul
     Err(RunFault::TooLarge(FileName::Input))
 }
 
-// A world that takes the events of a script, and the text of its replies so far. Each event is taken
-// as soon as its line is read, and each reply is dropped once its lines are written: the events and
-// the views of a script are many times its size.
+// A world that takes the events of a script, and the text of its replies so far. Each event is
+// taken as soon as its line is read, and each reply is dropped once its lines are written: the
+// events and the views of a script are many times its size.
 #[derive(Drop)]
 struct Answering {
     world: World,
@@ -105,11 +105,14 @@ impl EventSink for Answering {
 fn reply_text_of(alloc: Global, script: &[u8]) -> Result<Vec<u8>, RunFault>
     requires { length script.now ≤ max_file }
     ensures text { IfOk result (λ text. RepliesTo script.now text.items) }
-    ensures fault { IfErr result (ScriptRefused script.now) }
+    ensures fault { IfErr result (AnswerRefused script.now) }
 {
     laws_of_runs();
+    let Ok(world) = World::new(alloc) else {
+        return Err(RunFault::WantOfMemory);
+    };
     let mut answering = Answering {
-        world: World::new(alloc).unwrap(),
+        world,
         text: Vec::new(alloc),
     };
     send_events(alloc, script, &mut answering)?;

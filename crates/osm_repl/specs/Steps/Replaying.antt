@@ -1,5 +1,5 @@
 -- What the parts of a replay do: reading the script, answering an event, writing the text.
-use Rattle.std.specs.Prelude.{◌≡◌, ℕ, ◌<◌, List, length, Option, take, IfSome}
+use Rattle.std.specs.Prelude.{◌≡◌, ℕ, ◌<◌, List, length, Option, take}
 use Rattle.std.specs.Io.KnownBytes.{Consumes, Appends}
 use Rattle.osm_model.specs.Limits.{max_file}
 use Rattle.osm_world.specs.Correct.{IsRun}
@@ -7,10 +7,11 @@ use Rattle.osm_world.specs.World.{WorldValue}
 use Rattle.osm_world.specs.declared.event.Event.{Event}
 use Rattle.osm_world.specs.declared.event.Reply.{Reply}
 use Rattle.osm_repl.specs.Replies.{replies_text}
+use Rattle.osm_repl.specs.Script.{IsBadLine}
 use Rattle.osm_repl.specs.declared.fault.FileName.TheVariants.{Input, Output}
 use Rattle.osm_repl.specs.declared.fault.RunFault.{RunFault}
 use Rattle.osm_repl.specs.declared.fault.RunFault.TheVariants.{WantOfMemory, ReadFault, WriteFault}
-use Rattle.osm_repl.specs.declared.fault.RunFault.TheVariants.{TooLarge}
+use Rattle.osm_repl.specs.declared.fault.RunFault.TheVariants.{TooLarge, BadScript}
 
 -- how often a reader is asked at most: for each byte of the largest script, for a byte too much,
 -- and once more
@@ -20,7 +21,7 @@ most_reads = 67108866
 -- why a reader's bytes aren't a script's: more than 64 MiB were read, or reading failed, or memory
 -- was refused
 abbrev pub ReadingFault : Option (List ℕ) → Option (List ℕ) → RunFault → Type 0
-ReadingFault old new WantOfMemory = IfSome old (λ bytes. 0 < length bytes)
+ReadingFault old new WantOfMemory = Unit {0}
 ReadingFault old new (ReadFault file) = file ≡ Input
 ReadingFault old new (TooLarge file) =
     (file ≡ Input) × ((bytes : List ℕ) × Consumes old new bytes × (max_file < length bytes))
@@ -31,6 +32,12 @@ pub record IsAnswered (events : List Event) (world : WorldValue) (text : List �
   pub replies : List Reply
   pub is_run : IsRun events replies world
   pub text_is : text ≡ replies_text replies
+
+-- a script isn't answered: memory was refused, or a line is no event
+abbrev pub AnswerRefused : List ℕ → RunFault → Type 0
+AnswerRefused script WantOfMemory = Unit {0}
+AnswerRefused script (BadScript line) = IsBadLine script line
+AnswerRefused script fault = ⊥
 
 -- writing failed, and a prefix of the text was written
 abbrev pub WritingFault : Option (List ℕ) → Option (List ℕ) → List ℕ → RunFault → Type 0
