@@ -1,0 +1,2 @@
+pub mod Save
+pub mod Steps
