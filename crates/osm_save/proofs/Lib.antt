@@ -3,3 +3,7 @@ pub mod ItemLemmas
 pub mod CountLemmas
 pub mod ObjectLemmas
 pub mod TextLemmas
+pub mod LineLemmas
+pub mod ListLemmas
+pub mod MirrorLemmas
+pub mod SaveLemmas

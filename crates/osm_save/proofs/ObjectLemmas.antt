@@ -1,10 +1,10 @@
 -- A line of an object.
-use Rattle.std.proofs.Common.{◌≡◌, ℕ, List, refl, ap, sym, ◌∙◌, Bool, true, false, ◌&&◌, Option, Some, None, subst}
+use Rattle.std.proofs.Common.{◌≡◌, ℕ, List, refl, ap, sym, Bool, true, ◌&&◌, Option, Some, None, subst}
 use Rattle.std.specs.Prelude.{is_some, if◌then◌else◌}
 use Rattle.std.specs.Str.{bytes_eq}
 use Rattle.std.proofs.lemmas.Option.{same_Some}
 use Rattle.std.proofs.lemmas.Slice.Eq.{bytes_eq-Decides}
-use Rattle.osm_model.specs.Change.{ChangeValue, IsChange}
+use Rattle.osm_model.specs.Change.{ChangeValue}
 use Rattle.osm_model.specs.Content.{standing_as, standing_of}
 use Rattle.osm_model.specs.KeyOrder.{key_cmp}
 use Rattle.osm_model.specs.declared.change.What.{What}

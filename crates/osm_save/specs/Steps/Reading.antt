@@ -1,5 +1,5 @@
 -- How a save text is read, line by line. The lemmas that tie it to the text are in proofs/.
-use Rattle.std.specs.Prelude.{◌≡◌, ℕ, zero, suc, ◌*◌, ◌^◌, ◌==◌, ◌&&◌, nat_lt, nat_le, Bool, true}
+use Rattle.std.specs.Prelude.{ℕ, zero, suc, ◌*◌, ◌^◌, ◌==◌, ◌&&◌, nat_lt, nat_le, Bool, true}
 use Rattle.std.specs.Prelude.{List, [], ◌∷◌, length, take, drop, codes, decimal}
 use Rattle.std.specs.Prelude.{Option, Some, None, is_some, if◌then◌else◌}
 use Rattle.std.specs.Ordering.{is_lt, nat_cmp}
@@ -14,7 +14,7 @@ use Rattle.osm_mirror.specs.Mirror.{Counted}
 use Rattle.osm_opl.specs.Steps.Reading.{digits_at, line_at, time_at}
 use Rattle.osm_opl.specs.Written.{line_text}
 use Rattle.osm_reading.specs.Pieces.{cut_at}
-use Rattle.osm_reading.specs.Steps.Answers.{and_then, when}
+use Rattle.osm_reading.specs.Steps.Answers.{and_then}
 use Rattle.osm_save.specs.declared.save.Saved.{Saved}
 
 -- the number that has just this text, of at most 15 digits

@@ -1,11 +1,11 @@
-use Rattle.std.proofs.Common.{◌≡◌, ◌<◌, ◌∷◌, ◌++◌, [], Some, None, sym, ◌∙◌, map, arith}
+use Rattle.std.proofs.Common.{◌≡◌, Some, None, sym, ◌∙◌, map}
 use Rattle.std.proofs.lemmas.List.{map-append}
 use Rattle.osm_model.specs.Change.{ChangeValue}
 use Rattle.osm_model.specs.KeyOrder.{key_cmp}
 use Rattle.osm_mirror.proofs.EntryLemmas.{keys_total}
 use Rattle.osm_save.specs.Steps.Reading.{items_at, object_at}
 use Rattle.osm_reading.specs.Pieces.{cut_at}
-use Rattle.osm_save.proofs.ItemLemmas.{IsBelow, below_begun, below_more, items_begun, items_cut, items_more, items_wrong, stops}
+use Rattle.osm_save.proofs.ItemLemmas.{below_begun, below_more, items_begun, items_cut, items_more, items_wrong, stops}
 use Rattle.osm_save.proofs.ObjectLemmas.{TakesObject, object_takes}
 use Rattle.osm_save.proofs.objects.read_object_lines.Goals as goal
 

@@ -1,4 +1,4 @@
-use Rattle.std.proofs.Common.{◌≡◌, ◌++◌, ◌∷◌, [], ap, sym, ◌∙◌, map, rules}
+use Rattle.std.proofs.Common.{◌≡◌, ◌++◌, ◌∷◌, [], ap, ◌∙◌, map}
 use Rattle.std.proofs.lemmas.List.{map-append}
 use Rattle.osm_opl.specs.Written.{line_text}
 use Rattle.osm_save.specs.Save.{ended}
