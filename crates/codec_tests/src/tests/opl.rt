@@ -1,5 +1,6 @@
 //! Tests of OPL files and lines: outside vectors, limits, causes, a file past its limits.
 
+use super::shown::is_shown;
 use osm_model::batch::Batch;
 use osm_model::change::Change;
 use osm_model::form::{ChangeForm, FormError, Why, there_and_back};
@@ -23,6 +24,14 @@ const GREATEST: &[u8] = b"w4611686018427387903 v4294967295 dV c4294967295 \
       t2106-02-07T06:28:15Z i4294967295 u T Nn-4611686018427387903";
 
 const DELETION: &[u8] = b"n1 v3 dD c7 t2024-01-01T00:00:00Z i5 uann T x y";
+
+// Whether the line is read, and its change then written as the other line, after what is there.
+fn is_rewritten(alloc: Global, line: &[u8], other: &[u8]) -> Result<bool, Fail> {
+    let mut out = vec![in alloc; b'#']?;
+    write_line(&read_line(alloc, line)?, &mut out)?;
+    let (mark, written) = out.split_at(1);
+    Ok(mark == b"#".as_slice() && written == other)
+}
 
 #[test]
 fn lines_are_written_as_they_are_read(rt: HostRuntime) -> Result<(), Fail> {
@@ -62,14 +71,15 @@ fn lines_are_written_as_they_are_read(rt: HostRuntime) -> Result<(), Fail> {
             b"w1 v1 dD c7 t2024-01-01T00:00:00Z i5 u T N",
         ),
     ];
-    for (line, want) in cases {
-        let mut out = vec![in alloc; b'#']?;
-        write_line(&read_line(alloc, line)?, &mut out)?;
-        let (mark, written) = out.split_at(1);
-        assert_eq!(rt; mark, b"#".as_slice());
-        assert_eq!(rt; written, want);
+    for (line, other) in cases {
+        assert!(rt; is_rewritten(alloc, line, other)?, "{other:?}");
     }
     Ok(())
+}
+
+// Why that line isn't read.
+fn refusal(alloc: Global, line: &[u8]) -> Option<LineError> {
+    read_line(alloc, line).err()
 }
 
 #[test]
@@ -214,7 +224,8 @@ fn a_refused_line_is_refused_for_its_cause(rt: HostRuntime) {
         ),
     ];
     for (line, why) in cases {
-        assert_eq!(rt; read_line(rt.alloc(), line), Err(LineError::Fault(why)));
+        let refused = refusal(rt.alloc(), line);
+        assert_eq!(rt; refused, Some(LineError::Fault(why)), "{line:?}");
     }
 }
 
@@ -226,36 +237,42 @@ fn line_of_user(alloc: Global, user: &[u8]) -> Result<Vec<u8>, Fail> {
     Ok(line)
 }
 
+// Whether the line of a user spelled so is read.
+fn is_user(alloc: Global, user: &[u8]) -> Result<bool, Fail> {
+    let line = line_of_user(alloc, user)?;
+    Ok(read_line(alloc, line.as_slice()).is_ok())
+}
+
+// Whether a user spelled so is written in the other spelling.
+fn is_user_rewritten(alloc: Global, user: &[u8], other: &[u8]) -> Result<bool, Fail> {
+    let line = line_of_user(alloc, user)?;
+    let want = line_of_user(alloc, other)?;
+    is_rewritten(alloc, line.as_slice(), want.as_slice())
+}
+
 #[test]
 fn of_ascii_nine_characters_cannot_be_bare(rt: HostRuntime) -> Result<(), Fail> {
-    let alloc = rt.alloc();
     for code in 0u32..128 {
-        let line = line_of_user(alloc, &[code as u8])?;
-        let is_refused = b"\0\t\n\r %,=@".contains(&(code as u8));
-        assert_eq!(rt;
-            read_line(alloc, line.as_slice()).is_err(),
-            is_refused,
-            "{code}"
-        );
+        let is_bare = !b"\0\t\n\r %,=@".contains(&(code as u8));
+        assert!(rt; is_user(rt.alloc(), &[code as u8])? == is_bare, "{code}");
     }
     Ok(())
 }
 
+// Whether that character, escaped, is written bare exactly if it is printable and no special one.
+fn is_bare_if_printable(alloc: Global, code: u32) -> Result<bool, Fail> {
+    let escape = format!(in alloc; "%{code:02x}%")?;
+    if 0x21 <= code && code <= 0x7e && !b"%,=@".contains(&(code as u8)) {
+        is_user_rewritten(alloc, escape.as_bytes(), &[code as u8])
+    } else {
+        is_user_rewritten(alloc, escape.as_bytes(), escape.as_bytes())
+    }
+}
+
 #[test]
 fn printable_ascii_is_written_bare_except_four_characters(rt: HostRuntime) -> Result<(), Fail> {
-    let alloc = rt.alloc();
     for code in 1u32..128 {
-        let escape = format!(in alloc; "%{code:02x}%")?;
-        let is_bare = 0x21 <= code && code <= 0x7e && !b"%,=@".contains(&(code as u8));
-        let want = if is_bare {
-            line_of_user(alloc, &[code as u8])?
-        } else {
-            line_of_user(alloc, escape.as_bytes())?
-        };
-        let line = line_of_user(alloc, escape.as_bytes())?;
-        let mut out = Vec::new(alloc);
-        write_line(&read_line(alloc, line.as_slice())?, &mut out)?;
-        assert_eq!(rt; out.as_slice(), want.as_slice(), "{code}");
+        assert!(rt; is_bare_if_printable(rt.alloc(), code)?, "{code}");
     }
     Ok(())
 }
@@ -280,10 +297,7 @@ fn an_escape_has_one_to_eight_digits_and_is_written_in_the_fewest(
         (b"%0010ffff%", b"%10ffff%"),
     ];
     for (spelled, written) in cases {
-        let line = line_of_user(alloc, spelled)?;
-        let mut out = Vec::new(alloc);
-        write_line(&read_line(alloc, line.as_slice())?, &mut out)?;
-        assert_eq!(rt; out.as_slice(), line_of_user(alloc, written)?.as_slice());
+        assert!(rt; is_user_rewritten(alloc, spelled, written)?, "{written:?}");
     }
     Ok(())
 }
@@ -333,16 +347,20 @@ fn a_sequence_is_one_to_nine_digits(rt: HostRuntime) {
     }
 }
 
-// A line with so many times an item in a list.
-fn line_of_list(alloc: Global, start: &[u8], item: &[u8], count: u32) -> Result<Vec<u8>, Fail> {
+// Why a line with so many times an item in a list isn't read.
+fn refusal_of_list(
+    alloc: Global,
+    (start, item, end): (&[u8], &[u8], &[u8]),
+    count: u32,
+) -> Result<Option<LineError>, Fail> {
     let mut line = Vec::from_slice(alloc, start)?;
-    for number in 0..count {
-        if number > 0 {
-            line.push(b',')?;
-        }
+    line.extend_from_slice(item)?;
+    for _ in 1..count {
+        line.push(b',')?;
         line.extend_from_slice(item)?;
     }
-    Ok(line)
+    line.extend_from_slice(end)?;
+    Ok(refusal(alloc, line.as_slice()))
 }
 
 #[test]
@@ -368,28 +386,50 @@ fn a_list_past_its_limit_is_refused(rt: HostRuntime) -> Result<(), Fail> {
             32_000,
         ),
     ];
+    let too_many = Some(LineError::Fault(Why::TooMany));
     for (start, item, end, most) in cases {
-        let mut full = line_of_list(alloc, start, item, most)?;
-        full.extend_from_slice(end)?;
-        assert!(rt; read_line(alloc, full.as_slice()).is_ok());
-        let mut over = line_of_list(alloc, start, item, most + 1)?;
-        over.extend_from_slice(end)?;
-        assert_eq!(rt;
-            read_line(alloc, over.as_slice()),
-            Err(LineError::Fault(Why::TooMany))
-        );
+        let line = (start, item, end);
+        assert_eq!(rt; refusal_of_list(alloc, line, most)?, None);
+        assert_eq!(rt; refusal_of_list(alloc, line, most + 1)?, too_many);
     }
     Ok(())
+}
+
+// Why that file isn't read.
+fn file_refusal(alloc: Global, bytes: &[u8]) -> Option<FormError> {
+    Opl::read(alloc, bytes).err()
+}
+
+// How many changes are read from that file.
+fn count_of(alloc: Global, bytes: &[u8]) -> Result<usize, Fail> {
+    Ok(Opl::read(alloc, bytes)?.changes().len())
 }
 
 #[test]
 fn a_file_of_64_mib_is_read_and_no_longer_one(rt: HostRuntime) -> Result<(), Fail> {
     let alloc = rt.alloc();
     let mut file = vec![in alloc; b'#'; 67_108_864]?;
-    assert!(rt; Opl::read(alloc, file.as_slice())?.changes().is_empty());
+    assert_eq!(rt; count_of(alloc, file.as_slice())?, 0);
     file.push(b'#')?;
-    assert_eq!(rt; Opl::read(alloc, file.as_slice()), Err(FormError::TooLarge));
+    assert_eq!(rt;
+        file_refusal(alloc, file.as_slice()),
+        Some(FormError::TooLarge)
+    );
     Ok(())
+}
+
+// Whether that file of so many changes is read, and written again as the other.
+fn is_file_rewritten(alloc: Global, file: &[u8], count: usize, other: &[u8]) -> Result<bool, Fail> {
+    let batch = Opl::read(alloc, file)?;
+    let written = Opl::write(alloc, &batch)?;
+    Ok(batch.changes().len() == count && written.as_slice() == other)
+}
+
+// Whether what is read from that file is written and read back alike.
+fn comes_back(alloc: Global, file: &[u8]) -> Result<bool, Fail> {
+    let batch = Opl::read(alloc, file)?;
+    let back = there_and_back::<Opl>(alloc, &batch)?;
+    Ok(back == batch)
 }
 
 #[test]
@@ -397,13 +437,9 @@ fn a_file_is_written_as_it_is_read(rt: HostRuntime) -> Result<(), Fail> {
     let alloc = rt.alloc();
     let file = b"n1 v1 dV c7 t2024-01-01T00:00:00Z i5 uann T x1 y2\n\
         n1 v3 dD c7 t2024-01-01T00:00:00Z i5 uann T x y\n";
-    let batch = Opl::read(alloc, file)?;
-    assert_eq!(rt; batch.changes().len(), 2);
-    let written = Opl::write(alloc, &batch)?;
-    assert_eq!(rt; written.as_slice(), file.as_slice());
-    assert_eq!(rt; there_and_back::<Opl>(alloc, &batch)?, batch);
-    let empty = Opl::read(alloc, b"# nothing\r\n\r\n")?;
-    assert_eq!(rt; Opl::write(alloc, &empty)?.len(), 0);
+    assert!(rt; is_file_rewritten(alloc, file, 2, file)?);
+    assert!(rt; comes_back(alloc, file)?);
+    assert!(rt; is_file_rewritten(alloc, b"# nothing\r\n\r\n", 0, b"")?);
     Ok(())
 }
 
@@ -429,10 +465,8 @@ fn a_fault_is_named_by_its_line(rt: HostRuntime) {
         (b"\r\r\n", 1, Why::BadKind),
     ];
     for (bytes, place, why) in cases {
-        assert_eq!(rt;
-            Opl::read(rt.alloc(), bytes),
-            Err(FormError::Fault { place, why })
-        );
+        let refused = file_refusal(rt.alloc(), bytes);
+        assert_eq!(rt; refused, Some(FormError::Fault { place, why }));
     }
 }
 
@@ -447,53 +481,75 @@ fn a_cut_line_is_refused(rt: HostRuntime) {
     }
 }
 
+// Those bytes and a line feed so many times.
+fn lines(alloc: Global, line: &[u8], count: u32) -> Result<Vec<u8>, Fail> {
+    let mut file = Vec::new(alloc);
+    for _ in 0..count {
+        file.extend_from_slice(line)?;
+        file.push(b'\n')?;
+    }
+    Ok(file)
+}
+
 #[test]
 fn a_change_too_many_is_refused_at_its_line(rt: HostRuntime) -> Result<(), Fail> {
     let alloc = rt.alloc();
-    let mut file = Vec::new(alloc);
-    for _ in 0..100_000 {
-        file.extend_from_slice(DELETION)?;
-        file.push(b'\n')?;
-    }
-    assert_eq!(rt; Opl::read(alloc, file.as_slice())?.changes().len(), 100_000);
+    let mut file = lines(alloc, DELETION, 100_000)?;
+    assert_eq!(rt; count_of(alloc, file.as_slice())?, 100_000);
     file.extend_from_slice(b"#\n")?;
     file.extend_from_slice(DELETION)?;
-    let fault = FormError::Fault {
-        place: 100_002,
-        why: Why::TooMany,
-    };
-    assert_eq!(rt; Opl::read(alloc, file.as_slice()), Err(fault));
+    let place = 100_002;
+    let why = Why::TooMany;
+    let refused = file_refusal(alloc, file.as_slice());
+    assert_eq!(rt; refused, Some(FormError::Fault { place, why }));
     Ok(())
 }
 
-fn long_node(alloc: Global, id: i64) -> Result<Change, Fail> {
+// As many tags as an object can have, with texts as long as they can be.
+fn long_tags(alloc: Global) -> Result<Tags, Fail> {
     let letters = vec![in alloc; b'a'; 1_020]?;
     let word = std::str::from_utf8(letters.as_slice())?;
     let mut tags = Tags::new(alloc);
     for _ in 0..5_000 {
-        tags.push(Tag {
-            key: Text::new(alloc, word)?,
-            value: Text::new(alloc, word)?,
-        })?;
+        let key = Text::new(alloc, word)?;
+        let value = Text::new(alloc, word)?;
+        tags.push(Tag { key, value })?;
     }
-    let meta = Meta::new(1, 1, 1, 1, Text::new(alloc, "")?)?;
-    Ok(Change::node(id, meta, 0, 0, tags)?)
+    Ok(tags)
+}
+
+// So many nodes of some 10 MB in OPL.
+fn long_nodes(alloc: Global, count: i64) -> Result<Batch, Fail> {
+    let mut batch = Batch::new(alloc);
+    for id in 0..count {
+        let meta = Meta::new(1, 1, 1, 1, Text::new(alloc, "")?)?;
+        batch.push(Change::node(id, meta, 0, 0, long_tags(alloc)?)?)?;
+    }
+    Ok(batch)
 }
 
 #[test]
 fn a_file_past_64_mib_is_too_large(rt: HostRuntime) -> Result<(), Fail> {
     let alloc = rt.alloc();
-    let mut batch = Batch::new(alloc);
-    for id in 0..7 {
-        assert!(rt; batch.push(long_node(alloc, id)?).is_ok());
-    }
-    assert_eq!(rt; Opl::write(alloc, &batch), Err(FormError::TooLarge));
+    let batch = long_nodes(alloc, 7)?;
+    assert_eq!(rt; Opl::write(alloc, &batch).err(), Some(FormError::TooLarge));
     Ok(())
+}
+
+// Why a user of so many letters and that end isn't read.
+fn refusal_of_letters(
+    alloc: Global,
+    letters: usize,
+    end: &[u8],
+) -> Result<Option<LineError>, Fail> {
+    let mut user = vec![in alloc; b'a'; letters]?;
+    user.extend_from_slice(end)?;
+    let line = line_of_user(alloc, user.as_slice())?;
+    Ok(refusal(alloc, line.as_slice()))
 }
 
 #[test]
 fn a_text_of_more_than_1020_bytes_is_refused(rt: HostRuntime) -> Result<(), Fail> {
-    let alloc = rt.alloc();
     let cases: [(usize, &[u8], bool); 5] = [
         (1_020, b"", true),
         (1_021, b"", false),
@@ -502,14 +558,9 @@ fn a_text_of_more_than_1020_bytes_is_refused(rt: HostRuntime) -> Result<(), Fail
         (1_019, b"%61%", true),
     ];
     for (letters, end, is_read) in cases {
-        let mut user = vec![in alloc; b'a'; letters]?;
-        user.extend_from_slice(end)?;
-        let line = line_of_user(alloc, user.as_slice())?;
-        let read = read_line(alloc, line.as_slice());
-        assert_eq!(rt; read.is_ok(), is_read);
-        if !is_read {
-            assert_eq!(rt; read, Err(LineError::Fault(Why::BadText)));
-        }
+        let refused = refusal_of_letters(rt.alloc(), letters, end)?;
+        let fault = LineError::Fault(Why::BadText);
+        assert_eq!(rt; refused, if is_read { None } else { Some(fault) });
     }
     Ok(())
 }
@@ -517,13 +568,7 @@ fn a_text_of_more_than_1020_bytes_is_refused(rt: HostRuntime) -> Result<(), Fail
 #[test]
 fn the_texts_of_refusals_are_their_names(rt: HostRuntime) -> Result<(), Fail> {
     let alloc = rt.alloc();
-    assert_eq!(rt;
-        LineError::WantOfMemory.to_string(alloc)?.as_str(),
-        "WantOfMemory"
-    );
-    assert_eq!(rt;
-        LineError::Fault(Why::BadText).to_string(alloc)?.as_str(),
-        "Fault"
-    );
+    assert!(rt; is_shown(alloc, &LineError::WantOfMemory, "WantOfMemory")?);
+    assert!(rt; is_shown(alloc, &LineError::Fault(Why::BadText), "Fault")?);
     Ok(())
 }

@@ -1,43 +1,42 @@
 //! The places of faults, and their causes.
 
-use super::makes::{BEGINNING, META, batch_of, fault, file, joined, node, refusal};
-use osm_model::form::{ChangeForm, Why};
-use osm_o5c::o5c::O5c;
+use super::makes::{META, NODE, fault, file, is_refused, refusal};
+use osm_model::form::Why;
+use std::alloc::Global;
 use std::test::Fail;
 
-#[test]
-fn a_cut_file_is_refused_at_its_last_whole_dataset(rt: HostRuntime) -> Result<(), Fail> {
-    let alloc = rt.alloc();
-    let bytes = O5c::write(alloc, &batch_of(alloc, node(alloc)?)?)?;
-    assert_eq!(rt; bytes.len(), 33);
-    for cut in 0..33usize {
+// Whether the file of node 1, cut to each shorter length, is refused at its last whole dataset.
+fn is_refused_wherever_cut(alloc: Global) -> Result<bool, Fail> {
+    let bytes = file(alloc, &[NODE])?;
+    let mut is_refused = bytes.len() == 33;
+    for cut in 0..bytes.len() {
         let wanted = match cut {
             0..=6 => fault(0, Why::BadHeader),
             7 | 32 => fault(cut as u64, Why::Truncated),
             _ => fault(7, Why::Truncated),
         };
-        assert_eq!(rt;
-            refusal(alloc, &bytes.as_slice()[..cut]),
-            wanted,
-            "cut to {cut}"
-        );
+        is_refused = is_refused && refusal(alloc, &bytes.as_slice()[..cut]) == wanted;
     }
-    let longer = joined(alloc, &[bytes.as_slice(), &[0]])?;
-    assert_eq!(rt;
-        refusal(alloc, longer.as_slice()),
-        fault(33, Why::TrailingBytes)
-    );
-    let twice = joined(alloc, &[&BEGINNING, b"\xfe\xfe"])?;
-    assert_eq!(rt;
-        refusal(alloc, twice.as_slice()),
-        fault(8, Why::TrailingBytes)
-    );
+    Ok(is_refused)
+}
+
+#[test]
+fn a_cut_file_is_refused_at_its_last_whole_dataset(rt: HostRuntime) -> Result<(), Fail> {
+    assert!(rt; is_refused_wherever_cut(rt.alloc())?);
     Ok(())
 }
 
 #[test]
-fn a_file_begins_with_the_reset_and_the_header(rt: HostRuntime) -> Result<(), Fail> {
+fn bytes_after_the_end_are_refused(rt: HostRuntime) -> Result<(), Fail> {
     let alloc = rt.alloc();
+    assert!(rt; is_refused(alloc, &[NODE, b"\xfe\x00"], 33, Why::TrailingBytes)?);
+    let twice = b"\xff\xe0\x04o5c2\xfe\xfe";
+    assert_eq!(rt; refusal(alloc, twice), fault(8, Why::TrailingBytes));
+    Ok(())
+}
+
+#[test]
+fn a_file_begins_with_the_reset_and_the_header(rt: HostRuntime) {
     let rows: [&[u8]; 4] = [
         b"",
         b"\xff\xe0\x04o5m2\xfe",
@@ -45,18 +44,13 @@ fn a_file_begins_with_the_reset_and_the_header(rt: HostRuntime) -> Result<(), Fa
         b"\xff\xe0\x84\x00o5c2\xfe",
     ];
     for bytes in rows {
-        assert_eq!(rt;
-            refusal(alloc, bytes),
-            fault(0, Why::BadHeader),
-            "{bytes:?}"
-        );
+        let refused = refusal(rt.alloc(), bytes);
+        assert_eq!(rt; refused, fault(0, Why::BadHeader), "{bytes:?}");
     }
-    Ok(())
 }
 
 #[test]
 fn a_wrong_object_is_refused_at_its_place(rt: HostRuntime) -> Result<(), Fail> {
-    let alloc = rt.alloc();
     let rows: [(&[u8], Why); 21] = [
         // version, time, changeset and user
         (
@@ -97,15 +91,18 @@ fn a_wrong_object_is_refused_at_its_place(rt: HostRuntime) -> Result<(), Fail> {
         ),
         // ids
         (
-            b"\x10\x17\x80\x80\x80\x80\x80\x80\x80\x80\x80\x01\x01\x80\x82\x90\xd9\x0c\x0e\x00\x05\x00a\x00\x00\x00",
+            b"\x10\x17\x80\x80\x80\x80\x80\x80\x80\x80\x80\x01\
+              \x01\x80\x82\x90\xd9\x0c\x0e\x00\x05\x00a\x00\x00\x00",
             Why::OutOfRange,
         ),
         (
-            b"\x10\x18\x81\x80\x80\x80\x80\x80\x80\x80\x80\x80\x00\x01\x80\x82\x90\xd9\x0c\x0e\x00\x05\x00a\x00\x00",
+            b"\x10\x18\x81\x80\x80\x80\x80\x80\x80\x80\x80\x80\x00\
+              \x01\x80\x82\x90\xd9\x0c\x0e\x00\x05\x00a\x00\x00",
             Why::BadNumber,
         ),
         (
-            b"\x10\x18\xff\xff\xff\xff\xff\xff\xff\xff\xff\x02\x01\x80\x82\x90\xd9\x0c\x0e\x00\x05\x00a\x00\x00\x00",
+            b"\x10\x18\xff\xff\xff\xff\xff\xff\xff\xff\xff\x02\
+              \x01\x80\x82\x90\xd9\x0c\x0e\x00\x05\x00a\x00\x00\x00",
             Why::BadNumber,
         ),
         // lengths
@@ -145,41 +142,23 @@ fn a_wrong_object_is_refused_at_its_place(rt: HostRuntime) -> Result<(), Fail> {
         ),
     ];
     for (dataset, why) in rows {
-        let bytes = file(alloc, &[&[0x80, 0x00], dataset])?;
-        assert_eq!(rt;
-            refusal(alloc, bytes.as_slice()),
-            fault(9, why),
-            "{dataset:?}"
-        );
+        let is_so = is_refused(rt.alloc(), &[b"\x80\x00", dataset], 9, why)?;
+        assert!(rt; is_so, "{dataset:?}");
     }
     Ok(())
 }
 
+// The greatest length that fits 64 bits.
+const HUGE: &[u8] = b"\xff\xff\xff\xff\xff\xff\xff\xff\xff\x01";
+
 #[test]
 fn a_claimed_length_makes_no_growth(rt: HostRuntime) -> Result<(), Fail> {
     let alloc = rt.alloc();
-    let huge: &[u8] = b"\xff\xff\xff\xff\xff\xff\xff\xff\xff\x01";
-    let skipped = joined(alloc, &[&BEGINNING, b"\xdb", huge, b"\x00\xfe"])?;
-    assert_eq!(rt;
-        refusal(alloc, skipped.as_slice()),
-        fault(7, Why::Truncated)
-    );
-    let object = joined(alloc, &[&BEGINNING, b"\x10", huge, b"\x00\xfe"])?;
-    assert_eq!(rt; refusal(alloc, object.as_slice()), fault(7, Why::Truncated));
-    for kind in [b"\x11\x19\x14", b"\x12\x19\x14"] {
-        let bytes = file(alloc, &[kind, &META, huge])?;
-        assert_eq!(rt; refusal(alloc, bytes.as_slice()), fault(7, Why::BadLength));
-    }
-    let long_number = joined(
-        alloc,
-        &[
-            &BEGINNING,
-            b"\xdb\x80\x80\x80\x80\x80\x80\x80\x80\x80\x80\x00\xfe",
-        ],
-    )?;
-    assert_eq!(rt;
-        refusal(alloc, long_number.as_slice()),
-        fault(7, Why::BadNumber)
-    );
+    assert!(rt; is_refused(alloc, &[b"\xdb", HUGE, b"\x00"], 7, Why::Truncated)?);
+    assert!(rt; is_refused(alloc, &[b"\x10", HUGE, b"\x00"], 7, Why::Truncated)?);
+    assert!(rt; is_refused(alloc, &[b"\x11\x19\x14", META, HUGE], 7, Why::BadLength)?);
+    assert!(rt; is_refused(alloc, &[b"\x12\x19\x14", META, HUGE], 7, Why::BadLength)?);
+    let long_number = b"\xdb\x80\x80\x80\x80\x80\x80\x80\x80\x80\x80\x00";
+    assert!(rt; is_refused(alloc, &[long_number], 7, Why::BadNumber)?);
     Ok(())
 }
