@@ -1,0 +1,6 @@
+//! Files behind a trait, and the runs over them that need no follower.
+#![tactic(auto)]
+
+pub mod fuse;
+pub mod memory_store;
+pub mod store;
