@@ -1,6 +1,10 @@
 //! Files behind a trait, and the runs over them that need no follower.
 #![tactic(auto)]
 
+pub mod fault;
+pub mod form;
 pub mod fuse;
 pub mod memory_store;
+pub mod names;
+pub mod report;
 pub mod store;
