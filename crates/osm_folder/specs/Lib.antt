@@ -1,7 +1,9 @@
+pub mod Conversion
 pub mod Faults
 pub mod Files
 pub mod Forms
 pub mod Names
 pub mod Reports
+pub mod Runs
 pub mod Steps
 pub mod Stores

@@ -1,3 +1,4 @@
 -- Steps of proofs that clauses of private functions cite: no clause of a public function cites
 -- them.
 pub mod Copying
+pub mod Reading

@@ -1,7 +1,8 @@
 //! The form of a change file by its name, and conversion.
 
-ghost use Rattle.std.specs.Prelude.{◌≡◌, ◌≤◌, Some, IfSome, IfOk, OnOk, IfErr, length};
+ghost use Rattle.std.specs.Prelude.{◌≡◌, ◌≤◌, Some, IfSome, IfNone, IfOk, OnOk, IfErr, length};
 ghost use Rattle.osm_model.specs.Limits.{max_file};
+ghost use Rattle.osm_folder.specs.Conversion.{HasNoForm};
 ghost use Rattle.osm_folder.specs.Forms.{ConvertRefused, Converts, HasEnd, ReadFails, WriteFails};
 ghost use Rattle.osm_folder.specs.Forms.{spells_of, text_of};
 ghost use Rattle.osm_folder.specs.declared.form.Form.{Form};
@@ -26,6 +27,7 @@ pub enum Form {
 pub fn form_of(name: &str) -> Option<Form>
     ensures found { IfSome result (HasEnd name.now) }
     ensures only { (form : Form) → HasEnd name.now form → result ≡ Some form }
+    ensures none { IfNone result (HasNoForm name.now) }
 {
     let bytes = name.as_bytes();
     if bytes.ends_with(b".opl") {
