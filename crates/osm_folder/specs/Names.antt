@@ -9,4 +9,4 @@ top_name_of dir = dir ++ codes "/state.txt"
 
 -- DIR/AAA/BBB/CCC and the suffix
 unfoldable pub file_name_of : List ℕ → ℕ → Suffix → List ℕ
-file_name_of dir n suffix = dir ++ codes "/" ++ path_text n suffix
+file_name_of dir n suffix = dir ++ (codes "/" ++ path_text n suffix)

@@ -2,3 +2,4 @@
 -- them.
 pub mod Copying
 pub mod Reading
+pub mod Publishing

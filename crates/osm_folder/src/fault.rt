@@ -4,6 +4,7 @@ ghost use Rattle.std.specs.Prelude.{◌≡◌};
 ghost use Rattle.osm_folder.specs.Faults.{status_of};
 
 use osm_model::form::Why;
+use osm_model::memory::WantOfMemory;
 use osm_state::paths::Suffix;
 use osm_state::state_text::StateError;
 use std::fmt;
@@ -113,5 +114,16 @@ impl RunFault {
             RunFault::UnknownForm | RunFault::BadNow => 2,
             _ => 3,
         }
+    }
+}
+
+impl From<WantOfMemory> for RunFault {
+    ghost use Rattle.std.specs.Prelude.{◌≡◌};
+    ghost use Rattle.osm_folder.specs.declared.fault.RunFault.TheVariants.{WantOfMemory as refused};
+
+    ghost from_gives = { λ _ fault. fault ≡ refused };
+
+    fn from(_refused: WantOfMemory) -> RunFault {
+        RunFault::WantOfMemory
     }
 }

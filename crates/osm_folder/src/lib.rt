@@ -8,5 +8,6 @@ pub mod form;
 pub mod fuse;
 pub mod memory_store;
 pub mod names;
+pub mod publish;
 pub mod report;
 pub mod store;
