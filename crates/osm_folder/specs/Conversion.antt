@@ -20,16 +20,19 @@ pub record HaveForms (input output : List ℕ) : Type 0 where
   pub input_form : HasEnd input from
   pub output_form : HasEnd output to
 
--- the output is what the input spells, written in the form of the output's name; no other name
--- changes
-pub record IsConverted (input output : List ℕ) (old new : Files) : Type 0 where
+-- the input spells a batch, and the output can be made: its text in the form of the output's name
+pub record IsConvertible (input output : List ℕ) (files : Files) : Type 0 where
   pub forms : HaveForms input output
   pub bytes : List ℕ
   pub text : List ℕ
-  pub there : old input ≡ Some bytes
+  pub there : files input ≡ Some bytes
   pub small : length bytes ≤ max_file
   pub converts : Converts forms.from forms.to bytes text
-  pub put : Puts old output (Some text) new
+
+-- the output holds that text, and no other name changes
+pub record IsConverted (input output : List ℕ) (old new : Files) : Type 0 where
+  pub made : IsConvertible input output old
+  pub put : Puts old output (Some made.text) new
 
 -- the input is there and spells no batch, and goes wrong at that place
 pub record IsBadInput (input output : List ℕ) (files : Files) (place : ℕ) : Type 0 where
@@ -45,15 +48,6 @@ pub record IsBigOutput (input output : List ℕ) (files : Files) : Type 0 where
   pub there : files input ≡ Some bytes
   pub small : length bytes ≤ max_file
   pub big : IsOutputTooLarge forms.from forms.to bytes
-
--- the output could be made, so that only its write is left
-pub record IsConvertible (input output : List ℕ) (files : Files) : Type 0 where
-  pub forms : HaveForms input output
-  pub bytes : List ℕ
-  pub text : List ℕ
-  pub there : files input ≡ Some bytes
-  pub small : length bytes ≤ max_file
-  pub converts : Converts forms.from forms.to bytes text
 
 -- why a conversion stops: the names before all else, then the input, then the output
 abbrev pub ConvertStops : Type 0 → List ℕ → List ℕ → Files → RunFault → Type 0

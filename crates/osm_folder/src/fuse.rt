@@ -2,7 +2,9 @@
 
 ghost use Rattle.std.specs.Prelude.{◌≡◌, ◌+◌, ◌<◌, ◌≤◌, ℕ, true, Some, IsTrue, OnOk, OnErr};
 ghost use Rattle.std.specs.Prelude.{IfErr, IfOk, Option};
-ghost use Rattle.osm_folder.specs.Files.{HasFailed};
+ghost use Rattle.osm_folder.specs.Files.{HasFailed, IsOverOnly, IsWithin, Puts, ReadStops, Spends};
+ghost use Rattle.osm_folder.specs.Files.{Tells, WriteStops};
+ghost use Rattle.osm_folder.specs.Stores.{FuseStops};
 
 use crate::store::{Store, StoreError};
 use std::alloc::Global;
@@ -71,12 +73,45 @@ impl<S: Store> Store for Fuse<S> {
 
     ghost told = { λ f. S.Store.told f.inner };
 
-    fn read(&mut self, alloc: Global, name: &str, limit: u64) -> Result<Option<Vec<u8>>, StoreError> {
+    fn read(&mut self, alloc: Global, name: &str, limit: u64) -> Result<Option<Vec<u8>>, StoreError>
+        ensures read { IfOk result (λ o. IsTrue (S.Store.tells self.old.inner)
+            → Tells o (S.Store.told self.old.inner name.now)) }
+        ensures within { IfOk result (IsWithin limit) }
+        ensures stops { IfErr result (ReadStops limit
+            (S.Store.failures self.old.inner + self.old.refused)
+            (S.Store.failures self.new.inner + self.new.refused)) }
+        ensures blown { IfErr result (FuseStops self.old.calls
+            (S.Store.failures self.old.inner) (S.Store.failures self.new.inner)) }
+        ensures over { IfErr result (λ e. IsTrue (S.Store.tells self.old.inner)
+            → IsOverOnly limit (S.Store.told self.old.inner name.now) e) }
+        ensures unchanged { S.Store.told self.new.inner ≡ S.Store.told self.old.inner }
+        ensures tells { S.Store.tells self.new.inner ≡ S.Store.tells self.old.inner }
+        ensures left { OnOk result (Spends 1 (Some self.old.calls) (Some self.new.calls)) }
+        ensures left_after { Spends 0 (Some self.old.calls) (Some self.new.calls) }
+        ensures kept { S.Store.failures self.old.inner + self.old.refused
+            ≤ S.Store.failures self.new.inner + self.new.refused }
+    {
         spend(&mut self.calls, &mut self.refused)?;
         self.inner.read(alloc, name, limit)
     }
 
-    fn write(&mut self, alloc: Global, name: &str, bytes: &[u8]) -> Result<(), StoreError> {
+    fn write(&mut self, alloc: Global, name: &str, bytes: &[u8]) -> Result<(), StoreError>
+        ensures written { OnOk result (IsTrue (S.Store.tells self.old.inner)
+            → Puts (S.Store.told self.old.inner) name.now (Some bytes.now)
+              (S.Store.told self.new.inner)) }
+        ensures stops { IfErr result (WriteStops
+            (S.Store.failures self.old.inner + self.old.refused)
+            (S.Store.failures self.new.inner + self.new.refused)) }
+        ensures blown { IfErr result (FuseStops self.old.calls
+            (S.Store.failures self.old.inner) (S.Store.failures self.new.inner)) }
+        ensures refused { OnErr result
+            (S.Store.told self.new.inner ≡ S.Store.told self.old.inner) }
+        ensures tells { S.Store.tells self.new.inner ≡ S.Store.tells self.old.inner }
+        ensures left { OnOk result (Spends 1 (Some self.old.calls) (Some self.new.calls)) }
+        ensures left_after { Spends 0 (Some self.old.calls) (Some self.new.calls) }
+        ensures kept { S.Store.failures self.old.inner + self.old.refused
+            ≤ S.Store.failures self.new.inner + self.new.refused }
+    {
         spend(&mut self.calls, &mut self.refused)?;
         self.inner.write(alloc, name, bytes)
     }

@@ -1,4 +1,4 @@
-use Rattle.std.proofs.Common.{subst, sym, ap, ◌∙◌, ◌≡◌, Some}
+use Rattle.std.proofs.Common.{subst, sym, Some}
 use Rattle.std.specs.Prelude.{IsTrue}
 use Rattle.osm_folder.specs.Files.{Puts}
 use Rattle.osm_folder.specs.Forms.{Converts, ConvertRefused}
@@ -29,14 +29,16 @@ returns-in_err-write_file-clause-stops g c =
 
 pub returns-clause-converted : goal.returns-clause-converted
 returns-clause-converted g c = λ yes.
-    let told : IsTrue (g.S.Store.tells c.read_present.new.store) = subst IsTrue (sym c.read_present.ensures.tells) yes in
+    let then : IsTrue (g.S.Store.tells c.read_present.new.store) = subst IsTrue (sym c.read_present.ensures.tells) yes in
     record {
-      forms = record { from = c.in-Some.from; to = c.in-Some-form_of.to; input_form = c.in-Some.ensures.found; output_form = c.in-Some-form_of.ensures.found };
-      bytes = c.in_ok-bytes.bytes.items;
-      text = c.in_ok-text.text.items;
-      there = c.in_ok-bytes.ensures.read yes;
-      small = c.in_ok-bytes.ensures.within;
-      converts = subst (λ xs. Converts c.in-Some.from c.in-Some-form_of.to xs c.in_ok-text.text.items) c.as_slice.ensures.value c.in_ok-text.ensures.converted;
+      made = record {
+        forms = record { from = c.in-Some.from; to = c.in-Some-form_of.to; input_form = c.in-Some.ensures.found; output_form = c.in-Some-form_of.ensures.found };
+        bytes = c.in_ok-bytes.bytes.items;
+        text = c.in_ok-text.text.items;
+        there = c.in_ok-bytes.ensures.read yes;
+        small = c.in_ok-bytes.ensures.within;
+        converts = subst (λ xs. Converts c.in-Some.from c.in-Some-form_of.to xs c.in_ok-text.text.items) c.as_slice.ensures.value c.in_ok-text.ensures.converted;
+      };
       put = subst (λ f. Puts f c.args.output.now (Some c.in_ok-text.text.items) (g.S.Store.told c.write_file.new.store)) c.read_present.ensures.unchanged
-        (subst (λ xs. Puts (g.S.Store.told c.read_present.new.store) c.args.output.now (Some xs) (g.S.Store.told c.write_file.new.store)) c.as_slice-2.ensures.value (c.in_ok-write_file.ensures.written told));
+        (subst (λ xs. Puts (g.S.Store.told c.read_present.new.store) c.args.output.now (Some xs) (g.S.Store.told c.write_file.new.store)) c.as_slice-2.ensures.value (c.in_ok-write_file.ensures.written then));
     }
