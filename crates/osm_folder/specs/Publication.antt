@@ -4,7 +4,8 @@ use Rattle.std.specs.Prelude.{◌≡◌, ℕ, zero, suc, ◌+◌, ◌<◌, ◌�
 use Rattle.std.specs.Prelude.{length, take, Option, Some, None}
 use Rattle.osm_model.specs.Limits.{max_file, max_sequence}
 use Rattle.osm_model.specs.Time.{TimeText}
-use Rattle.osm_follow.specs.Published.{PublishedTexts, PublishedValue, written_of}
+use Rattle.osm_follow.specs.Published.{PublishedTexts, PublishedValue, sequence_at}
+use Rattle.osm_follow.specs.Published.{written_of}
 use Rattle.osm_follow.specs.Publisher.{CanClose, IsSmall, IsTooLarge, PublisherValue, closing}
 use Rattle.osm_opl.specs.File.{SpellsOpl}
 use Rattle.osm_state.specs.StateFault.{FaultOf}
@@ -163,3 +164,23 @@ pub record IsAdded (published : List PublishedValue) (dir changes now : List ℕ
   pub changes_are : IsThere (old changes) (λ bytes. SpellsOpl bytes added.changes)
   pub time_is : TimeText now added.time
   pub report_is : report ≡ publish_report_of (length published + 1)
+
+-- the time is before that of the last sequence
+pub record IsBeforeLast (published : List PublishedValue) (now : List ℕ) : Type 0 where
+  pub time : ℕ
+  pub now_is : TimeText now time
+  pub some : 0 < length published
+  pub before : time < (sequence_at published (length published)).time
+
+-- what a folder of published sequences refuses: never its own state
+abbrev pub FolderRefuses : List PublishedValue → List ℕ → RunFault → Type 0
+FolderRefuses published now BadNow = (time : ℕ) → TimeText now time → ⊥
+FolderRefuses published now WantOfMemory = Unit {0}
+FolderRefuses published now (ReadFault file) = Unit {0}
+FolderRefuses published now (WriteFault file) = Unit {0}
+FolderRefuses published now (Absent file) = file ≡ Changes
+FolderRefuses published now (TooLarge file) = file ≡ Changes
+FolderRefuses published now (BadChange file place why) = file ≡ Changes
+FolderRefuses published now SequenceFull = length published ≡ max_sequence
+FolderRefuses published now TimeBack = IsBeforeLast published now
+FolderRefuses published now fault = ⊥

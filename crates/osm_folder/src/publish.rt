@@ -9,8 +9,8 @@ ghost use Rattle.osm_opl.specs.File.{SpellsOpl};
 ghost use Rattle.osm_folder.specs.Files.{Spends};
 ghost use Rattle.osm_folder.specs.Folder.{IsApart, IsFolderOf, IsStateFile, max_state};
 ghost use Rattle.osm_folder.specs.Names.{top_name_of};
-ghost use Rattle.osm_folder.specs.Publication.{GoesOnFrom, IsAdded, IsPublished, NotReady};
-ghost use Rattle.osm_folder.specs.Publication.{PublishStops, Writes};
+ghost use Rattle.osm_folder.specs.Publication.{FolderRefuses, GoesOnFrom, IsAdded};
+ghost use Rattle.osm_folder.specs.Publication.{IsPublished, NotReady, PublishStops, Writes};
 ghost use Rattle.osm_folder.specs.Reports.{publish_report_of};
 ghost use Rattle.osm_folder.specs.Runs.{Blames};
 ghost use Rattle.osm_folder.specs.Steps.Publishing.{AreNames, ChangesStop, CloseStops};
@@ -30,6 +30,7 @@ use osm_model::limits::MAX_FILE;
 use osm_model::memory::WantOfMemory;
 use osm_model::time::time_read;
 use osm_opl::opl::Opl;
+use osm_state::laws::laws_of_state;
 use osm_state::paths::Suffix;
 use osm_state::state_text::state_read;
 use std::alloc::Global;
@@ -72,6 +73,9 @@ pub fn publish_run<S: Store>(
     ensures report { IfOk result (λ report. (n : ℕ) × (report ≡ publish_report_of n)) }
     ensures stops { IfErr result (PublishStops (IsTrue (S.tells store.old))
         dir.now changes.now now.now (S.told store.old) (S.told store.new)) }
+    ensures refuses { IfErr result (λ fault. IsTrue (S.tells store.old)
+        → (published : List PublishedValue) → IsFolderOf published (S.told store.old) dir.now
+        → FolderRefuses published now.now fault) }
     ensures device { IfErr result (Blames (S.failures store.old) (S.failures store.new)) }
     ensures keeps { OnErr result (IsTrue (S.tells store.old)
         → (published : List PublishedValue) → IsFolderOf published (S.told store.old) dir.now
@@ -83,6 +87,7 @@ pub fn publish_run<S: Store>(
     ensures left_after { Spends 0 (S.left store.old) (S.left store.new) }
     ensures kept { S.failures store.old ≤ S.failures store.new }
 {
+    laws_of_state();
     let made = prepare(alloc, store, dir, changes, now)?;
     write_files(alloc, store, &made.names, &made.published)?;
     Ok(made.report)

@@ -3,7 +3,8 @@ use Rattle.std.specs.Prelude.{IsTrue}
 use Rattle.osm_follow.specs.Published.{PublishedValue}
 use Rattle.osm_folder.specs.Folder.{IsFolderOf}
 use Rattle.osm_folder.proofs.PublishLemmas.{cut_keeps, made_writes, ready_adds, ready_others}
-use Rattle.osm_folder.proofs.ResultLemmas.{on_err}
+use Rattle.osm_folder.proofs.RefusalLemmas.{cut_off, not_ready}
+use Rattle.osm_folder.proofs.ResultLemmas.{on_err, same_err}
 use Rattle.osm_folder.proofs.publish.publish_run.Goals as goal
 
 pub returns-in_err-write_files-clause-keeps : goal.returns-in_err-write_files-clause-keeps
@@ -41,3 +42,13 @@ returns-clause-others g c = λ yes name apart.
     ready_others c.args.dir.now c.args.changes.now c.args.now.now name (g.S.Store.told c.args.store.now) (g.S.Store.told c.write_files.new.store)
       m.publisher m.time 4 (m.ready yes) apart
       (made_writes _ c.args.dir.now c.args.changes.now c.args.now.now _ (g.S.Store.told c.prepare.new.store) _ c.in_ok-made.made m 4 c.prepare.ensures.unchanged (c.in_ok-write_files.ensures.written then))
+
+pub returns-in_err-made-clause-refuses : goal.returns-in_err-made-clause-refuses
+returns-in_err-made-clause-refuses g c =
+    same_err _ c.from_residual.result _ c.from_residual.ensures.1
+    (λ yes p is. not_ready c.laws_of_state.ensures.no_fault_beside_state _ p c.args.dir.now c.args.changes.now c.args.now.now _ _ yes is c.in_err-made.ensures.stops)
+
+pub returns-in_err-write_files-clause-refuses : goal.returns-in_err-write_files-clause-refuses
+returns-in_err-write_files-clause-refuses g c =
+    same_err _ c.from_residual-in_err-write_files.result _ c.from_residual-in_err-write_files.ensures.1
+    (λ yes p is. (let cut = c.in_err-write_files.ensures.cut in cut_off p c.args.now.now _ cut.count _ cut.cut))
