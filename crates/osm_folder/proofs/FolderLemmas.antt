@@ -128,7 +128,7 @@ pub writes_others : (dir name : List ℕ) (x : PublishedTexts) (count : ℕ) (f 
 writes_others dir name x count f g fits apart w =
     others name (take count (writes_of dir x)) f g
     (take_apart name count (writes_of dir x)
-      (apart.each x.number O5c fits, (apart.each x.number Opl fits, (apart.each x.number State fits, (apart.top, tt))))) w
+    (apart.each x.number O5c fits, (apart.each x.number Opl fits, (apart.each x.number State fits, (apart.top, tt))))) w
 
 -- what a ready publisher writes
 pub ready_written : (dir changes now : List ℕ) (files : Files) (a : PublisherValue) (time : ℕ) → IsReady dir changes now files a time → IsWritten (closing a time)

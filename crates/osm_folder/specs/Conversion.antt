@@ -5,8 +5,10 @@ use Rattle.osm_folder.specs.Files.{Files, IsOver, Puts}
 use Rattle.osm_folder.specs.Forms.{Converts, HasEnd, IsFaulty, IsOutputTooLarge}
 use Rattle.osm_folder.specs.declared.fault.FileName.TheVariants.{Input, Output}
 use Rattle.osm_folder.specs.declared.fault.RunFault.{RunFault}
-use Rattle.osm_folder.specs.declared.fault.RunFault.TheVariants.{WantOfMemory, ReadFault, WriteFault}
-use Rattle.osm_folder.specs.declared.fault.RunFault.TheVariants.{TooLarge, Absent, BadChange, UnknownForm}
+use Rattle.osm_folder.specs.declared.fault.RunFault.TheVariants.{WantOfMemory, ReadFault}
+use Rattle.osm_folder.specs.declared.fault.RunFault.TheVariants.{WriteFault}
+use Rattle.osm_folder.specs.declared.fault.RunFault.TheVariants.{TooLarge, Absent, BadChange}
+use Rattle.osm_folder.specs.declared.fault.RunFault.TheVariants.{UnknownForm}
 use Rattle.osm_folder.specs.declared.form.Form.{Form}
 
 -- the name ends in neither form
@@ -58,7 +60,7 @@ ConvertStops known input output files (Absent file) =
 ConvertStops known input output files (TooLarge file) =
     HaveForms input output
     × (((file ≡ Input) × (known → IsOver max_file (files input)))
-      ⊎ ((file ≡ Output) × (known → IsBigOutput input output files)))
+    ⊎ ((file ≡ Output) × (known → IsBigOutput input output files)))
 ConvertStops known input output files (BadChange file place why) =
     (file ≡ Input) × HaveForms input output × (known → IsBadInput input output files place)
 ConvertStops known input output files (WriteFault file) =

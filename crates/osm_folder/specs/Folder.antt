@@ -41,12 +41,12 @@ abbrev pub IsTop : List PublishedValue → Option (List ℕ) → Type 0
 IsTop published told =
     ((length published ≡ 0) × (told ≡ None))
     ⊎ ((0 < length published)
-      × IsThere told (IsFile State (sequence_at published (length published))))
+    × IsThere told (IsFile State (sequence_at published (length published))))
 
 -- the folder of the published sequences: the top state is theirs, and each file of each number is
 -- that sequence's, unless it is absent
-pub record IsFolderOf (published : List PublishedValue) (files : Files) (dir : List ℕ) : Type 0
-  where
+pub record IsFolderOf (published : List PublishedValue) (files : Files)
+    (dir : List ℕ) : Type 0 where
   pub sequences : AreSequences published
   pub top : IsTop published (files (top_name_of dir))
   pub each : (k : ℕ) (suffix : Suffix) → 0 < k → k ≤ length published

@@ -19,9 +19,11 @@ use Rattle.osm_folder.specs.Reports.{ReportValue, publish_report_of}
 use Rattle.osm_folder.specs.declared.fault.FileName.{FileName}
 use Rattle.osm_folder.specs.declared.fault.FileName.TheVariants.{Top, Sequence, Changes}
 use Rattle.osm_folder.specs.declared.fault.RunFault.{RunFault}
-use Rattle.osm_folder.specs.declared.fault.RunFault.TheVariants.{WantOfMemory, ReadFault, WriteFault}
-use Rattle.osm_folder.specs.declared.fault.RunFault.TheVariants.{TooLarge, Absent, BadState, BadChange}
-use Rattle.osm_folder.specs.declared.fault.RunFault.TheVariants.{TimeBack, SequenceFull, BadNow}
+use Rattle.osm_folder.specs.declared.fault.RunFault.TheVariants.{WantOfMemory, ReadFault}
+use Rattle.osm_folder.specs.declared.fault.RunFault.TheVariants.{WriteFault}
+use Rattle.osm_folder.specs.declared.fault.RunFault.TheVariants.{TooLarge, Absent, BadState}
+use Rattle.osm_folder.specs.declared.fault.RunFault.TheVariants.{BadChange, TimeBack, SequenceFull}
+use Rattle.osm_folder.specs.declared.fault.RunFault.TheVariants.{BadNow}
 use Rattle.osm_folder.specs.declared.form.Form.TheVariants as forms
 
 -- the number and the time after which a publisher goes on: those of the top state; if there is
@@ -68,8 +70,8 @@ Writes (w ∷ ws) old new =
     (between : Files) × Puts old w.0 (Some w.1) between × Writes ws between new
 
 -- a sequence more: the next number's files were written, and the newest state after them
-pub record IsPublished (dir changes now : List ℕ) (old new : Files) (report : ReportValue) : Type 0
-  where
+pub record IsPublished (dir changes now : List ℕ) (old new : Files)
+    (report : ReportValue) : Type 0 where
   pub publisher : PublisherValue
   pub time : ℕ
   pub ready : IsReady dir changes now old publisher time
@@ -121,6 +123,18 @@ pub record IsReadWith (dir changes now : List ℕ) (files : Files)
   pub read : IsRead dir changes now files publisher time
   pub is_so : holds publisher time
 
+-- no number is left
+abbrev pub IsFull : PublisherValue → ℕ → Type 0
+IsFull a time = a.number ≡ max_sequence
+
+-- a number is left, but the time is before that of the last sequence
+abbrev pub IsBack : PublisherValue → ℕ → Type 0
+IsBack a time = (a.number < max_sequence) × (time < a.time)
+
+-- the publisher can close but for the size of a file
+abbrev pub IsBig : PublisherValue → ℕ → Type 0
+IsBig a time = CanClose a time × IsTooLarge a.pending
+
 -- why nothing is written: the first of the words, the top state, the file of changes and the close
 abbrev pub NotReady : Type 0 → List ℕ → List ℕ → List ℕ → Files → RunFault → Type 0
 NotReady known dir changes now files BadNow = (time : ℕ) → TimeText now time → ⊥
@@ -133,18 +147,15 @@ NotReady known dir changes now files (Absent file) =
 NotReady known dir changes now files (TooLarge file) =
     HasTime now
     × (((file ≡ Top) × (known → IsOver max_state (files (top_name_of dir))))
-      ⊎ ((file ≡ Changes) × (known → HasTop dir files × IsOver max_file (files changes)))
-      ⊎ ((file ≡ Changes) × (known → IsReadWith dir changes now files
-          (λ a time. CanClose a time × IsTooLarge a.pending))))
+    ⊎ ((file ≡ Changes) × (known → HasTop dir files × IsOver max_file (files changes)))
+    ⊎ ((file ≡ Changes) × (known → IsReadWith dir changes now files IsBig)))
 NotReady known dir changes now files (BadChange file place why) =
     HasTime now × (file ≡ Changes)
     × (known → HasTop dir files × IsBadChanges (files changes) place)
 NotReady known dir changes now files SequenceFull =
-    HasTime now × (known → IsReadWith dir changes now files
-      (λ a time. a.number ≡ max_sequence))
+    HasTime now × (known → IsReadWith dir changes now files IsFull)
 NotReady known dir changes now files TimeBack =
-    HasTime now × (known → IsReadWith dir changes now files
-      (λ a time. (a.number < max_sequence) × (time < a.time)))
+    HasTime now × (known → IsReadWith dir changes now files IsBack)
 NotReady known dir changes now files WantOfMemory = HasTime now
 NotReady known dir changes now files fault = ⊥
 
@@ -154,7 +165,7 @@ abbrev pub PublishStops :
 PublishStops known dir changes now old new fault =
     (NotReady known dir changes now old fault × (new ≡ old))
     ⊎ (((number count : ℕ) × CutsOff number count fault)
-      × (known → IsCutOff dir changes now old new fault))
+    × (known → IsCutOff dir changes now old new fault))
 
 -- the folder has one sequence more: the batch that the file of changes spells, at the time of now
 pub record IsAdded (published : List PublishedValue) (dir changes now : List ℕ) (old new : Files)

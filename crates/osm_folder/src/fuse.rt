@@ -98,7 +98,7 @@ impl<S: Store> Store for Fuse<S> {
     fn write(&mut self, alloc: Global, name: &str, bytes: &[u8]) -> Result<(), StoreError>
         ensures written { OnOk result (IsTrue (S.Store.tells self.old.inner)
             → Puts (S.Store.told self.old.inner) name.now (Some bytes.now)
-              (S.Store.told self.new.inner)) }
+            (S.Store.told self.new.inner)) }
         ensures stops { IfErr result (WriteStops
             (S.Store.failures self.old.inner + self.old.refused)
             (S.Store.failures self.new.inner + self.new.refused)) }

@@ -125,7 +125,12 @@ impl Store for MemoryStore {
 
     ghost told = { files_of };
 
-    fn read(&mut self, alloc: Global, name: &str, limit: u64) -> Result<Option<Vec<u8>>, StoreError> {
+    fn read(
+        &mut self,
+        alloc: Global,
+        name: &str,
+        limit: u64,
+    ) -> Result<Option<Vec<u8>>, StoreError> {
         self.copy_of(alloc, name, limit)
     }
 

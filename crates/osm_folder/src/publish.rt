@@ -69,7 +69,8 @@ pub fn publish_run<S: Store>(
         → IsPublished dir.now changes.now now.now (S.told store.old) (S.told store.new) report) }
     ensures added { IfOk result (λ report. IsTrue (S.tells store.old)
         → (published : List PublishedValue) → IsFolderOf published (S.told store.old) dir.now
-        → IsAdded published dir.now changes.now now.now (S.told store.old) (S.told store.new) report) }
+        → IsAdded published dir.now changes.now now.now
+        (S.told store.old) (S.told store.new) report) }
     ensures report { IfOk result (λ report. (n : ℕ) × (report ≡ publish_report_of n)) }
     ensures stops { IfErr result (PublishStops (IsTrue (S.tells store.old))
         dir.now changes.now now.now (S.told store.old) (S.told store.new)) }
@@ -260,5 +261,6 @@ fn write_files<S: Store>(
     write_file(alloc, store, opl, names.opl.as_str(), published.opl())?;
     let state = FileName::Sequence(number, Suffix::State);
     write_file(alloc, store, state, names.state.as_str(), published.state())?;
-    write_file(alloc, store, FileName::Top, names.top.as_str(), published.state())
+    let top = names.top.as_str();
+    write_file(alloc, store, FileName::Top, top, published.state())
 }

@@ -42,7 +42,8 @@ pub trait Store {
 
     /// All bytes of a file, at most so many; None if there is no such file.
     fn read(&mut self, alloc: Global, name: &str, limit: u64) -> Result<Option<Vec<u8>>, StoreError>
-        ensures read { IfOk result (λ o. IsTrue (tells self.old) → Tells o (told self.old name.now)) }
+        ensures read { IfOk result
+            (λ o. IsTrue (tells self.old) → Tells o (told self.old name.now)) }
         ensures within { IfOk result (λ o. IsWithin limit o) }
         ensures stops { IfErr result (ReadStops limit (failures self.old) (failures self.new)) }
         ensures over { IfErr result
@@ -55,8 +56,8 @@ pub trait Store {
 
     /// Makes the bytes the whole of a file, with the folders that it needs.
     fn write(&mut self, alloc: Global, name: &str, bytes: &[u8]) -> Result<(), StoreError>
-        ensures written { OnOk result
-            (IsTrue (tells self.old) → Puts (told self.old) name.now (Some bytes.now) (told self.new)) }
+        ensures written { OnOk result (IsTrue (tells self.old)
+            → Puts (told self.old) name.now (Some bytes.now) (told self.new)) }
         ensures stops { IfErr result (WriteStops (failures self.old) (failures self.new)) }
         ensures refused { OnErr result (told self.new ≡ told self.old) }
         ensures tells { tells self.new ≡ tells self.old }

@@ -3,8 +3,8 @@ use Rattle.std.specs.Prelude.{◌≡◌, ℕ, List, Option, None}
 use Rattle.osm_folder.specs.Files.{IsOver}
 use Rattle.osm_folder.specs.declared.fault.FileName.{FileName}
 use Rattle.osm_folder.specs.declared.fault.RunFault.{RunFault}
-use Rattle.osm_folder.specs.declared.fault.RunFault.TheVariants.{WantOfMemory, ReadFault, WriteFault}
-use Rattle.osm_folder.specs.declared.fault.RunFault.TheVariants.{TooLarge, Absent}
+use Rattle.osm_folder.specs.declared.fault.RunFault.TheVariants.{WantOfMemory, ReadFault}
+use Rattle.osm_folder.specs.declared.fault.RunFault.TheVariants.{WriteFault, TooLarge, Absent}
 
 -- why a file isn't read
 abbrev pub FileStops : Type 0 → FileName → ℕ → Option (List ℕ) → RunFault → Type 0

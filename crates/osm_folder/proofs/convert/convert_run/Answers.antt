@@ -10,22 +10,22 @@ pub returns-in_err-text-clause-stops : goal.returns-in_err-text-clause-stops
 returns-in_err-text-clause-stops g c =
     same_err _ c.from_residual-in_err-text.result _ c.from_residual-in_err-text.ensures.1
     (text_stops (IsTrue (g.S.Store.tells c.args.store.now)) c.args.input.now c.args.output.now c.in_ok-bytes.bytes.items (g.S.Store.told c.args.store.now)
-      c.in-Some.from c.in-Some-form_of.to c.in-Some.ensures.found c.in-Some-form_of.ensures.found c.in_ok-bytes.ensures.read c.in_ok-bytes.ensures.within _
-      (subst (λ xs. ConvertRefused c.in-Some.from c.in-Some-form_of.to xs c.in_err-text.field-0.0) c.as_slice.ensures.value c.in_err-text.ensures.refused))
+    c.in-Some.from c.in-Some-form_of.to c.in-Some.ensures.found c.in-Some-form_of.ensures.found c.in_ok-bytes.ensures.read c.in_ok-bytes.ensures.within _
+    (subst (λ xs. ConvertRefused c.in-Some.from c.in-Some-form_of.to xs c.in_err-text.field-0.0) c.as_slice.ensures.value c.in_err-text.ensures.refused))
 
 pub returns-in_err-write_file-clause-stops : goal.returns-in_err-write_file-clause-stops
 returns-in_err-write_file-clause-stops g c =
     same_err _ c.from_residual-in_err-write_file.result _ c.from_residual-in_err-write_file.ensures.1
     (put_stops (IsTrue (g.S.Store.tells c.args.store.now)) c.args.input.now c.args.output.now (g.S.Store.told c.args.store.now)
-      (record { from = c.in-Some.from; to = c.in-Some-form_of.to; input_form = c.in-Some.ensures.found; output_form = c.in-Some-form_of.ensures.found })
-      (λ yes. record {
-        forms = record { from = c.in-Some.from; to = c.in-Some-form_of.to; input_form = c.in-Some.ensures.found; output_form = c.in-Some-form_of.ensures.found };
-        bytes = c.in_ok-bytes.bytes.items;
-        text = c.in_ok-text.text.items;
-        there = c.in_ok-bytes.ensures.read yes;
-        small = c.in_ok-bytes.ensures.within;
-        converts = subst (λ xs. Converts c.in-Some.from c.in-Some-form_of.to xs c.in_ok-text.text.items) c.as_slice.ensures.value c.in_ok-text.ensures.converted;
-      }) _ c.in_err-write_file.ensures.stops)
+    (record { from = c.in-Some.from; to = c.in-Some-form_of.to; input_form = c.in-Some.ensures.found; output_form = c.in-Some-form_of.ensures.found })
+    (λ yes. record {
+      forms = record { from = c.in-Some.from; to = c.in-Some-form_of.to; input_form = c.in-Some.ensures.found; output_form = c.in-Some-form_of.ensures.found };
+      bytes = c.in_ok-bytes.bytes.items;
+      text = c.in_ok-text.text.items;
+      there = c.in_ok-bytes.ensures.read yes;
+      small = c.in_ok-bytes.ensures.within;
+      converts = subst (λ xs. Converts c.in-Some.from c.in-Some-form_of.to xs c.in_ok-text.text.items) c.as_slice.ensures.value c.in_ok-text.ensures.converted;
+    }) _ c.in_err-write_file.ensures.stops)
 
 pub returns-clause-converted : goal.returns-clause-converted
 returns-clause-converted g c = λ yes.
@@ -40,5 +40,5 @@ returns-clause-converted g c = λ yes.
         converts = subst (λ xs. Converts c.in-Some.from c.in-Some-form_of.to xs c.in_ok-text.text.items) c.as_slice.ensures.value c.in_ok-text.ensures.converted;
       };
       put = subst (λ f. Puts f c.args.output.now (Some c.in_ok-text.text.items) (g.S.Store.told c.write_file.new.store)) c.read_present.ensures.unchanged
-        (subst (λ xs. Puts (g.S.Store.told c.read_present.new.store) c.args.output.now (Some xs) (g.S.Store.told c.write_file.new.store)) c.as_slice-2.ensures.value (c.in_ok-write_file.ensures.written then));
+          (subst (λ xs. Puts (g.S.Store.told c.read_present.new.store) c.args.output.now (Some xs) (g.S.Store.told c.write_file.new.store)) c.as_slice-2.ensures.value (c.in_ok-write_file.ensures.written then));
     }

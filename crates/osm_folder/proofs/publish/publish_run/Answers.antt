@@ -14,8 +14,8 @@ returns-in_err-write_files-clause-keeps g c =
     let m = c.in_ok-made.ensures.made in
     let cut = c.in_err-write_files.ensures.cut in
     cut_keeps p c.args.dir.now c.args.changes.now c.args.now.now (g.S.Store.told c.args.store.now) (g.S.Store.told c.write_files.new.store)
-      m.publisher m.time cut.count (m.ready yes) cut.few
-      (made_writes _ c.args.dir.now c.args.changes.now c.args.now.now _ (g.S.Store.told c.prepare.new.store) _ c.in_ok-made.made m cut.count c.prepare.ensures.unchanged (cut.written then)) is))
+    m.publisher m.time cut.count (m.ready yes) cut.few
+    (made_writes _ c.args.dir.now c.args.changes.now c.args.now.now _ (g.S.Store.told c.prepare.new.store) _ c.in_ok-made.made m cut.count c.prepare.ensures.unchanged (cut.written then)) is))
 
 pub returns-in_err-write_files-clause-others : goal.returns-in_err-write_files-clause-others
 returns-in_err-write_files-clause-others g c = λ yes name apart.
@@ -23,25 +23,25 @@ returns-in_err-write_files-clause-others g c = λ yes name apart.
     let m = c.in_ok-made.ensures.made in
     let cut = c.in_err-write_files.ensures.cut in
     ready_others c.args.dir.now c.args.changes.now c.args.now.now name (g.S.Store.told c.args.store.now) (g.S.Store.told c.write_files.new.store)
-      m.publisher m.time cut.count (m.ready yes) apart
-      (made_writes _ c.args.dir.now c.args.changes.now c.args.now.now _ (g.S.Store.told c.prepare.new.store) _ c.in_ok-made.made m cut.count c.prepare.ensures.unchanged (cut.written then))
+    m.publisher m.time cut.count (m.ready yes) apart
+    (made_writes _ c.args.dir.now c.args.changes.now c.args.now.now _ (g.S.Store.told c.prepare.new.store) _ c.in_ok-made.made m cut.count c.prepare.ensures.unchanged (cut.written then))
 
 pub returns-clause-added : goal.returns-clause-added
 returns-clause-added g c = λ yes p is.
     let then : IsTrue (g.S.Store.tells c.prepare.new.store) = subst IsTrue (sym c.prepare.ensures.tells) yes in
     let m = c.in_ok-made.ensures.made in
     ready_adds p c.args.dir.now c.args.changes.now c.args.now.now (g.S.Store.told c.args.store.now) (g.S.Store.told c.write_files.new.store)
-      m.publisher m.time c.in_ok-made.made.report (m.ready yes)
-      (made_writes _ c.args.dir.now c.args.changes.now c.args.now.now _ (g.S.Store.told c.prepare.new.store) _ c.in_ok-made.made m 4 c.prepare.ensures.unchanged (c.in_ok-write_files.ensures.written then))
-      m.report_is is
+    m.publisher m.time c.in_ok-made.made.report (m.ready yes)
+    (made_writes _ c.args.dir.now c.args.changes.now c.args.now.now _ (g.S.Store.told c.prepare.new.store) _ c.in_ok-made.made m 4 c.prepare.ensures.unchanged (c.in_ok-write_files.ensures.written then))
+    m.report_is is
 
 pub returns-clause-others : goal.returns-clause-others
 returns-clause-others g c = λ yes name apart.
     let then : IsTrue (g.S.Store.tells c.prepare.new.store) = subst IsTrue (sym c.prepare.ensures.tells) yes in
     let m = c.in_ok-made.ensures.made in
     ready_others c.args.dir.now c.args.changes.now c.args.now.now name (g.S.Store.told c.args.store.now) (g.S.Store.told c.write_files.new.store)
-      m.publisher m.time 4 (m.ready yes) apart
-      (made_writes _ c.args.dir.now c.args.changes.now c.args.now.now _ (g.S.Store.told c.prepare.new.store) _ c.in_ok-made.made m 4 c.prepare.ensures.unchanged (c.in_ok-write_files.ensures.written then))
+    m.publisher m.time 4 (m.ready yes) apart
+    (made_writes _ c.args.dir.now c.args.changes.now c.args.now.now _ (g.S.Store.told c.prepare.new.store) _ c.in_ok-made.made m 4 c.prepare.ensures.unchanged (c.in_ok-write_files.ensures.written then))
 
 pub returns-in_err-made-clause-refuses : goal.returns-in_err-made-clause-refuses
 returns-in_err-made-clause-refuses g c =

@@ -13,9 +13,11 @@ returns-in_err-write_file-2-clause-cut g c =
       count = 1;
       few = omega arith;
       cut = cut_at _ _ 1 _ c.number-number.ensures c.in_err-write_file-2.ensures.stops;
-      written = λ yes. (g.S.Store.told c.write_file.new.store,
+      written = λ yes. (
+        g.S.Store.told c.write_file.new.store,
         renamed _ _ _ _ _ _ c.as_str.ensures.value c.o5c.ensures (c.in_ok-write_file.ensures.written yes),
-        c.in_err-write_file-2.ensures.refused);
+        c.in_err-write_file-2.ensures.refused,
+      );
     })
 
 pub returns-in_err-write_file-3-clause-cut : goal.returns-in_err-write_file-3-clause-cut
@@ -25,12 +27,15 @@ returns-in_err-write_file-3-clause-cut g c =
       few = omega arith;
       cut = cut_at _ _ 2 _ c.number-number.ensures c.in_err-write_file-3.ensures.stops;
       written = λ yes.
-        (let then : IsTrue (g.S.Store.tells c.write_file.new.store) = subst IsTrue (sym c.write_file.ensures.tells) yes in
-        (g.S.Store.told c.write_file.new.store,
-        renamed _ _ _ _ _ _ c.as_str.ensures.value c.o5c.ensures (c.in_ok-write_file.ensures.written yes),
-        (g.S.Store.told c.write_file-2.new.store,
-        renamed _ _ _ _ _ _ c.as_str-2.ensures.value c.opl.ensures (c.in_ok-write_file-2.ensures.written then),
-        c.in_err-write_file-3.ensures.refused)));
+          (let then : IsTrue (g.S.Store.tells c.write_file.new.store) = subst IsTrue (sym c.write_file.ensures.tells) yes in (
+            g.S.Store.told c.write_file.new.store,
+            renamed _ _ _ _ _ _ c.as_str.ensures.value c.o5c.ensures (c.in_ok-write_file.ensures.written yes),
+            (
+              g.S.Store.told c.write_file-2.new.store,
+              renamed _ _ _ _ _ _ c.as_str-2.ensures.value c.opl.ensures (c.in_ok-write_file-2.ensures.written then),
+              c.in_err-write_file-3.ensures.refused,
+            ),
+          ));
     })
 
 pub returns-clause-cut : goal.returns-clause-cut
@@ -41,13 +46,18 @@ returns-clause-cut g c =
       few = omega arith;
       cut = cut_at c.number-number.result _ 3 fault c.number-number.ensures stops;
       written = λ yes.
-        (let then : IsTrue (g.S.Store.tells c.write_file.new.store) = subst IsTrue (sym c.write_file.ensures.tells) yes in
-        let later : IsTrue (g.S.Store.tells c.write_file-2.new.store) = subst IsTrue (sym c.write_file-2.ensures.tells) then in
-        (g.S.Store.told c.write_file.new.store,
-        renamed _ _ _ _ _ _ c.as_str.ensures.value c.o5c.ensures (c.in_ok-write_file.ensures.written yes),
-        (g.S.Store.told c.write_file-2.new.store,
-        renamed _ _ _ _ _ _ c.as_str-2.ensures.value c.opl.ensures (c.in_ok-write_file-2.ensures.written then),
-        (g.S.Store.told c.write_file-3.new.store,
-        renamed _ _ _ _ _ _ c.as_str-3.ensures.value c.state.ensures (c.in_ok-write_file-3.ensures.written later),
-        same))));
+          (let then : IsTrue (g.S.Store.tells c.write_file.new.store) = subst IsTrue (sym c.write_file.ensures.tells) yes in
+          let later : IsTrue (g.S.Store.tells c.write_file-2.new.store) = subst IsTrue (sym c.write_file-2.ensures.tells) then in (
+            g.S.Store.told c.write_file.new.store,
+            renamed _ _ _ _ _ _ c.as_str.ensures.value c.o5c.ensures (c.in_ok-write_file.ensures.written yes),
+            (
+              g.S.Store.told c.write_file-2.new.store,
+              renamed _ _ _ _ _ _ c.as_str-2.ensures.value c.opl.ensures (c.in_ok-write_file-2.ensures.written then),
+              (
+                g.S.Store.told c.write_file-3.new.store,
+                renamed _ _ _ _ _ _ c.as_str-3.ensures.value c.state.ensures (c.in_ok-write_file-3.ensures.written later),
+                same,
+              ),
+            ),
+          ));
     })
