@@ -1,14 +1,13 @@
 -- Why a conversion stops, from what its parts answer.
-use Rattle.std.proofs.Common.{◌≡◌, ℕ, ◌≤◌, List, Option, Some, length, inl, inr, arith, refl}
+use Rattle.std.proofs.Common.{◌≡◌, ℕ, ◌≤◌, List, Some, length, inr, arith, refl}
 use Rattle.osm_model.specs.Limits.{max_file}
 use Rattle.osm_folder.specs.Conversion.{HaveForms, IsConvertible, ConvertStops}
 use Rattle.osm_folder.specs.Files.{Files}
-use Rattle.osm_folder.specs.Forms.{Converts, ConvertRefused, HasEnd}
+use Rattle.osm_folder.specs.Forms.{ConvertRefused, HasEnd}
 use Rattle.osm_folder.specs.Steps.Reading.{PutStops}
-use Rattle.osm_folder.specs.declared.fault.FileName.{FileName}
-use Rattle.osm_folder.specs.declared.fault.FileName.TheVariants.{Top, Sequence, Save, Changes, Input, Output}
+use Rattle.osm_folder.specs.declared.fault.FileName.TheVariants.{Input, Output}
 use Rattle.osm_folder.specs.declared.fault.RunFault.{RunFault}
-use Rattle.osm_folder.specs.declared.fault.RunFault.TheVariants.{WantOfMemory, ReadFault, WriteFault, TooLarge, Absent, BadChange}
+use Rattle.osm_folder.specs.declared.fault.RunFault.TheVariants.{WantOfMemory, WriteFault, TooLarge, BadChange}
 use Rattle.osm_folder.specs.declared.form.Form.{Form}
 
 pub text_stops : (known : Type 0) (input output bytes : List ℕ) (files : Files) (from to : Form) → HasEnd input from → HasEnd output to → (known → files input ≡ Some bytes) → length bytes ≤ max_file → (fault : RunFault) → ConvertRefused from to bytes fault → ConvertStops known input output files fault

@@ -1,11 +1,10 @@
 -- What the writes of a publication do to a folder.
-use Rattle.std.proofs.Common.{◌≡◌, ℕ, zero, suc, ◌+◌, ◌-◌, ◌<◌, ◌≤◌, List, [], ◌∷◌, ◌++◌, length, get_or, take, Option, Some, None, inl, inr, arith, refl, sym, ap, subst, ◌∙◌, length-append}
+use Rattle.std.proofs.Common.{◌≡◌, ℕ, zero, suc, ◌+◌, ◌-◌, ◌<◌, ◌≤◌, List, [], ◌∷◌, ◌++◌, length, take, Option, Some, None, inl, inr, arith, refl, sym, ap, subst, ◌∙◌, length-append}
 use Rattle.std.specs.List.{AllByRecursion}
 use Rattle.std.proofs.lemmas.List.{get_or_append_left}
 use Rattle.std.proofs.Math.Seq.{get_or-append_seam}
 use Rattle.std.proofs.lemmas.Bool.{cases_lt}
-use Rattle.osm_model.specs.Batch.{IsBatch}
-use Rattle.osm_model.specs.Limits.{IsPositive, max_sequence}
+use Rattle.osm_model.specs.Limits.{max_sequence}
 use Rattle.osm_follow.specs.Published.{AreSequences, IsSequence, PublishedTexts, PublishedValue, sequence_at, unpublished, written_of}
 use Rattle.osm_follow.specs.Publisher.{IsSmall, PublisherValue, closing}
 use Rattle.osm_o5c.proofs.WrittenFile as o5c_file
@@ -17,9 +16,9 @@ use Rattle.osm_state.specs.StateText.{state_text}
 use Rattle.osm_state.specs.declared.paths.Suffix.{Suffix}
 use Rattle.osm_state.specs.declared.paths.Suffix.TheVariants.{O5c, Opl, State}
 use Rattle.osm_folder.specs.Files.{Files, Puts}
-use Rattle.osm_folder.specs.Folder.{IsAbsentOr, IsApart, IsFile, IsFolderOf, IsStateFile, IsThere, IsTop}
+use Rattle.osm_folder.specs.Folder.{IsAbsentOr, IsApart, IsFile, IsFolderOf, IsStateFile, IsTop}
 use Rattle.osm_folder.specs.Names.{file_name_of, top_name_of}
-use Rattle.osm_folder.specs.Publication.{GoesOnFrom, IsRead, IsReady, Writes, writes_of}
+use Rattle.osm_folder.specs.Publication.{GoesOnFrom, IsReady, Writes, writes_of}
 use Rattle.osm_folder.proofs.NameLemmas.{one_file, top_is_no_file}
 use Rattle.osm_folder.proofs.StateLemmas.{state_short}
 

@@ -1,18 +1,16 @@
 -- What a folder of published sequences refuses.
-use Rattle.std.proofs.Common.{◌≡◌, ℕ, ◌+◌, ◌<◌, ◌≤◌, List, length, Option, Some, None, inl, inr, arith, sym, ap, ◌∙◌}
+use Rattle.std.proofs.Common.{ℕ, ◌<◌, List, length, Option, Some, None, inl, inr, arith, sym, ap, ◌∙◌}
 use Rattle.std.proofs.lemmas.Option.{same_Some}
-use Rattle.osm_model.specs.Limits.{IsPositive, max_sequence}
 use Rattle.osm_model.specs.Time.{TimeText}
-use Rattle.osm_follow.specs.Published.{AreSequences, PublishedValue, sequence_at}
+use Rattle.osm_follow.specs.Published.{PublishedValue}
 use Rattle.osm_state.proofs.StateLemmas.{one_state}
 use Rattle.osm_state.specs.State.{StateValue}
-use Rattle.osm_state.specs.StateFault.{FaultOf}
 use Rattle.osm_state.specs.StateLaws.{NoFaultBesideState}
 use Rattle.osm_state.specs.declared.state_text.StateError.{StateError}
 use Rattle.osm_folder.specs.Files.{Files, IsOver}
 use Rattle.osm_folder.specs.Folder.{IsFolderOf, IsTop, max_state}
 use Rattle.osm_folder.specs.Names.{top_name_of}
-use Rattle.osm_folder.specs.Publication.{CutsOff, FolderRefuses, GoesOnFrom, IsBadState, IsBeforeLast, IsReadWith, NotReady}
+use Rattle.osm_folder.specs.Publication.{CutsOff, FolderRefuses, GoesOnFrom, IsBadState, IsBeforeLast, NotReady}
 use Rattle.osm_folder.specs.declared.fault.RunFault.{RunFault}
 use Rattle.osm_folder.specs.declared.fault.RunFault.TheVariants.{WantOfMemory, ReadFault, WriteFault, TooLarge, Absent, BadState, BadChange, TimeBack, SequenceFull, BadNow}
 use Rattle.osm_folder.proofs.FolderLemmas.{goes_on_number}

@@ -1,10 +1,9 @@
 -- A written state text is short.
-use Rattle.std.proofs.Common.{◌≡◌, ℕ, ◌+◌, ◌*◌, ◌<◌, ◌≤◌, ◌^◌, ◌==◌, true, false, Bool, List, [], ◌∷◌, ◌++◌, length, inl, inr, arith, refl, length-append}
-use Rattle.std.specs.Prelude.{codes, decimal}
+use Rattle.std.proofs.Common.{◌≡◌, ℕ, ◌*◌, ◌≤◌, ◌==◌, List, [], ◌∷◌, length, inl, inr, arith, refl, length-append}
+use Rattle.std.specs.Prelude.{decimal}
 use Rattle.std.proofs.lemmas.Bool.{cases_Bool}
 use Rattle.std.proofs.lemmas.Fmt.{length-decimal-le}
 use Rattle.osm_model.specs.CivilTime.{time_text}
-use Rattle.osm_model.specs.Limits.{max_sequence}
 use Rattle.osm_state.specs.State.{StateValue, IsState}
 use Rattle.osm_state.specs.StateText.{escaped_colons, state_text}
 use Rattle.osm_folder.specs.Folder.{max_state}

@@ -1,5 +1,5 @@
 -- What contracts see of a store in memory and of one that stops.
-use Rattle.std.specs.Prelude.{◌≡◌, ℕ, Option, ◌⊎◌}
+use Rattle.std.specs.Prelude.{◌≡◌, ℕ, ◌⊎◌}
 use Rattle.std.specs.BTreeMap.{get_by_text}
 use Rattle.osm_folder.specs.Files.{Files, HasFailed}
 use Rattle.osm_folder.specs.declared.fuse.Fuse.{Fuse}

@@ -4,7 +4,7 @@ use Rattle.std.specs.Prelude.{None, string_bytes}
 use Rattle.osm_model.specs.Change.{ChangeValue}
 use Rattle.osm_model.specs.Limits.{max_file, max_sequence}
 use Rattle.osm_follow.specs.Published.{PublishedTexts, written_of}
-use Rattle.osm_follow.specs.Publisher.{CanClose, IsSmall, IsTooLarge, PublisherValue, closing}
+use Rattle.osm_follow.specs.Publisher.{CanClose, IsTooLarge, PublisherValue, closing}
 use Rattle.osm_opl.specs.File.{SpellsOpl}
 use Rattle.osm_state.specs.StateFault.{FaultOf}
 use Rattle.osm_state.specs.declared.paths.Suffix.TheVariants.{O5c, Opl, State}
@@ -14,7 +14,6 @@ use Rattle.osm_folder.specs.Forms.{IsFaulty}
 use Rattle.osm_folder.specs.Names.{file_name_of, top_name_of}
 use Rattle.osm_folder.specs.Publication.{CutsOff, IsBadChanges, IsBadState, IsReady, Writes}
 use Rattle.osm_folder.specs.Reports.{publish_report_of}
-use Rattle.osm_folder.specs.Steps.Reading.{PresentStops}
 use Rattle.osm_folder.specs.declared.fault.FileName.TheVariants.{Top, Changes}
 use Rattle.osm_folder.specs.declared.fault.RunFault.{RunFault}
 use Rattle.osm_folder.specs.declared.fault.RunFault.TheVariants.{WantOfMemory, ReadFault, TooLarge}
