@@ -204,13 +204,19 @@ class World:
         if number > self.number + WINDOW:
             return {"too early": None}
         if number > self.number + 1:
-            return {"held": lambda: self.held.add(number), "no memory": None}
-        high = number
-        while high + 1 in self.held:
-            high += 1
-        replies = {f"applied {number}..{high}": lambda: self.apply_to(high)}
+            replies = {"held": lambda: self.held.add(number)}
+        else:
+            replies = self.apply(number)
         if self.published[number - 1][0]:
             replies["no memory"] = None
+        return replies
+
+    def apply(self, low):
+        """The replies if that sequence and the held ones after it are applied."""
+        high = low
+        while high + 1 in self.held:
+            high += 1
+        replies = {f"applied {low}..{high}": lambda: self.apply_to(high)}
         if self.needs_new_entry(high):
             replies["broke"] = self.break_off
         return replies

@@ -1,4 +1,4 @@
-//! Whether a follower broke only where a change needs memory for a new entry.
+//! Whether a follower broke only if a change needs memory for a new entry.
 
 ghost use Rattle.std.specs.Prelude.{◌≡◌, IfOk, IsTrue, Some, None};
 ghost use Rattle.osm_model.specs.Content.{content_of, standing_of};
@@ -7,9 +7,9 @@ ghost use Rattle.osm_judge.specs.Breaks.{IsNeededBreak, IsNewEntry};
 
 use crate::history::{Pair, joined_changes, reach};
 use crate::plain::{plain_content_of, plain_edits_by_changeset, plain_edits_by_user};
-use osm_world::event::{Event, Reply};
 use osm_model::change::Change;
 use osm_model::memory::WantOfMemory;
+use osm_world::event::{Event, Reply};
 use std::alloc::Global;
 
 /// Whether each `broke` of the history came at a delivery with a new entry.

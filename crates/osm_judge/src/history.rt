@@ -7,9 +7,9 @@ ghost use Rattle.osm_world.specs.History as hist;
 ghost use Rattle.osm_follow.specs.Published.{changes_up_to, last_time, time_at};
 ghost use Rattle.osm_follow.specs.Reach.{Reaches};
 
-use osm_world::event::{Event, Reply};
 use osm_model::change::Change;
 use osm_model::memory::WantOfMemory;
+use osm_world::event::{Event, Reply};
 use std::alloc::Global;
 
 /// An event and its reply. A history is a list of pairs, its newest first.

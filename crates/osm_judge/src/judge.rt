@@ -10,11 +10,11 @@ use crate::breaks::are_breaks_needed;
 use crate::history::Pair;
 use crate::legal::is_legal;
 use crate::reading::{Unread, read_reply};
-use osm_world::event::{Event, Reply};
 use osm_model::memory::WantOfMemory;
 use osm_repl::fault::RunFault;
 use osm_repl::replies::write_replies;
 use osm_repl::script::parse_script;
+use osm_world::event::{Event, Reply};
 use std::alloc::Global;
 
 /// Whether the text may be the reply text of the script: that of one reply for each event, each

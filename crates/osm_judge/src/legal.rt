@@ -15,7 +15,6 @@ use crate::history::{
     Pair, is_accepted, is_broken, joined_changes, least_time, pending, published_count, reach,
 };
 use crate::views::is_view;
-use osm_world::event::{Event, Reply};
 use osm_model::batch::{Batch, PushError};
 use osm_model::change::Change;
 use osm_model::form::{ChangeForm, FormError};
@@ -23,6 +22,7 @@ use osm_model::limits::{MAX_CHANGES, MAX_SEQUENCE};
 use osm_model::memory::WantOfMemory;
 use osm_o5c::o5c::O5c;
 use osm_opl::opl::Opl;
+use osm_world::event::{Event, Reply};
 use std::alloc::Global;
 
 /// Why there is no judgement of a reply.

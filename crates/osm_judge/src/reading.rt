@@ -1,12 +1,12 @@
 //! Reads reply texts, and promises nothing: a caller that needs a promise writes what was read and
 //! compares.
 
-use osm_world::event::Reply;
 use osm_follow::view::View;
 use osm_model::memory::WantOfMemory;
 use osm_model::time::time_read;
 use osm_opl::lines::{LineError, read_line};
 use osm_reading::lines::split_line;
+use osm_world::event::Reply;
 use std::alloc::{AllocError, AllocFailed, Global};
 
 /// Why a text isn't read.

@@ -17,12 +17,12 @@ ghost use Rattle.osm_follow.specs.View.{IsView};
 
 use crate::history::{Pair, is_accepted, joined_changes, reach, time_of_sequence};
 use crate::plain::{plain_content_of, plain_edits_by_changeset, plain_edits_by_user};
-use osm_world::event::{Event, Reply};
 use osm_follow::view::View;
 use osm_model::change::Change;
 use osm_model::kind::Key;
 use osm_model::memory::WantOfMemory;
 use osm_opl::lines::write_line;
+use osm_world::event::{Event, Reply};
 use std::alloc::Global;
 
 /// Whether the view may be shown after the history.

@@ -1,24 +1,21 @@
 -- What a script's bad line says of the script, and how far a script was answered.
-use Rattle.std.proofs.Common.{◌≡◌, ℕ, ◌+◌, ◌<◌, length, arith, length-append, List, [], ◌∷◌, ◌++◌, refl, ap, sym, ◌∙◌, true, false, Option, Some, None, append-nil, subst}
+use Rattle.std.proofs.Common.{◌≡◌, ℕ, ◌<◌, length, arith, List, [], ◌∷◌, ◌++◌, refl, ap, sym, ◌∙◌, Option, Some, None, append-nil, subst}
 use Rattle.std.proofs.lemmas.List.Elements.{filter-append}
 use Rattle.std.specs.Io.KnownBytes.{Consumes, IsAtEnd}
 use Rattle.std.specs.List.{AllZip}
 use Rattle.std.specs.Prelude.{not, IfSome}
-use Rattle.osm_reading.specs.Lines.{lines_of, lines_after, is_skipped}
+use Rattle.osm_reading.specs.Lines.{lines_of, is_skipped}
 use Rattle.osm_reading.specs.Pieces.{pieces}
 use Rattle.osm_repl.specs.Replay.{IsWriteFault, ReplayFault, ReplayLeaves, RepliesTo}
-use Rattle.osm_repl.specs.Replies.{reply_text, replies_text}
+use Rattle.osm_repl.specs.Replies.{reply_text}
 use Rattle.osm_repl.specs.Steps.Replaying.{IsAnswered}
 use Rattle.osm_repl.specs.Script.{IsEventLine, ScriptOf, ScriptRefused, IsBadLine, SaysSome, said_of}
-use Rattle.std.specs.Borrow.{Bor}
 use Rattle.std.proofs.lemmas.List.{flat_map_more}
 use Rattle.osm_world.specs.Correct.{IsRun}
 use Rattle.osm_world.specs.Step.{Step}
-use Rattle.osm_world.specs.World.{WorldValue, new_world}
+use Rattle.osm_world.specs.World.{WorldValue}
 use Rattle.osm_world.specs.declared.event.Event.{Event}
 use Rattle.osm_world.specs.declared.event.Reply.{Reply}
-use Rattle.osm_repl.specs.Steps.Parsing.{IsSaid, LineRefused}
-use Rattle.osm_repl.proofs.ScriptLemmas.{IsReadTo, IsSplit, read_none, read_skipped, read_event, read_all}
 use Rattle.osm_repl.specs.declared.fault.RunFault.{RunFault}
 use Rattle.osm_repl.specs.declared.fault.RunFault.TheVariants.{WantOfMemory, ReadFault, WriteFault, TooLarge, BadScript}
 
@@ -64,82 +61,27 @@ silent input old new (WriteFault file) h not_written = absurd (not_written tt)
 silent input old new (TooLarge file) h not_written = h
 silent input old new (BadScript line) h not_written = h
 
--- how far a script was answered: a run over the events of the lines that were passed, and its text
-pub record IsAnsweredTo (script : List ℕ) (rest : Option (Bor (List ℕ))) (number : ℕ) (world : WorldValue) (text : List ℕ) : Type 0 where
-  pub events : List Event
-  pub replies : List Reply
-  pub read : IsReadTo script rest number events
-  pub is_run : IsRun events replies world
-  pub text_is : text ≡ replies_text replies
-
 -- what the laws of runs say of one step more
 abbrev pub RunsOn : Type 0
 RunsOn = (events : List Event) (replies : List Reply) (w : WorldValue) (e : Event) (r : Reply) (v : WorldValue)
     → IsRun events replies w → Step w e r v → IsRun (events ++ e ∷ []) (replies ++ r ∷ []) v
 
-pub answered_none : (script : Bor (List ℕ)) → IsRun [] [] new_world → IsAnsweredTo script.now (Some script) 0 new_world []
-answered_none script first = record {
-  events = [];
-  replies = [];
-  read = read_none script;
-  is_run = first;
-  text_is = refl;
+-- one event more is answered
+pub answered_more : (next : RunsOn) (events : List Event) (old : WorldValue) (text : List ℕ) (event : Event) (reply : Reply) (new : WorldValue) (more : List ℕ)
+    → IsAnswered events old text → Step old event reply new → more ≡ text ++ reply_text reply → IsAnswered (events ++ event ∷ []) new more
+answered_more next events old text event reply new more a step is = record {
+  replies = a.replies ++ reply ∷ [];
+  is_run = next events a.replies old event reply new a.is_run step;
+  text_is = is ∙ (ap (λ (xs : List ℕ). xs ++ reply_text reply) a.text_is ∙ flat_map_more reply_text [] a.replies reply);
 }
 
-pub answered_skipped : (script : List ℕ) (bytes : Bor (List ℕ)) (line : List ℕ) (after : Option (Bor (List ℕ))) (number : ℕ) (world : WorldValue) (text : List ℕ)
-    → IsAnsweredTo script (Some bytes) number world text → IsSplit bytes.now line after → is_skipped line ≡ true → IsAnsweredTo script after (number + 1) world text
-answered_skipped script bytes line after number world text i split skipped = record {
-  events = i.events;
-  replies = i.replies;
-  read = read_skipped script bytes line after number i.events i.read split skipped;
-  is_run = i.is_run;
-  text_is = i.text_is;
-}
-
-pub answered_event : (next : RunsOn) (script : List ℕ) (bytes : Bor (List ℕ)) (line : List ℕ) (after : Option (Bor (List ℕ))) (number : ℕ) (old : WorldValue) (text : List ℕ) (event : Event) (new : WorldValue) (more : List ℕ)
-    → IsAnsweredTo script (Some bytes) number old text → IsSplit bytes.now line after → IsSaid line (Some event) → IsAnswered old event new text more → IsAnsweredTo script after (number + 1) new more
-answered_event next script bytes line after number old text event new more i split said a = record {
-  events = i.events ++ event ∷ [];
-  replies = i.replies ++ a.reply ∷ [];
-  read = read_event script bytes line after number i.events event i.read split said;
-  is_run = next i.events i.replies old event a.reply new i.is_run a.step;
-  text_is = a.text ∙ (ap (λ (xs : List ℕ). xs ++ reply_text a.reply) i.text_is ∙ flat_map_more reply_text [] i.replies a.reply);
-}
-
-pub answered_all : (script : List ℕ) (number : ℕ) (world : WorldValue) (text : List ℕ) → IsAnsweredTo script None number world text → RepliesTo script text
-answered_all script number world text i = record {
-  events = i.events;
-  is_script = read_all script number i.events i.read;
-  replies = i.replies;
+-- all events of the script are answered
+pub answered_all : (script : List ℕ) (events : List Event) (world : WorldValue) (text : List ℕ) → ScriptOf script events → IsAnswered events world text → RepliesTo script text
+answered_all script events world text is a = record {
+  events = events;
+  is_script = is;
+  replies = a.replies;
   world = world;
-  is_run = i.is_run;
-  text_is = i.text_is;
+  is_run = a.is_run;
+  text_is = a.text_is;
 }
-
--- a line that is refused refuses the script
-pub answered_refused : (script : List ℕ) (bytes : Bor (List ℕ)) (line : List ℕ) (after : Option (Bor (List ℕ))) (number : ℕ) (world : WorldValue) (text : List ℕ) (fault : RunFault)
-    → IsAnsweredTo script (Some bytes) number world text → IsSplit bytes.now line after → LineRefused line (number + 1) fault → ScriptRefused script fault
-answered_refused script bytes line after number world text fault i split refused = by_fault fault refused
-  where
-    parts : lines_of script ≡ i.read.passed ++ line ∷ lines_after after
-    parts = i.read.lines ∙ ap (λ (ls : List (List ℕ)). i.read.passed ++ ls) split.lines
-
-    says : is_skipped line ≡ false → SaysSome script
-    says said =
-        let is : said_of (lines_of script) ≡ said_of i.read.passed ++ line ∷ said_of (lines_after after) = ap said_of parts ∙ rw (filter-append (λ (l : List ℕ). not (is_skipped l)) i.read.passed (line ∷ lines_after after), said) refl in
-        rw is (omega (arith, length-append (said_of i.read.passed) (line ∷ said_of (lines_after after))))
-
-    by_fault : (f : RunFault) → LineRefused line (number + 1) f → ScriptRefused script f
-    by_fault WantOfMemory r = says r
-    by_fault (BadScript n) r = record {
-      before = i.read.passed;
-      line = line;
-      after = lines_after after;
-      parts = parts;
-      counted = r.0 ∙ ap (λ (k : ℕ). k + 1) i.read.counted;
-      events = i.events;
-      earlier = i.read.are_events;
-      said = r.1;
-      none = r.2;
-    }
-    by_fault f r = absurd r

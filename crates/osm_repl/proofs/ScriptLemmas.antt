@@ -1,7 +1,7 @@
 -- Prefixes and suffixes of lines, which event a line can be, and how far a script was read.
 use Rattle.std.proofs.Common.{◌≡◌, ℕ, ◌+◌, ◌-◌, ◌<◌, ◌≤◌, List, [], ◌∷◌, ◌++◌, length, take, drop, get_or, refl, append_assoc, ap, sym, ◌∙◌, true, false, arith, Some, None, length-append, append-nil, Option}
 use Rattle.std.proofs.Math.Seq.{take-append_seam, drop-append_seam}
-use Rattle.std.proofs.lemmas.List.{take-append-drop, append_cancel_left, append_cancel_right}
+use Rattle.std.proofs.lemmas.List.{take-append-drop, append_cancel_left}
 use Rattle.std.specs.Cmp.Lexicographic.{pointwise, same_text, other_text}
 use Rattle.std.proofs.lemmas.List.Elements.{filter-append}
 use Rattle.osm_reading.specs.Lines.{lines_of, lines_after, is_skipped}

@@ -1,20 +1,42 @@
 -- How a run ends that has no replies to write, or can't write them.
+use Rattle.std.specs.Borrow.{Bor}
+use Rattle.std.specs.declared.io.ErrorKind.{ErrorKind as IoKind}
+use Rattle.std.specs.declared.io.ErrorKind.TheVariants as io_kinds
+use Rattle.clap.specs.Words.{kind_of}
+use Rattle.clap.specs.declared.error.Error.{Error as ClapError}
 use Rattle.clap.specs.declared.error.kind.ErrorKind.{ErrorKind}
 use Rattle.clap.specs.declared.error.kind.ErrorKind.TheVariants as kinds
 use Rattle.osm_repl.specs.declared.ending.Ending.{Ending}
-use Rattle.osm_repl.specs.declared.ending.Said.TheVariants.{ByClap, Fault}
+use Rattle.osm_repl.specs.declared.ending.Said.{Said}
+use Rattle.osm_repl.specs.declared.ending.Said.TheVariants.{ByClap, Fault, NotText}
 use Rattle.osm_repl.specs.declared.ending.Stream.TheVariants.{Output, Error}
 use Rattle.osm_repl.specs.declared.fault.RunFault.{RunFault}
 use Rattle.osm_repl.specs.declared.fault.RunFault.TheVariants.{WantOfMemory}
+
+-- words that aren't taken end the program with status 2
+abbrev pub refused_words : Said → Ending
+refused_words said = record { said = said; stream = Error; status = 2 }
 
 -- a fault is said on standard error, and the status is 3
 abbrev pub ending_of_fault : RunFault → Ending
 ending_of_fault fault = record { said = Fault fault; stream = Error; status = 3 }
 
--- help and the version go to standard output, and the status is 0; if clap is out of memory, that
--- is a fault; for any other kind clap's text goes to standard error, and the status is 2
-abbrev pub ending_of_kind : ErrorKind → Ending
-ending_of_kind kinds.OutOfMemory = ending_of_fault WantOfMemory
-ending_of_kind kinds.DisplayHelp = record { said = ByClap; stream = Output; status = 0 }
-ending_of_kind kinds.DisplayVersion = record { said = ByClap; stream = Output; status = 0 }
-ending_of_kind kind = record { said = ByClap; stream = Error; status = 2 }
+-- an error of clap of that kind: help and the version go to standard output, and the status is 0;
+-- if clap is out of memory, that is a fault; for any other kind clap's text goes to standard error,
+-- and the status is 2
+abbrev pub ending_by_kind : ErrorKind → Bor ClapError → Ending
+ending_by_kind kinds.OutOfMemory error = ending_of_fault WantOfMemory
+ending_by_kind kinds.DisplayHelp error =
+    record { said = ByClap error; stream = Output; status = 0 }
+ending_by_kind kinds.DisplayVersion error =
+    record { said = ByClap error; stream = Output; status = 0 }
+ending_by_kind kind error = refused_words (ByClap error)
+
+-- an error of clap, by its kind
+abbrev pub ending_of_error : Bor ClapError → Ending
+ending_of_error error = ending_by_kind (kind_of error.now) error
+
+-- words that can't be had: memory was refused, or they aren't text, which is said on standard error
+abbrev pub ending_of_unread : IoKind → Ending
+ending_of_unread io_kinds.OutOfMemory = ending_of_fault WantOfMemory
+ending_of_unread kind = refused_words NotText

@@ -3,4 +3,5 @@ pub mod Replies
 pub mod Replay
 pub mod CommandLine
 pub mod Ending
+pub mod Echo
 pub mod Steps

@@ -1,5 +1,9 @@
 //! Words of the command line as they may be shown.
 
+ghost use Rattle.std.specs.Prelude.{◌≡◌, ◌++◌, map, IfOk, OnOk, string_bytes};
+ghost use Rattle.std.specs.Str.{chars};
+ghost use Rattle.osm_repl.specs.Echo as spec;
+
 use std::alloc::{AllocError, Global};
 
 // Longer words are cut.
@@ -7,7 +11,10 @@ const MOST_SHOWN: usize = 64;
 
 /// The words, each cut after 64 characters, with `..` in place of the rest, and with its control
 /// characters as escapes, as `\u{1b}`: so no word can fill a screen or command a terminal.
-pub fn echoes(alloc: Global, words: &[&str]) -> Result<Vec<String>, AllocError> {
+pub fn echoes(alloc: Global, words: &[&str]) -> Result<Vec<String>, AllocError>
+    ensures { IfOk result (λ echoes.
+        map string_bytes echoes.items ≡ map (λ word. spec.echo_of word.now) words.now) }
+{
     let mut echoes = Vec::new(alloc);
     for word in words {
         echoes.push(echo_of(alloc, word)?)?;
@@ -15,21 +22,48 @@ pub fn echoes(alloc: Global, words: &[&str]) -> Result<Vec<String>, AllocError> 
     Ok(echoes)
 }
 
-fn echo_of(alloc: Global, word: &str) -> Result<String, AllocError> {
-    let mut echo = String::new(alloc);
-    for character in word.chars().take(MOST_SHOWN) {
-        push_shown(character, &mut echo)?;
-    }
-    if word.chars().nth(MOST_SHOWN).is_some() {
+fn echo_of(alloc: Global, word: &str) -> Result<String, AllocError>
+    ensures { IfOk result (λ echo. string_bytes echo ≡ spec.echo_of word.now) }
+{
+    let mut echo = shown_start(alloc, word)?;
+    if is_cut(word) {
         echo.push_str("..")?;
     }
     Ok(echo)
 }
 
-fn push_shown(character: char, echo: &mut String) -> Result<(), AllocError> {
-    if !character.is_control() {
-        return echo.push(character);
+// The first characters as they are shown.
+fn shown_start(alloc: Global, word: &str) -> Result<String, AllocError>
+    ensures { IfOk result (λ start. string_bytes start ≡ spec.start_of (chars word.now)) }
+{
+    let mut start = String::new(alloc);
+    for character in word.chars().take(MOST_SHOWN) {
+        push_shown(character, &mut start)?;
     }
+    Ok(start)
+}
+
+fn is_cut(word: &str) -> bool
+    ensures { result ≡ spec.is_cut (chars word.now) }
+{
+    word.chars().nth(MOST_SHOWN).is_some()
+}
+
+fn push_shown(character: char, echo: &mut String) -> Result<(), AllocError>
+    ensures { OnOk result
+        (string_bytes echo.new ≡ string_bytes echo.old ++ spec.shown_char character) }
+{
+    if character.is_control() {
+        push_escape(character, echo)
+    } else {
+        echo.push(character)
+    }
+}
+
+fn push_escape(character: char, echo: &mut String) -> Result<(), AllocError>
+    ensures { OnOk result
+        (string_bytes echo.new ≡ string_bytes echo.old ++ spec.escape_of character) }
+{
     for part in character.escape_unicode() {
         echo.push(part)?;
     }

@@ -1,10 +1,12 @@
 //! What the program says last, and its exit status.
 
 ghost use Rattle.std.specs.Prelude.{◌≡◌};
-ghost use Rattle.osm_repl.specs.Ending.{ending_of_fault, ending_of_kind};
+ghost use Rattle.osm_repl.specs.Ending.{ending_of_error, ending_of_fault, ending_of_unread};
 
 use crate::fault::RunFault;
+use clap::Error;
 use clap::error::ErrorKind;
+use std::io;
 
 /// Where the last text goes.
 #[derive(Clone, Copy, Debug, PartialEq, Eq)]
@@ -13,37 +15,54 @@ pub enum Stream {
     Error,
 }
 
-/// Whose text is the last.
-#[derive(Clone, Copy, Debug, PartialEq, Eq)]
-pub enum Said {
+/// What is said last.
+#[derive(Clone, Copy)]
+pub enum Said<'a> {
     /// The text that `clap` made of the words.
-    ByClap,
+    ByClap(&'a Error),
     /// One line, `osmrepl: ` and the fault.
     Fault(RunFault),
+    /// One line: the words of the command line aren't text.
+    NotText,
 }
 
 /// How a run ends that has no replies to write, or can't write them.
-#[derive(Clone, Copy, Debug, PartialEq, Eq)]
-pub struct Ending {
-    pub said: Said,
+#[derive(Clone, Copy)]
+pub struct Ending<'a> {
+    pub said: Said<'a>,
     pub stream: Stream,
     pub status: u8,
 }
 
-/// The ending if `clap` has no matches of the words, but an error of that kind: help and the
-/// version go to standard output with status 0, a refusal of the words to standard error with 2.
-pub fn explained(kind: ErrorKind) -> Ending
-    ensures { result ≡ ending_of_kind kind }
+/// The ending if `clap` has no matches of the words, but that error: help and the version go to
+/// standard output with status 0, a refusal of the words to standard error with 2.
+pub fn explained<'a>(error: &'a Error) -> Ending<'a>
+    ensures { result ≡ ending_of_error error.entry }
 {
-    match kind {
+    match error.kind() {
         ErrorKind::OutOfMemory => reported(RunFault::WantOfMemory),
         ErrorKind::DisplayHelp | ErrorKind::DisplayVersion => Ending {
-            said: Said::ByClap,
+            said: Said::ByClap(error),
             stream: Stream::Output,
             status: 0,
         },
         _ => Ending {
-            said: Said::ByClap,
+            said: Said::ByClap(error),
+            stream: Stream::Error,
+            status: 2,
+        },
+    }
+}
+
+/// The ending if the words of the command line can't be had, for an error of that kind: unless
+/// memory was refused, one of them isn't text, which is a refusal of the words.
+pub fn unread<'a>(kind: io::ErrorKind) -> Ending<'a>
+    ensures { result ≡ ending_of_unread kind }
+{
+    match kind {
+        io::ErrorKind::OutOfMemory => reported(RunFault::WantOfMemory),
+        _ => Ending {
+            said: Said::NotText,
             stream: Stream::Error,
             status: 2,
         },
@@ -51,7 +70,7 @@ pub fn explained(kind: ErrorKind) -> Ending
 }
 
 /// The ending at a fault.
-pub fn reported(fault: RunFault) -> Ending
+pub fn reported<'a>(fault: RunFault) -> Ending<'a>
     ensures { result ≡ ending_of_fault fault }
 {
     Ending {

@@ -6,20 +6,18 @@ ghost use Rattle.osm_model.specs.Limits.{max_file};
 ghost use Rattle.osm_repl.specs.Replay.{IsWriteFault, ReplayFault, ReplayLeaves, Replays};
 ghost use Rattle.osm_repl.specs.Replay.{RepliesTo};
 ghost use Rattle.osm_repl.specs.Script.{ScriptRefused};
-ghost use Rattle.osm_repl.specs.Steps.Replaying.{IsAnswered, ReadingFault, WritingFault};
-ghost use Rattle.osm_repl.specs.Steps.Replaying.{most_reads};
+ghost use Rattle.osm_repl.specs.Steps.Replaying.{ReadingFault, WritingFault, most_reads};
 ghost use Rattle.osm_repl.specs.declared.fault.RunFault.{RunFault};
 
 use crate::asks::Asks;
 use crate::fault::{FileName, RunFault};
 use crate::replies::write_reply;
-use crate::script::line_event;
+use crate::script::{EventSink, send_events};
+use osm_model::limits::MAX_FILE;
+use osm_model::memory::WantOfMemory;
 use osm_world::event::Event;
 use osm_world::laws::laws_of_runs;
 use osm_world::world::World;
-use osm_model::limits::MAX_FILE;
-use osm_model::memory::WantOfMemory;
-use osm_reading::lines::split_line;
 use std::alloc::Global;
 use std::io::{Read, Write};
 
@@ -41,14 +39,8 @@ pub fn replay_run<R: Read, W: Write>(
     ensures leaves { IfErr result
         (ReplayLeaves (R.remaining reader.old) (W.contents writer.old) (W.contents writer.new)) }
 {
-    let script = match read_script(alloc, reader, &mut Asks::none()) {
-        Ok(script) => script,
-        Err(fault) => return Err(fault),
-    };
-    let text = match reply_text_of(alloc, script.as_slice()) {
-        Ok(text) => text,
-        Err(fault) => return Err(fault),
-    };
+    let script = read_script(alloc, reader, &mut Asks::none())?;
+    let text = reply_text_of(alloc, script.as_slice())?;
     write_text(writer, text.as_slice())
 }
 
@@ -88,41 +80,40 @@ fn read_script<R: Read>(alloc: Global, reader: &mut R, asks: &mut Asks) -> Resul
     Err(RunFault::TooLarge(FileName::Input))
 }
 
-// The reply text of a script. Each line's event is taken as soon as it is read, and each reply is
-// dropped once its lines are written: the events and the views of a script are many times its size.
+// A world that takes the events of a script, and the text of its replies so far. Each event is taken
+// as soon as its line is read, and each reply is dropped once its lines are written: the events and
+// the views of a script are many times its size.
+#[derive(Drop)]
+struct Answering {
+    world: World,
+    text: Vec<u8>,
+}
+
+impl EventSink for Answering {
+    ghost use Rattle.osm_repl.specs.Steps.Replaying.{IsAnswered};
+
+    ghost took = { λ a events. IsAnswered events a.world a.text.items };
+
+    fn take(&mut self, event: Event) -> Result<(), WantOfMemory> {
+        laws_of_runs();
+        let reply = self.world.step(event);
+        write_reply(&reply, &mut self.text)
+    }
+}
+
+// The reply text of a script.
 fn reply_text_of(alloc: Global, script: &[u8]) -> Result<Vec<u8>, RunFault>
     requires { length script.now ≤ max_file }
     ensures text { IfOk result (λ text. RepliesTo script.now text.items) }
     ensures fault { IfErr result (ScriptRefused script.now) }
 {
     laws_of_runs();
-    let mut world = World::new(alloc).unwrap();
-    let mut text = Vec::new(alloc);
-    let mut rest = Some(script);
-    let mut number = 0u64;
-    while let Some(bytes) = rest {
-        let (line, after) = split_line(bytes);
-        number += 1;
-        match line_event(alloc, line, number) {
-            Ok(None) => {}
-            Ok(Some(event)) => {
-                let Ok(()) = answer(&mut world, event, &mut text) else {
-                    return Err(RunFault::WantOfMemory);
-                };
-            }
-            Err(fault) => return Err(fault),
-        }
-        rest = after;
-    }
-    Ok(text)
-}
-
-// The world takes the event, and the lines of its reply are appended.
-fn answer(world: &mut World, event: Event, text: &mut Vec<u8>) -> Result<(), WantOfMemory>
-    ensures { OnOk result (IsAnswered world.old event world.new text.old.items text.new.items) }
-{
-    let reply = world.step(event);
-    write_reply(&reply, text)
+    let mut answering = Answering {
+        world: World::new(alloc).unwrap(),
+        text: Vec::new(alloc),
+    };
+    send_events(alloc, script, &mut answering)?;
+    Ok(answering.text)
 }
 
 // Writes all the text, or a prefix of it.

@@ -8,12 +8,12 @@ ghost use Rattle.osm_repl.specs.Replies.{numbered_line, object_line, objects_tex
 ghost use Rattle.osm_repl.specs.Replies.{replies_text, reply_text, time_line, view_text};
 
 use itoa::Buffer;
-use osm_world::event::Reply;
 use osm_follow::view::View;
 use osm_model::change::Change;
 use osm_model::memory::WantOfMemory;
 use osm_model::time::time_write;
 use osm_opl::lines::write_line;
+use osm_world::event::Reply;
 use std::alloc::Global;
 
 /// The lines of the replies, each ended by LF.

@@ -2,19 +2,21 @@
 //! `close 2024-01-01T00:00:00Z`, `deliver 1 opl`, `deliver 1 o5c` and `show`. Empty lines and lines
 //! that begin with `#` say nothing.
 
-ghost use Rattle.std.specs.Prelude.{◌≡◌, ℕ, ◌<◌, ◌++◌, ◌^◌, List, length, IfOk, IfErr};
-ghost use Rattle.std.specs.Prelude.{IfSome, IfNone};
+ghost use Rattle.std.specs.Prelude.{◌≡◌, ℕ, ◌<◌, ◌++◌, ◌^◌, List, [], ◌∷◌, length};
+ghost use Rattle.std.specs.Prelude.{IfOk, IfErr, OnOk, IfSome, IfNone};
 ghost use Rattle.osm_repl.specs.Script.{IsEventLine, ScriptOf, ScriptRefused, form_text};
+ghost use Rattle.osm_world.specs.declared.event.Event.{Event};
 ghost use Rattle.osm_world.specs.declared.event.Form.{Form};
-ghost use Rattle.osm_repl.specs.Steps.Parsing.{IsCloseOf, IsDeliverOf, IsEditOf, IsSaid};
-ghost use Rattle.osm_repl.specs.Steps.Parsing.{LineRefused, Refused};
+ghost use Rattle.osm_repl.specs.Steps.Parsing.{AllAreTaken, IsCloseOf, IsDeliverOf, IsEditOf};
+ghost use Rattle.osm_repl.specs.Steps.Parsing.{IsSaid, LineRefused, Refused};
 
 use crate::fault::RunFault;
-use osm_world::event::{Event, Form};
+use osm_model::memory::WantOfMemory;
 use osm_model::time::time_read;
 use osm_opl::lines::{LineError, read_line};
 use osm_reading::lines::{is_skipped_line, split_line};
 use osm_reading::sequence::sequence_read;
+use osm_world::event::{Event, Form};
 use std::alloc::Global;
 
 /// Why a line isn't taken.
@@ -22,6 +24,27 @@ use std::alloc::Global;
 enum LineFault {
     WantOfMemory,
     NoEvent,
+}
+
+/// What takes the events of a script, one after another.
+pub(crate) trait EventSink {
+    /// The sink took those events, in that order.
+    ghost took: { Self → List Event → Type 0 };
+
+    fn take(&mut self, event: Event) -> Result<(), WantOfMemory>
+        ensures taken { (events : List Event) → took self.old events
+            → OnOk result (took self.new (events ++ event ∷ [])) };
+}
+
+impl EventSink for Vec<Event> {
+    ghost use Rattle.std.specs.Prelude.{◌≡◌};
+
+    ghost took = { λ sink events. sink.items ≡ events };
+
+    fn take(&mut self, event: Event) -> Result<(), WantOfMemory> {
+        self.push(event)?;
+        Ok(())
+    }
 }
 
 /// The events of a script. Refused as `BadScript`, with the line's number from 1 over all lines, at
@@ -32,6 +55,23 @@ pub fn parse_script(alloc: Global, script: &[u8]) -> Result<Vec<Event>, RunFault
     ensures refused { IfErr result (ScriptRefused script.now) }
 {
     let mut events = Vec::new(alloc);
+    send_events(alloc, script, &mut events)?;
+    Ok(events)
+}
+
+/// Sends each line's event to the sink as soon as it is read. Refused as `BadScript`, with the
+/// line's number from 1 over all lines, at the first line that is neither skipped nor an event, or
+/// for memory.
+pub(crate) fn send_events<S: EventSink>(
+    alloc: Global,
+    script: &[u8],
+    sink: &mut S,
+) -> Result<(), RunFault>
+    requires short { length script.now < 2 ^ 63 }
+    requires empty { S.took sink.old [] }
+    ensures sent { OnOk result (AllAreTaken (S.took sink.new) script.now) }
+    ensures refused { IfErr result (ScriptRefused script.now) }
+{
     let mut rest = Some(script);
     let mut number = 0u64;
     while let Some(bytes) = rest {
@@ -40,7 +80,7 @@ pub fn parse_script(alloc: Global, script: &[u8]) -> Result<Vec<Event>, RunFault
         match line_event(alloc, line, number) {
             Ok(None) => {}
             Ok(Some(event)) => {
-                let Ok(()) = events.push(event) else {
+                let Ok(()) = sink.take(event) else {
                     return Err(RunFault::WantOfMemory);
                 };
             }
@@ -48,11 +88,11 @@ pub fn parse_script(alloc: Global, script: &[u8]) -> Result<Vec<Event>, RunFault
         }
         rest = after;
     }
-    Ok(events)
+    Ok(())
 }
 
-/// What the line of that number says: an event, or nothing.
-pub(crate) fn line_event(alloc: Global, line: &[u8], number: u64) -> Result<Option<Event>, RunFault>
+// What the line of that number says: an event, or nothing.
+fn line_event(alloc: Global, line: &[u8], number: u64) -> Result<Option<Event>, RunFault>
     ensures said { IfOk result (IsSaid line.now) }
     ensures refused { IfErr result (LineRefused line.now number) }
 {

@@ -9,7 +9,10 @@ use Rattle.osm_state.specs.State.{StateValue}
 use Rattle.osm_state.specs.StateText.{StateOf}
 use Rattle.osm_follow.specs.Published.{PublishedValue, PublishedTexts, IsSequence, no_texts, texts_at, written_of}
 use Rattle.osm_follow.specs.Publisher.{IsSmall}
-use Rattle.osm_world.specs.Step.{bytes_in, spells_in}
+use Rattle.osm_world.specs.Step.{DeliverStep, DeliversTo, Replies, bytes_in, fault_in, spells_in}
+use Rattle.osm_world.specs.World.{WorldValue}
+use Rattle.osm_world.specs.declared.event.Reply.{Reply}
+use Rattle.osm_world.specs.declared.event.Reply.TheVariants.{NotPublished}
 use Rattle.osm_world.specs.Steps.Archive.{AreReadable, IsArchive, IsReadable}
 use Rattle.osm_world.specs.declared.event.Form.{Form}
 use Rattle.osm_world.specs.declared.event.Form.TheVariants.{Opl, O5c}
@@ -57,3 +60,13 @@ archive_grown n archive p a readable =
               let here : texts_at (archive ++ p ∷ []) k ≡ p = ap (λ (i : ℕ). get_or (archive ++ p ∷ []) i no_texts) index ∙ get_or-append-add archive (p ∷ []) 0 no_texts in
               rw here readable)
         ]
+
+-- a delivery of what was read from an archive, as a step
+pub delivered_step : (a b : WorldValue) (k i : ℕ) (form : Form) (r : Reply) (p : PublishedTexts) → i < length a.archive → p ≡ get_or a.archive i p → i ≡ k - 1 → 0 < k → k ≤ a.publisher.number → Replies (spells_in form) (fault_in form) a.follower p.state (bytes_in form p) r b.follower → b ≡ record a { follower = b.follower } → DeliverStep a k form r b
+delivered_step a b k i form r p below is index above there replies rest =
+    let here : texts_at a.archive k ≡ p = ap (λ (j : ℕ). get_or a.archive j no_texts) (sym index) ∙ (get_or_default a.archive i no_texts p below ∙ sym is) in
+    by_reply r (record { above = above; there = there; replies = rw here replies; rest = rest })
+  where
+    by_reply : (q : Reply) → DeliversTo a k form q b → DeliverStep a k form q b
+    by_reply NotPublished t = absurd t.replies
+    by_reply q t = t

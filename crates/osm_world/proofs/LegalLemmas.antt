@@ -1,17 +1,19 @@
 -- A step's reply is allowed by the history before it.
-use Rattle.std.proofs.Common.{◌≡◌, ℕ, ◌+◌, ◌<◌, ◌≤◌, List, [], ◌∷◌, ◌++◌, length, ap, sym, ◌∙◌, true, false, arith, length-append}
+use Rattle.std.proofs.Common.{refl, ◌≡◌, ℕ, ◌+◌, ◌<◌, ◌≤◌, List, [], ◌∷◌, ◌++◌, length, ap, sym, ◌∙◌, false, arith, length-append}
 use Rattle.std.specs.Prelude.{Ok, Err}
 use Rattle.std.specs.Ordering.{nat_cmp}
-use Rattle.std.specs.Prelude.{Contains}
+use Rattle.std.specs.Prelude.{IsSome, None, Some, Option}
+use Rattle.std.specs.List.Sorted.{IsStrictlySortedBy}
+use Rattle.std.specs.Option.{option_map}
 use Rattle.osm_model.specs.Change.{ChangeValue}
 use Rattle.osm_world.specs.Correct.{IsInStep}
-use Rattle.osm_follow.specs.Follower.{IsState}
+use Rattle.osm_follow.specs.Follower.{IsState, changes_held, held_at, is_held}
 use Rattle.osm_world.specs.History as hist
-use Rattle.osm_world.specs.Legal.{IsOpen, IsNext, IsWork, Allowed, IsLegal}
-use Rattle.osm_mirror.specs.Mirror.{NeedsMemory}
-use Rattle.osm_follow.specs.Published.{IsSequence, changes_at, sequence_at}
+use Rattle.osm_world.specs.Legal.{IsOpen, IsWanted, IsWork, Allowed, IsLegal}
+use Rattle.osm_follow.specs.Delivery.{Breaks}
+use Rattle.osm_follow.specs.Published.{IsSequence, PublishedValue, changes_at, sequence_at}
 use Rattle.osm_follow.specs.Publisher.{PublisherValue}
-use Rattle.osm_follow.specs.Reach.{Reaches}
+use Rattle.osm_follow.specs.Reach.{Reaches, between}
 use Rattle.osm_world.specs.Step as step
 use Rattle.osm_follow.specs.View.{ViewValue, IsView, view_of}
 use Rattle.osm_world.specs.World.{WorldValue}
@@ -20,10 +22,13 @@ use Rattle.osm_follow.specs.declared.delivery.DeliverError.TheVariants as errors
 use Rattle.osm_world.specs.declared.event.Event.{Event}
 use Rattle.osm_world.specs.declared.event.Event.TheVariants.{Edit, Close, Deliver, Show}
 use Rattle.osm_world.specs.declared.event.Reply.{Reply}
-use Rattle.osm_world.specs.declared.event.Reply.TheVariants.{Edited, BatchFull, WantOfMemory, Closed, SequenceFull, TimeBack, TooLarge, NotPublished, Broken, Old, TooEarly, Applied, Broke, Shown}
-use Rattle.osm_mirror.proofs.MirrorLemmas.{rising-nil}
-use Rattle.osm_follow.proofs.DeliveryLemmas.{FollowerStep}
-use Rattle.osm_follow.proofs.FollowLemmas.{none_accepted}
+use Rattle.osm_world.specs.declared.event.Reply.TheVariants.{Edited, BatchFull, WantOfMemory, Closed, SequenceFull, TimeBack, TooLarge, NotPublished, Broken, Old, Again, TooEarly, Held, Applied, Broke, Shown}
+use Rattle.osm_holding.proofs.AreaLemmas.{exactly_held}
+use Rattle.osm_holding.specs.Holding as area
+use Rattle.osm_holding.specs.declared.holding.Held as kept
+use Rattle.osm_follow.proofs.DeliveryLemmas.{FollowerStep, IsWanted as IsTurnOf}
+use Rattle.osm_follow.proofs.FollowLemmas.{held_accepted, reaches_accepted}
+use Rattle.osm_world.proofs.StateLemmas.{fresh_is_unaccepted, held_was_accepted, joined_is}
 use Rattle.osm_world.proofs.StepLemmas.{AreLawful, delivered_as, published_at}
 
 whole_of : (h : hist.History) (a : WorldValue) → IsInStep h a → a.follower.is_broken ≡ false → hist.is_broken h ≡ false
@@ -46,47 +51,76 @@ open_of h a k s above there whole = record {
   number = (let state = state_of h a s whole in state.reach);
 }
 
--- above the follower's number nothing was accepted
-none_above : (h : hist.History) (a : WorldValue) (j : ℕ) → IsInStep h a → a.follower.is_broken ≡ false → a.follower.number < j → hist.accepted_of h j ≡ false
-none_above h a j s whole past = none_accepted (hist.published_of h) (hist.start_of h) (hist.accepted_of h) a.follower (state_of h a s whole) j past
-
--- so that the next number reaches itself and no further
-reaches_next : (h : hist.History) (a : WorldValue) (k : ℕ) → IsInStep h a → a.follower.is_broken ≡ false → k ≡ a.follower.number + 1 → Reaches (hist.accepted_of h) k k
-reaches_next h a k s whole next = record {
-  from = omega arith;
-  all = λ j above below. absurd (omega arith);
-  next = none_above h a (k + 1) s whole (omega arith);
-}
+-- the sequence that is delivered is wanted
+wanted_of : (h : hist.History) (a : WorldValue) (k : ℕ) → IsInStep h a → 0 < k → k ≤ a.publisher.number → IsTurnOf a.follower (sequence_at (hist.published_of h) k).number → IsWanted h k a.follower.number
+wanted_of h a k s above there t =
+    let is : IsSequence k (sequence_at (hist.published_of h) k) = published_at h a k s above there in
+    let number_is : (sequence_at (hist.published_of h) k).number ≡ k = is.number_is in
+    let past : a.follower.number < k = rw number_is at t.above in
+    record {
+      is_open = open_of h a k s above there t.whole;
+      above = past;
+      within = rw number_is at t.within;
+      fresh = fresh_is_unaccepted (hist.published_of h) (hist.start_of h) (hist.accepted_of h) a.follower (state_of h a s t.whole) k past (rw number_is at t.fresh);
+    }
 
 some_of : (cs before after : List ChangeValue) (c : ChangeValue) → cs ≡ before ++ c ∷ after → 0 < length cs
 some_of cs before after c e = let many : length (before ++ c ∷ after) ≡ length before + length (c ∷ after) = length-append before (c ∷ after) in omega (arith, ap length e)
 
-work_of : (h : hist.History) (a : WorldValue) (k : ℕ) → IsInStep h a → a.follower.is_broken ≡ false → k ≡ a.follower.number + 1 → NeedsMemory a.follower.mirror (changes_at (hist.published_of h) k) → IsWork h k
-work_of h a k s whole next needs =
-    let some : 0 < length (changes_at (hist.published_of h) k) = some_of (changes_at (hist.published_of h) k) needs.before needs.after needs.change needs.is in
+-- an application that was stopped had a change to apply
+work_of : (h : hist.History) (a b : WorldValue) (k : ℕ) → IsInStep h a → a.follower.is_broken ≡ false → a.follower.number < k → (sequence_at (hist.published_of h) k).number ≡ k → Breaks a.follower (sequence_at (hist.published_of h) k) b.follower → IsWork h k
+work_of h a b k s whole past number_is t =
+    let ps : List PublishedValue = hist.published_of h in
+    let state : IsState ps (hist.start_of h) (hist.accepted_of h) a.follower = state_of h a s whole in
+    let high_is : t.high ≡ k + t.count = rw number_is at t.high_is in
+    let held_reach : Reaches (is_held a.follower) k t.high = rw number_is at t.reach in
+    let joined : between (changes_held a.follower) (sequence_at ps k).number t.count ≡ between (changes_at ps) k t.count =
+    rw number_is (joined_is ps (hist.start_of h) (hist.accepted_of h) a.follower k t.high t.count state past high_is held_reach) in
+    let some : 0 < length (changes_at ps k ++ between (changes_held a.follower) (sequence_at ps k).number t.count) = some_of _ t.needs.before t.needs.after t.needs.change t.needs.is in
     record {
-      count = 0;
-      reach = (let here : k + 0 ≡ k = omega arith in rw here (reaches_next h a k s whole next));
-      some = rw length-append (omega arith);
+      count = t.count;
+      reach = rw (← high_is) (reaches_accepted ps (hist.start_of h) (hist.accepted_of h) a.follower k t.high state past held_reach);
+      some = rw joined at some;
     }
 
--- the next number is the one that was delivered
-next_of : (h : hist.History) (a : WorldValue) (k : ℕ) → IsInStep h a → 0 < k → k ≤ a.publisher.number → a.follower.is_broken ≡ false → (sequence_at (hist.published_of h) k).number ≡ a.follower.number + 1 → IsNext h k a.follower.number
-next_of h a k s above there whole next =
-    let is : IsSequence k (sequence_at (hist.published_of h) k) = published_at h a k s above there in
-    record { is_open = open_of h a k s above there whole; next = sym is.number_is ∙ next }
-
-view_is : (h : hist.History) (a : WorldValue) (v : ViewValue) → IsInStep h a → a.follower.is_broken ≡ false → v ≡ view_of a.follower → IsView (hist.published_of h) (hist.start_of h) (hist.accepted_of h) v
-view_is h a v s whole is = let state = state_of h a s whole in rw is (record {
+view_is : (h : hist.History) (a : WorldValue) (v : ViewValue) → IsInStep h a → a.follower.is_broken ≡ false → v ≡ view_of a.follower → IsStrictlySortedBy nat_cmp v.held → IsView (hist.published_of h) (hist.start_of h) (hist.accepted_of h) v
+view_is h a v s whole is rising = rw is (record {
   reach = state.reach;
   time = state.follows.time;
   mirror = state.follows.mirror;
-  rising = rising-nil nat_cmp;
-  held = λ j. (λ has. absurd (nowhere j has), λ both. absurd (let out : hist.accepted_of h j ≡ false = none_above h a j s whole both.0 in let bad : true ≡ false = sym both.1 ∙ out in cc));
+  rising = rw is at rising;
+  held = λ j. (
+    λ has. (
+        let there : IsSome (held_at a.follower j) = shown j ((exactly_held a.follower.holding j).0 has) in
+        let past : a.follower.number < j = above j there in
+        (past, held_was_accepted (hist.published_of h) (hist.start_of h) (hist.accepted_of h) a.follower state j past there)),
+    λ both. (exactly_held a.follower.holding j).1 (told j (held_accepted (hist.published_of h) (hist.start_of h) (hist.accepted_of h) a.follower state j both.0 ∙ both.1)),
+  );
 })
   where
-    nowhere : (j : ℕ) → Contains [] j → ⊥
-    nowhere j has = let below = has.1 in omega arith
+    state : IsState (hist.published_of h) (hist.start_of h) (hist.accepted_of h) a.follower
+    state = state_of h a s whole
+
+    shown : (j : ℕ) → IsSome (area.held_at a.follower.holding j) → IsSome (held_at a.follower j)
+    shown j has = by_case (area.held_at a.follower.holding j) has
+      where
+        by_case : (o : Option kept.Held) → IsSome o → IsSome (option_map (λ x. let p : PublishedValue = record { number = j; changes = x.batch; time = x.time } in p) o)
+        by_case (Some x) t = refl
+        by_case None t = cc
+
+    told : (j : ℕ) → IsSome (held_at a.follower j) → IsSome (area.held_at a.follower.holding j)
+    told j has = by_case (area.held_at a.follower.holding j) has
+      where
+        by_case : (o : Option kept.Held) → IsSome (option_map (λ x. let p : PublishedValue = record { number = j; changes = x.batch; time = x.time } in p) o) → IsSome o
+        by_case (Some x) t = refl
+        by_case None t = cc
+
+    above : (j : ℕ) → IsSome (held_at a.follower j) → a.follower.number < j
+    above j has = by_case (held_at a.follower j) refl has
+      where
+        by_case : (o : Option PublishedValue) → held_at a.follower j ≡ o → IsSome o → a.follower.number < j
+        by_case (Some p) e t = (let old = (state.follows.held j p e).0 in omega arith)
+        by_case None e t = cc
 
 pub step_allowed : AreLawful → (h : hist.History) (e : Event) (r : Reply) (a b : WorldValue) → IsInStep h a → step.Step a e r b → Allowed h e r
 step_allowed laws h (Edit c) Edited a b s t = (let cs : a.publisher.pending ≡ hist.pending_of h = pending_is h a s in rw cs at t.0)
@@ -105,27 +139,43 @@ step_allowed laws h (Deliver k form) Old a b s t =
     let is : IsSequence k (sequence_at (hist.published_of h) k) = published_at h a k s t.above t.there in
     let d : FollowerStep a.follower (sequence_at (hist.published_of h) k) (Ok answers.Old) b.follower = delivered_as laws h a b k form (Ok answers.Old) s t.above t.there t.replies in
     (a.follower.number, open_of h a k s t.above t.there d.0, (let n = is.number_is in let below = d.1 in omega arith))
+step_allowed laws h (Deliver k form) Again a b s t =
+    let is : IsSequence k (sequence_at (hist.published_of h) k) = published_at h a k s t.above t.there in
+    let number : (sequence_at (hist.published_of h) k).number ≡ k = is.number_is in
+    let d : FollowerStep a.follower (sequence_at (hist.published_of h) k) (Ok answers.Again) b.follower = delivered_as laws h a b k form (Ok answers.Again) s t.above t.there t.replies in
+    let past : a.follower.number < k = rw number at d.1 in
+    let there : IsSome (held_at a.follower k) = rw number at d.2 in
+    (a.follower.number, open_of h a k s t.above t.there d.0, past, held_was_accepted (hist.published_of h) (hist.start_of h) (hist.accepted_of h) a.follower (state_of h a s d.0) k past there)
 step_allowed laws h (Deliver k form) TooEarly a b s t =
     let is : IsSequence k (sequence_at (hist.published_of h) k) = published_at h a k s t.above t.there in
     let number : (sequence_at (hist.published_of h) k).number ≡ k = is.number_is in
     let d : FollowerStep a.follower (sequence_at (hist.published_of h) k) (Err errors.TooEarly) b.follower = delivered_as laws h a b k form (Err errors.TooEarly) s t.above t.there t.replies in
-    let past : a.follower.number + 1 < k = rw number at d.1 in
-    (a.follower.number, open_of h a k s t.above t.there d.0, past, none_above h a k s d.0 (omega arith))
+    let past : a.follower.number + 64 < k = rw number at d.1 in
+    let none : held_at a.follower k ≡ None = rw number at d.2 in
+    (a.follower.number, open_of h a k s t.above t.there d.0, past, fresh_is_unaccepted (hist.published_of h) (hist.start_of h) (hist.accepted_of h) a.follower (state_of h a s d.0) k (omega arith) none)
 step_allowed laws h (Deliver k form) WantOfMemory a b s t =
     let d : FollowerStep a.follower (sequence_at (hist.published_of h) k) (Err errors.WantOfMemory) b.follower = delivered_as laws h a b k form (Err errors.WantOfMemory) s t.above t.there t.replies in
-    (a.follower.number, next_of h a k s t.above t.there d.0 d.1, d.2)
+    (a.follower.number, wanted_of h a k s t.above t.there d.0, d.1)
+step_allowed laws h (Deliver k form) Held a b s t =
+    let is : IsSequence k (sequence_at (hist.published_of h) k) = published_at h a k s t.above t.there in
+    let number : (sequence_at (hist.published_of h) k).number ≡ k = is.number_is in
+    let d : FollowerStep a.follower (sequence_at (hist.published_of h) k) (Ok answers.Held) b.follower = delivered_as laws h a b k form (Ok answers.Held) s t.above t.there t.replies in
+    (a.follower.number, wanted_of h a k s t.above t.there d.0, rw number at d.1)
 step_allowed laws h (Deliver k form) (Applied low high) a b s t =
     let is : IsSequence k (sequence_at (hist.published_of h) k) = published_at h a k s t.above t.there in
+    let number : (sequence_at (hist.published_of h) k).number ≡ k = is.number_is in
     let d : FollowerStep a.follower (sequence_at (hist.published_of h) k) (Ok (answers.Applied low high)) b.follower = delivered_as laws h a b k form (Ok (answers.Applied low high)) s t.above t.there t.replies in
-    let high_is : high ≡ k = d.3 ∙ is.number_is in
-    (a.follower.number, next_of h a k s t.above t.there d.0 d.1, d.2 ∙ is.number_is, rw high_is (reaches_next h a k s d.0 (sym is.number_is ∙ d.1)))
+    let next : k ≡ a.follower.number + 1 = sym number ∙ d.1 in
+    (a.follower.number, wanted_of h a k s t.above t.there d.0, next, d.2 ∙ number, reaches_accepted (hist.published_of h) (hist.start_of h) (hist.accepted_of h) a.follower k high (state_of h a s d.0.whole) (omega arith) (rw number at d.3.reach))
 step_allowed laws h (Deliver k form) Broke a b s t =
     let is : IsSequence k (sequence_at (hist.published_of h) k) = published_at h a k s t.above t.there in
+    let number : (sequence_at (hist.published_of h) k).number ≡ k = is.number_is in
     let d : FollowerStep a.follower (sequence_at (hist.published_of h) k) (Err errors.Broke) b.follower = delivered_as laws h a b k form (Err errors.Broke) s t.above t.there t.replies in
-    (a.follower.number, next_of h a k s t.above t.there d.0 d.1, work_of h a k s d.0 (sym is.number_is ∙ d.1) d.2.needs)
+    let next : k ≡ a.follower.number + 1 = sym number ∙ d.1 in
+    (a.follower.number, wanted_of h a k s t.above t.there d.0, next, work_of h a b k s d.0.whole (omega arith) number d.2)
 step_allowed laws h (Deliver k form) r a b s t = absurd t.replies
 step_allowed laws h Show Broken a b s t = sym s.broken ∙ t.0
-step_allowed laws h Show (Shown v) a b s t = (whole_of h a s t.0, view_is h a v s t.0 t.1)
+step_allowed laws h Show (Shown v) a b s t = (whole_of h a s t.0, view_is h a v s t.0 t.1 t.2)
 step_allowed laws h Show WantOfMemory a b s t = whole_of h a s t.0
 step_allowed laws h Show r a b s t = absurd t
 

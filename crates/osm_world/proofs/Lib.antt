@@ -1,5 +1,9 @@
+pub mod ReachLemmas
+pub mod StateLemmas
 pub mod StepLemmas
 pub mod LegalLemmas
 pub mod ArchiveLemmas
 pub mod RunLemmas
 pub mod ReportLemmas
+pub mod LawLemmas
+pub mod AlikeLemmas

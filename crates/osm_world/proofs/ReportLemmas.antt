@@ -1,34 +1,19 @@
 -- What a legal history has reported as applied.
-use Rattle.std.proofs.Common.{◌≡◌, ℕ, zero, suc, ◌+◌, ◌-◌, ◌<◌, [], ◌∷◌, ◌++◌, length, get_or, refl, ap, sym, ◌∙◌, Bool, true, false, arith, append-nil, append_assoc, length-append, inl, inr, subst}
+use Rattle.std.proofs.Common.{◌≡◌, ℕ, zero, suc, ◌+◌, ◌-◌, ◌<◌, [], ◌∷◌, ◌++◌, length, get_or, refl, ap, sym, ◌∙◌, Bool, true, false, arith, append-nil, length-append, inl, inr, subst}
 use Rattle.std.specs.Prelude.{◌==◌, ◌||◌}
-use Rattle.std.proofs.lemmas.Bool.{cases_eq, cases_lt, eq-eqb, ne_eqb, or_left, or_right, or_from}
+use Rattle.std.proofs.lemmas.Bool.{cases_lt}
 use Rattle.std.proofs.lemmas.List.{get_or_append_left, get_or-append-add}
 use Rattle.osm_world.specs.Correct.{IsReported}
 use Rattle.osm_world.specs.History as hist
 use Rattle.osm_world.specs.Legal.{IsLegal, IsNumber, Allowed}
 use Rattle.osm_follow.specs.Reach.{Reaches, numbers}
+use Rattle.osm_follow.proofs.ReachLemmas.{between-append}
+use Rattle.osm_world.proofs.ReachLemmas.{one_reach, reaches_with_next, reaches_with_later}
 use Rattle.osm_world.specs.declared.event.Event.{Event}
 use Rattle.osm_world.specs.declared.event.Event.TheVariants.{Edit, Close, Deliver, Show}
 use Rattle.osm_world.specs.declared.event.Form.{Form}
 use Rattle.osm_world.specs.declared.event.Reply.{Reply}
-use Rattle.osm_world.specs.declared.event.Reply.TheVariants.{Edited, BatchFull, WantOfMemory, Closed, SequenceFull, TimeBack, TooLarge, NotPublished, Broken, Old, TooEarly, Applied, Broke, Shown}
-
--- a number is reached without a gap only once
-pub one_reach : (is_in : ℕ → Bool) (n a b : ℕ) → Reaches is_in n a → Reaches is_in n b → a ≡ b
-one_reach is_in n a b p q = elim (cases_lt a b) [
-  | inl below ↦ absurd (past a b p q below)
-  | inr above ↦ elim (cases_lt b a) [
-    | inl below ↦ absurd (past b a q p below)
-    | inr same ↦ omega arith
-  ]
-]
-  where
-    past : (x y : ℕ) → Reaches is_in n x → Reaches is_in n y → x < y → ⊥
-    past x y r s below =
-        let from = r.from in
-        let yes : is_in (x + 1) ≡ true = s.all (x + 1) (omega arith) (omega arith) in
-        let none : is_in (x + 1) ≡ false = r.next in
-        let bad : true ≡ false = sym yes ∙ none in cc
+use Rattle.osm_world.specs.declared.event.Reply.TheVariants.{Edited, BatchFull, WantOfMemory, Closed, SequenceFull, TimeBack, TooLarge, NotPublished, Broken, Old, Again, TooEarly, Held, Applied, Broke, Shown}
 
 pub length-numbers : (n count : ℕ) → length (numbers n count) ≡ count
 length-numbers n zero = refl
@@ -46,17 +31,7 @@ get_or-numbers n (suc count) i below =
           last ∙ omega arith)
     ]
 
-pub numbers-append : (n a b : ℕ) → numbers n a ++ numbers (n + a) b ≡ numbers n (a + b)
-numbers-append n a zero = append-nil (numbers n a) ∙ ap (numbers n) (let same : a ≡ a + 0 = omega arith in same)
-numbers-append n a (suc b) =
-    let last : n + a + suc b ≡ n + suc (a + b) = omega arith in
-    let more : a + suc b ≡ suc (a + b) = omega arith in
-    sym (append_assoc (numbers n a) (numbers (n + a) b) ((n + a + suc b) ∷ []))
-    ∙ (ap (λ xs. xs ++ (n + a + suc b) ∷ []) (numbers-append n a b)
-    ∙ (ap (λ (j : ℕ). numbers n (a + b) ++ j ∷ []) last
-    ∙ sym (ap (numbers n) more)))
-
-legal_before : (h : hist.History) (e : Event) (r : Reply) → IsLegal ((e, r) ∷ h) → IsLegal h
+pub legal_before : (h : hist.History) (e : Event) (r : Reply) → IsLegal ((e, r) ∷ h) → IsLegal h
 legal_before h e r legal = record { each = λ later before d q is. legal.each ((e, r) ∷ later) before d q (ap (λ (x : hist.History). (e, r) ∷ x) is) }
 
 -- what a pair that reports nothing leaves as it was
@@ -77,33 +52,32 @@ quiet_reports h e r n q before ok number =
 applied_reports : (h : hist.History) (k low high n : ℕ) (form : Form) → Allowed h (Deliver k form) (Applied low high) → ((m : ℕ) → hist.is_broken h ≡ false → IsNumber h m → IsReported (hist.reported_of h) (hist.start_of h) m) → IsNumber ((Deliver k form, Applied low high) ∷ h) n → IsReported (hist.reported_of ((Deliver k form, Applied low high) ∷ h)) (hist.start_of h) n
 applied_reports h k low high n form allowed before number =
     let m : ℕ = allowed.0 in
-    let next : k ≡ m + 1 = allowed.1.next in
-    let low_is : low ≡ k = allowed.2 in
-    let reach : Reaches (hist.accepted_of h) k high = allowed.3 in
+    let next : k ≡ m + 1 = allowed.2 in
+    let low_is : low ≡ k = allowed.3 in
+    let reach : Reaches (hist.accepted_of h) k high = allowed.4 in
     let from = reach.from in
     let here : IsNumber h m = allowed.1.is_open.number in
     let start = here.from in
     let p : IsReported (hist.reported_of h) (hist.start_of h) m = before m allowed.1.is_open.whole here in
     let number_is : m ≡ hist.start_of h + p.count = p.number_is in
-    let reaches : Reaches (λ j. (k == j) || hist.accepted_of h j) (hist.start_of h) high = record {
-      from = omega arith;
-      all = λ j above below. elim (cases_eq k j) [
-        | inl is ↦ or_left (k == j) (hist.accepted_of h j) (eq-eqb k j is)
-        | inr ne ↦ or_right (k == j) (hist.accepted_of h j) (elim (cases_lt j k) [
-          | inl earlier ↦ here.all j above (omega arith)
-          | inr later ↦ reach.all j (omega arith) below
-        ])
-      ];
-      next = or_from (k == (high + 1)) (hist.accepted_of h (high + 1)) (ne_eqb k (high + 1) (λ e. omega arith)) reach.next;
-    } in
+    let reaches : Reaches (λ j. (k == j) || hist.accepted_of h j) (hist.start_of h) high = reaches_with_next (hist.accepted_of h) (hist.start_of h) m k high here next reach in
     let is : n ≡ high = one_reach (λ j. (k == j) || hist.accepted_of h j) (hist.start_of h) n high number reaches in
     let count : ℕ = high + 1 - low in
     let first : low - 1 ≡ hist.start_of h + p.count = omega arith in
     record {
       count = p.count + count;
       number_is = omega arith;
-      reported_is = rw (p.reported_is, first) (numbers-append (hist.start_of h) p.count count);
+      reported_is = rw (p.reported_is, first) (between-append (λ j. j ∷ []) (hist.start_of h) p.count count);
     }
+
+-- a pair that holds a sequence reports nothing, and leaves the number
+held_reports : (h : hist.History) (k n : ℕ) (form : Form) → Allowed h (Deliver k form) Held → ((m : ℕ) → hist.is_broken h ≡ false → IsNumber h m → IsReported (hist.reported_of h) (hist.start_of h) m) → IsNumber ((Deliver k form, Held) ∷ h) n → IsReported (hist.reported_of ((Deliver k form, Held) ∷ h)) (hist.start_of h) n
+held_reports h k n form allowed before number =
+    let m : ℕ = allowed.0 in
+    let here : IsNumber h m = allowed.1.is_open.number in
+    let reaches : Reaches (λ j. (k == j) || hist.accepted_of h j) (hist.start_of h) m = reaches_with_later (hist.accepted_of h) (hist.start_of h) m k here allowed.2 in
+    let is : n ≡ m = one_reach (λ j. (k == j) || hist.accepted_of h j) (hist.start_of h) n m number reaches in
+    rw (is, append-nil) (before m allowed.1.is_open.whole here)
 
 pub reported_is : (h : hist.History) (n : ℕ) → IsLegal h → hist.is_broken h ≡ false → IsNumber h n → IsReported (hist.reported_of h) (hist.start_of h) n
 reported_is [] n legal ok number = elim (cases_lt 0 n) [
@@ -127,8 +101,10 @@ reported_is (p ∷ h) n legal ok number =
     by_pair (Deliver k form) NotPublished allowed before whole at = quiet_reports h (Deliver k form) NotPublished n (silent h (Deliver k form) NotPublished refl refl refl) (before n) whole at
     by_pair (Deliver k form) Broken allowed before whole at = quiet_reports h (Deliver k form) Broken n (silent h (Deliver k form) Broken refl refl refl) (before n) whole at
     by_pair (Deliver k form) Old allowed before whole at = quiet_reports h (Deliver k form) Old n (silent h (Deliver k form) Old refl refl refl) (before n) whole at
+    by_pair (Deliver k form) Again allowed before whole at = quiet_reports h (Deliver k form) Again n (silent h (Deliver k form) Again refl refl refl) (before n) whole at
     by_pair (Deliver k form) TooEarly allowed before whole at = quiet_reports h (Deliver k form) TooEarly n (silent h (Deliver k form) TooEarly refl refl refl) (before n) whole at
     by_pair (Deliver k form) WantOfMemory allowed before whole at = quiet_reports h (Deliver k form) WantOfMemory n (silent h (Deliver k form) WantOfMemory refl refl refl) (before n) whole at
+    by_pair (Deliver k form) Held allowed before whole at = held_reports h k n form allowed before at
     by_pair (Deliver k form) (Applied low high) allowed before whole at = applied_reports h k low high n form allowed before at
     by_pair (Deliver k form) Broke allowed before whole at = cc
     by_pair (Deliver k form) r allowed before whole at = absurd allowed

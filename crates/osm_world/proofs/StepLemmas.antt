@@ -1,9 +1,8 @@
 -- A step keeps a world in step with its history.
-use Rattle.std.proofs.Common.{◌≡◌, ℕ, suc, ◌+◌, ◌-◌, ◌<◌, ◌≤◌, List, [], ◌∷◌, ◌++◌, length, refl, ap, sym, ◌∙◌, Bool, true, false, arith, Some, None, Option, append-nil, length-append, inl, inr, subst}
+use Rattle.std.proofs.Common.{◌≡◌, ℕ, ◌+◌, ◌-◌, ◌<◌, ◌≤◌, List, [], ◌∷◌, ◌++◌, length, refl, ap, sym, ◌∙◌, Bool, true, false, arith, Some, None, Option, append-nil, length-append, subst}
 use Rattle.std.specs.Prelude.{◌==◌, if◌then◌else◌, ◌||◌, Result, Ok, Err}
 use Rattle.std.specs.List.{zip}
 use Rattle.std.proofs.lemmas.List.{reverse-append, map-append}
-use Rattle.std.proofs.lemmas.Bool.{cases_eq, eq-eqb, ne_eqb, or_left, or_right, or_from}
 use Rattle.osm_model.specs.Batch.{IsBatch}
 use Rattle.osm_model.specs.Change.{ChangeValue}
 use Rattle.osm_model.specs.Limits.{IsPositive}
@@ -26,9 +25,10 @@ use Rattle.osm_world.specs.declared.event.Event.{Event}
 use Rattle.osm_world.specs.declared.event.Event.TheVariants.{Edit, Close, Deliver, Show}
 use Rattle.osm_world.specs.declared.event.Form.{Form}
 use Rattle.osm_world.specs.declared.event.Reply.{Reply}
-use Rattle.osm_world.specs.declared.event.Reply.TheVariants.{Edited, BatchFull, WantOfMemory, Closed, SequenceFull, TimeBack, TooLarge, NotPublished, Broken, Old, TooEarly, Applied, Broke, Shown}
+use Rattle.osm_world.specs.declared.event.Reply.TheVariants.{Edited, BatchFull, WantOfMemory, Closed, SequenceFull, TimeBack, TooLarge, NotPublished, Broken, Old, Again, TooEarly, Held, Applied, Broke, Shown}
 use Rattle.osm_follow.proofs.DeliveryLemmas.{OneBatch, NoFaultBeside, FollowerStep, read_as, state_of}
-use Rattle.osm_follow.proofs.FollowLemmas.{follows_taken, follows_grown, none_accepted}
+use Rattle.osm_follow.proofs.FollowLemmas.{follows_grown, state_held, state_taken}
+use Rattle.osm_follow.proofs.ReachLemmas.{between-append}
 use Rattle.osm_mirror.proofs.MirrorLemmas.{mirror_of-nil}
 use Rattle.osm_follow.proofs.PublishedLemmas.{sequence_within, sequences-snoc, texts_at-written, last_time-snoc}
 
@@ -114,37 +114,17 @@ closed_keeps h t n a b s can positive is =
       reported = λ ok. rw append-nil (s.reported ok);
     })
 
-taken_state : (ps : List PublishedValue) (start : ℕ) (acc : ℕ → Bool) (k : ℕ) (f g : FollowerValue) → IsState ps start acc f → k ≡ f.number + 1 → k ≤ length ps → (sequence_at ps k).number ≡ k → table.Takes f (sequence_at ps k) g → IsState ps start (λ j. (k == j) || acc j) g
-taken_state ps start acc k f g s next there number t =
-    let at : g.number ≡ k = ap (λ (x : FollowerValue). x.number) t.rest ∙ number in
-    let from = s.reach.from in
-    let none : (j : ℕ) → k < j → ((k == j) || acc j) ≡ false = λ j past. or_from (k == j) (acc j) (ne_eqb k j (λ e. omega arith)) (none_accepted ps start acc f s j (omega arith)) in
-    record {
-      reach = rw at (record {
-        from = omega arith;
-        all = λ j above below. elim (cases_eq k j) [
-          | inl is ↦ or_left (k == j) (acc j) (eq-eqb k j is)
-          | inr ne ↦ or_right (k == j) (acc j) (s.reach.all j above (omega arith))
-        ];
-        next = none (k + 1) (omega arith);
-      });
-      follows = follows_taken ps k f g s.follows next there number t;
-      held = λ j past. sym (ap (λ b. if b then Some (sequence_at ps j) else None) (none j (rw at at past)));
-    }
-
-reported_more : (reported : List ℕ) (start n k : ℕ) → k ≡ n + 1 → IsReported reported start n → IsReported (reported ++ numbers (k - 1) (k + 1 - k)) start k
-reported_more reported start n k e p =
+-- the numbers from the next one up to high were reported besides
+reported_more : (reported : List ℕ) (start n k low high count : ℕ) → k ≡ n + 1 → low ≡ k → high ≡ k + count → IsReported reported start n → IsReported (reported ++ numbers (low - 1) (high + 1 - low)) start high
+reported_more reported start n k low high count next low_is high_is p =
     let is = p.number_is in
-    let one : k + 1 - k ≡ 1 = omega arith in
-    let last : k - 1 + 1 ≡ start + (p.count + 1) = omega arith in
+    let many : high + 1 - low ≡ count + 1 = omega arith in
+    let first : low - 1 ≡ start + p.count = omega arith in
     record {
-      count = p.count + 1;
+      count = p.count + (count + 1);
       number_is = omega arith;
-      reported_is = rw (one, p.reported_is) (ap (λ (j : ℕ). numbers start p.count ++ j ∷ []) last ∙ added start p.count (p.count + 1) refl);
+      reported_is = rw (first, many, p.reported_is) (between-append (λ j. j ∷ []) start p.count (count + 1));
     }
-  where
-    added : (s c d : ℕ) → d ≡ c + 1 → numbers s c ++ (s + d) ∷ [] ≡ numbers s d
-    added s c d is = let more : d ≡ suc c = omega arith in rw more refl
 
 -- the laws of the two forms and of state texts
 pub record AreLawful : Type 0 where
@@ -171,16 +151,17 @@ delivered_as laws h a b k form answer s above there d =
     subst (λ (x : PublishedTexts). table.Delivers (spells_in form) (fault_in form) a.follower x.state (bytes_in form x) answer b.follower) texts d in
     read_as (spells_in form) (fault_in form) (laws.one form) laws.apart a.follower b.follower (written_of p).state (bytes_in form (written_of p)) p (omega arith) named (laws.spelled form p is.changes) answer read
 
-applied_keeps : AreLawful → (h : hist.History) (k low high : ℕ) (form : Form) (a b : WorldValue) → IsInStep h a → DeliversTo a k form (Applied low high) b → IsInStep ((Deliver k form, Applied low high) ∷ h) b
-applied_keeps laws h k low high form a b s t =
+held_keeps : AreLawful → (h : hist.History) (k : ℕ) (form : Form) (a b : WorldValue) → IsInStep h a → DeliversTo a k form Held b → IsInStep ((Deliver k form, Held) ∷ h) b
+held_keeps laws h k form a b s t =
     let p : PublishedValue = sequence_at (hist.published_of h) k in
     let published : a.publisher.number ≡ length (hist.published_of h) = ap (λ (q : PublisherValue). q.number) s.publisher in
     let is : IsSequence k p = published_at h a k s t.above t.there in
     let number_is : p.number ≡ k = is.number_is in
-    let step : FollowerStep a.follower p (Ok (answers.Applied low high)) b.follower = delivered_as laws h a b k form (Ok (answers.Applied low high)) s t.above t.there t.replies in
-    let same : b.follower.is_broken ≡ a.follower.is_broken = ap (λ (f : FollowerValue). f.is_broken) step.4.rest in
-    let number : b.follower.number ≡ k = ap (λ (f : FollowerValue). f.number) step.4.rest ∙ number_is in
-    let next : k ≡ a.follower.number + 1 = (let n = step.1 in omega arith) in
+    let step : FollowerStep a.follower p (Ok answers.Held) b.follower = delivered_as laws h a b k form (Ok answers.Held) s t.above t.there t.replies in
+    let same : b.follower.is_broken ≡ a.follower.is_broken = ap (λ (f : FollowerValue). f.is_broken) step.2.rest in
+    let number : b.follower.number ≡ a.follower.number = ap (λ (f : FollowerValue). f.number) step.2.rest in
+    let later : a.follower.number + 1 < k = rw number_is at step.1 in
+    let within : k ≤ a.follower.number + 64 = rw number_is at step.0.within in
     let there : k ≤ length (hist.published_of h) = (let w = t.there in omega arith) in
     rw t.rest (record {
       publisher = rw append-nil s.publisher;
@@ -188,8 +169,31 @@ applied_keeps laws h k low high form a b s t =
       sequences = s.sequences;
       batch = rw append-nil s.batch;
       broken = same ∙ s.broken;
-      state = λ ok. taken_state (hist.published_of h) (hist.start_of h) (hist.accepted_of h) k a.follower b.follower (s.state ok) next there number_is step.4;
-      reported = λ ok. rw (number, step.2 ∙ number_is, step.3 ∙ number_is) (reported_more (hist.reported_of h) (hist.start_of h) a.follower.number k next (s.reported ok));
+      state = λ ok. state_held (hist.published_of h) (hist.start_of h) (hist.accepted_of h) (λ j. (k == j) || hist.accepted_of h j) k a.follower b.follower (s.state ok) (λ j. refl) later within there number_is step.2;
+      reported = λ ok. rw (number, append-nil) (s.reported ok);
+    })
+
+applied_keeps : AreLawful → (h : hist.History) (k low high : ℕ) (form : Form) (a b : WorldValue) → IsInStep h a → DeliversTo a k form (Applied low high) b → IsInStep ((Deliver k form, Applied low high) ∷ h) b
+applied_keeps laws h k low high form a b s t =
+    let p : PublishedValue = sequence_at (hist.published_of h) k in
+    let published : a.publisher.number ≡ length (hist.published_of h) = ap (λ (q : PublisherValue). q.number) s.publisher in
+    let is : IsSequence k p = published_at h a k s t.above t.there in
+    let number_is : p.number ≡ k = is.number_is in
+    let step : FollowerStep a.follower p (Ok (answers.Applied low high)) b.follower = delivered_as laws h a b k form (Ok (answers.Applied low high)) s t.above t.there t.replies in
+    let same : b.follower.is_broken ≡ a.follower.is_broken = step.3.whole ∙ sym step.0.whole in
+    let number : b.follower.number ≡ high = step.3.number in
+    let next : k ≡ a.follower.number + 1 = sym number_is ∙ step.1 in
+    let low_is : low ≡ k = step.2 ∙ number_is in
+    let high_is : high ≡ k + step.3.count = rw number_is at step.3.high_is in
+    let there : k ≤ length (hist.published_of h) = (let w = t.there in omega arith) in
+    rw t.rest (record {
+      publisher = rw append-nil s.publisher;
+      archive = s.archive;
+      sequences = s.sequences;
+      batch = rw append-nil s.batch;
+      broken = same ∙ s.broken;
+      state = λ ok. state_taken (hist.published_of h) (hist.start_of h) (hist.accepted_of h) (λ j. (k == j) || hist.accepted_of h j) k high a.follower b.follower (s.state ok) (λ j. refl) next there number_is step.3;
+      reported = λ ok. rw number (reported_more (hist.reported_of h) (hist.start_of h) a.follower.number k low high step.3.count next low_is high_is (s.reported ok));
     })
 
 broke_keeps : AreLawful → (h : hist.History) (k : ℕ) (form : Form) (a b : WorldValue) → IsInStep h a → DeliversTo a k form Broke b → IsInStep ((Deliver k form, Broke) ∷ h) b
@@ -243,12 +247,14 @@ step_keeps laws h (Close m) r a b s t = absurd t
 step_keeps laws h (Deliver k form) NotPublished a b s t = quiet_keeps h (Deliver k form) NotPublished a b (still h (Deliver k form) NotPublished refl refl refl refl refl) s t.1
 step_keeps laws h (Deliver k form) Broken a b s t = quiet_keeps h (Deliver k form) Broken a b (still h (Deliver k form) Broken refl refl refl refl refl) s (unmoved a b t.rest (delivered_as laws h a b k form (Err errors.Broken) s t.above t.there t.replies).1)
 step_keeps laws h (Deliver k form) Old a b s t = quiet_keeps h (Deliver k form) Old a b (still h (Deliver k form) Old refl refl refl refl refl) s (unmoved a b t.rest (delivered_as laws h a b k form (Ok answers.Old) s t.above t.there t.replies).2)
-step_keeps laws h (Deliver k form) TooEarly a b s t = quiet_keeps h (Deliver k form) TooEarly a b (still h (Deliver k form) TooEarly refl refl refl refl refl) s (unmoved a b t.rest (delivered_as laws h a b k form (Err errors.TooEarly) s t.above t.there t.replies).2)
-step_keeps laws h (Deliver k form) WantOfMemory a b s t = quiet_keeps h (Deliver k form) WantOfMemory a b (still h (Deliver k form) WantOfMemory refl refl refl refl refl) s (unmoved a b t.rest (delivered_as laws h a b k form (Err errors.WantOfMemory) s t.above t.there t.replies).3)
+step_keeps laws h (Deliver k form) Again a b s t = quiet_keeps h (Deliver k form) Again a b (still h (Deliver k form) Again refl refl refl refl refl) s (unmoved a b t.rest (delivered_as laws h a b k form (Ok answers.Again) s t.above t.there t.replies).3)
+step_keeps laws h (Deliver k form) TooEarly a b s t = quiet_keeps h (Deliver k form) TooEarly a b (still h (Deliver k form) TooEarly refl refl refl refl refl) s (unmoved a b t.rest (delivered_as laws h a b k form (Err errors.TooEarly) s t.above t.there t.replies).3)
+step_keeps laws h (Deliver k form) WantOfMemory a b s t = quiet_keeps h (Deliver k form) WantOfMemory a b (still h (Deliver k form) WantOfMemory refl refl refl refl refl) s (unmoved a b t.rest (delivered_as laws h a b k form (Err errors.WantOfMemory) s t.above t.there t.replies).2)
+step_keeps laws h (Deliver k form) Held a b s t = held_keeps laws h k form a b s t
 step_keeps laws h (Deliver k form) (Applied low high) a b s t = applied_keeps laws h k low high form a b s t
 step_keeps laws h (Deliver k form) Broke a b s t = broke_keeps laws h k form a b s t
 step_keeps laws h (Deliver k form) r a b s t = absurd t.replies
 step_keeps laws h Show Broken a b s t = quiet_keeps h Show Broken a b (still h Show Broken refl refl refl refl refl) s t.1
-step_keeps laws h Show (Shown v) a b s t = quiet_keeps h Show (Shown v) a b (still h Show (Shown v) refl refl refl refl refl) s t.2
+step_keeps laws h Show (Shown v) a b s t = quiet_keeps h Show (Shown v) a b (still h Show (Shown v) refl refl refl refl refl) s t.3
 step_keeps laws h Show WantOfMemory a b s t = quiet_keeps h Show WantOfMemory a b (still h Show WantOfMemory refl refl refl refl refl) s t.1
 step_keeps laws h Show r a b s t = absurd t

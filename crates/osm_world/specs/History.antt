@@ -10,7 +10,8 @@ use Rattle.osm_follow.specs.Reach.{numbers}
 use Rattle.osm_world.specs.declared.event.Event.{Event}
 use Rattle.osm_world.specs.declared.event.Event.TheVariants.{Edit, Close, Deliver}
 use Rattle.osm_world.specs.declared.event.Reply.{Reply}
-use Rattle.osm_world.specs.declared.event.Reply.TheVariants.{Edited, Closed, Applied, Broke}
+use Rattle.osm_world.specs.declared.event.Reply.TheVariants.{Edited, Closed, Held, Applied}
+use Rattle.osm_world.specs.declared.event.Reply.TheVariants.{Broke}
 
 -- an event and its reply
 abbrev pub Pair : Type 0
@@ -45,6 +46,7 @@ applied_by r = []
 
 -- whether the pair accepts the number
 abbrev pub accepts : Event → Reply → ℕ → Bool
+accepts (Deliver k form) Held j = k == j
 accepts (Deliver k form) (Applied low high) j = k == j
 accepts e r j = false
 

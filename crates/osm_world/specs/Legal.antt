@@ -11,15 +11,11 @@ use Rattle.osm_follow.specs.View.{IsView}
 use Rattle.osm_world.specs.declared.event.Event.{Event}
 use Rattle.osm_world.specs.declared.event.Event.TheVariants.{Edit, Close, Deliver, Show}
 use Rattle.osm_world.specs.declared.event.Reply.{Reply}
-use Rattle.osm_world.specs.declared.event.Reply.TheVariants.{
-  Edited,
-  BatchFull,
-  WantOfMemory,
-  Closed,
-}
-use Rattle.osm_world.specs.declared.event.Reply.TheVariants.{SequenceFull, TimeBack, TooLarge}
-use Rattle.osm_world.specs.declared.event.Reply.TheVariants.{NotPublished, Broken, Old, TooEarly}
-use Rattle.osm_world.specs.declared.event.Reply.TheVariants.{Applied, Broke, Shown}
+use Rattle.osm_world.specs.declared.event.Reply.TheVariants.{Edited, BatchFull, WantOfMemory}
+use Rattle.osm_world.specs.declared.event.Reply.TheVariants.{Closed, SequenceFull, TimeBack}
+use Rattle.osm_world.specs.declared.event.Reply.TheVariants.{TooLarge, NotPublished, Broken, Old}
+use Rattle.osm_world.specs.declared.event.Reply.TheVariants.{Again, TooEarly, Held, Applied}
+use Rattle.osm_world.specs.declared.event.Reply.TheVariants.{Broke, Shown}
 
 -- the number of a history: the greatest such that it and all below it, above the start, were
 -- accepted
@@ -33,10 +29,12 @@ pub record IsOpen (h : History) (k n : ℕ) : Type 0 where
   pub whole : is_broken h ≡ false
   pub number : IsNumber h n
 
--- and k is the next number
-pub record IsNext (h : History) (k n : ℕ) : Type 0 where
+-- and k is above n and within the window, and wasn't accepted
+pub record IsWanted (h : History) (k n : ℕ) : Type 0 where
   pub is_open : IsOpen h k n
-  pub next : k ≡ n + 1
+  pub above : n < k
+  pub within : k ≤ n + 64
+  pub fresh : accepted_of h k ≡ false
 
 -- the sequences from k on up to the last that can then be applied aren't all empty
 pub record IsWork (h : History) (k : ℕ) : Type 0 where
@@ -65,12 +63,15 @@ abbrev pub AllowedDeliver : History → ℕ → Reply → Type 0
 AllowedDeliver h k NotPublished = (k ≡ 0) ⊎ (length (published_of h) < k)
 AllowedDeliver h k Broken = (0 < k) × (k ≤ length (published_of h)) × (is_broken h ≡ true)
 AllowedDeliver h k Old = (n : ℕ) × IsOpen h k n × (k ≤ n)
-AllowedDeliver h k TooEarly = (n : ℕ) × IsOpen h k n × (n + 1 < k) × (accepted_of h k ≡ false)
+AllowedDeliver h k Again = (n : ℕ) × IsOpen h k n × (n < k) × (accepted_of h k ≡ true)
+AllowedDeliver h k TooEarly =
+    (n : ℕ) × IsOpen h k n × (n + 64 < k) × (accepted_of h k ≡ false)
 AllowedDeliver h k WantOfMemory =
-    (n : ℕ) × IsNext h k n × (0 < length (changes_at (published_of h) k))
+    (n : ℕ) × IsWanted h k n × (0 < length (changes_at (published_of h) k))
+AllowedDeliver h k Held = (n : ℕ) × IsWanted h k n × (n + 1 < k)
 AllowedDeliver h k (Applied low high) =
-    (n : ℕ) × IsNext h k n × (low ≡ k) × Reaches (accepted_of h) k high
-AllowedDeliver h k Broke = (n : ℕ) × IsNext h k n × IsWork h k
+    (n : ℕ) × IsWanted h k n × (k ≡ n + 1) × (low ≡ k) × Reaches (accepted_of h) k high
+AllowedDeliver h k Broke = (n : ℕ) × IsWanted h k n × (k ≡ n + 1) × IsWork h k
 AllowedDeliver h k r = ⊥
 
 abbrev pub AllowedShow : History → Reply → Type 0

@@ -2,6 +2,8 @@
 -- two replies are never both right, except that memory may be refused.
 use Rattle.std.specs.Prelude.{◌≡◌, ℕ, ◌+◌, ◌<◌, ◌≤◌, List, [], ◌∷◌, ◌++◌, length, true, false, ◌⊎◌}
 use Rattle.std.specs.Prelude.{Ok, Err}
+use Rattle.std.specs.List.Sorted.{IsStrictlySortedBy}
+use Rattle.std.specs.Ordering.{nat_cmp}
 use Rattle.osm_model.specs.Batch.{IsBatch}
 use Rattle.osm_model.specs.Change.{ChangeValue}
 use Rattle.osm_model.specs.Limits.{IsPositive, max_changes, max_sequence}
@@ -20,15 +22,11 @@ use Rattle.osm_world.specs.declared.event.Event.TheVariants.{Edit, Close, Delive
 use Rattle.osm_world.specs.declared.event.Form.{Form}
 use Rattle.osm_world.specs.declared.event.Form.TheVariants.{Opl, O5c}
 use Rattle.osm_world.specs.declared.event.Reply.{Reply}
-use Rattle.osm_world.specs.declared.event.Reply.TheVariants.{
-  Edited,
-  BatchFull,
-  WantOfMemory,
-  Closed,
-}
-use Rattle.osm_world.specs.declared.event.Reply.TheVariants.{SequenceFull, TimeBack, TooLarge}
-use Rattle.osm_world.specs.declared.event.Reply.TheVariants.{NotPublished, Broken, Old, TooEarly}
-use Rattle.osm_world.specs.declared.event.Reply.TheVariants.{Applied, Broke, Shown}
+use Rattle.osm_world.specs.declared.event.Reply.TheVariants.{Edited, BatchFull, WantOfMemory}
+use Rattle.osm_world.specs.declared.event.Reply.TheVariants.{Closed, SequenceFull, TimeBack}
+use Rattle.osm_world.specs.declared.event.Reply.TheVariants.{TooLarge, NotPublished, Broken, Old}
+use Rattle.osm_world.specs.declared.event.Reply.TheVariants.{Again, TooEarly, Held, Applied}
+use Rattle.osm_world.specs.declared.event.Reply.TheVariants.{Broke, Shown}
 
 -- which batches bytes spell in a form
 abbrev pub spells_in : Form → Spelling
@@ -80,10 +78,14 @@ Replies spells fault_place f state bytes Broken g =
     Delivers spells fault_place f state bytes (Err errors.Broken) g
 Replies spells fault_place f state bytes Old g =
     Delivers spells fault_place f state bytes (Ok answers.Old) g
+Replies spells fault_place f state bytes Again g =
+    Delivers spells fault_place f state bytes (Ok answers.Again) g
 Replies spells fault_place f state bytes TooEarly g =
     Delivers spells fault_place f state bytes (Err errors.TooEarly) g
 Replies spells fault_place f state bytes WantOfMemory g =
     Delivers spells fault_place f state bytes (Err errors.WantOfMemory) g
+Replies spells fault_place f state bytes Held g =
+    Delivers spells fault_place f state bytes (Ok answers.Held) g
 Replies spells fault_place f state bytes (Applied low high) g =
     Delivers spells fault_place f state bytes (Ok (answers.Applied low high)) g
 Replies spells fault_place f state bytes Broke g =
@@ -106,7 +108,9 @@ DeliverStep a k form r b = DeliversTo a k form r b
 -- a view, which changes nothing
 abbrev pub ShowStep : WorldValue → Reply → WorldValue → Type 0
 ShowStep a Broken b = (a.follower.is_broken ≡ true) × (b ≡ a)
-ShowStep a (Shown v) b = (a.follower.is_broken ≡ false) × (v ≡ view_of a.follower) × (b ≡ a)
+ShowStep a (Shown v) b =
+    (a.follower.is_broken ≡ false) × (v ≡ view_of a.follower)
+    × IsStrictlySortedBy nat_cmp v.held × (b ≡ a)
 ShowStep a WantOfMemory b = (a.follower.is_broken ≡ false) × (b ≡ a)
 ShowStep a r b = ⊥
 

@@ -43,8 +43,13 @@ pub enum Reply {
     Broken,
     /// The number was applied before.
     Old,
-    /// A number before it is missing.
+    /// The number is held already.
+    Again,
+    /// The number is more than 64 above the follower's.
     TooEarly,
+    /// The sequence is held until its turn comes.
+    Held,
+    /// The sequences from `low` to `high` were applied.
     Applied { low: u32, high: u32 },
     /// An application ran out of memory part of the way: the follower is broken from now on.
     Broke,

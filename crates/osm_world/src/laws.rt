@@ -1,10 +1,14 @@
 //! What holds of runs and histories, whatever the code does.
 
 ghost use Rattle.std.specs.Prelude.{◌≡◌, ℕ, ◌+◌, ◌<◌, List, [], ◌∷◌, ◌++◌, length, slice_index};
-ghost use Rattle.std.specs.Prelude.{false};
-ghost use Rattle.osm_world.specs.Correct.{IsRun};
-ghost use Rattle.osm_world.specs.History.{History, is_broken, reported_of, start_of};
-ghost use Rattle.osm_world.specs.Legal.{IsLegal, IsNumber};
+ghost use Rattle.std.specs.Prelude.{◌≤◌, ◌↔◌, true, false};
+ghost use Rattle.osm_follow.specs.Reach.{numbers};
+ghost use Rattle.osm_follow.specs.View.{ViewValue};
+ghost use Rattle.osm_world.specs.Alike.{AcceptAlike, AreAlike};
+ghost use Rattle.osm_world.specs.Correct.{IsInStep, IsRun};
+ghost use Rattle.osm_world.specs.Deliveries.{IsSubsequence, delivered_of, is_confirmed};
+ghost use Rattle.osm_world.specs.History.{History, accepted_of, is_broken, reported_of, start_of};
+ghost use Rattle.osm_world.specs.Legal.{Allowed, IsLegal, IsNumber};
 ghost use Rattle.osm_world.specs.Step.{Step};
 ghost use Rattle.osm_world.specs.World.{WorldValue, new_world};
 ghost use Rattle.osm_world.specs.declared.event.Event.{Event};
@@ -35,4 +39,27 @@ pub fn laws_of_histories()
         → start_of h + length (reported_of h) ≡ n }
     ensures order { (h : History) (n i : ℕ) → IsLegal h → is_broken h ≡ false → IsNumber h n
         → i < length (reported_of h) → slice_index (reported_of h) i ≡ start_of h + i + 1 }
+{}
+
+/// Nothing is held back. A legal history has accepted exactly the numbers above its start that were
+/// delivered and answered `Held`, `Applied`, `Old` or `Again`. And if the numbers after its start
+/// were delivered in order up to some number, with anything between them, and none of them was
+/// unpublished or refused for memory, the history has reached that number, unless its follower is
+/// broken. Does nothing at run time.
+pub fn laws_of_progress()
+    ensures accepted { (h : History) (j : ℕ) → IsLegal h
+        → (accepted_of h j ≡ true) ↔ ((start_of h < j) × (is_confirmed h j ≡ true)) }
+    ensures catches_up { (h : History) (n count : ℕ) → IsLegal h → is_broken h ≡ false
+        → IsNumber h n → IsSubsequence (numbers (start_of h) count) (delivered_of h)
+        → start_of h + count ≤ n }
+{}
+
+/// The order of deliveries doesn't matter, nor do repeats: if the same was published and accepted
+/// from the same start, the followers are the same, and so are the views that they show. Does
+/// nothing at run time.
+pub fn laws_of_order()
+    ensures followers { (g h : History) (v w : WorldValue) → AcceptAlike g h → IsInStep g v
+        → IsInStep h w → AreAlike v.follower w.follower }
+    ensures views { (g h : History) (v w : ViewValue) → AcceptAlike g h
+        → Allowed g Event.Show (Reply.Shown v) → Allowed h Event.Show (Reply.Shown w) → v ≡ w }
 {}

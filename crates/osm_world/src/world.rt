@@ -1,20 +1,6 @@
 //! A publisher, its archive and a follower, which take events one by one.
 
-ghost use Rattle.std.specs.Prelude.{
-  ◌≡◌,
-  ℕ,
-  ◌<◌,
-  ◌≤◌,
-  ◌⊎◌,
-  ◌↔◌,
-  ◌+◌,
-  length,
-  IsOk,
-  IsNone,
-  IfOk,
-  IfSome,
-};
-ghost use Rattle.std.specs.Prelude.{OnErr};
+ghost use Rattle.std.specs.Prelude.{◌≡◌, ◌<◌, ◌≤◌, ◌⊎◌, ◌↔◌, IsNone, IfOk, IfSome};
 ghost use Rattle.osm_model.specs.Batch.{IsBatch};
 ghost use Rattle.osm_world.specs.Correct.{IsRun};
 ghost use Rattle.osm_follow.specs.Published.{texts_at};
@@ -23,10 +9,10 @@ ghost use Rattle.osm_world.specs.Step.{bytes_in, fault_in, spells_in};
 ghost use Rattle.osm_world.specs.Steps.Archive.{AreReadable, ClosesInto, IsArchive, IsReadable};
 ghost use Rattle.osm_world.specs.World.{new_world};
 
-use osm_follow::delivery::{DeliverError, Delivered};
 use crate::event::{Event, Form, Reply};
-use osm_follow::follower::Follower;
 use crate::laws::laws_of_runs;
+use osm_follow::delivery::{DeliverError, Delivered};
+use osm_follow::follower::Follower;
 use osm_follow::published::Published;
 use osm_follow::publisher::{CloseError, EditError, Publisher};
 use osm_follow::view::ViewError;
@@ -71,23 +57,22 @@ pub struct Run {
 }
 
 impl World {
-    /// A new publisher, an empty archive and a new follower.
+    /// A new publisher, an empty archive and a new follower. Makes all the room of the follower's
+    /// holding area.
     pub fn new(alloc: Global) -> Result<World, WantOfMemory>
         ensures new { IfOk result (λ w. w ≡ new_world) }
-        ensures enough { IsOk result }
     {
         Ok(World {
             alloc,
             publisher: Publisher::new(alloc),
             archive: Vec::new(alloc),
-            follower: Follower::new(alloc),
+            follower: Follower::new(alloc)?,
         })
     }
 
     /// A new world that has taken all the events in order. After a refusal no event was taken.
     pub fn run(alloc: Global, events: Vec<Event>) -> Result<Run, WantOfMemory>
         ensures run { IfOk result (λ r. IsRun events.items r.replies.items r.world) }
-        ensures refused { OnErr result (0 < length events.items) }
     {
         let mut world = World::new(alloc)?;
         let mut replies = Vec::with_capacity(alloc, events.len())?;
@@ -225,6 +210,8 @@ fn deliver_in<F: ChangeForm>(
 {
     match follower.deliver::<F>(alloc, state, bytes) {
         Ok(Delivered::Old) => Reply::Old,
+        Ok(Delivered::Again) => Reply::Again,
+        Ok(Delivered::Held) => Reply::Held,
         Ok(Delivered::Applied { low, high }) => Reply::Applied { low, high },
         Err(DeliverError::Broken) => Reply::Broken,
         Err(DeliverError::TooEarly) => Reply::TooEarly,

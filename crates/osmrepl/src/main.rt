@@ -4,14 +4,14 @@
 use clap::Error;
 use osm_repl::command_line::order;
 use osm_repl::echo::echoes;
-use osm_repl::ending::{Ending, Said, Stream, explained, reported};
+use osm_repl::ending::{Ending, Said, Stream, explained, reported, unread};
 use osm_repl::fault::{FileName, RunFault};
 use osm_repl::orders::Order;
 use osm_repl::replay::replay_run;
 use std::process::ExitCode;
 use std::{env, io};
 
-const USAGE: u8 = 2;
+const NOT_TEXT: &str = "the words of the command line aren't text";
 
 fn main(rt: HostRuntime) -> ExitCode {
     ExitCode::from(run(&rt))
@@ -22,13 +22,7 @@ fn run(rt: &HostRuntime) -> u8 {
     let alloc = rt.alloc();
     let given = match env::args(rt) {
         Ok(given) => given,
-        Err(error) if error.kind() == io::ErrorKind::OutOfMemory => {
-            return report(rt, RunFault::WantOfMemory);
-        }
-        Err(_) => {
-            let _ = eprintln!(rt; "osmrepl: the words of the command line aren't text");
-            return USAGE;
-        }
+        Err(error) => return end(rt, unread(error.kind())),
     };
     let Ok(arguments) = given.collect::<Vec<String>>(alloc) else {
         return report(rt, RunFault::WantOfMemory);
@@ -68,28 +62,35 @@ fn explain(rt: &HostRuntime, error: &Error, words: &[&str]) -> u8 {
         return report(rt, RunFault::WantOfMemory);
     };
     match order(alloc, echoed.as_slice()) {
-        Ok(Order::Replay) => end(rt, explained(error.kind()), error),
-        Err(shown) => end(rt, explained(shown.kind()), &shown),
+        Ok(Order::Replay) => end(rt, explained(error)),
+        Err(shown) => end(rt, explained(&shown)),
     }
 }
 
-// One line on standard error, and the fault's status.
 fn report(rt: &HostRuntime, fault: RunFault) -> u8 {
-    let _ = eprintln!(rt; "osmrepl: {fault}");
-    reported(fault).status
+    end(rt, reported(fault))
 }
 
-// Says what the ending says, where it says it. If standard output doesn't take it, that is a fault.
-fn end(rt: &HostRuntime, ending: Ending, error: &Error) -> u8 {
-    match (ending.said, ending.stream) {
-        (Said::Fault(fault), _) => report(rt, fault),
-        (Said::ByClap, Stream::Error) => {
-            let _ = eprint!(rt; "{error}");
-            ending.status
+// Says what the ending says, and gives its status. If standard output doesn't take it, that is a
+// fault.
+fn end(rt: &HostRuntime, ending: Ending) -> u8 {
+    match (say(rt, ending.said, ending.stream), ending.stream) {
+        (Err(_), Stream::Output) => {
+            let fault = reported(RunFault::WriteFault(FileName::Output));
+            let _ = say(rt, fault.said, fault.stream);
+            fault.status
         }
-        (Said::ByClap, Stream::Output) => match print!(rt; "{error}") {
-            Ok(()) => ending.status,
-            Err(_) => report(rt, RunFault::WriteFault(FileName::Output)),
-        },
+        _ => ending.status,
+    }
+}
+
+fn say(rt: &HostRuntime, said: Said, stream: Stream) -> io::Result<()> {
+    match (said, stream) {
+        (Said::ByClap(error), Stream::Output) => print!(rt; "{error}"),
+        (Said::ByClap(error), Stream::Error) => eprint!(rt; "{error}"),
+        (Said::Fault(fault), Stream::Output) => println!(rt; "osmrepl: {fault}"),
+        (Said::Fault(fault), Stream::Error) => eprintln!(rt; "osmrepl: {fault}"),
+        (Said::NotText, Stream::Output) => println!(rt; "osmrepl: {NOT_TEXT}"),
+        (Said::NotText, Stream::Error) => eprintln!(rt; "osmrepl: {NOT_TEXT}"),
     }
 }

@@ -4,7 +4,7 @@ use Rattle.osm_model.specs.Time.{TimeText}
 use Rattle.osm_opl.specs.Line.{SpellsLine}
 use Rattle.osm_reading.specs.Lines.{is_skipped}
 use Rattle.osm_reading.specs.Sequence.{SpellsSequence}
-use Rattle.osm_repl.specs.Script.{IsEventLine, form_text}
+use Rattle.osm_repl.specs.Script.{IsEventLine, ScriptOf, form_text}
 use Rattle.osm_world.specs.declared.event.Event.{Event}
 use Rattle.osm_world.specs.declared.event.Event.TheVariants.{Edit, Close, Deliver}
 use Rattle.osm_world.specs.declared.event.Form.{Form}
@@ -50,3 +50,7 @@ LineRefused line number faults.WantOfMemory = is_skipped line ≡ false
 LineRefused line number (faults.BadScript n) =
     (n ≡ number) × (is_skipped line ≡ false) × ((e : Event) → IsEventLine line e → ⊥)
 LineRefused line number fault = ⊥
+
+-- the events of the script were all taken
+abbrev pub AllAreTaken : (List Event → Type 0) → List ℕ → Type 0
+AllAreTaken took script = (events : List Event) × ScriptOf script events × took events

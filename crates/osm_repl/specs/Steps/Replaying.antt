@@ -1,12 +1,12 @@
 -- What the parts of a replay do: reading the script, answering an event, writing the text.
-use Rattle.std.specs.Prelude.{◌≡◌, ℕ, ◌<◌, List, ◌++◌, length, Option, take, IfSome}
+use Rattle.std.specs.Prelude.{◌≡◌, ℕ, ◌<◌, List, length, Option, take, IfSome}
 use Rattle.std.specs.Io.KnownBytes.{Consumes, Appends}
 use Rattle.osm_model.specs.Limits.{max_file}
-use Rattle.osm_world.specs.Step.{Step}
+use Rattle.osm_world.specs.Correct.{IsRun}
 use Rattle.osm_world.specs.World.{WorldValue}
 use Rattle.osm_world.specs.declared.event.Event.{Event}
 use Rattle.osm_world.specs.declared.event.Reply.{Reply}
-use Rattle.osm_repl.specs.Replies.{reply_text}
+use Rattle.osm_repl.specs.Replies.{replies_text}
 use Rattle.osm_repl.specs.declared.fault.FileName.TheVariants.{Input, Output}
 use Rattle.osm_repl.specs.declared.fault.RunFault.{RunFault}
 use Rattle.osm_repl.specs.declared.fault.RunFault.TheVariants.{WantOfMemory, ReadFault, WriteFault}
@@ -26,12 +26,11 @@ ReadingFault old new (TooLarge file) =
     (file ≡ Input) × ((bytes : List ℕ) × Consumes old new bytes × (max_file < length bytes))
 ReadingFault old new fault = ⊥
 
--- the world took the event, and the lines of its reply were appended
-pub record IsAnswered (old : WorldValue) (event : Event) (new : WorldValue) (before after : List ℕ)
-    : Type 0 where
-  pub reply : Reply
-  pub step : Step old event reply new
-  pub text : after ≡ before ++ reply_text reply
+-- a run over the events ended in the world, and its reply text is the text
+pub record IsAnswered (events : List Event) (world : WorldValue) (text : List ℕ) : Type 0 where
+  pub replies : List Reply
+  pub is_run : IsRun events replies world
+  pub text_is : text ≡ replies_text replies
 
 -- writing failed, and a prefix of the text was written
 abbrev pub WritingFault : Option (List ℕ) → Option (List ℕ) → List ℕ → RunFault → Type 0

@@ -1,6 +1,5 @@
 -- Archived texts that can be delivered, and the ways of a close into the archive.
 use Rattle.std.specs.Prelude.{◌≡◌, ℕ, ◌+◌, ◌<◌, ◌≤◌, List, [], ◌∷◌, ◌++◌, length, Result, Ok, Err}
-use Rattle.osm_model.specs.Change.{ChangeValue}
 use Rattle.osm_model.specs.ChangeForm.{SpellsNothing}
 use Rattle.osm_model.specs.Limits.{IsPositive, max_file, max_sequence}
 use Rattle.osm_o5c.specs.File.{SpellsO5c}

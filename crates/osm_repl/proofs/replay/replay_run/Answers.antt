@@ -1,9 +1,12 @@
 use Rattle.std.proofs.Common.{rules}
+use Rattle.osm_repl.specs.Replay.{ReplayFault}
 use Rattle.osm_repl.specs.Script.{ScriptRefused}
 use Rattle.osm_repl.proofs.ReplayLemmas.{script_fault}
 use Rattle.osm_repl.proofs.replay.replay_run.Goals as goal
 
-pub returns-in-Err-reply_text_of-clause-fault : goal.returns-in-Err-reply_text_of-clause-fault
-returns-in-Err-reply_text_of-clause-fault g c =
-    let h : ScriptRefused c.in-Ok.script.items c.in-Err-reply_text_of.fault = search rules in
-    script_fault (g.R.Read.remaining c.args.reader.now) (g.R.Read.remaining c.read_script.new.reader) c.in-Ok.script.items c.in-Err-reply_text_of.fault c.in-Ok.ensures.script c.in-Ok.ensures.end h
+pub returns-in_err-text-clause-fault : goal.returns-in_err-text-clause-fault
+returns-in_err-text-clause-fault g c =
+    let refused : ScriptRefused c.in_ok-script.script.items c.in_err-text.field-0.0 = search rules in
+    let fault : ReplayFault (g.R.Read.remaining c.args.reader.now) (g.R.Read.remaining c.read_script.new.reader) c.in_err-text.field-0.0 =
+    script_fault (g.R.Read.remaining c.args.reader.now) (g.R.Read.remaining c.read_script.new.reader) c.in_ok-script.script.items c.in_err-text.field-0.0 c.in_ok-script.ensures.script c.in_ok-script.ensures.end refused in
+    search rules

@@ -1,5 +1,5 @@
-use Rattle.std.proofs.Common.{◌≡◌, arith, rules}
-use Rattle.osm_world.proofs.ArchiveLemmas.{readable_at}
+use Rattle.std.proofs.Common.{◌≡◌, arith, refl, rules}
+use Rattle.osm_world.proofs.ArchiveLemmas.{delivered_step, readable_at}
 use Rattle.osm_world.proofs.world.World.deliver.Goals as goal
 
 -- the archive holds only texts that can be read
@@ -8,3 +8,9 @@ deliver_text-requires c =
     let number : c.number.result ≡ c.self.inside.publisher.number = search rules in
     let count = c.self.invariant.count in
     readable_at _ _ _ _ c.self.invariant (omega arith) c.index-published.ensures
+
+pub returns : goal.returns
+returns c =
+    let number : c.number.result ≡ c.self.inside.publisher.number = search rules in
+    let count = c.self.invariant.count in
+    rw (← c.self.view_is) (delivered_step _ _ _ _ _ _ _ (omega arith) c.index-published.ensures (omega arith) (omega arith) (omega arith) c.deliver_text.ensures refl)

@@ -1,0 +1,197 @@
+-- A state decides what it is the state of: its mirror, what is held, and its view.
+use Rattle.std.proofs.Common.{◌≡◌, ℕ, ◌<◌, ◌≤◌, List, [], ◌∷◌, map, refl, ap, sym, ◌∙◌, Bool, true, false, arith, Some, None, Option, inl, inr, cond, unwrap_or}
+use Rattle.std.specs.Prelude.{if◌then◌else◌, ◌&&◌, IsSome, Contains, ◌↔◌, T}
+use Rattle.std.specs.BTreeMap.{is_at}
+use Rattle.std.specs.Cmp.{IsTotalOrder}
+use Rattle.std.specs.FinMap.Entries.{below_all, find, is_sorted, same_entries}
+use Rattle.std.specs.List.{AllByRecursion}
+use Rattle.std.specs.List.Sorted.{IsStrictlySortedBy}
+use Rattle.std.specs.Map.{keys_of, lookup}
+use Rattle.std.specs.Ordering.{eq_by_cmp, is_eq, is_lt, nat_cmp}
+use Rattle.std.specs.declared.cmp.Ordering.{Ordering}
+use Rattle.std.specs.declared.cmp.Ordering.TheVariants.{Less, Equal, Greater}
+use Rattle.std.proofs.lemmas.Bool.{cases_lt}
+use Rattle.std.proofs.lemmas.Cmp.{eq_by_cmp_equiv, int_cmp_total, nat_cmp_total, on_total, then_total}
+use Rattle.std.proofs.lemmas.Map.Lookups.{exact_unsigned}
+use Rattle.std.proofs.lemmas.Map.Views.{Contains-keys_from_lookup, IsSome-lookup_from_Contains}
+use Rattle.osm_model.proofs.ContentLemmas.{one_key}
+use Rattle.osm_model.specs.Change.{ChangeValue}
+use Rattle.osm_model.specs.KeyOrder.{key_cmp, kind_rank}
+use Rattle.osm_model.specs.declared.kind.Key.{Key}
+use Rattle.osm_mirror.specs.Mirror.{AreCountsAboveZero, AreRising, Counted, IsAboveZero, IsMirrorOf, MirrorValue, count_at, object_at}
+use Rattle.osm_follow.specs.Follower.{FollowerValue, IsState, held_at}
+use Rattle.osm_follow.specs.Published.{PublishedValue, changes_up_to, sequence_at, time_at}
+use Rattle.osm_follow.specs.Reach.{Reaches}
+use Rattle.osm_follow.specs.View.{IsView, ViewValue}
+use Rattle.osm_world.specs.Alike.{AreAlike}
+use Rattle.osm_follow.proofs.ReachLemmas.{reaches_same}
+use Rattle.osm_world.proofs.ReachLemmas.{one_reach}
+
+-- ---- entries whose keys rise are those that are found
+
+sorted_entries : {K X : Type 0} (R : K → K → Ordering) (es : List (K × X)) → IsStrictlySortedBy R (keys_of es) → T (is_sorted R es)
+unfolding IsStrictlySortedBy
+sorted_entries R [] s = tt
+sorted_entries R (e ∷ es) s = both (below_all R e.0 es) (is_sorted R es) (below R e.0 es s.0) (sorted_entries R es s.1)
+  where
+    both : (a b : Bool) → T a → T b → T (a && b)
+    both true b p q = q
+    both false b p q = absurd p
+
+    lower : (o : Ordering) → o ≡ Less → T (is_lt o)
+    lower Less e = tt
+    lower Equal e = cc
+    lower Greater e = cc
+
+    below : {K X : Type 0} (S : K → K → Ordering) (k : K) (fs : List (K × X)) → AllByRecursion (λ y. S k y ≡ Less) (keys_of fs) → T (below_all S k fs)
+    below S k [] all = tt
+    below S k (f ∷ fs) all = both (is_lt (S k f.0)) (below_all S k fs) (lower (S k f.0) all.0) (below S k fs all.1)
+
+find_is : {K X : Type 0} (R : K → K → Ordering) (q : K) (es : List (K × X)) → find R q es ≡ lookup (is_at (R q)) es
+find_is R q [] = refl
+find_is R q (e ∷ es) = ap (λ o. cond (is_eq (R q e.0)) (Some e.1) o) (find_is R q es)
+
+one_list : {K X : Type 0} (R : K → K → Ordering) → IsTotalOrder R → ((x y : K) → R x y ≡ Equal → x ≡ y) → (es fs : List (K × X)) → IsStrictlySortedBy R (keys_of es) → IsStrictlySortedBy R (keys_of fs) → ((q : K) → lookup (is_at (R q)) es ≡ lookup (is_at (R q)) fs) → es ≡ fs
+one_list R o exact es fs s t same = same_entries R o exact es fs (sorted_entries R es s) (sorted_entries R fs t) (λ q. find_is R q es ∙ (same q ∙ sym (find_is R q fs)))
+
+-- ---- counts
+
+found_above : (test : ℕ → Bool) (es : List Counted) (v : ℕ) → AllByRecursion IsAboveZero es → lookup test es ≡ Some v → 0 < v
+found_above test [] v all e = absurd (let bad : None ≡ Some v = e in cc)
+found_above test (c ∷ es) v all e = by_test (test c.0) e (found_above test es v all.1)
+  where
+    by_test : (b : Bool) → cond b (Some c.1) (lookup test es) ≡ Some v → (lookup test es ≡ Some v → 0 < v) → 0 < v
+    by_test true e rest = (let is : c.1 ≡ v = cc in let above : 0 < c.1 = all.0 in omega arith)
+    by_test false e rest = rest e
+
+same_found : (a b : Option ℕ) → ((v : ℕ) → a ≡ Some v → 0 < v) → ((v : ℕ) → b ≡ Some v → 0 < v) → unwrap_or a 0 ≡ unwrap_or b 0 → a ≡ b
+same_found None None p q e = refl
+same_found None (Some w) p q e = absurd (let above : 0 < w = q w refl in let none : 0 ≡ w = e in omega arith)
+same_found (Some v) None p q e = absurd (let above : 0 < v = p v refl in let none : v ≡ 0 = e in omega arith)
+same_found (Some v) (Some w) p q e = ap (λ (n : ℕ). Some n) e
+
+one_counts : (a b : List Counted) → AreCountsAboveZero a → AreCountsAboveZero b → ((n : ℕ) → count_at a n ≡ count_at b n) → a ≡ b
+one_counts a b p q same = one_list nat_cmp nat_cmp_total exact_unsigned a b p.rising q.rising (λ n. same_found (lookup (is_at (nat_cmp n)) a) (lookup (is_at (nat_cmp n)) b) (λ v. found_above (is_at (nat_cmp n)) a v p.above) (λ v. found_above (is_at (nat_cmp n)) b v q.above) (same n))
+
+-- ---- objects
+
+keyed : List ChangeValue → List (Key × ChangeValue)
+keyed cs = map (λ c. (c.key, c)) cs
+
+keys-keyed : (cs : List ChangeValue) → keys_of (keyed cs) ≡ map (λ (c : ChangeValue). c.key) cs
+unfolding keyed
+keys-keyed [] = refl
+keys-keyed (c ∷ cs) = ap (λ (ks : List Key). c.key ∷ ks) (keys-keyed cs)
+
+values-keyed : (cs : List ChangeValue) → map (λ (e : Key × ChangeValue). e.1) (keyed cs) ≡ cs
+unfolding keyed
+values-keyed [] = refl
+values-keyed (c ∷ cs) = ap (λ (ds : List ChangeValue). c ∷ ds) (values-keyed cs)
+
+found-keyed : (cs : List ChangeValue) (k : Key) → lookup (is_at (key_cmp k)) (keyed cs) ≡ object_at cs k
+unfolding keyed
+found-keyed [] k = refl
+found-keyed (c ∷ cs) k = ap (λ (o : Option ChangeValue). if is_at (key_cmp k) c.key then Some c else o) (found-keyed cs k)
+
+key_total : IsTotalOrder key_cmp
+key_total = then_total (on_total (λ (k : Key). kind_rank k.kind) nat_cmp_total) (on_total (λ (k : Key). k.id) int_cmp_total)
+
+one_objects : (a b : List ChangeValue) → AreRising a → AreRising b → ((k : Key) → object_at a k ≡ object_at b k) → a ≡ b
+one_objects a b p q same =
+    let all : keyed a ≡ keyed b = one_list key_cmp key_total one_key (keyed a) (keyed b) (rw (keys-keyed a) p) (rw (keys-keyed b) q) (λ k. found-keyed a k ∙ (same k ∙ sym (found-keyed b k))) in
+    sym (values-keyed a) ∙ (ap (map (λ (e : Key × ChangeValue). e.1)) all ∙ values-keyed b)
+
+made : List ChangeValue → List Counted → List Counted → MirrorValue
+made objects users changesets = record { objects = objects; users = users; changesets = changesets }
+
+-- changes have one mirror
+pub one_mirror : (cs : List ChangeValue) (a b : MirrorValue) → IsMirrorOf cs a → IsMirrorOf cs b → a ≡ b
+unfolding made
+one_mirror cs a b p q =
+    let objects : a.objects ≡ b.objects = one_objects a.objects b.objects p.orderly.objects q.orderly.objects (λ k. p.objects k ∙ sym (q.objects k)) in
+    let users : a.users ≡ b.users = one_counts a.users b.users p.orderly.users q.orderly.users (λ n. p.users n ∙ sym (q.users n)) in
+    let changesets : a.changesets ≡ b.changesets = one_counts a.changesets b.changesets p.orderly.changesets q.orderly.changesets (λ n. p.changesets n ∙ sym (q.changesets n)) in
+    ap (λ (x : List ChangeValue). made x a.users a.changesets) objects
+    ∙ (ap (λ (x : List Counted). made b.objects x a.changesets) users
+    ∙ ap (λ (x : List Counted). made b.objects b.users x) changesets)
+
+-- ---- numbers that rise
+
+units : List ℕ → List (ℕ × Unit {0})
+units xs = map (λ x. (x, tt)) xs
+
+keys-units : (xs : List ℕ) → keys_of (units xs) ≡ xs
+unfolding units
+keys-units [] = refl
+keys-units (x ∷ xs) = ap (λ (ys : List ℕ). x ∷ ys) (keys-units xs)
+
+exact_by : (x y : ℕ) → eq_by_cmp nat_cmp x y ≡ true → x ≡ y
+exact_by x y e = exact_unsigned x y (equal_of (nat_cmp x y) e)
+  where
+    equal_of : (o : Ordering) → is_eq o ≡ true → o ≡ Equal
+    equal_of Less e = cc
+    equal_of Equal e = refl
+    equal_of Greater e = cc
+
+unit_found : (o p : Option (Unit {0})) → (IsSome o → IsSome p) → (IsSome p → IsSome o) → o ≡ p
+unit_found None None f g = refl
+unit_found None (Some b) f g = absurd (let bad : false ≡ true = g refl in cc)
+unit_found (Some a) None f g = absurd (let bad : false ≡ true = f refl in cc)
+unit_found (Some a) (Some b) f g = refl
+
+pub one_rising : (xs ys : List ℕ) → IsStrictlySortedBy nat_cmp xs → IsStrictlySortedBy nat_cmp ys → ((j : ℕ) → Contains xs j ↔ Contains ys j) → xs ≡ ys
+one_rising xs ys s t same =
+    let all : units xs ≡ units ys = one_list nat_cmp nat_cmp_total exact_unsigned (units xs) (units ys) (rw (keys-units xs) s) (rw (keys-units ys) t) (λ q. unit_found (lookup (is_at (nat_cmp q)) (units xs)) (lookup (is_at (nat_cmp q)) (units ys)) (crosses xs ys q (same q).0) (crosses ys xs q (same q).1)) in
+    sym (keys-units xs) ∙ (ap keys_of all ∙ keys-units ys)
+  where
+    crosses : (us vs : List ℕ) (q : ℕ) → (Contains us q → Contains vs q) → IsSome (lookup (is_at (nat_cmp q)) (units us)) → IsSome (lookup (is_at (nat_cmp q)) (units vs))
+    crosses us vs q over has =
+        let there : Contains (keys_of (units us)) q = Contains-keys_from_lookup {eq = eq_by_cmp nat_cmp} exact_by q (units us) has in
+        let moved : Contains (keys_of (units vs)) q = rw (keys-units vs) (over (rw (keys-units us) at there)) in
+        IsSome-lookup_from_Contains {eq = eq_by_cmp nat_cmp} (eq_by_cmp_equiv nat_cmp_total) q (units vs) moved
+
+-- ---- a state, its follower and its view
+
+abbrev Same : (ℕ → Bool) → (ℕ → Bool) → Type 0
+Same acc acd = (j : ℕ) → acc j ≡ acd j
+
+one_number : (acc acd : ℕ → Bool) (start n m : ℕ) → Same acc acd → Reaches acc start n → Reaches acd start m → n ≡ m
+one_number acc acd start n m same r s = one_reach acd start n m (reaches_same acc acd start n (λ j above. same j) r) s
+
+pub state_alike : (ps : List PublishedValue) (start : ℕ) (acc acd : ℕ → Bool) (f g : FollowerValue) → Same acc acd → IsState ps start acc f → IsState ps start acd g → AreAlike f g
+state_alike ps start acc acd f g same s t =
+    let number : f.number ≡ g.number = one_number acc acd start f.number g.number same s.reach t.reach in
+    record {
+      number = number;
+      time = s.follows.time ∙ (ap (time_at ps) number ∙ sym t.follows.time);
+      mirror = one_mirror (changes_up_to ps g.number) f.mirror g.mirror (rw number at s.follows.mirror) t.follows.mirror;
+      held = λ j. elim (cases_lt f.number j) [
+        | inl above ↦ s.held j above ∙ (ap (λ b. if b then Some (sequence_at ps j) else None) (same j) ∙ sym (t.held j (omega arith)))
+        | inr below ↦ none_held f s j below ∙ sym (none_held g t j (omega arith))
+      ];
+    }
+  where
+    none_held : {ac : ℕ → Bool} (x : FollowerValue) → IsState ps start ac x → (j : ℕ) → j ≤ x.number → held_at x j ≡ None
+    none_held x is j below = by_case (held_at x j) refl
+      where
+        by_case : (o : Option PublishedValue) → held_at x j ≡ o → o ≡ None
+        by_case None e = refl
+        by_case (Some p) e = absurd (let past = (is.follows.held j p e).0 in omega arith)
+
+made_view : ℕ → Option ℕ → MirrorValue → List ℕ → ViewValue
+made_view number time mirror held = record { number = number; time = time; mirror = mirror; held = held }
+
+pub one_view : (ps : List PublishedValue) (start : ℕ) (acc acd : ℕ → Bool) (v w : ViewValue) → Same acc acd → IsView ps start acc v → IsView ps start acd w → v ≡ w
+unfolding made_view
+one_view ps start acc acd v w same s t =
+    let number : v.number ≡ w.number = one_number acc acd start v.number w.number same s.reach t.reach in
+    let time : v.time ≡ w.time = s.time ∙ (ap (time_at ps) number ∙ sym t.time) in
+    let mirror : v.mirror ≡ w.mirror = one_mirror (changes_up_to ps w.number) v.mirror w.mirror (rw number at s.mirror) t.mirror in
+    let held : v.held ≡ w.held = one_rising v.held w.held s.rising t.rising (λ j. (
+      λ has. (let both = (s.held j).0 has in (t.held j).1 (rw number at both.0, sym (same j) ∙ both.1)),
+      λ has. (let both = (t.held j).0 has in (s.held j).1 (rw number both.0, same j ∙ both.1)),
+    )) in
+    ap (λ (x : ℕ). made_view x v.time v.mirror v.held) number
+    ∙ (ap (λ (x : Option ℕ). made_view w.number x v.mirror v.held) time
+    ∙ (ap (λ (x : MirrorValue). made_view w.number w.time x v.held) mirror
+    ∙ ap (λ (x : List ℕ). made_view w.number w.time w.mirror x) held))

@@ -1,0 +1,40 @@
+-- What the deliveries of a history were, and what the replies to them say.
+use Rattle.std.specs.Prelude.{◌≡◌, ℕ, List, [], ◌∷◌, ◌++◌, Bool, false, ◌==◌, ◌||◌, ◌⊎◌}
+use Rattle.osm_world.specs.History.{History}
+use Rattle.osm_world.specs.declared.event.Event.{Event}
+use Rattle.osm_world.specs.declared.event.Event.TheVariants.{Deliver}
+use Rattle.osm_world.specs.declared.event.Reply.{Reply}
+use Rattle.osm_world.specs.declared.event.Reply.TheVariants.{NotPublished, WantOfMemory, Old}
+use Rattle.osm_world.specs.declared.event.Reply.TheVariants.{Again, Held, Applied}
+
+-- the number that the pair delivers, unless it wasn't published or memory was refused
+abbrev pub delivered_by : Event → Reply → List ℕ
+delivered_by (Deliver k form) NotPublished = []
+delivered_by (Deliver k form) WantOfMemory = []
+delivered_by (Deliver k form) r = k ∷ []
+delivered_by e r = []
+
+-- those numbers, in their order
+abbrev pub delivered_of : History → List ℕ
+delivered_of [] = []
+delivered_of (p ∷ h) = delivered_of h ++ delivered_by p.0 p.1
+
+-- the members of the first list are in the second in the same order, with anything between them
+abbrev pub IsSubsequence : List ℕ → List ℕ → Type 0
+IsSubsequence [] ys = Unit {0}
+IsSubsequence (x ∷ xs) [] = ⊥
+IsSubsequence (x ∷ xs) (y ∷ ys) = ((x ≡ y) × IsSubsequence xs ys) ⊎ IsSubsequence (x ∷ xs) ys
+
+-- whether the pair is a delivery of the number, and its reply says that the follower has it: from
+-- now on, or from before
+abbrev pub confirms : Event → Reply → ℕ → Bool
+confirms (Deliver k form) Held j = k == j
+confirms (Deliver k form) (Applied low high) j = k == j
+confirms (Deliver k form) Old j = k == j
+confirms (Deliver k form) Again j = k == j
+confirms e r j = false
+
+-- whether a reply said so of the number
+abbrev pub is_confirmed : History → ℕ → Bool
+is_confirmed [] j = false
+is_confirmed (p ∷ h) j = confirms p.0 p.1 j || is_confirmed h j
