@@ -108,7 +108,8 @@ counts-insert_entry es n count is above all = record {
 
 -- ---- entries above all others
 
-keys_total : IsTotalOrder key_cmp
+-- keys have a total order
+pub keys_total : IsTotalOrder key_cmp
 keys_total = then_total (on_total (λ k. kind_rank k.kind) nat_cmp_total) (on_total (λ k. k.id) int_cmp_total)
 
 last_of_all : {K : Type 0} (P : K → Type 0) (ks : List K) (k : K) → AllByRecursion P (ks ++ k ∷ []) → P k
