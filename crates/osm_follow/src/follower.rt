@@ -2,13 +2,15 @@
 
 ghost use Rattle.std.specs.Prelude.{◌≡◌, ◌+◌, ◌*◌, ◌<◌, ◌≤◌, ℕ, Result, Err, None, Some, IfOk};
 ghost use Rattle.std.specs.Prelude.{IfErr, IsErr, IsSome, IsTrue, MatchOption, ◌↔◌, true, false};
-ghost use Rattle.std.specs.Prelude.{OnOk, length, Contains};
+ghost use Rattle.std.specs.Prelude.{OnOk, OnErr, length, Contains};
 ghost use Rattle.std.specs.List.Sorted.{IsStrictlySortedBy};
 ghost use Rattle.std.specs.Ordering.{nat_cmp};
 ghost use Rattle.osm_model.specs.Limits.{max_changes, max_sequence};
 ghost use Rattle.osm_follow.specs.Delivery.{AnswersUnread, Delivers, Holds, IsTurn, sequence_of};
-ghost use Rattle.osm_follow.specs.Follower.{held_at, new_follower};
+ghost use Rattle.osm_follow.specs.Follower.{held_at, is_held, new_follower};
+ghost use Rattle.osm_follow.specs.Lag.{Lags, MissingRefused};
 ghost use Rattle.osm_mirror.specs.Mirror.{IsWithin, count_at, object_at};
+ghost use Rattle.osm_follow.specs.Reach.{missing_numbers};
 ghost use Rattle.osm_follow.specs.Steps.Taking.{TakeAnswers};
 ghost use Rattle.osm_follow.specs.View.{ViewRefused, view_of};
 ghost use Rattle.osm_follow.specs.declared.delivery.Delivered.{Delivered};
@@ -16,6 +18,7 @@ ghost use Rattle.osm_follow.specs.declared.delivery.DeliverError.{DeliverError};
 
 use crate::delivery::{DeliverError, Delivered};
 use crate::drain::drain;
+use crate::lag::{Lag, LagError};
 use crate::view::{View, ViewError};
 use osm_holding::holding::{Held, HoldingArea, WINDOW};
 use osm_mirror::mirror::Mirror;
@@ -247,6 +250,63 @@ impl Follower {
     {
         self.check_whole()?;
         Ok(self.holding.is_held(number))
+    }
+
+    /// How far the follower is behind that state. Takes no memory.
+    pub fn lag(&self, state: &State) -> Result<Lag, LagError>
+        ensures { Lags self.now state.now result }
+    {
+        if self.is_broken {
+            return Err(LagError::Broken);
+        }
+        if state.sequence() < self.number {
+            return Err(LagError::TopBehind);
+        }
+        let seconds = match self.time {
+            None => None,
+            Some(time) if time <= state.time() => Some(state.time() - time),
+            Some(_) => return Err(LagError::TimeBehind),
+        };
+        Ok(Lag {
+            behind: state.sequence() - self.number,
+            seconds,
+        })
+    }
+
+    /// The numbers to fetch: of the 64 after the follower's, those up to the state's sequence that
+    /// aren't held, rising. There are none if the state isn't after the follower, which takes no
+    /// memory.
+    pub fn missing(&self, alloc: Global, state: &State) -> Result<Vec<u32>, ViewError>
+        ensures whole { OnOk result (self.now.is_broken ≡ false) }
+        ensures numbers { IfOk result (λ ns. ns.items
+            ≡ missing_numbers (is_held self.now) self.now.number state.now.sequence) }
+        ensures refused { IfErr result (MissingRefused self.now state.now) }
+    {
+        if self.is_broken {
+            return Err(ViewError::Broken);
+        }
+        match self.missing_until(alloc, state.sequence()) {
+            Ok(missing) => Ok(missing),
+            Err(_) => Err(ViewError::WantOfMemory),
+        }
+    }
+
+    // The missing numbers, up to that one.
+    fn missing_until(&self, alloc: Global, top: u32) -> Result<Vec<u32>, WantOfMemory>
+        requires whole { self.now.is_broken ≡ false }
+        ensures numbers { IfOk result (λ ns. ns.items
+            ≡ missing_numbers (is_held self.now) self.now.number top) }
+        ensures refused { OnErr result (self.now.number < top) }
+    {
+        let count = WINDOW.min(top.saturating_sub(self.number));
+        let mut missing = Vec::with_capacity(alloc, count as usize)?;
+        for index in 0..count {
+            let number = self.number + 1 + index;
+            if !self.holding.is_held(number) {
+                missing.push(number)?;
+            }
+        }
+        Ok(missing)
     }
 
     fn check_whole(&self) -> Result<(), Broken>

@@ -4,6 +4,7 @@
 pub mod delivery;
 mod drain;
 pub mod follower;
+pub mod lag;
 pub mod laws;
 pub mod published;
 pub mod publisher;
