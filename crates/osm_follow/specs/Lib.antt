@@ -4,5 +4,6 @@ pub mod Reach
 pub mod Follower
 pub mod Delivery
 pub mod Lag
+pub mod Restart
 pub mod View
 pub mod Steps

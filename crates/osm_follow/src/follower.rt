@@ -2,15 +2,18 @@
 
 ghost use Rattle.std.specs.Prelude.{◌≡◌, ◌+◌, ◌*◌, ◌<◌, ◌≤◌, ℕ, Result, Err, None, Some, IfOk};
 ghost use Rattle.std.specs.Prelude.{IfErr, IsErr, IsSome, IsTrue, MatchOption, ◌↔◌, true, false};
-ghost use Rattle.std.specs.Prelude.{OnOk, OnErr, length, Contains};
+ghost use Rattle.std.specs.Prelude.{OnOk, OnErr, [], length, Contains};
+ghost use Rattle.std.specs.Option.{option_map};
 ghost use Rattle.std.specs.List.Sorted.{IsStrictlySortedBy};
 ghost use Rattle.std.specs.Ordering.{nat_cmp};
 ghost use Rattle.osm_model.specs.Limits.{max_changes, max_sequence};
 ghost use Rattle.osm_follow.specs.Delivery.{AnswersUnread, Delivers, Holds, IsTurn, sequence_of};
 ghost use Rattle.osm_follow.specs.Follower.{held_at, is_held, new_follower};
 ghost use Rattle.osm_follow.specs.Lag.{Lags, MissingRefused};
-ghost use Rattle.osm_mirror.specs.Mirror.{IsWithin, count_at, object_at};
+ghost use Rattle.osm_mirror.specs.Mirror.{IsWithin, count_at, no_mirror, object_at};
+ghost use Rattle.osm_save.specs.Save.{IsTimeOf, SpellsSave};
 ghost use Rattle.osm_follow.specs.Reach.{missing_numbers};
+ghost use Rattle.osm_follow.specs.Restart.{Restarts, SavingRefused, follower_of, saved_of};
 ghost use Rattle.osm_follow.specs.Steps.Taking.{TakeAnswers};
 ghost use Rattle.osm_follow.specs.View.{ViewRefused, view_of};
 ghost use Rattle.osm_follow.specs.declared.delivery.Delivered.{Delivered};
@@ -19,6 +22,7 @@ ghost use Rattle.osm_follow.specs.declared.delivery.DeliverError.{DeliverError};
 use crate::delivery::{DeliverError, Delivered};
 use crate::drain::drain;
 use crate::lag::{Lag, LagError};
+use crate::restart::RestartError;
 use crate::view::{View, ViewError};
 use osm_holding::holding::{Held, HoldingArea, WINDOW};
 use osm_mirror::mirror::Mirror;
@@ -27,6 +31,7 @@ use osm_model::change::Change;
 use osm_model::form::{ChangeForm, FormError};
 use osm_model::kind::Key;
 use osm_model::memory::WantOfMemory;
+use osm_save::save::{SaveError, save_read, save_write};
 use osm_state::state::State;
 use osm_state::state_text::state_read;
 use std::alloc::Global;
@@ -36,8 +41,8 @@ use thiserror::Error;
 /// The mirror of sequences 1 to the follower's number, and those of the 64 after it that came
 /// early.
 ///
-/// The follower is broken once an application ran out of memory part of the way, and then says
-/// nothing more of its mirror.
+/// The follower is broken once an application ran out of memory part of the way, or a restart was
+/// refused. It then says nothing of its mirror, until it is restarted.
 #[derive(Debug, Drop)]
 pub struct Follower {
     number: u32,
@@ -335,5 +340,82 @@ impl Follower {
             Ok(view) => Ok(view),
             Err(_) => Err(ViewError::WantOfMemory),
         }
+    }
+
+    /// The save text of the follower's number, time, mirror and counts. Sequences that are held
+    /// aren't saved.
+    pub fn save(&self, alloc: Global) -> Result<Vec<u8>, ViewError>
+        ensures whole { OnOk result (self.now.is_broken ≡ false) }
+        ensures text { IfOk result (λ text. SpellsSave text.items (saved_of self.now)) }
+        ensures refused { IfErr result (SavingRefused self.now) }
+    {
+        if self.is_broken {
+            return Err(ViewError::Broken);
+        }
+        match save_write(alloc, self.number, self.time, &self.mirror) {
+            Ok(text) => Ok(text),
+            Err(_) => Err(ViewError::WantOfMemory),
+        }
+    }
+
+    /// Begins again from a save text, or from sequence 0 if there is none, which takes no memory
+    /// and always succeeds. The old mirror and all that is held are dropped before the text is
+    /// read. A broken follower can begin again too.
+    pub fn restart(&mut self, alloc: Global, saved: Option<&[u8]>) -> Result<(), RestartError>
+        ensures { Restarts self.old (option_map (λ text. text.now) saved.entry) result self.new }
+    {
+        self.drop_all(alloc);
+        match saved {
+            None => {
+                self.go_on(0, None, Mirror::new(alloc));
+                Ok(())
+            }
+            Some(text) => self.read(alloc, text),
+        }
+    }
+
+    // The follower is broken from then on.
+    fn drop_all(&mut self, alloc: Global)
+        ensures { self.new ≡ record self.old {
+          mirror = no_mirror;
+          holding = record { base = 0; entries = [] };
+          is_broken = true;
+        } }
+    {
+        self.is_broken = true;
+        self.mirror = Mirror::new(alloc);
+        self.holding.clear(0);
+    }
+
+    fn read(&mut self, alloc: Global, text: &[u8]) -> Result<(), RestartError>
+        requires { self.old.is_broken ≡ true }
+        ensures { Restarts self.old (Some text.now) result self.new }
+    {
+        match save_read(alloc, text) {
+            Ok(saved) => {
+                self.go_on(saved.number, saved.time, saved.mirror);
+                Ok(())
+            }
+            Err(SaveError::BadSave { line }) => Err(RestartError::BadSave { line }),
+            Err(SaveError::WantOfMemory) => Err(RestartError::WantOfMemory),
+        }
+    }
+
+    // At that sequence, whole, and with nothing held.
+    fn go_on(&mut self, number: u32, time: Option<u32>, mirror: Mirror)
+        requires most { number ≤ max_sequence }
+        requires time { IsTimeOf number time }
+        requires within { IsWithin (max_changes * number) mirror }
+        ensures { self.new ≡ follower_of (record {
+          number = number;
+          time = time;
+          mirror = mirror;
+        }) }
+    {
+        self.number = number;
+        self.time = time;
+        self.mirror = mirror;
+        self.holding.clear(number);
+        self.is_broken = false;
     }
 }

@@ -8,4 +8,5 @@ pub mod lag;
 pub mod laws;
 pub mod published;
 pub mod publisher;
+pub mod restart;
 pub mod view;
