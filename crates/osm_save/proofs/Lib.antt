@@ -7,3 +7,4 @@ pub mod LineLemmas
 pub mod ListLemmas
 pub mod MirrorLemmas
 pub mod SaveLemmas
+pub mod StandardFacts

@@ -31,7 +31,8 @@ pub(crate) fn write_counts(
 }
 
 fn write_count(number: u32, count: u64, out: &mut Vec<u8>) -> Result<(), WantOfMemory>
-    ensures { OnOk result (out.new.items ≡ out.old.items ++ ended (count_text (number, count) ∷ [])) }
+    ensures { OnOk result
+        (out.new.items ≡ out.old.items ++ ended (count_text (number, count) ∷ [])) }
 {
     write_number(number as u64, out)?;
     out.push(b' ')?;
