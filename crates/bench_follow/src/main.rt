@@ -3,7 +3,7 @@
 //! batches of that many changes, and prints how fast.
 #![tactic(auto)]
 
-use made_changes::mixed;
+use made_changes::mixed_from;
 use osm_follow::follower::Follower;
 use osm_follow::published::Published;
 use osm_follow::publisher::{EditError, Publisher};
@@ -29,8 +29,9 @@ fn micros_since<R: Clock>(rt: &R, start: Instant) -> anyhow::Result<u64> {
 fn publish(alloc: Global, count: u32) -> anyhow::Result<Vec<Published>> {
     let mut publisher = Publisher::new(alloc);
     let mut sequences = Vec::new(alloc);
-    for _ in 0..BATCHES {
-        for change in mixed(alloc, count)?.into_changes() {
+    for index in 0..BATCHES {
+        let first = count.saturating_mul(index as u32);
+        for change in mixed_from(alloc, first, count)?.into_changes() {
             match publisher.edit(change) {
                 Ok(()) => {}
                 Err(EditError::BatchFull(_)) => break,

@@ -163,13 +163,22 @@ fn deletion(alloc: Global, seed: u32) -> Result<Change, MakeError> {
     Ok(Change::deleted(key, meta(alloc, seed)?)?)
 }
 
-/// So many changes, at most 100,000: of ten, seven are nodes, two ways, and one is a relation or a
-/// deletion.
+/// So many changes, at most 100,000: of twenty, fourteen are nodes, four ways, one a relation and
+/// one a deletion.
 pub fn mixed(alloc: Global, count: u32) -> Result<Batch, MakeError>
     ensures { IfOk result (λ batch. length batch ≡ min count 100000) }
 {
+    mixed_from(alloc, 0, count)
+}
+
+/// The same from another first number on, so that the objects are others. They are others than
+/// those of the batches before if the first number is the sum of their counts.
+pub fn mixed_from(alloc: Global, first: u32, count: u32) -> Result<Batch, MakeError>
+    ensures { IfOk result (λ batch. length batch ≡ min count 100000) }
+{
     let mut batch = Batch::new(alloc);
-    for seed in 0..count.min(100_000) {
+    for index in 0..count.min(100_000) {
+        let seed = first.saturating_add(index);
         let change = match seed % 20 {
             0..=13 => node(alloc, seed)?,
             14..=17 => way(alloc, seed)?,
