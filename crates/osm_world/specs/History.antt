@@ -122,8 +122,8 @@ abbrev pub reported_of : History → List ℕ
 reported_of [] = []
 reported_of (p ∷ h) = if restarts p.0 p.1 then [] else (reported_of h ++ applied_by p.1)
 
--- whether the follower is broken: since its last restart an application was stopped part of the
--- way, or a restart after that was refused
+-- whether the follower is broken: since the last restart that was made, an application was stopped
+-- part of the way or a restart was refused
 abbrev pub is_broken : History → Bool
 is_broken [] = false
 is_broken (p ∷ h) = broken_by p.0 p.1 (is_broken h)
