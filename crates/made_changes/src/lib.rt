@@ -2,6 +2,8 @@
 //! as in a file of a minute.
 #![tactic(auto)]
 
+ghost use Rattle.std.specs.Prelude.{◌≡◌, length, min, IfOk};
+
 use osm_model::batch::{Batch, PushError};
 use osm_model::change::{Change, ChangeError};
 use osm_model::kind::{Key, Kind};
@@ -163,7 +165,9 @@ fn deletion(alloc: Global, seed: u32) -> Result<Change, MakeError> {
 
 /// So many changes, at most 100,000: of ten, seven are nodes, two ways, and one is a relation or a
 /// deletion.
-pub fn mixed(alloc: Global, count: u32) -> Result<Batch, MakeError> {
+pub fn mixed(alloc: Global, count: u32) -> Result<Batch, MakeError>
+    ensures { IfOk result (λ batch. length batch ≡ min count 100000) }
+{
     let mut batch = Batch::new(alloc);
     for seed in 0..count.min(100_000) {
         let change = match seed % 20 {

@@ -3,3 +3,4 @@ pub mod ReachLemmas
 pub mod DrainLemmas
 pub mod DeliveryLemmas
 pub mod FollowLemmas
+pub mod RestartLemmas

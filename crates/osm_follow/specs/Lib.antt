@@ -3,5 +3,7 @@ pub mod Publisher
 pub mod Reach
 pub mod Follower
 pub mod Delivery
+pub mod Lag
+pub mod Restart
 pub mod View
 pub mod Steps

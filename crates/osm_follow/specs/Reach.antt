@@ -1,20 +1,6 @@
 -- Numbers without a gap.
-use Rattle.std.specs.Prelude.{
-  ◌≡◌,
-  ℕ,
-  zero,
-  suc,
-  ◌+◌,
-  ◌<◌,
-  ◌≤◌,
-  List,
-  [],
-  ◌∷◌,
-  ◌++◌,
-  Bool,
-  true,
-  false,
-}
+use Rattle.std.specs.Prelude.{◌≡◌, ℕ, zero, suc, ◌+◌, ◌-◌, ◌<◌, ◌≤◌, List, [], ◌∷◌, ◌++◌, filter}
+use Rattle.std.specs.Prelude.{Bool, true, false, not, min}
 
 -- after n all up to m are in, and m + 1 isn't: m is the greatest number reached without a gap
 pub record Reaches (is_in : ℕ → Bool) (n m : ℕ) : Type 0 where
@@ -30,3 +16,7 @@ between f n (suc count) = between f n count ++ f (n + suc count)
 -- n + 1 to n + count
 abbrev pub numbers : ℕ → ℕ → List ℕ
 numbers n count = between (λ j. j ∷ []) n count
+
+-- the numbers after n, up to the smaller of n + 64 and top, that aren't in, rising
+abbrev pub missing_numbers : (ℕ → Bool) → ℕ → ℕ → List ℕ
+missing_numbers is_in n top = filter (λ j. not (is_in j)) (numbers n (min 64 (top - n)))

@@ -2,13 +2,18 @@
 
 ghost use Rattle.std.specs.Prelude.{◌≡◌, ◌+◌, ◌*◌, ◌<◌, ◌≤◌, ℕ, Result, Err, None, Some, IfOk};
 ghost use Rattle.std.specs.Prelude.{IfErr, IsErr, IsSome, IsTrue, MatchOption, ◌↔◌, true, false};
-ghost use Rattle.std.specs.Prelude.{OnOk, length, Contains};
+ghost use Rattle.std.specs.Prelude.{OnOk, OnErr, [], length, Contains};
+ghost use Rattle.std.specs.Option.{option_map};
 ghost use Rattle.std.specs.List.Sorted.{IsStrictlySortedBy};
 ghost use Rattle.std.specs.Ordering.{nat_cmp};
 ghost use Rattle.osm_model.specs.Limits.{max_changes, max_sequence};
 ghost use Rattle.osm_follow.specs.Delivery.{AnswersUnread, Delivers, Holds, IsTurn, sequence_of};
-ghost use Rattle.osm_follow.specs.Follower.{held_at, new_follower};
-ghost use Rattle.osm_mirror.specs.Mirror.{IsWithin, count_at, object_at};
+ghost use Rattle.osm_follow.specs.Follower.{held_at, is_held, new_follower};
+ghost use Rattle.osm_follow.specs.Lag.{Lags, MissingRefused};
+ghost use Rattle.osm_mirror.specs.Mirror.{IsWithin, count_at, no_mirror, object_at};
+ghost use Rattle.osm_save.specs.Save.{IsTimeOf, SpellsSave};
+ghost use Rattle.osm_follow.specs.Reach.{missing_numbers};
+ghost use Rattle.osm_follow.specs.Restart.{Restarts, SavingRefused, follower_of, saved_of};
 ghost use Rattle.osm_follow.specs.Steps.Taking.{TakeAnswers};
 ghost use Rattle.osm_follow.specs.View.{ViewRefused, view_of};
 ghost use Rattle.osm_follow.specs.declared.delivery.Delivered.{Delivered};
@@ -16,6 +21,8 @@ ghost use Rattle.osm_follow.specs.declared.delivery.DeliverError.{DeliverError};
 
 use crate::delivery::{DeliverError, Delivered};
 use crate::drain::drain;
+use crate::lag::{Lag, LagError};
+use crate::restart::RestartError;
 use crate::view::{View, ViewError};
 use osm_holding::holding::{Held, HoldingArea, WINDOW};
 use osm_mirror::mirror::Mirror;
@@ -24,6 +31,7 @@ use osm_model::change::Change;
 use osm_model::form::{ChangeForm, FormError};
 use osm_model::kind::Key;
 use osm_model::memory::WantOfMemory;
+use osm_save::save::{SaveError, save_read, save_write};
 use osm_state::state::State;
 use osm_state::state_text::state_read;
 use std::alloc::Global;
@@ -33,8 +41,8 @@ use thiserror::Error;
 /// The mirror of sequences 1 to the follower's number, and those of the 64 after it that came
 /// early.
 ///
-/// The follower is broken once an application ran out of memory part of the way, and then says
-/// nothing more of its mirror.
+/// The follower is broken once an application ran out of memory part of the way, or a restart was
+/// refused. It then says nothing of its mirror, until it is restarted.
 #[derive(Debug, Drop)]
 pub struct Follower {
     number: u32,
@@ -249,6 +257,63 @@ impl Follower {
         Ok(self.holding.is_held(number))
     }
 
+    /// How far the follower is behind that state. Takes no memory.
+    pub fn lag(&self, state: &State) -> Result<Lag, LagError>
+        ensures { Lags self.now state.now result }
+    {
+        if self.is_broken {
+            return Err(LagError::Broken);
+        }
+        if state.sequence() < self.number {
+            return Err(LagError::TopBehind);
+        }
+        let seconds = match self.time {
+            None => None,
+            Some(time) if time <= state.time() => Some(state.time() - time),
+            Some(_) => return Err(LagError::TimeBehind),
+        };
+        Ok(Lag {
+            behind: state.sequence() - self.number,
+            seconds,
+        })
+    }
+
+    /// The numbers to fetch: of the 64 after the follower's, those up to the state's sequence that
+    /// aren't held, rising. There are none if the state isn't after the follower, which takes no
+    /// memory.
+    pub fn missing(&self, alloc: Global, state: &State) -> Result<Vec<u32>, ViewError>
+        ensures whole { OnOk result (self.now.is_broken ≡ false) }
+        ensures numbers { IfOk result (λ ns. ns.items
+            ≡ missing_numbers (is_held self.now) self.now.number state.now.sequence) }
+        ensures refused { IfErr result (MissingRefused self.now state.now) }
+    {
+        if self.is_broken {
+            return Err(ViewError::Broken);
+        }
+        match self.missing_until(alloc, state.sequence()) {
+            Ok(missing) => Ok(missing),
+            Err(_) => Err(ViewError::WantOfMemory),
+        }
+    }
+
+    // The missing numbers, up to that one.
+    fn missing_until(&self, alloc: Global, top: u32) -> Result<Vec<u32>, WantOfMemory>
+        requires whole { self.now.is_broken ≡ false }
+        ensures numbers { IfOk result (λ ns. ns.items
+            ≡ missing_numbers (is_held self.now) self.now.number top) }
+        ensures refused { OnErr result (self.now.number < top) }
+    {
+        let count = WINDOW.min(top.saturating_sub(self.number));
+        let mut missing = Vec::with_capacity(alloc, count as usize)?;
+        for index in 0..count {
+            let number = self.number + 1 + index;
+            if !self.holding.is_held(number) {
+                missing.push(number)?;
+            }
+        }
+        Ok(missing)
+    }
+
     fn check_whole(&self) -> Result<(), Broken>
         ensures broken { IsErr result ↔ (self.now.is_broken ≡ true) }
         ensures bounded { OnOk result (IsWithin (max_changes * self.now.number) self.now.mirror) }
@@ -275,5 +340,82 @@ impl Follower {
             Ok(view) => Ok(view),
             Err(_) => Err(ViewError::WantOfMemory),
         }
+    }
+
+    /// The save text of the follower's number, time, mirror and counts. Sequences that are held
+    /// aren't saved.
+    pub fn save(&self, alloc: Global) -> Result<Vec<u8>, ViewError>
+        ensures whole { OnOk result (self.now.is_broken ≡ false) }
+        ensures text { IfOk result (λ text. SpellsSave text.items (saved_of self.now)) }
+        ensures refused { IfErr result (SavingRefused self.now) }
+    {
+        if self.is_broken {
+            return Err(ViewError::Broken);
+        }
+        match save_write(alloc, self.number, self.time, &self.mirror) {
+            Ok(text) => Ok(text),
+            Err(_) => Err(ViewError::WantOfMemory),
+        }
+    }
+
+    /// Begins again from a save text, or from sequence 0 if there is none, which takes no memory
+    /// and always succeeds. The old mirror and all that is held are dropped before the text is
+    /// read. A broken follower can begin again too.
+    pub fn restart(&mut self, alloc: Global, saved: Option<&[u8]>) -> Result<(), RestartError>
+        ensures { Restarts self.old (option_map (λ text. text.now) saved.entry) result self.new }
+    {
+        self.drop_all(alloc);
+        match saved {
+            None => {
+                self.go_on(0, None, Mirror::new(alloc));
+                Ok(())
+            }
+            Some(text) => self.read(alloc, text),
+        }
+    }
+
+    // The follower is broken from then on.
+    fn drop_all(&mut self, alloc: Global)
+        ensures { self.new ≡ record self.old {
+          mirror = no_mirror;
+          holding = record { base = 0; entries = [] };
+          is_broken = true;
+        } }
+    {
+        self.is_broken = true;
+        self.mirror = Mirror::new(alloc);
+        self.holding.clear(0);
+    }
+
+    fn read(&mut self, alloc: Global, text: &[u8]) -> Result<(), RestartError>
+        requires { self.old.is_broken ≡ true }
+        ensures { Restarts self.old (Some text.now) result self.new }
+    {
+        match save_read(alloc, text) {
+            Ok(saved) => {
+                self.go_on(saved.number, saved.time, saved.mirror);
+                Ok(())
+            }
+            Err(SaveError::BadSave { line }) => Err(RestartError::BadSave { line }),
+            Err(SaveError::WantOfMemory) => Err(RestartError::WantOfMemory),
+        }
+    }
+
+    // At that sequence, whole, and with nothing held.
+    fn go_on(&mut self, number: u32, time: Option<u32>, mirror: Mirror)
+        requires most { number ≤ max_sequence }
+        requires time { IsTimeOf number time }
+        requires within { IsWithin (max_changes * number) mirror }
+        ensures { self.new ≡ follower_of (record {
+          number = number;
+          time = time;
+          mirror = mirror;
+        }) }
+    {
+        self.number = number;
+        self.time = time;
+        self.mirror = mirror;
+        self.holding.clear(number);
+        self.is_broken = false;
     }
 }

@@ -1,14 +1,18 @@
-//! What holds of deliveries, whatever the code does.
+//! What holds of deliveries and of restarts, whatever the code does.
 
-ghost use Rattle.std.specs.Prelude.{◌≡◌, ℕ, ◌<◌, ◌≤◌, List, length, Result, Err};
+ghost use Rattle.std.specs.Prelude.{◌≡◌, ◌⊎◌, ℕ, ◌<◌, ◌≤◌, List, length, Some, Result, Ok, Err};
 ghost use Rattle.osm_state.specs.StateText.{StateOf};
 ghost use Rattle.osm_follow.specs.Delivery.{Delivers};
 ghost use Rattle.osm_follow.specs.Follower.{FollowerValue, Follows};
 ghost use Rattle.osm_follow.specs.Published.{AreSequences, PublishedValue, changes_at, sequence_at};
+ghost use Rattle.osm_save.specs.Save.{SpellsSave};
+ghost use Rattle.osm_follow.specs.Restart.{Restarts, follower_of, saved_of};
 ghost use Rattle.osm_follow.specs.declared.delivery.Delivered.{Delivered};
 ghost use Rattle.osm_follow.specs.declared.delivery.DeliverError.{DeliverError};
+ghost use Rattle.osm_follow.specs.declared.restart.RestartError.{RestartError};
 
 use osm_model::form::ChangeForm;
+use osm_save::save::laws_of_saves;
 use osm_state::laws::laws_of_state;
 
 /// A follower that follows what was published still does after a delivery of any text that names a
@@ -25,4 +29,16 @@ pub fn laws_of_deliveries<F: ChangeForm>()
 {
     F::laws();
     laws_of_state();
+}
+
+/// A follower that is restarted from the text that one saved is at that one's number and time, with
+/// its mirror and nothing held, unless memory was refused. Does nothing at run time.
+pub fn laws_of_restarts()
+    ensures as_saved { (saved f g : FollowerValue) (text : List ℕ)
+        (answer : Result (Unit {0}) RestartError)
+        → SpellsSave text (saved_of saved) → Restarts f (Some text) answer g
+        → ((answer ≡ Ok tt) × (g ≡ follower_of (saved_of saved)))
+        ⊎ (answer ≡ Err RestartError.WantOfMemory) }
+{
+    laws_of_saves();
 }

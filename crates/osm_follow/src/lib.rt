@@ -4,7 +4,9 @@
 pub mod delivery;
 mod drain;
 pub mod follower;
+pub mod lag;
 pub mod laws;
 pub mod published;
 pub mod publisher;
+pub mod restart;
 pub mod view;

@@ -25,7 +25,7 @@ use Rattle.std.specs.List.{AllByRecursion}
 use Rattle.std.specs.List.Sorted.{IsStrictlySortedBy}
 use Rattle.std.specs.Map.{lookup}
 use Rattle.std.specs.Ordering.{nat_cmp}
-use Rattle.osm_model.specs.Change.{ChangeValue}
+use Rattle.osm_model.specs.Change.{ChangeValue, IsChange}
 use Rattle.osm_model.specs.Content.{
   content_of,
   over,
@@ -34,6 +34,7 @@ use Rattle.osm_model.specs.Content.{
   edits_by_changeset,
 }
 use Rattle.osm_model.specs.KeyOrder.{key_cmp, same_key}
+use Rattle.osm_model.specs.Limits.{IsPositive}
 use Rattle.osm_model.specs.declared.change.What.TheVariants.{Deleted}
 use Rattle.osm_model.specs.declared.kind.Key.{Key}
 
@@ -73,6 +74,23 @@ pub record IsOrderly (m : MirrorValue) : Type 0 where
   pub objects : AreRising m.objects
   pub users : AreCountsAboveZero m.users
   pub changesets : AreCountsAboveZero m.changesets
+
+-- an object within the limits that isn't deleted
+pub record IsObject (c : ChangeValue) : Type 0 where
+  pub limits : IsChange c
+  pub stands : standing_of c ≡ Some c
+
+-- a user id or a changeset within the limits
+abbrev pub HasNumber : Counted → Type 0
+HasNumber e = IsPositive e.0
+
+-- what every mirror is, whatever changes were applied: its lists are in order, its objects stand,
+-- and its objects, users and changesets are within the limits
+pub record IsMirror (m : MirrorValue) : Type 0 where
+  pub orderly : IsOrderly m
+  pub objects : AllByRecursion IsObject m.objects
+  pub users : AllByRecursion HasNumber m.users
+  pub changesets : AllByRecursion HasNumber m.changesets
 
 -- these are exactly the objects that the changes leave, and exactly their edits
 pub record IsMirrorOf (changes : List ChangeValue) (m : MirrorValue) : Type 0 where

@@ -1,12 +1,18 @@
 //! Edits counted by a number: a user's or a changeset's.
 
-ghost use Rattle.std.specs.Prelude.{◌≡◌, ℕ, ◌+◌, ◌<◌, ◌≤◌, ◌==◌, ◌^◌, [], length, IfOk, OnOk};
-ghost use Rattle.std.specs.Prelude.{OnErr, if◌then◌else◌};
-ghost use Rattle.osm_mirror.specs.Mirror.{AreCountsAboveZero, count_at};
+ghost use Rattle.std.specs.Prelude.{◌≡◌, ℕ, ◌+◌, ◌<◌, ◌≤◌, ◌==◌, ◌^◌, [], ◌∷◌, ◌++◌, length};
+ghost use Rattle.std.specs.Prelude.{IfOk, OnOk, OnErr, if◌then◌else◌, map};
+ghost use Rattle.std.specs.List.{AllByRecursion};
+ghost use Rattle.std.specs.List.Sorted.{IsStrictlySortedBy};
+ghost use Rattle.std.specs.Map.Iter.{ShowsInOrder, deref_pair};
+ghost use Rattle.std.specs.Ordering.{nat_cmp};
+ghost use Rattle.osm_model.specs.Limits.{IsPositive};
+ghost use Rattle.osm_mirror.specs.Mirror.{AreCountsAboveZero, HasNumber, count_at};
 
 use osm_model::memory::WantOfMemory;
 use std::alloc::Global;
 use std::collections::BTreeMap;
+use std::collections::btree_map::Iter;
 use std::marker::Model;
 
 /// Numbers with their counts, none of them 0.
@@ -17,14 +23,14 @@ pub struct Counts {
 
 impl Model for Counts {
     ghost use Rattle.std.specs.Prelude.{List};
-    ghost use Rattle.std.specs.List.{AllByRecursion};
-    ghost use Rattle.osm_mirror.specs.Mirror.{Counted, IsAboveZero};
+    ghost use Rattle.osm_mirror.specs.Mirror.{Counted};
+    ghost use Rattle.osm_mirror.specs.Steps.Entries.{AreCounts};
 
     ghost Value = { List Counted };
 
     ghost view = { λ a. a.counts.entries };
 
-    ghost invariant = { λ a. AllByRecursion IsAboveZero a.counts.entries };
+    ghost invariant = { λ a. AreCounts a.counts.entries };
 }
 
 impl Counts {
@@ -46,7 +52,8 @@ impl Counts {
 
     /// Counts one edit more. After a refusal nothing has changed.
     pub fn add_one(&mut self, number: u32) -> Result<(), WantOfMemory>
-        requires { count_at self.old number + 1 < 2 ^ 64 }
+        requires room { count_at self.old number + 1 < 2 ^ 64 }
+        requires number { 0 < number }
         ensures counted { OnOk result ((n : ℕ) →
             count_at self.new n ≡ count_at self.old n + (if number == n then 1 else 0)) }
         ensures grown { length self.new ≤ length self.old + 1 }
@@ -58,9 +65,37 @@ impl Counts {
         Ok(())
     }
 
+    /// Adds a number above all others, with its count. After a refusal nothing has changed.
+    pub fn push(&mut self, number: u32, count: u64) -> Result<(), WantOfMemory>
+        requires rising { IsStrictlySortedBy nat_cmp (map (λ e. e.0) self.old ++ number ∷ []) }
+        requires number { 0 < number }
+        requires count { 0 < count }
+        ensures pushed { OnOk result (self.new ≡ self.old ++ (number, count) ∷ []) }
+        ensures unchanged { OnErr result (self.new ≡ self.old) }
+    {
+        self.counts.insert(number, count)?;
+        Ok(())
+    }
+
+    /// How many numbers there are.
+    pub fn len(&self) -> usize
+        ensures { result ≡ length self.now }
+    {
+        self.counts.len()
+    }
+
+    /// The numbers with their counts, the numbers rising.
+    pub fn iter(&self) -> Iter<'_, u32, u64>
+        ensures rest { result ≡ self.now }
+        ensures runs { ShowsInOrder (deref_pair {K = ℕ} {X = ℕ}) }
+    {
+        self.counts.iter()
+    }
+
     /// Tells the prover that the numbers rise and no count is 0; does nothing at run time.
     pub fn counts_rise(&self)
-        ensures { AreCountsAboveZero self.now }
+        ensures counts { AreCountsAboveZero self.now }
+        ensures numbers { AllByRecursion HasNumber self.now }
     {
         let _many = self.counts.len();
     }

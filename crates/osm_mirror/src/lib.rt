@@ -1,7 +1,7 @@
 //! A mirror of all objects, with the edits counted by user and by changeset.
 #![tactic(auto)]
 
-mod counts;
+pub mod counts;
 pub mod laws;
 pub mod mirror;
-mod objects;
+pub mod objects;

@@ -2,7 +2,7 @@
 
 ghost use Rattle.std.specs.Prelude.{◌≡◌, ◌<◌, [], ◌∷◌, length, OnOk, OnErr, IfOk, None, Some};
 ghost use Rattle.std.specs.Prelude.{MatchOption};
-ghost use Rattle.osm_mirror.specs.Mirror.{Applies, IsOrderly, NeedsMemory};
+ghost use Rattle.osm_mirror.specs.Mirror.{Applies, IsMirror, NeedsMemory};
 ghost use Rattle.osm_mirror.specs.Mirror.{NeedsNewEntry, count_at, no_mirror, object_at};
 ghost use Rattle.osm_mirror.specs.Room.{GrowsBy, HasRoom};
 
@@ -68,6 +68,7 @@ impl Mirror {
         ensures grown { OnOk result (GrowsBy 1 self.old self.new) }
         ensures refused { OnErr result (NeedsNewEntry self.old [] change) }
     {
+        let _version = change.meta().version();
         let Ok(()) = self.users.add_one(change.meta().uid()) else {
             return Err(WantOfMemory);
         };
@@ -81,13 +82,45 @@ impl Mirror {
         Ok(())
     }
 
-    // Tells the prover that the lists rise; does nothing at run time.
-    fn lists_rise(&self)
-        ensures { IsOrderly self.now }
+    /// Tells the prover what every mirror is; does nothing at run time.
+    pub fn lists_rise(&self)
+        ensures { IsMirror self.now }
     {
         self.objects.keys_rise();
         self.users.counts_rise();
         self.changesets.counts_rise();
+    }
+
+    /// A mirror of those parts.
+    pub fn from_parts(objects: Objects, users: Counts, changesets: Counts) -> Mirror
+        ensures { result ≡ record { objects = objects; users = users; changesets = changesets } }
+    {
+        Mirror {
+            objects,
+            users,
+            changesets,
+        }
+    }
+
+    /// All objects, by their keys.
+    pub fn objects_by_key(&self) -> &Objects
+        ensures { result.now ≡ self.now.objects }
+    {
+        &self.objects
+    }
+
+    /// The edits of all users.
+    pub fn user_counts(&self) -> &Counts
+        ensures { result.now ≡ self.now.users }
+    {
+        &self.users
+    }
+
+    /// The edits in all changesets.
+    pub fn changeset_counts(&self) -> &Counts
+        ensures { result.now ≡ self.now.changesets }
+    {
+        &self.changesets
     }
 
     /// The object of that key.

@@ -1,18 +1,23 @@
 //! The objects of a mirror, each under its key.
 
-ghost use Rattle.std.specs.Prelude.{◌≡◌, ℕ, ◌+◌, ◌<◌, ◌≤◌, [], length, Some, None, IfOk, OnOk};
-ghost use Rattle.std.specs.Prelude.{OnErr, MatchOption, if◌then◌else◌};
+ghost use Rattle.std.specs.Prelude.{◌≡◌, ℕ, ◌+◌, ◌<◌, ◌≤◌, [], ◌∷◌, ◌++◌, length, Some, None};
+ghost use Rattle.std.specs.Prelude.{IfOk, OnOk, OnErr, MatchOption, if◌then◌else◌};
+ghost use Rattle.std.specs.BTreeMap.{insert_entry};
+ghost use Rattle.std.specs.List.{AllByRecursion};
+ghost use Rattle.std.specs.Map.Iter.{ShowsInOrder, deref};
+ghost use Rattle.osm_model.specs.Change.{ChangeValue};
 ghost use Rattle.osm_model.specs.Content.{standing_of};
-ghost use Rattle.osm_model.specs.KeyOrder.{same_key};
+ghost use Rattle.osm_model.specs.KeyOrder.{key_cmp, same_key};
 ghost use Rattle.osm_model.specs.declared.kind.Key.{Key};
-ghost use Rattle.osm_mirror.specs.Steps.Entries.{HaveOwnKeys, objects_of};
-ghost use Rattle.osm_mirror.specs.Mirror.{AreRising, object_at};
+ghost use Rattle.osm_mirror.specs.Steps.Entries.{AreObjects, objects_of};
+ghost use Rattle.osm_mirror.specs.Mirror.{AreRising, IsObject, object_at};
 
 use osm_model::change::Change;
 use osm_model::kind::Key;
 use osm_model::memory::WantOfMemory;
 use std::alloc::Global;
 use std::collections::BTreeMap;
+use std::collections::btree_map::Values;
 use std::marker::Model;
 
 /// The last change of each object that isn't deleted, by its key.
@@ -27,11 +32,11 @@ impl Model for Objects {
 
     ghost Value = { List ChangeValue };
 
-    ghost use Rattle.osm_mirror.specs.Steps.Entries.{HaveOwnKeys, objects_of};
+    ghost use Rattle.osm_mirror.specs.Steps.Entries.{AreObjects, objects_of};
 
     ghost view = { λ a. objects_of a.objects.entries };
 
-    ghost invariant = { λ a. HaveOwnKeys a.objects.entries };
+    ghost invariant = { λ a. AreObjects a.objects.entries };
 }
 
 impl Objects {
@@ -71,9 +76,36 @@ impl Objects {
         }
     }
 
-    /// Tells the prover that the keys rise; does nothing at run time.
+    /// Adds an object whose key is above all others. After a refusal nothing has changed.
+    pub fn push(&mut self, change: Change) -> Result<(), WantOfMemory>
+        requires rising { AreRising (self.old ++ change ∷ []) }
+        requires stands { standing_of change ≡ Some change }
+        ensures pushed { OnOk result (self.new ≡ self.old ++ change ∷ []) }
+        ensures unchanged { OnErr result (self.new ≡ self.old) }
+    {
+        enter(&mut self.objects, change)?;
+        Ok(())
+    }
+
+    /// How many objects there are.
+    pub fn len(&self) -> usize
+        ensures { result ≡ length self.now }
+    {
+        self.objects.len()
+    }
+
+    /// The objects, their keys rising.
+    pub fn iter(&self) -> Values<'_, Key, Change>
+        ensures rest { result ≡ self.now }
+        ensures runs { ShowsInOrder (deref {X = ChangeValue}) }
+    {
+        self.objects.values()
+    }
+
+    /// Tells the prover that the keys rise and all objects stand; does nothing at run time.
     pub fn keys_rise(&self)
-        ensures { AreRising self.now }
+        ensures keys { AreRising self.now }
+        ensures objects { AllByRecursion IsObject self.now }
     {
         let _many = self.objects.len();
     }
@@ -92,8 +124,8 @@ impl Objects {
 }
 
 fn take_out(objects: &mut BTreeMap<Key, Change>, key: Key)
-    requires { HaveOwnKeys objects.old.entries }
-    ensures own_keys { HaveOwnKeys objects.new.entries }
+    requires { AreObjects objects.old.entries }
+    ensures objects { AreObjects objects.new.entries }
     ensures out { (k : Key) → object_at (objects_of objects.new.entries) k
         ≡ (if same_key key k then None else object_at (objects_of objects.old.entries) k) }
     ensures grown { length objects.new.entries ≤ length objects.old.entries }
@@ -102,8 +134,11 @@ fn take_out(objects: &mut BTreeMap<Key, Change>, key: Key)
 }
 
 fn enter(objects: &mut BTreeMap<Key, Change>, change: Change) -> Result<(), WantOfMemory>
-    requires { HaveOwnKeys objects.old.entries }
-    ensures own_keys { HaveOwnKeys objects.new.entries }
+    requires objects { AreObjects objects.old.entries }
+    requires stands { standing_of change ≡ Some change }
+    ensures objects { AreObjects objects.new.entries }
+    ensures inserted { OnOk result
+        (objects.new.entries ≡ insert_entry key_cmp objects.old.entries change.key change) }
     ensures entered { OnOk result ((k : Key) → object_at (objects_of objects.new.entries) k
         ≡ (if same_key change.key k then Some change
         else object_at (objects_of objects.old.entries) k)) }

@@ -1,21 +1,6 @@
 -- Times as texts, in the form of ISO 8601 that OpenStreetMap uses: YYYY-MM-DDTHH:MM:SSZ.
-use Rattle.std.specs.Prelude.{
-  ◌≡◌,
-  ℕ,
-  ◌+◌,
-  ◌*◌,
-  ◌/◌,
-  ◌%◌,
-  ◌<◌,
-  List,
-  [],
-  ◌∷◌,
-  ◌++◌,
-  ℤ,
-  pos,
-  ◌+ℤ◌,
-  ◌*ℤ◌,
-}
+use Rattle.std.specs.Prelude.{◌≡◌, ℕ, ◌+◌, ◌*◌, ◌/◌, ◌%◌, ◌<◌, List, [], ◌∷◌, ◌++◌, ℤ, pos, ◌+ℤ◌}
+use Rattle.std.specs.Prelude.{◌*ℤ◌}
 use Rattle.jiff_core.specs.Calendar.{IsCivilDate, days_from_civil}
 use Rattle.osm_model.specs.Limits.{IsPositive}
 

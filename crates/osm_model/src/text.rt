@@ -1,17 +1,7 @@
 //! Texts of objects: user names, keys and values of tags, roles of members.
 
-ghost use Rattle.std.specs.Prelude.{
-  ◌≡◌,
-  ◌<◌,
-  ◌≤◌,
-  ◌↔◌,
-  length,
-  IfOk,
-  IsErrOf,
-  OnErr,
-  Contains,
-  string_bytes,
-};
+ghost use Rattle.std.specs.Prelude.{◌≡◌, ◌<◌, ◌≤◌, ◌↔◌, length, IfOk, IsErrOf, OnErr, Contains};
+ghost use Rattle.std.specs.Prelude.{string_bytes};
 ghost use Rattle.osm_model.specs.Text.{IsText};
 ghost use Rattle.osm_model.specs.declared.text.TextError.TheVariants.{WantOfMemory};
 

@@ -1,30 +1,9 @@
 //! Times as texts of 20 bytes, as `2024-01-01T00:00:00Z`. To read one, its digits are taken as they
 //! come, the time that they give is written, and the two texts are compared.
 
-ghost use Rattle.std.specs.Prelude.{
-  ◌≡◌,
-  ℕ,
-  List,
-  ◌+◌,
-  ◌-◌,
-  ◌*◌,
-  ◌/◌,
-  ◌%◌,
-  ◌<◌,
-  ◌≤◌,
-  ◌^◌,
-  ◌↔◌,
-  Some,
-  IsTrue,
-  IsNone,
-  IfSome,
-  min,
-  pos,
-  codes,
-  ◌+ℤ◌,
-  ◌*ℤ◌,
-  ◌≤ℤ◌,
-};
+ghost use Rattle.std.specs.Prelude.{◌≡◌, ℕ, List, ◌+◌, ◌-◌, ◌*◌, ◌/◌, ◌%◌, ◌<◌, ◌≤◌, ◌^◌, ◌↔◌};
+ghost use Rattle.std.specs.Prelude.{Some, IsTrue, IsNone, IfSome, min, pos, codes, ◌+ℤ◌, ◌*ℤ◌};
+ghost use Rattle.std.specs.Prelude.{◌≤ℤ◌};
 ghost use Rattle.jiff_core.specs.Calendar.{IsCivilDate};
 ghost use Rattle.jiff_core.specs.Date.{epoch_day};
 ghost use Rattle.osm_model.specs.CivilTime.{time_text};

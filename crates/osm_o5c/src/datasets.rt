@@ -102,7 +102,7 @@ impl<'a> Reader<'a> {
     }
 
     // Reads one more dataset, and gives the bytes after it.
-    #[tactic(auto, using(crate::proofs::PlaceLemmas::found_begins), unfolding(crate::specs::Steps::FileReading::step))]
+    #[tactic(auto, unfolding(crate::specs::Steps::FileReading::step))]
     fn next(
         &mut self,
         alloc: Global,

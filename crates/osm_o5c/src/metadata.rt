@@ -19,7 +19,7 @@ use osm_reading::refusal::Refusal;
 use std::alloc::Global;
 
 // The user id that is all of those bytes.
-#[tactic(auto, using(crate::proofs::FieldLemmas::no_uid), unfolding(crate::specs::Steps::StringReading::uid_of))]
+#[tactic(auto, unfolding(crate::specs::Steps::StringReading::uid_of))]
 fn uid(bytes: &[u8]) -> Result<u32, Why>
     ensures finds { Finds (λ n. n) result (uid_of bytes.now) }
     ensures limits { IfOk result (λ n. 1 ≤ n) }

@@ -1,4 +1,4 @@
-//! Tests of the public calls of all crates, in one crate, so that each other crate is proved once.
+//! Tests of the public calls of the publisher, the follower, the world, the replay and the judge.
 #![tactic(auto)]
 
 #[cfg(test)]

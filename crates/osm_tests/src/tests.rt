@@ -1,9 +1,4 @@
 mod follow;
-mod forms;
 mod holding;
 mod judge;
-mod model;
-mod o5c;
-mod opl;
 mod repl;
-mod state;

@@ -77,8 +77,8 @@ with_found changes (Some c, reader, rest) =
 unfoldable pub step : Position → Option Position
 step p = and_then (dataset_at p.reader p.rest) (with_found p.changes)
 
--- where a file that isn't too large is refused: for memory only if it doesn't spell the empty
--- batch, and otherwise where it goes wrong
+-- why a file that isn't too large is refused: out of memory, only if it doesn't spell the empty
+-- batch, or a fault, at the place where it goes wrong
 abbrev pub FileRefused : List ℕ → FormError → Type 0
 FileRefused bytes errors.WantOfMemory = SpellsO5c bytes [] → ⊥
 FileRefused bytes errors.TooLarge = ⊥

@@ -2,11 +2,9 @@
 //! order, and each call once.
 
 use osm_follow::delivery::{DeliverError, Delivered};
-use osm_world::event::{Event, Form, Reply};
 use osm_follow::follower::{Broken, Follower};
 use osm_follow::publisher::{CloseError, EditError, Publisher};
 use osm_follow::view::ViewError;
-use osm_world::world::World;
 use osm_model::form::{ChangeForm, FormError, Why};
 use osm_model::kind::{Key, Kind};
 use osm_o5c::o5c::O5c;
@@ -14,6 +12,8 @@ use osm_opl::lines::read_line;
 use osm_opl::opl::Opl;
 use osm_state::state::State;
 use osm_state::state_text::StateError;
+use osm_world::event::{Event, Form, Reply};
+use osm_world::world::World;
 use std::alloc::Global;
 use std::test::Fail;
 
@@ -31,28 +31,35 @@ const NODE_O5C: &[u8] =
     b"\xff\xe0\x04o5c2\x10\x17\x02\x01\x80\x82\x90\xd9\x0c\x0e\x00\x05\x00ann\x00\
       \x80\xda\xc4\x09\x80\xb4\x89\x13\xfe";
 
-#[test]
-fn a_sequence_is_published_as_three_texts(rt: HostRuntime) -> Result<(), Fail> {
-    let alloc = rt.alloc();
+// Whether a first sequence of the node is published as the three texts, after which nothing is
+// pending.
+fn is_published(alloc: Global) -> Result<bool, Fail> {
     let mut publisher = Publisher::new(alloc);
     publisher.edit(read_line(alloc, NODE)?)?;
     let published = publisher.close(alloc, NEW_YEAR)?;
-    assert_eq!(rt; published.number(), 1);
-    assert_eq!(rt; published.state(), STATE);
-    assert_eq!(rt; published.opl(), NODE_FILE);
-    assert_eq!(rt; published.o5c(), NODE_O5C);
-    assert_eq!(rt; publisher.number(), 1);
-    assert!(rt; publisher.pending().changes().is_empty());
+    let is_first = published.number() == 1 && publisher.number() == 1;
+    let is_state = published.state() == STATE;
+    let are_changes = published.opl() == NODE_FILE && published.o5c() == NODE_O5C;
+    Ok(is_first && is_state && are_changes && publisher.pending().changes().is_empty())
+}
+
+#[test]
+fn a_sequence_is_published_as_three_texts(rt: HostRuntime) -> Result<(), Fail> {
+    assert!(rt; is_published(rt.alloc())?);
     Ok(())
 }
 
 #[test]
 fn an_empty_sequence_is_eight_bytes_of_o5c_and_no_opl(rt: HostRuntime) -> Result<(), Fail> {
-    let alloc = rt.alloc();
-    let published = Publisher::new(alloc).close(alloc, NEW_YEAR)?;
-    assert_eq!(rt; published.o5c(), b"\xff\xe0\x04o5c2\xfe".as_slice());
-    assert!(rt; published.opl().is_empty());
+    let published = Publisher::new(rt.alloc()).close(rt.alloc(), NEW_YEAR)?;
+    let is_o5c = published.o5c() == b"\xff\xe0\x04o5c2\xfe".as_slice();
+    assert!(rt; is_o5c && published.opl().is_empty());
     Ok(())
+}
+
+// Why the publisher closes no sequence at that time.
+fn close_refusal(alloc: Global, publisher: &mut Publisher, time: u32) -> Option<CloseError> {
+    publisher.close(alloc, time).err()
 }
 
 #[test]
@@ -62,24 +69,28 @@ fn a_close_is_refused_at_the_last_number_and_for_an_earlier_time(
     let alloc = rt.alloc();
     let state = State::new(999_999_998, NEW_YEAR).ok_or("a state")?;
     let mut publisher = Publisher::resume(alloc, &state);
-    assert_eq!(rt;
-        publisher.close(alloc, NEW_YEAR - 1).err(),
-        Some(CloseError::TimeBack)
-    );
-    assert_eq!(rt; publisher.close(alloc, NEW_YEAR)?.number(), 999_999_999);
-    assert_eq!(rt;
-        publisher.close(alloc, NEW_YEAR).err(),
-        Some(CloseError::SequenceFull)
-    );
-    assert_eq!(rt;
-        publisher.close(alloc, 0).err(),
-        Some(CloseError::SequenceFull)
-    );
-    assert_eq!(rt;
-        Publisher::new(alloc).close(alloc, 0).err(),
-        Some(CloseError::TimeBack)
-    );
+    let is_back = close_refusal(alloc, &mut publisher, NEW_YEAR - 1) == Some(CloseError::TimeBack);
+    let is_closed = close_refusal(alloc, &mut publisher, NEW_YEAR).is_none();
+    assert!(rt; is_back && is_closed);
+    let full = Some(CloseError::SequenceFull);
+    assert_eq!(rt; publisher.number(), 999_999_999);
+    assert_eq!(rt; close_refusal(alloc, &mut publisher, NEW_YEAR), full);
+    assert_eq!(rt; close_refusal(alloc, &mut publisher, 0), full);
     Ok(())
+}
+
+#[test]
+fn the_first_close_is_later_than_time_zero(rt: HostRuntime) {
+    let alloc = rt.alloc();
+    let refused = close_refusal(alloc, &mut Publisher::new(alloc), 0);
+    assert_eq!(rt; refused, Some(CloseError::TimeBack));
+}
+
+fn node(id: i64) -> Key {
+    Key {
+        kind: Kind::Node,
+        id,
+    }
 }
 
 // Whether the follower is at sequence 1 and holds node 1 alone, with its counts.
@@ -91,101 +102,104 @@ fn holds_the_node(follower: &Follower) -> Result<bool, Broken> {
     Ok(is_there && is_counted && is_alone && is_first)
 }
 
+// Whether a new follower applies those bytes as the first sequence, holds the node then, and calls
+// the sequence old when it comes again, whatever its bytes.
+fn applies<F: ChangeForm>(alloc: Global, bytes: &[u8]) -> Result<bool, Fail> {
+    let mut follower = Follower::new(alloc);
+    let first = follower.deliver::<F>(alloc, STATE, bytes);
+    let again = follower.deliver::<O5c>(alloc, STATE, b"no file");
+    let is_applied = first == Ok(Delivered::Applied { low: 1, high: 1 });
+    let is_old = again == Ok(Delivered::Old);
+    Ok(is_applied && is_old && !follower.is_broken() && holds_the_node(&follower)?)
+}
+
 #[test]
 fn a_follower_reads_opl_files(rt: HostRuntime) -> Result<(), Fail> {
-    let alloc = rt.alloc();
-    let mut follower = Follower::new(alloc);
-    let applied = Ok(Delivered::Applied { low: 1, high: 1 });
-    assert_eq!(rt; follower.deliver::<Opl>(alloc, STATE, NODE_FILE), applied);
-    let again = follower.deliver::<O5c>(alloc, STATE, b"no file");
-    assert_eq!(rt; again, Ok(Delivered::Old));
-    assert!(rt; holds_the_node(&follower)?);
+    assert!(rt; applies::<Opl>(rt.alloc(), NODE_FILE)?);
     Ok(())
 }
 
 #[test]
 fn a_follower_reads_o5c_files(rt: HostRuntime) -> Result<(), Fail> {
-    let alloc = rt.alloc();
-    let mut follower = Follower::new(alloc);
-    let applied = Ok(Delivered::Applied { low: 1, high: 1 });
-    assert_eq!(rt; follower.deliver::<O5c>(alloc, STATE, NODE_O5C), applied);
-    assert!(rt; holds_the_node(&follower)?);
-    assert!(rt; !follower.is_broken());
+    assert!(rt; applies::<O5c>(rt.alloc(), NODE_O5C)?);
     Ok(())
 }
 
-fn node(id: i64) -> Key {
-    Key {
-        kind: Kind::Node,
-        id,
-    }
+// Whether the delivery is refused for that fault by a follower at sequence 0, which stays there.
+fn is_refused(
+    alloc: Global,
+    follower: &mut Follower,
+    (state, bytes): (&[u8], &[u8]),
+    error: DeliverError,
+) -> bool {
+    let refused = follower.deliver::<O5c>(alloc, state, bytes).err();
+    refused == Some(error) && follower.number() == Ok(0)
 }
 
 #[test]
 fn a_delivery_is_refused_for_its_first_fault(rt: HostRuntime) {
     let alloc = rt.alloc();
-    let mut follower = Follower::new(alloc);
     let zero = b"sequenceNumber=0\ntimestamp=2024-01-01T00:00:00Z\n";
     let second = b"sequenceNumber=2\ntimestamp=2024-01-01T00:00:00Z\n";
     let no_header = FormError::Fault {
         place: 0,
         why: Why::BadHeader,
     };
-    let cases: [(&[u8], &[u8], DeliverError); 4] = [
-        (
-            b"",
-            b"",
-            DeliverError::BadState(StateError::MissingSequence),
-        ),
-        (zero, b"", DeliverError::BadSequence),
-        (second, b"", DeliverError::TooEarly),
-        (STATE, b"", DeliverError::BadChange(no_header)),
+    let cases: [(&[u8], DeliverError); 4] = [
+        (b"", DeliverError::BadState(StateError::MissingSequence)),
+        (zero, DeliverError::BadSequence),
+        (second, DeliverError::TooEarly),
+        (STATE, DeliverError::BadChange(no_header)),
     ];
-    for (state, bytes, error) in cases {
-        assert_eq!(rt; follower.deliver::<O5c>(alloc, state, bytes), Err(error));
-        assert_eq!(rt; follower.number(), Ok(0));
+    let mut follower = Follower::new(alloc);
+    for (state, error) in cases {
+        assert!(rt;
+            is_refused(alloc, &mut follower, (state, b""), error),
+            "{error:?}"
+        );
     }
+}
+
+// A world after an edit of the node and a close.
+fn world_of_the_node(alloc: Global) -> Result<World, Fail> {
+    let mut world = World::new(alloc)?;
+    let _ = world.step(Event::Edit(read_line(alloc, NODE)?));
+    let _ = world.step(Event::Close(NEW_YEAR));
+    Ok(world)
+}
+
+// Whether the world has archived the node's sequence, and no other.
+fn has_archived_the_node(world: &World) -> bool {
+    let is_alone = world.published(0).is_none() && world.published(2).is_none();
+    let is_there = match world.published(1) {
+        Some(published) => published.o5c() == NODE_O5C,
+        None => false,
+    };
+    is_alone && is_there
 }
 
 #[test]
 fn a_world_delivers_what_it_archived(rt: HostRuntime) -> Result<(), Fail> {
-    let alloc = rt.alloc();
-    let mut world = World::new(alloc)?;
-    let _ = world.step(Event::Edit(read_line(alloc, NODE)?));
-    let _ = world.step(Event::Close(NEW_YEAR));
-    assert!(rt; world.published(0).is_none());
-    assert!(rt; world.published(2).is_none());
-    assert_eq!(rt; world.published(1).ok_or("sequence 1")?.o5c(), NODE_O5C);
+    let mut world = world_of_the_node(rt.alloc())?;
+    assert!(rt; has_archived_the_node(&world));
     let reply = world.step(Event::Deliver {
         number: 1,
         form: Form::O5c,
     });
     assert!(rt; matches!(reply, Reply::Applied { low: 1, high: 1 }));
-    assert_eq!(rt; world.publisher().number(), 1);
-    assert_eq!(rt; world.follower().number()?, 1);
+    let number = world.follower().number()?;
+    assert_eq!(rt; (world.publisher().number(), number), (1, 1));
     Ok(())
 }
 
 #[test]
 fn refusals_are_named_as_they_are(rt: HostRuntime) -> Result<(), Fail> {
     let alloc = rt.alloc();
-    let change = read_line(alloc, NODE)?;
-    assert_eq!(rt;
-        format!(in alloc; "{}", EditError::BatchFull(change))?.as_str(),
-        "BatchFull"
-    );
-    assert_eq!(rt;
-        format!(in alloc; "{}", CloseError::TooLarge)?.as_str(),
-        "TooLarge"
-    );
-    assert_eq!(rt;
-        format!(in alloc; "{}", DeliverError::TooEarly)?.as_str(),
-        "TooEarly"
-    );
-    assert_eq!(rt;
-        format!(in alloc; "{}", ViewError::WantOfMemory)?.as_str(),
-        "WantOfMemory"
-    );
-    assert_eq!(rt; format!(in alloc; "{Broken}")?.as_str(), "Broken");
+    let full = EditError::BatchFull(read_line(alloc, NODE)?).to_string(alloc)?;
+    assert!(rt; full.as_str() == "BatchFull");
+    assert!(rt; CloseError::TooLarge.to_string(alloc)?.as_str() == "TooLarge");
+    assert!(rt; DeliverError::TooEarly.to_string(alloc)?.as_str() == "TooEarly");
+    assert!(rt; ViewError::WantOfMemory.to_string(alloc)?.as_str() == "WantOfMemory");
+    assert!(rt; Broken.to_string(alloc)?.as_str() == "Broken");
     Ok(())
 }

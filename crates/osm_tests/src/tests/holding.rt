@@ -4,6 +4,14 @@ use osm_holding::holding::{Held, HoldingArea};
 use osm_model::batch::Batch;
 use std::test::Fail;
 
+// The time of what is held.
+fn time_of(held: Option<Held>) -> Option<u32> {
+    match held {
+        Some(held) => Some(held.time),
+        None => None,
+    }
+}
+
 #[test]
 fn early_sequences_wait_for_their_turn(rt: HostRuntime) -> Result<(), Fail> {
     let alloc = rt.alloc();
@@ -22,8 +30,8 @@ fn early_sequences_wait_for_their_turn(rt: HostRuntime) -> Result<(), Fail> {
     assert!(rt; !area.is_held(base + 1));
     area.move_on();
     assert_eq!(rt; area.base(), 2);
-    assert_eq!(rt; area.take_next().map(|held| held.time), Some(103));
-    assert_eq!(rt; area.take_next().map(|held| held.time), None);
+    assert_eq!(rt; time_of(area.take_next()), Some(103));
+    assert_eq!(rt; time_of(area.take_next()), None);
     assert_eq!(rt; area.numbers(alloc)?.as_slice(), [65].as_slice());
     area.clear(999_999_999);
     assert_eq!(rt; area.base(), 999_999_999);

@@ -2,9 +2,11 @@
 
 use osm_judge::judge::may_answer;
 use osm_judge::plain::{plain_content_of, plain_edits_by_changeset, plain_edits_by_user};
+use osm_model::change::Change;
 use osm_model::kind::{Key, Kind};
 use osm_opl::lines::{read_line, write_line};
 use osm_repl::fault::RunFault;
+use std::alloc::Global;
 use std::test::Fail;
 
 // Lines of changes, the line of node 1 that they leave (empty if they leave none), and how many
@@ -71,34 +73,46 @@ n1 v2 dV c7 t2024-01-01T00:00:00Z i5 ubea T x1 y2",
 
 #[test]
 fn what_is_no_script_is_not_judged(rt: HostRuntime) {
-    let judged = may_answer(rt.alloc(), b"show\nx\n".as_slice(), b"old\n".as_slice());
-    assert!(rt; matches!(judged, Err(RunFault::BadScript(2))));
+    let refused = may_answer(rt.alloc(), b"show\nx\n", b"old\n").err();
+    assert_eq!(rt; refused, Some(RunFault::BadScript(2)));
+}
+
+// The changes of those lines.
+fn changes_of(alloc: Global, lines: &str) -> Result<Vec<Change>, Fail> {
+    let mut changes = Vec::new(alloc);
+    for line in lines.lines() {
+        changes.push(read_line(alloc, line.as_bytes())?)?;
+    }
+    Ok(changes)
+}
+
+// Whether the changes leave node 1 as on that line, or no node 1 if it is empty.
+fn leave_the_node(alloc: Global, changes: &[Change], left: &str) -> Result<bool, Fail> {
+    let key = Key {
+        kind: Kind::Node,
+        id: 1,
+    };
+    let Some(change) = plain_content_of(changes, key) else {
+        return Ok(left.is_empty());
+    };
+    let mut line = Vec::new(alloc);
+    write_line(change, &mut line)?;
+    Ok(line.as_slice() == left.as_bytes())
+}
+
+// Whether so many of the changes are of user 5 and of changeset 7.
+fn are_counted(changes: &[Change], users: usize, changesets: usize) -> bool {
+    plain_edits_by_user(changes, 5) == users && plain_edits_by_changeset(changes, 7) == changesets
 }
 
 #[test]
 fn the_definitions_say_what_a_person_expects(rt: HostRuntime) -> Result<(), Fail> {
     let alloc = rt.alloc();
     for (name, lines, left, users, changesets) in LEFT {
-        let mut changes = Vec::new(alloc);
-        for line in lines.lines() {
-            changes.push(read_line(alloc, line.as_bytes())?)?;
-        }
-        let key = Key {
-            kind: Kind::Node,
-            id: 1,
-        };
-        match plain_content_of(changes.as_slice(), key) {
-            None => assert!(rt; left.is_empty(), "{name}"),
-            Some(change) => {
-                let mut line = Vec::new(alloc);
-                write_line(change, &mut line)?;
-                assert_eq!(rt; line.as_slice(), left.as_bytes(), "{name}");
-            }
-        }
-        assert_eq!(rt; plain_edits_by_user(changes.as_slice(), 5), users, "{name}");
-        assert_eq!(rt;
-            plain_edits_by_changeset(changes.as_slice(), 7),
-            changesets,
+        let changes = changes_of(alloc, lines)?;
+        assert!(rt; leave_the_node(alloc, changes.as_slice(), left)?, "{name}");
+        assert!(rt;
+            are_counted(changes.as_slice(), users, changesets),
             "{name}"
         );
     }

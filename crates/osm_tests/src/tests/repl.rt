@@ -1,12 +1,12 @@
 //! Tests of scripts and replays: what a person expects, lines that are refused, readers and writers
 //! that fail, texts of faults, echoes of words.
 
-use osm_world::event::{Event, Form, Reply};
-use osm_world::world::World;
 use osm_opl::lines::read_line;
 use osm_repl::echo::echoes;
 use osm_repl::fault::{FileName, RunFault};
 use osm_repl::replay::replay_run;
+use osm_world::event::{Event, Form, Reply};
+use osm_world::world::World;
 use std::alloc::Global;
 use std::io::{self, Read, Write};
 use std::test::Fail;
@@ -58,22 +58,48 @@ const REFUSED: [(&str, u64); 15] = [
     ("edit n1 v1 dV c7 t2024-01-01T00:00:00Z i5 uann T x y2\n", 1),
 ];
 
+// Whether that is written in answer to the script.
+fn is_answered(alloc: Global, script: &str, replies: &str) -> Result<bool, Fail> {
+    let mut written = Vec::new(alloc);
+    replay_run(alloc, &mut script.as_bytes(), &mut written)?;
+    Ok(written.as_slice() == replies.as_bytes())
+}
+
 #[test]
 fn a_script_is_answered_as_a_person_would(rt: HostRuntime) -> Result<(), Fail> {
-    let mut written = Vec::new(rt.alloc());
-    replay_run(rt.alloc(), &mut SCRIPT.as_bytes(), &mut written)?;
-    assert_eq!(rt; written.as_slice(), REPLIES.as_bytes());
+    assert!(rt; is_answered(rt.alloc(), SCRIPT, REPLIES)?);
     Ok(())
+}
+
+// Whether what the reader gives ends in that fault, and nothing is written.
+fn is_refused<R: Read>(alloc: Global, reader: &mut R, fault: RunFault) -> bool {
+    let mut written = Vec::new(alloc);
+    let refused = replay_run(alloc, reader, &mut written).err();
+    refused == Some(fault) && written.is_empty()
 }
 
 #[test]
 fn a_line_that_is_no_event_is_named_and_nothing_is_written(rt: HostRuntime) {
     for (script, line) in REFUSED {
-        let mut written = Vec::new(rt.alloc());
-        let refused = replay_run(rt.alloc(), &mut script.as_bytes(), &mut written);
-        assert_eq!(rt; refused, Err(RunFault::BadScript(line)), "{script}");
-        assert!(rt; written.is_empty(), "{script}");
+        let is_named = is_refused(
+            rt.alloc(),
+            &mut script.as_bytes(),
+            RunFault::BadScript(line),
+        );
+        assert!(rt; is_named, "{script}");
     }
+}
+
+// Whether that is what a follower at sequence 1 shows that holds the node.
+fn shows_the_node(reply: Reply) -> bool {
+    let Reply::Shown(view) = reply else {
+        return false;
+    };
+    let is_first = view.number() == 1 && view.time() == Some(1_704_067_200);
+    let are_users = view.users() == [(5, 1)].as_slice();
+    let are_changesets = view.changesets() == [(7, 1)].as_slice();
+    let is_counted = are_users && are_changesets;
+    is_first && is_counted && view.objects().len() == 1 && view.held().is_empty()
 }
 
 #[test]
@@ -89,15 +115,7 @@ fn a_world_takes_the_events_of_a_script_one_by_one(rt: HostRuntime) -> Result<()
         form: Form::Opl,
     });
     assert!(rt; matches!(delivered, Reply::Applied { low: 1, high: 1 }));
-    let Reply::Shown(view) = world.step(Event::Show) else {
-        assert!(rt; false, "a follower that isn't broken shows itself");
-        return Ok(());
-    };
-    assert_eq!(rt; (view.number(), view.time()), (1, Some(1_704_067_200)));
-    assert_eq!(rt; view.objects().len(), 1);
-    assert_eq!(rt; view.users(), [(5, 1)].as_slice());
-    assert_eq!(rt; view.changesets(), [(7, 1)].as_slice());
-    assert!(rt; view.held().is_empty());
+    assert!(rt; shows_the_node(world.step(Event::Show)));
     Ok(())
 }
 
@@ -164,34 +182,27 @@ impl Write for Buffered {
 
 #[test]
 fn a_reader_that_fails_is_a_fault_after_each_byte(rt: HostRuntime) {
-    let alloc = rt.alloc();
     for length in 0..SCRIPT.len() {
-        let mut reader = Cut {
-            rest: &SCRIPT.as_bytes()[..length],
-        };
-        let mut written = Vec::new(alloc);
-        let answer = replay_run(alloc, &mut reader, &mut written);
-        assert_eq!(rt;
-            answer,
-            Err(RunFault::ReadFault(FileName::Input)),
+        let rest = &SCRIPT.as_bytes()[..length];
+        let fault = RunFault::ReadFault(FileName::Input);
+        assert!(rt;
+            is_refused(rt.alloc(), &mut Cut { rest }, fault),
             "{length}"
         );
-        assert!(rt; written.is_empty(), "{length}");
     }
+}
+
+// Whether a writer with room for so many bytes takes them, and is a fault then.
+fn is_full_after(alloc: Global, room: usize) -> bool {
+    let mut writer = Full { room, taken: 0 };
+    let refused = replay_run(alloc, &mut SCRIPT.as_bytes(), &mut writer).err();
+    refused == Some(RunFault::WriteFault(FileName::Output)) && writer.taken == room
 }
 
 #[test]
 fn a_writer_that_takes_nothing_is_a_fault_after_each_byte(rt: HostRuntime) {
-    let alloc = rt.alloc();
     for room in 0..REPLIES.len() {
-        let mut writer = Full { room, taken: 0 };
-        let answer = replay_run(alloc, &mut SCRIPT.as_bytes(), &mut writer);
-        assert_eq!(rt;
-            answer,
-            Err(RunFault::WriteFault(FileName::Output)),
-            "{room}"
-        );
-        assert_eq!(rt; writer.taken, room);
+        assert!(rt; is_full_after(rt.alloc(), room), "{room}");
     }
 }
 
@@ -230,10 +241,19 @@ fn faults_say_the_file_and_what_was_wrong(rt: HostRuntime) -> Result<(), Fail> {
         (RunFault::TooLarge(FileName::Input), "input: too large"),
         (RunFault::BadScript(7), "input: line 7"),
     ] {
-        assert_eq!(rt; fault.to_string(rt.alloc())?.as_str(), text);
+        assert!(rt; fault.to_string(rt.alloc())?.as_str() == text, "{text}");
         assert_eq!(rt; fault.status(), 3);
     }
     Ok(())
+}
+
+// Whether a word is shown so.
+fn is_word_shown(alloc: Global, word: &str, text: &str) -> Result<bool, Fail> {
+    let shown = echoes(alloc, &[word])?;
+    Ok(match shown.as_slice() {
+        [only] => only.as_str() == text,
+        _ => false,
+    })
 }
 
 #[test]
@@ -252,10 +272,7 @@ fn words_are_shown_without_control_characters_and_cut(rt: HostRuntime) -> Result
         (full, full),
         (more, cut),
     ] {
-        let words = [word];
-        let shown = echoes(rt.alloc(), words.as_slice())?;
-        assert_eq!(rt; shown.len(), 1);
-        assert_eq!(rt; shown[0].as_str(), text);
+        assert!(rt; is_word_shown(rt.alloc(), word, text)?, "{text}");
     }
     Ok(())
 }

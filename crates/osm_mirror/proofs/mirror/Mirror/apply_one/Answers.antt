@@ -11,13 +11,13 @@ over_one : (b : Bool) (before : Option ChangeValue) (c : ChangeValue) → (if b 
 over_one true before c = refl
 over_one false before c = refl
 
-pub add_one-requires : goal.add_one-requires
-add_one-requires c =
+pub add_one-requires-clause-room : goal.add_one-requires-clause-room
+add_one-requires-clause-room c =
     let room : HasRoom 1 (record { objects = c.self.inside.objects; users = c.self.inside.users; changesets = c.self.inside.changesets }) = rw c.self.view_is c.requires in
     room.users c.uid.result
 
-pub add_one-requires-2 : goal.add_one-requires-2
-add_one-requires-2 c =
+pub add_one-requires-2-clause-room : goal.add_one-requires-2-clause-room
+add_one-requires-2-clause-room c =
     let room : HasRoom 1 (record { objects = c.self.inside.objects; users = c.self.inside.users; changesets = c.self.inside.changesets }) = rw c.self.view_is c.requires in
     room.changesets c.changeset.result
 

@@ -2,5 +2,5 @@ use Rattle.std.proofs.Common.{rules}
 use Rattle.osm_mirror.proofs.EntryLemmas.{keys-objects_of}
 use Rattle.osm_mirror.proofs.objects.Objects.keys_rise.Goals as goal
 
-pub returns : goal.returns
-returns c = rw (← c.self.view_is, keys-objects_of c.self.inside.objects.entries c.self.invariant) (search rules)
+pub returns-clause-keys : goal.returns-clause-keys
+returns-clause-keys c = rw (← c.self.view_is, keys-objects_of c.self.inside.objects.entries c.self.invariant.own) (search rules)

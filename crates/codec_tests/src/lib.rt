@@ -1,0 +1,5 @@
+//! Tests of the public calls of the formats: osm_model, osm_reading, osm_opl, osm_o5c, osm_state.
+#![tactic(auto)]
+
+#[cfg(test)]
+mod tests;

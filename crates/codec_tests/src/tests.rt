@@ -1,0 +1,6 @@
+mod forms;
+mod model;
+mod o5c;
+mod opl;
+mod shown;
+mod state;

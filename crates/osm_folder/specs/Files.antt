@@ -1,0 +1,54 @@
+-- What a store tells of its files: by name, all as bytes.
+use Rattle.std.specs.Prelude.{◌≡◌, ℕ, ◌+◌, ◌<◌, ◌≤◌, ◌⊎◌, List, length, Option, Some, None, Vec}
+use Rattle.osm_folder.specs.declared.store.StoreError.{StoreError}
+use Rattle.osm_folder.specs.declared.store.StoreError.TheVariants.{Device, TooLarge, WantOfMemory}
+
+-- what each name's file holds, none if there is no such file
+abbrev pub Files : Type 0
+Files = List ℕ → Option (List ℕ)
+
+-- the answer of a read is what the file holds
+abbrev pub Tells : {Z : Type 0} → Option (Vec ℕ Z) → Option (List ℕ) → Type 0
+Tells None told = told ≡ None
+Tells (Some bytes) told = told ≡ Some bytes.items
+
+-- a file that is there and was read has at most so many bytes
+abbrev pub IsWithin : {Z : Type 0} → ℕ → Option (Vec ℕ Z) → Type 0
+IsWithin limit None = Unit {0}
+IsWithin limit (Some bytes) = length bytes.items ≤ limit
+
+-- the file is there, with more bytes than that
+pub record IsOver (limit : ℕ) (told : Option (List ℕ)) : Type 0 where
+  pub bytes : List ℕ
+  pub there : told ≡ Some bytes
+  pub over : limit < length bytes
+
+-- new is old with those bytes, or with no file, at the name
+pub record Puts (old : Files) (name : List ℕ) (bytes : Option (List ℕ)) (new : Files) : Type 0 where
+  pub there : new name ≡ bytes
+  pub others : (other : List ℕ) → (other ≡ name → ⊥) → new other ≡ old other
+
+-- at least so many calls were left, and so many fewer are left now; none is no limit
+abbrev pub Spends : ℕ → Option ℕ → Option ℕ → Type 0
+Spends calls None left = left ≡ None
+Spends calls (Some n) left = (m : ℕ) × (left ≡ Some m) × (m + calls ≤ n)
+
+-- the count of a device's failures rose, or had stood at its greatest value
+abbrev pub HasFailed : ℕ → ℕ → Type 0
+HasFailed old new = (old < new) ⊎ (18446744073709551615 ≤ old)
+
+-- why a file isn't read: its device failed, it has more bytes than asked for, or no memory
+abbrev pub ReadStops : ℕ → ℕ → ℕ → StoreError → Type 0
+ReadStops limit old new Device = HasFailed old new
+ReadStops limit old new e = Unit {0}
+
+-- a read is too large only if the file has more bytes than asked for
+abbrev pub IsOverOnly : ℕ → Option (List ℕ) → StoreError → Type 0
+IsOverOnly limit told TooLarge = IsOver limit told
+IsOverOnly limit told e = Unit {0}
+
+-- why a file isn't written: its device failed, or no memory
+abbrev pub WriteStops : ℕ → ℕ → StoreError → Type 0
+WriteStops old new Device = HasFailed old new
+WriteStops old new TooLarge = ⊥
+WriteStops old new WantOfMemory = Unit {0}

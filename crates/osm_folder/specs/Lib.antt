@@ -1,0 +1,11 @@
+pub mod Conversion
+pub mod Faults
+pub mod Files
+pub mod Folder
+pub mod Forms
+pub mod Names
+pub mod Publication
+pub mod Reports
+pub mod Runs
+pub mod Steps
+pub mod Stores

@@ -1,0 +1,100 @@
+-- Steps of a publication. `known` says that it is known what the files hold.
+use Rattle.std.specs.Prelude.{◌≡◌, ℕ, ◌+◌, ◌<◌, ◌≤◌, List, [], ◌∷◌, length, take, Option, Some}
+use Rattle.std.specs.Prelude.{None, string_bytes}
+use Rattle.osm_model.specs.Change.{ChangeValue}
+use Rattle.osm_model.specs.Limits.{max_file, max_sequence}
+use Rattle.osm_follow.specs.Published.{PublishedTexts, written_of}
+use Rattle.osm_follow.specs.Publisher.{CanClose, IsTooLarge, PublisherValue, closing}
+use Rattle.osm_opl.specs.File.{SpellsOpl}
+use Rattle.osm_state.specs.StateFault.{FaultOf}
+use Rattle.osm_state.specs.declared.paths.Suffix.TheVariants.{O5c, Opl, State}
+use Rattle.osm_folder.specs.Files.{Files, IsOver}
+use Rattle.osm_folder.specs.Folder.{max_state}
+use Rattle.osm_folder.specs.Forms.{IsFaulty}
+use Rattle.osm_folder.specs.Names.{file_name_of, top_name_of}
+use Rattle.osm_folder.specs.Publication.{CutsOff, IsBadChanges, IsBadState, IsReady, Writes}
+use Rattle.osm_folder.specs.Reports.{publish_report_of}
+use Rattle.osm_folder.specs.declared.fault.FileName.TheVariants.{Top, Changes}
+use Rattle.osm_folder.specs.declared.fault.RunFault.{RunFault}
+use Rattle.osm_folder.specs.declared.fault.RunFault.TheVariants.{WantOfMemory, ReadFault, TooLarge}
+use Rattle.osm_folder.specs.declared.fault.RunFault.TheVariants.{BadState, BadChange, Absent}
+use Rattle.osm_folder.specs.declared.fault.RunFault.TheVariants.{TimeBack, SequenceFull}
+use Rattle.osm_folder.specs.declared.form.Form.TheVariants as forms
+use Rattle.osm_folder.specs.declared.publish.FolderNames.{FolderNames}
+use Rattle.osm_folder.specs.declared.publish.Publication.{Publication}
+
+-- why no publisher goes on from the top state
+abbrev pub TopStops : Type 0 → Option (List ℕ) → RunFault → Type 0
+TopStops known told WantOfMemory = Unit {0}
+TopStops known told (ReadFault file) = file ≡ Top
+TopStops known told (TooLarge file) = (file ≡ Top) × (known → IsOver max_state told)
+TopStops known told (BadState file cause) = (file ≡ Top) × (known → IsBadState told cause)
+TopStops known told fault = ⊥
+
+-- why a text isn't a state to go on from
+abbrev pub ResumeStops : List ℕ → RunFault → Type 0
+ResumeStops text (BadState file cause) = (file ≡ Top) × FaultOf text cause
+ResumeStops text fault = ⊥
+
+-- the file's changes
+pub record IsChangesOf (told : Option (List ℕ)) (batch : List ChangeValue) : Type 0 where
+  pub bytes : List ℕ
+  pub there : told ≡ Some bytes
+  pub small : length bytes ≤ max_file
+  pub spelled : SpellsOpl bytes batch
+
+-- why bytes aren't the changes of a batch
+abbrev pub ParseStops : List ℕ → RunFault → Type 0
+ParseStops bytes WantOfMemory = Unit {0}
+ParseStops bytes (TooLarge file) = (file ≡ Changes) × (max_file < length bytes)
+ParseStops bytes (BadChange file place why) = (file ≡ Changes) × IsFaulty forms.Opl bytes place
+ParseStops bytes fault = ⊥
+
+-- why the file of changes isn't read
+abbrev pub ChangesStop : Type 0 → Option (List ℕ) → RunFault → Type 0
+ChangesStop known told WantOfMemory = Unit {0}
+ChangesStop known told (ReadFault file) = file ≡ Changes
+ChangesStop known told (Absent file) = (file ≡ Changes) × (known → told ≡ None)
+ChangesStop known told (TooLarge file) = (file ≡ Changes) × (known → IsOver max_file told)
+ChangesStop known told (BadChange file place why) =
+    (file ≡ Changes) × (known → IsBadChanges told place)
+ChangesStop known told fault = ⊥
+
+-- why a publisher doesn't close
+abbrev pub CloseStops : PublisherValue → ℕ → RunFault → Type 0
+CloseStops a time WantOfMemory = Unit {0}
+CloseStops a time SequenceFull = a.number ≡ max_sequence
+CloseStops a time TimeBack = (a.number < max_sequence) × (time < a.time)
+CloseStops a time (TooLarge file) = (file ≡ Changes) × CanClose a time × IsTooLarge a.pending
+CloseStops a time fault = ⊥
+
+-- the four names of a publication
+pub record AreNames (dir : List ℕ) (number : ℕ) (names : FolderNames) : Type 0 where
+  pub o5c : string_bytes names.o5c ≡ file_name_of dir number O5c
+  pub opl : string_bytes names.opl ≡ file_name_of dir number Opl
+  pub state : string_bytes names.state ≡ file_name_of dir number State
+  pub top : string_bytes names.top ≡ top_name_of dir
+
+-- the writes to those names
+abbrev pub writes_to : FolderNames → PublishedTexts → List (List ℕ × List ℕ)
+writes_to names p =
+    (string_bytes names.o5c, p.o5c) ∷ (string_bytes names.opl, p.opl)
+    ∷ (string_bytes names.state, p.state) ∷ (string_bytes names.top, p.state) ∷ []
+
+-- all that a publication needs was made
+pub record IsMade (known : Type 0) (dir changes now : List ℕ) (files : Files) (made : Publication) :
+    Type 0 where
+  pub publisher : PublisherValue
+  pub time : ℕ
+  pub ready : known → IsReady dir changes now files publisher time
+  pub published_is : made.published ≡ written_of (closing publisher time)
+  pub names_are : AreNames dir (publisher.number + 1) made.names
+  pub report_is : made.report ≡ publish_report_of (publisher.number + 1)
+
+-- a write after some of the others stops
+pub record IsCut (known : Type 0) (names : FolderNames) (p : PublishedTexts) (old new : Files)
+    (fault : RunFault) : Type 0 where
+  pub count : ℕ
+  pub few : count < 4
+  pub cut : CutsOff p.number count fault
+  pub written : known → Writes (take count (writes_to names p)) old new

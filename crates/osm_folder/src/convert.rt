@@ -1,0 +1,48 @@
+//! Converting a file.
+
+ghost use Rattle.std.specs.Prelude.{◌≡◌, ◌≤◌, IsTrue, IfErr, IfOk, OnOk, OnErr};
+ghost use Rattle.osm_folder.specs.Conversion.{ConvertStops, IsConverted};
+ghost use Rattle.osm_folder.specs.Files.{Spends};
+ghost use Rattle.osm_folder.specs.Reports.{convert_report_of};
+ghost use Rattle.osm_folder.specs.Runs.{Blames};
+
+use crate::fault::{FileName, RunFault};
+use crate::files::{read_present, write_file};
+use crate::form::{convert, form_of};
+use crate::report::{Report, convert_report};
+use crate::store::Store;
+use osm_model::limits::MAX_FILE;
+use std::alloc::Global;
+
+/// Writes the changes of a file in the form of another's name. The ends `.opl` and `.o5c` of the
+/// names tell the forms. A refusal leaves all files as they were.
+pub fn convert_run<S: Store>(
+    alloc: Global,
+    store: &mut S,
+    input: &str,
+    output: &str,
+) -> Result<Report, RunFault>
+    ensures converted { OnOk result (IsTrue (S.tells store.old)
+        → IsConverted input.now output.now (S.told store.old) (S.told store.new)) }
+    ensures report { IfOk result (λ report. report ≡ convert_report_of) }
+    ensures stops { IfErr result
+        (ConvertStops (IsTrue (S.tells store.old)) input.now output.now (S.told store.old)) }
+    ensures device { IfErr result (Blames (S.failures store.old) (S.failures store.new)) }
+    ensures unchanged { OnErr result (S.told store.new ≡ S.told store.old) }
+    ensures tells { S.tells store.new ≡ S.tells store.old }
+    ensures left { OnOk result (Spends 2 (S.left store.old) (S.left store.new)) }
+    ensures left_after { Spends 0 (S.left store.old) (S.left store.new) }
+    ensures kept { S.failures store.old ≤ S.failures store.new }
+{
+    let Some(from) = form_of(input) else {
+        return Err(RunFault::UnknownForm);
+    };
+    let Some(to) = form_of(output) else {
+        return Err(RunFault::UnknownForm);
+    };
+    let bytes = read_present(alloc, store, FileName::Input, input, MAX_FILE as u64)?;
+    let text = convert(alloc, from, to, bytes.as_slice())?;
+    let report = convert_report(alloc);
+    write_file(alloc, store, FileName::Output, output, text.as_slice())?;
+    Ok(report)
+}

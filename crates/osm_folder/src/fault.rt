@@ -1,0 +1,129 @@
+//! What stops a run of the program.
+
+ghost use Rattle.std.specs.Prelude.{◌≡◌};
+ghost use Rattle.osm_folder.specs.Faults.{status_of};
+
+use osm_model::form::Why;
+use osm_model::memory::WantOfMemory;
+use osm_state::paths::Suffix;
+use osm_state::state_text::StateError;
+use std::fmt;
+use thiserror::Error;
+
+/// The file of a fault, named without memory.
+#[derive(Clone, Copy, Debug, PartialEq, Eq)]
+pub enum FileName {
+    /// The newest state of a folder.
+    Top,
+    /// A file of a sequence, by its number.
+    Sequence(u32, Suffix),
+    /// What a follower has saved.
+    Save,
+    /// The changes that are published.
+    Changes,
+    /// What a conversion or a replay reads.
+    Input,
+    /// What a conversion or a replay writes.
+    Output,
+}
+
+impl fmt::Display for FileName {
+    fn fmt<W: fmt::Write>(&self, f: &mut fmt::Formatter<W>) -> fmt::Result {
+        match self {
+            FileName::Top => f.write_str("state.txt"),
+            FileName::Sequence(number, suffix) => write_path(*number, *suffix, f),
+            FileName::Save => f.write_str("save"),
+            FileName::Changes => f.write_str("changes"),
+            FileName::Input => f.write_str("input"),
+            FileName::Output => f.write_str("output"),
+        }
+    }
+}
+
+// The path of a file of a sequence, without memory.
+fn write_path<W: fmt::Write>(
+    number: u32,
+    suffix: Suffix,
+    f: &mut fmt::Formatter<W>,
+) -> fmt::Result {
+    let (millions, thousands, ones) = (number / 1_000_000, number / 1000 % 1000, number % 1000);
+    let end = match suffix {
+        Suffix::O5c => "o5c",
+        Suffix::Opl => "opl",
+        Suffix::State => "state.txt",
+    };
+    write!(f, "{millions:03}/{thousands:03}/{ones:03}.{end}")
+}
+
+#[derive(Clone, Copy, Debug, PartialEq, Eq, Error)]
+pub enum RunFault {
+    /// Memory was refused.
+    #[error("out of memory")]
+    WantOfMemory,
+    #[error("{0}: read failed")]
+    ReadFault(FileName),
+    #[error("{0}: write failed")]
+    WriteFault(FileName),
+    /// The file has more bytes than it may.
+    #[error("{0}: too large")]
+    TooLarge(FileName),
+    /// There is no such file.
+    #[error("{0}: not there")]
+    Absent(FileName),
+    /// The text of a state file has no state.
+    #[error("{0}: bad state: {1}")]
+    BadState(FileName, StateError),
+    /// The state file of that number names another.
+    #[error("sequence {0}: wrong number in state")]
+    Mismatch(u32),
+    /// A change file spells no batch, at that place of its form.
+    #[error("{0}: at {1}: {2}")]
+    BadChange(FileName, u64, Why),
+    /// A line of a save, counted from 1, isn't as a save has it.
+    #[error("save: line {0}")]
+    BadSave(u64),
+    /// A line of a script, counted from 1 over all lines, is no event.
+    #[error("input: line {0}")]
+    BadScript(u64),
+    /// The newest sequence of the folder is below the save's.
+    #[error("state.txt: older than the save")]
+    TopBehind,
+    /// The newest time of the folder is below the save's.
+    #[error("state.txt: older than the save")]
+    TimeBehind,
+    /// The time is below that of the newest sequence.
+    #[error("close refused: TimeBack")]
+    TimeBack,
+    /// The last sequence, 999,999,999, is published.
+    #[error("close refused: SequenceFull")]
+    SequenceFull,
+    /// The name of a file ends in neither form.
+    #[error("unknown form")]
+    UnknownForm,
+    /// The time isn't `YYYY-MM-DDTHH:MM:SSZ`.
+    #[error("bad time")]
+    BadNow,
+}
+
+impl RunFault {
+    /// The exit status of the program: 2 if its words are wrong, else 3.
+    pub fn status(&self) -> u8
+        ensures { result ≡ status_of self.now }
+    {
+        match self {
+            RunFault::UnknownForm | RunFault::BadNow => 2,
+            _ => 3,
+        }
+    }
+}
+
+impl From<WantOfMemory> for RunFault {
+    ghost use Rattle.std.specs.Prelude.{◌≡◌};
+    ghost use Rattle.osm_folder.specs.declared.fault.RunFault.TheVariants.{WantOfMemory as refused};
+
+    ghost from_gives = { λ _ fault. fault ≡ refused };
+
+    fn from(_refused: WantOfMemory) -> RunFault {
+        RunFault::WantOfMemory
+    }
+}

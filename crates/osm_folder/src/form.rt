@@ -1,0 +1,84 @@
+//! The form of a change file by its name, and conversion.
+
+ghost use Rattle.std.specs.Prelude.{◌≡◌, ◌≤◌, Some, IfSome, IfNone, IfOk, OnOk, IfErr, length};
+ghost use Rattle.osm_model.specs.Limits.{max_file};
+ghost use Rattle.osm_folder.specs.Conversion.{HasNoForm};
+ghost use Rattle.osm_folder.specs.Forms.{ConvertRefused, Converts, HasEnd, ReadFails, WriteFails};
+ghost use Rattle.osm_folder.specs.Forms.{spells_of, text_of};
+ghost use Rattle.osm_folder.specs.declared.form.Form.{Form};
+
+use crate::fault::{FileName, RunFault};
+use osm_model::batch::Batch;
+use osm_model::form::{ChangeForm, FormError};
+use osm_o5c::o5c::O5c;
+use osm_opl::opl::Opl;
+use std::alloc::Global;
+
+/// The two forms of change files.
+#[derive(Clone, Copy, Debug, PartialEq, Eq)]
+pub enum Form {
+    /// `.opl`
+    Opl,
+    /// `.o5c`
+    O5c,
+}
+
+/// The form of the files whose names end so; None for every other name.
+pub fn form_of(name: &str) -> Option<Form>
+    ensures found { IfSome result (HasEnd name.now) }
+    ensures only { (form : Form) → HasEnd name.now form → result ≡ Some form }
+    ensures none { IfNone result (HasNoForm name.now) }
+{
+    let bytes = name.as_bytes();
+    if bytes.ends_with(b".opl") {
+        return Some(Form::Opl);
+    }
+    if bytes.ends_with(b".o5c") {
+        return Some(Form::O5c);
+    }
+    None
+}
+
+/// The changes of a file of one form, written in another. A fault names the input, unless it is the
+/// output that passes 64 MiB.
+pub fn convert(alloc: Global, from: Form, to: Form, bytes: &[u8]) -> Result<Vec<u8>, RunFault>
+    ensures converted { IfOk result (λ text. Converts from to bytes.now text.items) }
+    ensures refused { IfErr result (ConvertRefused from to bytes.now) }
+{
+    let batch = match read_form(alloc, from, bytes) {
+        Ok(batch) => batch,
+        Err(FormError::WantOfMemory) => return Err(RunFault::WantOfMemory),
+        Err(FormError::TooLarge) => return Err(RunFault::TooLarge(FileName::Input)),
+        Err(FormError::Fault { place, why }) => {
+            return Err(RunFault::BadChange(FileName::Input, place, why));
+        }
+    };
+    match write_form(alloc, to, &batch) {
+        Ok(text) => Ok(text),
+        Err(FormError::WantOfMemory) => Err(RunFault::WantOfMemory),
+        Err(FormError::TooLarge) => Err(RunFault::TooLarge(FileName::Output)),
+        Err(FormError::Fault { place: _, why: _ }) => unreachable!(),
+    }
+}
+
+fn read_form(alloc: Global, form: Form, bytes: &[u8]) -> Result<Batch, FormError>
+    ensures spelled { IfOk result (λ batch. spells_of form bytes.now batch) }
+    ensures small { OnOk result (length bytes.now ≤ max_file) }
+    ensures refused { IfErr result (ReadFails form bytes.now) }
+{
+    match form {
+        Form::Opl => Opl::read(alloc, bytes),
+        Form::O5c => O5c::read(alloc, bytes),
+    }
+}
+
+fn write_form(alloc: Global, form: Form, batch: &Batch) -> Result<Vec<u8>, FormError>
+    ensures text { IfOk result (λ text. text.items ≡ text_of form batch.now) }
+    ensures small { IfOk result (λ text. length text.items ≤ max_file) }
+    ensures refused { IfErr result (WriteFails form batch.now) }
+{
+    match form {
+        Form::Opl => Opl::write(alloc, batch),
+        Form::O5c => O5c::write(alloc, batch),
+    }
+}

@@ -1,0 +1,143 @@
+//! A store in memory, which tells its files.
+
+ghost use Rattle.std.specs.Prelude.{◌≡◌, ℕ, ◌<◌, List, length, Option, Some, None, IfOk, IfErr};
+ghost use Rattle.std.specs.Prelude.{string_bytes, OnOk, OnErr, true, MatchOption};
+ghost use Rattle.osm_folder.specs.Files.{Puts, Tells, IsWithin};
+ghost use Rattle.osm_folder.specs.Steps.Copying.{CopyStops};
+
+use crate::store::{Store, StoreError};
+use osm_model::memory::WantOfMemory;
+use std::alloc::Global;
+use std::collections::BTreeMap;
+use std::marker::Model;
+
+/// The bytes of a file.
+#[derive(Debug, Drop)]
+struct Content {
+    bytes: Vec<u8>,
+}
+
+impl Model for Content {
+    ghost Value = { List ℕ };
+
+    ghost view = { λ a. a.bytes.items };
+}
+
+impl Content {
+    fn of(alloc: Global, bytes: &[u8]) -> Result<Content, WantOfMemory>
+        ensures { IfOk result (λ content. content ≡ bytes.now) }
+    {
+        let bytes = Vec::from_slice(alloc, bytes)?;
+        Ok(Content { bytes })
+    }
+
+    fn bytes(&self) -> &[u8]
+        ensures { result.now ≡ self.now }
+    {
+        self.bytes.as_slice()
+    }
+}
+
+/// Files in memory. Its device never fails.
+#[derive(Debug, Drop)]
+pub struct MemoryStore {
+    files: BTreeMap<String, Content>,
+}
+
+impl MemoryStore {
+    ghost use Rattle.osm_folder.specs.Stores.{files_of};
+
+    /// No files.
+    pub fn new(alloc: Global) -> MemoryStore
+        ensures { files_of result ≡ (λ name. None) }
+    {
+        MemoryStore {
+            files: BTreeMap::new(alloc),
+        }
+    }
+
+    /// The bytes of a file; None if there is no such file.
+    pub fn get(&self, name: &str) -> Option<&[u8]>
+        ensures { MatchOption result
+            (files_of self.now name.now ≡ None)
+            (λ bytes. files_of self.now name.now ≡ Some bytes.now) }
+    {
+        match self.files.get(name) {
+            None => None,
+            Some(content) => Some(content.bytes()),
+        }
+    }
+
+    /// Makes the bytes the whole of a file.
+    pub fn put(&mut self, alloc: Global, name: &str, bytes: &[u8]) -> Result<(), WantOfMemory>
+        ensures put { OnOk result
+            (Puts (files_of self.old) name.now (Some bytes.now) (files_of self.new)) }
+        ensures refused { OnErr result (files_of self.new ≡ files_of self.old) }
+    {
+        let content = Content::of(alloc, bytes)?;
+        let name = String::from_str(alloc, name)?;
+        self.insert(name, content)
+    }
+
+    /// Takes a file away.
+    pub fn remove(&mut self, name: &str)
+        ensures { Puts (files_of self.old) name.now None (files_of self.new) }
+    {
+        self.files.remove(name);
+    }
+
+    fn insert(&mut self, name: String, content: Content) -> Result<(), WantOfMemory>
+        ensures put { OnOk result
+            (Puts (files_of self.old) (string_bytes name) (Some content) (files_of self.new)) }
+        ensures refused { OnErr result (files_of self.new ≡ files_of self.old) }
+    {
+        self.files.insert(name, content)?;
+        Ok(())
+    }
+
+    // A copy of a file of at most so many bytes.
+    fn copy_of(&self, alloc: Global, name: &str, limit: u64) -> Result<Option<Vec<u8>>, StoreError>
+        ensures read { IfOk result (λ o. Tells o (files_of self.now name.now)) }
+        ensures within { IfOk result (λ o. IsWithin limit o) }
+        ensures stops { IfErr result (CopyStops limit (files_of self.now name.now)) }
+    {
+        let Some(bytes) = self.get(name) else {
+            return Ok(None);
+        };
+        if bytes.len() as u64 > limit {
+            return Err(StoreError::TooLarge);
+        }
+        match Vec::from_slice(alloc, bytes) {
+            Ok(copy) => Ok(Some(copy)),
+            Err(_) => Err(StoreError::WantOfMemory),
+        }
+    }
+}
+
+impl Store for MemoryStore {
+    ghost use Rattle.osm_folder.specs.Stores.{files_of};
+
+    ghost failures = { λ s. 0 };
+
+    ghost left = { λ s. None };
+
+    ghost tells = { λ s. true };
+
+    ghost told = { files_of };
+
+    fn read(
+        &mut self,
+        alloc: Global,
+        name: &str,
+        limit: u64,
+    ) -> Result<Option<Vec<u8>>, StoreError> {
+        self.copy_of(alloc, name, limit)
+    }
+
+    fn write(&mut self, alloc: Global, name: &str, bytes: &[u8]) -> Result<(), StoreError> {
+        match self.put(alloc, name, bytes) {
+            Ok(()) => Ok(()),
+            Err(WantOfMemory) => Err(StoreError::WantOfMemory),
+        }
+    }
+}

@@ -1,0 +1,266 @@
+//! Publishing one more sequence in a folder.
+
+ghost use Rattle.std.specs.Prelude.{◌≡◌, ℕ, ◌+◌, ◌≤◌, ◌++◌, [], ◌∷◌, List, IsTrue, IfErr, IfOk};
+ghost use Rattle.std.specs.Prelude.{OnOk, OnErr, length};
+ghost use Rattle.osm_follow.specs.Published.{PublishedValue, written_of};
+ghost use Rattle.osm_follow.specs.Publisher.{CanClose, IsSmall, closing};
+ghost use Rattle.osm_model.specs.Limits.{max_file, max_sequence};
+ghost use Rattle.osm_opl.specs.File.{SpellsOpl};
+ghost use Rattle.osm_folder.specs.Files.{Spends};
+ghost use Rattle.osm_folder.specs.Folder.{IsApart, IsFolderOf, IsStateFile, max_state};
+ghost use Rattle.osm_folder.specs.Names.{top_name_of};
+ghost use Rattle.osm_folder.specs.Publication.{FolderRefuses, GoesOnFrom, IsAdded};
+ghost use Rattle.osm_folder.specs.Publication.{IsPublished, NotReady, PublishStops, Writes};
+ghost use Rattle.osm_folder.specs.Reports.{publish_report_of};
+ghost use Rattle.osm_folder.specs.Runs.{Blames};
+ghost use Rattle.osm_folder.specs.Steps.Publishing.{AreNames, ChangesStop, CloseStops};
+ghost use Rattle.osm_folder.specs.Steps.Publishing.{IsChangesOf, IsCut, IsMade, ParseStops};
+ghost use Rattle.osm_folder.specs.Steps.Publishing.{ResumeStops, TopStops, writes_to};
+
+use crate::fault::{FileName, RunFault};
+use crate::files::{read_file, read_present, write_file};
+use crate::names::{file_name, top_name};
+use crate::report::{Report, publish_report};
+use crate::store::Store;
+use osm_follow::published::Published;
+use osm_follow::publisher::{CloseError, EditError, Publisher};
+use osm_model::batch::Batch;
+use osm_model::form::{ChangeForm, FormError};
+use osm_model::limits::MAX_FILE;
+use osm_model::memory::WantOfMemory;
+use osm_model::time::time_read;
+use osm_opl::opl::Opl;
+use osm_state::laws::laws_of_state;
+use osm_state::paths::Suffix;
+use osm_state::state_text::state_read;
+use std::alloc::Global;
+
+// The most bytes of a state file.
+const MAX_STATE: u64 = 65_536;
+
+// The names of the files of one sequence, and of the newest state.
+#[derive(Drop)]
+struct FolderNames {
+    o5c: String,
+    opl: String,
+    state: String,
+    top: String,
+}
+
+// All that a publication writes and prints.
+#[derive(Drop)]
+struct Publication {
+    published: Published,
+    names: FolderNames,
+    report: Report,
+}
+
+/// Publishes the changes of a file, in OPL, as the folder's next sequence, at a time
+/// `YYYY-MM-DDTHH:MM:SSZ`. The number's three files are written first and `state.txt` last, so what
+/// a refusal leaves is still the folder of what was published before.
+pub fn publish_run<S: Store>(
+    alloc: Global,
+    store: &mut S,
+    dir: &str,
+    changes: &str,
+    now: &str,
+) -> Result<Report, RunFault>
+    ensures published { IfOk result (λ report. IsTrue (S.tells store.old)
+        → IsPublished dir.now changes.now now.now (S.told store.old) (S.told store.new) report) }
+    ensures added { IfOk result (λ report. IsTrue (S.tells store.old)
+        → (published : List PublishedValue) → IsFolderOf published (S.told store.old) dir.now
+        → IsAdded published dir.now changes.now now.now
+        (S.told store.old) (S.told store.new) report) }
+    ensures report { IfOk result (λ report. (n : ℕ) × (report ≡ publish_report_of n)) }
+    ensures stops { IfErr result (PublishStops (IsTrue (S.tells store.old))
+        dir.now changes.now now.now (S.told store.old) (S.told store.new)) }
+    ensures refuses { IfErr result (λ fault. IsTrue (S.tells store.old)
+        → (published : List PublishedValue) → IsFolderOf published (S.told store.old) dir.now
+        → FolderRefuses published now.now fault) }
+    ensures device { IfErr result (Blames (S.failures store.old) (S.failures store.new)) }
+    ensures keeps { OnErr result (IsTrue (S.tells store.old)
+        → (published : List PublishedValue) → IsFolderOf published (S.told store.old) dir.now
+        → IsFolderOf published (S.told store.new) dir.now) }
+    ensures others { IsTrue (S.tells store.old) → (name : List ℕ) → IsApart dir.now name
+        → S.told store.new name ≡ S.told store.old name }
+    ensures tells { S.tells store.new ≡ S.tells store.old }
+    ensures left { OnOk result (Spends 6 (S.left store.old) (S.left store.new)) }
+    ensures left_after { Spends 0 (S.left store.old) (S.left store.new) }
+    ensures kept { S.failures store.old ≤ S.failures store.new }
+{
+    laws_of_state();
+    let made = prepare(alloc, store, dir, changes, now)?;
+    write_files(alloc, store, &made.names, &made.published)?;
+    Ok(made.report)
+}
+
+// Reads and makes all that a publication needs.
+fn prepare<S: Store>(
+    alloc: Global,
+    store: &mut S,
+    dir: &str,
+    changes: &str,
+    now: &str,
+) -> Result<Publication, RunFault>
+    ensures made { IfOk result (IsMade (IsTrue (S.tells store.old))
+        dir.now changes.now now.now (S.told store.old)) }
+    ensures stops { IfErr result (NotReady (IsTrue (S.tells store.old))
+        dir.now changes.now now.now (S.told store.old)) }
+    ensures device { IfErr result (Blames (S.failures store.old) (S.failures store.new)) }
+    ensures unchanged { S.told store.new ≡ S.told store.old }
+    ensures tells { S.tells store.new ≡ S.tells store.old }
+    ensures left { OnOk result (Spends 2 (S.left store.old) (S.left store.new)) }
+    ensures left_after { Spends 0 (S.left store.old) (S.left store.new) }
+    ensures kept { S.failures store.old ≤ S.failures store.new }
+{
+    let Some(time) = time_read(now.as_bytes()) else {
+        return Err(RunFault::BadNow);
+    };
+    let mut publisher = publisher_of(alloc, store, dir)?;
+    let batch = read_changes(alloc, store, changes)?;
+    edit_all(&mut publisher, batch)?;
+    let published = close(alloc, &mut publisher, time)?;
+    let names = names_of(alloc, dir, published.number())?;
+    let report = publish_report(alloc, published.number())?;
+    Ok(Publication {
+        published,
+        names,
+        report,
+    })
+}
+
+// The publisher that goes on from the newest state.
+fn publisher_of<S: Store>(alloc: Global, store: &mut S, dir: &str) -> Result<Publisher, RunFault>
+    ensures goes_on { IfOk result (λ a. IsTrue (S.tells store.old)
+        → GoesOnFrom (S.told store.old (top_name_of dir.now)) a.number a.time) }
+    ensures empty { IfOk result (λ a. a.pending ≡ []) }
+    ensures stops { IfErr result
+        (TopStops (IsTrue (S.tells store.old)) (S.told store.old (top_name_of dir.now))) }
+    ensures device { IfErr result (Blames (S.failures store.old) (S.failures store.new)) }
+    ensures unchanged { S.told store.new ≡ S.told store.old }
+    ensures tells { S.tells store.new ≡ S.tells store.old }
+    ensures left { OnOk result (Spends 1 (S.left store.old) (S.left store.new)) }
+    ensures left_after { Spends 0 (S.left store.old) (S.left store.new) }
+    ensures kept { S.failures store.old ≤ S.failures store.new }
+{
+    let name = top_name(alloc, dir)?;
+    match read_file(alloc, store, FileName::Top, name.as_str(), MAX_STATE) {
+        Ok(Some(text)) => resume(alloc, text.as_slice()),
+        Ok(None) => Ok(Publisher::new(alloc)),
+        Err(fault) => Err(fault),
+    }
+}
+
+fn resume(alloc: Global, text: &[u8]) -> Result<Publisher, RunFault>
+    requires { length text.now ≤ max_state }
+    ensures goes_on { IfOk result (λ a. IsStateFile a.number a.time text.now) }
+    ensures empty { IfOk result (λ a. a.pending ≡ []) }
+    ensures stops { IfErr result (ResumeStops text.now) }
+{
+    match state_read(text) {
+        Ok(state) => Ok(Publisher::resume(alloc, &state)),
+        Err(cause) => Err(RunFault::BadState(FileName::Top, cause)),
+    }
+}
+
+// The changes of a file, in OPL.
+fn read_changes<S: Store>(alloc: Global, store: &mut S, name: &str) -> Result<Batch, RunFault>
+    ensures read { IfOk result
+        (λ batch. IsTrue (S.tells store.old) → IsChangesOf (S.told store.old name.now) batch) }
+    ensures stops { IfErr result
+        (ChangesStop (IsTrue (S.tells store.old)) (S.told store.old name.now)) }
+    ensures device { IfErr result (Blames (S.failures store.old) (S.failures store.new)) }
+    ensures unchanged { S.told store.new ≡ S.told store.old }
+    ensures tells { S.tells store.new ≡ S.tells store.old }
+    ensures left { OnOk result (Spends 1 (S.left store.old) (S.left store.new)) }
+    ensures left_after { Spends 0 (S.left store.old) (S.left store.new) }
+    ensures kept { S.failures store.old ≤ S.failures store.new }
+{
+    let bytes = read_present(alloc, store, FileName::Changes, name, MAX_FILE as u64)?;
+    parse(alloc, bytes.as_slice())
+}
+
+fn parse(alloc: Global, bytes: &[u8]) -> Result<Batch, RunFault>
+    ensures spelled { IfOk result (λ batch. SpellsOpl bytes.now batch) }
+    ensures stops { IfErr result (ParseStops bytes.now) }
+{
+    match Opl::read(alloc, bytes) {
+        Ok(batch) => Ok(batch),
+        Err(FormError::WantOfMemory) => Err(RunFault::WantOfMemory),
+        Err(FormError::TooLarge) => Err(RunFault::TooLarge(FileName::Changes)),
+        Err(FormError::Fault { place, why }) => {
+            Err(RunFault::BadChange(FileName::Changes, place, why))
+        }
+    }
+}
+
+// The publisher takes the changes of the batch as its edits.
+fn edit_all(publisher: &mut Publisher, batch: Batch) -> Result<(), RunFault>
+    requires { publisher.old.pending ≡ [] }
+    ensures taken { OnOk result (publisher.new ≡ record publisher.old { pending = batch }) }
+    ensures refused { IfErr result (λ fault. fault ≡ RunFault.WantOfMemory) }
+{
+    for change in batch.into_changes() {
+        match publisher.edit(change) {
+            Ok(()) => {}
+            Err(EditError::WantOfMemory(_)) => return Err(RunFault::WantOfMemory),
+            Err(EditError::BatchFull(_)) => unreachable!(),
+        }
+    }
+    Ok(())
+}
+
+fn close(alloc: Global, publisher: &mut Publisher, time: u32) -> Result<Published, RunFault>
+    ensures published { IfOk result (λ p. p ≡ written_of (closing publisher.old time)) }
+    ensures can_close { OnOk result (CanClose publisher.old time) }
+    ensures fits { OnOk result (IsSmall publisher.old.pending) }
+    ensures stops { IfErr result (CloseStops publisher.old time) }
+{
+    match publisher.close(alloc, time) {
+        Ok(published) => Ok(published),
+        Err(CloseError::SequenceFull) => Err(RunFault::SequenceFull),
+        Err(CloseError::TimeBack) => Err(RunFault::TimeBack),
+        Err(CloseError::TooLarge) => Err(RunFault::TooLarge(FileName::Changes)),
+        Err(CloseError::WantOfMemory) => Err(RunFault::WantOfMemory),
+    }
+}
+
+fn names_of(alloc: Global, dir: &str, number: u32) -> Result<FolderNames, WantOfMemory>
+    requires { number ≤ max_sequence }
+    ensures { IfOk result (AreNames dir.now number) }
+{
+    Ok(FolderNames {
+        o5c: file_name(alloc, dir, number, Suffix::O5c)?,
+        opl: file_name(alloc, dir, number, Suffix::Opl)?,
+        state: file_name(alloc, dir, number, Suffix::State)?,
+        top: top_name(alloc, dir)?,
+    })
+}
+
+// The newest state last.
+fn write_files<S: Store>(
+    alloc: Global,
+    store: &mut S,
+    names: &FolderNames,
+    published: &Published,
+) -> Result<(), RunFault>
+    ensures written { OnOk result (IsTrue (S.tells store.old)
+        → Writes (writes_to names.now published.now) (S.told store.old) (S.told store.new)) }
+    ensures cut { IfErr result (IsCut (IsTrue (S.tells store.old))
+        names.now published.now (S.told store.old) (S.told store.new)) }
+    ensures device { IfErr result (Blames (S.failures store.old) (S.failures store.new)) }
+    ensures tells { S.tells store.new ≡ S.tells store.old }
+    ensures left { OnOk result (Spends 4 (S.left store.old) (S.left store.new)) }
+    ensures left_after { Spends 0 (S.left store.old) (S.left store.new) }
+    ensures kept { S.failures store.old ≤ S.failures store.new }
+{
+    let number = published.number();
+    let o5c = FileName::Sequence(number, Suffix::O5c);
+    write_file(alloc, store, o5c, names.o5c.as_str(), published.o5c())?;
+    let opl = FileName::Sequence(number, Suffix::Opl);
+    write_file(alloc, store, opl, names.opl.as_str(), published.opl())?;
+    let state = FileName::Sequence(number, Suffix::State);
+    write_file(alloc, store, state, names.state.as_str(), published.state())?;
+    let top = names.top.as_str();
+    write_file(alloc, store, FileName::Top, top, published.state())
+}

@@ -1,0 +1,67 @@
+//! Files behind a trait.
+
+ghost use Rattle.std.specs.Prelude.{◌≡◌, ℕ, ◌≤◌, Bool, IsTrue, Option, Some, IfErr, IfOk, OnOk};
+ghost use Rattle.std.specs.Prelude.{OnErr};
+ghost use Rattle.osm_folder.specs.Files.{Files, IsOverOnly, IsWithin, Puts, ReadStops, Spends};
+ghost use Rattle.osm_folder.specs.Files.{Tells, WriteStops};
+
+use std::alloc::Global;
+use thiserror::Error;
+
+/// Why a file isn't read or written.
+#[derive(Clone, Copy, Debug, PartialEq, Eq, Error)]
+pub enum StoreError {
+    /// The device failed.
+    #[error("Device")]
+    Device,
+    /// The file has more bytes than were asked for.
+    #[error("TooLarge")]
+    TooLarge,
+    /// Memory was refused.
+    #[error("WantOfMemory")]
+    WantOfMemory,
+}
+
+/// Files by their names.
+///
+/// Contracts see how often the device failed, and may see what the files hold: a store in memory
+/// tells it, and nothing is known of a disk.
+pub trait Store {
+    /// How often the device failed.
+    ghost failures: { Self → ℕ };
+
+    /// How many calls are left before it refuses each one; none if it never stops. A run that is
+    /// killed is a run over a store that stops.
+    ghost left: { Self → Option ℕ };
+
+    /// Whether it is known what the files hold.
+    ghost tells: { Self → Bool };
+
+    /// What they hold, if that is known.
+    ghost told: { Self → Files };
+
+    /// All bytes of a file, at most so many; None if there is no such file.
+    fn read(&mut self, alloc: Global, name: &str, limit: u64) -> Result<Option<Vec<u8>>, StoreError>
+        ensures read { IfOk result
+            (λ o. IsTrue (tells self.old) → Tells o (told self.old name.now)) }
+        ensures within { IfOk result (λ o. IsWithin limit o) }
+        ensures stops { IfErr result (ReadStops limit (failures self.old) (failures self.new)) }
+        ensures over { IfErr result
+            (λ e. IsTrue (tells self.old) → IsOverOnly limit (told self.old name.now) e) }
+        ensures unchanged { told self.new ≡ told self.old }
+        ensures tells { tells self.new ≡ tells self.old }
+        ensures left { OnOk result (Spends 1 (left self.old) (left self.new)) }
+        ensures left_after { Spends 0 (left self.old) (left self.new) }
+        ensures kept { failures self.old ≤ failures self.new };
+
+    /// Makes the bytes the whole of a file, with the folders that it needs.
+    fn write(&mut self, alloc: Global, name: &str, bytes: &[u8]) -> Result<(), StoreError>
+        ensures written { OnOk result (IsTrue (tells self.old)
+            → Puts (told self.old) name.now (Some bytes.now) (told self.new)) }
+        ensures stops { IfErr result (WriteStops (failures self.old) (failures self.new)) }
+        ensures refused { OnErr result (told self.new ≡ told self.old) }
+        ensures tells { tells self.new ≡ tells self.old }
+        ensures left { OnOk result (Spends 1 (left self.old) (left self.new)) }
+        ensures left_after { Spends 0 (left self.old) (left self.new) }
+        ensures kept { failures self.old ≤ failures self.new };
+}

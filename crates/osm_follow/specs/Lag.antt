@@ -1,0 +1,33 @@
+-- How far a follower is behind a state.
+use Rattle.std.specs.Prelude.{◌≡◌, ℕ, ◌+◌, ◌-◌, ◌<◌, ◌≤◌, false, true, Option, None, Some, Result}
+use Rattle.std.specs.Prelude.{Ok, Err}
+use Rattle.osm_state.specs.State.{StateValue}
+use Rattle.osm_follow.specs.Follower.{FollowerValue}
+use Rattle.osm_follow.specs.declared.lag.Lag.{Lag}
+use Rattle.osm_follow.specs.declared.lag.LagError.{LagError}
+use Rattle.osm_follow.specs.declared.lag.LagError.TheVariants.{Broken, TopBehind, TimeBehind}
+use Rattle.osm_follow.specs.declared.view.ViewError.{ViewError}
+use Rattle.osm_follow.specs.declared.view.ViewError.TheVariants as views
+
+-- the seconds from a follower's time to a state's: none if the follower has no time
+abbrev pub AreSeconds : Option ℕ → ℕ → Option ℕ → Type 0
+AreSeconds None top seconds = seconds ≡ None
+AreSeconds (Some time) top seconds = (time ≤ top) × (seconds ≡ Some (top - time))
+
+-- how far the follower is behind the state, or why that isn't told: each answer with all its
+-- conditions, so that exactly one applies
+abbrev pub Lags : FollowerValue → StateValue → Result Lag LagError → Type 0
+Lags f s (Err Broken) = f.is_broken ≡ true
+Lags f s (Err TopBehind) = (f.is_broken ≡ false) × (s.sequence < f.number)
+Lags f s (Err TimeBehind) =
+    (f.is_broken ≡ false) × (f.number ≤ s.sequence)
+    × ((time : ℕ) × (f.time ≡ Some time) × (s.time < time))
+Lags f s (Ok lag) =
+    (f.is_broken ≡ false) × (f.number + lag.behind ≡ s.sequence)
+    × AreSeconds f.time s.time lag.seconds
+
+-- why the missing numbers aren't told: up to a state that isn't after the follower there are none,
+-- which takes no memory
+abbrev pub MissingRefused : FollowerValue → StateValue → ViewError → Type 0
+MissingRefused f s views.Broken = f.is_broken ≡ true
+MissingRefused f s views.WantOfMemory = (f.is_broken ≡ false) × (f.number < s.sequence)

@@ -1,0 +1,9 @@
+pub mod NumberLemmas
+pub mod ItemLemmas
+pub mod CountLemmas
+pub mod ObjectLemmas
+pub mod TextLemmas
+pub mod LineLemmas
+pub mod ListLemmas
+pub mod MirrorLemmas
+pub mod SaveLemmas

@@ -1,0 +1,138 @@
+-- The lists of a mirror, as they are read and written.
+use Rattle.std.proofs.Common.{◌≡◌, ℕ, ◌<◌, ◌≤◌, ◌^◌, List, [], ◌∷◌, ◌++◌, length, map, refl, ap, ◌∙◌, Bool, true, false, cond, Some, None, arith}
+use Rattle.std.specs.Prelude.{codes, decimal, unwrap_or}
+use Rattle.std.specs.BTreeMap.{is_at}
+use Rattle.std.specs.List.{AllByRecursion}
+use Rattle.std.specs.List.Sorted.{IsStrictlySortedBy}
+use Rattle.std.specs.Map.{lookup}
+use Rattle.std.specs.Ordering.{is_eq, nat_cmp}
+use Rattle.std.specs.declared.cmp.Ordering.{Ordering}
+use Rattle.std.specs.declared.cmp.Ordering.TheVariants.{Less, Equal, Greater}
+use Rattle.std.proofs.lemmas.Cmp.{nat_cmp_total, tied_itself}
+use Rattle.osm_model.specs.Change.{ChangeValue}
+use Rattle.osm_model.specs.KeyOrder.{key_cmp}
+use Rattle.osm_model.specs.Limits.{IsPositive}
+use Rattle.osm_mirror.specs.Mirror.{Counted, HasNumber, IsAboveZero, IsObject}
+use Rattle.osm_mirror.specs.Mirror as mirror
+use Rattle.osm_mirror.proofs.EntryLemmas.{keys_total}
+use Rattle.osm_opl.specs.Written.{line_text}
+use Rattle.osm_opl.proofs.LineLaws.{line_lacks}
+use Rattle.osm_opl.proofs.ListLaws.{line_feed}
+use Rattle.osm_opl.proofs.RoundTrip.{line_spells}
+use Rattle.osm_reading.specs.Pieces.{Lacks}
+use Rattle.osm_reading.proofs.PieceLemmas.{lacks_append}
+use Rattle.osm_save.specs.Save.{count_text, ended, list_lines}
+use Rattle.osm_save.specs.Steps.Reading.{count_at, counts_at, object_at, objects_at}
+use Rattle.osm_save.proofs.CountLemmas.{count_again, count_takes}
+use Rattle.osm_save.proofs.ListLemmas.{IsItem, TakesList, list_again, list_takes}
+use Rattle.osm_save.proofs.NumberLemmas.{decimal_lacks}
+use Rattle.osm_save.proofs.ObjectLemmas.{object_again, object_takes}
+
+-- ---- objects
+
+object_item : IsItem key_cmp (λ (c : ChangeValue). c.key) line_text IsObject object_at
+object_item = record {
+  takes = λ last line c e. (let t = object_takes last line c e in (t.text, t.object, t.above));
+  again = λ last c good above. object_again last c good above;
+  lacks = λ c good. line_lacks 10 line_feed (line_text c) c (λ e. omega (arith, e)) (line_spells c good.limits);
+}
+
+abbrev pub TakesObjects : ℕ → List ℕ → List ChangeValue × List ℕ → Type 0
+TakesObjects most bytes r = TakesList key_cmp (λ (c : ChangeValue). c.key) line_text IsObject (codes "objects ") most bytes r.0 r.1
+
+pub objects_take : (most : ℕ) (bytes : List ℕ) (r : List ChangeValue × List ℕ) → objects_at most bytes ≡ Some r → TakesObjects most bytes r
+unfolding objects_at
+objects_take most bytes r e = list_takes key_cmp keys_total (λ (c : ChangeValue). c.key) line_text IsObject object_at object_item (codes "objects ") most bytes r e
+
+objects_lack : Lacks 10 (codes "objects ")
+objects_lack = ((λ e. omega (arith, e)), ((λ e. omega (arith, e)), ((λ e. omega (arith, e)), ((λ e. omega (arith, e)), ((λ e. omega (arith, e)), ((λ e. omega (arith, e)), ((λ e. omega (arith, e)), ((λ e. omega (arith, e)), tt))))))))
+
+pub objects_again : (most : ℕ) (cs : List ChangeValue) (rest : List ℕ) → length cs ≤ most → most < 1000000000000000 → AllByRecursion IsObject cs → IsStrictlySortedBy key_cmp (map (λ (c : ChangeValue). c.key) cs) → objects_at most (ended (list_lines (codes "objects ") line_text cs) ++ rest) ≡ Some (cs, rest)
+unfolding objects_at
+objects_again most cs rest few small good rising = list_again key_cmp keys_total (λ (c : ChangeValue). c.key) line_text IsObject object_at object_item (codes "objects ") most cs rest objects_lack few small good rising
+
+-- ---- counts
+
+-- a number within the limits, and a count from 1 to so many
+pub record IsCountWithin (most : ℕ) (e : Counted) : Type 0 where
+  pub number : IsPositive e.0
+  pub some : 1 ≤ e.1
+  pub few : e.1 ≤ most
+
+count_lacks : (most : ℕ) (e : Counted) → most < 1000000000000000 → IsCountWithin most e → Lacks 10 (count_text e)
+count_lacks most e small good =
+    let fits : e.0 < 2 ^ 32 = good.number.high in
+    let few : e.1 ≤ most = good.few in
+    lacks_append 10 (decimal e.0) (32 ∷ decimal e.1) (decimal_lacks 10 e.0 (omega arith) (omega arith)) ((λ x. omega (arith, x)), decimal_lacks 10 e.1 (omega arith) (omega arith))
+
+count_item : (most : ℕ) → most < 1000000000000000 → IsItem nat_cmp (λ (e : Counted). e.0) count_text (IsCountWithin most) (count_at most)
+count_item most small = record {
+  takes = λ last line e h. (let t = count_takes most last line e h in (t.text, record { number = t.number; some = t.some; few = t.few }, t.above));
+  again = λ last e good above. count_again most last e small good.number good.some good.few above;
+  lacks = λ e good. count_lacks most e small good;
+}
+
+abbrev pub TakesCounts : List ℕ → ℕ → List ℕ → List Counted × List ℕ → Type 0
+TakesCounts word most bytes r = TakesList nat_cmp (λ (e : Counted). e.0) count_text (IsCountWithin most) word most bytes r.0 r.1
+
+pub counts_take : (word : List ℕ) (most : ℕ) (bytes : List ℕ) (r : List Counted × List ℕ) → most < 1000000000000000 → counts_at word most bytes ≡ Some r → TakesCounts word most bytes r
+unfolding counts_at
+counts_take word most bytes r small e = list_takes nat_cmp nat_cmp_total (λ (e : Counted). e.0) count_text (IsCountWithin most) (count_at most) (count_item most small) word most bytes r e
+
+pub counts_again : (word : List ℕ) (most : ℕ) (es : List Counted) (rest : List ℕ) → Lacks 10 word → length es ≤ most → most < 1000000000000000 → AllByRecursion (IsCountWithin most) es → IsStrictlySortedBy nat_cmp (map (λ (e : Counted). e.0) es) → counts_at word most (ended (list_lines word count_text es) ++ rest) ≡ Some (es, rest)
+unfolding counts_at
+counts_again word most es rest lacks few small good rising = list_again nat_cmp nat_cmp_total (λ (e : Counted). e.0) count_text (IsCountWithin most) (count_at most) (count_item most small) word most es rest lacks few small good rising
+
+-- ---- counts of a mirror
+
+pub numbers_of : (most : ℕ) (es : List Counted) → AllByRecursion (IsCountWithin most) es → AllByRecursion HasNumber es
+numbers_of most [] all = tt
+numbers_of most (e ∷ es) all = (all.0.number, numbers_of most es all.1)
+
+pub above_of : (most : ℕ) (es : List Counted) → AllByRecursion (IsCountWithin most) es → AllByRecursion IsAboveZero es
+above_of most [] all = tt
+above_of most (e ∷ es) all = (all.0.some, above_of most es all.1)
+
+pub counts_most : (most : ℕ) (es : List Counted) → AllByRecursion (IsCountWithin most) es → (n : ℕ) → mirror.count_at es n ≤ most
+counts_most most [] all n = omega arith
+counts_most most (e ∷ es) all n = by_test (is_at (nat_cmp n) e.0) (counts_most most es all.1 n)
+  where
+    by_test : (b : Bool) → mirror.count_at es n ≤ most → unwrap_or (cond b (Some e.1) (lookup (is_at (nat_cmp n)) es)) 0 ≤ most
+    by_test true rest = all.0.few
+    by_test false rest = rest
+
+absent : (n : ℕ) (es : List Counted) → AllByRecursion (λ y. nat_cmp n y ≡ Less) (map (λ (e : Counted). e.0) es) → lookup (is_at (nat_cmp n)) es ≡ None
+absent n [] all = refl
+absent n (e ∷ es) all =
+    let other : is_at (nat_cmp n) e.0 ≡ false = ap is_eq all.0 in
+    rw other (absent n es all.1)
+
+equal_of : (o : Ordering) → is_eq o ≡ true → o ≡ Equal
+equal_of Less e = absurd cc
+equal_of Equal e = refl
+equal_of Greater e = absurd cc
+
+all_at : (n q : ℕ) (ks : List ℕ) → nat_cmp n q ≡ Equal → AllByRecursion (λ y. nat_cmp q y ≡ Less) ks → AllByRecursion (λ y. nat_cmp n y ≡ Less) ks
+all_at n q [] same all = tt
+all_at n q (k ∷ ks) same all = (nat_cmp_total.congr n q k same ∙ all.0, all_at n q ks same all.1)
+
+-- a count that a number has in the rest of the list it has in the list
+tail_most : (most : ℕ) (e : Counted) (es : List Counted) → IsStrictlySortedBy nat_cmp (map (λ (d : Counted). d.0) (e ∷ es)) → ((n : ℕ) → mirror.count_at (e ∷ es) n ≤ most) → (n : ℕ) → mirror.count_at es n ≤ most
+unfolding IsStrictlySortedBy
+tail_most most e es rising each n = by_test (is_at (nat_cmp n) e.0) refl (each n)
+  where
+    by_test : (b : Bool) → is_at (nat_cmp n) e.0 ≡ b → unwrap_or (cond b (Some e.1) (lookup (is_at (nat_cmp n)) es)) 0 ≤ most → mirror.count_at es n ≤ most
+    by_test true at most_here =
+        let none : lookup (is_at (nat_cmp n)) es ≡ None = absent n es (all_at n e.0 (map (λ (d : Counted). d.0) es) (equal_of (nat_cmp n e.0) at) rising.0) in
+        rw none (omega arith)
+    by_test false at most_here = most_here
+
+-- each count of a list whose counts are at most so great
+pub each_within : (most : ℕ) (es : List Counted) → IsStrictlySortedBy nat_cmp (map (λ (d : Counted). d.0) es) → AllByRecursion HasNumber es → AllByRecursion IsAboveZero es → ((n : ℕ) → mirror.count_at es n ≤ most) → AllByRecursion (IsCountWithin most) es
+unfolding IsStrictlySortedBy
+each_within most [] rising numbers above each = tt
+each_within most (e ∷ es) rising numbers above each =
+    let here : is_at (nat_cmp e.0) e.0 ≡ true = ap is_eq (tied_itself nat_cmp_total e.0) in
+    let first : mirror.count_at (e ∷ es) e.0 ≡ e.1 = rw here refl in
+    let few : mirror.count_at (e ∷ es) e.0 ≤ most = each e.0 in
+    (record { number = numbers.0; some = above.0; few = rw (← first) few }, each_within most es rising.1 numbers.1 above.1 (tail_most most e es rising each))

@@ -1,0 +1,3 @@
+pub mod Save
+pub mod Refusal
+pub mod Steps

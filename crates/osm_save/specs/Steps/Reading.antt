@@ -1,0 +1,106 @@
+-- How a save text is read, line by line. The lemmas that tie it to the text are in proofs/.
+use Rattle.std.specs.Prelude.{ℕ, zero, suc, ◌*◌, ◌^◌, ◌==◌, ◌&&◌, nat_lt, nat_le, Bool, true}
+use Rattle.std.specs.Prelude.{List, [], ◌∷◌, length, take, drop, codes, decimal}
+use Rattle.std.specs.Prelude.{Option, Some, None, is_some, if◌then◌else◌}
+use Rattle.std.specs.Ordering.{is_lt, nat_cmp}
+use Rattle.std.specs.Str.{bytes_eq}
+use Rattle.std.specs.declared.cmp.Ordering.{Ordering}
+use Rattle.osm_model.specs.Change.{ChangeValue}
+use Rattle.osm_model.specs.Content.{standing_of}
+use Rattle.osm_model.specs.KeyOrder.{key_cmp}
+use Rattle.osm_model.specs.Limits.{max_sequence}
+use Rattle.osm_model.specs.declared.kind.Key.{Key}
+use Rattle.osm_mirror.specs.Mirror.{Counted}
+use Rattle.osm_opl.specs.Steps.Reading.{digits_at, line_at, time_at}
+use Rattle.osm_opl.specs.Written.{line_text}
+use Rattle.osm_reading.specs.Pieces.{cut_at}
+use Rattle.osm_reading.specs.Steps.Answers.{and_then}
+use Rattle.osm_save.specs.declared.save.Saved.{Saved}
+
+-- the number that has just this text, of at most 15 digits
+unfoldable pub number_at : List ℕ → Option ℕ
+number_at bytes =
+    and_then (digits_at 10 15 bytes) (λ n.
+    if bytes_eq (decimal n) bytes then Some n else None)
+
+-- the bytes after a prefix
+abbrev pub after_word : List ℕ → List ℕ → Option (List ℕ)
+after_word word bytes =
+    if bytes_eq (take (length word) bytes) word then Some (drop (length word) bytes) else None
+
+-- the bytes after the line with this text
+unfoldable pub fixed_at : List ℕ → List ℕ → Option (List ℕ)
+fixed_at text bytes =
+    and_then (cut_at 10 bytes) (λ l. if bytes_eq l.0 text then Some l.1 else None)
+
+-- a word and a number, at most so great
+unfoldable pub numbered_at : List ℕ → ℕ → List ℕ → Option (ℕ × List ℕ)
+numbered_at word most bytes =
+    and_then (cut_at 10 bytes) (λ l. and_then (after_word word l.0) (λ digits.
+    and_then (number_at digits) (λ n. if nat_le n most then Some (n, l.1) else None)))
+
+-- the time of a number: none of 0
+unfoldable pub time_line_at : ℕ → List ℕ → Option (Option ℕ × List ℕ)
+time_line_at number bytes =
+    if number == 0 then and_then (fixed_at (codes "time none") bytes) (λ rest. Some (None, rest))
+    else and_then (cut_at 10 bytes) (λ l. and_then (after_word (codes "time ") l.0) (λ text.
+    and_then (time_at text) (λ time. Some (Some time, l.1))))
+
+-- a key is above the one before it
+abbrev pub is_above : {K : Type 0} → (K → K → Ordering) → Option K → K → Bool
+is_above cmp None key = true
+is_above cmp (Some last) key = is_lt (cmp last key)
+
+-- so many lines, each read after the key of the one before it
+abbrev pub items_at : {X K : Type 0} → (X → K) → (Option K → List ℕ → Option X) → ℕ → Option K
+    → List ℕ → Option (List X × List ℕ)
+items_at key item zero last bytes = Some ([], bytes)
+items_at key item (suc k) last bytes =
+    and_then (cut_at 10 bytes) (λ l. and_then (item last l.0) (λ x.
+    and_then (items_at key item k (Some (key x)) l.1) (λ r. Some (x ∷ r.0, r.1))))
+
+-- an object, written as it is always written, with a key above the one before it
+unfoldable pub object_at : Option Key → List ℕ → Option ChangeValue
+object_at last line =
+    and_then (line_at line) (λ c.
+    if bytes_eq (line_text c) line && is_some (standing_of c) && is_above key_cmp last c.key
+    then Some c else None)
+
+-- a number and its count, with a number above the one before it
+unfoldable pub count_at : ℕ → Option ℕ → List ℕ → Option Counted
+count_at most last line =
+    and_then (cut_at 32 line) (λ p. and_then (number_at p.0) (λ n. and_then (number_at p.1) (λ k.
+    if nat_le 1 n && nat_lt n (2 ^ 32) && nat_le 1 k && nat_le k most && is_above nat_cmp last n
+    then Some (n, k) else None)))
+
+-- the objects of the list after its word
+unfoldable pub objects_at : ℕ → List ℕ → Option (List ChangeValue × List ℕ)
+objects_at most bytes =
+    and_then (numbered_at (codes "objects ") most bytes) (λ k.
+    items_at (λ c. c.key) object_at k.0 None k.1)
+
+-- the counts of a list after its word
+unfoldable pub counts_at : List ℕ → ℕ → List ℕ → Option (List Counted × List ℕ)
+counts_at word most bytes =
+    and_then (numbered_at word most bytes) (λ k.
+    items_at (λ e. e.0) (count_at most) k.0 None k.1)
+
+-- the three lists of a mirror, and `end`
+unfoldable pub mirror_at : ℕ → Option ℕ → List ℕ → Option Saved
+mirror_at number time bytes =
+    and_then (objects_at (100000 * number) bytes) (λ o.
+    and_then (counts_at (codes "users ") (100000 * number) o.1) (λ u.
+    and_then (counts_at (codes "changesets ") (100000 * number) u.1) (λ s.
+    and_then (fixed_at (codes "end") s.1) (λ rest.
+    if length rest == 0 then Some (record {
+      number = number;
+      time = time;
+      mirror = record { objects = o.0; users = u.0; changesets = s.0 };
+    }) else None))))
+
+-- what the bytes save
+unfoldable pub save_at : List ℕ → Option Saved
+save_at bytes =
+    and_then (fixed_at (codes "osmrepl-save 1") bytes) (λ first.
+    and_then (numbered_at (codes "sequence ") max_sequence first) (λ n.
+    and_then (time_line_at n.0 n.1) (λ t. mirror_at n.0 t.0 t.1)))

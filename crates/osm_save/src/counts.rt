@@ -1,0 +1,103 @@
+//! The counts of edits in a save text: a line `NUMBER COUNT` each.
+
+ghost use Rattle.std.specs.Prelude.{◌≡◌, ◌++◌, ◌∷◌, [], None, length, OnOk};
+ghost use Rattle.osm_save.specs.Save.{count_text, ended, list_lines};
+ghost use Rattle.osm_save.specs.Steps.Answers.{Gives};
+ghost use Rattle.osm_save.specs.Steps.Reading.{count_at, counts_at, items_at};
+
+use crate::lines::{next_line, numbered_line, write_numbered};
+use crate::numbers::{read_number, write_number};
+use crate::order::is_number_above;
+use crate::stop::Stop;
+use osm_mirror::counts::Counts;
+use osm_model::memory::WantOfMemory;
+use osm_reading::pieces::cut;
+use std::alloc::Global;
+
+/// The list of all counts, after its word.
+pub(crate) fn write_counts(
+    word: &[u8],
+    counts: &Counts,
+    out: &mut Vec<u8>,
+) -> Result<(), WantOfMemory>
+    ensures { OnOk result (out.new.items ≡ out.old.items
+        ++ ended (list_lines word.now count_text counts.now)) }
+{
+    write_numbered(word, counts.len() as u64, out)?;
+    for (number, count) in counts.iter() {
+        write_count(*number, *count, out)?;
+    }
+    Ok(())
+}
+
+fn write_count(number: u32, count: u64, out: &mut Vec<u8>) -> Result<(), WantOfMemory>
+    ensures { OnOk result (out.new.items ≡ out.old.items ++ ended (count_text (number, count) ∷ [])) }
+{
+    write_number(number as u64, out)?;
+    out.push(b' ')?;
+    write_number(count, out)?;
+    out.push(b'\n')?;
+    Ok(())
+}
+
+/// The counts of the list after that word, each of them at most `most`, and the bytes after it.
+#[tactic(auto, unfolding(crate::specs::Steps::Reading::counts_at))]
+pub(crate) fn read_counts<'a>(
+    alloc: Global,
+    word: &[u8],
+    most: u64,
+    rest: &'a [u8],
+) -> Result<(Counts, &'a [u8]), Stop>
+    ensures { Gives (λ r. (r.0, r.1.now)) result (counts_at word.now most rest.now) }
+{
+    let (many, rest) = numbered_line(word, most, rest)?;
+    read_count_lines(alloc, many, most, rest)
+}
+
+// So many lines. Memory is taken only for lines that are there.
+fn read_count_lines(
+    alloc: Global,
+    many: u64,
+    most: u64,
+    rest: &[u8],
+) -> Result<(Counts, &[u8]), Stop>
+    ensures { Gives (λ r. (r.0, r.1.now)) result
+        (items_at (λ e. e.0) (count_at most) many None rest.now) }
+{
+    let mut counts = Counts::new(alloc);
+    let mut last = None;
+    let mut rest = rest;
+    for _ in 0..many {
+        let (line, after) = match next_line(rest) {
+            Ok(cut) => cut,
+            Err(stop) => return Err(stop),
+        };
+        let Some((number, count)) = read_count(last, most, line) else {
+            return Err(Stop::Wrong(rest.len()));
+        };
+        last = Some(number);
+        counts.push(number, count)?;
+        rest = after;
+    }
+    Ok((counts, rest))
+}
+
+// A number above the last one, and its count.
+#[tactic(auto, unfolding(crate::specs::Steps::Reading::count_at))]
+fn read_count(last: Option<u32>, most: u64, line: &[u8]) -> Option<(u32, u64)>
+    ensures { result ≡ count_at most last line.now }
+{
+    let (number, Some(count)) = cut(line, b' ') else {
+        return None;
+    };
+    let number = read_number(number)?;
+    let count = read_number(count)?;
+    if number < 1 || number > u32::MAX as u64 || count < 1 || count > most {
+        return None;
+    }
+    let number = number as u32;
+    if !is_number_above(last, number) {
+        return None;
+    }
+    Some((number, count))
+}

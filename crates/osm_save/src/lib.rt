@@ -1,0 +1,10 @@
+//! The save text: a follower's number, time and mirror as a text with one spelling.
+#![tactic(auto)]
+
+mod counts;
+mod lines;
+mod numbers;
+mod objects;
+mod order;
+pub mod save;
+mod stop;

@@ -1,0 +1,72 @@
+//! Lines of a save text. Every line ends with LF.
+
+ghost use Rattle.std.specs.Prelude.{◌≡◌, ◌≤◌, ◌++◌, ◌∷◌, [], decimal, IfOk, OnOk};
+ghost use Rattle.osm_reading.specs.Pieces.{cut_at};
+ghost use Rattle.osm_save.specs.Save.{ended};
+ghost use Rattle.osm_save.specs.Steps.Answers.{Gives};
+ghost use Rattle.osm_save.specs.Steps.Reading.{fixed_at, numbered_at};
+
+use crate::numbers::{read_number, write_number};
+use crate::stop::Stop;
+use osm_model::memory::WantOfMemory;
+use osm_reading::pieces::cut;
+
+/// The next line, without its end, and the bytes after it.
+pub(crate) fn next_line(rest: &[u8]) -> Result<(&[u8], &[u8]), Stop>
+    ensures { Gives (λ r. (r.0.now, r.1.now)) result (cut_at 10 rest.now) }
+{
+    match cut(rest, b'\n') {
+        (line, Some(after)) => Ok((line, after)),
+        (_, None) => Err(Stop::Wrong(rest.len())),
+    }
+}
+
+/// The bytes after the next line, which has this text.
+#[tactic(auto, unfolding(crate::specs::Steps::Reading::fixed_at))]
+pub(crate) fn fixed_line<'a>(text: &[u8], rest: &'a [u8]) -> Result<&'a [u8], Stop>
+    ensures { Gives (λ after. after.now) result (fixed_at text.now rest.now) }
+{
+    let (line, after) = next_line(rest)?;
+    if line != text {
+        return Err(Stop::Wrong(rest.len()));
+    }
+    Ok(after)
+}
+
+/// The number after the word of the next line, and the bytes after the line.
+#[tactic(auto, unfolding(crate::specs::Steps::Reading::numbered_at))]
+pub(crate) fn numbered_line<'a>(
+    word: &[u8],
+    most: u64,
+    rest: &'a [u8],
+) -> Result<(u64, &'a [u8]), Stop>
+    ensures value { Gives (λ r. (r.0, r.1.now)) result (numbered_at word.now most rest.now) }
+    ensures limit { IfOk result (λ r. r.0 ≤ most) }
+{
+    let (line, after) = next_line(rest)?;
+    let Some(digits) = line.strip_prefix(word) else {
+        return Err(Stop::Wrong(rest.len()));
+    };
+    let Some(number) = read_number(digits) else {
+        return Err(Stop::Wrong(rest.len()));
+    };
+    if number > most {
+        return Err(Stop::Wrong(rest.len()));
+    }
+    Ok((number, after))
+}
+
+/// A line of a word and a number.
+pub(crate) fn write_numbered(
+    word: &[u8],
+    number: u64,
+    out: &mut Vec<u8>,
+) -> Result<(), WantOfMemory>
+    ensures { OnOk result
+        (out.new.items ≡ out.old.items ++ ended ((word.now ++ decimal number) ∷ [])) }
+{
+    out.extend_from_slice(word)?;
+    write_number(number, out)?;
+    out.push(b'\n')?;
+    Ok(())
+}

@@ -1,0 +1,46 @@
+//! Numbers in plain decimal: no sign, and no zeros in front.
+
+ghost use Rattle.std.specs.Prelude.{◌≡◌, ◌<◌, ◌^◌, ◌++◌, decimal, IfSome, OnOk};
+ghost use Rattle.osm_opl.specs.Steps.Reading.{digits_at};
+ghost use Rattle.osm_save.specs.Steps.Reading.{number_at};
+
+use itoa::Buffer;
+use osm_model::memory::WantOfMemory;
+
+const MOST_DIGITS: usize = 15;
+
+/// The number with this text, if it has at most 15 digits.
+#[tactic(auto, unfolding(crate::specs::Steps::Reading::number_at))]
+pub(crate) fn read_number(text: &[u8]) -> Option<u64>
+    ensures { result ≡ number_at text.now }
+{
+    let number = read_digits(text)?;
+    if Buffer::new().format(number).as_bytes() != text {
+        return None;
+    }
+    Some(number)
+}
+
+// The number of 1 to 15 digits, zeros in front accepted.
+fn read_digits(digits: &[u8]) -> Option<u64>
+    ensures { result ≡ digits_at 10 15 digits.now }
+{
+    if digits.is_empty() || digits.len() > MOST_DIGITS {
+        return None;
+    }
+    let mut number = 0;
+    for byte in digits {
+        if !byte.is_ascii_digit() {
+            return None;
+        }
+        number = 10 * number + (*byte - b'0') as u64;
+    }
+    Some(number)
+}
+
+pub(crate) fn write_number(number: u64, out: &mut Vec<u8>) -> Result<(), WantOfMemory>
+    ensures { OnOk result (out.new.items ≡ out.old.items ++ decimal number) }
+{
+    out.extend_from_slice(Buffer::new().format(number).as_bytes())?;
+    Ok(())
+}

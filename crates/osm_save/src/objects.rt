@@ -1,0 +1,132 @@
+//! The objects of a save text: a line each, as `write_line` of OPL writes it.
+
+ghost use Rattle.std.specs.Prelude.{◌≡◌, ◌++◌, ◌∷◌, ◌&&◌, [], None, codes};
+ghost use Rattle.std.specs.Prelude.{is_some, IfOk, OnOk};
+ghost use Rattle.std.specs.Str.{bytes_eq};
+ghost use Rattle.osm_model.specs.Change.{ChangeValue};
+ghost use Rattle.osm_model.specs.Content.{standing_of};
+ghost use Rattle.osm_model.specs.KeyOrder.{key_cmp};
+ghost use Rattle.osm_opl.specs.Steps.Reading.{line_at};
+ghost use Rattle.osm_opl.specs.Written.{line_text};
+ghost use Rattle.osm_save.specs.Save.{ended, list_lines};
+ghost use Rattle.osm_save.specs.Steps.Answers.{Gives};
+ghost use Rattle.osm_save.specs.Steps.Reading.{is_above, items_at, object_at, objects_at};
+
+use crate::lines::{next_line, numbered_line, write_numbered};
+use crate::order::is_key_above;
+use crate::stop::Stop;
+use osm_mirror::objects::Objects;
+use osm_model::change::Change;
+use osm_model::kind::Key;
+use osm_model::memory::WantOfMemory;
+use osm_opl::lines::{LineError, read_line, write_line};
+use std::alloc::Global;
+
+/// The list of all objects.
+pub(crate) fn write_objects(objects: &Objects, out: &mut Vec<u8>) -> Result<(), WantOfMemory>
+    ensures { OnOk result (out.new.items ≡ out.old.items
+        ++ ended (list_lines (codes "objects ") line_text objects.now)) }
+{
+    write_numbered(b"objects ", objects.len() as u64, out)?;
+    for change in objects.iter() {
+        write_object(change, out)?;
+    }
+    Ok(())
+}
+
+fn write_object(change: &Change, out: &mut Vec<u8>) -> Result<(), WantOfMemory>
+    ensures { OnOk result (out.new.items ≡ out.old.items ++ ended (line_text change.now ∷ [])) }
+{
+    write_line(change, out)?;
+    out.push(b'\n')?;
+    Ok(())
+}
+
+/// The objects of the list, and the bytes after it.
+#[tactic(auto, unfolding(crate::specs::Steps::Reading::objects_at))]
+pub(crate) fn read_objects(alloc: Global, most: u64, rest: &[u8]) -> Result<(Objects, &[u8]), Stop>
+    ensures { Gives (λ r. (r.0, r.1.now)) result (objects_at most rest.now) }
+{
+    let (many, rest) = numbered_line(b"objects ", most, rest)?;
+    read_object_lines(alloc, many, rest)
+}
+
+// So many lines. Memory is taken only for lines that are there.
+fn read_object_lines(alloc: Global, many: u64, rest: &[u8]) -> Result<(Objects, &[u8]), Stop>
+    ensures { Gives (λ r. (r.0, r.1.now)) result
+        (items_at (λ c. c.key) object_at many None rest.now) }
+{
+    let mut objects = Objects::new(alloc);
+    let mut written = Vec::new(alloc);
+    let mut last = None;
+    let mut rest = rest;
+    for _ in 0..many {
+        let (line, after) = match next_line(rest) {
+            Ok(cut) => cut,
+            Err(stop) => return Err(stop),
+        };
+        let object = match read_object(alloc, last, line, &mut written) {
+            Ok(Some(object)) => object,
+            Ok(None) => return Err(Stop::Wrong(rest.len())),
+            Err(WantOfMemory) => return Err(Stop::WantOfMemory),
+        };
+        last = Some(object.key());
+        objects.push(object)?;
+        rest = after;
+    }
+    Ok((objects, rest))
+}
+
+// The object that is written as this line, if its key comes after the last one. What was in
+// `written` is lost: it is there so that each line can use the memory of the one before it.
+#[tactic(auto, unfolding(crate::specs::Steps::Reading::object_at))]
+fn read_object(
+    alloc: Global,
+    last: Option<Key>,
+    line: &[u8],
+    written: &mut Vec<u8>,
+) -> Result<Option<Change>, WantOfMemory>
+    ensures { IfOk result (λ r. r ≡ object_at last line.now) }
+{
+    let Some(change) = change_of(alloc, line)? else {
+        return Ok(None);
+    };
+    if is_next(&change, last, line, written)? {
+        Ok(Some(change))
+    } else {
+        Ok(None)
+    }
+}
+
+// The change that the line spells.
+fn change_of(alloc: Global, line: &[u8]) -> Result<Option<Change>, WantOfMemory>
+    ensures { IfOk result (λ r. r ≡ line_at line.now) }
+{
+    match read_line(alloc, line) {
+        Ok(change) => Ok(Some(change)),
+        Err(LineError::Fault(_)) => Ok(None),
+        Err(LineError::WantOfMemory) => Err(WantOfMemory),
+    }
+}
+
+// Whether the change is an object whose key comes after the last one, and is written as this line.
+fn is_next(
+    change: &Change,
+    last: Option<Key>,
+    line: &[u8],
+    written: &mut Vec<u8>,
+) -> Result<bool, WantOfMemory>
+    ensures { IfOk result (λ r. r ≡ (bytes_eq (line_text change.now) line.now
+        && is_some (standing_of change.now) && is_above key_cmp last change.now.key)) }
+{
+    written.clear();
+    write_line(change, written)?;
+    Ok(written.as_slice() == line && stands(change) && is_key_above(last, change.key()))
+}
+
+// Whether the change leaves an object.
+fn stands(change: &Change) -> bool
+    ensures { result ≡ is_some (standing_of change.now) }
+{
+    !change.is_deletion()
+}

@@ -1,0 +1,28 @@
+//! Whether what is read rises.
+
+ghost use Rattle.std.specs.Prelude.{◌≡◌, ℕ};
+ghost use Rattle.std.specs.Ordering.{nat_cmp};
+ghost use Rattle.osm_model.specs.KeyOrder.{key_cmp};
+ghost use Rattle.osm_save.specs.Steps.Reading.{is_above};
+
+use osm_model::kind::Key;
+
+/// Whether a key comes after the one before it.
+pub(crate) fn is_key_above(last: Option<Key>, key: Key) -> bool
+    ensures { result ≡ is_above key_cmp last key }
+{
+    match last {
+        None => true,
+        Some(last) => last.cmp(&key).is_lt(),
+    }
+}
+
+/// Whether a number comes after the one before it.
+pub(crate) fn is_number_above(last: Option<u32>, number: u32) -> bool
+    ensures { result ≡ is_above nat_cmp last number }
+{
+    match last {
+        None => true,
+        Some(last) => last.cmp(&number).is_lt(),
+    }
+}

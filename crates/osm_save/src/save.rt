@@ -1,0 +1,217 @@
+//! What a follower saves, and the one text of it (our choice).
+//!
+//! ```text
+//! osmrepl-save 1
+//! sequence 1
+//! time 2024-01-01T00:00:00Z
+//! objects 1
+//! n1 v1 dV c7 t2024-01-01T00:00:00Z i5 uann T x1 y2
+//! users 1
+//! 5 1
+//! changesets 1
+//! 7 1
+//! end
+//! ```
+
+ghost use Rattle.std.specs.Prelude.{◌≡◌, ◌*◌, ◌≤◌, ◌++◌, ◌∷◌, [], List, ℕ, Option, codes};
+ghost use Rattle.std.specs.Prelude.{decimal, IfOk, IfErr, OnOk};
+ghost use Rattle.osm_model.specs.Limits.{max_sequence};
+ghost use Rattle.osm_mirror.specs.Mirror.{IsWithin};
+ghost use Rattle.osm_opl.specs.Steps.Reading.{time_at};
+ghost use Rattle.osm_save.specs.Refusal.{SaveRefused};
+ghost use Rattle.osm_save.specs.Save.{IsSavable, IsTimeOf, SpellsSave, ended, maybe_time_text};
+ghost use Rattle.osm_save.specs.Save.{save_text};
+ghost use Rattle.osm_save.specs.Steps.Answers.{Gives};
+ghost use Rattle.osm_save.specs.Steps.Reading.{mirror_at, save_at, time_line_at};
+
+use crate::counts::{read_counts, write_counts};
+use crate::lines::{fixed_line, next_line, numbered_line, write_numbered};
+use crate::objects::{read_objects, write_objects};
+use crate::stop::Stop;
+use osm_mirror::mirror::Mirror;
+use osm_model::limits::{MAX_CHANGES, MAX_SEQUENCE};
+use osm_model::memory::WantOfMemory;
+use osm_model::time::{time_read, time_write};
+use std::alloc::Global;
+use thiserror::Error;
+
+/// What a follower saves.
+#[derive(Debug, Drop)]
+pub struct Saved {
+    /// The sequence up to which all is applied; 0 at the start.
+    pub number: u32,
+    /// The time of that sequence, in seconds since 1970-01-01T00:00:00Z; none of number 0.
+    pub time: Option<u32>,
+    /// The objects, and the edits by user and by changeset.
+    pub mirror: Mirror,
+}
+
+/// Why nothing is read from a text.
+#[derive(Clone, Copy, Debug, PartialEq, Eq, Error)]
+pub enum SaveError {
+    /// It is no save text. The line, counted from 1, is the first that is wrong after those before
+    /// it: one past the last line if the text ends too early.
+    #[error("BadSave")]
+    BadSave { line: u64 },
+    /// Memory was refused.
+    #[error("WantOfMemory")]
+    WantOfMemory,
+}
+
+/// The save text of a number, its time and a mirror.
+pub fn save_write(
+    alloc: Global,
+    number: u32,
+    time: Option<u32>,
+    mirror: &Mirror,
+) -> Result<Vec<u8>, WantOfMemory>
+    ensures text { IfOk result (λ text. text.items ≡ save_text (record {
+      number = number;
+      time = time;
+      mirror = mirror.now;
+    })) }
+    ensures spelled { number ≤ max_sequence → IsTimeOf number time
+        → IsWithin (100000 * number) mirror.now
+        → IfOk result (λ text. SpellsSave text.items (record {
+          number = number;
+          time = time;
+          mirror = mirror.now;
+        })) }
+{
+    mirror.lists_rise();
+    let mut text = Vec::with_capacity(alloc, least_length(mirror))?;
+    write_start(number, time, &mut text)?;
+    write_objects(mirror.objects_by_key(), &mut text)?;
+    write_counts(b"users ", mirror.user_counts(), &mut text)?;
+    write_counts(b"changesets ", mirror.changeset_counts(), &mut text)?;
+    text.extend_from_slice(b"end\n")?;
+    Ok(text)
+}
+
+// So many bytes the text has at least: no line of an object has fewer than 48, and none of a count
+// fewer than 4.
+fn least_length(mirror: &Mirror) -> usize {
+    let objects = mirror.objects_by_key().len().saturating_mul(48);
+    let users = mirror.user_counts().len().saturating_mul(4);
+    let changesets = mirror.changeset_counts().len().saturating_mul(4);
+    objects.saturating_add(users).saturating_add(changesets)
+}
+
+// The lines before the lists.
+fn write_start(number: u32, time: Option<u32>, out: &mut Vec<u8>) -> Result<(), WantOfMemory>
+    ensures { OnOk result (out.new.items ≡ out.old.items ++ ended (codes "osmrepl-save 1"
+        ∷ (codes "sequence " ++ decimal number) ∷ (codes "time " ++ maybe_time_text time) ∷ [])) }
+{
+    out.extend_from_slice(b"osmrepl-save 1\n")?;
+    write_numbered(b"sequence ", number as u64, out)?;
+    write_time_line(time, out)?;
+    Ok(())
+}
+
+fn write_time_line(time: Option<u32>, out: &mut Vec<u8>) -> Result<(), WantOfMemory>
+    ensures { OnOk result (out.new.items ≡ out.old.items
+        ++ ended ((codes "time " ++ maybe_time_text time) ∷ [])) }
+{
+    match time {
+        None => {
+            out.extend_from_slice(b"time none\n")?;
+            Ok(())
+        }
+        Some(time) => {
+            out.extend_from_slice(b"time ")?;
+            out.extend_from_slice(&time_write(time))?;
+            out.push(b'\n')?;
+            Ok(())
+        }
+    }
+}
+
+/// What a save text saves.
+pub fn save_read(alloc: Global, bytes: &[u8]) -> Result<Saved, SaveError>
+    ensures spelled { IfOk result (λ saved. SpellsSave bytes.now saved) }
+    ensures refused { IfErr result (SaveRefused bytes.now) }
+{
+    match read_save(alloc, bytes) {
+        Ok(saved) => Ok(saved),
+        Err(Stop::WantOfMemory) => Err(SaveError::WantOfMemory),
+        Err(Stop::Wrong(left)) => Err(SaveError::BadSave {
+            line: line_number(bytes, left),
+        }),
+    }
+}
+
+// The number of the line at whose start so many bytes are left.
+fn line_number(bytes: &[u8], left: usize) -> u64 {
+    let mut number: u64 = 1;
+    for byte in bytes.iter().take(bytes.len().saturating_sub(left)) {
+        if *byte == b'\n' {
+            number = number.saturating_add(1);
+        }
+    }
+    number
+}
+
+#[tactic(auto, unfolding(crate::specs::Steps::Reading::save_at))]
+fn read_save(alloc: Global, bytes: &[u8]) -> Result<Saved, Stop>
+    ensures { Gives (λ saved. saved) result (save_at bytes.now) }
+{
+    let rest = fixed_line(b"osmrepl-save 1", bytes)?;
+    let (number, rest) = numbered_line(b"sequence ", MAX_SEQUENCE as u64, rest)?;
+    let (time, rest) = time_line(number, rest)?;
+    read_mirror(alloc, number, time, rest)
+}
+
+// The time of a number.
+#[tactic(auto, unfolding(crate::specs::Steps::Reading::time_line_at))]
+fn time_line(number: u64, rest: &[u8]) -> Result<(Option<u32>, &[u8]), Stop>
+    ensures { Gives (λ r. (r.0, r.1.now)) result (time_line_at number rest.now) }
+{
+    if number == 0 {
+        let after = fixed_line(b"time none", rest)?;
+        return Ok((None, after));
+    }
+    let (line, after) = next_line(rest)?;
+    let Some(text) = line.strip_prefix(b"time ") else {
+        return Err(Stop::Wrong(rest.len()));
+    };
+    let Some(time) = read_time(text) else {
+        return Err(Stop::Wrong(rest.len()));
+    };
+    Ok((Some(time), after))
+}
+
+// The time with this text.
+fn read_time(text: &[u8]) -> Option<u32>
+    ensures { result ≡ time_at text.now }
+{
+    time_read(text)
+}
+
+// The lists, and `end`.
+#[tactic(auto, unfolding(crate::specs::Steps::Reading::mirror_at))]
+fn read_mirror(alloc: Global, number: u64, time: Option<u32>, rest: &[u8]) -> Result<Saved, Stop>
+    requires { number ≤ max_sequence }
+    ensures { Gives (λ saved. saved) result (mirror_at number time rest.now) }
+{
+    let most = MAX_CHANGES as u64 * number;
+    let (objects, rest) = read_objects(alloc, most, rest)?;
+    let (users, rest) = read_counts(alloc, b"users ", most, rest)?;
+    let (changesets, rest) = read_counts(alloc, b"changesets ", most, rest)?;
+    let rest = fixed_line(b"end", rest)?;
+    if !rest.is_empty() {
+        return Err(Stop::Wrong(rest.len()));
+    }
+    Ok(Saved {
+        number: number as u32,
+        time,
+        mirror: Mirror::from_parts(objects, users, changesets),
+    })
+}
+
+/// The laws of save texts: bytes are the text of at most one thing saved, and what is within the
+/// limits is spelled by its text.
+pub fn laws_of_saves()
+    ensures one_save { (bytes : List ℕ) (a b : Saved)
+        → SpellsSave bytes a → SpellsSave bytes b → a ≡ b }
+    ensures written { (v : Saved) → IsSavable v → SpellsSave (save_text v) v }
+{}
