@@ -7,9 +7,9 @@ use Rattle.osm_world.specs.History as hist
 use Rattle.osm_world.specs.Legal.{IsLegal, IsNumber, Allowed}
 use Rattle.osm_follow.specs.Reach.{Reaches, numbers}
 use Rattle.osm_world.specs.declared.event.Event.{Event}
-use Rattle.osm_world.specs.declared.event.Event.TheVariants.{Edit, Close, Deliver, Show}
+use Rattle.osm_world.specs.declared.event.Event.TheVariants.{Edit, Close, Deliver, Show, Save, Restart}
 use Rattle.osm_world.specs.declared.event.Reply.{Reply}
-use Rattle.osm_world.specs.declared.event.Reply.TheVariants.{Edited, BatchFull, WantOfMemory, Closed, SequenceFull, TimeBack, TooLarge, NotPublished, Broken, Old, Again, TooEarly, Held, Applied, Broke, Shown}
+use Rattle.osm_world.specs.declared.event.Reply.TheVariants.{Edited, BatchFull, WantOfMemory, Closed, SequenceFull, TimeBack, TooLarge, NotPublished, Broken, Old, Again, TooEarly, Held, Applied, Broke, Shown, Saved, Restarted}
 use Rattle.osm_world.proofs.ReachLemmas.{one_reach, reaches_more}
 use Rattle.osm_world.proofs.ReportLemmas.{legal_before}
 
@@ -84,13 +84,17 @@ new_pair h k n m whole number old before count is =
 apart : (b : Bool) → b ≡ true → b ≡ false → ⊥
 apart b is out = let bad : true ≡ false = sym is ∙ out in cc
 
-pub catches_up : (h : hist.History) (n : ℕ) → IsLegal h → hist.is_broken h ≡ false → IsNumber h n → Reached h (hist.start_of h) n
-catches_up [] n legal whole number zero is = (let from = number.from in omega arith)
-catches_up [] n legal whole number (suc count) is = absurd (none (numbers (hist.start_of []) count) is)
+-- nothing was delivered since the start
+none_delivered : (start n count : ℕ) → start ≤ n → IsSubsequence (numbers start count) [] → start + count ≤ n
+none_delivered start n zero from is = omega arith
+none_delivered start n (suc count) from is = absurd (none (numbers start count) is)
   where
-    none : (xs : List ℕ) → IsSubsequence (xs ++ (hist.start_of [] + suc count) ∷ []) [] → ⊥
+    none : (xs : List ℕ) → IsSubsequence (xs ++ (start + suc count) ∷ []) [] → ⊥
     none [] s = s
     none (x ∷ xs) s = s
+
+pub catches_up : (h : hist.History) (n : ℕ) → IsLegal h → hist.is_broken h ≡ false → IsNumber h n → Reached h (hist.start_of h) n
+catches_up [] n legal whole number count is = none_delivered 0 n count number.from is
 catches_up (p ∷ h) n legal whole number count is = by_pair p.0 p.1 (legal_last h p.0 p.1 legal) whole number (λ ok m at. catches_up h m (legal_before h p.0 p.1 legal) ok at) count is
   where
     by_pair : (e : Event) (r : Reply) → Allowed h e r → hist.is_broken ((e, r) ∷ h) ≡ false → IsNumber ((e, r) ∷ h) n → Before h → Reached ((e, r) ∷ h) (hist.start_of ((e, r) ∷ h)) n
@@ -122,6 +126,13 @@ catches_up (p ∷ h) n legal whole number count is = by_pair p.0 p.1 (legal_last
     by_pair Show (Shown v) a ok at before = quiet_pair h n ok at before
     by_pair Show WantOfMemory a ok at before = quiet_pair h n ok at before
     by_pair Show r a ok at before = absurd a
+    by_pair Save Broken a ok at before = quiet_pair h n ok at before
+    by_pair Save (Saved m) a ok at before = quiet_pair h n ok at before
+    by_pair Save WantOfMemory a ok at before = quiet_pair h n ok at before
+    by_pair Save r a ok at before = absurd a
+    by_pair Restart (Restarted m) a ok at before = λ c s. none_delivered (hist.saved_of h) n c at.from s
+    by_pair Restart WantOfMemory a ok at before = cc
+    by_pair Restart r a ok at before = absurd a
 
 -- a number was accepted exactly if it is above the start and was confirmed
 abbrev Known : hist.History → ℕ → Type 0
@@ -179,3 +190,10 @@ accepts_what_is_confirmed (p ∷ h) j legal = by_pair p.0 p.1 (legal_last h p.0 
     by_pair Show (Shown v) a before = before
     by_pair Show WantOfMemory a before = before
     by_pair Show r a before = absurd a
+    by_pair Save Broken a before = before
+    by_pair Save (Saved m) a before = before
+    by_pair Save WantOfMemory a before = before
+    by_pair Save r a before = absurd a
+    by_pair Restart (Restarted m) a before = (λ has. absurd (let bad : false ≡ true = has in cc), λ both. both.1)
+    by_pair Restart WantOfMemory a before = before
+    by_pair Restart r a before = absurd a

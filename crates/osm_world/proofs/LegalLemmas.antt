@@ -20,16 +20,16 @@ use Rattle.osm_world.specs.World.{WorldValue}
 use Rattle.osm_follow.specs.declared.delivery.Delivered.TheVariants as answers
 use Rattle.osm_follow.specs.declared.delivery.DeliverError.TheVariants as errors
 use Rattle.osm_world.specs.declared.event.Event.{Event}
-use Rattle.osm_world.specs.declared.event.Event.TheVariants.{Edit, Close, Deliver, Show}
+use Rattle.osm_world.specs.declared.event.Event.TheVariants.{Edit, Close, Deliver, Show, Save, Restart}
 use Rattle.osm_world.specs.declared.event.Reply.{Reply}
-use Rattle.osm_world.specs.declared.event.Reply.TheVariants.{Edited, BatchFull, WantOfMemory, Closed, SequenceFull, TimeBack, TooLarge, NotPublished, Broken, Old, Again, TooEarly, Held, Applied, Broke, Shown}
+use Rattle.osm_world.specs.declared.event.Reply.TheVariants.{Edited, BatchFull, WantOfMemory, Closed, SequenceFull, TimeBack, TooLarge, NotPublished, Broken, Old, Again, TooEarly, Held, Applied, Broke, Shown, Saved, Restarted}
 use Rattle.osm_holding.proofs.AreaLemmas.{exactly_held}
 use Rattle.osm_holding.specs.Holding as area
 use Rattle.osm_holding.specs.declared.holding.Held as kept
 use Rattle.osm_follow.proofs.DeliveryLemmas.{FollowerStep, IsWanted as IsTurnOf}
 use Rattle.osm_follow.proofs.FollowLemmas.{held_accepted, reaches_accepted}
 use Rattle.osm_world.proofs.StateLemmas.{fresh_is_unaccepted, held_was_accepted, joined_is}
-use Rattle.osm_world.proofs.StepLemmas.{AreLawful, delivered_as, published_at}
+use Rattle.osm_world.proofs.StepLemmas.{AreLawful, OneSave, StartsAt, delivered_as, published_at, refused_from, restarted_as}
 
 whole_of : (h : hist.History) (a : WorldValue) → IsInStep h a → a.follower.is_broken ≡ false → hist.is_broken h ≡ false
 whole_of h a s whole = sym s.broken ∙ whole
@@ -122,62 +122,71 @@ view_is h a v s whole is rising = rw is (record {
         by_case (Some p) e t = (let old = (state.follows.held j p e).0 in omega arith)
         by_case None e t = cc
 
-pub step_allowed : AreLawful → (h : hist.History) (e : Event) (r : Reply) (a b : WorldValue) → IsInStep h a → step.Step a e r b → Allowed h e r
-step_allowed laws h (Edit c) Edited a b s t = (let cs : a.publisher.pending ≡ hist.pending_of h = pending_is h a s in rw cs at t.0)
-step_allowed laws h (Edit c) BatchFull a b s t = (let cs : a.publisher.pending ≡ hist.pending_of h = pending_is h a s in rw cs at t.0)
-step_allowed laws h (Edit c) WantOfMemory a b s t = (let cs : a.publisher.pending ≡ hist.pending_of h = pending_is h a s in rw cs at t.0)
-step_allowed laws h (Edit c) r a b s t = absurd t
-step_allowed laws h (Close m) (Closed n) a b s t = (rw s.publisher at t.0, (let cs : a.publisher.pending ≡ hist.pending_of h = pending_is h a s in rw cs at t.2), t.3 ∙ ap (λ (k : ℕ). k + 1) (published_is h a s))
-step_allowed laws h (Close m) SequenceFull a b s t = (let n : a.publisher.number ≡ length (hist.published_of h) = published_is h a s in rw n at t.0)
-step_allowed laws h (Close m) TimeBack a b s t = ((let n : a.publisher.number ≡ length (hist.published_of h) = published_is h a s in rw n at t.0), rw s.publisher at t.1)
-step_allowed laws h (Close m) TooLarge a b s t = (rw s.publisher at t.0, (let cs : a.publisher.pending ≡ hist.pending_of h = pending_is h a s in rw cs at t.1))
-step_allowed laws h (Close m) WantOfMemory a b s t = rw s.publisher at t.0
-step_allowed laws h (Close m) r a b s t = absurd t
-step_allowed laws h (Deliver k form) NotPublished a b s t = (let n : a.publisher.number ≡ length (hist.published_of h) = published_is h a s in rw n at t.0)
-step_allowed laws h (Deliver k form) Broken a b s t = (t.above, (let n : a.publisher.number ≡ length (hist.published_of h) = published_is h a s in rw n at t.there), sym s.broken ∙ t.replies.0)
-step_allowed laws h (Deliver k form) Old a b s t =
+pub step_allowed : AreLawful → OneSave → (h : hist.History) (e : Event) (r : Reply) (a b : WorldValue) → IsInStep h a → step.Step a e r b → Allowed h e r
+step_allowed laws one h (Edit c) Edited a b s t = (let cs : a.publisher.pending ≡ hist.pending_of h = pending_is h a s in rw cs at t.0)
+step_allowed laws one h (Edit c) BatchFull a b s t = (let cs : a.publisher.pending ≡ hist.pending_of h = pending_is h a s in rw cs at t.0)
+step_allowed laws one h (Edit c) WantOfMemory a b s t = (let cs : a.publisher.pending ≡ hist.pending_of h = pending_is h a s in rw cs at t.0)
+step_allowed laws one h (Edit c) r a b s t = absurd t
+step_allowed laws one h (Close m) (Closed n) a b s t = (rw s.publisher at t.0, (let cs : a.publisher.pending ≡ hist.pending_of h = pending_is h a s in rw cs at t.2), t.3 ∙ ap (λ (k : ℕ). k + 1) (published_is h a s))
+step_allowed laws one h (Close m) SequenceFull a b s t = (let n : a.publisher.number ≡ length (hist.published_of h) = published_is h a s in rw n at t.0)
+step_allowed laws one h (Close m) TimeBack a b s t = ((let n : a.publisher.number ≡ length (hist.published_of h) = published_is h a s in rw n at t.0), rw s.publisher at t.1)
+step_allowed laws one h (Close m) TooLarge a b s t = (rw s.publisher at t.0, (let cs : a.publisher.pending ≡ hist.pending_of h = pending_is h a s in rw cs at t.1))
+step_allowed laws one h (Close m) WantOfMemory a b s t = rw s.publisher at t.0
+step_allowed laws one h (Close m) r a b s t = absurd t
+step_allowed laws one h (Deliver k form) NotPublished a b s t = (let n : a.publisher.number ≡ length (hist.published_of h) = published_is h a s in rw n at t.0)
+step_allowed laws one h (Deliver k form) Broken a b s t = (t.above, (let n : a.publisher.number ≡ length (hist.published_of h) = published_is h a s in rw n at t.there), sym s.broken ∙ t.replies.0)
+step_allowed laws one h (Deliver k form) Old a b s t =
     let is : IsSequence k (sequence_at (hist.published_of h) k) = published_at h a k s t.above t.there in
     let d : FollowerStep a.follower (sequence_at (hist.published_of h) k) (Ok answers.Old) b.follower = delivered_as laws h a b k form (Ok answers.Old) s t.above t.there t.replies in
     (a.follower.number, open_of h a k s t.above t.there d.0, (let n = is.number_is in let below = d.1 in omega arith))
-step_allowed laws h (Deliver k form) Again a b s t =
+step_allowed laws one h (Deliver k form) Again a b s t =
     let is : IsSequence k (sequence_at (hist.published_of h) k) = published_at h a k s t.above t.there in
     let number : (sequence_at (hist.published_of h) k).number ≡ k = is.number_is in
     let d : FollowerStep a.follower (sequence_at (hist.published_of h) k) (Ok answers.Again) b.follower = delivered_as laws h a b k form (Ok answers.Again) s t.above t.there t.replies in
     let past : a.follower.number < k = rw number at d.1 in
     let there : IsSome (held_at a.follower k) = rw number at d.2 in
     (a.follower.number, open_of h a k s t.above t.there d.0, past, held_was_accepted (hist.published_of h) (hist.start_of h) (hist.accepted_of h) a.follower (state_of h a s d.0) k past there)
-step_allowed laws h (Deliver k form) TooEarly a b s t =
+step_allowed laws one h (Deliver k form) TooEarly a b s t =
     let is : IsSequence k (sequence_at (hist.published_of h) k) = published_at h a k s t.above t.there in
     let number : (sequence_at (hist.published_of h) k).number ≡ k = is.number_is in
     let d : FollowerStep a.follower (sequence_at (hist.published_of h) k) (Err errors.TooEarly) b.follower = delivered_as laws h a b k form (Err errors.TooEarly) s t.above t.there t.replies in
     let past : a.follower.number + 64 < k = rw number at d.1 in
     let none : held_at a.follower k ≡ None = rw number at d.2 in
     (a.follower.number, open_of h a k s t.above t.there d.0, past, fresh_is_unaccepted (hist.published_of h) (hist.start_of h) (hist.accepted_of h) a.follower (state_of h a s d.0) k (omega arith) none)
-step_allowed laws h (Deliver k form) WantOfMemory a b s t =
+step_allowed laws one h (Deliver k form) WantOfMemory a b s t =
     let d : FollowerStep a.follower (sequence_at (hist.published_of h) k) (Err errors.WantOfMemory) b.follower = delivered_as laws h a b k form (Err errors.WantOfMemory) s t.above t.there t.replies in
     (a.follower.number, wanted_of h a k s t.above t.there d.0, d.1)
-step_allowed laws h (Deliver k form) Held a b s t =
+step_allowed laws one h (Deliver k form) Held a b s t =
     let is : IsSequence k (sequence_at (hist.published_of h) k) = published_at h a k s t.above t.there in
     let number : (sequence_at (hist.published_of h) k).number ≡ k = is.number_is in
     let d : FollowerStep a.follower (sequence_at (hist.published_of h) k) (Ok answers.Held) b.follower = delivered_as laws h a b k form (Ok answers.Held) s t.above t.there t.replies in
     (a.follower.number, wanted_of h a k s t.above t.there d.0, rw number at d.1)
-step_allowed laws h (Deliver k form) (Applied low high) a b s t =
+step_allowed laws one h (Deliver k form) (Applied low high) a b s t =
     let is : IsSequence k (sequence_at (hist.published_of h) k) = published_at h a k s t.above t.there in
     let number : (sequence_at (hist.published_of h) k).number ≡ k = is.number_is in
     let d : FollowerStep a.follower (sequence_at (hist.published_of h) k) (Ok (answers.Applied low high)) b.follower = delivered_as laws h a b k form (Ok (answers.Applied low high)) s t.above t.there t.replies in
     let next : k ≡ a.follower.number + 1 = sym number ∙ d.1 in
     (a.follower.number, wanted_of h a k s t.above t.there d.0, next, d.2 ∙ number, reaches_accepted (hist.published_of h) (hist.start_of h) (hist.accepted_of h) a.follower k high (state_of h a s d.0.whole) (omega arith) (rw number at d.3.reach))
-step_allowed laws h (Deliver k form) Broke a b s t =
+step_allowed laws one h (Deliver k form) Broke a b s t =
     let is : IsSequence k (sequence_at (hist.published_of h) k) = published_at h a k s t.above t.there in
     let number : (sequence_at (hist.published_of h) k).number ≡ k = is.number_is in
     let d : FollowerStep a.follower (sequence_at (hist.published_of h) k) (Err errors.Broke) b.follower = delivered_as laws h a b k form (Err errors.Broke) s t.above t.there t.replies in
     let next : k ≡ a.follower.number + 1 = sym number ∙ d.1 in
     (a.follower.number, wanted_of h a k s t.above t.there d.0, next, work_of h a b k s d.0.whole (omega arith) number d.2)
-step_allowed laws h (Deliver k form) r a b s t = absurd t.replies
-step_allowed laws h Show Broken a b s t = sym s.broken ∙ t.0
-step_allowed laws h Show (Shown v) a b s t = (whole_of h a s t.0, view_is h a v s t.0 t.1 t.2)
-step_allowed laws h Show WantOfMemory a b s t = whole_of h a s t.0
-step_allowed laws h Show r a b s t = absurd t
+step_allowed laws one h (Deliver k form) r a b s t = absurd t.replies
+step_allowed laws one h Show Broken a b s t = sym s.broken ∙ t.0
+step_allowed laws one h Show (Shown v) a b s t = (whole_of h a s t.0, view_is h a v s t.0 t.1 t.2)
+step_allowed laws one h Show WantOfMemory a b s t = whole_of h a s t.0
+step_allowed laws one h Show r a b s t = absurd t
+step_allowed laws one h Save Broken a b s t = sym s.broken ∙ t.0
+step_allowed laws one h Save (Saved n) a b s t = (whole_of h a s t.1, (let state = state_of h a s t.1 in rw t.2 state.reach))
+step_allowed laws one h Save WantOfMemory a b s t = whole_of h a s t.0
+step_allowed laws one h Save r a b s t = absurd t
+step_allowed laws one h Restart (Restarted n) a b s t =
+    let g : StartsAt (hist.published_of h) (hist.saved_of h) b.follower = restarted_as one (hist.published_of h) (hist.last_saved h) a.saved a.follower b.follower s.saved t.0 in
+    t.1 ∙ g.number
+step_allowed laws one h Restart WantOfMemory a b s t = refused_from (hist.published_of h) (hist.last_saved h) a.saved a.follower b.follower s.saved t.0
+step_allowed laws one h Restart r a b s t = absurd t
 
 pub legal_none : IsLegal []
 legal_none = record { each = λ later before e r is. absurd (none later before (e, r) is) }

@@ -7,3 +7,4 @@ pub mod RunLemmas
 pub mod ReportLemmas
 pub mod LawLemmas
 pub mod AlikeLemmas
+pub mod ReplyLemmas

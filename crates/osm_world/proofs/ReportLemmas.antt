@@ -10,10 +10,10 @@ use Rattle.osm_follow.specs.Reach.{Reaches, numbers}
 use Rattle.osm_follow.proofs.ReachLemmas.{between-append}
 use Rattle.osm_world.proofs.ReachLemmas.{one_reach, reaches_with_next, reaches_with_later}
 use Rattle.osm_world.specs.declared.event.Event.{Event}
-use Rattle.osm_world.specs.declared.event.Event.TheVariants.{Edit, Close, Deliver, Show}
+use Rattle.osm_world.specs.declared.event.Event.TheVariants.{Edit, Close, Deliver, Show, Save, Restart}
 use Rattle.osm_world.specs.declared.event.Form.{Form}
 use Rattle.osm_world.specs.declared.event.Reply.{Reply}
-use Rattle.osm_world.specs.declared.event.Reply.TheVariants.{Edited, BatchFull, WantOfMemory, Closed, SequenceFull, TimeBack, TooLarge, NotPublished, Broken, Old, Again, TooEarly, Held, Applied, Broke, Shown}
+use Rattle.osm_world.specs.declared.event.Reply.TheVariants.{Edited, BatchFull, WantOfMemory, Closed, SequenceFull, TimeBack, TooLarge, NotPublished, Broken, Old, Again, TooEarly, Held, Applied, Broke, Shown, Saved, Restarted}
 
 pub length-numbers : (n count : ℕ) → length (numbers n count) ≡ count
 length-numbers n zero = refl
@@ -36,17 +36,19 @@ legal_before h e r legal = record { each = λ later before d q is. legal.each ((
 
 -- what a pair that reports nothing leaves as it was
 record IsSilent (h : hist.History) (e : Event) (r : Reply) : Type 0 where
+  start : hist.start_of ((e, r) ∷ h) ≡ hist.start_of h
   broken : hist.is_broken ((e, r) ∷ h) ≡ hist.is_broken h
   accepted : hist.accepted_of ((e, r) ∷ h) ≡ hist.accepted_of h
   reported : hist.reported_of ((e, r) ∷ h) ≡ hist.reported_of h ++ []
 
-silent : (h : hist.History) (e : Event) (r : Reply) → hist.is_broken ((e, r) ∷ h) ≡ hist.is_broken h → hist.accepted_of ((e, r) ∷ h) ≡ hist.accepted_of h → hist.reported_of ((e, r) ∷ h) ≡ hist.reported_of h ++ [] → IsSilent h e r
-silent h e r a b c = record { broken = a; accepted = b; reported = c }
+silent : (h : hist.History) (e : Event) (r : Reply) → hist.start_of ((e, r) ∷ h) ≡ hist.start_of h → hist.is_broken ((e, r) ∷ h) ≡ hist.is_broken h → hist.accepted_of ((e, r) ∷ h) ≡ hist.accepted_of h → hist.reported_of ((e, r) ∷ h) ≡ hist.reported_of h ++ [] → IsSilent h e r
+silent h e r a b c d = record { start = a; broken = b; accepted = c; reported = d }
 
-quiet_reports : (h : hist.History) (e : Event) (r : Reply) (n : ℕ) → IsSilent h e r → (hist.is_broken h ≡ false → IsNumber h n → IsReported (hist.reported_of h) (hist.start_of h) n) → hist.is_broken ((e, r) ∷ h) ≡ false → IsNumber ((e, r) ∷ h) n → IsReported (hist.reported_of ((e, r) ∷ h)) (hist.start_of h) n
+quiet_reports : (h : hist.History) (e : Event) (r : Reply) (n : ℕ) → IsSilent h e r → (hist.is_broken h ≡ false → IsNumber h n → IsReported (hist.reported_of h) (hist.start_of h) n) → hist.is_broken ((e, r) ∷ h) ≡ false → IsNumber ((e, r) ∷ h) n → IsReported (hist.reported_of ((e, r) ∷ h)) (hist.start_of ((e, r) ∷ h)) n
 quiet_reports h e r n q before ok number =
-    let at : IsNumber h n = subst (λ (acc : ℕ → Bool). Reaches acc (hist.start_of h) n) q.accepted number in
-    rw (q.reported, append-nil) (before (sym q.broken ∙ ok) at)
+    let from : Reaches (hist.accepted_of ((e, r) ∷ h)) (hist.start_of h) n = subst (λ (m : ℕ). Reaches (hist.accepted_of ((e, r) ∷ h)) m n) q.start number in
+    let at : IsNumber h n = subst (λ (acc : ℕ → Bool). Reaches acc (hist.start_of h) n) q.accepted from in
+    rw (q.start, q.reported, append-nil) (before (sym q.broken ∙ ok) at)
 
 -- a pair that reports the next sequences
 applied_reports : (h : hist.History) (k low high n : ℕ) (form : Form) → Allowed h (Deliver k form) (Applied low high) → ((m : ℕ) → hist.is_broken h ≡ false → IsNumber h m → IsReported (hist.reported_of h) (hist.start_of h) m) → IsNumber ((Deliver k form, Applied low high) ∷ h) n → IsReported (hist.reported_of ((Deliver k form, Applied low high) ∷ h)) (hist.start_of h) n
@@ -79,36 +81,47 @@ held_reports h k n form allowed before number =
     let is : n ≡ m = one_reach (λ j. (k == j) || hist.accepted_of h j) (hist.start_of h) n m number reaches in
     rw (is, append-nil) (before m allowed.1.is_open.whole here)
 
-pub reported_is : (h : hist.History) (n : ℕ) → IsLegal h → hist.is_broken h ≡ false → IsNumber h n → IsReported (hist.reported_of h) (hist.start_of h) n
-reported_is [] n legal ok number = elim (cases_lt 0 n) [
+-- nothing is reported at the start
+none_reported : (start n : ℕ) → Reaches (λ j. false) start n → IsReported [] start n
+none_reported start n number = elim (cases_lt start n) [
   | inl above ↦ absurd (let yes : false ≡ true = number.all n above (omega arith) in cc)
-  | inr none ↦ record { count = 0; number_is = omega arith; reported_is = refl }
+  | inr none ↦ (let from = number.from in record { count = 0; number_is = omega arith; reported_is = refl })
 ]
+
+pub reported_is : (h : hist.History) (n : ℕ) → IsLegal h → hist.is_broken h ≡ false → IsNumber h n → IsReported (hist.reported_of h) (hist.start_of h) n
+reported_is [] n legal ok number = none_reported 0 n number
 reported_is (p ∷ h) n legal ok number =
     by_pair p.0 p.1 (legal.each [] h p.0 p.1 refl) (λ m whole at. reported_is h m (legal_before h p.0 p.1 legal) whole at) ok number
   where
-    by_pair : (e : Event) (r : Reply) → Allowed h e r → ((m : ℕ) → hist.is_broken h ≡ false → IsNumber h m → IsReported (hist.reported_of h) (hist.start_of h) m) → hist.is_broken ((e, r) ∷ h) ≡ false → IsNumber ((e, r) ∷ h) n → IsReported (hist.reported_of ((e, r) ∷ h)) (hist.start_of h) n
-    by_pair (Edit c) Edited allowed before whole at = quiet_reports h (Edit c) Edited n (silent h (Edit c) Edited refl refl refl) (before n) whole at
-    by_pair (Edit c) BatchFull allowed before whole at = quiet_reports h (Edit c) BatchFull n (silent h (Edit c) BatchFull refl refl refl) (before n) whole at
-    by_pair (Edit c) WantOfMemory allowed before whole at = quiet_reports h (Edit c) WantOfMemory n (silent h (Edit c) WantOfMemory refl refl refl) (before n) whole at
+    by_pair : (e : Event) (r : Reply) → Allowed h e r → ((m : ℕ) → hist.is_broken h ≡ false → IsNumber h m → IsReported (hist.reported_of h) (hist.start_of h) m) → hist.is_broken ((e, r) ∷ h) ≡ false → IsNumber ((e, r) ∷ h) n → IsReported (hist.reported_of ((e, r) ∷ h)) (hist.start_of ((e, r) ∷ h)) n
+    by_pair (Edit c) Edited allowed before whole at = quiet_reports h (Edit c) Edited n (silent h (Edit c) Edited refl refl refl refl) (before n) whole at
+    by_pair (Edit c) BatchFull allowed before whole at = quiet_reports h (Edit c) BatchFull n (silent h (Edit c) BatchFull refl refl refl refl) (before n) whole at
+    by_pair (Edit c) WantOfMemory allowed before whole at = quiet_reports h (Edit c) WantOfMemory n (silent h (Edit c) WantOfMemory refl refl refl refl) (before n) whole at
     by_pair (Edit c) r allowed before whole at = absurd allowed
-    by_pair (Close t) (Closed m) allowed before whole at = quiet_reports h (Close t) (Closed m) n (silent h (Close t) (Closed m) refl refl refl) (before n) whole at
-    by_pair (Close t) SequenceFull allowed before whole at = quiet_reports h (Close t) SequenceFull n (silent h (Close t) SequenceFull refl refl refl) (before n) whole at
-    by_pair (Close t) TimeBack allowed before whole at = quiet_reports h (Close t) TimeBack n (silent h (Close t) TimeBack refl refl refl) (before n) whole at
-    by_pair (Close t) TooLarge allowed before whole at = quiet_reports h (Close t) TooLarge n (silent h (Close t) TooLarge refl refl refl) (before n) whole at
-    by_pair (Close t) WantOfMemory allowed before whole at = quiet_reports h (Close t) WantOfMemory n (silent h (Close t) WantOfMemory refl refl refl) (before n) whole at
+    by_pair (Close t) (Closed m) allowed before whole at = quiet_reports h (Close t) (Closed m) n (silent h (Close t) (Closed m) refl refl refl refl) (before n) whole at
+    by_pair (Close t) SequenceFull allowed before whole at = quiet_reports h (Close t) SequenceFull n (silent h (Close t) SequenceFull refl refl refl refl) (before n) whole at
+    by_pair (Close t) TimeBack allowed before whole at = quiet_reports h (Close t) TimeBack n (silent h (Close t) TimeBack refl refl refl refl) (before n) whole at
+    by_pair (Close t) TooLarge allowed before whole at = quiet_reports h (Close t) TooLarge n (silent h (Close t) TooLarge refl refl refl refl) (before n) whole at
+    by_pair (Close t) WantOfMemory allowed before whole at = quiet_reports h (Close t) WantOfMemory n (silent h (Close t) WantOfMemory refl refl refl refl) (before n) whole at
     by_pair (Close t) r allowed before whole at = absurd allowed
-    by_pair (Deliver k form) NotPublished allowed before whole at = quiet_reports h (Deliver k form) NotPublished n (silent h (Deliver k form) NotPublished refl refl refl) (before n) whole at
-    by_pair (Deliver k form) Broken allowed before whole at = quiet_reports h (Deliver k form) Broken n (silent h (Deliver k form) Broken refl refl refl) (before n) whole at
-    by_pair (Deliver k form) Old allowed before whole at = quiet_reports h (Deliver k form) Old n (silent h (Deliver k form) Old refl refl refl) (before n) whole at
-    by_pair (Deliver k form) Again allowed before whole at = quiet_reports h (Deliver k form) Again n (silent h (Deliver k form) Again refl refl refl) (before n) whole at
-    by_pair (Deliver k form) TooEarly allowed before whole at = quiet_reports h (Deliver k form) TooEarly n (silent h (Deliver k form) TooEarly refl refl refl) (before n) whole at
-    by_pair (Deliver k form) WantOfMemory allowed before whole at = quiet_reports h (Deliver k form) WantOfMemory n (silent h (Deliver k form) WantOfMemory refl refl refl) (before n) whole at
+    by_pair (Deliver k form) NotPublished allowed before whole at = quiet_reports h (Deliver k form) NotPublished n (silent h (Deliver k form) NotPublished refl refl refl refl) (before n) whole at
+    by_pair (Deliver k form) Broken allowed before whole at = quiet_reports h (Deliver k form) Broken n (silent h (Deliver k form) Broken refl refl refl refl) (before n) whole at
+    by_pair (Deliver k form) Old allowed before whole at = quiet_reports h (Deliver k form) Old n (silent h (Deliver k form) Old refl refl refl refl) (before n) whole at
+    by_pair (Deliver k form) Again allowed before whole at = quiet_reports h (Deliver k form) Again n (silent h (Deliver k form) Again refl refl refl refl) (before n) whole at
+    by_pair (Deliver k form) TooEarly allowed before whole at = quiet_reports h (Deliver k form) TooEarly n (silent h (Deliver k form) TooEarly refl refl refl refl) (before n) whole at
+    by_pair (Deliver k form) WantOfMemory allowed before whole at = quiet_reports h (Deliver k form) WantOfMemory n (silent h (Deliver k form) WantOfMemory refl refl refl refl) (before n) whole at
     by_pair (Deliver k form) Held allowed before whole at = held_reports h k n form allowed before at
     by_pair (Deliver k form) (Applied low high) allowed before whole at = applied_reports h k low high n form allowed before at
     by_pair (Deliver k form) Broke allowed before whole at = cc
     by_pair (Deliver k form) r allowed before whole at = absurd allowed
-    by_pair Show Broken allowed before whole at = quiet_reports h Show Broken n (silent h Show Broken refl refl refl) (before n) whole at
-    by_pair Show (Shown v) allowed before whole at = quiet_reports h Show (Shown v) n (silent h Show (Shown v) refl refl refl) (before n) whole at
-    by_pair Show WantOfMemory allowed before whole at = quiet_reports h Show WantOfMemory n (silent h Show WantOfMemory refl refl refl) (before n) whole at
+    by_pair Show Broken allowed before whole at = quiet_reports h Show Broken n (silent h Show Broken refl refl refl refl) (before n) whole at
+    by_pair Show (Shown v) allowed before whole at = quiet_reports h Show (Shown v) n (silent h Show (Shown v) refl refl refl refl) (before n) whole at
+    by_pair Show WantOfMemory allowed before whole at = quiet_reports h Show WantOfMemory n (silent h Show WantOfMemory refl refl refl refl) (before n) whole at
     by_pair Show r allowed before whole at = absurd allowed
+    by_pair Save Broken allowed before whole at = quiet_reports h Save Broken n (silent h Save Broken refl refl refl refl) (before n) whole at
+    by_pair Save (Saved m) allowed before whole at = quiet_reports h Save (Saved m) n (silent h Save (Saved m) refl refl refl refl) (before n) whole at
+    by_pair Save WantOfMemory allowed before whole at = quiet_reports h Save WantOfMemory n (silent h Save WantOfMemory refl refl refl refl) (before n) whole at
+    by_pair Save r allowed before whole at = absurd allowed
+    by_pair Restart (Restarted m) allowed before whole at = none_reported (hist.saved_of h) n at
+    by_pair Restart WantOfMemory allowed before whole at = cc
+    by_pair Restart r allowed before whole at = absurd allowed

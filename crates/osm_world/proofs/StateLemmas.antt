@@ -1,10 +1,11 @@
 -- What the state of a follower says of what it holds.
-use Rattle.std.proofs.Common.{◌≡◌, ℕ, ◌+◌, ◌<◌, List, [], ap, sym, ◌∙◌, Bool, true, false, arith, Some, None, Option}
-use Rattle.std.specs.Prelude.{if◌then◌else◌, is_some, IsSome}
+use Rattle.std.proofs.Common.{◌≡◌, ℕ, zero, suc, ◌+◌, ◌<◌, ◌≤◌, List, [], ◌∷◌, ◌++◌, refl, ap, sym, ◌∙◌, Bool, true, false, arith, Some, None, Option}
+use Rattle.std.specs.Prelude.{if◌then◌else◌, is_some, IsSome, filter, min, not, ◌-◌, ◌↔◌}
+use Rattle.std.proofs.lemmas.List.Elements.{filter-append}
 use Rattle.std.specs.Option.{option_map_or}
-use Rattle.osm_follow.specs.Follower.{FollowerValue, IsState, changes_held, held_at, is_held}
+use Rattle.osm_follow.specs.Follower.{FollowerValue, Follows, IsState, changes_held, held_at, is_held}
 use Rattle.osm_follow.specs.Published.{PublishedValue, changes_at, sequence_at}
-use Rattle.osm_follow.specs.Reach.{Reaches, between}
+use Rattle.osm_follow.specs.Reach.{Reaches, between, missing_numbers, numbers}
 use Rattle.osm_follow.proofs.FollowLemmas.{held_accepted, reaches_accepted}
 use Rattle.osm_follow.proofs.ReachLemmas.{between_same}
 
@@ -22,3 +23,33 @@ pub joined_is : (ps : List PublishedValue) (start : ℕ) (acc : ℕ → Bool) (f
 joined_is ps start acc f k high count s past is r =
     let reach : Reaches acc k high = reaches_accepted ps start acc f k high s past r in
     between_same (changes_held f) (changes_at ps) k count (λ j above below. changes_is ps start acc f s j (omega arith) (reach.all j above (omega arith)))
+
+-- what is held is what the follows-clause says of it
+held_as : (ps : List PublishedValue) (f : FollowerValue) (j : ℕ) → Follows ps f → IsSome (held_at f j) → (f.number + 1 < j) × (j ≤ f.number + 64)
+held_as ps f j s has = by_case (held_at f j) refl has
+  where
+    by_case : (o : Option PublishedValue) → held_at f j ≡ o → IsSome o → (f.number + 1 < j) × (j ≤ f.number + 64)
+    by_case (Some p) e t = (let h = s.held j p e in (h.0, h.1))
+    by_case None e t = cc
+
+pub held_within : (ps : List PublishedValue) (start : ℕ) (acc : ℕ → Bool) (f : FollowerValue) → IsState ps start acc f → (j : ℕ) → IsSome (held_at f j) → (f.number + 1 < j) × (j ≤ f.number + 64)
+held_within ps start acc f s j has = held_as ps f j s.follows has
+
+pub held_exactly : (ps : List PublishedValue) (start : ℕ) (acc : ℕ → Bool) (f : FollowerValue) → IsState ps start acc f → (j : ℕ) → IsSome (held_at f j) ↔ ((f.number < j) × (acc j ≡ true))
+held_exactly ps start acc f s j = (
+  λ has. (let past : f.number < j = (let h = held_as ps f j s.follows has in let above = h.0 in omega arith) in
+      (past, held_was_accepted ps start acc f s j past has)),
+  λ both. held_accepted ps start acc f s j both.0 ∙ both.1,
+)
+
+-- two tests that agree after n pick the same numbers after it
+filter_same : (p q : ℕ → Bool) (n count : ℕ) → ((j : ℕ) → n < j → p j ≡ q j) → filter p (numbers n count) ≡ filter q (numbers n count)
+filter_same p q n zero same = refl
+filter_same p q n (suc count) same =
+    filter-append p (numbers n count) ((n + suc count) ∷ [])
+    ∙ (ap (λ (xs : List ℕ). xs ++ filter p ((n + suc count) ∷ [])) (filter_same p q n count same)
+    ∙ (ap (λ (b : Bool). filter q (numbers n count) ++ (if b then (n + suc count) ∷ [] else [])) (same (n + suc count) (omega arith))
+    ∙ sym (filter-append q (numbers n count) ((n + suc count) ∷ []))))
+
+pub missing_as_accepted : (ps : List PublishedValue) (start : ℕ) (acc : ℕ → Bool) (f : FollowerValue) → IsState ps start acc f → (top : ℕ) → missing_numbers (is_held f) f.number top ≡ missing_numbers acc f.number top
+missing_as_accepted ps start acc f s top = filter_same (λ j. not (is_held f j)) (λ j. not (acc j)) f.number (min 64 (top - f.number)) (λ j past. ap not (held_accepted ps start acc f s j past))

@@ -1,6 +1,6 @@
 -- A step keeps a world in step with its history.
 use Rattle.std.proofs.Common.{◌≡◌, ℕ, ◌+◌, ◌-◌, ◌<◌, ◌≤◌, List, [], ◌∷◌, ◌++◌, length, refl, ap, sym, ◌∙◌, Bool, true, false, arith, Some, None, Option, append-nil, length-append, subst}
-use Rattle.std.specs.Prelude.{◌==◌, if◌then◌else◌, ◌||◌, Result, Ok, Err}
+use Rattle.std.specs.Prelude.{◌==◌, if◌then◌else◌, ◌||◌, Result, Ok, Err, is_some, unwrap_or}
 use Rattle.std.specs.List.{zip}
 use Rattle.std.proofs.lemmas.List.{reverse-append, map-append}
 use Rattle.osm_model.specs.Batch.{IsBatch}
@@ -8,29 +8,34 @@ use Rattle.osm_model.specs.Change.{ChangeValue}
 use Rattle.osm_model.specs.Limits.{IsPositive}
 use Rattle.osm_state.proofs.WrittenLemmas.{written_is_read}
 use Rattle.osm_state.specs.StateText.{StateOf}
-use Rattle.osm_world.specs.Correct.{IsInStep, IsReported}
+use Rattle.osm_mirror.specs.Mirror.{IsMirrorOf}
+use Rattle.osm_world.specs.Correct.{IsInStep, IsLastSave, IsReported}
 use Rattle.osm_follow.specs.Delivery as table
-use Rattle.osm_follow.specs.Follower.{FollowerValue, IsState}
+use Rattle.osm_follow.specs.Follower.{FollowerValue, IsState, new_follower}
+use Rattle.osm_save.specs.Save.{SpellsSave}
+use Rattle.osm_save.specs.declared.save.Saved.{Saved as SavedValue}
+use Rattle.osm_follow.specs.Restart.{Restarts, follower_of, saved_of}
+use Rattle.osm_follow.specs.declared.restart.RestartError.TheVariants as restarts
 use Rattle.osm_world.specs.History as hist
-use Rattle.osm_follow.specs.Published.{PublishedValue, PublishedTexts, IsSequence, sequence_at, texts_at, last_time, written_of}
+use Rattle.osm_follow.specs.Published.{PublishedValue, PublishedTexts, IsSequence, changes_up_to, sequence_at, texts_at, time_at, last_time, written_of}
 use Rattle.osm_follow.specs.Publisher.{PublisherValue, CanClose, closed, closing}
 use Rattle.osm_follow.specs.Reach.{numbers}
-use Rattle.osm_world.specs.Step.{Step, DeliversTo, bytes_in, fault_in, spells_in}
+use Rattle.osm_world.specs.Step.{Step, DeliversTo, RestartStep, SaveStep, bytes_in, fault_in, spells_in}
 use Rattle.osm_world.specs.World.{WorldValue, new_world}
 use Rattle.osm_follow.specs.declared.delivery.Delivered.{Delivered}
 use Rattle.osm_follow.specs.declared.delivery.Delivered.TheVariants as answers
 use Rattle.osm_follow.specs.declared.delivery.DeliverError.{DeliverError}
 use Rattle.osm_follow.specs.declared.delivery.DeliverError.TheVariants as errors
 use Rattle.osm_world.specs.declared.event.Event.{Event}
-use Rattle.osm_world.specs.declared.event.Event.TheVariants.{Edit, Close, Deliver, Show}
+use Rattle.osm_world.specs.declared.event.Event.TheVariants.{Edit, Close, Deliver, Show, Save, Restart}
 use Rattle.osm_world.specs.declared.event.Form.{Form}
 use Rattle.osm_world.specs.declared.event.Reply.{Reply}
-use Rattle.osm_world.specs.declared.event.Reply.TheVariants.{Edited, BatchFull, WantOfMemory, Closed, SequenceFull, TimeBack, TooLarge, NotPublished, Broken, Old, Again, TooEarly, Held, Applied, Broke, Shown}
+use Rattle.osm_world.specs.declared.event.Reply.TheVariants.{Edited, BatchFull, WantOfMemory, Closed, SequenceFull, TimeBack, TooLarge, NotPublished, Broken, Old, Again, TooEarly, Held, Applied, Broke, Shown, Saved, Restarted}
 use Rattle.osm_follow.proofs.DeliveryLemmas.{OneBatch, NoFaultBeside, FollowerStep, read_as, state_of}
 use Rattle.osm_follow.proofs.FollowLemmas.{follows_grown, state_held, state_taken}
 use Rattle.osm_follow.proofs.ReachLemmas.{between-append}
 use Rattle.osm_mirror.proofs.MirrorLemmas.{mirror_of-nil}
-use Rattle.osm_follow.proofs.PublishedLemmas.{sequence_within, sequences-snoc, texts_at-written, last_time-snoc}
+use Rattle.osm_follow.proofs.PublishedLemmas.{changes_within, sequence_within, sequences-snoc, texts_at-written, time_within, last_time-snoc}
 
 -- one pair more at the end
 zip-snoc : (es : List Event) (rs : List Reply) (e : Event) (r : Reply) → length rs ≡ length es → zip (es ++ e ∷ []) (rs ++ r ∷ []) ≡ zip es rs ++ (e, r) ∷ []
@@ -46,6 +51,8 @@ history_of-snoc es rs e r h = rw (zip-snoc es rs e r h) (reverse-append (zip es 
 record IsQuiet (h : hist.History) (e : Event) (r : Reply) : Type 0 where
   edit : hist.edit_of e r ≡ []
   closed : hist.closes e r ≡ false
+  saved : hist.last_saved ((e, r) ∷ h) ≡ hist.last_saved h
+  start : hist.start_of ((e, r) ∷ h) ≡ hist.start_of h
   broken : hist.is_broken ((e, r) ∷ h) ≡ hist.is_broken h
   accepted : hist.accepted_of ((e, r) ∷ h) ≡ hist.accepted_of h
   reported : hist.reported_of ((e, r) ∷ h) ≡ hist.reported_of h ++ []
@@ -56,9 +63,10 @@ quiet_keeps h e r a b q s t = rw t (record {
   archive = rw q.closed s.archive;
   sequences = rw q.closed s.sequences;
   batch = rw (q.closed, q.edit, append-nil) s.batch;
+  saved = rw (q.closed, q.saved) s.saved;
   broken = rw q.broken s.broken;
-  state = λ ok. rw (q.closed, q.accepted) (s.state (sym q.broken ∙ ok));
-  reported = λ ok. rw (q.reported, append-nil) (s.reported (sym q.broken ∙ ok));
+  state = λ ok. rw (q.closed, q.start, q.accepted) (s.state (sym q.broken ∙ ok));
+  reported = λ ok. rw (q.start, q.reported, append-nil) (s.reported (sym q.broken ∙ ok));
 })
 
 -- the same, where all that changes is the follower, which stays as it was
@@ -89,10 +97,25 @@ edited_keeps h c a b s batch t =
       archive = s.archive;
       sequences = s.sequences;
       batch = batch_is;
+      saved = s.saved;
       broken = s.broken;
       state = s.state;
       reported = λ ok. rw append-nil (s.reported ok);
     })
+
+-- what was saved, of more sequences
+save_grown : (ps more : List PublishedValue) (number : Option ℕ) (bytes : Option (List ℕ)) → IsLastSave ps number bytes → IsLastSave (ps ++ more) number bytes
+save_grown ps more None None s = tt
+save_grown ps more None (Some bytes) s = absurd s
+save_grown ps more (Some n) None s = absurd s
+save_grown ps more (Some n) (Some bytes) s = record {
+  value = s.value;
+  spells = s.spells;
+  number_is = s.number_is;
+  within = rw length-append (let w = s.within in omega arith);
+  mirror = rw (changes_within ps more n s.within) s.mirror;
+  time = s.time ∙ sym (time_within ps more n s.within);
+}
 
 empty_batch : IsBatch []
 empty_batch = record { few = omega arith; each = tt }
@@ -109,6 +132,7 @@ closed_keeps h t n a b s can positive is =
       archive = rw (s.publisher, s.archive, map-append written_of (hist.published_of h) (p ∷ [])) refl;
       sequences = sequences-snoc (hist.published_of h) p s.sequences (record { number_is = refl; most = omega arith; changes = s.batch; time = positive });
       batch = empty_batch;
+      saved = save_grown (hist.published_of h) (p ∷ []) (hist.last_saved h) a.saved s.saved;
       broken = s.broken;
       state = λ ok. state_grown (hist.published_of h) (p ∷ []) (hist.start_of h) (hist.accepted_of h) a.follower (s.state ok);
       reported = λ ok. rw append-nil (s.reported ok);
@@ -168,6 +192,7 @@ held_keeps laws h k form a b s t =
       archive = s.archive;
       sequences = s.sequences;
       batch = rw append-nil s.batch;
+      saved = s.saved;
       broken = same ∙ s.broken;
       state = λ ok. state_held (hist.published_of h) (hist.start_of h) (hist.accepted_of h) (λ j. (k == j) || hist.accepted_of h j) k a.follower b.follower (s.state ok) (λ j. refl) later within there number_is step.2;
       reported = λ ok. rw (number, append-nil) (s.reported ok);
@@ -191,6 +216,7 @@ applied_keeps laws h k low high form a b s t =
       archive = s.archive;
       sequences = s.sequences;
       batch = rw append-nil s.batch;
+      saved = s.saved;
       broken = same ∙ s.broken;
       state = λ ok. state_taken (hist.published_of h) (hist.start_of h) (hist.accepted_of h) (λ j. (k == j) || hist.accepted_of h j) k high a.follower b.follower (s.state ok) (λ j. refl) next there number_is step.3;
       reported = λ ok. rw number (reported_more (hist.reported_of h) (hist.start_of h) a.follower.number k low high step.3.count next low_is high_is (s.reported ok));
@@ -204,13 +230,124 @@ broke_keeps laws h k form a b s t =
       archive = s.archive;
       sequences = s.sequences;
       batch = rw append-nil s.batch;
+      saved = s.saved;
       broken = ap (λ (f : FollowerValue). f.is_broken) step.2.rest;
       state = λ ok. cc;
       reported = λ ok. cc;
     })
 
-still : (h : hist.History) (e : Event) (r : Reply) → hist.edit_of e r ≡ [] → hist.closes e r ≡ false → hist.is_broken ((e, r) ∷ h) ≡ hist.is_broken h → hist.accepted_of ((e, r) ∷ h) ≡ hist.accepted_of h → hist.reported_of ((e, r) ∷ h) ≡ hist.reported_of h ++ [] → IsQuiet h e r
-still h e r a b c d f = record { edit = a; closed = b; broken = c; accepted = d; reported = f }
+still : (h : hist.History) (e : Event) (r : Reply) → hist.edit_of e r ≡ [] → hist.closes e r ≡ false → hist.last_saved ((e, r) ∷ h) ≡ hist.last_saved h → hist.start_of ((e, r) ∷ h) ≡ hist.start_of h → hist.is_broken ((e, r) ∷ h) ≡ hist.is_broken h → hist.accepted_of ((e, r) ∷ h) ≡ hist.accepted_of h → hist.reported_of ((e, r) ∷ h) ≡ hist.reported_of h ++ [] → IsQuiet h e r
+still h e r a b c d f g i = record { edit = a; closed = b; saved = c; start = d; broken = f; accepted = g; reported = i }
+
+-- a save text is that of one value
+abbrev pub OneSave : Type 0
+OneSave = (bytes : List ℕ) (v w : SavedValue) → SpellsSave bytes v → SpellsSave bytes w → v ≡ w
+
+saved_keeps : (h : hist.History) (n : ℕ) (a b : WorldValue) → IsInStep h a → SaveStep a (Saved n) b → IsInStep ((Save, Saved n) ∷ h) b
+saved_keeps h n a b s t =
+    let state : IsState (hist.published_of h) (hist.start_of h) (hist.accepted_of h) a.follower = s.state (sym s.broken ∙ t.1) in
+    rw t.4 (record {
+      publisher = rw append-nil s.publisher;
+      archive = s.archive;
+      sequences = s.sequences;
+      batch = rw append-nil s.batch;
+      saved = record {
+        value = saved_of a.follower;
+        spells = t.3;
+        number_is = sym t.2;
+        within = rw t.2 state.follows.within;
+        mirror = rw t.2 state.follows.mirror;
+        time = rw t.2 state.follows.time;
+      };
+      broken = s.broken;
+      state = λ ok. s.state ok;
+      reported = λ ok. rw append-nil (s.reported ok);
+    })
+
+-- a follower that begins at a number
+pub record StartsAt (ps : List PublishedValue) (n : ℕ) (f : FollowerValue) : Type 0 where
+  pub number : f.number ≡ n
+  pub whole : f.is_broken ≡ false
+  pub state : IsState ps n (λ j. false) f
+
+starts_new : (ps : List PublishedValue) → StartsAt ps 0 new_follower
+starts_new ps = record {
+  number = refl;
+  whole = refl;
+  state = record {
+    reach = record { from = omega arith; all = λ j above below. absurd (omega arith); next = refl };
+    follows = record {
+      within = omega arith;
+      mirror = mirror_of-nil;
+      time = refl;
+      held = λ j p e. absurd (let bad : None ≡ Some p = e in cc);
+    };
+    held = λ j past. refl;
+  };
+}
+
+starts_saved : (ps : List PublishedValue) (n : ℕ) (v : SavedValue) → v.number ≡ n → n ≤ length ps → IsMirrorOf (changes_up_to ps n) v.mirror → v.time ≡ time_at ps n → StartsAt ps n (follower_of v)
+starts_saved ps n v number within mirror time = record {
+  number = number;
+  whole = refl;
+  state = record {
+    reach = rw number (record { from = omega arith; all = λ j above below. absurd (omega arith); next = refl });
+    follows = record {
+      within = rw number within;
+      mirror = rw number mirror;
+      time = rw number time;
+      held = λ j p e. absurd (let bad : None ≡ Some p = e in cc);
+    };
+    held = λ j past. refl;
+  };
+}
+
+-- a restart that was made begins at the number saved last
+pub restarted_as : OneSave → (ps : List PublishedValue) (number : Option ℕ) (bytes : Option (List ℕ)) (f g : FollowerValue) → IsLastSave ps number bytes → Restarts f bytes (Ok tt) g → StartsAt ps (unwrap_or number 0) g
+restarted_as one ps None None f g s t = rw t (starts_new ps)
+restarted_as one ps None (Some bytes) f g s t = absurd s
+restarted_as one ps (Some n) None f g s t = absurd s
+restarted_as one ps (Some n) (Some bytes) f g s t =
+    let same : t.0 ≡ s.value = one bytes t.0 s.value t.1 s.spells in
+    rw (t.2, same) (starts_saved ps n s.value s.number_is s.within s.mirror s.time)
+
+restarted_keeps : OneSave → (h : hist.History) (n : ℕ) (a b : WorldValue) → IsInStep h a → RestartStep a (Restarted n) b → IsInStep ((Restart, Restarted n) ∷ h) b
+restarted_keeps one h n a b s t =
+    let g : StartsAt (hist.published_of h) (hist.saved_of h) b.follower = restarted_as one (hist.published_of h) (hist.last_saved h) a.saved a.follower b.follower s.saved t.0 in
+    let number : b.follower.number ≡ hist.saved_of h = g.number in
+    rw t.2 (record {
+      publisher = rw append-nil s.publisher;
+      archive = s.archive;
+      sequences = s.sequences;
+      batch = rw append-nil s.batch;
+      saved = s.saved;
+      broken = g.whole;
+      state = λ ok. g.state;
+      reported = λ ok. record { count = 0; number_is = omega arith; reported_is = refl };
+    })
+
+-- one that was refused for memory had something to restart from, and leaves the follower broken
+pub refused_from : (ps : List PublishedValue) (number : Option ℕ) (bytes : Option (List ℕ)) (f g : FollowerValue) → IsLastSave ps number bytes → Restarts f bytes (Err restarts.WantOfMemory) g → is_some number ≡ true
+refused_from ps None None f g s t = absurd t
+refused_from ps None (Some bytes) f g s t = absurd s
+refused_from ps (Some n) None f g s t = absurd s
+refused_from ps (Some n) (Some bytes) f g s t = refl
+
+breaks : (bytes : Option (List ℕ)) (f g : FollowerValue) → Restarts f bytes (Err restarts.WantOfMemory) g → g.is_broken ≡ true
+breaks None f g t = absurd t
+breaks (Some bytes) f g t = t
+
+refused_keeps : (h : hist.History) (a b : WorldValue) → IsInStep h a → RestartStep a WantOfMemory b → IsInStep ((Restart, WantOfMemory) ∷ h) b
+refused_keeps h a b s t = rw t.1 (record {
+  publisher = rw append-nil s.publisher;
+  archive = s.archive;
+  sequences = s.sequences;
+  batch = rw append-nil s.batch;
+  saved = s.saved;
+  broken = breaks a.saved a.follower b.follower t.0;
+  state = λ ok. cc;
+  reported = λ ok. cc;
+})
 
 -- before any event
 pub new_in_step : IsInStep [] new_world
@@ -219,6 +356,7 @@ new_in_step = record {
   archive = refl;
   sequences = λ k above within. absurd (omega arith);
   batch = empty_batch;
+  saved = tt;
   broken = refl;
   state = λ ok. record {
     reach = record { from = omega arith; all = λ j above below. absurd (omega arith); next = refl };
@@ -233,28 +371,35 @@ new_in_step = record {
   reported = λ ok. record { count = 0; number_is = refl; reported_is = refl };
 }
 
-pub step_keeps : AreLawful → (h : hist.History) (e : Event) (r : Reply) (a b : WorldValue) → IsInStep h a → Step a e r b → IsInStep ((e, r) ∷ h) b
-step_keeps laws h (Edit c) Edited a b s t = edited_keeps h c a b s t.1 t.2
-step_keeps laws h (Edit c) BatchFull a b s t = quiet_keeps h (Edit c) BatchFull a b (still h (Edit c) BatchFull refl refl refl refl refl) s t.1
-step_keeps laws h (Edit c) WantOfMemory a b s t = quiet_keeps h (Edit c) WantOfMemory a b (still h (Edit c) WantOfMemory refl refl refl refl refl) s t.1
-step_keeps laws h (Edit c) r a b s t = absurd t
-step_keeps laws h (Close m) (Closed n) a b s t = closed_keeps h m n a b s t.0 t.1 t.4
-step_keeps laws h (Close m) SequenceFull a b s t = quiet_keeps h (Close m) SequenceFull a b (still h (Close m) SequenceFull refl refl refl refl refl) s t.1
-step_keeps laws h (Close m) TimeBack a b s t = quiet_keeps h (Close m) TimeBack a b (still h (Close m) TimeBack refl refl refl refl refl) s t.2
-step_keeps laws h (Close m) TooLarge a b s t = quiet_keeps h (Close m) TooLarge a b (still h (Close m) TooLarge refl refl refl refl refl) s t.2
-step_keeps laws h (Close m) WantOfMemory a b s t = quiet_keeps h (Close m) WantOfMemory a b (still h (Close m) WantOfMemory refl refl refl refl refl) s t.1
-step_keeps laws h (Close m) r a b s t = absurd t
-step_keeps laws h (Deliver k form) NotPublished a b s t = quiet_keeps h (Deliver k form) NotPublished a b (still h (Deliver k form) NotPublished refl refl refl refl refl) s t.1
-step_keeps laws h (Deliver k form) Broken a b s t = quiet_keeps h (Deliver k form) Broken a b (still h (Deliver k form) Broken refl refl refl refl refl) s (unmoved a b t.rest (delivered_as laws h a b k form (Err errors.Broken) s t.above t.there t.replies).1)
-step_keeps laws h (Deliver k form) Old a b s t = quiet_keeps h (Deliver k form) Old a b (still h (Deliver k form) Old refl refl refl refl refl) s (unmoved a b t.rest (delivered_as laws h a b k form (Ok answers.Old) s t.above t.there t.replies).2)
-step_keeps laws h (Deliver k form) Again a b s t = quiet_keeps h (Deliver k form) Again a b (still h (Deliver k form) Again refl refl refl refl refl) s (unmoved a b t.rest (delivered_as laws h a b k form (Ok answers.Again) s t.above t.there t.replies).3)
-step_keeps laws h (Deliver k form) TooEarly a b s t = quiet_keeps h (Deliver k form) TooEarly a b (still h (Deliver k form) TooEarly refl refl refl refl refl) s (unmoved a b t.rest (delivered_as laws h a b k form (Err errors.TooEarly) s t.above t.there t.replies).3)
-step_keeps laws h (Deliver k form) WantOfMemory a b s t = quiet_keeps h (Deliver k form) WantOfMemory a b (still h (Deliver k form) WantOfMemory refl refl refl refl refl) s (unmoved a b t.rest (delivered_as laws h a b k form (Err errors.WantOfMemory) s t.above t.there t.replies).2)
-step_keeps laws h (Deliver k form) Held a b s t = held_keeps laws h k form a b s t
-step_keeps laws h (Deliver k form) (Applied low high) a b s t = applied_keeps laws h k low high form a b s t
-step_keeps laws h (Deliver k form) Broke a b s t = broke_keeps laws h k form a b s t
-step_keeps laws h (Deliver k form) r a b s t = absurd t.replies
-step_keeps laws h Show Broken a b s t = quiet_keeps h Show Broken a b (still h Show Broken refl refl refl refl refl) s t.1
-step_keeps laws h Show (Shown v) a b s t = quiet_keeps h Show (Shown v) a b (still h Show (Shown v) refl refl refl refl refl) s t.3
-step_keeps laws h Show WantOfMemory a b s t = quiet_keeps h Show WantOfMemory a b (still h Show WantOfMemory refl refl refl refl refl) s t.1
-step_keeps laws h Show r a b s t = absurd t
+pub step_keeps : AreLawful → OneSave → (h : hist.History) (e : Event) (r : Reply) (a b : WorldValue) → IsInStep h a → Step a e r b → IsInStep ((e, r) ∷ h) b
+step_keeps laws one h (Edit c) Edited a b s t = edited_keeps h c a b s t.1 t.2
+step_keeps laws one h (Edit c) BatchFull a b s t = quiet_keeps h (Edit c) BatchFull a b (still h (Edit c) BatchFull refl refl refl refl refl refl refl) s t.1
+step_keeps laws one h (Edit c) WantOfMemory a b s t = quiet_keeps h (Edit c) WantOfMemory a b (still h (Edit c) WantOfMemory refl refl refl refl refl refl refl) s t.1
+step_keeps laws one h (Edit c) r a b s t = absurd t
+step_keeps laws one h (Close m) (Closed n) a b s t = closed_keeps h m n a b s t.0 t.1 t.4
+step_keeps laws one h (Close m) SequenceFull a b s t = quiet_keeps h (Close m) SequenceFull a b (still h (Close m) SequenceFull refl refl refl refl refl refl refl) s t.1
+step_keeps laws one h (Close m) TimeBack a b s t = quiet_keeps h (Close m) TimeBack a b (still h (Close m) TimeBack refl refl refl refl refl refl refl) s t.2
+step_keeps laws one h (Close m) TooLarge a b s t = quiet_keeps h (Close m) TooLarge a b (still h (Close m) TooLarge refl refl refl refl refl refl refl) s t.2
+step_keeps laws one h (Close m) WantOfMemory a b s t = quiet_keeps h (Close m) WantOfMemory a b (still h (Close m) WantOfMemory refl refl refl refl refl refl refl) s t.1
+step_keeps laws one h (Close m) r a b s t = absurd t
+step_keeps laws one h (Deliver k form) NotPublished a b s t = quiet_keeps h (Deliver k form) NotPublished a b (still h (Deliver k form) NotPublished refl refl refl refl refl refl refl) s t.1
+step_keeps laws one h (Deliver k form) Broken a b s t = quiet_keeps h (Deliver k form) Broken a b (still h (Deliver k form) Broken refl refl refl refl refl refl refl) s (unmoved a b t.rest (delivered_as laws h a b k form (Err errors.Broken) s t.above t.there t.replies).1)
+step_keeps laws one h (Deliver k form) Old a b s t = quiet_keeps h (Deliver k form) Old a b (still h (Deliver k form) Old refl refl refl refl refl refl refl) s (unmoved a b t.rest (delivered_as laws h a b k form (Ok answers.Old) s t.above t.there t.replies).2)
+step_keeps laws one h (Deliver k form) Again a b s t = quiet_keeps h (Deliver k form) Again a b (still h (Deliver k form) Again refl refl refl refl refl refl refl) s (unmoved a b t.rest (delivered_as laws h a b k form (Ok answers.Again) s t.above t.there t.replies).3)
+step_keeps laws one h (Deliver k form) TooEarly a b s t = quiet_keeps h (Deliver k form) TooEarly a b (still h (Deliver k form) TooEarly refl refl refl refl refl refl refl) s (unmoved a b t.rest (delivered_as laws h a b k form (Err errors.TooEarly) s t.above t.there t.replies).3)
+step_keeps laws one h (Deliver k form) WantOfMemory a b s t = quiet_keeps h (Deliver k form) WantOfMemory a b (still h (Deliver k form) WantOfMemory refl refl refl refl refl refl refl) s (unmoved a b t.rest (delivered_as laws h a b k form (Err errors.WantOfMemory) s t.above t.there t.replies).2)
+step_keeps laws one h (Deliver k form) Held a b s t = held_keeps laws h k form a b s t
+step_keeps laws one h (Deliver k form) (Applied low high) a b s t = applied_keeps laws h k low high form a b s t
+step_keeps laws one h (Deliver k form) Broke a b s t = broke_keeps laws h k form a b s t
+step_keeps laws one h (Deliver k form) r a b s t = absurd t.replies
+step_keeps laws one h Show Broken a b s t = quiet_keeps h Show Broken a b (still h Show Broken refl refl refl refl refl refl refl) s t.1
+step_keeps laws one h Show (Shown v) a b s t = quiet_keeps h Show (Shown v) a b (still h Show (Shown v) refl refl refl refl refl refl refl) s t.3
+step_keeps laws one h Show WantOfMemory a b s t = quiet_keeps h Show WantOfMemory a b (still h Show WantOfMemory refl refl refl refl refl refl refl) s t.1
+step_keeps laws one h Show r a b s t = absurd t
+step_keeps laws one h Save Broken a b s t = quiet_keeps h Save Broken a b (still h Save Broken refl refl refl refl refl refl refl) s t.1
+step_keeps laws one h Save (Saved n) a b s t = saved_keeps h n a b s t
+step_keeps laws one h Save WantOfMemory a b s t = quiet_keeps h Save WantOfMemory a b (still h Save WantOfMemory refl refl refl refl refl refl refl) s t.1
+step_keeps laws one h Save r a b s t = absurd t
+step_keeps laws one h Restart (Restarted n) a b s t = restarted_keeps one h n a b s t
+step_keeps laws one h Restart WantOfMemory a b s t = refused_keeps h a b s t
+step_keeps laws one h Restart r a b s t = absurd t

@@ -1,14 +1,19 @@
--- The main statement. Over every list of events a follower that isn't broken holds exactly the
--- mirror and the counts of edits of published sequences 1 to its own number, each applied once; and
--- the numbers that it reports as applied are the next ones, each once and in order.
-use Rattle.std.specs.Prelude.{◌≡◌, ℕ, ◌+◌, List, length, map, false}
+-- The main statement. Over every list of edits, closes, deliveries, saves and restarts a follower
+-- that isn't broken holds exactly the mirror and the counts of edits of published sequences 1 to its
+-- own number, each applied once; and the numbers that it reports as applied since its last restart
+-- are the next ones, each once and in order.
+use Rattle.std.specs.Prelude.{◌≡◌, ℕ, ◌+◌, ◌≤◌, List, length, map, false, Option, Some, None}
 use Rattle.osm_model.specs.Batch.{IsBatch}
 use Rattle.osm_follow.specs.Follower.{IsState}
 use Rattle.osm_world.specs.History.{History, history_of, pending_of, published_of, publisher_of}
-use Rattle.osm_world.specs.History.{start_of, accepted_of, reported_of, is_broken}
+use Rattle.osm_world.specs.History.{start_of, accepted_of, reported_of, is_broken, last_saved}
 use Rattle.osm_world.specs.Legal.{IsLegal}
-use Rattle.osm_follow.specs.Published.{AreSequences, written_of}
+use Rattle.osm_mirror.specs.Mirror.{IsMirrorOf}
+use Rattle.osm_follow.specs.Published.{AreSequences, PublishedValue, changes_up_to, time_at}
+use Rattle.osm_follow.specs.Published.{written_of}
 use Rattle.osm_follow.specs.Reach.{numbers}
+use Rattle.osm_save.specs.Save.{SpellsSave}
+use Rattle.osm_save.specs.declared.save.Saved.{Saved}
 use Rattle.osm_world.specs.World.{WorldValue}
 use Rattle.osm_world.specs.declared.event.Event.{Event}
 use Rattle.osm_world.specs.declared.event.Reply.{Reply}
@@ -19,13 +24,31 @@ pub record IsReported (reported : List ℕ) (start number : ℕ) : Type 0 where
   pub number_is : number ≡ start + count
   pub reported_is : reported ≡ numbers start count
 
+-- the bytes are the save text of exactly the mirror, the counts and the time of published sequences
+-- 1 to that number
+pub record IsSaveOf (published : List PublishedValue) (number : ℕ) (bytes : List ℕ) : Type 0 where
+  pub value : Saved
+  pub spells : SpellsSave bytes value
+  pub number_is : value.number ≡ number
+  pub within : number ≤ length published
+  pub mirror : IsMirrorOf (changes_up_to published number) value.mirror
+  pub time : value.time ≡ time_at published number
+
+-- the bytes saved last: there are some exactly if a number was saved, and then they are its save
+abbrev pub IsLastSave : List PublishedValue → Option ℕ → Option (List ℕ) → Type 0
+IsLastSave published None None = Unit {0}
+IsLastSave published (Some number) (Some bytes) = IsSaveOf published number bytes
+IsLastSave published number bytes = ⊥
+
 -- a world is what its history says: what is archived are the written texts of what was published,
--- and a follower that isn't broken follows it
+-- what is saved is what was published up to the number saved last, and a follower that isn't broken
+-- follows it
 pub record IsInStep (h : History) (w : WorldValue) : Type 0 where
   pub publisher : w.publisher ≡ publisher_of h
   pub archive : w.archive ≡ map written_of (published_of h)
   pub sequences : AreSequences (published_of h)
   pub batch : IsBatch (pending_of h)
+  pub saved : IsLastSave (published_of h) (last_saved h) w.saved
   pub broken : w.follower.is_broken ≡ is_broken h
   pub state : is_broken h ≡ false →
       IsState (published_of h) (start_of h) (accepted_of h) w.follower

@@ -1,17 +1,19 @@
 -- What a history of events and replies says. The model reads only these, and no state. A history
 -- has its newest pair first.
 use Rattle.std.specs.Prelude.{ℕ, ◌+◌, ◌-◌, length, List, [], ◌∷◌, ◌++◌, Bool, true, false, ◌||◌}
-use Rattle.std.specs.Prelude.{◌==◌, if◌then◌else◌, reverse}
+use Rattle.std.specs.Prelude.{◌==◌, if◌then◌else◌, reverse, Option, Some, None, is_some, unwrap_or}
 use Rattle.std.specs.List.{zip}
 use Rattle.osm_model.specs.Change.{ChangeValue}
 use Rattle.osm_follow.specs.Published.{PublishedValue, last_time}
 use Rattle.osm_follow.specs.Publisher.{PublisherValue}
 use Rattle.osm_follow.specs.Reach.{numbers}
 use Rattle.osm_world.specs.declared.event.Event.{Event}
-use Rattle.osm_world.specs.declared.event.Event.TheVariants.{Edit, Close, Deliver}
+use Rattle.osm_world.specs.declared.event.Event.TheVariants.{Edit, Close, Deliver, Save}
+use Rattle.osm_world.specs.declared.event.Event.TheVariants.{Restart}
 use Rattle.osm_world.specs.declared.event.Reply.{Reply}
 use Rattle.osm_world.specs.declared.event.Reply.TheVariants.{Edited, Closed, Held, Applied}
-use Rattle.osm_world.specs.declared.event.Reply.TheVariants.{Broke}
+use Rattle.osm_world.specs.declared.event.Reply.TheVariants.{Broke, WantOfMemory, Saved}
+use Rattle.osm_world.specs.declared.event.Reply.TheVariants.{Restarted}
 
 -- an event and its reply
 abbrev pub Pair : Type 0
@@ -50,10 +52,22 @@ accepts (Deliver k form) Held j = k == j
 accepts (Deliver k form) (Applied low high) j = k == j
 accepts e r j = false
 
+-- whether the pair is a restart that was made
+abbrev pub restarts : Event → Reply → Bool
+restarts Restart (Restarted n) = true
+restarts e r = false
+
+-- the number that was saved last, after the pair, given the one before it
+abbrev pub saved_by : Event → Reply → Option ℕ → Option ℕ
+saved_by Save (Saved n) before = Some n
+saved_by e r before = before
+
 -- whether the follower is broken after the pair, given whether it was before
-abbrev pub broken_by : Reply → Bool → Bool
-broken_by Broke before = true
-broken_by r before = before
+abbrev pub broken_by : Event → Reply → Bool → Bool
+broken_by (Deliver k form) Broke before = true
+broken_by Restart WantOfMemory before = true
+broken_by Restart (Restarted n) before = false
+broken_by e r before = before
 
 -- the edits taken since the last close that published
 abbrev pub pending_of : History → List ChangeValue
@@ -79,21 +93,37 @@ publisher_of h = record {
   pending = pending_of h;
 }
 
--- the number that the follower started at: 0, as long as nothing is saved
-abbrev pub start_of : History → ℕ
-start_of h = 0
+-- the number that was saved last, if one was: a save that was refused changes nothing
+abbrev pub last_saved : History → Option ℕ
+last_saved [] = None
+last_saved (p ∷ h) = saved_by p.0 p.1 (last_saved h)
 
--- whether the number was accepted
+-- whether something was saved
+abbrev pub has_saved : History → Bool
+has_saved h = is_some (last_saved h)
+
+-- the number that a restart begins at: the one saved last, or 0
+abbrev pub saved_of : History → ℕ
+saved_of h = unwrap_or (last_saved h) 0
+
+-- the number that the follower started at: the one that had been saved last before its last
+-- restart, or 0; a save after that restart doesn't move it
+abbrev pub start_of : History → ℕ
+start_of [] = 0
+start_of (p ∷ h) = if restarts p.0 p.1 then saved_of h else start_of h
+
+-- whether the number was accepted since the last restart
 abbrev pub accepted_of : History → ℕ → Bool
 accepted_of [] j = false
-accepted_of (p ∷ h) j = accepts p.0 p.1 j || accepted_of h j
+accepted_of (p ∷ h) j = if restarts p.0 p.1 then false else (accepts p.0 p.1 j || accepted_of h j)
 
--- the numbers that were reported as applied, in order
+-- the numbers that were reported as applied since the last restart, in order
 abbrev pub reported_of : History → List ℕ
 reported_of [] = []
-reported_of (p ∷ h) = reported_of h ++ applied_by p.1
+reported_of (p ∷ h) = if restarts p.0 p.1 then [] else (reported_of h ++ applied_by p.1)
 
--- whether the follower is broken
+-- whether the follower is broken: since its last restart an application was stopped part of the
+-- way, or a restart after that was refused
 abbrev pub is_broken : History → Bool
 is_broken [] = false
-is_broken (p ∷ h) = broken_by p.1 (is_broken h)
+is_broken (p ∷ h) = broken_by p.0 p.1 (is_broken h)

@@ -1,21 +1,22 @@
 -- Which reply may follow a history. The rows of an event exclude one another, so each reply is
 -- given exactly if its conditions hold, except that memory may be refused in place of another.
-use Rattle.std.specs.Prelude.{◌≡◌, ℕ, ◌+◌, ◌<◌, ◌≤◌, ◌∷◌, ◌++◌, length, true, false, ◌⊎◌}
+use Rattle.std.specs.Prelude.{◌≡◌, ℕ, ◌+◌, ◌<◌, ◌≤◌, ◌∷◌, ◌++◌, length, true, false, ◌⊎◌, Bool}
 use Rattle.osm_model.specs.Limits.{max_changes, max_sequence}
 use Rattle.osm_world.specs.History.{History, published_of, pending_of, publisher_of, start_of}
-use Rattle.osm_world.specs.History.{accepted_of, is_broken}
+use Rattle.osm_world.specs.History.{accepted_of, has_saved, is_broken, saved_of}
 use Rattle.osm_follow.specs.Published.{last_time, changes_at}
 use Rattle.osm_follow.specs.Publisher.{CanClose, IsSmall, IsTooLarge}
 use Rattle.osm_follow.specs.Reach.{Reaches, between}
 use Rattle.osm_follow.specs.View.{IsView}
 use Rattle.osm_world.specs.declared.event.Event.{Event}
 use Rattle.osm_world.specs.declared.event.Event.TheVariants.{Edit, Close, Deliver, Show}
+use Rattle.osm_world.specs.declared.event.Event.TheVariants.{Save, Restart}
 use Rattle.osm_world.specs.declared.event.Reply.{Reply}
 use Rattle.osm_world.specs.declared.event.Reply.TheVariants.{Edited, BatchFull, WantOfMemory}
 use Rattle.osm_world.specs.declared.event.Reply.TheVariants.{Closed, SequenceFull, TimeBack}
 use Rattle.osm_world.specs.declared.event.Reply.TheVariants.{TooLarge, NotPublished, Broken, Old}
 use Rattle.osm_world.specs.declared.event.Reply.TheVariants.{Again, TooEarly, Held, Applied}
-use Rattle.osm_world.specs.declared.event.Reply.TheVariants.{Broke, Shown}
+use Rattle.osm_world.specs.declared.event.Reply.TheVariants.{Broke, Shown, Saved, Restarted}
 
 -- the number of a history: the greatest such that it and all below it, above the start, were
 -- accepted
@@ -81,12 +82,31 @@ AllowedShow h (Shown v) =
     (is_broken h ≡ false) × IsView (published_of h) (start_of h) (accepted_of h) v
 AllowedShow h r = ⊥
 
+abbrev pub AllowedSave : History → Reply → Type 0
+AllowedSave h Broken = is_broken h ≡ true
+AllowedSave h WantOfMemory = is_broken h ≡ false
+AllowedSave h (Saved n) = (is_broken h ≡ false) × IsNumber h n
+AllowedSave h r = ⊥
+
+abbrev pub AllowedRestart : History → Reply → Type 0
+AllowedRestart h WantOfMemory = has_saved h ≡ true
+AllowedRestart h (Restarted n) = n ≡ saved_of h
+AllowedRestart h r = ⊥
+
 -- the reply may follow the history at that event
 abbrev pub Allowed : History → Event → Reply → Type 0
 Allowed h (Edit c) r = AllowedEdit h r
 Allowed h (Close t) r = AllowedClose h t r
 Allowed h (Deliver k form) r = AllowedDeliver h k r
 Allowed h Show r = AllowedShow h r
+Allowed h Save r = AllowedSave h r
+Allowed h Restart r = AllowedRestart h r
+
+-- whether the reply says that memory was refused
+abbrev pub is_want_of_memory : Reply → Bool
+is_want_of_memory WantOfMemory = true
+is_want_of_memory Broke = true
+is_want_of_memory r = false
 
 -- each reply of a history is allowed after what came before it
 pub record IsLegal (h : History) : Type 0 where

@@ -1,7 +1,7 @@
 -- What an event may do to a world, with its reply: each reply's conditions are complete, so that
 -- two replies are never both right, except that memory may be refused.
 use Rattle.std.specs.Prelude.{◌≡◌, ℕ, ◌+◌, ◌<◌, ◌≤◌, List, [], ◌∷◌, ◌++◌, length, true, false, ◌⊎◌}
-use Rattle.std.specs.Prelude.{Ok, Err}
+use Rattle.std.specs.Prelude.{Ok, Err, Some}
 use Rattle.std.specs.List.Sorted.{IsStrictlySortedBy}
 use Rattle.std.specs.Ordering.{nat_cmp}
 use Rattle.osm_model.specs.Batch.{IsBatch}
@@ -14,11 +14,15 @@ use Rattle.osm_follow.specs.Follower.{FollowerValue}
 use Rattle.osm_follow.specs.Published.{PublishedTexts, texts_at, written_of}
 use Rattle.osm_follow.specs.Publisher.{CanClose, IsSmall, IsTooLarge, closing, closed}
 use Rattle.osm_follow.specs.View.{view_of}
+use Rattle.osm_save.specs.Save.{SpellsSave}
+use Rattle.osm_follow.specs.Restart.{Restarts, saved_of}
+use Rattle.osm_follow.specs.declared.restart.RestartError.TheVariants as restarts
 use Rattle.osm_world.specs.World.{WorldValue}
 use Rattle.osm_follow.specs.declared.delivery.Delivered.TheVariants as answers
 use Rattle.osm_follow.specs.declared.delivery.DeliverError.TheVariants as errors
 use Rattle.osm_world.specs.declared.event.Event.{Event}
 use Rattle.osm_world.specs.declared.event.Event.TheVariants.{Edit, Close, Deliver, Show}
+use Rattle.osm_world.specs.declared.event.Event.TheVariants.{Save, Restart}
 use Rattle.osm_world.specs.declared.event.Form.{Form}
 use Rattle.osm_world.specs.declared.event.Form.TheVariants.{Opl, O5c}
 use Rattle.osm_world.specs.declared.event.Reply.{Reply}
@@ -26,7 +30,7 @@ use Rattle.osm_world.specs.declared.event.Reply.TheVariants.{Edited, BatchFull, 
 use Rattle.osm_world.specs.declared.event.Reply.TheVariants.{Closed, SequenceFull, TimeBack}
 use Rattle.osm_world.specs.declared.event.Reply.TheVariants.{TooLarge, NotPublished, Broken, Old}
 use Rattle.osm_world.specs.declared.event.Reply.TheVariants.{Again, TooEarly, Held, Applied}
-use Rattle.osm_world.specs.declared.event.Reply.TheVariants.{Broke, Shown}
+use Rattle.osm_world.specs.declared.event.Reply.TheVariants.{Broke, Shown, Saved, Restarted}
 
 -- which batches bytes spell in a form
 abbrev pub spells_in : Form → Spelling
@@ -114,8 +118,29 @@ ShowStep a (Shown v) b =
 ShowStep a WantOfMemory b = (a.follower.is_broken ≡ false) × (b ≡ a)
 ShowStep a r b = ⊥
 
+-- a save: its text replaces the one that was saved before
+abbrev pub SaveStep : WorldValue → Reply → WorldValue → Type 0
+SaveStep a Broken b = (a.follower.is_broken ≡ true) × (b ≡ a)
+SaveStep a (Saved n) b =
+    (text : List ℕ) × (a.follower.is_broken ≡ false) × (n ≡ a.follower.number)
+    × SpellsSave text (saved_of a.follower) × (b ≡ record a { saved = Some text })
+SaveStep a WantOfMemory b = (a.follower.is_broken ≡ false) × (b ≡ a)
+SaveStep a r b = ⊥
+
+-- a restart of the follower from the text saved last, or from none
+abbrev pub RestartStep : WorldValue → Reply → WorldValue → Type 0
+RestartStep a (Restarted n) b =
+    Restarts a.follower a.saved (Ok tt) b.follower × (n ≡ b.follower.number)
+    × (b ≡ record a { follower = b.follower })
+RestartStep a WantOfMemory b =
+    Restarts a.follower a.saved (Err restarts.WantOfMemory) b.follower
+    × (b ≡ record a { follower = b.follower })
+RestartStep a r b = ⊥
+
 abbrev pub Step : WorldValue → Event → Reply → WorldValue → Type 0
 Step a (Edit c) r b = EditStep a c r b
 Step a (Close t) r b = CloseStep a t r b
 Step a (Deliver k form) r b = DeliverStep a k form r b
 Step a Show r b = ShowStep a r b
+Step a Save r b = SaveStep a r b
+Step a Restart r b = RestartStep a r b

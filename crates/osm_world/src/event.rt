@@ -22,6 +22,10 @@ pub enum Event {
     Deliver { number: u32, form: Form },
     /// The follower shows itself.
     Show,
+    /// The follower is saved; the text replaces the one that was saved before.
+    Save,
+    /// The follower restarts from the text that was saved last, or from nothing if none was.
+    Restart,
 }
 
 #[derive(Debug, Drop)]
@@ -29,7 +33,8 @@ pub enum Reply {
     Edited,
     /// The batch has 100,000 changes; the edit is dropped.
     BatchFull,
-    /// Memory was refused, and nothing has changed; an edit is dropped.
+    /// Memory was refused, and nothing has changed, except that an edit is dropped, and that a
+    /// follower that was to restart is broken from now on.
     WantOfMemory,
     Closed(u32),
     /// The last sequence, 999,999,999, is published.
@@ -39,7 +44,7 @@ pub enum Reply {
     /// The o5c file or the OPL file of the pending edits would pass 64 MiB.
     TooLarge,
     NotPublished,
-    /// The follower is broken: an application ran out of memory part of the way.
+    /// The follower is broken: an application or a restart ran out of memory part of the way.
     Broken,
     /// The number was applied before.
     Old,
@@ -54,4 +59,8 @@ pub enum Reply {
     /// An application ran out of memory part of the way: the follower is broken from now on.
     Broke,
     Shown(View),
+    /// The follower was saved at that number.
+    Saved(u32),
+    /// The follower is at that number again, and holds nothing.
+    Restarted(u32),
 }

@@ -1,14 +1,15 @@
 //! What holds of runs and histories, whatever the code does.
 
 ghost use Rattle.std.specs.Prelude.{◌≡◌, ℕ, ◌+◌, ◌<◌, List, [], ◌∷◌, ◌++◌, length, slice_index};
-ghost use Rattle.std.specs.Prelude.{◌≤◌, ◌↔◌, true, false};
-ghost use Rattle.osm_follow.specs.Reach.{numbers};
+ghost use Rattle.std.specs.Prelude.{◌≤◌, ◌↔◌, IsSome, true, false};
+ghost use Rattle.osm_follow.specs.Follower.{held_at, is_held};
+ghost use Rattle.osm_follow.specs.Reach.{missing_numbers, numbers};
 ghost use Rattle.osm_follow.specs.View.{ViewValue};
 ghost use Rattle.osm_world.specs.Alike.{AcceptAlike, AreAlike};
 ghost use Rattle.osm_world.specs.Correct.{IsInStep, IsRun};
 ghost use Rattle.osm_world.specs.Deliveries.{IsSubsequence, delivered_of, is_confirmed};
 ghost use Rattle.osm_world.specs.History.{History, accepted_of, is_broken, reported_of, start_of};
-ghost use Rattle.osm_world.specs.Legal.{Allowed, IsLegal, IsNumber};
+ghost use Rattle.osm_world.specs.Legal.{Allowed, IsLegal, IsNumber, is_want_of_memory};
 ghost use Rattle.osm_world.specs.Step.{Step};
 ghost use Rattle.osm_world.specs.World.{WorldValue, new_world};
 ghost use Rattle.osm_world.specs.declared.event.Event.{Event};
@@ -17,6 +18,7 @@ ghost use Rattle.osm_world.specs.declared.event.Reply.{Reply};
 use osm_model::form::ChangeForm;
 use osm_o5c::o5c::O5c;
 use osm_opl::opl::Opl;
+use osm_save::save::laws_of_saves;
 use osm_state::laws::laws_of_state;
 
 /// A run of no events leaves the new world, and one step more makes a longer run. So a caller may
@@ -30,10 +32,19 @@ pub fn laws_of_runs()
     Opl::laws();
     O5c::laws();
     laws_of_state();
+    laws_of_saves();
 }
 
-/// What a legal history has reported as applied are the numbers after its start up to its number,
-/// each once and in order, unless its follower is broken. Does nothing at run time.
+/// After a history one reply may be given to an event, besides those that say that memory was
+/// refused. Does nothing at run time.
+pub fn laws_of_replies()
+    ensures one_reply { (h : History) (e : Event) (q r : Reply) → Allowed h e q → Allowed h e r
+        → is_want_of_memory q ≡ false → is_want_of_memory r ≡ false → q ≡ r }
+{}
+
+/// What a legal history has reported as applied since the last restart are the numbers after its
+/// start up to its number, each once and in order, unless its follower is broken. Does nothing at
+/// run time.
 pub fn laws_of_histories()
     ensures count { (h : History) (n : ℕ) → IsLegal h → is_broken h ≡ false → IsNumber h n
         → start_of h + length (reported_of h) ≡ n }
@@ -42,16 +53,33 @@ pub fn laws_of_histories()
 {}
 
 /// Nothing is held back. A legal history has accepted exactly the numbers above its start that were
-/// delivered and answered `Held`, `Applied`, `Old` or `Again`. And if the numbers after its start
-/// were delivered in order up to some number, with anything between them, and none of them was
-/// unpublished or refused for memory, the history has reached that number, unless its follower is
-/// broken. Does nothing at run time.
+/// delivered since the last restart and answered `Held`, `Applied`, `Old` or `Again`. And if since
+/// then the numbers after its start were delivered in order up to some number, with anything in
+/// between, and none of them was unpublished or refused for memory, the history has reached that
+/// number, unless its follower is broken. Does nothing at run time.
 pub fn laws_of_progress()
     ensures accepted { (h : History) (j : ℕ) → IsLegal h
         → (accepted_of h j ≡ true) ↔ ((start_of h < j) × (is_confirmed h j ≡ true)) }
     ensures catches_up { (h : History) (n count : ℕ) → IsLegal h → is_broken h ≡ false
         → IsNumber h n → IsSubsequence (numbers (start_of h) count) (delivered_of h)
         → start_of h + count ≤ n }
+{}
+
+/// A follower that isn't broken is at the number of its history, and holds exactly the numbers
+/// above it that were accepted, which all come after the next one and are among the 64 after its
+/// own. So what it names as missing is what wasn't accepted. Does nothing at run time.
+pub fn laws_of_holding()
+    ensures number { (h : History) (w : WorldValue) → IsInStep h w → is_broken h ≡ false
+        → IsNumber h w.follower.number }
+    ensures held { (h : History) (w : WorldValue) (j : ℕ) → IsInStep h w → is_broken h ≡ false
+        → IsSome (held_at w.follower j)
+        ↔ ((w.follower.number < j) × (accepted_of h j ≡ true)) }
+    ensures window { (h : History) (w : WorldValue) (j : ℕ) → IsInStep h w → is_broken h ≡ false
+        → IsSome (held_at w.follower j)
+        → (w.follower.number + 1 < j) × (j ≤ w.follower.number + 64) }
+    ensures missing { (h : History) (w : WorldValue) (top : ℕ) → IsInStep h w
+        → is_broken h ≡ false → missing_numbers (is_held w.follower) w.follower.number top
+        ≡ missing_numbers (accepted_of h) w.follower.number top }
 {}
 
 /// The order of deliveries doesn't matter, nor do repeats: if the same was published and accepted

@@ -4,7 +4,8 @@ ghost use Rattle.std.specs.Prelude.{◌≡◌, ◌<◌, ◌≤◌, ◌⊎◌, �
 ghost use Rattle.osm_model.specs.Batch.{IsBatch};
 ghost use Rattle.osm_world.specs.Correct.{IsRun};
 ghost use Rattle.osm_follow.specs.Published.{texts_at};
-ghost use Rattle.osm_world.specs.Step.{CloseStep, DeliverStep, EditStep, Replies, ShowStep, Step};
+ghost use Rattle.osm_world.specs.Step.{CloseStep, DeliverStep, EditStep, Replies, RestartStep};
+ghost use Rattle.osm_world.specs.Step.{SaveStep, ShowStep, Step};
 ghost use Rattle.osm_world.specs.Step.{bytes_in, fault_in, spells_in};
 ghost use Rattle.osm_world.specs.Steps.Archive.{AreReadable, ClosesInto, IsArchive, IsReadable};
 ghost use Rattle.osm_world.specs.World.{new_world};
@@ -15,6 +16,7 @@ use osm_follow::delivery::{DeliverError, Delivered};
 use osm_follow::follower::Follower;
 use osm_follow::published::Published;
 use osm_follow::publisher::{CloseError, EditError, Publisher};
+use osm_follow::restart::RestartError;
 use osm_follow::view::ViewError;
 use osm_model::change::Change;
 use osm_model::form::ChangeForm;
@@ -25,17 +27,20 @@ use osm_state::laws::laws_of_state;
 use std::alloc::Global;
 use std::marker::Model;
 
-/// A publisher, the files of what it published, and a follower of them.
+/// A publisher, the files of what it published, a follower of them, and the follower's text as it
+/// was saved last.
 #[derive(Debug, Drop)]
 pub struct World {
     alloc: Global,
     publisher: Publisher,
     archive: Vec<Published>,
     follower: Follower,
+    saved: Option<Vec<u8>>,
 }
 
 impl Model for World {
-    ghost use Rattle.osm_world.specs.Steps.Archive.{IsArchive};
+    ghost use Rattle.std.specs.Option.{option_map};
+    ghost use Rattle.osm_world.specs.Steps.Archive.{IsKept};
     ghost use Rattle.osm_world.specs.World.{WorldValue};
 
     ghost Value = { WorldValue };
@@ -44,9 +49,11 @@ impl Model for World {
       publisher = a.publisher;
       archive = a.archive.items;
       follower = a.follower;
+      saved = option_map (λ v. v.items) a.saved;
     } };
 
-    ghost invariant = { λ a. IsArchive a.publisher.number a.archive.items };
+    ghost invariant = { λ a. IsKept a.publisher.number a.archive.items
+        (option_map (λ v. v.items) a.saved) };
 }
 
 /// A world after some events, and what it replied to each of them.
@@ -57,8 +64,8 @@ pub struct Run {
 }
 
 impl World {
-    /// A new publisher, an empty archive and a new follower. Makes all the room of the follower's
-    /// holding area.
+    /// A new publisher, an empty archive, a new follower and nothing saved. Makes all the room of
+    /// the follower's holding area.
     pub fn new(alloc: Global) -> Result<World, WantOfMemory>
         ensures new { IfOk result (λ w. w ≡ new_world) }
     {
@@ -67,6 +74,7 @@ impl World {
             publisher: Publisher::new(alloc),
             archive: Vec::new(alloc),
             follower: Follower::new(alloc)?,
+            saved: None,
         })
     }
 
@@ -93,6 +101,8 @@ impl World {
             Event::Close(time) => self.close(time),
             Event::Deliver { number, form } => self.deliver(number, form),
             Event::Show => self.show(),
+            Event::Save => self.save(),
+            Event::Restart => self.restart(),
         }
     }
 
@@ -158,6 +168,30 @@ impl World {
             Ok(view) => Reply::Shown(view),
             Err(ViewError::Broken) => Reply::Broken,
             Err(ViewError::WantOfMemory) => Reply::WantOfMemory,
+        }
+    }
+
+    fn save(&mut self) -> Reply
+        ensures { SaveStep self.old result self.new }
+    {
+        let Ok(number) = self.follower.number() else {
+            return Reply::Broken;
+        };
+        let Ok(text) = self.follower.save(self.alloc) else {
+            return Reply::WantOfMemory;
+        };
+        self.saved = Some(text);
+        Reply::Saved(number)
+    }
+
+    // What was saved last is a save text, so it isn't refused as a bad one.
+    fn restart(&mut self) -> Reply
+        ensures { RestartStep self.old result self.new }
+    {
+        match self.follower.restart(self.alloc, self.saved.as_deref()) {
+            Ok(()) => Reply::Restarted(self.follower.number().unwrap()),
+            Err(RestartError::WantOfMemory) => Reply::WantOfMemory,
+            Err(RestartError::BadSave { .. }) => unreachable!(),
         }
     }
 }

@@ -1,5 +1,6 @@
 -- Archived texts that can be delivered, and the ways of a close into the archive.
 use Rattle.std.specs.Prelude.{◌≡◌, ℕ, ◌+◌, ◌<◌, ◌≤◌, List, [], ◌∷◌, ◌++◌, length, Result, Ok, Err}
+use Rattle.std.specs.Prelude.{Option, IfSome}
 use Rattle.osm_model.specs.ChangeForm.{SpellsNothing}
 use Rattle.osm_model.specs.Limits.{IsPositive, max_file, max_sequence}
 use Rattle.osm_o5c.specs.File.{SpellsO5c}
@@ -9,6 +10,8 @@ use Rattle.osm_state.specs.StateFault.{FaultOf}
 use Rattle.osm_state.specs.StateText.{StateOf}
 use Rattle.osm_state.specs.declared.state_text.StateError.{StateError}
 use Rattle.osm_follow.specs.Delivery.{Spelling}
+use Rattle.osm_save.specs.Save.{SpellsSave}
+use Rattle.osm_save.specs.declared.save.Saved.{Saved}
 use Rattle.osm_follow.specs.Published.{PublishedTexts, texts_at, written_of}
 use Rattle.osm_follow.specs.Publisher.{PublisherValue, CanClose, IsSmall, IsTooLarge}
 use Rattle.osm_follow.specs.Publisher.{closing, closed}
@@ -32,6 +35,16 @@ pub record AreReadable (p : PublishedTexts) : Type 0 where
 pub record IsArchive (number : ℕ) (archive : List PublishedTexts) : Type 0 where
   pub count : length archive ≡ number
   pub each : (k : ℕ) → 0 < k → k ≤ length archive → AreReadable (texts_at archive k)
+
+-- the bytes are a save text
+abbrev pub IsSaveText : List ℕ → Type 0
+IsSaveText bytes = (v : Saved) × SpellsSave bytes v
+
+-- what a world keeps can be read: its archive, and what it saved last
+pub record IsKept (number : ℕ) (texts : List PublishedTexts) (text : Option (List ℕ))
+    : Type 0 where
+  pub archive : IsArchive number texts
+  pub saved : IfSome text IsSaveText
 
 -- the publisher and the archive after a close
 abbrev pub ClosesInto :

@@ -5,4 +5,4 @@ pub returns-clause-first : goal.returns-clause-first
 returns-clause-first c = run_none
 
 pub returns-clause-next : goal.returns-clause-next
-returns-clause-next c = run_more (lawful c.laws.ensures.text_spells c.laws.ensures.one_batch c.laws-2.ensures.text_spells c.laws-2.ensures.one_batch c.laws_of_state.ensures.no_fault_beside_state)
+returns-clause-next c = run_more (lawful c.laws.ensures.text_spells c.laws.ensures.one_batch c.laws-2.ensures.text_spells c.laws-2.ensures.one_batch c.laws_of_state.ensures.no_fault_beside_state) c.laws_of_saves.ensures.one_save
