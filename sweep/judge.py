@@ -6,8 +6,7 @@ script, a line `--` and a text, as the proved judge does, and says `allowed`, `f
 judged`; if files are named it says so of each. It takes each spelling of a line, and leaves it to
 the program to check limits.
 
-It knows more than today's program answers: saves, restarts, and batches that are held until their
-turn comes (WINDOW). The sizes of change files are those of files with all strings in line."""
+The sizes of change files are those of files with all strings in line."""
 
 import datetime
 import functools

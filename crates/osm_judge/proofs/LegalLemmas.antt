@@ -7,11 +7,11 @@ use Rattle.std.specs.List.{flat_map, zip}
 use Rattle.std.specs.Prelude.{◌↔◌, IsTrue}
 use Rattle.osm_model.specs.Change.{ChangeValue}
 use Rattle.osm_model.specs.Limits.{max_changes}
-use Rattle.osm_world.specs.History.{History, accepted_of, pending_of, published_of}
+use Rattle.osm_world.specs.History.{History, accepted_of, pending_of, published_of, start_of}
 use Rattle.osm_world.proofs.LegalLemmas.{legal_none, legal_more}
 use Rattle.osm_world.specs.Legal.{Allowed, IsLegal, IsNumber, IsOpen, IsWanted, IsWork}
 use Rattle.osm_world.specs.declared.event.Event.{Event}
-use Rattle.osm_world.specs.declared.event.Event.TheVariants.{Edit, Close, Deliver, Show}
+use Rattle.osm_world.specs.declared.event.Event.TheVariants.{Edit, Close, Deliver, Show, Save, Restart}
 use Rattle.osm_world.specs.declared.event.Reply.{Reply}
 use Rattle.osm_world.specs.declared.event.Reply.TheVariants.{Edited, BatchFull, WantOfMemory, Closed, SequenceFull, TimeBack, TooLarge}
 use Rattle.osm_follow.specs.Published.{PublishedValue, unpublished, changes_at, changes_up_to}
@@ -34,10 +34,10 @@ one_reach f s n m a b = elim (cases_lt n m) [
 
 -- a row that some number of the history meets is met by its one number
 pub open_row : (h : History) (k reached : ℕ) (Q : ℕ → Type 0) (r : Bool) → IsNumber h reached → IsTrue r ↔ (IsOpen h k reached × Q reached) → IsTrue r ↔ ((n : ℕ) × IsOpen h k n × Q n)
-open_row h k reached Q r number told = (λ t. (let both = told.0 t in (reached, both.0, both.1)), λ row. told.1 (subst (λ (m : ℕ). IsOpen h k m × Q m) (one_reach (accepted_of h) 0 row.0 reached row.1.number number) (row.1, row.2)))
+open_row h k reached Q r number told = (λ t. (let both = told.0 t in (reached, both.0, both.1)), λ row. told.1 (subst (λ (m : ℕ). IsOpen h k m × Q m) (one_reach (accepted_of h) (start_of h) row.0 reached row.1.number number) (row.1, row.2)))
 
 pub wanted_row : (h : History) (k reached : ℕ) (Q : ℕ → Type 0) (r : Bool) → IsNumber h reached → IsTrue r ↔ (IsWanted h k reached × Q reached) → IsTrue r ↔ ((n : ℕ) × IsWanted h k n × Q n)
-wanted_row h k reached Q r number told = (λ t. (let both = told.0 t in (reached, both.0, both.1)), λ row. told.1 (subst (λ (m : ℕ). IsWanted h k m × Q m) (one_reach (accepted_of h) 0 row.0 reached row.1.is_open.number number) (row.1, row.2)))
+wanted_row h k reached Q r number told = (λ t. (let both = told.0 t in (reached, both.0, both.1)), λ row. told.1 (subst (λ (m : ℕ). IsWanted h k m × Q m) (one_reach (accepted_of h) (start_of h) row.0 reached row.1.is_open.number number) (row.1, row.2)))
 
 -- a sequence more, also behind the last: there is no change there
 changes_up_to_more : (ps : List PublishedValue) (n : ℕ) → changes_up_to ps (n + 1) ≡ changes_up_to ps n ++ changes_at ps (n + 1)
@@ -104,7 +104,7 @@ pub broke_row : (h : History) (k reached high : ℕ) (r : Bool) → IsNumber h r
 broke_row h k reached high r number reach told = (
   λ t. (let all = told.0 t in (reached, all.0, all.1, work all.0.is_open.above all.2)),
   λ row.
-      let same : row.0 ≡ reached = one_reach (accepted_of h) 0 row.0 reached row.1.is_open.number number in
+      let same : row.0 ≡ reached = one_reach (accepted_of h) (start_of h) row.0 reached row.1.is_open.number number in
       let wanted : IsWanted h k reached = subst (λ (m : ℕ). IsWanted h k m) same row.1 in
       let next : k ≡ reached + 1 = subst (λ (m : ℕ). k ≡ m + 1) same row.2 in
       told.1 (wanted, next, less wanted.is_open.above row.3),
@@ -155,6 +155,8 @@ few_more h (Close t) WantOfMemory allowed few = rw (append-nil (pending_of h)) f
 few_more h (Close t) r allowed few = absurd allowed
 few_more h (Deliver k form) r allowed few = rw (append-nil (pending_of h)) few
 few_more h Show r allowed few = rw (append-nil (pending_of h)) few
+few_more h Save r allowed few = rw (append-nil (pending_of h)) few
+few_more h Restart r allowed few = rw (append-nil (pending_of h)) few
 
 pub few_pending : (h : History) → IsLegal h → length (pending_of h) ≤ max_changes
 few_pending [] legal = omega arith

@@ -1,9 +1,11 @@
 //! What a history of events and replies says, one pair at a time.
 
-ghost use Rattle.std.specs.Prelude.{◌≡◌, ℕ, ◌<◌, ◌≤◌, length, false, IfOk};
+ghost use Rattle.std.specs.Prelude.{◌≡◌, ℕ, ◌<◌, ◌≤◌, length, true, false, IfOk};
 ghost use Rattle.osm_world.specs.History.{accepted_of, accepts, closes, pending_of, published_of};
+ghost use Rattle.osm_world.specs.History.{broken_by, last_saved, restarts, saved_by, start_of};
 ghost use Rattle.osm_world.specs.History.{time_of};
 ghost use Rattle.osm_world.specs.History as hist;
+ghost use Rattle.osm_world.specs.Legal.{IsNumber};
 ghost use Rattle.osm_follow.specs.Published.{changes_up_to, last_time, time_at};
 ghost use Rattle.osm_follow.specs.Reach.{Reaches};
 
@@ -80,14 +82,66 @@ pub fn least_time(history: &[Pair]) -> u32
     }
 }
 
+/// Whether the pair is a restart that was made.
+pub fn is_restarting(pair: &Pair) -> bool
+    ensures { result ≡ restarts pair.now.0 pair.now.1 }
+{
+    matches!(pair, (Event::Restart, Reply::Restarted(_)))
+}
+
+fn saved_after(pair: &Pair, before: Option<u32>) -> Option<u32>
+    ensures { result ≡ saved_by pair.now.0 pair.now.1 before }
+{
+    match pair {
+        (Event::Save, Reply::Saved(number)) => Some(*number),
+        _ => before,
+    }
+}
+
+/// The number that was saved last, if one was.
+pub fn saved_last(history: &[Pair]) -> Option<u32>
+    ensures { result ≡ last_saved history.now }
+{
+    match history {
+        [] => None,
+        [pair, before @ ..] => saved_after(pair, saved_last(before)),
+    }
+}
+
+/// The number that the follower started at.
+pub fn start(history: &[Pair]) -> u32
+    ensures { result ≡ start_of history.now }
+{
+    match history {
+        [] => 0,
+        [pair, before @ ..] => {
+            if is_restarting(pair) {
+                saved_last(before).unwrap_or(0)
+            } else {
+                start(before)
+            }
+        }
+    }
+}
+
+fn is_broken_after(pair: &Pair, before: bool) -> bool
+    ensures { result ≡ broken_by pair.now.0 pair.now.1 before }
+{
+    match pair {
+        (Event::Deliver { .. }, Reply::Broke) => true,
+        (Event::Restart, Reply::WantOfMemory) => true,
+        (Event::Restart, Reply::Restarted(_)) => false,
+        _ => before,
+    }
+}
+
 /// Whether the follower is broken.
 pub fn is_broken(history: &[Pair]) -> bool
     ensures { result ≡ hist.is_broken history.now }
 {
     match history {
         [] => false,
-        [(_, Reply::Broke), ..] => true,
-        [_, before @ ..] => is_broken(before),
+        [pair, before @ ..] => is_broken_after(pair, is_broken(before)),
     }
 }
 
@@ -106,31 +160,47 @@ fn is_accepting(pair: &Pair, number: u64) -> bool
     }
 }
 
-/// Whether the number was accepted.
+/// Whether the number was accepted since the last restart.
 pub fn is_accepted(history: &[Pair], number: u64) -> bool
     ensures { result ≡ accepted_of history.now number }
 {
     match history {
         [] => false,
-        [pair, before @ ..] => is_accepting(pair, number) || is_accepted(before, number),
+        [pair, before @ ..] => {
+            !is_restarting(pair) && (is_accepting(pair, number) || is_accepted(before, number))
+        }
     }
 }
 
-/// A number above which none was accepted.
+/// A number above which none was accepted since the last restart.
 fn most_accepted(history: &[Pair]) -> u32
     ensures { (j : ℕ) → result < j → accepted_of history.now j ≡ false }
 {
     match history {
         [] => 0,
-        [
-            (Event::Deliver { number, .. }, Reply::Held | Reply::Applied { .. }),
-            before @ ..,
-        ] => { most_accepted(before).max(*number) }
-        [_, before @ ..] => most_accepted(before),
+        [pair, before @ ..] => {
+            if is_restarting(pair) {
+                0
+            } else {
+                most_accepted(before).max(accepted_by(pair))
+            }
+        }
     }
 }
 
-/// The greatest number such that it and all above `from` up to it were accepted.
+/// The number that the pair accepts; 0, which is above no number, if it accepts none.
+pub fn accepted_by(pair: &Pair) -> u32
+    ensures some { 0 < result → accepts pair.now.0 pair.now.1 result ≡ true }
+    ensures only { (j : ℕ) → accepts pair.now.0 pair.now.1 j ≡ true → j ≡ result }
+{
+    match pair {
+        (Event::Deliver { number, .. }, Reply::Held | Reply::Applied { .. }) => *number,
+        _ => 0,
+    }
+}
+
+/// The greatest number such that it and all above `from` up to it were accepted since the last
+/// restart.
 pub fn reach(history: &[Pair], from: u32) -> u32
     ensures { Reaches (accepted_of history.now) from result }
 {
@@ -141,6 +211,13 @@ pub fn reach(history: &[Pair], from: u32) -> u32
         }
     }
     most
+}
+
+/// The number of the follower, unless it is broken.
+pub fn follower_number(history: &[Pair]) -> u32
+    ensures { IsNumber history.now result }
+{
+    reach(history, start(history))
 }
 
 /// The changes of sequences 1 to that number, joined.

@@ -5,14 +5,16 @@ ghost use Rattle.std.specs.Prelude.{IfErr, IfOk, IsTrue};
 ghost use Rattle.osm_model.specs.Limits.{max_changes, max_file};
 ghost use Rattle.osm_world.specs.History.{accepted_of, pending_of, published_of, publisher_of};
 ghost use Rattle.osm_world.specs.Legal.{Allowed, AllowedClose, AllowedDeliver, AllowedEdit};
-ghost use Rattle.osm_world.specs.Legal.{AllowedShow, IsLegal, IsNumber, IsOpen, IsWanted};
+ghost use Rattle.osm_world.specs.Legal.{AllowedRestart, AllowedSave, AllowedShow, IsLegal};
+ghost use Rattle.osm_world.specs.Legal.{IsNumber, IsOpen, IsWanted};
 ghost use Rattle.osm_follow.specs.Published.{changes_up_to};
 ghost use Rattle.osm_follow.specs.Publisher.{CanClose, IsSmall, IsTooLarge};
 ghost use Rattle.osm_follow.specs.Reach.{Reaches};
 ghost use Rattle.osm_judge.specs.Legal.{IsUnjudged};
 
 use crate::history::{
-    Pair, is_accepted, is_broken, joined_changes, least_time, pending, published_count, reach,
+    Pair, follower_number, is_accepted, is_broken, joined_changes, least_time, pending,
+    published_count, reach, saved_last, start,
 };
 use crate::views::is_view;
 use osm_model::batch::{Batch, PushError};
@@ -95,6 +97,8 @@ pub fn is_allowed(
         Event::Close(time) => is_close_allowed(alloc, history, *time, reply),
         Event::Deliver { number, .. } => Ok(is_deliver_allowed(alloc, history, *number, reply)?),
         Event::Show => Ok(is_show_allowed(alloc, history, reply)?),
+        Event::Save => Ok(is_save_allowed(history, reply)),
+        Event::Restart => Ok(is_restart_allowed(history, reply)),
     }
 }
 
@@ -198,7 +202,7 @@ fn is_deliver_allowed(
 ) -> Result<bool, WantOfMemory>
     ensures { IfOk result (λ b. IsTrue b ↔ AllowedDeliver history.now number reply.now) }
 {
-    let reached = reach(history, 0);
+    let reached = follower_number(history);
     match reply {
         Reply::NotPublished => Ok(!is_published(history, number)),
         Reply::Broken => Ok(is_published(history, number) && is_broken(history)),
@@ -346,5 +350,26 @@ fn is_show_allowed(alloc: Global, history: &[Pair], reply: &Reply) -> Result<boo
         Reply::WantOfMemory => Ok(!is_broken(history)),
         Reply::Shown(view) => Ok(!is_broken(history) && is_view(alloc, history, view)?),
         _ => Ok(false),
+    }
+}
+
+fn is_save_allowed(history: &[Pair], reply: &Reply) -> bool
+    ensures { IsTrue result ↔ AllowedSave history.now reply.now }
+{
+    match reply {
+        Reply::Broken => is_broken(history),
+        Reply::WantOfMemory => !is_broken(history),
+        Reply::Saved(number) => !is_broken(history) && is_reach(history, start(history), *number),
+        _ => false,
+    }
+}
+
+fn is_restart_allowed(history: &[Pair], reply: &Reply) -> bool
+    ensures { IsTrue result ↔ AllowedRestart history.now reply.now }
+{
+    match reply {
+        Reply::WantOfMemory => saved_last(history).is_some(),
+        Reply::Restarted(number) => *number == saved_last(history).unwrap_or(0),
+        _ => false,
     }
 }

@@ -70,6 +70,12 @@ fn read_longer(alloc: Global, text: &[u8]) -> Result<(Reply, &[u8]), Unread> {
     if let Some(number) = line.strip_prefix(b"closed ") {
         return Ok((Reply::Closed(small(number)?), rest));
     }
+    if let Some(number) = line.strip_prefix(b"saved ") {
+        return Ok((Reply::Saved(small(number)?), rest));
+    }
+    if let Some(number) = line.strip_prefix(b"restarted ") {
+        return Ok((Reply::Restarted(small(number)?), rest));
+    }
     if let Some(range) = line.strip_prefix(b"applied ") {
         let (low, high) = halves(range, b'.')?;
         let low = small(low)?;

@@ -9,20 +9,22 @@ ghost use Rattle.std.specs.declared.cmp.Ordering.TheVariants.{Less};
 ghost use Rattle.osm_model.specs.Content.{content_of, edits_by_changeset, edits_by_user};
 ghost use Rattle.osm_model.specs.KeyOrder.{key_cmp};
 ghost use Rattle.osm_model.specs.declared.kind.Key.{Key};
-ghost use Rattle.osm_world.specs.History.{accepted_of, accepts, published_of, start_of};
+ghost use Rattle.osm_world.specs.History.{accepted_of, published_of, start_of};
 ghost use Rattle.osm_mirror.specs.Mirror.{AreCountsAboveZero, AreRising, IsAboveZero, IsMirrorOf};
 ghost use Rattle.osm_mirror.specs.Mirror.{count_at, object_at};
 ghost use Rattle.osm_follow.specs.Published.{changes_up_to, time_at};
 ghost use Rattle.osm_follow.specs.View.{IsView};
 
-use crate::history::{Pair, is_accepted, joined_changes, reach, time_of_sequence};
+use crate::history::{
+    Pair, accepted_by, follower_number, is_accepted, is_restarting, joined_changes,
+    time_of_sequence,
+};
 use crate::plain::{plain_content_of, plain_edits_by_changeset, plain_edits_by_user};
 use osm_follow::view::View;
 use osm_model::change::Change;
 use osm_model::kind::Key;
 use osm_model::memory::WantOfMemory;
 use osm_opl::lines::write_line;
-use osm_world::event::{Event, Reply};
 use std::alloc::Global;
 
 /// Whether the view may be shown after the history.
@@ -30,7 +32,7 @@ pub fn is_view(alloc: Global, history: &[Pair], view: &View) -> Result<bool, Wan
     ensures { IfOk result (λ b. IsTrue b ↔ IsView (published_of history.now)
         (start_of history.now) (accepted_of history.now) view.now) }
 {
-    let number = reach(history, 0);
+    let number = follower_number(history);
     if view.number() != number || view.time() != time_of_sequence(history, number) {
         return Ok(false);
     }
@@ -90,21 +92,13 @@ fn are_all_held(history: &[Pair], number: u32, held: &[u32]) -> bool
     match history {
         [] => true,
         [pair, before @ ..] => {
+            if is_restarting(pair) {
+                return true;
+            }
             let delivered = accepted_by(pair);
             let is_missing = number < delivered && !is_listed(held, delivered);
             !is_missing && are_all_held(before, number, held)
         }
-    }
-}
-
-// The number that the pair accepts; 0, which is above no number, if it accepts none.
-fn accepted_by(pair: &Pair) -> u32
-    ensures some { 0 < result → accepts pair.now.0 pair.now.1 result ≡ true }
-    ensures only { (j : ℕ) → accepts pair.now.0 pair.now.1 j ≡ true → j ≡ result }
-{
-    match pair {
-        (Event::Deliver { number, .. }, Reply::Held | Reply::Applied { .. }) => *number,
-        _ => 0,
     }
 }
 

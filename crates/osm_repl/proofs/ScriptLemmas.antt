@@ -12,7 +12,7 @@ use Rattle.std.specs.Prelude.{IfSome, nat_eq, not, codes, Result, Ok, Err, IfErr
 use Rattle.osm_repl.specs.Steps.Parsing.{IsEditOf, IsCloseOf, IsDeliverOf, Refused, IsSaid}
 use Rattle.osm_repl.specs.Script.{IsEventLine, ScriptOf, form_text, AreEvents, said_of}
 use Rattle.osm_world.specs.declared.event.Event.{Event}
-use Rattle.osm_world.specs.declared.event.Event.TheVariants.{Edit, Close, Deliver, Show}
+use Rattle.osm_world.specs.declared.event.Event.TheVariants.{Edit, Close, Deliver, Show, Save, Restart}
 use Rattle.osm_world.specs.declared.event.Form.{Form}
 use Rattle.osm_world.specs.declared.event.Form.TheVariants.{Opl, O5c}
 use Rattle.osm_repl.specs.declared.script.LineFault.{LineFault}
@@ -44,6 +44,8 @@ first_of (Edit c) = 101
 first_of (Close t) = 99
 first_of (Deliver n form) = 100
 first_of Show = 115
+first_of Save = 115
+first_of Restart = 114
 
 first_is : (line : List ℕ) (e : Event) → IsEventLine line e → get_or line 0 0 ≡ first_of e
 unfolding first_of
@@ -51,6 +53,8 @@ first_is line (Edit c) h = ap (λ (l : List ℕ). get_or l 0 0) h.parts
 first_is line (Close t) h = ap (λ (l : List ℕ). get_or l 0 0) h.parts
 first_is line (Deliver n form) h = ap (λ (l : List ℕ). get_or l 0 0) h.parts
 first_is line Show h = ap (λ (l : List ℕ). get_or l 0 0) h
+first_is line Save h = ap (λ (l : List ℕ). get_or l 0 0) h
+first_is line Restart h = ap (λ (l : List ℕ). get_or l 0 0) h
 
 apart : (n m : ℕ) (line : List ℕ) → get_or line 0 0 ≡ n → get_or line 0 0 ≡ m → (n ≡ m → ⊥) → ⊥
 apart n m line p q ne = ne (sym p ∙ q)
@@ -62,6 +66,8 @@ only_edit line object (Edit c) is h = let same : h.object ≡ object = append_ca
 only_edit line object (Close t) is h = apart 101 99 line (ap (λ (l : List ℕ). get_or l 0 0) is) (first_is line (Close t) h) (λ e. omega arith)
 only_edit line object (Deliver n form) is h = apart 101 100 line (ap (λ (l : List ℕ). get_or l 0 0) is) (first_is line (Deliver n form) h) (λ e. omega arith)
 only_edit line object Show is h = apart 101 115 line (ap (λ (l : List ℕ). get_or l 0 0) is) (first_is line Show h) (λ e. omega arith)
+only_edit line object Save is h = apart 101 115 line (ap (λ (l : List ℕ). get_or l 0 0) is) (first_is line Save h) (λ e. omega arith)
+only_edit line object Restart is h = apart 101 114 line (ap (λ (l : List ℕ). get_or l 0 0) is) (first_is line Restart h) (λ e. omega arith)
 
 pub only_close : (line text : List ℕ) (e : Event) → line ≡ codes "close " ++ text → IsEventLine line e → IsCloseOf text e
 unfolding first_of
@@ -69,6 +75,8 @@ only_close line text (Edit c) is h = apart 99 101 line (ap (λ (l : List ℕ). g
 only_close line text (Close t) is h = let same : h.text ≡ text = append_cancel_left (codes "close ") h.text text (sym h.parts ∙ is) in rw (← same) h.spelled
 only_close line text (Deliver n form) is h = apart 99 100 line (ap (λ (l : List ℕ). get_or l 0 0) is) (first_is line (Deliver n form) h) (λ e. omega arith)
 only_close line text Show is h = apart 99 115 line (ap (λ (l : List ℕ). get_or l 0 0) is) (first_is line Show h) (λ e. omega arith)
+only_close line text Save is h = apart 99 115 line (ap (λ (l : List ℕ). get_or l 0 0) is) (first_is line Save h) (λ e. omega arith)
+only_close line text Restart is h = apart 99 114 line (ap (λ (l : List ℕ). get_or l 0 0) is) (first_is line Restart h) (λ e. omega arith)
 
 pub only_deliver : (line words : List ℕ) (e : Event) → line ≡ codes "deliver " ++ words → IsEventLine line e → IsDeliverOf words e
 unfolding first_of
@@ -80,6 +88,8 @@ only_deliver line words (Deliver n form) is h = record {
   spelled = h.spelled;
 }
 only_deliver line words Show is h = apart 100 115 line (ap (λ (l : List ℕ). get_or l 0 0) is) (first_is line Show h) (λ e. omega arith)
+only_deliver line words Save is h = apart 100 115 line (ap (λ (l : List ℕ). get_or l 0 0) is) (first_is line Save h) (λ e. omega arith)
+only_deliver line words Restart is h = apart 100 114 line (ap (λ (l : List ℕ). get_or l 0 0) is) (first_is line Restart h) (λ e. omega arith)
 
 -- what refuses one fact refuses another that implies it
 pub refused_more : (r : Result Event LineFault) (A B : Event → Type 0) → ((e : Event) → B e → A e) → IfErr r (Refused A) → IfErr r (Refused B)
@@ -106,6 +116,8 @@ deliver_words words digits form (Deliver n g) is h =
     ∙ (ap (take (length digits)) is ∙ take-append_seam digits (form_text form)))) in
     (n, rw (← same) h.spelled)
 deliver_words words digits form Show is h = absurd h
+deliver_words words digits form Save is h = absurd h
+deliver_words words digits form Restart is h = absurd h
 
 -- one line more, which says nothing or is an event
 pub AreEvents-skipped : (lines : List (List ℕ)) (events : List Event) (line : List ℕ) → AreEvents lines events → is_skipped line ≡ true → AreEvents (lines ++ line ∷ []) events

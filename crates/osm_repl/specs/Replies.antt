@@ -12,7 +12,7 @@ use Rattle.osm_world.specs.declared.event.Reply.TheVariants.{Closed, SequenceFul
 use Rattle.osm_world.specs.declared.event.Reply.TheVariants.{TimeBack, TooLarge}
 use Rattle.osm_world.specs.declared.event.Reply.TheVariants.{NotPublished, Broken, Old, Again}
 use Rattle.osm_world.specs.declared.event.Reply.TheVariants.{TooEarly, Held, Applied, Broke}
-use Rattle.osm_world.specs.declared.event.Reply.TheVariants.{Shown}
+use Rattle.osm_world.specs.declared.event.Reply.TheVariants.{Shown, Saved, Restarted}
 
 -- `NAME N` and LF
 abbrev pub numbered_line : List ℕ → ℕ → List ℕ
@@ -76,6 +76,8 @@ reply_text (Applied low high) =
     codes "applied " ++ decimal low ++ codes ".." ++ decimal high ++ 10 ∷ []
 reply_text Broke = codes "broke\n"
 reply_text (Shown view) = view_text view
+reply_text (Saved n) = numbered_line (codes "saved ") n
+reply_text (Restarted n) = numbered_line (codes "restarted ") n
 
 -- the lines of all replies, in their order
 abbrev pub replies_text : List Reply → List ℕ

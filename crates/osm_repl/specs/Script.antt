@@ -8,6 +8,7 @@ use Rattle.osm_reading.specs.Lines.{lines_of, is_skipped}
 use Rattle.osm_reading.specs.Sequence.{SpellsSequence}
 use Rattle.osm_world.specs.declared.event.Event.{Event}
 use Rattle.osm_world.specs.declared.event.Event.TheVariants.{Edit, Close, Deliver, Show}
+use Rattle.osm_world.specs.declared.event.Event.TheVariants.{Save, Restart}
 use Rattle.osm_world.specs.declared.event.Form.{Form}
 use Rattle.osm_world.specs.declared.event.Form.TheVariants.{Opl, O5c}
 use Rattle.osm_repl.specs.declared.fault.RunFault.{RunFault}
@@ -42,6 +43,8 @@ IsEventLine line (Edit change) = IsEdit line change
 IsEventLine line (Close time) = IsClose line time
 IsEventLine line (Deliver number form) = IsDeliver line number form
 IsEventLine line Show = line ≡ codes "show"
+IsEventLine line Save = line ≡ codes "save"
+IsEventLine line Restart = line ≡ codes "restart"
 
 -- the lines that say something
 abbrev pub said_of : List (List ℕ) → List (List ℕ)

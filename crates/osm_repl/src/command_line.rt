@@ -26,6 +26,8 @@ It has one event a line; empty lines and lines that begin with # say nothing:
   deliver N opl  published sequence N is delivered to the follower as an OPL file
   deliver N o5c  the same as an o5c file
   show           the follower shows its number, time, objects and counts of edits
+  save           the follower is saved
+  restart        the follower restarts from what was saved last, or anew if nothing was
 
 A line that is no event is a fault, and nothing is written then.";
 

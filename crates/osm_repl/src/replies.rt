@@ -48,6 +48,8 @@ pub(crate) fn write_reply(reply: &Reply, text: &mut Vec<u8>) -> Result<(), WantO
         Reply::Applied { low, high } => write_applied(*low, *high, text),
         Reply::Broke => write_bytes(b"broke\n", text),
         Reply::Shown(view) => write_view(view, text),
+        Reply::Saved(number) => write_numbered(b"saved ", *number as u64, text),
+        Reply::Restarted(number) => write_numbered(b"restarted ", *number as u64, text),
     }
 }
 

@@ -1,6 +1,6 @@
 //! Scripts: a line an event, as `edit n1 v1 dV c7 t2024-01-01T00:00:00Z i5 uann T x1 y2`,
-//! `close 2024-01-01T00:00:00Z`, `deliver 1 opl`, `deliver 1 o5c` and `show`. Empty lines and lines
-//! that begin with `#` say nothing.
+//! `close 2024-01-01T00:00:00Z`, `deliver 1 opl`, `deliver 1 o5c`, `show`, `save` and `restart`.
+//! Empty lines and lines that begin with `#` say nothing.
 
 ghost use Rattle.std.specs.Prelude.{◌≡◌, ℕ, ◌<◌, ◌++◌, ◌^◌, List, [], ◌∷◌, length};
 ghost use Rattle.std.specs.Prelude.{IfOk, IfErr, OnOk, IfSome, IfNone};
@@ -119,10 +119,12 @@ fn parse_event(alloc: Global, line: &[u8]) -> Result<Event, LineFault>
     if let Some(words) = after_prefix(line, b"deliver ") {
         return parse_deliver(words);
     }
-    if line == b"show".as_slice() {
-        return Ok(Event::Show);
+    match line {
+        b"show" => Ok(Event::Show),
+        b"save" => Ok(Event::Save),
+        b"restart" => Ok(Event::Restart),
+        _ => Err(LineFault::NoEvent),
     }
-    Err(LineFault::NoEvent)
 }
 
 fn parse_edit(alloc: Global, object: &[u8]) -> Result<Event, LineFault>
