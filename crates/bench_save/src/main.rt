@@ -145,6 +145,7 @@ fn read_save<R: Print + Clock>(
 fn measure<R: Print + Clock>(rt: &R, alloc: Global, follower: &mut Follower) -> anyhow::Result<()> {
     let count = measure_opl(rt, alloc, follower)?;
     let text = write_save(rt, alloc, follower, count)?;
+    follower.restart(alloc, None)?;
     read_save(rt, alloc, follower, text.as_slice(), count)
 }
 
