@@ -1,4 +1,6 @@
+mod early;
 mod follow;
 mod holding;
 mod judge;
+mod lag;
 mod repl;
