@@ -3,4 +3,6 @@ mod follow;
 mod holding;
 mod judge;
 mod lag;
+mod large;
+mod orders;
 mod repl;
