@@ -3,6 +3,7 @@
 
 use osm_follow::delivery::{DeliverError, Delivered};
 use osm_follow::follower::{Broken, Follower};
+use osm_follow::lag::LagError;
 use osm_follow::publisher::{CloseError, EditError, Publisher};
 use osm_follow::view::ViewError;
 use osm_model::form::{ChangeForm, FormError, Why};
@@ -105,7 +106,7 @@ fn holds_the_node(follower: &Follower) -> Result<bool, Broken> {
 // Whether a new follower applies those bytes as the first sequence, holds the node then, and calls
 // the sequence old when it comes again, whatever its bytes.
 fn applies<F: ChangeForm>(alloc: Global, bytes: &[u8]) -> Result<bool, Fail> {
-    let mut follower = Follower::new(alloc);
+    let mut follower = Follower::new(alloc)?;
     let first = follower.deliver::<F>(alloc, STATE, bytes);
     let again = follower.deliver::<O5c>(alloc, STATE, b"no file");
     let is_applied = first == Ok(Delivered::Applied { low: 1, high: 1 });
@@ -137,27 +138,30 @@ fn is_refused(
 }
 
 #[test]
-fn a_delivery_is_refused_for_its_first_fault(rt: HostRuntime) {
+fn a_delivery_is_refused_for_its_first_fault(rt: HostRuntime) -> Result<(), Fail> {
     let alloc = rt.alloc();
     let zero = b"sequenceNumber=0\ntimestamp=2024-01-01T00:00:00Z\n";
     let second = b"sequenceNumber=2\ntimestamp=2024-01-01T00:00:00Z\n";
+    let past = b"sequenceNumber=65\ntimestamp=2024-01-01T00:00:00Z\n";
     let no_header = FormError::Fault {
         place: 0,
         why: Why::BadHeader,
     };
-    let cases: [(&[u8], DeliverError); 4] = [
+    let cases: [(&[u8], DeliverError); 5] = [
         (b"", DeliverError::BadState(StateError::MissingSequence)),
         (zero, DeliverError::BadSequence),
-        (second, DeliverError::TooEarly),
+        (past, DeliverError::TooEarly),
+        (second, DeliverError::BadChange(no_header)),
         (STATE, DeliverError::BadChange(no_header)),
     ];
-    let mut follower = Follower::new(alloc);
+    let mut follower = Follower::new(alloc)?;
     for (state, error) in cases {
         assert!(rt;
             is_refused(alloc, &mut follower, (state, b""), error),
             "{error:?}"
         );
     }
+    Ok(())
 }
 
 // A world after an edit of the node and a close.
@@ -200,6 +204,7 @@ fn refusals_are_named_as_they_are(rt: HostRuntime) -> Result<(), Fail> {
     assert!(rt; CloseError::TooLarge.to_string(alloc)?.as_str() == "TooLarge");
     assert!(rt; DeliverError::TooEarly.to_string(alloc)?.as_str() == "TooEarly");
     assert!(rt; ViewError::WantOfMemory.to_string(alloc)?.as_str() == "WantOfMemory");
+    assert!(rt; LagError::TopBehind.to_string(alloc)?.as_str() == "TopBehind");
     assert!(rt; Broken.to_string(alloc)?.as_str() == "Broken");
     Ok(())
 }

@@ -1,0 +1,5 @@
+//! Tests of the public calls of the folder and of saves: osm_folder, osm_save.
+#![tactic(auto)]
+
+#[cfg(test)]
+mod tests;

@@ -1,0 +1,6 @@
+mod convert;
+mod files;
+mod publish;
+mod save;
+mod shown;
+mod store;

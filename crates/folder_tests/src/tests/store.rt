@@ -1,0 +1,212 @@
+//! Tests of stores, reports, names of files and texts of faults.
+
+use super::files::{is_file, store_with};
+use super::shown::is_shown;
+use osm_folder::fault::{FileName, RunFault};
+use osm_folder::fuse::Fuse;
+use osm_folder::names::{file_name, top_name};
+use osm_folder::report::{follow_report, lag_report};
+use osm_folder::store::{Store, StoreError};
+use osm_model::form::Why;
+use osm_state::paths::Suffix;
+use osm_state::state_text::StateError;
+use std::alloc::Global;
+use std::test::Fail;
+
+// Whether a file is read so, if at most so many bytes are asked for.
+fn is_read<S: Store>(
+    alloc: Global,
+    store: &mut S,
+    (name, limit): (&str, u64),
+    expected: Result<Option<&[u8]>, StoreError>,
+) -> bool {
+    match store.read(alloc, name, limit) {
+        Ok(Some(bytes)) => expected == Ok(Some(bytes.as_slice())),
+        Ok(None) => expected == Ok(None),
+        Err(error) => expected == Err(error),
+    }
+}
+
+#[test]
+fn a_store_in_memory_holds_what_was_put(rt: HostRuntime) -> Result<(), Fail> {
+    let alloc = rt.alloc();
+    let files = [("a", b"one".as_slice()), ("b", b"two".as_slice())];
+    let mut store = store_with(alloc, files.as_slice())?;
+    store.put(alloc, "a", b"three")?;
+    store.remove("b");
+    store.remove("c");
+    assert!(rt; is_file(&store, "a", b"three") && store.get("b").is_none());
+    let three = Ok(Some(b"three".as_slice()));
+    assert!(rt; is_read(alloc, &mut store, ("a", 5), three));
+    assert!(rt; is_read(alloc, &mut store, ("a", 4), Err(StoreError::TooLarge)));
+    assert!(rt; is_read(alloc, &mut store, ("b", 4), Ok(None)));
+    assert_eq!(rt; store.write(alloc, "b", b"four"), Ok(()));
+    assert!(rt; is_file(&store, "b", b"four"));
+    Ok(())
+}
+
+#[test]
+fn a_fuse_passes_on_so_many_calls(rt: HostRuntime) -> Result<(), Fail> {
+    let alloc = rt.alloc();
+    let store = store_with(alloc, [("a", b"one".as_slice())].as_slice())?;
+    let mut fuse = Fuse::new(store, 2);
+    let one = Ok(Some(b"one".as_slice()));
+    assert!(rt; is_read(alloc, &mut fuse, ("a", 3), one));
+    assert_eq!(rt; fuse.write(alloc, "a", b"two"), Ok(()));
+    assert_eq!(rt; fuse.write(alloc, "a", b"three"), Err(StoreError::Device));
+    assert!(rt; is_read(alloc, &mut fuse, ("a", 3), Err(StoreError::Device)));
+    assert!(rt; is_file(&fuse.into_inner(), "a", b"two"));
+    Ok(())
+}
+
+// Ranges that were applied, numbers that are missing, the number reached, and the report.
+const FOLLOWED: [(&[(u32, u32)], &[u32], u32, u8, &str); 4] = [
+    (&[(1, 1)], &[2], 1, 1, "applied 1..1\nmissing 2\nnumber 1\n"),
+    (
+        &[(2, 2), (3, 3), (4, 4)],
+        &[],
+        4,
+        0,
+        "applied 2..2\napplied 3..3\napplied 4..4\nnumber 4\n",
+    ),
+    (&[], &[], 0, 0, "number 0\n"),
+    (&[], &[8, 9], 7, 1, "missing 8\nmissing 9\nnumber 7\n"),
+];
+
+// Whether that is reported, with that status.
+fn is_follow_report(
+    alloc: Global,
+    (applied, missing, number): (&[(u32, u32)], &[u32], u32),
+    (status, text): (u8, &str),
+) -> Result<bool, Fail> {
+    let report = follow_report(alloc, applied, missing, number)?;
+    Ok(report.status() == status && report.text() == text.as_bytes())
+}
+
+#[test]
+fn a_follower_reports_a_line_for_each_range_and_each_gap(rt: HostRuntime) -> Result<(), Fail> {
+    for (applied, missing, number, status, text) in FOLLOWED {
+        let followed = (applied, missing, number);
+        assert!(rt;
+            is_follow_report(rt.alloc(), followed, (status, text))?,
+            "{text}"
+        );
+    }
+    Ok(())
+}
+
+// Whether a lag is reported so.
+fn is_lag_report(
+    alloc: Global,
+    behind: u32,
+    seconds: Option<u32>,
+    text: &str,
+) -> Result<bool, Fail> {
+    let report = lag_report(alloc, behind, seconds)?;
+    Ok(report.status() == 0 && report.text() == text.as_bytes())
+}
+
+#[test]
+fn a_lag_is_two_lines(rt: HostRuntime) -> Result<(), Fail> {
+    let alloc = rt.alloc();
+    assert!(rt; is_lag_report(alloc, 3, Some(180), "behind 3\nseconds 180\n")?);
+    assert!(rt; is_lag_report(alloc, 4, None, "behind 4\nseconds none\n")?);
+    Ok(())
+}
+
+fn is_top_name(alloc: Global, dir: &str, text: &str) -> Result<bool, Fail> {
+    Ok(top_name(alloc, dir)?.as_str() == text)
+}
+
+fn is_file_name(alloc: Global, number: u32, suffix: Suffix, text: &str) -> Result<bool, Fail> {
+    if 999_999_999 < number {
+        return Ok(false);
+    }
+    Ok(file_name(alloc, "a", number, suffix)?.as_str() == text)
+}
+
+#[test]
+fn names_are_the_folder_and_the_path(rt: HostRuntime) -> Result<(), Fail> {
+    let alloc = rt.alloc();
+    assert!(rt; is_top_name(alloc, "a/b", "a/b/state.txt")?);
+    assert!(rt; is_file_name(alloc, 1_002_003, Suffix::Opl, "a/001/002/003.opl")?);
+    Ok(())
+}
+
+// A fault, its text and its exit status.
+const FAULTS: [(RunFault, &str, u8); 18] = [
+    (RunFault::WantOfMemory, "out of memory", 3),
+    (
+        RunFault::ReadFault(FileName::Top),
+        "state.txt: read failed",
+        3,
+    ),
+    (
+        RunFault::WriteFault(FileName::Output),
+        "output: write failed",
+        3,
+    ),
+    (
+        RunFault::TooLarge(FileName::Changes),
+        "changes: too large",
+        3,
+    ),
+    (
+        RunFault::TooLarge(FileName::Sequence(999_999_999, Suffix::Opl)),
+        "999/999/999.opl: too large",
+        3,
+    ),
+    (RunFault::Absent(FileName::Save), "save: not there", 3),
+    (
+        RunFault::BadState(
+            FileName::Sequence(1_002_003, Suffix::State),
+            StateError::BadTime,
+        ),
+        "001/002/003.state.txt: bad state: BadTime",
+        3,
+    ),
+    (
+        RunFault::Mismatch(1),
+        "sequence 1: wrong number in state",
+        3,
+    ),
+    (
+        RunFault::BadChange(FileName::Sequence(7, Suffix::O5c), 12, Why::Truncated),
+        "000/000/007.o5c: at 12: Truncated",
+        3,
+    ),
+    (
+        RunFault::BadChange(FileName::Input, 3, Why::BadField),
+        "input: at 3: BadField",
+        3,
+    ),
+    (RunFault::BadSave(10), "save: line 10", 3),
+    (RunFault::BadScript(7), "input: line 7", 3),
+    (RunFault::TopBehind, "state.txt: older than the save", 3),
+    (RunFault::TimeBehind, "state.txt: older than the save", 3),
+    (RunFault::TimeBack, "close refused: TimeBack", 3),
+    (RunFault::SequenceFull, "close refused: SequenceFull", 3),
+    (RunFault::UnknownForm, "unknown form", 2),
+    (RunFault::BadNow, "bad time", 2),
+];
+
+#[test]
+fn faults_of_runs_say_the_file_and_what_was_wrong(rt: HostRuntime) -> Result<(), Fail> {
+    for (fault, text, status) in FAULTS {
+        assert!(rt; is_shown(rt.alloc(), &fault, text)?, "{text}");
+        assert_eq!(rt; fault.status(), status, "{text}");
+    }
+    Ok(())
+}
+
+#[test]
+fn errors_of_stores_print_their_names(rt: HostRuntime) -> Result<(), Fail> {
+    for (error, text) in [
+        (StoreError::Device, "Device"),
+        (StoreError::TooLarge, "TooLarge"),
+        (StoreError::WantOfMemory, "WantOfMemory"),
+    ] {
+        assert!(rt; is_shown(rt.alloc(), &error, text)?, "{text}");
+    }
+    Ok(())
+}
