@@ -6,5 +6,6 @@ pub mod ArchiveLemmas
 pub mod RunLemmas
 pub mod ReportLemmas
 pub mod LawLemmas
+pub mod OrderLemmas
 pub mod AlikeLemmas
 pub mod ReplyLemmas

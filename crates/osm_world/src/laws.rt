@@ -1,7 +1,7 @@
 //! What holds of runs and histories, whatever the code does.
 
 ghost use Rattle.std.specs.Prelude.{◌≡◌, ℕ, ◌+◌, ◌<◌, List, [], ◌∷◌, ◌++◌, length, slice_index};
-ghost use Rattle.std.specs.Prelude.{◌≤◌, ◌↔◌, IsSome, true, false};
+ghost use Rattle.std.specs.Prelude.{◌≤◌, ◌↔◌, Contains, IsSome, true, false};
 ghost use Rattle.osm_follow.specs.Follower.{held_at, is_held};
 ghost use Rattle.osm_follow.specs.Reach.{missing_numbers, numbers};
 ghost use Rattle.osm_follow.specs.View.{ViewValue};
@@ -56,12 +56,18 @@ pub fn laws_of_histories()
 /// delivered since the last restart and answered `Held`, `Applied`, `Old` or `Again`. And if since
 /// then the numbers after its start were delivered in order up to some number, with anything in
 /// between, and none of them was unpublished or refused for memory, the history has reached that
-/// number, unless its follower is broken. Does nothing at run time.
+/// number, unless its follower is broken. The order doesn't matter for the first 64 numbers after
+/// its start: if each of them up to some number was delivered so, the history has reached that
+/// number. Does nothing at run time.
 pub fn laws_of_progress()
     ensures accepted { (h : History) (j : ℕ) → IsLegal h
         → (accepted_of h j ≡ true) ↔ ((start_of h < j) × (is_confirmed h j ≡ true)) }
     ensures catches_up { (h : History) (n count : ℕ) → IsLegal h → is_broken h ≡ false
         → IsNumber h n → IsSubsequence (numbers (start_of h) count) (delivered_of h)
+        → start_of h + count ≤ n }
+    ensures any_order { (h : History) (n count : ℕ) → IsLegal h → is_broken h ≡ false
+        → IsNumber h n → count ≤ 64
+        → ((j : ℕ) → start_of h < j → j ≤ start_of h + count → Contains (delivered_of h) j)
         → start_of h + count ≤ n }
 {}
 
