@@ -6,3 +6,4 @@ mod lag;
 mod large;
 mod orders;
 mod repl;
+mod restarts;
