@@ -7,5 +7,6 @@ pub mod RunLemmas
 pub mod ReportLemmas
 pub mod LawLemmas
 pub mod OrderLemmas
+pub mod BoundLemmas
 pub mod AlikeLemmas
 pub mod ReplyLemmas

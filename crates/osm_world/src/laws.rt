@@ -8,7 +8,8 @@ ghost use Rattle.osm_follow.specs.View.{ViewValue};
 ghost use Rattle.osm_world.specs.Alike.{AcceptAlike, AreAlike};
 ghost use Rattle.osm_world.specs.Correct.{IsInStep, IsRun};
 ghost use Rattle.osm_world.specs.Deliveries.{IsSubsequence, delivered_of, is_confirmed};
-ghost use Rattle.osm_world.specs.History.{History, accepted_of, is_broken, reported_of, start_of};
+ghost use Rattle.osm_world.specs.History.{History, accepted_of, is_broken, published_of};
+ghost use Rattle.osm_world.specs.History.{reported_of, start_of};
 ghost use Rattle.osm_world.specs.Legal.{Allowed, IsLegal, IsNumber, is_want_of_memory};
 ghost use Rattle.osm_world.specs.Step.{Step};
 ghost use Rattle.osm_world.specs.World.{WorldValue, new_world};
@@ -86,6 +87,16 @@ pub fn laws_of_holding()
     ensures missing { (h : History) (w : WorldValue) (top : ℕ) → IsInStep h w
         → is_broken h ≡ false → missing_numbers (is_held w.follower) w.follower.number top
         ≡ missing_numbers (accepted_of h) w.follower.number top }
+{}
+
+/// What a legal history may show is within what was published: the number, and the numbers held,
+/// which all come after the next one and are among the 64 after its own. Does nothing at run time.
+pub fn laws_of_views()
+    ensures number { (h : History) (v : ViewValue) → IsLegal h
+        → Allowed h Event.Show (Reply.Shown v) → v.number ≤ length (published_of h) }
+    ensures held { (h : History) (v : ViewValue) (j : ℕ) → IsLegal h
+        → Allowed h Event.Show (Reply.Shown v) → Contains v.held j
+        → (v.number + 1 < j) × (j ≤ v.number + 64) × (j ≤ length (published_of h)) }
 {}
 
 /// The order of deliveries doesn't matter, nor do repeats: if the same was published and accepted
