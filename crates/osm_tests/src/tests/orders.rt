@@ -132,13 +132,21 @@ changesets 1
 held 0
 ";
 
-// Thirty deliveries by chance: some numbers come twice and some never, in either form.
-fn add_some(alloc: Global, script: &mut String, seed: u32) -> Result<(), Fail> {
+// The number of the delivery at that index of a row of deliveries by chance, and whether it is in
+// o5c: some numbers come twice and some never, in either form.
+fn delivery_by_chance(seed: u32, index: u32) -> (u32, bool) {
     let mut chance = seed;
-    for _ in 0..30u32 {
+    for _ in 0..=index {
         chance = chance.wrapping_mul(1_103_515_245).wrapping_add(12_345);
-        let number = 1 + chance / 65_536 % 20;
-        add_delivery(alloc, script, number, chance / 32_768 % 2 == 0)?;
+    }
+    (1 + chance / 65_536 % 20, chance / 32_768 % 2 == 0)
+}
+
+// Thirty deliveries by chance, in their order or in reverse.
+fn add_some(alloc: Global, script: &mut String, seed: u32, reversed: bool) -> Result<(), Fail> {
+    for index in 0..30u32 {
+        let (number, is_o5c) = delivery_by_chance(seed, if reversed { 29 - index } else { index });
+        add_delivery(alloc, script, number, is_o5c)?;
     }
     Ok(())
 }
@@ -148,7 +156,7 @@ fn add_some(alloc: Global, script: &mut String, seed: u32) -> Result<(), Fail> {
 fn leave_the_same_at_last(alloc: Global, seed: u32) -> Result<bool, Fail> {
     let mut script = String::new(alloc);
     add_twenty(alloc, &mut script)?;
-    add_some(alloc, &mut script, seed)?;
+    add_some(alloc, &mut script, seed, false)?;
     for number in 1..21u32 {
         add_delivery(alloc, &mut script, number, number % 3 == 0)?;
     }
@@ -158,8 +166,36 @@ fn leave_the_same_at_last(alloc: Global, seed: u32) -> Result<bool, Fail> {
 
 #[test]
 fn twenty_sequences_with_repeats_and_losses_end_alike(rt: HostRuntime) -> Result<(), Fail> {
-    for seed in 0..20u32 {
+    for seed in 0..200u32 {
         assert!(rt; leave_the_same_at_last(rt.alloc(), seed)?, "{seed}");
+    }
+    Ok(())
+}
+
+// What is shown after the twenty sequences were delivered by chance, with losses and repeats.
+fn shown_after_some(alloc: Global, seed: u32, reversed: bool) -> Result<String, Fail> {
+    let mut script = String::new(alloc);
+    add_twenty(alloc, &mut script)?;
+    add_some(alloc, &mut script, seed, reversed)?;
+    script.push_str("show\n")?;
+    let mut written = Vec::new(alloc);
+    replay_run(alloc, &mut script.as_bytes(), &mut written)?;
+    let text = std::str::from_utf8(written.as_slice())?;
+    let start = text.rfind("\nnumber ").ok_or("a view")?;
+    Ok(String::from_str(alloc, &text[start..])?)
+}
+
+fn show_the_same(alloc: Global, seed: u32) -> Result<bool, Fail> {
+    let forward = shown_after_some(alloc, seed, false)?;
+    let backward = shown_after_some(alloc, seed, true)?;
+    Ok(forward.as_str() == backward.as_str())
+}
+
+// The numbers that were accepted are the same in either order, since the window has room for all.
+#[test]
+fn equal_accepted_numbers_show_equal_views(rt: HostRuntime) -> Result<(), Fail> {
+    for seed in 0..200u32 {
+        assert!(rt; show_the_same(rt.alloc(), seed)?, "{seed}");
     }
     Ok(())
 }

@@ -37,7 +37,7 @@ held 0
 ";
 
 // Scripts, and the number of the first line that is no event.
-const REFUSED: [(&str, u64); 15] = [
+const REFUSED: [(&str, u64); 16] = [
     ("foo", 1),
     ("show\nshow \n", 2),
     ("# c\n\nshow\nclose 2024-01-01T00:00:60Z\n", 4),
@@ -50,7 +50,8 @@ const REFUSED: [(&str, u64); 15] = [
     ("edit\n", 1),
     ("edit x1\n", 1),
     ("close 2024-01-01T00:00:00Z\r\nshow\r\r\n", 2),
-    ("save\n", 1),
+    ("save 1\n", 1),
+    ("restart \n", 1),
     (
         "edit n1 v0 dV c7 t2024-01-01T00:00:00Z i5 uann T x1 y2\n",
         1,
