@@ -1,38 +1,15 @@
--- A mirror: the objects that aren't deleted, and the edits by user and by changeset, as lists that
--- rise.
-use Rattle.std.specs.Prelude.{
-  ◌≡◌,
-  ℕ,
-  ◌+◌,
-  ◌<◌,
-  ◌≤◌,
-  List,
-  [],
-  ◌∷◌,
-  ◌++◌,
-  length,
-  map,
-  Option,
-  Some,
-  None,
-  if◌then◌else◌,
-  unwrap_or,
-  IsSome,
-  ◌⊎◌,
-}
+-- A mirror: the objects that aren't deleted, and the edits by user and by changeset, as sorted
+-- lists.
+use Rattle.std.specs.Prelude.{◌≡◌, ℕ, ◌+◌, ◌<◌, ◌≤◌, ◌⊎◌, List, [], ◌∷◌, ◌++◌, length, map}
+use Rattle.std.specs.Prelude.{Option, Some, None, IsSome, if◌then◌else◌, unwrap_or}
 use Rattle.std.specs.BTreeMap.{is_at}
 use Rattle.std.specs.List.{AllByRecursion}
 use Rattle.std.specs.List.Sorted.{IsStrictlySortedBy}
 use Rattle.std.specs.Map.{lookup}
 use Rattle.std.specs.Ordering.{nat_cmp}
 use Rattle.osm_model.specs.Change.{ChangeValue, IsChange}
-use Rattle.osm_model.specs.Content.{
-  content_of,
-  over,
-  standing_of,
-  edits_by_user,
-  edits_by_changeset,
-}
+use Rattle.osm_model.specs.Content.{content_of, over, standing_of}
+use Rattle.osm_model.specs.Content.{edits_by_user, edits_by_changeset}
 use Rattle.osm_model.specs.KeyOrder.{key_cmp, same_key}
 use Rattle.osm_model.specs.Limits.{IsPositive}
 use Rattle.osm_model.specs.declared.change.What.TheVariants.{Deleted}

@@ -1,7 +1,7 @@
--- The main statement. Over every list of edits, closes, deliveries, saves and restarts a follower
--- that isn't broken holds exactly the mirror and the counts of edits of published sequences 1 to its
--- own number, each applied once; and the numbers that it reports as applied since its last restart
--- are the next ones, each once and in order.
+-- The main statement. Over every list of edits, closes, deliveries, saves and restarts, a follower
+-- that isn't broken holds exactly the mirror and the counts of edits of published sequences 1 to
+-- its own number, each applied once; and the numbers that it reports as applied since its last
+-- restart are the next ones, each once and in order.
 use Rattle.std.specs.Prelude.{◌≡◌, ℕ, ◌+◌, ◌≤◌, List, length, map, false, Option, Some, None}
 use Rattle.osm_model.specs.Batch.{IsBatch}
 use Rattle.osm_follow.specs.Follower.{IsState}
