@@ -27,8 +27,8 @@ NoFaultBeside = (text : List ℕ) (s : StateValue) (e : StateError) → StateOf 
 abbrev pub state_of : PublishedValue → StateValue
 state_of p = record { sequence = p.number; time = p.time }
 
--- the follower isn't broken, and the number is one of the 64 after its own, for which it holds nothing
-pub record IsWanted (f : FollowerValue) (number : ℕ) : Type 0 where
+-- the follower isn't broken, and the number is within the window after its own, for which it holds nothing
+pub record IsDueAt (f : FollowerValue) (number : ℕ) : Type 0 where
   pub whole : f.is_broken ≡ false
   pub above : f.number < number
   pub within : number ≤ f.number + 64
@@ -40,12 +40,12 @@ FollowerStep f p (Err Broken) g = (f.is_broken ≡ true) × (g ≡ f)
 FollowerStep f p (Ok Old) g = (f.is_broken ≡ false) × (p.number ≤ f.number) × (g ≡ f)
 FollowerStep f p (Ok Again) g = (f.is_broken ≡ false) × (f.number < p.number) × IsSome (held_at f p.number) × (g ≡ f)
 FollowerStep f p (Err TooEarly) g = (f.is_broken ≡ false) × (f.number + 64 < p.number) × (held_at f p.number ≡ None) × (g ≡ f)
-FollowerStep f p (Err (BadChange e)) g = IsWanted f p.number × (g ≡ f)
-FollowerStep f p (Err WantOfMemory) g = IsWanted f p.number × (0 < length p.changes) × (g ≡ f)
-FollowerStep f p (Ok Held) g = IsWanted f p.number × (f.number + 1 < p.number) × table.Holds f p g
+FollowerStep f p (Err (BadChange e)) g = IsDueAt f p.number × (g ≡ f)
+FollowerStep f p (Err WantOfMemory) g = IsDueAt f p.number × (0 < length p.changes) × (g ≡ f)
+FollowerStep f p (Ok Held) g = IsDueAt f p.number × (f.number + 1 < p.number) × table.Holds f p g
 FollowerStep f p (Ok (Applied low high)) g =
-    IsWanted f p.number × (p.number ≡ f.number + 1) × (low ≡ p.number) × table.Takes f p high g
-FollowerStep f p (Err Broke) g = IsWanted f p.number × (p.number ≡ f.number + 1) × table.Breaks f p g
+    IsDueAt f p.number × (p.number ≡ f.number + 1) × (low ≡ p.number) × table.Takes f p high g
+FollowerStep f p (Err Broke) g = IsDueAt f p.number × (p.number ≡ f.number + 1) × table.Breaks f p g
 FollowerStep f p answer g = ⊥
 
 some_changes : (spells : table.Spelling) (bytes : List ℕ) (cs : List ChangeValue) → spells bytes cs → (spells bytes [] → ⊥) → 0 < length cs
@@ -58,7 +58,7 @@ same_sequence s cs p e f = rw (e, f) refl
 same_number : (s : StateValue) (p : PublishedValue) → s ≡ state_of p → s.sequence ≡ p.number
 same_number s p e = ap (λ (t : StateValue). t.sequence) e
 
-wanted : (f : FollowerValue) (state : List ℕ) (s : StateValue) (p : PublishedValue) → s ≡ state_of p → table.IsTurn f state s → IsWanted f p.number
+wanted : (f : FollowerValue) (state : List ℕ) (s : StateValue) (p : PublishedValue) → s ≡ state_of p → table.IsDue f state s → IsDueAt f p.number
 wanted f state s p e t =
     let number : s.sequence ≡ p.number = same_number s p e in
     record { whole = t.whole; above = rw number at t.above; within = rw number at t.within; fresh = rw number at t.fresh }

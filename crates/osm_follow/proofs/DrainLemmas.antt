@@ -155,7 +155,7 @@ none_below holding j is below = by_slot (area.held_at holding j) refl
   where
     by_slot : (o : Option Held) → area.held_at holding j ≡ o → option_map (numbered j) o ≡ None
     by_slot None e = refl
-    by_slot (Some h) e = absurd (let there : IsTrue (is_some (area.held_at holding j)) = ap is_some e in let window = is.window j there in let above = window.above in omega arith)
+    by_slot (Some h) e = absurd (let there : IsTrue (is_some (area.held_at holding j)) = ap is_some e in let window = is.within j there in let above = window.above in omega arith)
 
 pub takes : (f g : FollowerValue) (p : PublishedValue) (time last : ℕ) → p.number ≡ f.holding.base + 1 → Drains f.mirror f.holding (record { batch = p.changes; time = p.time }) g.mirror g.holding last → IsHolding g.holding → g.number ≡ g.holding.base → g.time ≡ Some last → g.is_broken ≡ false → Takes f p g.holding.base g
 takes f g p time last number d is at timed whole = record {

@@ -11,6 +11,7 @@ use Rattle.osm_state.specs.State.{StateValue}
 use Rattle.osm_state.specs.StateFault.{FaultOf}
 use Rattle.osm_state.specs.StateText.{StateOf}
 use Rattle.osm_follow.specs.Follower.{FollowerValue, changes_held, held_at, is_held, time_in}
+use Rattle.osm_holding.specs.Holding.{window}
 use Rattle.osm_mirror.specs.Mirror.{Applies, NeedsMemory}
 use Rattle.osm_follow.specs.Published.{PublishedValue}
 use Rattle.osm_follow.specs.Reach.{Reaches, between}
@@ -31,7 +32,7 @@ Spelling = List ℕ → List ChangeValue → Type 0
 abbrev pub FaultPlaces : Type 1
 FaultPlaces = List ℕ → ℕ → Type 0
 
--- the sequence is held until its turn comes, and nothing else has changed
+-- the sequence is held, and nothing else has changed
 pub record Holds (f : FollowerValue) (p : PublishedValue) (g : FollowerValue) : Type 0 where
   pub here : held_at g p.number ≡ Some p
   pub others : (j : ℕ) → j ≢ p.number → held_at g j ≡ held_at f j
@@ -77,28 +78,28 @@ AnswersUnread f state (Ok Again) =
     × (f.number < s.sequence) × IsSome (held_at f s.sequence)
 AnswersUnread f state (Err TooEarly) =
     (s : StateValue) × (f.is_broken ≡ false) × StateOf state s
-    × (f.number + 64 < s.sequence) × (held_at f s.sequence ≡ None)
+    × (f.number + window < s.sequence) × (held_at f s.sequence ≡ None)
 AnswersUnread f state answer = ⊥
 
--- the follower isn't broken, and the state text names one of the 64 numbers after the follower's,
--- for which it holds nothing: the bytes are read
-pub record IsTurn (f : FollowerValue) (state : List ℕ) (s : StateValue) : Type 0 where
+-- the follower isn't broken, and the state text names a number within the window after the
+-- follower's, for which it holds nothing: the bytes are read
+pub record IsDue (f : FollowerValue) (state : List ℕ) (s : StateValue) : Type 0 where
   pub whole : f.is_broken ≡ false
   pub names : StateOf state s
   pub above : f.number < s.sequence
-  pub within : s.sequence ≤ f.number + 64
+  pub within : s.sequence ≤ f.number + window
   pub fresh : held_at f s.sequence ≡ None
 
 -- the sequence of that state with those changes
 abbrev pub sequence_of : StateValue → List ChangeValue → PublishedValue
 sequence_of s changes = record { number = s.sequence; changes = changes; time = s.time }
 
--- how bytes are refused that are read, memory aside
-abbrev pub IsBadChange : Spelling → FaultPlaces → List ℕ → FormError → Type 0
-IsBadChange spells fault_place bytes faults.TooLarge = max_file < length bytes
-IsBadChange spells fault_place bytes (faults.Fault place why) =
+-- why bytes that are read are refused, memory aside
+abbrev pub BytesRefused : Spelling → FaultPlaces → List ℕ → FormError → Type 0
+BytesRefused spells fault_place bytes faults.TooLarge = max_file < length bytes
+BytesRefused spells fault_place bytes (faults.Fault place why) =
     (length bytes ≤ max_file) × SpellsNothing spells bytes × fault_place bytes place
-IsBadChange spells fault_place bytes faults.WantOfMemory = ⊥
+BytesRefused spells fault_place bytes faults.WantOfMemory = ⊥
 
 -- the state text and the bytes were delivered to the follower: each answer with all its conditions,
 -- so that no two apply, except that memory may be refused in place of an application
@@ -106,20 +107,20 @@ abbrev pub Delivers :
     Spelling → FaultPlaces → FollowerValue → List ℕ → List ℕ
     → Result Delivered DeliverError → FollowerValue → Type 0
 Delivers spells fault_place f state bytes (Ok Held) g =
-    (s : StateValue) × (changes : List ChangeValue) × IsTurn f state s
+    (s : StateValue) × (changes : List ChangeValue) × IsDue f state s
     × (f.number + 1 < s.sequence) × (length bytes ≤ max_file) × spells bytes changes
     × Holds f (sequence_of s changes) g
 Delivers spells fault_place f state bytes (Ok (Applied low high)) g =
-    (s : StateValue) × (changes : List ChangeValue) × IsTurn f state s
+    (s : StateValue) × (changes : List ChangeValue) × IsDue f state s
     × (s.sequence ≡ f.number + 1) × (length bytes ≤ max_file) × spells bytes changes
     × (low ≡ s.sequence) × Takes f (sequence_of s changes) high g
 Delivers spells fault_place f state bytes (Err Broke) g =
-    (s : StateValue) × (changes : List ChangeValue) × IsTurn f state s
+    (s : StateValue) × (changes : List ChangeValue) × IsDue f state s
     × (s.sequence ≡ f.number + 1) × (length bytes ≤ max_file) × spells bytes changes
     × Breaks f (sequence_of s changes) g
 Delivers spells fault_place f state bytes (Err (BadChange fault)) g =
-    (s : StateValue) × IsTurn f state s × IsBadChange spells fault_place bytes fault × (g ≡ f)
+    (s : StateValue) × IsDue f state s × BytesRefused spells fault_place bytes fault × (g ≡ f)
 Delivers spells fault_place f state bytes (Err WantOfMemory) g =
-    (s : StateValue) × IsTurn f state s
+    (s : StateValue) × IsDue f state s
     × (length bytes ≤ max_file) × (spells bytes [] → ⊥) × (g ≡ f)
 Delivers spells fault_place f state bytes answer g = AnswersUnread f state answer × (g ≡ f)

@@ -3,7 +3,7 @@ use Rattle.std.specs.Prelude.{◌≡◌, ℕ, ◌+◌, ◌*◌, ◌<◌, ◌≤�
 use Rattle.std.specs.Prelude.{None, Some, if◌then◌else◌, IsTrue, ◌↔◌, IfSome, is_some}
 use Rattle.std.specs.Option.{option_map, option_map_or}
 use Rattle.osm_holding.specs.Holding as area
-use Rattle.osm_holding.specs.Holding.{HoldingValue}
+use Rattle.osm_holding.specs.Holding.{HoldingValue, window}
 use Rattle.osm_model.specs.Change.{ChangeValue}
 use Rattle.osm_model.specs.Limits.{IsPositive, max_sequence, max_changes}
 use Rattle.osm_mirror.specs.Mirror.{MirrorValue, IsMirrorOf, IsWithin, no_mirror}
@@ -31,11 +31,11 @@ is_in holding number = is_some (sequence_in holding number)
 abbrev pub changes_in : HoldingValue → ℕ → List ChangeValue
 changes_in holding number = option_map_or (λ p. p.changes) (sequence_in holding number) []
 
--- the time of the sequence that an area holds at a number; if it holds none there, the other one
+-- the time of the sequence that an area holds at a number, or the given time if it holds none there
 abbrev pub time_in : HoldingValue → ℕ → ℕ → ℕ
-time_in holding number other = option_map_or (λ p. p.time) (sequence_in holding number) other
+time_in holding number given = option_map_or (λ p. p.time) (sequence_in holding number) given
 
--- the sequence that a follower holds for a number until its turn comes
+-- the sequence that a follower holds for a number
 abbrev pub held_at : FollowerValue → ℕ → Option PublishedValue
 held_at f number = sequence_in f.holding number
 
@@ -74,17 +74,17 @@ pub record IsFollower (f : FollowerValue) : Type 0 where
   pub whole : ¬ IsTrue f.is_broken → IsWhole f
 
 -- the follower holds exactly the mirror, the counts and the time of published sequences 1 to its
--- number; what it holds back is a published sequence that comes after the next, within its window
+-- number; what it holds is a published sequence that comes after the next, within its window
 pub record Follows (published : List PublishedValue) (f : FollowerValue) : Type 0 where
   pub within : f.number ≤ length published
   pub mirror : IsMirrorOf (changes_up_to published f.number) f.mirror
   pub time : f.time ≡ time_at published f.number
   pub held : (j : ℕ) (p : PublishedValue) → held_at f j ≡ Some p →
-      (f.number + 1 < j) × (j ≤ f.number + 64) × (j ≤ length published)
+      (f.number + 1 < j) × (j ≤ f.number + window) × (j ≤ length published)
       × (p ≡ sequence_at published j)
 
 -- what a follower is, by what was published, where it started and which numbers it accepted: it is
--- at the greatest number reached without a gap, and holds back each accepted number above it
+-- at the greatest number reached without a gap, and holds each accepted number above it
 pub record IsState (published : List PublishedValue) (start : ℕ) (is_accepted : ℕ → Bool)
     (f : FollowerValue) : Type 0 where
   pub reach : Reaches is_accepted start f.number

@@ -11,7 +11,7 @@ pub enum Delivered {
     Old,
     /// The number is held already.
     Again,
-    /// The sequence is held until its turn comes.
+    /// The sequence is held until the sequences before it are applied.
     Held,
     /// The sequences from `low` to `high` were applied.
     Applied { low: u32, high: u32 },

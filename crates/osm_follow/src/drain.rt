@@ -34,7 +34,7 @@ pub(crate) fn drain(
     Ok(time)
 }
 
-// Applies the sequence after the area's base, which the area doesn't hold, and moves the base on.
+// Applies the sequence after the area's base, which the area doesn't hold, and advances its base.
 fn apply_next(
     mirror: &mut Mirror,
     holding: &mut HoldingArea,
@@ -50,6 +50,6 @@ fn apply_next(
     ensures refused { OnErr result (NeedsMemory mirror.old batch) }
 {
     mirror.apply(batch.into_changes())?;
-    holding.move_on();
+    holding.advance();
     Ok(())
 }

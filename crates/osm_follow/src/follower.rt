@@ -7,10 +7,11 @@ ghost use Rattle.std.specs.Option.{option_map};
 ghost use Rattle.std.specs.List.Sorted.{IsStrictlySortedBy};
 ghost use Rattle.std.specs.Ordering.{nat_cmp};
 ghost use Rattle.osm_model.specs.Limits.{max_changes, max_sequence};
-ghost use Rattle.osm_follow.specs.Delivery.{AnswersUnread, Delivers, Holds, IsTurn, sequence_of};
+ghost use Rattle.osm_follow.specs.Delivery.{AnswersUnread, Delivers, Holds, IsDue, sequence_of};
 ghost use Rattle.osm_follow.specs.Follower.{held_at, is_held, new_follower};
 ghost use Rattle.osm_follow.specs.Lag.{Lags, MissingRefused};
-ghost use Rattle.osm_mirror.specs.Mirror.{IsWithin, count_at, no_mirror, object_at};
+ghost use Rattle.osm_holding.specs.Holding.{window};
+ghost use Rattle.osm_mirror.specs.Mirror.{IsOrderly, IsWithin, count_at, no_mirror, object_at};
 ghost use Rattle.osm_save.specs.Save.{IsTimeOf, SpellsSave};
 ghost use Rattle.osm_follow.specs.Reach.{missing_numbers};
 ghost use Rattle.osm_follow.specs.Restart.{Restarts, SavingRefused, follower_of, saved_of};
@@ -112,7 +113,7 @@ impl Follower {
         ensures unread { (answer : Result Delivered DeliverError) →
             AnswersUnread self.old state.now answer → (result ≡ answer) × (self.new ≡ self.old) }
     {
-        let state = match self.turn(state) {
+        let state = match self.due(state) {
             Ok(state) => state,
             Err(answer) => return answer,
         };
@@ -129,8 +130,8 @@ impl Follower {
     }
 
     // The state of a sequence whose bytes are to be read, or the answer that is due before that.
-    fn turn(&self, state: &[u8]) -> Result<State, Result<Delivered, DeliverError>>
-        ensures turn { IfOk result (λ s. IsTurn self.now state.now s) }
+    fn due(&self, state: &[u8]) -> Result<State, Result<Delivered, DeliverError>>
+        ensures due { IfOk result (λ s. IsDue self.now state.now s) }
         ensures most { IfOk result (λ s. s.sequence ≤ max_sequence) }
         ensures unread { IfErr result (λ answer. AnswersUnread self.now state.now answer) }
         ensures only { (answer : Result Delivered DeliverError) →
@@ -159,11 +160,11 @@ impl Follower {
         Ok(state)
     }
 
-    // Keeps a sequence until its turn comes. Takes no memory.
+    // Keeps a sequence until the sequences before it are applied. Takes no memory.
     fn hold(&mut self, state: &State, batch: Batch)
         requires whole { self.old.is_broken ≡ false }
         requires early { self.old.number + 1 < state.now.sequence }
-        requires within { state.now.sequence ≤ self.old.number + 64 }
+        requires within { state.now.sequence ≤ self.old.number + window }
         requires most { state.now.sequence ≤ max_sequence }
         requires fresh { held_at self.old state.now.sequence ≡ None }
         ensures { Holds self.old (sequence_of state.now batch) self.new }
@@ -191,6 +192,8 @@ impl Follower {
         Ok(Delivered::Applied { low, high })
     }
 
+    /// Whether an application stopped part of the way, or a restart was refused, since the last
+    /// restart.
     pub fn is_broken(&self) -> bool
         ensures { result ≡ self.now.is_broken }
     {
@@ -248,7 +251,7 @@ impl Follower {
         Ok(self.mirror.changeset_count(id))
     }
 
-    /// Whether a sequence of that number is held until its turn comes.
+    /// Whether a sequence of that number is held.
     pub fn is_held(&self, number: u32) -> Result<bool, Broken>
         ensures broken { IsErr result ↔ (self.now.is_broken ≡ true) }
         ensures held { IfOk result (λ b. IsTrue b ↔ IsSome (held_at self.now number)) }
@@ -328,6 +331,7 @@ impl Follower {
     pub fn view(&self, alloc: Global) -> Result<View, ViewError>
         ensures whole { OnOk result (self.now.is_broken ≡ false) }
         ensures copies { IfOk result (λ v. v ≡ view_of self.now) }
+        ensures orderly { IfOk result (λ v. IsOrderly v.mirror) }
         ensures rising { IfOk result (λ v. IsStrictlySortedBy nat_cmp v.held) }
         ensures held { IfOk result (λ v. (number : ℕ) →
             Contains v.held number ↔ IsSome (held_at self.now number)) }
@@ -384,7 +388,7 @@ impl Follower {
     {
         self.is_broken = true;
         self.mirror = Mirror::new(alloc);
-        self.holding.clear(0);
+        self.holding.reset(0);
     }
 
     fn read(&mut self, alloc: Global, text: &[u8]) -> Result<(), RestartError>
@@ -415,7 +419,7 @@ impl Follower {
         self.number = number;
         self.time = time;
         self.mirror = mirror;
-        self.holding.clear(number);
+        self.holding.reset(number);
         self.is_broken = false;
     }
 }

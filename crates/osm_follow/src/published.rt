@@ -66,6 +66,7 @@ impl Published {
         })
     }
 
+    /// The number of the sequence, counted from 1.
     pub fn number(&self) -> u32
         ensures { result ≡ self.now.number }
     {

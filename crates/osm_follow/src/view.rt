@@ -3,7 +3,7 @@
 ghost use Rattle.std.specs.Prelude.{◌≡◌, ◌<◌, ◌↔◌, ◌⊎◌, ℕ, IfOk, OnErr, IsSome, Contains, length};
 ghost use Rattle.std.specs.List.Sorted.{IsStrictlyIncreasing};
 ghost use Rattle.osm_holding.specs.Holding.{held_at, numbers_of};
-ghost use Rattle.osm_mirror.specs.Mirror.{HoldsSome};
+ghost use Rattle.osm_mirror.specs.Mirror.{HoldsSome, IsOrderly};
 
 use osm_holding::holding::HoldingArea;
 use osm_mirror::mirror::Mirror;
@@ -98,12 +98,14 @@ impl View {
           mirror = mirror.now;
           held = numbers_of holding.now;
         }) }
+        ensures orderly { IfOk result (λ v. IsOrderly v.mirror) }
         ensures rising { IfOk result (λ v. IsStrictlyIncreasing v.held) }
         ensures held { IfOk result (λ v. (number : ℕ) →
             Contains v.held number ↔ IsSome (held_at holding.now number)) }
         ensures refused { OnErr result
             (HoldsSome mirror.now ⊎ (0 < length (numbers_of holding.now))) }
     {
+        mirror.lists_rise();
         let objects = mirror.objects(alloc)?;
         let users = mirror.users(alloc)?;
         let changesets = mirror.changesets(alloc)?;
@@ -111,6 +113,7 @@ impl View {
         Ok(View::new(number, time, objects, users, changesets, held))
     }
 
+    /// The follower's number.
     pub fn number(&self) -> u32
         ensures { result ≡ self.now.number }
     {
@@ -145,7 +148,7 @@ impl View {
         self.changesets.as_slice()
     }
 
-    /// The numbers that are held until their turn comes, rising.
+    /// The numbers that are held, rising.
     pub fn held(&self) -> &[u32]
         ensures { result.now ≡ self.now.held }
     {

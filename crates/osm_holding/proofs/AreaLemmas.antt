@@ -125,7 +125,7 @@ pub is_holding : (base : ℕ) (slots : Buffer (Option Held)) → AreSlots base s
 is_holding base slots are = record {
   base = are.limit;
   rising = slots_rise (base + 1) slots.items;
-  window = λ number some. in_window base slots.items number are.full some;
+  within = λ number some. in_window base slots.items number are.full some;
   limit = are.sequences;
 }
 

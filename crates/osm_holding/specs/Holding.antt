@@ -1,4 +1,4 @@
--- The holding area: sequences that came early, kept until their turn comes.
+-- The holding area: sequences that came early, kept until the sequences before them are applied.
 use Rattle.std.specs.Prelude.{◌≡◌, ◌≢◌, ℕ, ◌+◌, ◌<◌, ◌≤◌, ◌==◌, List, map, Option, IsSome}
 use Rattle.std.specs.List.Sorted.{IsStrictlyIncreasing}
 use Rattle.std.specs.Map.{lookup}
@@ -18,17 +18,21 @@ held_at area number = lookup (λ key. number == key) area.entries
 abbrev pub numbers_of : HoldingValue → List ℕ
 numbers_of area = map (λ e. e.0) area.entries
 
--- one of the 64 numbers after the base
+-- how many numbers after its own a follower takes
+abbrev pub window : ℕ
+window = 64
+
+-- one of the numbers after the base within the window
 pub record IsInWindow (base number : ℕ) : Type 0 where
   pub above : base < number
-  pub within : number ≤ base + 64
+  pub within : number ≤ base + window
 
 -- a holding area: its base is a sequence number, what it holds is in the order of the numbers, and
--- each number at which it holds something is a sequence number, and one of the 64 after the base
+-- each number at which it holds something is a sequence number within the window
 pub record IsHolding (area : HoldingValue) : Type 0 where
   pub base : area.base ≤ max_sequence
   pub rising : IsStrictlyIncreasing (numbers_of area)
-  pub window : (number : ℕ) → IsSome (held_at area number) → IsInWindow area.base number
+  pub within : (number : ℕ) → IsSome (held_at area number) → IsInWindow area.base number
   pub limit : (number : ℕ) → IsSome (held_at area number) → number ≤ max_sequence
 
 -- the new area holds this at the number, and is as the old one in all else

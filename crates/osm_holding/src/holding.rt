@@ -7,6 +7,7 @@ ghost use Rattle.std.specs.List.Sorted.{IsStrictlyIncreasing};
 ghost use Rattle.circular_buffer.specs.Buffer.{buffer};
 ghost use Rattle.osm_model.specs.Limits.{max_sequence};
 ghost use Rattle.osm_holding.specs.Holding.{ChangesAt, IsHolding, IsInWindow, held_at, numbers_of};
+ghost use Rattle.osm_holding.specs.Holding.{window};
 
 use circular_buffer::HeapCircularBuffer;
 use osm_model::batch::Batch;
@@ -22,11 +23,11 @@ pub struct Held {
     pub time: u32,
 }
 
-/// How many numbers after its base an area has room for.
+/// How many numbers after its base an area has room for: `window` of the definitions.
 pub const WINDOW: u32 = 64;
 
 /// Room for the 64 sequences after a number, its base. `new` makes all of it; afterwards only
-/// `numbers` takes memory. No call except `clear` and `numbers` looks at more than one slot.
+/// `numbers` takes memory. No call except `reset` and `numbers` looks at more than one slot.
 #[derive(Debug, Drop)]
 pub struct HoldingArea {
     base: u32,
@@ -57,6 +58,7 @@ impl HoldingArea {
         Ok(HoldingArea { base, slots })
     }
 
+    /// The number of the last sequence that was applied; 0 before the first.
     pub fn base(&self) -> u32
         ensures base { result ≡ self.now.base }
         ensures limits { IsHolding self.now }
@@ -64,6 +66,7 @@ impl HoldingArea {
         self.base
     }
 
+    /// Whether a sequence of that number is held.
     pub fn is_held(&self, number: u32) -> bool
         ensures held { IsTrue result ↔ IsSome (held_at self.now number) }
         ensures free { OnFalse result (held_at self.now number ≡ None) }
@@ -77,10 +80,10 @@ impl HoldingArea {
         }
     }
 
-    /// Keeps a sequence until its turn comes.
+    /// Keeps a sequence until the sequences before it are applied. Takes no memory.
     pub fn hold(&mut self, number: u32, held: Held)
         requires early { self.old.base + 2 ≤ number }
-        requires within { number ≤ self.old.base + 64 }
+        requires within { number ≤ self.old.base + window }
         requires limit { number ≤ max_sequence }
         requires free { held_at self.old number ≡ None }
         ensures { ChangesAt self.old self.new number (Some held) }
@@ -111,8 +114,8 @@ impl HoldingArea {
         }
     }
 
-    /// Moves the base on by one number, and the window with it.
-    pub fn move_on(&mut self)
+    /// Moves the base to the next number, and the window with it.
+    pub fn advance(&mut self)
         requires room { self.old.base < max_sequence }
         requires free { held_at self.old (self.old.base + 1) ≡ None }
         ensures { self.new ≡ record self.old { base = self.old.base + 1 } }
@@ -121,8 +124,8 @@ impl HoldingArea {
         self.slots.push_back(None);
     }
 
-    /// Drops all that is held, and begins again at another base.
-    pub fn clear(&mut self, base: u32)
+    /// Drops all that is held, and begins again at another base. Takes no memory.
+    pub fn reset(&mut self, base: u32)
         requires { base ≤ max_sequence }
         ensures { self.new ≡ record { base = base; entries = [] } }
     {
@@ -131,7 +134,7 @@ impl HoldingArea {
         self.base = base;
     }
 
-    /// The numbers of the sequences that are held.
+    /// The numbers of the sequences that are held, rising.
     pub fn numbers(&self, alloc: Global) -> Result<Vec<u32>, WantOfMemory>
         ensures numbers { IfOk result (λ ns. ns.items ≡ numbers_of self.now) }
         ensures rising { IfOk result (λ ns. IsStrictlyIncreasing ns.items) }
@@ -162,10 +165,10 @@ impl HoldingArea {
     }
 }
 
-// Puts the 64 empty slots into an empty ring that has room for them.
+// Puts the empty slots of the window into an empty ring that has room for them.
 fn fill(slots: &mut HeapCircularBuffer<Option<Held>>)
-    requires { slots.old ≡ buffer [] 64 }
-    ensures { slots.new ≡ buffer (replicate 64 None) 64 }
+    requires { slots.old ≡ buffer [] window }
+    ensures { slots.new ≡ buffer (replicate window None) window }
 {
     for _ in 0..WINDOW {
         slots.push_back(None);

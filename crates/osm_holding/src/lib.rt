@@ -1,4 +1,4 @@
-//! Sequences that came early, held by number until their turn comes.
+//! Sequences that came early, held by number until the sequences before them are applied.
 #![tactic(auto)]
 
 pub mod holding;

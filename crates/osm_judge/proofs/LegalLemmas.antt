@@ -9,7 +9,7 @@ use Rattle.osm_model.specs.Change.{ChangeValue}
 use Rattle.osm_model.specs.Limits.{max_changes}
 use Rattle.osm_world.specs.History.{History, accepted_of, pending_of, published_of, start_of}
 use Rattle.osm_world.proofs.LegalLemmas.{legal_none, legal_more}
-use Rattle.osm_world.specs.Legal.{Allowed, IsLegal, IsNumber, IsOpen, IsWanted, IsWork}
+use Rattle.osm_world.specs.Legal.{Allowed, IsLegal, IsNumber, IsOpen, IsWanted, HasChanges}
 use Rattle.osm_world.specs.declared.event.Event.{Event}
 use Rattle.osm_world.specs.declared.event.Event.TheVariants.{Edit, Close, Deliver, Show, Save, Restart}
 use Rattle.osm_world.specs.declared.event.Reply.{Reply}
@@ -100,7 +100,7 @@ want_row h k reached r number told = wanted_row h k reached (λ n. 0 < length (c
   λ both. told.1 (both.0, (has_change (published_of h) k both.0.is_open.above).1 both.1),
 )
 
-pub broke_row : (h : History) (k reached high : ℕ) (r : Bool) → IsNumber h reached → Reaches (accepted_of h) k high → IsTrue r ↔ (IsWanted h k reached × (k ≡ reached + 1) × (length (changes_up_to (published_of h) (k - 1)) < length (changes_up_to (published_of h) high))) → IsTrue r ↔ ((n : ℕ) × IsWanted h k n × (k ≡ n + 1) × IsWork h k)
+pub broke_row : (h : History) (k reached high : ℕ) (r : Bool) → IsNumber h reached → Reaches (accepted_of h) k high → IsTrue r ↔ (IsWanted h k reached × (k ≡ reached + 1) × (length (changes_up_to (published_of h) (k - 1)) < length (changes_up_to (published_of h) high))) → IsTrue r ↔ ((n : ℕ) × IsWanted h k n × (k ≡ n + 1) × HasChanges h k)
 broke_row h k reached high r number reach told = (
   λ t. (let all = told.0 t in (reached, all.0, all.1, work all.0.is_open.above all.2)),
   λ row.
@@ -110,7 +110,7 @@ broke_row h k reached high r number reach told = (
       told.1 (wanted, next, less wanted.is_open.above row.3),
 )
   where
-    work : 0 < k → length (changes_up_to (published_of h) (k - 1)) < length (changes_up_to (published_of h) high) → IsWork h k
+    work : 0 < k → length (changes_up_to (published_of h) (k - 1)) < length (changes_up_to (published_of h) high) → HasChanges h k
     work above more =
         let from = reach.from in
         let is : high ≡ k + (high - k) = omega arith in
@@ -120,7 +120,7 @@ broke_row h k reached high r number reach told = (
           some = (let many = have_changes (published_of h) k (high - k) above in let here : length (changes_up_to (published_of h) high) ≡ length (changes_up_to (published_of h) (k + (high - k))) = ap (λ (n : ℕ). length (changes_up_to (published_of h) n)) is in omega arith);
         }
 
-    less : 0 < k → IsWork h k → length (changes_up_to (published_of h) (k - 1)) < length (changes_up_to (published_of h) high)
+    less : 0 < k → HasChanges h k → length (changes_up_to (published_of h) (k - 1)) < length (changes_up_to (published_of h) high)
     less above work =
         let same : k + work.count ≡ high = one_reach (accepted_of h) k (k + work.count) high work.reach reach in
         let many = have_changes (published_of h) k work.count above in

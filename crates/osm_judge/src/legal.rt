@@ -2,6 +2,7 @@
 
 ghost use Rattle.std.specs.Prelude.{◌≡◌, ℕ, ◌+◌, ◌-◌, ◌<◌, ◌≤◌, ◌↔◌, true, false, length};
 ghost use Rattle.std.specs.Prelude.{IfErr, IfOk, IsTrue};
+ghost use Rattle.osm_holding.specs.Holding.{window};
 ghost use Rattle.osm_model.specs.Limits.{max_changes, max_file};
 ghost use Rattle.osm_world.specs.History.{accepted_of, pending_of, published_of, publisher_of};
 ghost use Rattle.osm_world.specs.Legal.{Allowed, AllowedClose, AllowedDeliver, AllowedEdit};
@@ -27,7 +28,7 @@ use osm_opl::opl::Opl;
 use osm_world::event::{Event, Reply};
 use std::alloc::Global;
 
-// A follower at n takes the sequences n + 1 to n + 64.
+// How many numbers after its own a follower takes: `window` of the definitions.
 const WINDOW: u64 = 64;
 
 /// Why there is no judgement of a reply.
@@ -255,7 +256,7 @@ fn is_again(history: &[Pair], number: u32, reached: u32) -> bool
 fn is_too_early(history: &[Pair], number: u32, reached: u32) -> bool
     requires { IsNumber history.now reached }
     ensures { IsTrue result ↔ (IsOpen history.now number reached
-        × (reached + 64 < number) × (accepted_of history.now number ≡ false)) }
+        × (reached + window < number) × (accepted_of history.now number ≡ false)) }
 {
     is_open(history, number, reached)
         && u64::from(reached) + WINDOW < u64::from(number)

@@ -14,6 +14,7 @@ use osm_model::memory::WantOfMemory;
 use std::alloc::Global;
 use std::marker::Model;
 
+/// All objects that aren't deleted, by their keys, and the edits counted by user and by changeset.
 #[derive(Debug, Drop)]
 pub struct Mirror {
     objects: Objects,
@@ -45,8 +46,8 @@ impl Mirror {
         }
     }
 
-    /// Makes the changes in their order, and counts each of them. Refused only for memory, and then
-    /// some of them may have been made.
+    /// Applies the changes in their order, and counts each of them. Refused only for memory, and
+    /// then some of them may have been applied.
     pub fn apply(&mut self, changes: Vec<Change>) -> Result<(), WantOfMemory>
         requires { HasRoom (length changes.items) self.old }
         ensures applied { OnOk result (Applies self.old changes.items self.new) }

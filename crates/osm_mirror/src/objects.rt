@@ -58,7 +58,7 @@ impl Objects {
         self.objects.get(&key)
     }
 
-    /// Makes one change: a deletion takes its object out, any other becomes its key's object. After
+    /// Applies one change: a deletion takes its object out, any other becomes its key's object. After
     /// a refusal nothing has changed.
     pub fn put(&mut self, change: Change) -> Result<(), WantOfMemory>
         ensures put { OnOk result ((k : Key) → object_at self.new k

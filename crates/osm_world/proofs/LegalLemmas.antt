@@ -9,7 +9,7 @@ use Rattle.osm_model.specs.Change.{ChangeValue}
 use Rattle.osm_world.specs.Correct.{IsInStep}
 use Rattle.osm_follow.specs.Follower.{IsState, changes_held, held_at, is_held}
 use Rattle.osm_world.specs.History as hist
-use Rattle.osm_world.specs.Legal.{IsOpen, IsWanted, IsWork, Allowed, IsLegal}
+use Rattle.osm_world.specs.Legal.{IsOpen, IsWanted, HasChanges, Allowed, IsLegal}
 use Rattle.osm_follow.specs.Delivery.{Breaks}
 use Rattle.osm_follow.specs.Published.{IsSequence, PublishedValue, changes_at, sequence_at}
 use Rattle.osm_follow.specs.Publisher.{PublisherValue}
@@ -26,7 +26,7 @@ use Rattle.osm_world.specs.declared.event.Reply.TheVariants.{Edited, BatchFull, 
 use Rattle.osm_holding.proofs.AreaLemmas.{exactly_held}
 use Rattle.osm_holding.specs.Holding as area
 use Rattle.osm_holding.specs.declared.holding.Held as kept
-use Rattle.osm_follow.proofs.DeliveryLemmas.{FollowerStep, IsWanted as IsTurnOf}
+use Rattle.osm_follow.proofs.DeliveryLemmas.{FollowerStep, IsDueAt}
 use Rattle.osm_follow.proofs.FollowLemmas.{held_accepted, reaches_accepted}
 use Rattle.osm_world.proofs.StateLemmas.{fresh_is_unaccepted, held_was_accepted, joined_is}
 use Rattle.osm_world.proofs.StepLemmas.{AreLawful, OneSave, StartsAt, delivered_as, published_at, refused_from, restarted_as}
@@ -52,7 +52,7 @@ open_of h a k s above there whole = record {
 }
 
 -- the sequence that is delivered is wanted
-wanted_of : (h : hist.History) (a : WorldValue) (k : ℕ) → IsInStep h a → 0 < k → k ≤ a.publisher.number → IsTurnOf a.follower (sequence_at (hist.published_of h) k).number → IsWanted h k a.follower.number
+wanted_of : (h : hist.History) (a : WorldValue) (k : ℕ) → IsInStep h a → 0 < k → k ≤ a.publisher.number → IsDueAt a.follower (sequence_at (hist.published_of h) k).number → IsWanted h k a.follower.number
 wanted_of h a k s above there t =
     let is : IsSequence k (sequence_at (hist.published_of h) k) = published_at h a k s above there in
     let number_is : (sequence_at (hist.published_of h) k).number ≡ k = is.number_is in
@@ -68,7 +68,7 @@ some_of : (cs before after : List ChangeValue) (c : ChangeValue) → cs ≡ befo
 some_of cs before after c e = let many : length (before ++ c ∷ after) ≡ length before + length (c ∷ after) = length-append before (c ∷ after) in omega (arith, ap length e)
 
 -- an application that was stopped had a change to apply
-work_of : (h : hist.History) (a b : WorldValue) (k : ℕ) → IsInStep h a → a.follower.is_broken ≡ false → a.follower.number < k → (sequence_at (hist.published_of h) k).number ≡ k → Breaks a.follower (sequence_at (hist.published_of h) k) b.follower → IsWork h k
+work_of : (h : hist.History) (a b : WorldValue) (k : ℕ) → IsInStep h a → a.follower.is_broken ≡ false → a.follower.number < k → (sequence_at (hist.published_of h) k).number ≡ k → Breaks a.follower (sequence_at (hist.published_of h) k) b.follower → HasChanges h k
 work_of h a b k s whole past number_is t =
     let ps : List PublishedValue = hist.published_of h in
     let state : IsState ps (hist.start_of h) (hist.accepted_of h) a.follower = state_of h a s whole in

@@ -1,6 +1,7 @@
 -- Which reply may follow a history. The rows of an event exclude one another, so each reply is
 -- given exactly if its conditions hold, except that memory may be refused in place of another.
 use Rattle.std.specs.Prelude.{◌≡◌, ℕ, ◌+◌, ◌<◌, ◌≤◌, ◌∷◌, ◌++◌, length, true, false, ◌⊎◌, Bool}
+use Rattle.osm_holding.specs.Holding.{window}
 use Rattle.osm_model.specs.Limits.{max_changes, max_sequence}
 use Rattle.osm_world.specs.History.{History, published_of, pending_of, publisher_of, start_of}
 use Rattle.osm_world.specs.History.{accepted_of, has_saved, is_broken, saved_of}
@@ -34,11 +35,11 @@ pub record IsOpen (h : History) (k n : ℕ) : Type 0 where
 pub record IsWanted (h : History) (k n : ℕ) : Type 0 where
   pub is_open : IsOpen h k n
   pub above : n < k
-  pub within : k ≤ n + 64
+  pub within : k ≤ n + window
   pub fresh : accepted_of h k ≡ false
 
 -- the sequences from k on up to the last that can then be applied aren't all empty
-pub record IsWork (h : History) (k : ℕ) : Type 0 where
+pub record HasChanges (h : History) (k : ℕ) : Type 0 where
   pub count : ℕ
   pub reach : Reaches (accepted_of h) k (k + count)
   pub some :
@@ -66,13 +67,13 @@ AllowedDeliver h k Broken = (0 < k) × (k ≤ length (published_of h)) × (is_br
 AllowedDeliver h k Old = (n : ℕ) × IsOpen h k n × (k ≤ n)
 AllowedDeliver h k Again = (n : ℕ) × IsOpen h k n × (n < k) × (accepted_of h k ≡ true)
 AllowedDeliver h k TooEarly =
-    (n : ℕ) × IsOpen h k n × (n + 64 < k) × (accepted_of h k ≡ false)
+    (n : ℕ) × IsOpen h k n × (n + window < k) × (accepted_of h k ≡ false)
 AllowedDeliver h k WantOfMemory =
     (n : ℕ) × IsWanted h k n × (0 < length (changes_at (published_of h) k))
 AllowedDeliver h k Held = (n : ℕ) × IsWanted h k n × (n + 1 < k)
 AllowedDeliver h k (Applied low high) =
     (n : ℕ) × IsWanted h k n × (k ≡ n + 1) × (low ≡ k) × Reaches (accepted_of h) k high
-AllowedDeliver h k Broke = (n : ℕ) × IsWanted h k n × (k ≡ n + 1) × IsWork h k
+AllowedDeliver h k Broke = (n : ℕ) × IsWanted h k n × (k ≡ n + 1) × HasChanges h k
 AllowedDeliver h k r = ⊥
 
 abbrev pub AllowedShow : History → Reply → Type 0

@@ -109,7 +109,7 @@ abbrev pub DeliverStep : WorldValue → ℕ → Form → Reply → WorldValue �
 DeliverStep a k form NotPublished b = ((k ≡ 0) ⊎ (a.publisher.number < k)) × (b ≡ a)
 DeliverStep a k form r b = DeliversTo a k form r b
 
--- a view, which changes nothing
+-- a view is asked for, which changes nothing
 abbrev pub ShowStep : WorldValue → Reply → WorldValue → Type 0
 ShowStep a Broken b = (a.follower.is_broken ≡ true) × (b ≡ a)
 ShowStep a (Shown v) b =

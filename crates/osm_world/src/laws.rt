@@ -2,6 +2,7 @@
 
 ghost use Rattle.std.specs.Prelude.{◌≡◌, ℕ, ◌+◌, ◌<◌, List, [], ◌∷◌, ◌++◌, length, slice_index};
 ghost use Rattle.std.specs.Prelude.{◌≤◌, ◌↔◌, Contains, IsSome, true, false};
+ghost use Rattle.osm_holding.specs.Holding.{window};
 ghost use Rattle.osm_follow.specs.Follower.{held_at, is_held};
 ghost use Rattle.osm_follow.specs.Reach.{missing_numbers, numbers};
 ghost use Rattle.osm_follow.specs.View.{ViewValue};
@@ -53,13 +54,12 @@ pub fn laws_of_histories()
         → i < length (reported_of h) → slice_index (reported_of h) i ≡ start_of h + i + 1 }
 {}
 
-/// Nothing is held back. A legal history has accepted exactly the numbers above its start that were
-/// delivered since the last restart and answered `Held`, `Applied`, `Old` or `Again`. And if since
-/// then the numbers after its start were delivered in order up to some number, with anything in
-/// between, and none of them was unpublished or refused for memory, the history has reached that
-/// number, unless its follower is broken. The order doesn't matter for the first 64 numbers after
-/// its start: if each of them up to some number was delivered so, the history has reached that
-/// number. Does nothing at run time.
+/// A legal history has accepted exactly the numbers above its start that were delivered since the
+/// last restart and answered `Held`, `Applied`, `Old` or `Again`. If since then the numbers after
+/// its start were delivered in order up to some number, with anything in between, and none of them
+/// was unpublished or refused for memory, the history has reached that number, unless its follower
+/// is broken. The order doesn't matter for the first 64 numbers after its start: if each of them up
+/// to some number was delivered so, the history has reached that number. Does nothing at run time.
 pub fn laws_of_progress()
     ensures accepted { (h : History) (j : ℕ) → IsLegal h
         → (accepted_of h j ≡ true) ↔ ((start_of h < j) × (is_confirmed h j ≡ true)) }
@@ -67,7 +67,7 @@ pub fn laws_of_progress()
         → IsNumber h n → IsSubsequence (numbers (start_of h) count) (delivered_of h)
         → start_of h + count ≤ n }
     ensures any_order { (h : History) (n count : ℕ) → IsLegal h → is_broken h ≡ false
-        → IsNumber h n → count ≤ 64
+        → IsNumber h n → count ≤ window
         → ((j : ℕ) → start_of h < j → j ≤ start_of h + count → Contains (delivered_of h) j)
         → start_of h + count ≤ n }
 {}
@@ -83,7 +83,7 @@ pub fn laws_of_holding()
         ↔ ((w.follower.number < j) × (accepted_of h j ≡ true)) }
     ensures window { (h : History) (w : WorldValue) (j : ℕ) → IsInStep h w → is_broken h ≡ false
         → IsSome (held_at w.follower j)
-        → (w.follower.number + 1 < j) × (j ≤ w.follower.number + 64) }
+        → (w.follower.number + 1 < j) × (j ≤ w.follower.number + window) }
     ensures missing { (h : History) (w : WorldValue) (top : ℕ) → IsInStep h w
         → is_broken h ≡ false → missing_numbers (is_held w.follower) w.follower.number top
         ≡ missing_numbers (accepted_of h) w.follower.number top }
@@ -96,7 +96,7 @@ pub fn laws_of_views()
         → Allowed h Event.Show (Reply.Shown v) → v.number ≤ length (published_of h) }
     ensures held { (h : History) (v : ViewValue) (j : ℕ) → IsLegal h
         → Allowed h Event.Show (Reply.Shown v) → Contains v.held j
-        → (v.number + 1 < j) × (j ≤ v.number + 64) × (j ≤ length (published_of h)) }
+        → (v.number + 1 < j) × (j ≤ v.number + window) × (j ≤ length (published_of h)) }
 {}
 
 /// The order of deliveries doesn't matter, nor do repeats: if the same was published and accepted

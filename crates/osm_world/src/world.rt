@@ -106,12 +106,14 @@ impl World {
         }
     }
 
+    /// The publisher, with its pending edits.
     pub fn publisher(&self) -> &Publisher
         ensures { result.now ≡ self.now.publisher }
     {
         &self.publisher
     }
 
+    /// The follower of what was published.
     pub fn follower(&self) -> &Follower
         ensures { result.now ≡ self.now.follower }
     {

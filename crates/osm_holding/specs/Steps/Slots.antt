@@ -4,7 +4,7 @@ use Rattle.std.specs.Prelude.{Option, Some, None, IsSome}
 use Rattle.circular_buffer.specs.Buffer.{Buffer}
 use Rattle.osm_model.specs.Limits.{max_sequence}
 use Rattle.osm_holding.specs.declared.holding.Held.{Held}
-use Rattle.osm_holding.specs.Holding.{HoldingValue, held_at}
+use Rattle.osm_holding.specs.Holding.{HoldingValue, held_at, window}
 
 -- the entries of slots that are those of a first number and the numbers after it
 abbrev pub entries_from : ℕ → List (Option Held) → List (ℕ × Held)
@@ -16,10 +16,10 @@ entries_from first (Some held ∷ slots) = (first, held) ∷ entries_from (first
 abbrev pub area_of : ℕ → List (Option Held) → HoldingValue
 area_of base slots = record { base = base; entries = entries_from (base + 1) slots }
 
--- 64 slots in a ring that has room for 64, after a base within the limits
+-- a window of slots in a ring that has room for no more, after a base within the limits
 pub record AreSlots (base : ℕ) (slots : Buffer (Option Held)) : Type 0 where
   pub limit : base ≤ max_sequence
-  pub full : length slots.items ≡ 64
-  pub room : slots.capacity ≡ 64
+  pub full : length slots.items ≡ window
+  pub room : slots.capacity ≡ window
   pub sequences :
       (number : ℕ) → IsSome (held_at (area_of base slots.items) number) → number ≤ max_sequence

@@ -28,12 +28,12 @@ fn early_sequences_wait_for_their_turn(rt: HostRuntime) -> Result<(), Fail> {
     let base = area.base();
     assert_eq!(rt; base, 1);
     assert!(rt; !area.is_held(base + 1));
-    area.move_on();
+    area.advance();
     assert_eq!(rt; area.base(), 2);
     assert_eq!(rt; time_of(area.take_next()), Some(103));
     assert_eq!(rt; time_of(area.take_next()), None);
     assert_eq!(rt; area.numbers(alloc)?.as_slice(), [65].as_slice());
-    area.clear(999_999_999);
+    area.reset(999_999_999);
     assert_eq!(rt; area.base(), 999_999_999);
     assert_eq!(rt; area.numbers(alloc)?.as_slice(), [].as_slice());
     Ok(())

@@ -1,5 +1,5 @@
 use Rattle.osm_holding.proofs.AreaLemmas.{are_moved, moved_area}
-use Rattle.osm_holding.proofs.holding.HoldingArea.move_on.Goals as goal
+use Rattle.osm_holding.proofs.holding.HoldingArea.advance.Goals as goal
 
 pub returns : goal.returns
 returns c =
