@@ -1,6 +1,6 @@
 -- A map whose objects stand under their own keys, read as a list of objects.
 use Rattle.std.proofs.Common.{◌≡◌, ℕ, ◌<◌, List, [], ◌∷◌, ◌++◌, map, refl, ap, sym, ◌∙◌, true, false, Bool, Option, Some, None, cond, Bor}
-use Rattle.std.specs.Prelude.{if◌then◌else◌, MatchOption}
+use Rattle.std.specs.Prelude.{if◌then◌else◌, MatchOption, Result, Ok, Err, OnOk, OnErr}
 use Rattle.std.specs.Option.{option_copied}
 use Rattle.std.specs.BTreeMap.{is_at, insert_entry}
 use Rattle.std.specs.Cmp.{IsTotalOrder}
@@ -105,6 +105,10 @@ counts-insert_entry es n count is above all = record {
   numbers = numbers-insert_entry es n count is all.numbers;
   above = above-insert_entry es n count above all.above;
 }
+
+pub counts_kept : {E : Type 0} (r : Result (Unit {0}) E) (es new : List Counted) (n count : ℕ) → IsPositive n → 0 < count → AreCounts es → OnOk r (new ≡ insert_entry nat_cmp es n count) → OnErr r (new ≡ es) → AreCounts new
+counts_kept (Ok done) es new n count is above all entries unchanged = rw entries (counts-insert_entry es n count is above all)
+counts_kept (Err e) es new n count is above all entries unchanged = rw unchanged all
 
 -- ---- entries above all others
 

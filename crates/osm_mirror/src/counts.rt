@@ -2,6 +2,7 @@
 
 ghost use Rattle.std.specs.Prelude.{◌≡◌, ℕ, ◌+◌, ◌<◌, ◌≤◌, ◌==◌, ◌^◌, [], ◌∷◌, ◌++◌, length};
 ghost use Rattle.std.specs.Prelude.{IfOk, OnOk, OnErr, if◌then◌else◌, map};
+ghost use Rattle.std.specs.BTreeMap.{insert_entry};
 ghost use Rattle.std.specs.List.{AllByRecursion};
 ghost use Rattle.std.specs.List.Sorted.{IsStrictlySortedBy};
 ghost use Rattle.std.specs.Map.Iter.{ShowsInOrder, deref_pair};
@@ -60,9 +61,7 @@ impl Counts {
         ensures refused { OnErr result (count_at self.old number ≡ 0) }
         ensures unchanged { OnErr result (self.new ≡ self.old) }
     {
-        let count = self.get(number);
-        self.counts.insert(number, count + 1)?;
-        Ok(())
+        count_one(&mut self.counts, number)
     }
 
     /// Adds a number above all others, with its count. After a refusal nothing has changed.
@@ -111,4 +110,19 @@ impl Counts {
         }
         Ok(copies)
     }
+}
+
+// One edit more under the number, with one look-up.
+fn count_one(counts: &mut BTreeMap<u32, u64>, number: u32) -> Result<(), WantOfMemory>
+    requires { count_at counts.old.entries number + 1 < 2 ^ 64 }
+    ensures entries { OnOk result (counts.new.entries ≡ insert_entry nat_cmp
+        counts.old.entries number (count_at counts.old.entries number + 1)) }
+    ensures counted { OnOk result ((n : ℕ) → count_at counts.new.entries n
+        ≡ count_at counts.old.entries n + (if number == n then 1 else 0)) }
+    ensures grown { length counts.new.entries ≤ length counts.old.entries + 1 }
+    ensures refused { OnErr result (count_at counts.old.entries number ≡ 0) }
+    ensures unchanged { OnErr result (counts.new.entries ≡ counts.old.entries) }
+{
+    *counts.entry(number)?.or_insert(0) += 1;
+    Ok(())
 }
