@@ -316,12 +316,7 @@ fn is_wanted_with_changes(
         × (length (changes_up_to (published_of history.now) (number - 1))
         < length (changes_up_to (published_of history.now) high)))) }
 {
-    if !is_wanted(history, number, reached) {
-        return Ok(false);
-    }
-    let before = joined_changes(alloc, history, number - 1)?;
-    let after = joined_changes(alloc, history, high)?;
-    Ok(before.len() < after.len())
+    Ok(is_wanted(history, number, reached) && have_changes(alloc, history, number, high)?)
 }
 
 // Whether it is the next, and sequences `number` to `high` aren't all empty.
@@ -337,10 +332,23 @@ fn is_next_with_changes(
         × (number ≡ reached + 1) × (length (changes_up_to (published_of history.now) (number - 1))
         < length (changes_up_to (published_of history.now) high)))) }
 {
-    if !is_next(history, number, reached) {
-        return Ok(false);
-    }
-    is_wanted_with_changes(alloc, history, number, reached, high)
+    Ok(is_next(history, number, reached) && have_changes(alloc, history, number, high)?)
+}
+
+// Whether sequences `number` to `high` aren't all empty.
+fn have_changes(
+    alloc: Global,
+    history: &[Pair],
+    number: u32,
+    high: u32,
+) -> Result<bool, WantOfMemory>
+    ensures { IfOk result (λ b. IsTrue b
+        ↔ (length (changes_up_to (published_of history.now) (number - 1))
+        < length (changes_up_to (published_of history.now) high))) }
+{
+    let before = joined_changes(alloc, history, number.saturating_sub(1))?;
+    let after = joined_changes(alloc, history, high)?;
+    Ok(before.len() < after.len())
 }
 
 fn is_show_allowed(alloc: Global, history: &[Pair], reply: &Reply) -> Result<bool, WantOfMemory>

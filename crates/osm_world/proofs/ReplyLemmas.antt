@@ -12,6 +12,7 @@ use Rattle.osm_follow.specs.Reach.{Reaches}
 use Rattle.osm_follow.specs.View.{ViewValue}
 use Rattle.osm_world.proofs.AlikeLemmas.{one_view}
 use Rattle.osm_world.proofs.ReachLemmas.{one_reach}
+use Rattle.osm_world.specs.Due.{due_delivery, is_unpublished}
 use Rattle.osm_world.specs.History as hist
 use Rattle.osm_world.specs.Legal.{Allowed, AllowedClose, AllowedDeliver, AllowedEdit, AllowedRestart, AllowedSave, AllowedShow, IsNumber, IsOpen, is_want_of_memory}
 use Rattle.osm_world.specs.declared.event.Event.{Event}
@@ -70,26 +71,10 @@ close_is_due h t (Closed n) a ok =
 close_is_due h t WantOfMemory a ok = cc
 close_is_due h t r a ok = absurd a
 
-is_unpublished : hist.History → ℕ → Bool
-is_unpublished h k = (k == 0) || nat_lt (length (hist.published_of h)) k
-
--- n is the number of the history, and high is what is then reached from k
-due_delivery : hist.History → ℕ → ℕ → ℕ → Reply
-due_delivery h k n high =
-    if is_unpublished h k then NotPublished
-    else (if hist.is_broken h then Broken
-    else (if nat_le k n then Old
-    else (if hist.accepted_of h k then Again
-    else (if nat_lt (n + 64) k then TooEarly
-    else (if nat_lt (n + 1) k then Held
-    else Applied k high)))))
-
 published : (h : hist.History) (k : ℕ) → 0 < k → k ≤ length (hist.published_of h) → is_unpublished h k ≡ false
-unfolding is_unpublished
 published h k above there = or_from (k == 0) (nat_lt (length (hist.published_of h)) k) (ne_eqb k 0 (λ e. omega arith)) (grind (arith, nat_tests))
 
-delivery_is_due : (h : hist.History) (k n high : ℕ) (r : Reply) → IsNumber h n → Reaches (hist.accepted_of h) k high → AllowedDeliver h k r → is_want_of_memory r ≡ false → r ≡ due_delivery h k n high
-unfolding due_delivery is_unpublished
+pub delivery_is_due : (h : hist.History) (k n high : ℕ) (r : Reply) → IsNumber h n → Reaches (hist.accepted_of h) k high → AllowedDeliver h k r → is_want_of_memory r ≡ false → r ≡ due_delivery h k n high
 delivery_is_due h k n high NotPublished number reach a ok =
     let out : is_unpublished h k ≡ true = elim a [
       | inl none ↦ or_left (k == 0) (nat_lt (length (hist.published_of h)) k) (eq-eqb k 0 none)

@@ -1,6 +1,7 @@
 pub mod World
 pub mod History
 pub mod Legal
+pub mod Due
 pub mod Deliveries
 pub mod Alike
 pub mod Correct

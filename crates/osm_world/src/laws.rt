@@ -4,10 +4,11 @@ ghost use Rattle.std.specs.Prelude.{◌≡◌, ℕ, ◌+◌, ◌<◌, List, [], 
 ghost use Rattle.std.specs.Prelude.{◌≤◌, ◌↔◌, Contains, IsSome, true, false};
 ghost use Rattle.osm_holding.specs.Holding.{window};
 ghost use Rattle.osm_follow.specs.Follower.{held_at, is_held};
-ghost use Rattle.osm_follow.specs.Reach.{missing_numbers, numbers};
+ghost use Rattle.osm_follow.specs.Reach.{Reaches, missing_numbers, numbers};
 ghost use Rattle.osm_follow.specs.View.{ViewValue};
 ghost use Rattle.osm_world.specs.Alike.{AcceptAlike, AreAlike};
 ghost use Rattle.osm_world.specs.Correct.{IsInStep, IsRun};
+ghost use Rattle.osm_world.specs.Due.{due_delivery};
 ghost use Rattle.osm_world.specs.Deliveries.{IsSubsequence, delivered_of, is_confirmed};
 ghost use Rattle.osm_world.specs.History.{History, accepted_of, is_broken, published_of};
 ghost use Rattle.osm_world.specs.History.{reported_of, start_of};
@@ -15,6 +16,7 @@ ghost use Rattle.osm_world.specs.Legal.{Allowed, IsLegal, IsNumber, is_want_of_m
 ghost use Rattle.osm_world.specs.Step.{Step};
 ghost use Rattle.osm_world.specs.World.{WorldValue, new_world};
 ghost use Rattle.osm_world.specs.declared.event.Event.{Event};
+ghost use Rattle.osm_world.specs.declared.event.Form.{Form};
 ghost use Rattle.osm_world.specs.declared.event.Reply.{Reply};
 
 use osm_model::form::ChangeForm;
@@ -38,10 +40,14 @@ pub fn laws_of_runs()
 }
 
 /// After a history one reply may be given to an event, besides those that say that memory was
-/// refused. Does nothing at run time.
+/// refused: to a delivery, the first of the rows of `due_delivery` that applies. Does nothing at
+/// run time.
 pub fn laws_of_replies()
     ensures one_reply { (h : History) (e : Event) (q r : Reply) → Allowed h e q → Allowed h e r
         → is_want_of_memory q ≡ false → is_want_of_memory r ≡ false → q ≡ r }
+    ensures delivery { (h : History) (k n high : ℕ) (form : Form) (r : Reply) → IsNumber h n
+        → Reaches (accepted_of h) k high → Allowed h (Event.Deliver k form) r
+        → is_want_of_memory r ≡ false → r ≡ due_delivery h k n high }
 {}
 
 /// What a legal history has reported as applied since the last restart are the numbers after its
