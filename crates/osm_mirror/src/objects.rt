@@ -58,8 +58,8 @@ impl Objects {
         self.objects.get(&key)
     }
 
-    /// Applies one change: a deletion takes its object out, any other becomes its key's object. After
-    /// a refusal nothing has changed.
+    /// Applies one change: a deletion takes its object out, any other becomes its key's object.
+    /// After a refusal nothing has changed.
     pub fn put(&mut self, change: Change) -> Result<(), WantOfMemory>
         ensures put { OnOk result ((k : Key) → object_at self.new k
             ≡ (if same_key change.key k then standing_of change else object_at self.old k)) }
