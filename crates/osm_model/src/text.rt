@@ -1,6 +1,6 @@
 //! Texts of objects: user names, keys and values of tags, roles of members.
 
-ghost use Rattle.std.specs.Prelude.{◌≡◌, ◌<◌, ◌≤◌, ◌↔◌, length, IfOk, IsErrOf, OnOk, Contains};
+ghost use Rattle.std.specs.Prelude.{◌≡◌, ◌<◌, ◌≤◌, ◌↔◌, length, IfOk, IsErrOf, OnOk, OnErr, Contains};
 ghost use Rattle.std.specs.Prelude.{string_bytes};
 ghost use Rattle.osm_model.specs.Steps.Kept.{kept_bytes};
 ghost use Rattle.osm_model.specs.Text.{IsText};
@@ -130,7 +130,8 @@ fn check(text: &str) -> Result<(), TextError>
 }
 
 fn keep(alloc: Global, text: &str) -> Result<Kept, AllocError>
-    ensures { IfOk result (λ kept. kept_bytes kept ≡ text.now) }
+    ensures ok { IfOk result (λ kept. kept_bytes kept ≡ text.now) }
+    ensures refused { OnErr result (30 < length text.now) }
 {
     if let Some(short) = ShortText::new(text) {
         return Ok(Kept::Short(short));
@@ -141,14 +142,12 @@ fn keep(alloc: Global, text: &str) -> Result<Kept, AllocError>
 
 impl Kept {
     fn copy(&self, alloc: Global) -> Result<Kept, AllocError>
-        ensures { IfOk result (λ kept. kept_bytes kept ≡ kept_bytes self.now) }
+        ensures ok { IfOk result (λ kept. kept_bytes kept ≡ kept_bytes self.now) }
+        ensures refused { OnErr result (30 < length (kept_bytes self.now)) }
     {
         match self {
             Kept::Short(short) => Ok(Kept::Short(*short)),
-            Kept::Long(text) => {
-                let text = String::from_str(alloc, text.as_str())?;
-                Ok(Kept::Long(text))
-            }
+            Kept::Long(text) => keep(alloc, text.as_str()),
         }
     }
 }
