@@ -1,2 +1,3 @@
--- Steps of the reader of times: no clause of a public function cites them.
+-- What no clause of a public function cites.
 pub mod Clock
+pub mod Kept

@@ -25,6 +25,28 @@ pub enum What {
 }
 
 impl What {
+    // The same, its lists without much unused room.
+    fn fitted(self) -> What
+        ensures { result ≡ self }
+    {
+        match self {
+            What::Node { lon, lat, tags } => What::Node {
+                lon,
+                lat,
+                tags: tags.fitted(),
+            },
+            What::Way { refs, tags } => What::Way {
+                refs: refs.fitted(),
+                tags: tags.fitted(),
+            },
+            What::Relation { members, tags } => What::Relation {
+                members: members.fitted(),
+                tags: tags.fitted(),
+            },
+            What::Deleted => What::Deleted,
+        }
+    }
+
     fn copy(&self, alloc: Global) -> Result<What, WantOfMemory>
         ensures { IfOk result (λ w. w ≡ self.now) }
     {
@@ -246,7 +268,11 @@ impl Change {
         ensures { result ≡ record { key = key; meta = meta; what = what } }
     {
         let _version = meta.version();
-        Change { key, meta, what }
+        Change {
+            key,
+            meta,
+            what: what.fitted(),
+        }
     }
 
     pub fn key(&self) -> Key

@@ -11,5 +11,6 @@ pub mod limits;
 pub mod lists;
 pub mod memory;
 pub mod meta;
+mod short;
 pub mod text;
 pub mod time;

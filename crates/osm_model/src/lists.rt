@@ -94,6 +94,10 @@ impl Part for Member {
 /// The members of a relation, in order.
 pub type Members = Parts<Member>;
 
+// How many parts a list of a change may have room for beside its own. To fit a list moves its parts,
+// so a short one is left as it is.
+const MAX_SPARE: usize = 64;
+
 /// Parts of one sort, in order.
 #[derive(Debug, Drop)]
 pub struct Parts<T: Part> {
@@ -151,6 +155,17 @@ impl<T: Part> Parts<T> {
         ensures limits { AllByRecursion T.within_limits self.now }
     {
         self.parts.as_slice()
+    }
+
+    // The same parts. If growing left room for many more, it is given back.
+    pub(crate) fn fitted(self) -> Parts<T>
+        ensures { result ≡ self }
+    {
+        let mut parts = self.parts;
+        if parts.capacity().saturating_sub(parts.len()) > MAX_SPARE {
+            parts.shrink_to_fit();
+        }
+        Parts { parts }
     }
 
     /// Equal parts. The copy of none takes no memory.

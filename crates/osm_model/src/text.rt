@@ -1,31 +1,45 @@
 //! Texts of objects: user names, keys and values of tags, roles of members.
 
-ghost use Rattle.std.specs.Prelude.{◌≡◌, ◌<◌, ◌≤◌, ◌↔◌, length, IfOk, IsErrOf, OnErr, Contains};
+ghost use Rattle.std.specs.Prelude.{◌≡◌, ◌<◌, ◌≤◌, ◌↔◌, length, IfOk, IsErrOf, OnOk, OnErr, Contains};
 ghost use Rattle.std.specs.Prelude.{string_bytes};
+ghost use Rattle.osm_model.specs.Steps.Kept.{kept_bytes};
 ghost use Rattle.osm_model.specs.Text.{IsText};
 ghost use Rattle.osm_model.specs.declared.text.TextError.TheVariants.{WantOfMemory};
 
 use crate::limits::MAX_TEXT;
 use crate::memory::WantOfMemory;
+use crate::short::ShortText;
 use std::alloc::{AllocError, Global};
+use std::fmt;
 use std::marker::Model;
+use std::mem::size_of;
 use thiserror::Error;
 
-/// At most 1,020 bytes of UTF-8 without U+0000. The empty text is allowed.
-#[derive(Debug, Drop)]
+/// At most 1,020 bytes of UTF-8 without U+0000. The empty text is allowed. Up to 30 bytes lie in
+/// the value itself, of 32 bytes; only a longer text has a block of the heap.
+#[derive(Drop)]
 pub struct Text {
-    text: String,
+    kept: Kept,
 }
 
+#[derive(Drop)]
+enum Kept {
+    Short(ShortText),
+    Long(String),
+}
+
+const _: () = prove!(size_of::<Text>() == 32);
+
 impl Model for Text {
-    ghost use Rattle.std.specs.Prelude.{ℕ, List, string_bytes};
+    ghost use Rattle.std.specs.Prelude.{ℕ, List};
     ghost use Rattle.osm_model.specs.Text.{IsText};
+    ghost use Rattle.osm_model.specs.Steps.Kept.{kept_bytes};
 
     ghost Value = { List ℕ };
 
-    ghost view = { λ a. string_bytes a.text };
+    ghost view = { λ a. kept_bytes a.kept };
 
-    ghost invariant = { λ a. IsText (string_bytes a.text) };
+    ghost invariant = { λ a. IsText (kept_bytes a.kept) };
 }
 
 /// Why a text is refused.
@@ -58,14 +72,9 @@ impl Text {
         ensures too_long { IsErrOf result TextError.TooLong
             ↔ (¬ Contains text.now 0 × (1020 < length text.now)) }
     {
-        if text.as_bytes().contains(&0) {
-            return Err(TextError::HasNul);
-        }
-        if text.len() > MAX_TEXT {
-            return Err(TextError::TooLong);
-        }
-        let text = String::from_str(alloc, text)?;
-        Ok(Text { text })
+        check(text)?;
+        let kept = keep(alloc, text)?;
+        Ok(Text { kept })
     }
 
     /// That text, which takes no memory.
@@ -76,28 +85,78 @@ impl Text {
             ↔ (¬ Contains (string_bytes text) 0 × (1020 < length (string_bytes text))) }
         ensures enough { ¬ IsErrOf result TextError.WantOfMemory }
     {
-        if text.as_str().as_bytes().contains(&0) {
-            return Err(TextError::HasNul);
-        }
-        if text.len() > MAX_TEXT {
-            return Err(TextError::TooLong);
-        }
-        Ok(Text { text })
+        check(text.as_str())?;
+        let kept = match ShortText::new(text.as_str()) {
+            Some(short) => Kept::Short(short),
+            None => Kept::Long(text),
+        };
+        Ok(Text { kept })
     }
 
     pub fn as_str(&self) -> &str
         ensures text { result.now ≡ self.now }
         ensures limits { IsText self.now }
     {
-        self.text.as_str()
+        match &self.kept {
+            Kept::Short(short) => short.as_str(),
+            Kept::Long(text) => text.as_str(),
+        }
     }
 
     /// An equal text.
     pub fn copy(&self, alloc: Global) -> Result<Text, WantOfMemory>
         ensures { IfOk result (λ t. t ≡ self.now) }
     {
-        let text = String::from_str(alloc, self.text.as_str())?;
-        Ok(Text { text })
+        let kept = self.kept.copy(alloc)?;
+        Ok(Text { kept })
+    }
+}
+
+// Whether those characters are a text.
+fn check(text: &str) -> Result<(), TextError>
+    ensures ok { OnOk result (IsText text.now) }
+    ensures has_nul { IsErrOf result TextError.HasNul ↔ Contains text.now 0 }
+    ensures too_long { IsErrOf result TextError.TooLong
+        ↔ (¬ Contains text.now 0 × (1020 < length text.now)) }
+    ensures enough { ¬ IsErrOf result TextError.WantOfMemory }
+{
+    if text.as_bytes().contains(&0) {
+        return Err(TextError::HasNul);
+    }
+    if text.len() > MAX_TEXT {
+        return Err(TextError::TooLong);
+    }
+    Ok(())
+}
+
+fn keep(alloc: Global, text: &str) -> Result<Kept, AllocError>
+    ensures ok { IfOk result (λ kept. kept_bytes kept ≡ text.now) }
+    ensures refused { OnErr result (30 < length text.now) }
+{
+    if let Some(short) = ShortText::new(text) {
+        return Ok(Kept::Short(short));
+    }
+    let text = String::from_str(alloc, text)?;
+    Ok(Kept::Long(text))
+}
+
+impl Kept {
+    fn copy(&self, alloc: Global) -> Result<Kept, AllocError>
+        ensures ok { IfOk result (λ kept. kept_bytes kept ≡ kept_bytes self.now) }
+        ensures refused { OnErr result (30 < length (kept_bytes self.now)) }
+    {
+        match self {
+            Kept::Short(short) => Ok(Kept::Short(*short)),
+            Kept::Long(text) => keep(alloc, text.as_str()),
+        }
+    }
+}
+
+impl fmt::Debug for Text {
+    fn fmt<W: fmt::Write>(&self, f: &mut fmt::Formatter<W>) -> fmt::Result {
+        f.debug_struct("Text")
+            .field("text", &self.as_str())
+            .finish()
     }
 }
 
@@ -111,6 +170,6 @@ impl PartialEq for Text {
     ghost laws = { Prim.search (comparing, rules) };
 
     fn eq(&self, other: &Text) -> bool {
-        self.text.as_str() == other.text.as_str()
+        self.as_str() == other.as_str()
     }
 }

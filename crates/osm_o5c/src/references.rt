@@ -1,9 +1,10 @@
 //! The reference part of a way or a relation.
 
-ghost use Rattle.std.specs.Prelude.{◌≡◌, ◌++◌, OnOk};
+ghost use Rattle.std.specs.Prelude.{◌≡◌, ◌++◌, ◌+ℤ◌, true, false, IfOk, OnOk, OnErr};
 ghost use Rattle.osm_o5c.specs.Context.{kind_digit};
 ghost use Rattle.osm_o5c.specs.Steps.ObjectReading.{refs_at, ref_at, role_of, member_at};
 ghost use Rattle.osm_o5c.specs.Steps.ObjectReading.{members_at};
+ghost use Rattle.osm_o5c.specs.Steps.NumberReading.{is_id};
 ghost use Rattle.osm_reading.specs.Steps.Answers.{Gives, Finds};
 ghost use Rattle.osm_o5c.specs.Written.{difference_text, refs_text, last_ref, member_text};
 ghost use Rattle.osm_o5c.specs.Written.{after_member, members_text, after_members};
@@ -77,6 +78,17 @@ fn role(alloc: Global, bytes: &[u8]) -> Result<(Kind, Text), Refusal>
     Ok((kind, role))
 }
 
+// The id that a difference to the counter gives.
+fn moved(counter: i64, difference: i64) -> Result<i64, Why>
+    ensures found { IfOk result (λ id. (id ≡ counter +ℤ difference) × (is_id id ≡ true)) }
+    ensures refused { OnErr result (is_id (counter +ℤ difference) ≡ false) }
+{
+    match counter.checked_add(difference) {
+        Some(id) if -MAX_ID <= id && id <= MAX_ID => Ok(id),
+        _ => Err(Why::OutOfRange),
+    }
+}
+
 impl<'a> Reader<'a> {
     // The member at the start, and the bytes after it.
     #[tactic(auto, unfolding(crate::specs::Steps::ObjectReading::member_at))]
@@ -86,14 +98,10 @@ impl<'a> Reader<'a> {
         let (difference, rest) = signed(bytes)?;
         let (string, rest) = self.strings.single(alloc, rest)?;
         let (kind, role) = role(alloc, string)?;
-        match self.counters.member(kind).checked_add(difference) {
-            Some(id) if -MAX_ID <= id && id <= MAX_ID => {
-                self.counters.set_member(kind, id);
-                let key = Key { kind, id };
-                Ok((Member { key, role }, rest))
-            }
-            _ => Err(Refusal::Fault(Why::OutOfRange)),
-        }
+        let id = moved(self.counters.member(kind), difference)?;
+        self.counters.set_member(kind, id);
+        let key = Key { kind, id };
+        Ok((Member { key, role }, rest))
     }
 
     /// The members up to the end of the part, at most 32,000.
