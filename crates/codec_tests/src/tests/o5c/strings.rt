@@ -1,10 +1,11 @@
 //! The table of strings: its limits, and what names no string of it.
 
 use super::makes::*;
-use osm_model::change::What;
+use osm_model::batch::Batch;
+use osm_model::change::{Change, What};
 use osm_model::form::{ChangeForm, Why};
 use osm_model::kind::Kind;
-use osm_model::lists::{Part, Tag};
+use osm_model::lists::{Part, Tag, Tags};
 use osm_o5c::o5c::O5c;
 use std::alloc::Global;
 use std::test::Fail;
@@ -147,5 +148,45 @@ fn a_reference_to_the_other_sort_is_refused(rt: HostRuntime) -> Result<(), Fail>
     // A member whose role names the user's pair.
     let member: [&[u8]; 3] = [b"\x12\x12\x02", META, b"\x02\x02\x01"];
     assert!(rt; is_refused(alloc, &member, 7, Why::BadReference)?);
+    Ok(())
+}
+
+// The tags that are numbered from `first` on, so many, each unlike all others.
+fn numbered_tags(alloc: Global, first: u32, count: u32) -> Result<Tags, Fail> {
+    let mut tags = Tags::new(alloc);
+    for i in 0..count.min(5_000) {
+        let key = format!(in alloc; "{}", first.saturating_add(i))?;
+        tags.push(tag(alloc, key.as_str(), "v")?)?;
+    }
+    Ok(tags)
+}
+
+// A node of user `ann` at longitude and latitude 0 with those tags.
+fn numbered_node(alloc: Global, id: i64, first: u32, count: u32) -> Result<Change, Fail> {
+    let tags = numbered_tags(alloc, first, count)?;
+    Ok(Change::node(id, first_meta(alloc)?, 0, 0, tags)?)
+}
+
+// Four nodes with so many different tags, and a fifth that has the first of them again.
+fn five_nodes(alloc: Global, count: u32) -> Result<Batch, Fail> {
+    let mut batch = Batch::new(alloc);
+    for i in 0..4u32 {
+        let first = i.saturating_mul(5_000);
+        let tags = count.saturating_sub(first).min(5_000);
+        batch.push(numbered_node(alloc, i as i64 + 1, first, tags)?)?;
+    }
+    with_last(batch, numbered_node(alloc, 5, 0, 1)?)
+}
+
+#[test]
+fn a_string_is_named_up_to_number_15000(rt: HostRuntime) -> Result<(), Fail> {
+    let alloc = rt.alloc();
+    // The user, entered before the tags, is number 15,000, and the first tag 14,999.
+    let fewer = five_nodes(alloc, 14_999)?;
+    assert!(rt; is_ended_by(alloc, &fewer, b"\x01\x00\x00\x98\x75\x00\x00\x97\x75")?);
+    // The first tag is number 15,001.
+    let more = five_nodes(alloc, 15_001)?;
+    let in_line = b"\x00\x05\x00ann\x00\x00\x00\x000\x00v\x00";
+    assert!(rt; is_ended_by(alloc, &more, in_line)?);
     Ok(())
 }
