@@ -52,7 +52,7 @@ clean-push (x ∷ xs) e all c = (all.0, clean-push xs e all.1 c)
 
 -- ---- two strings that stand in line alike are one
 
-tail_of : List ℕ → List ℕ
+abbrev tail_of : List ℕ → List ℕ
 tail_of [] = []
 tail_of (b ∷ bs) = bs
 

@@ -70,7 +70,7 @@ dataset_written prefix xs s b c a kind l few =
       is_front = next prefix a.context xs (dataset_text s c) (Some c) w.after a.is_front (object a.context (number_text (length (object_text s c))) (object_text s c) c w.after n w.spells) few;
       state_is = w.state_is;
       bounds = w.bounds;
-      shortest = (a.shortest, (λ other o. fewest_bytes other (length (object_text s c)) o), w.shortest, a.ends ∙ kind);
+      shortest = (a.shortest, ((λ other o. fewest_bytes other (length (object_text s c)) o), w.shortest, a.ends ∙ kind));
       ends = refl;
     }
 
@@ -114,6 +114,7 @@ text_spells batch l =
     record { prefix = beginning ++ objects_text None new_state batch; context = b.context; is_front = b.is_front; whole = refl }
 
 pub text_shortest : (batch : List ChangeValue) (l : IsBatch batch) → IsShortest (text_spells batch l)
+unfolding text_spells
 text_shortest batch l =
     let b : Behind (beginning ++ objects_text None new_state batch) batch = written batch l in
     (b.shortest, b.ends)

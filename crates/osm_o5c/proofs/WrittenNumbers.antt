@@ -126,6 +126,7 @@ pub record SumWritten (before : List ℤ) (counter v : ℤ) : Type 0 where
   pub shortest : IsShortestSum spells
 
 pub sum_written : (before : List ℤ) (v : ℤ) → neg_ℤ (pos 9223372036854775808) ≤ℤ (v -ℤ total before) → (v -ℤ total before) ≤ℤ pos 9223372036854775807 → SumWritten before (total before) v
+unfolding sum_spells
 sum_written before v low high = record { spells = sum_spells before v low high; shortest = (λ other s. fewest_bytes other (zigzag (v -ℤ total before)) s) }
 
 pub sum_after : (before : List ℤ) (v : ℤ) → total (before ++ (v -ℤ total before) ∷ []) ≡ v
@@ -149,6 +150,7 @@ pub record WrappedWritten (before : List ℤ) (counter v : ℤ) : Type 0 where
   pub shortest : IsShortestWrapped spells
 
 pub wrapped_written : (before : List ℤ) (v : ℤ) → neg_ℤ (pos 2147483648) ≤ℤ v → v ≤ℤ pos 2147483647 → WrappedWritten before (wrapped_total before) v
+unfolding wrapped_spells
 wrapped_written before v low high = record {
   spells = wrapped_spells before v low high;
   shortest = ((λ other s. fewest_bytes other (zigzag (v -ℤ wrapped_total before)) s), (λ last w. ap (λ (t : ℤ). v -ℤ t) (wrapped_same last (total before) w)));

@@ -1,7 +1,7 @@
 -- Spellings that are as short as they can be: every number in its fewest bytes, every string by the
 -- least number that names it, or else in line, every difference exact, and a reset exactly before
 -- an object of another kind than the object before it.
-use Rattle.std.specs.Prelude.{◌≡◌, ◌≢◌, ℕ, ◌<◌, ◌≤◌, List, [], ◌∷◌, ◌++◌, length, Option, Some, None}
+use Rattle.std.specs.Prelude.{◌≡◌, ◌≢◌, ℕ, ◌<◌, ◌≤◌, List, [], ◌∷◌, length, Option, Some, None}
 use Rattle.std.specs.Prelude.{Bool, true, false, ℤ, pos, ◌-ℤ◌}
 use Rattle.osm_model.specs.Change.{ChangeValue}
 use Rattle.osm_model.specs.Meta.{MetaValue}

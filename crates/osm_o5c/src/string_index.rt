@@ -1,7 +1,12 @@
-//! The strings in line that are entered, and the least number by which a reference names one.
+//! The strings that a writer has entered, and the least number by which a reference names one.
+//!
+//! The strings fall into buckets by a hash, and those of a bucket form a chain, the last of them
+//! first. A search walks the chain of its bucket, so the first equal string has the least number.
 
-ghost use Rattle.std.specs.Prelude.{◌≡◌, [], ◌∷◌, ◌++◌, ◌<◌, ◌≤◌, ◌+◌, take, drop, length, OnOk, IfOk};
-ghost use Rattle.osm_o5c.specs.Steps.Index.{IsLeast, IsLastIn, IsPrevious, string_at, bucket_of, hash_from};
+ghost use Rattle.std.specs.Prelude.{◌≡◌, [], ◌∷◌, ◌++◌, ◌<◌, ◌≤◌, ◌+◌, take, drop, length, OnOk};
+ghost use Rattle.std.specs.Prelude.{IfOk};
+ghost use Rattle.osm_o5c.specs.Steps.Index.{IsLeast, IsLastIn, IsPrevious, string_at, bucket_of};
+ghost use Rattle.osm_o5c.specs.Steps.Index.{hash_from};
 ghost use Rattle.osm_o5c.specs.Written.{reference_of};
 
 use crate::strings::MAX_ENTRIES;
@@ -12,8 +17,8 @@ use std::marker::Model;
 /// How many buckets the strings fall into.
 const BUCKETS: usize = 16_384;
 
-/// Where a string stands in the bytes, and 1 more than the place of one before it in its bucket, or
-/// 0.
+/// Where a string stands in the bytes, its bucket, and 1 more than the place of the string before it
+/// in that bucket, or 0 if there is none.
 #[derive(Clone, Copy)]
 struct Slot {
     start: usize,
@@ -22,7 +27,9 @@ struct Slot {
     previous: usize,
 }
 
-/// Strings in the order in which they were entered, each by its bytes in line.
+/// Strings since the last reset in the order in which they were entered, each as it stands in line.
+/// `heads` has for each bucket 1 more than the place of the last string in it; a head that is older
+/// than the last reset is left there, and is known by the bucket of the string to which it leads.
 #[derive(Drop)]
 pub struct StringIndex {
     bytes: Vec<u8>,
@@ -41,9 +48,14 @@ impl Model for StringIndex {
     ghost invariant = { λ a. IsIndexed a.bytes.items a.slots.items a.heads.items };
 }
 
+/// The hash is a polynomial in the bytes at this odd prime, modulo 2^64.
 const FACTOR: u64 = 1_099_511_628_211;
 
+/// An odd number near 2^64 divided by the golden ratio, which spreads a hash over its high bits.
 const SPREAD: u64 = 11_400_714_819_323_198_485;
+
+/// 2^50: the high 14 bits of a hash give its bucket.
+const LOW_BITS: u64 = 1_125_899_906_842_624;
 
 fn hash(text: &[u8]) -> u64
     ensures { result ≡ hash_from 0 text.now }
@@ -61,7 +73,7 @@ fn bucket(text: &[u8]) -> usize
     ensures value { result ≡ bucket_of text.now }
     ensures bound { result < 16384 }
 {
-    (hash(text).wrapping_mul(SPREAD) / 1_125_899_906_842_624) as usize
+    (hash(text).wrapping_mul(SPREAD) / LOW_BITS) as usize
 }
 
 // So many bytes from there on.

@@ -7,7 +7,8 @@ ghost use Rattle.osm_reading.specs.Steps.Answers.{Gives, Finds};
 ghost use Rattle.osm_o5c.specs.Steps.StringReading.{entered, latest, until_nul_at, pair_at};
 ghost use Rattle.osm_o5c.specs.Steps.StringReading.{single_at, text_of};
 ghost use Rattle.osm_o5c.specs.Written.{pair_in_line, single_in_line, reference_of, by_reference};
-ghost use Rattle.osm_o5c.specs.Written.{entered_by, pair_text, after_pair, single_text, after_single};
+ghost use Rattle.osm_o5c.specs.Written.{entered_by, pair_text, after_pair, single_text};
+ghost use Rattle.osm_o5c.specs.Written.{after_single};
 
 use crate::numbers::{unsigned, write_unsigned};
 use crate::string_index::StringIndex;

@@ -1,6 +1,7 @@
 -- An index of strings: those that fall into one bucket form a chain, the last of them first.
-use Rattle.std.specs.Prelude.{◌≡◌, ◌≢◌, ℕ, ◌+◌, ◌-◌, ◌*◌, ◌/◌, ◌%◌, ◌<◌, ◌≤◌, ◌&&◌, List, [], ◌∷◌, length}
-use Rattle.std.specs.Prelude.{take, drop, get_or, slice_get, nat_le, if◌then◌else◌, Option, Some, None}
+use Rattle.std.specs.Prelude.{◌≡◌, ◌≢◌, ℕ, ◌+◌, ◌-◌, ◌*◌, ◌/◌, ◌%◌, ◌<◌, ◌≤◌, ◌&&◌, List, []}
+use Rattle.std.specs.Prelude.{◌∷◌, length, take, drop, get_or, slice_get, nat_le, if◌then◌else◌}
+use Rattle.std.specs.Prelude.{Option, Some, None}
 use Rattle.osm_o5c.specs.Entries.{max_entries}
 use Rattle.osm_o5c.specs.declared.string_index.Slot.{Slot}
 

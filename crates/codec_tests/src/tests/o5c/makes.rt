@@ -31,8 +31,7 @@ pub const RELATION: &[u8] = b"\x12\x1f\x06\x01\x80\x82\x90\xd9\x0c\x0e\x00\x05\x
       \x0f\x02\x000\x00\x14\x001outer\x00\x06\x02";
 
 /// `relation` after a reset, with all its strings in line.
-pub const RELATION_IN_LINE: &[u8] =
-    b"\x12\x21\x06\x01\x80\x82\x90\xd9\x0c\x0e\x00\x05\x00ann\x00\
+pub const RELATION_IN_LINE: &[u8] = b"\x12\x21\x06\x01\x80\x82\x90\xd9\x0c\x0e\x00\x05\x00ann\x00\
       \x11\x02\x000\x00\x14\x001outer\x00\x06\x000\x00";
 
 /// `nested_relation` after a reset.
@@ -220,14 +219,7 @@ pub fn is_read_as(alloc: Global, datasets: &[&[u8]], batch: Batch) -> Result<boo
     reads(alloc, datasets, &batch)
 }
 
-//// Whether the file of that batch ends with those bytes and the end byte.
-pub fn is_ended_by(alloc: Global, batch: &Batch, tail: &[u8]) -> Result<bool, Fail> {
-    let written = O5c::write(alloc, batch)?;
-    let end = joined(alloc, &[tail, b"\xfe"])?;
-    Ok(written.as_slice().ends_with(end.as_slice()))
-}
-
-// Whether that batch is written as a file of those datasets, and read from it.
+/// Whether that batch is written as a file of those datasets, and read from it.
 pub fn is_spelled(alloc: Global, batch: Batch, datasets: &[&[u8]]) -> Result<bool, Fail> {
     Ok(writes(alloc, &batch, datasets)? && reads(alloc, datasets, &batch)?)
 }

@@ -184,9 +184,67 @@ fn a_string_is_named_up_to_number_15000(rt: HostRuntime) -> Result<(), Fail> {
     // The user, entered before the tags, is number 15,000, and the first tag 14,999.
     let fewer = five_nodes(alloc, 14_999)?;
     assert!(rt; is_ended_by(alloc, &fewer, b"\x01\x00\x00\x98\x75\x00\x00\x97\x75")?);
-    // The first tag is number 15,001.
-    let more = five_nodes(alloc, 15_001)?;
-    let in_line = b"\x00\x05\x00ann\x00\x00\x00\x000\x00v\x00";
-    assert!(rt; is_ended_by(alloc, &more, in_line)?);
+    // The user of the fourth node was number 15,001 and was entered again, so that the first tag is
+    // number 15,001.
+    let more = five_nodes(alloc, 15_000)?;
+    assert!(rt; is_ended_by(alloc, &more, b"\x01\x00\x00\x01\x00\x00\x000\x00v\x00")?);
+    let most = five_nodes(alloc, 15_001)?;
+    assert!(rt; is_ended_by(alloc, &most, b"\x01\x00\x00\x02\x00\x00\x000\x00v\x00")?);
+    Ok(())
+}
+
+// How far from the end the last entry is that has those bytes, found by a plain search.
+fn plain_search(entries: &[Vec<u8>], text: &[u8]) -> Option<usize> {
+    let place = entries
+        .iter()
+        .rev()
+        .position(|entry| entry.as_slice() == text)?;
+    Some(place.saturating_add(1))
+}
+
+// What a writer with a plain search appends for a tag of at most 250 bytes, while there are fewer
+// than 128 entries.
+fn add_plainly(
+    alloc: Global,
+    out: &mut Vec<u8>,
+    entries: &mut Vec<Vec<u8>>,
+    (key, value): (&str, &str),
+) -> Result<(), Fail> {
+    let parts: [&[u8]; 5] = [b"\x00", key.as_bytes(), b"\x00", value.as_bytes(), b"\x00"];
+    let text = joined(alloc, &parts)?;
+    match plain_search(entries.as_slice(), text.as_slice()) {
+        Some(number) => out.push((number % 128) as u8)?,
+        None => {
+            out.extend_from_slice(text.as_slice())?;
+            entries.push(text)?;
+        }
+    }
+    Ok(())
+}
+
+const KEYS: [&str; 5] = ["highway", "name", "", "\x05", "é"];
+
+const VALUES: [&str; 4] = ["path", "ann", "", "12"];
+
+// Whether a node with so many tags, each of a few strings, is written as by a plain search.
+fn is_written_plainly(alloc: Global, count: usize) -> Result<bool, Fail> {
+    let mut tags = Tags::new(alloc);
+    let mut plain = Vec::new(alloc);
+    let mut entries = Vec::new(alloc);
+    entries.push(Vec::from_slice(alloc, b"\x00\x05\x00ann\x00")?)?;
+    for i in 0..count.min(100) {
+        let pair = (KEYS[i * i % 5], VALUES[i / 3 % 4]);
+        tags.push(tag(alloc, pair.0, pair.1)?)?;
+        add_plainly(alloc, &mut plain, &mut entries, pair)?;
+    }
+    let node = Change::node(1, first_meta(alloc)?, 0, 0, tags)?;
+    is_ended_by(alloc, &batch_of(alloc, node)?, plain.as_slice())
+}
+
+#[test]
+fn strings_are_named_as_by_a_plain_search(rt: HostRuntime) -> Result<(), Fail> {
+    for count in [1, 2, 5, 60] {
+        assert!(rt; is_written_plainly(rt.alloc(), count)?, "{count}");
+    }
     Ok(())
 }

@@ -93,7 +93,7 @@ fn a_second_node_with_the_same_user_names_it(rt: HostRuntime) -> Result<(), Fail
 #[test]
 fn a_tag_that_is_the_user_names_the_user(rt: HostRuntime) -> Result<(), Fail> {
     let alloc = rt.alloc();
-    let head = b"\x10\x10\x02";
+    let head = b"\x10\x12\x02";
     let batch = batch_of(alloc, node_with(alloc, 1, &[("\x05", "ann")])?)?;
     assert!(rt; is_spelled(alloc, batch, &[head, META, b"\x00\x00\x01"])?);
     Ok(())
