@@ -6,7 +6,7 @@ script, a line `--` and a text, as the proved judge does, and says `allowed`, `f
 judged`; if files are named it says so of each. It takes each spelling of a line, and leaves it to
 the program to check limits.
 
-The sizes of change files are those of files with all strings in line."""
+The sizes of o5c files are those of files in which a string that a number names is that number."""
 
 import datetime
 import functools
