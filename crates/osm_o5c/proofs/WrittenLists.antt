@@ -13,7 +13,7 @@ use Rattle.osm_model.specs.declared.kind.Kind.TheVariants.{Node, Way, Relation}
 use Rattle.osm_model.specs.declared.lists.Member.{Member}
 use Rattle.osm_model.specs.declared.lists.Tag.{Tag}
 use Rattle.osm_o5c.specs.Number.{zigzag}
-use Rattle.osm_o5c.specs.Context.{Context, total, SpellsSum, members_of, with_members, with_strings, kind_digit}
+use Rattle.osm_o5c.specs.Context.{Context, total, members_of, with_members, with_strings, kind_digit}
 use Rattle.osm_o5c.specs.Written.{member_counter, with_member_counter, difference_text, pair_text, after_pair, single_text, tags_text, after_tags, refs_text, last_ref, member_text, after_member, members_text, after_members}
 use Rattle.osm_o5c.specs.Many.{none, more}
 use Rattle.osm_o5c.specs.Object.{SpellsTags, SpellsRefs, SpellsMember, SpellsMembers}

@@ -2,7 +2,7 @@
 -- least number that names it, or else in line, every difference exact, and a reset exactly before
 -- an object of another kind than the object before it.
 use Rattle.std.specs.Prelude.{◌≡◌, ◌≢◌, ℕ, ◌<◌, ◌≤◌, List, [], ◌∷◌, length, Option, Some, None}
-use Rattle.std.specs.Prelude.{Bool, true, false, ℤ, pos, ◌-ℤ◌}
+use Rattle.std.specs.Prelude.{Bool, true, false, ℤ, ◌-ℤ◌}
 use Rattle.osm_model.specs.Change.{ChangeValue}
 use Rattle.osm_model.specs.Meta.{MetaValue}
 use Rattle.osm_model.specs.declared.kind.Kind.{Kind}
@@ -15,7 +15,7 @@ use Rattle.osm_o5c.specs.Entries.{SpellsPair, in_line, reference, SpellsSingle}
 use Rattle.osm_o5c.specs.Entries.{in_line_single, reference_single, entries_of, named}
 use Rattle.osm_o5c.specs.Context.{Context, total, IsWrapped, SpellsSum, SpellsWrapped}
 use Rattle.osm_o5c.specs.Many.{SpellsMany, none, more}
-use Rattle.osm_o5c.specs.Object.{SpellsUser, SpellsMeta, SpellsTag, SpellsTags, SpellsRefs}
+use Rattle.osm_o5c.specs.Object.{SpellsMeta, SpellsTags, SpellsRefs}
 use Rattle.osm_o5c.specs.Object.{SpellsMember, SpellsMembers, SpellsNode, SpellsWay}
 use Rattle.osm_o5c.specs.Object.{SpellsRelation, SpellsWhat, SpellsObject}
 use Rattle.osm_o5c.specs.File.{Dataset, object, skipped, lone, reset, Front, begin, next, SpellsO5c}

@@ -1,4 +1,4 @@
-use Rattle.std.proofs.Common.{rules, ◌≡◌, [], ◌∷◌, ◌++◌, ◌+◌, ℕ, List, length, ap, ◌∙◌, sym, arith}
+use Rattle.std.proofs.Common.{rules, ◌≡◌, [], ◌∷◌, ◌++◌, ◌+◌, ℕ, List, length, ap, ◌∙◌}
 use Rattle.osm_o5c.specs.Steps.Index.{strings_of, IsLastIn}
 use Rattle.osm_o5c.proofs.IndexLemmas.{strings_entered, indexed_more, indexed_entered}
 use Rattle.osm_o5c.proofs.string_index.StringIndex.enter.Goals as goal

@@ -1,8 +1,6 @@
-use Rattle.std.proofs.Common.{rules, ◌≡◌, ℕ, ◌-◌, ◌<◌, ◌≤◌, length, Option, None, Some, arith, sym}
-use Rattle.std.specs.Prelude.{◌≢◌}
-use Rattle.osm_o5c.specs.Written.{reference_of}
+use Rattle.std.proofs.Common.{rules, ◌≡◌, ◌-◌, ◌<◌, length, None, Some, sym}
 use Rattle.osm_o5c.specs.Steps.Index.{string_at}
-use Rattle.osm_o5c.proofs.IndexLemmas.{IsAhead, ahead_first, ahead_next, reference_past, reference_found, least_is}
+use Rattle.osm_o5c.proofs.IndexLemmas.{ahead_first, reference_past, reference_found, least_is}
 use Rattle.osm_o5c.proofs.string_index.StringIndex.find.Goals as goal
 
 pub loop-at-init : goal.loop-at-init

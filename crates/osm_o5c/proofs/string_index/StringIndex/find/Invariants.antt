@@ -1,5 +1,3 @@
-use Rattle.std.proofs.Common.{◌≡◌, ℕ, ◌<◌, ◌≤◌, length}
-use Rattle.osm_o5c.specs.Steps.Index.{Leads, string_at}
 use Rattle.osm_o5c.proofs.IndexLemmas.{IsAhead}
 use Rattle.osm_o5c.proofs.string_index.StringIndex.find.Given as goal
 

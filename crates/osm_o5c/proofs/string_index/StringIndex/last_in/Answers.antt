@@ -1,6 +1,5 @@
-use Rattle.std.proofs.Common.{rules, ◌≡◌, ℕ, ◌-◌, ◌<◌, ◌≤◌, length, get_or, ap, ◌∙◌, sym, arith}
+use Rattle.std.proofs.Common.{rules, ◌≡◌, ◌-◌, ◌<◌, ◌≤◌, length, get_or, ap, ◌∙◌, arith}
 use Rattle.std.specs.Prelude.{◌≢◌}
-use Rattle.std.proofs.lemmas.Bool.Decides.{nat_tests}
 use Rattle.osm_o5c.specs.Steps.Index.{strings_of, no_slot}
 use Rattle.osm_o5c.specs.declared.string_index.Slot.{Slot}
 use Rattle.osm_o5c.proofs.IndexLemmas.{strings_length, last_found, none_in, any_default}

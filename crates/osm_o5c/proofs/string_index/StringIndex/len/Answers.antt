@@ -1,4 +1,4 @@
-use Rattle.std.proofs.Common.{rules, ◌≡◌, ℕ, length, ap, ◌∙◌, sym}
+use Rattle.std.proofs.Common.{rules, ◌≡◌, length, ◌∙◌, sym}
 use Rattle.osm_o5c.proofs.IndexLemmas.{strings_length}
 use Rattle.osm_o5c.proofs.string_index.StringIndex.len.Goals as goal
 

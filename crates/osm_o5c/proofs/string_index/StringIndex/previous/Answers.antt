@@ -1,4 +1,4 @@
-use Rattle.std.proofs.Common.{rules, ◌≡◌, ℕ, ◌<◌, length, get_or, arith}
+use Rattle.std.proofs.Common.{rules, ◌≡◌, ◌<◌, length, get_or, arith}
 use Rattle.osm_o5c.specs.Steps.Index.{strings_of, no_slot}
 use Rattle.osm_o5c.proofs.IndexLemmas.{strings_length, previous_is, any_default}
 use Rattle.osm_o5c.proofs.string_index.StringIndex.previous.Goals as goal

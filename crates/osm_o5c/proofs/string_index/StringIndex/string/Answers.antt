@@ -1,4 +1,4 @@
-use Rattle.std.proofs.Common.{rules, ◌≡◌, ℕ, ◌<◌, ◌+◌, ◌≤◌, length, get_or, ap, ◌∙◌, sym, arith, take, drop}
+use Rattle.std.proofs.Common.{rules, ◌≡◌, ◌<◌, ◌+◌, ◌≤◌, length, get_or, ap, ◌∙◌, sym, arith}
 use Rattle.osm_o5c.specs.Steps.Index.{strings_of, string_of, no_slot}
 use Rattle.osm_o5c.specs.declared.string_index.Slot.{Slot}
 use Rattle.osm_o5c.proofs.IndexLemmas.{strings_length, strings_place, any_default}
