@@ -6,7 +6,7 @@ script, a line `--` and a text, as the proved judge does, and says `allowed`, `f
 judged`; if files are named it says so of each. It takes each spelling of a line, and leaves it to
 the program to check limits.
 
-The sizes of change files are those of files with all strings in line."""
+The sizes of o5c files are those of files in which a string that a number names is that number."""
 
 import datetime
 import functools
@@ -311,38 +311,60 @@ class Counters(dict):
         return zigzag(difference)
 
 
+class Strings:
+    """The strings that are entered, each with the place where it was last; one that a number up to
+    15,000 names is written as that number, and any other in line."""
+
+    def __init__(self):
+        self.count, self.places = 0, {}
+
+    def step(self, *parts):
+        place = self.places.get(parts)
+        if place is not None and self.count - place <= 15_000:
+            return varint(self.count - place)
+        if sum(map(len, parts)) <= 250:
+            self.places[parts] = self.count
+            self.count += 1
+        return 1 + sum(len(part) + 1 for part in parts)
+
+
+def varint_bytes(value):
+    """An unsigned number, the least significant seven bits first."""
+    return bytes([value % 128 + 128]) + varint_bytes(value // 128) if value > 127 else bytes([value])
+
+
 def o5c_size(changes):
     """The beginning, the objects with their types and lengths, a reset between kinds, the end."""
-    size, counters, kind = 7 + 1, Counters(), None
+    size, counters, strings, kind = 7 + 1, Counters(), Strings(), None
     for change in changes:
         if kind not in (None, change.kind):
-            size, counters = size + 1, Counters()
+            size, counters, strings = size + 1, Counters(), Strings()
         kind = change.kind
-        content = content_size(change, counters)
+        content = content_size(change, counters, strings)
         size += 1 + varint(content) + content
     return size
 
 
-def content_size(change, counters):
+def content_size(change, counters, strings):
     seconds = datetime.datetime.fromisoformat(change.time[:-1] + "+00:00").timestamp()
     size = counters.step("id", change.key[1]) + varint(change.version)
     size += counters.step("time", int(seconds)) + counters.step("changeset", change.changeset)
-    size += 3 + varint(change.user) + len(change.name.encode())
+    size += strings.step(varint_bytes(change.user), change.name.encode())
     if change.is_deletion:
         return size
     if change.kind == "n":
         longitude, latitude = change.location
         size += counters.step("longitude", longitude) + counters.step("latitude", latitude)
     else:
-        part = part_size(change, counters)
+        part = part_size(change, counters, strings)
         size += varint(part) + part
-    return size + sum(3 + len((k + v).encode()) for k, v in change.tags)
+    return size + sum(strings.step(k.encode(), v.encode()) for k, v in change.tags)
 
 
-def part_size(change, counters):
+def part_size(change, counters, strings):
     if change.kind == "w":
         return sum(counters.step("reference", key) for key in change.references)
-    return sum(counters.step(kind, key) + 3 + len(role.encode())
+    return sum(counters.step(kind, key) + strings.step((kind + role).encode())
                for kind, key, role in change.members)
 
 

@@ -15,8 +15,10 @@ pub mod PlaceLemmas
 pub mod LongestLemmas
 pub mod FormLemmas
 pub mod WrittenNumbers
+pub mod KnownLemmas
 pub mod WrittenLists
 pub mod WrittenObjects
 pub mod WrittenFile
 pub mod WriteLemmas
 pub mod StandardFacts
+pub mod IndexLemmas

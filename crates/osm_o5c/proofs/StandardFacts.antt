@@ -8,7 +8,7 @@ use Rattle.osm_model.specs.declared.kind.Kind.TheVariants as kinds
 use Rattle.osm_model.specs.declared.change.What.TheVariants.{Node, Way, Relation, Deleted}
 use Rattle.osm_o5c.specs.Number.{SpellsNumber}
 use Rattle.osm_o5c.specs.Context.{IsWrapped}
-use Rattle.osm_o5c.specs.Written.{no_counters, varint_text, number_text, signed_text, dataset_text, o5c_text}
+use Rattle.osm_o5c.specs.Written.{after_object, new_state, varint_text, number_text, signed_text, dataset_text, o5c_text}
 
 unsigned_5 : number_text 5 ≡ 5 ∷ []
 unfolding varint_text
@@ -59,19 +59,26 @@ with_meta head tail =
     head ++ (0x01 ∷ 0x80 ∷ 0x82 ∷ 0x90 ∷ 0xd9 ∷ 0x0c ∷ 0x0e ∷ 0x00 ∷ 0x05 ∷ 0x00 ∷ 0x61 ∷ 0x6e ∷ 0x6e ∷ 0x00 ∷ []) ++ tail
 
 -- node 1 at 1 degree east and 2 degrees north
-node_dataset : dataset_text no_counters (record { key = record { kind = kinds.Node; id = pos 1 }; meta = ann; what = Node (pos 10000000) (pos 20000000) [] })
+node_dataset : dataset_text new_state (record { key = record { kind = kinds.Node; id = pos 1 }; meta = ann; what = Node (pos 10000000) (pos 20000000) [] })
     ≡ with_meta (0x10 ∷ 0x17 ∷ 0x02 ∷ []) (0x80 ∷ 0xda ∷ 0xc4 ∷ 0x09 ∷ 0x80 ∷ 0xb4 ∷ 0x89 ∷ 0x13 ∷ [])
 unfolding varint_text ann
 node_dataset = refl
 
+-- node 2 at the same place after it: the user is the last string
+second_dataset : dataset_text (after_object new_state (record { key = record { kind = kinds.Node; id = pos 1 }; meta = ann; what = Node (pos 10000000) (pos 20000000) [] })) (record { key = record { kind = kinds.Node; id = pos 2 }; meta = ann; what = Node (pos 10000000) (pos 20000000) [] })
+    ≡ 0x10 ∷ 0x07 ∷ 0x02 ∷ 0x01 ∷ 0x00 ∷ 0x00 ∷ 0x01 ∷ 0x00 ∷ 0x00 ∷ []
+unfolding varint_text ann
+second_dataset = refl
+
 -- way 10 with the nodes 1, 2, 5 and the tag `highway=path`
-way_dataset : dataset_text no_counters (record { key = record { kind = kinds.Way; id = pos 10 }; meta = ann; what = Way (pos 1 ∷ pos 2 ∷ pos 5 ∷ []) (record { key = 0x68 ∷ 0x69 ∷ 0x67 ∷ 0x68 ∷ 0x77 ∷ 0x61 ∷ 0x79 ∷ []; value = 0x70 ∷ 0x61 ∷ 0x74 ∷ 0x68 ∷ [] } ∷ []) })
+way_dataset : dataset_text new_state (record { key = record { kind = kinds.Way; id = pos 10 }; meta = ann; what = Way (pos 1 ∷ pos 2 ∷ pos 5 ∷ []) (record { key = 0x68 ∷ 0x69 ∷ 0x67 ∷ 0x68 ∷ 0x77 ∷ 0x61 ∷ 0x79 ∷ []; value = 0x70 ∷ 0x61 ∷ 0x74 ∷ 0x68 ∷ [] } ∷ []) })
     ≡ with_meta (0x11 ∷ 0x21 ∷ 0x14 ∷ []) (0x03 ∷ 0x02 ∷ 0x02 ∷ 0x06 ∷ 0x00 ∷ 0x68 ∷ 0x69 ∷ 0x67 ∷ 0x68 ∷ 0x77 ∷ 0x61 ∷ 0x79 ∷ 0x00 ∷ 0x70 ∷ 0x61 ∷ 0x74 ∷ 0x68 ∷ 0x00 ∷ [])
 unfolding varint_text ann
 way_dataset = refl
 
--- relation 3 with the members node 1, way 10 as `outer`, and node 4
-relation_dataset : dataset_text no_counters (record {
+-- relation 3 with the members node 1, way 10 as `outer`, and node 4, whose role is the second string
+-- from the end
+relation_dataset : dataset_text new_state (record {
   key = record { kind = kinds.Relation; id = pos 3 };
   meta = ann;
   what = Relation (
@@ -79,12 +86,12 @@ relation_dataset : dataset_text no_counters (record {
       ∷ record { key = record { kind = kinds.Way; id = pos 10 }; role = 0x6f ∷ 0x75 ∷ 0x74 ∷ 0x65 ∷ 0x72 ∷ [] }
       ∷ record { key = record { kind = kinds.Node; id = pos 4 }; role = [] } ∷ []) [];
 })
-    ≡ with_meta (0x12 ∷ 0x21 ∷ 0x06 ∷ []) (0x11 ∷ 0x02 ∷ 0x00 ∷ 0x30 ∷ 0x00 ∷ 0x14 ∷ 0x00 ∷ 0x31 ∷ 0x6f ∷ 0x75 ∷ 0x74 ∷ 0x65 ∷ 0x72 ∷ 0x00 ∷ 0x06 ∷ 0x00 ∷ 0x30 ∷ 0x00 ∷ [])
+    ≡ with_meta (0x12 ∷ 0x1f ∷ 0x06 ∷ []) (0x0f ∷ 0x02 ∷ 0x00 ∷ 0x30 ∷ 0x00 ∷ 0x14 ∷ 0x00 ∷ 0x31 ∷ 0x6f ∷ 0x75 ∷ 0x74 ∷ 0x65 ∷ 0x72 ∷ 0x00 ∷ 0x06 ∷ 0x02 ∷ [])
 unfolding varint_text ann
 relation_dataset = refl
 
 -- relation 3 with the members way 10 as `outer` and relation 20
-nested_dataset : dataset_text no_counters (record {
+nested_dataset : dataset_text new_state (record {
   key = record { kind = kinds.Relation; id = pos 3 };
   meta = ann;
   what = Relation (
@@ -96,11 +103,11 @@ unfolding varint_text ann
 nested_dataset = refl
 
 -- way 10 without nodes and tags, and its deletion
-empty_way_dataset : dataset_text no_counters (record { key = record { kind = kinds.Way; id = pos 10 }; meta = ann; what = Way [] [] }) ≡ with_meta (0x11 ∷ 0x10 ∷ 0x14 ∷ []) (0x00 ∷ [])
+empty_way_dataset : dataset_text new_state (record { key = record { kind = kinds.Way; id = pos 10 }; meta = ann; what = Way [] [] }) ≡ with_meta (0x11 ∷ 0x10 ∷ 0x14 ∷ []) (0x00 ∷ [])
 unfolding varint_text ann
 empty_way_dataset = refl
 
-deletion_dataset : dataset_text no_counters (record { key = record { kind = kinds.Way; id = pos 10 }; meta = ann; what = Deleted }) ≡ with_meta (0x11 ∷ 0x0f ∷ 0x14 ∷ []) []
+deletion_dataset : dataset_text new_state (record { key = record { kind = kinds.Way; id = pos 10 }; meta = ann; what = Deleted }) ≡ with_meta (0x11 ∷ 0x0f ∷ 0x14 ∷ []) []
 unfolding varint_text ann
 deletion_dataset = refl
 

@@ -13,7 +13,7 @@ use Rattle.osm_o5c.specs.declared.strings.Entry.{Entry}
 abbrev pub table_of : List Entry → List Entry
 table_of ss = keep_last 15000 (entries_of ss)
 
-entries_of-push : (s : Entry) (ss : List Entry) → entries_of (ss ++ s ∷ []) ≡ cond (leb (size_of s) 250) (entries_of ss ++ s ∷ []) (entries_of ss)
+pub entries_of-push : (s : Entry) (ss : List Entry) → entries_of (ss ++ s ∷ []) ≡ cond (leb (size_of s) 250) (entries_of ss ++ s ∷ []) (entries_of ss)
 entries_of-push s [] = refl
 entries_of-push s (x ∷ xs) =
     elim (cases_lt 250 (size_of x)) [

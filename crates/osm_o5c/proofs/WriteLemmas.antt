@@ -7,9 +7,9 @@ use Rattle.std.proofs.lemmas.List.{append-nil, length-append}
 use Rattle.osm_o5c.specs.Number.{zigzag}
 use Rattle.osm_model.specs.Change.{ChangeValue}
 use Rattle.osm_model.specs.declared.kind.Kind.{Kind}
-use Rattle.osm_o5c.specs.Written.{no_counters, varint_text, change_text, after_change, objects_text, o5c_text}
+use Rattle.osm_o5c.specs.Written.{new_state, varint_text, change_text, after_change, objects_text, o5c_text}
 use Rattle.osm_o5c.specs.File.{beginning}
-use Rattle.osm_o5c.specs.declared.counters.Counters.{Counters}
+use Rattle.osm_o5c.specs.declared.writer.State.{State}
 
 -- what holds if a call succeeds
 pub on_ok : {T E P Q : Type 0} (r : Result T E) → OnOk r P → (P → Q) → OnOk r Q
@@ -63,6 +63,9 @@ as_difference n before value old new is e = e ∙ ap (λ (m : ℕ). old ++ varin
 pub three_pieces : (old a b new x y z : List ℕ) → a ≡ old ++ x → b ≡ a ++ y → new ≡ b ++ z → new ≡ old ++ (x ++ y ++ z)
 three_pieces old a b new x y z p q r = r ∙ ap (λ (l : List ℕ). l ++ z) (q ∙ ap (λ (l : List ℕ). l ++ y) p) ∙ ap (λ (l : List ℕ). l ++ z) (append_assoc old x y) ∙ append_assoc old (x ++ y) z
 
+pub four_pieces : (old a b d new x y z w : List ℕ) → a ≡ old ++ x → b ≡ a ++ y → d ≡ b ++ z → new ≡ d ++ w → new ≡ old ++ (x ++ y ++ z ++ w)
+four_pieces old a b d new x y z w p q r s = rw (s, r, q, p) (simp append_assoc)
+
 -- ---- files
 
 drop-cons_at : (cs : List ChangeValue) (i : ℕ) (c : ChangeValue) → i < length cs → get_or cs i c ≡ c → drop i cs ≡ c ∷ drop (i + 1) cs
@@ -71,17 +74,17 @@ drop-cons_at (x ∷ xs) zero c h is = ap (λ (y : ChangeValue). y ∷ xs) is
 drop-cons_at (x ∷ xs) (suc i) c h is = let n : suc i + 1 ≡ suc (i + 1) = omega arith in rw n (drop-cons_at xs i c (omega arith) is)
 
 -- the objects from one on: its text and those after it
-objects_from : (before : Option Kind) (s : Counters) (cs : List ChangeValue) (i : ℕ) (c : ChangeValue) → i < length cs → get_or cs i c ≡ c → objects_text before s (drop i cs) ≡ change_text before s c ++ objects_text (Some c.key.kind) (after_change before s c) (drop (i + 1) cs)
+objects_from : (before : Option Kind) (s : State) (cs : List ChangeValue) (i : ℕ) (c : ChangeValue) → i < length cs → get_or cs i c ≡ c → objects_text before s (drop i cs) ≡ change_text before s c ++ objects_text (Some c.key.kind) (after_change before s c) (drop (i + 1) cs)
 objects_from before s cs i c h is =
     let here : drop i cs ≡ c ∷ drop (i + 1) cs = drop-cons_at cs i c h is in
     rw here refl
 
 -- the loop's step: what is written and what is left stay together
-pub objects_more : (before kind : Option Kind) (s t : Counters) (cs : List ChangeValue) (i : ℕ) (c : ChangeValue) (old new whole : List ℕ) → i < length cs → get_or cs i c ≡ c → old ++ objects_text before s (drop i cs) ≡ whole → new ≡ old ++ change_text before s c → t ≡ after_change before s c → kind ≡ Some c.key.kind → new ++ objects_text kind t (drop (i + 1) cs) ≡ whole
-objects_more before kind s t cs i c old new whole h is w e counters_are k =
-    rw (e, counters_are, k) (append_assoc old (change_text before s c) (objects_text (Some c.key.kind) (after_change before s c) (drop (i + 1) cs)) ∙ ap (λ (l : List ℕ). old ++ l) (sym (objects_from before s cs i c h is)) ∙ w)
+pub objects_more : (before kind : Option Kind) (s t : State) (cs : List ChangeValue) (i : ℕ) (c : ChangeValue) (old new whole : List ℕ) → i < length cs → get_or cs i c ≡ c → old ++ objects_text before s (drop i cs) ≡ whole → new ≡ old ++ change_text before s c → t ≡ after_change before s c → kind ≡ Some c.key.kind → new ++ objects_text kind t (drop (i + 1) cs) ≡ whole
+objects_more before kind s t cs i c old new whole h is w e state_is k =
+    rw (e, state_is, k) (append_assoc old (change_text before s c) (objects_text (Some c.key.kind) (after_change before s c) (drop (i + 1) cs)) ∙ ap (λ (l : List ℕ). old ++ l) (sym (objects_from before s cs i c h is)) ∙ w)
 
 -- what is written is no longer than the whole text
-pub written_short : (cs : List ChangeValue) (out left : List ℕ) (most : ℕ) → out ++ left ≡ beginning ++ objects_text None no_counters cs → most < length out → most < length (o5c_text cs)
+pub written_short : (cs : List ChangeValue) (out left : List ℕ) (most : ℕ) → out ++ left ≡ beginning ++ objects_text None new_state cs → most < length out → most < length (o5c_text cs)
 written_short cs out left most e h =
-    omega (arith, ap length e, length-append out left, length-append (beginning ++ objects_text None no_counters cs) (254 ∷ []))
+    omega (arith, ap length e, length-append out left, length-append (beginning ++ objects_text None new_state cs) (254 ∷ []))

@@ -13,37 +13,46 @@ use Rattle.osm_model.specs.declared.kind.Kind.TheVariants.{Node, Way, Relation}
 use Rattle.osm_model.specs.declared.lists.Member.{Member}
 use Rattle.osm_model.specs.declared.lists.Tag.{Tag}
 use Rattle.osm_o5c.specs.Number.{zigzag}
-use Rattle.osm_o5c.specs.Context.{Context, total, SpellsSum, members_of, with_members, with_strings, kind_digit}
-use Rattle.osm_o5c.specs.Written.{member_counter, with_member_counter, difference_text, pair_text, single_text, tags_text, refs_text, last_ref, member_text, after_member, members_text, after_members}
+use Rattle.osm_o5c.specs.Context.{Context, total, members_of, with_members, with_strings, kind_digit}
+use Rattle.osm_o5c.specs.Written.{member_counter, with_member_counter, difference_text, pair_text, after_pair, single_text, tags_text, after_tags, refs_text, last_ref, member_text, after_member, members_text, after_members}
 use Rattle.osm_o5c.specs.Many.{none, more}
-use Rattle.osm_o5c.specs.Object.{SpellsTag, SpellsTags, SpellsRefs, SpellsMember, SpellsMembers}
+use Rattle.osm_o5c.specs.Object.{SpellsTags, SpellsRefs, SpellsMember, SpellsMembers}
 use Rattle.osm_o5c.specs.declared.counters.Counters.{Counters}
+use Rattle.osm_o5c.specs.Shortest.{AreShortestTags, AreShortestRefs, IsShortestMember, AreShortestMembers}
 use Rattle.osm_o5c.specs.declared.strings.Entry.{Entry}
-use Rattle.osm_o5c.specs.declared.strings.Entry.TheVariants.{Single}
+use Rattle.osm_o5c.specs.declared.writer.State.{State}
 use Rattle.osm_o5c.proofs.StringLemmas.{none_before}
 use Rattle.osm_o5c.proofs.FieldLemmas.{counters_of, counter_is}
-use Rattle.osm_o5c.proofs.WrittenNumbers.{number_short, sum_spells, sum_after, pair_spells, single_spells, pair_length, single_length}
+use Rattle.osm_o5c.proofs.WrittenNumbers.{number_short, SumWritten, sum_written, sum_after}
+use Rattle.osm_o5c.proofs.KnownLemmas.{IsKnown, PairWritten, pair_written, pair_short, SingleWritten, single_written, single_short}
 
 -- ---- tags
 
--- the strings in line after the tags
-pub record TagsWritten (ss : List Entry) (tags : List Tag) : Type 0 where
+-- the strings in line after the tags, and what is entered then
+pub record TagsWritten (ss : List Entry) (strings : List (List ℕ)) (tags : List Tag) : Type 0 where
   pub after : List Entry
-  pub spells : SpellsTags ss (tags_text tags) tags after
+  pub spells : SpellsTags ss (tags_text strings tags) tags after
+  pub known : IsKnown after (after_tags strings tags)
+  pub shortest : AreShortestTags spells
 
-pub tags_spell : (ss : List Entry) (tags : List Tag) → AllByRecursion IsTag tags → TagsWritten ss tags
-tags_spell ss [] each = record { after = ss; spells = none ss }
-tags_spell ss (t ∷ ts) each =
-    let one : SpellsTag ss (pair_text t.key t.value) t _ = pair_spells ss t.key t.value each.0.key.no_nul each.0.value.no_nul in
-    let rest : TagsWritten _ ts = tags_spell _ ts each.1 in
-    record { after = rest.after; spells = more ss (pair_text t.key t.value) t _ (tags_text ts) ts rest.after one rest.spells }
+pub tags_spell : (ss : List Entry) (strings : List (List ℕ)) (tags : List Tag) → IsKnown ss strings → AllByRecursion IsTag tags → TagsWritten ss strings tags
+tags_spell ss strings [] known each = record { after = ss; spells = none ss; known = known; shortest = tt }
+tags_spell ss strings (t ∷ ts) known each =
+    let one : PairWritten ss strings t.key t.value = pair_written ss strings t.key t.value known each.0.key.no_nul each.0.value.no_nul in
+    let rest : TagsWritten one.after (after_pair strings t.key t.value) ts = tags_spell one.after (after_pair strings t.key t.value) ts one.known each.1 in
+    record {
+      after = rest.after;
+      spells = more ss (pair_text strings t.key t.value) t one.after (tags_text (after_pair strings t.key t.value) ts) ts rest.after one.spells rest.spells;
+      known = rest.known;
+      shortest = (one.shortest, rest.shortest);
+    }
 
-pub tags_short : (tags : List Tag) → AllByRecursion IsTag tags → length (tags_text tags) ≤ 2043 * length tags
-tags_short [] each = omega arith
-tags_short (t ∷ ts) each =
+pub tags_short : (strings : List (List ℕ)) (tags : List Tag) → AllByRecursion IsTag tags → length (tags_text strings tags) ≤ 2053 * length tags
+tags_short strings [] each = omega arith
+tags_short strings (t ∷ ts) each =
     let key : length t.key ≤ 1020 = each.0.key.short in
     let value : length t.value ≤ 1020 = each.0.value.short in
-    omega (arith, tags_short ts each.1, length-append (pair_text t.key t.value) (tags_text ts), pair_length t.key t.value)
+    omega (arith, tags_short (after_pair strings t.key t.value) ts each.1, length-append (pair_text strings t.key t.value) (tags_text (after_pair strings t.key t.value) ts), pair_short strings t.key t.value)
 
 -- ---- references
 
@@ -55,19 +64,29 @@ pub record RefsWritten (before : List ℤ) (refs : List ℤ) : Type 0 where
   pub after : List ℤ
   pub spells : SpellsRefs before (refs_text (total before) refs) refs after
   pub last : total after ≡ last_ref (total before) refs
+  pub shortest : AreShortestRefs spells
+
+-- the references after one, from its value
+record RefsFrom (before : List ℤ) (counter : ℤ) (refs : List ℤ) : Type 0 where
+  after : List ℤ
+  spells : SpellsRefs before (refs_text counter refs) refs after
+  last : total after ≡ last_ref counter refs
+  shortest : AreShortestRefs spells
 
 pub refs_spell : (before : List ℤ) (refs : List ℤ) → IsId (total before) → AllByRecursion IsId refs → RefsWritten before refs
-refs_spell before [] b each = record { after = before; spells = none before; last = refl }
+refs_spell before [] b each = record { after = before; spells = none before; last = refl; shortest = tt }
 refs_spell before (r ∷ rs) b each =
     let near = ids_apart (total before) r b each.0 in
-    let one : SpellsSum before (difference_text (total before) r) r (before ++ (r -ℤ total before) ∷ []) = sum_spells before r near.0 near.1 in
+    let one : SumWritten before (total before) r = sum_written before r near.0 near.1 in
     let is : total (before ++ (r -ℤ total before) ∷ []) ≡ r = sum_after before r in
     let rest : RefsWritten (before ++ (r -ℤ total before) ∷ []) rs = refs_spell (before ++ (r -ℤ total before) ∷ []) rs (subst IsId (sym is) each.0) each.1 in
-    let tail : SpellsRefs (before ++ (r -ℤ total before) ∷ []) (refs_text r rs) rs rest.after = subst (λ (v : ℤ). SpellsRefs (before ++ (r -ℤ total before) ∷ []) (refs_text v rs) rs rest.after) is rest.spells in
+    let from : RefsFrom (before ++ (r -ℤ total before) ∷ []) (total (before ++ (r -ℤ total before) ∷ [])) rs = record { after = rest.after; spells = rest.spells; last = rest.last; shortest = rest.shortest } in
+    let tail : RefsFrom (before ++ (r -ℤ total before) ∷ []) r rs = subst (λ (v : ℤ). RefsFrom (before ++ (r -ℤ total before) ∷ []) v rs) is from in
     record {
-      after = rest.after;
-      spells = more before (difference_text (total before) r) r (before ++ (r -ℤ total before) ∷ []) (refs_text r rs) rs rest.after one tail;
-      last = rest.last ∙ ap (λ (v : ℤ). last_ref v rs) is;
+      after = tail.after;
+      spells = more before (difference_text (total before) r) r (before ++ (r -ℤ total before) ∷ []) (refs_text r rs) rs tail.after one.spells tail.spells;
+      last = tail.last;
+      shortest = (one.shortest, tail.shortest);
     }
 
 pub refs_short : (before : ℤ) (refs : List ℤ) → length (refs_text before refs) ≤ 10 * length refs
@@ -113,49 +132,64 @@ positive_sum_with Node C ids ss = refl
 positive_sum_with Way C ids ss = refl
 positive_sum_with Relation C ids ss = refl
 
-record MemberWritten (C : Context) (m : Member) : Type 0 where
-  after : Context
-  spells : SpellsMember C (member_text (counters_of C) m) m after
-  counters_are : counters_of after ≡ after_member (counters_of C) m
+-- a writer's state is that of a context with these counters and entries
+pub record IsState (C : Context) (s : State) : Type 0 where
+  pub counters_are : counters_of C ≡ s.counters
+  pub known : IsKnown C.strings s.strings
 
-member_spells : (C : Context) (m : Member) → Bounds (counters_of C) → HasMemberId m → IsRole m → MemberWritten C m
-member_spells C m b i r =
-    let at : member_counter m.key.kind (counters_of C) ≡ total (members_of m.key.kind C) = counter_is m.key.kind C in
-    let near = ids_apart (total (members_of m.key.kind C)) m.key.id (subst IsId at (member_bound m.key.kind (counters_of C) b)) i in
-    let number : SpellsSum (members_of m.key.kind C) (difference_text (total (members_of m.key.kind C)) m.key.id) m.key.id (members_of m.key.kind C ++ (m.key.id -ℤ total (members_of m.key.kind C)) ∷ []) = sum_spells (members_of m.key.kind C) m.key.id near.0 near.1 in
-    let string = single_spells C.strings (kind_digit m.key.kind ∷ m.role) (digit_text m.key.kind m.role r) in
+record MemberWritten (C : Context) (s : State) (m : Member) : Type 0 where
+  after : Context
+  spells : SpellsMember C (member_text s m) m after
+  state_is : IsState after (after_member s m)
+  shortest : IsShortestMember spells
+
+member_spells : (C : Context) (s : State) (m : Member) → IsState C s → Bounds s.counters → HasMemberId m → IsRole m → MemberWritten C s m
+member_spells C s m st b i r =
+    let at : member_counter m.key.kind s.counters ≡ total (members_of m.key.kind C) = ap (λ (k : Counters). member_counter m.key.kind k) (sym st.counters_are) ∙ counter_is m.key.kind C in
+    let near = ids_apart (total (members_of m.key.kind C)) m.key.id (subst IsId at (member_bound m.key.kind s.counters b)) i in
+    let number : SumWritten (members_of m.key.kind C) (member_counter m.key.kind s.counters) m.key.id = subst (λ (v : ℤ). SumWritten (members_of m.key.kind C) v m.key.id) (sym at) (sum_written (members_of m.key.kind C) m.key.id near.0 near.1) in
+    let string : SingleWritten C.strings s.strings (kind_digit m.key.kind ∷ m.role) = single_written C.strings s.strings (kind_digit m.key.kind ∷ m.role) st.known (digit_text m.key.kind m.role r) in
     record {
-      after = with_strings (with_members m.key.kind C (members_of m.key.kind C ++ (m.key.id -ℤ total (members_of m.key.kind C)) ∷ [])) (C.strings ++ Single (kind_digit m.key.kind ∷ m.role) ∷ []);
+      after = with_strings (with_members m.key.kind C (members_of m.key.kind C ++ (m.key.id -ℤ total (members_of m.key.kind C)) ∷ [])) string.after;
       spells = record {
-        id_bytes = difference_text (member_counter m.key.kind (counters_of C)) m.key.id;
-        role_bytes = single_text (kind_digit m.key.kind ∷ m.role);
+        id_bytes = difference_text (member_counter m.key.kind s.counters) m.key.id;
+        role_bytes = single_text s.strings (kind_digit m.key.kind ∷ m.role);
         ids = members_of m.key.kind C ++ (m.key.id -ℤ total (members_of m.key.kind C)) ∷ [];
-        strings = C.strings ++ Single (kind_digit m.key.kind ∷ m.role) ∷ [];
+        strings = string.after;
         whole = refl;
-        id = subst (λ (v : ℤ). SpellsSum (members_of m.key.kind C) (difference_text v m.key.id) m.key.id (members_of m.key.kind C ++ (m.key.id -ℤ total (members_of m.key.kind C)) ∷ [])) (sym at) number;
-        role = string;
+        id = number.spells;
+        role = string.spells;
         context = refl;
       };
-      counters_are = positive_sum_with m.key.kind C (members_of m.key.kind C ++ (m.key.id -ℤ total (members_of m.key.kind C)) ∷ []) (C.strings ++ Single (kind_digit m.key.kind ∷ m.role) ∷ []) ∙ ap (λ (v : ℤ). with_member_counter m.key.kind (counters_of C) v) (sum_after (members_of m.key.kind C) m.key.id);
+      state_is = record {
+        counters_are = positive_sum_with m.key.kind C (members_of m.key.kind C ++ (m.key.id -ℤ total (members_of m.key.kind C)) ∷ []) string.after ∙ ap (λ (v : ℤ). with_member_counter m.key.kind (counters_of C) v) (sum_after (members_of m.key.kind C) m.key.id) ∙ ap (λ (k : Counters). with_member_counter m.key.kind k m.key.id) st.counters_are;
+        known = string.known;
+      };
+      shortest = (number.shortest, string.shortest);
     }
 
-pub record MembersWritten (C : Context) (s : Counters) (members : List Member) : Type 0 where
+pub record MembersWritten (C : Context) (s : State) (members : List Member) : Type 0 where
   pub after : Context
   pub spells : SpellsMembers C (members_text s members) members after
-  pub counters_are : counters_of after ≡ after_members s members
-  pub bounds : Bounds (after_members s members)
+  pub state_is : IsState after (after_members s members)
+  pub bounds : Bounds (after_members s members).counters
+  pub shortest : AreShortestMembers spells
 
-pub members_spell : (C : Context) (s : Counters) (members : List Member) → counters_of C ≡ s → Bounds s → AllByRecursion HasMemberId members → AllByRecursion IsRole members → MembersWritten C s members
-members_spell C s [] is b i r = record { after = C; spells = none C; counters_are = is; bounds = b }
-members_spell C s (m ∷ ms) is b i r =
-    let one : MemberWritten C m = member_spells C m (subst Bounds (sym is) b) i.0 r.0 in
-    let counters_are : counters_of one.after ≡ after_member s m = one.counters_are ∙ ap (λ (t : Counters). after_member t m) is in
-    let rest : MembersWritten one.after (after_member s m) ms = members_spell one.after (after_member s m) ms counters_are (bounds_member m.key.kind s m.key.id b i.0) i.1 r.1 in
-    let first : SpellsMember C (member_text s m) m one.after = subst (λ (t : Counters). SpellsMember C (member_text t m) m one.after) is one.spells in
-    record { after = rest.after; spells = more C (member_text s m) m one.after (members_text (after_member s m) ms) ms rest.after first rest.spells; counters_are = rest.counters_are; bounds = rest.bounds }
+pub members_spell : (C : Context) (s : State) (members : List Member) → IsState C s → Bounds s.counters → AllByRecursion HasMemberId members → AllByRecursion IsRole members → MembersWritten C s members
+members_spell C s [] st b i r = record { after = C; spells = none C; state_is = st; bounds = b; shortest = tt }
+members_spell C s (m ∷ ms) st b i r =
+    let one : MemberWritten C s m = member_spells C s m st b i.0 r.0 in
+    let rest : MembersWritten one.after (after_member s m) ms = members_spell one.after (after_member s m) ms one.state_is (bounds_member m.key.kind s.counters m.key.id b i.0) i.1 r.1 in
+    record {
+      after = rest.after;
+      spells = more C (member_text s m) m one.after (members_text (after_member s m) ms) ms rest.after one.spells rest.spells;
+      state_is = rest.state_is;
+      bounds = rest.bounds;
+      shortest = (one.shortest, rest.shortest);
+    }
 
-pub members_short : (s : Counters) (members : List Member) → AllByRecursion IsRole members → length (members_text s members) ≤ 1033 * length members
+pub members_short : (s : State) (members : List Member) → AllByRecursion IsRole members → length (members_text s members) ≤ 1043 * length members
 members_short s [] r = omega arith
 members_short s (m ∷ ms) r =
     let role : length m.role ≤ 1020 = r.0.short in
-    omega (arith, members_short (after_member s m) ms r.1, number_short (zigzag (m.key.id -ℤ member_counter m.key.kind s)), single_length (kind_digit m.key.kind ∷ m.role), length-append (member_text s m) (members_text (after_member s m) ms), length-append (difference_text (member_counter m.key.kind s) m.key.id) (single_text (kind_digit m.key.kind ∷ m.role)))
+    omega (arith, members_short (after_member s m) ms r.1, number_short (zigzag (m.key.id -ℤ member_counter m.key.kind s.counters)), single_short s.strings (kind_digit m.key.kind ∷ m.role), length-append (member_text s m) (members_text (after_member s m) ms), length-append (difference_text (member_counter m.key.kind s.counters) m.key.id) (single_text s.strings (kind_digit m.key.kind ∷ m.role)))

@@ -1,5 +1,5 @@
 -- What is written of numbers and strings spells them, and how long it is.
-use Rattle.std.proofs.Common.{◌≡◌, ℕ, zero, suc, ◌+◌, ◌*◌, ◌/◌, ◌%◌, ◌^◌, ◌<◌, ◌≤◌, true, false, ltb, List, [], ◌∷◌, ◌++◌, length, refl, arith, inl, inr}
+use Rattle.std.proofs.Common.{◌≡◌, ℕ, zero, suc, ◌+◌, ◌*◌, ◌/◌, ◌%◌, ◌^◌, ◌<◌, ◌≤◌, true, false, ltb, List, [], ◌∷◌, ◌++◌, length, refl, ap, arith, inl, inr}
 use Rattle.std.specs.Prelude.{ℤ, pos, negsuc, neg_ℤ, ◌+ℤ◌, ◌-ℤ◌, ◌≤ℤ◌, Contains}
 use Rattle.std.proofs.lemmas.Bool.{cases_lt}
 use Rattle.std.proofs.lemmas.Bool.Decides.{nat_tests}
@@ -7,10 +7,8 @@ use Rattle.std.proofs.lemmas.Int.{ints}
 use Rattle.std.proofs.lemmas.List.{length-append}
 use Rattle.osm_o5c.specs.Number.{IsVarint, varint_value, SpellsNumber, SpellsSigned, zigzag}
 use Rattle.osm_o5c.specs.Context.{total, IsWrapped, SpellsSum, SpellsWrapped}
-use Rattle.osm_o5c.specs.Entries.{SpellsPair, in_line, SpellsSingle, in_line_single}
-use Rattle.osm_o5c.specs.Written.{varint_text, number_text, signed_text, difference_text, pair_text, single_text}
-use Rattle.osm_o5c.specs.declared.strings.Entry.{Entry}
-use Rattle.osm_o5c.specs.declared.strings.Entry.TheVariants.{Pair, Single}
+use Rattle.osm_o5c.specs.Shortest.{IsShortestSum, IsShortestWrapped}
+use Rattle.osm_o5c.specs.Written.{varint_text, number_text, signed_text, difference_text, pair_in_line, single_in_line}
 use Rattle.osm_o5c.proofs.CounterLemmas.{total-push, wrapped_total}
 use Rattle.osm_o5c.proofs.WrapLemmas.{wrapped_is, wrapped_same}
 use Rattle.osm_o5c.proofs.StringLemmas.{none_before}
@@ -122,6 +120,15 @@ sum_spells before v low high = record {
   sum_is = let t : total (before ++ (v -ℤ total before) ∷ []) ≡ total before +ℤ (v -ℤ total before) = total-push before (v -ℤ total before) in omega (arith, ints);
 }
 
+-- a written difference to a counter
+pub record SumWritten (before : List ℤ) (counter v : ℤ) : Type 0 where
+  pub spells : SpellsSum before (difference_text counter v) v (before ++ (v -ℤ total before) ∷ [])
+  pub shortest : IsShortestSum spells
+
+pub sum_written : (before : List ℤ) (v : ℤ) → neg_ℤ (pos 9223372036854775808) ≤ℤ (v -ℤ total before) → (v -ℤ total before) ≤ℤ pos 9223372036854775807 → SumWritten before (total before) v
+unfolding sum_spells
+sum_written before v low high = record { spells = sum_spells before v low high; shortest = (λ other s. fewest_bytes other (zigzag (v -ℤ total before)) s) }
+
 pub sum_after : (before : List ℤ) (v : ℤ) → total (before ++ (v -ℤ total before) ∷ []) ≡ v
 sum_after before v = let t : total (before ++ (v -ℤ total before) ∷ []) ≡ total before +ℤ (v -ℤ total before) = total-push before (v -ℤ total before) in omega (arith, ints)
 
@@ -138,6 +145,17 @@ wrapped_spells before v low high =
       wrapped = record { multiple = w.multiple; low = low; high = high; differs = omega (arith, ints, w.differs) };
     }
 
+pub record WrappedWritten (before : List ℤ) (counter v : ℤ) : Type 0 where
+  pub spells : SpellsWrapped before (difference_text counter v) v (before ++ (v -ℤ counter) ∷ [])
+  pub shortest : IsShortestWrapped spells
+
+pub wrapped_written : (before : List ℤ) (v : ℤ) → neg_ℤ (pos 2147483648) ≤ℤ v → v ≤ℤ pos 2147483647 → WrappedWritten before (wrapped_total before) v
+unfolding wrapped_spells
+wrapped_written before v low high = record {
+  spells = wrapped_spells before v low high;
+  shortest = ((λ other s. fewest_bytes other (zigzag (v -ℤ wrapped_total before)) s), (λ last w. ap (λ (t : ℤ). v -ℤ t) (wrapped_same last (total before) w)));
+}
+
 pub wrapped_after : (before : List ℤ) (v : ℤ) → neg_ℤ (pos 2147483648) ≤ℤ v → v ≤ℤ pos 2147483647 → wrapped_total (before ++ (v -ℤ wrapped_total before) ∷ []) ≡ v
 wrapped_after before v low high =
     let s : SpellsWrapped before (difference_text (wrapped_total before) v) v (before ++ (v -ℤ wrapped_total before) ∷ []) = wrapped_spells before v low high in
@@ -145,14 +163,8 @@ wrapped_after before v low high =
 
 -- ---- strings
 
-pub pair_spells : (ss : List Entry) (first second : List ℕ) → ¬ Contains first 0 → ¬ Contains second 0 → SpellsPair ss (pair_text first second) first second (ss ++ Pair first second ∷ [])
-pair_spells ss first second f s = in_line ss first second f s
-
-pub single_spells : (ss : List Entry) (text : List ℕ) → ¬ Contains text 0 → SpellsSingle ss (single_text text) text (ss ++ Single text ∷ [])
-single_spells ss text t = in_line_single ss text t
-
-pub pair_length : (first second : List ℕ) → length (pair_text first second) ≡ length first + length second + 3
+pub pair_length : (first second : List ℕ) → length (pair_in_line first second) ≡ length first + length second + 3
 pair_length first second = omega (arith, length-append (0 ∷ first ++ 0 ∷ second) (0 ∷ []), length-append first (0 ∷ second))
 
-pub single_length : (text : List ℕ) → length (single_text text) ≡ length text + 2
+pub single_length : (text : List ℕ) → length (single_in_line text) ≡ length text + 2
 single_length text = omega (arith, length-append text (0 ∷ []))

@@ -5,4 +5,5 @@ pub mod Many
 pub mod Object
 pub mod File
 pub mod Written
+pub mod Shortest
 pub mod Steps

@@ -5,3 +5,4 @@ pub mod NumberReading
 pub mod StringReading
 pub mod ObjectReading
 pub mod FileReading
+pub mod Index

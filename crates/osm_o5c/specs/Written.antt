@@ -1,8 +1,10 @@
 -- The written text of a batch (our choice of spelling): every number in its fewest bytes, exact
--- differences, every string in line, a reset exactly if the kind changes.
+-- differences, every string that a reference names by the least one, a reset exactly if the kind
+-- changes.
 use Rattle.std.specs.Prelude.{ℕ, zero, suc, ◌+◌, ◌/◌, ◌%◌, List, [], ◌∷◌, ◌++◌, length, Option}
 use Rattle.std.specs.Prelude.{Some, None, Bool, true, false, if◌then◌else◌, nat_lt, ◌==◌, ℤ, pos}
-use Rattle.std.specs.Prelude.{◌-ℤ◌}
+use Rattle.std.specs.Prelude.{◌-ℤ◌, nat_le, ◌&&◌}
+use Rattle.std.specs.Str.{bytes_eq}
 use Rattle.osm_model.specs.Change.{ChangeValue}
 use Rattle.osm_model.specs.Meta.{MetaValue}
 use Rattle.osm_model.specs.declared.kind.Kind.{Kind}
@@ -12,9 +14,11 @@ use Rattle.osm_model.specs.declared.change.What.TheVariants.{Node, Way, Relation
 use Rattle.osm_model.specs.declared.lists.Member.{Member}
 use Rattle.osm_model.specs.declared.lists.Tag.{Tag}
 use Rattle.osm_o5c.specs.Number.{zigzag}
+use Rattle.osm_o5c.specs.Entries.{max_size, max_entries}
 use Rattle.osm_o5c.specs.Context.{kind_digit}
 use Rattle.osm_o5c.specs.File.{beginning, kind_byte, end_byte}
 use Rattle.osm_o5c.specs.declared.counters.Counters.{Counters}
+use Rattle.osm_o5c.specs.declared.writer.State.{State}
 
 -- the counters: the last value of each field since the last reset; all 0 right after one
 abbrev pub no_counters : Counters
@@ -29,6 +33,10 @@ no_counters = record {
   way_member = pos 0;
   relation_member = pos 0;
 }
+
+-- right after a reset: all counters 0, no strings
+abbrev pub new_state : State
+new_state = record { counters = no_counters; strings = [] }
 
 -- the counter of the members of a kind
 abbrev pub member_counter : Kind → Counters → ℤ
@@ -60,27 +68,79 @@ abbrev pub difference_text : ℤ → ℤ → List ℕ
 difference_text before value = signed_text (value -ℤ before)
 
 -- `00 first 00 second 00`
-abbrev pub pair_text : List ℕ → List ℕ → List ℕ
-pair_text first second = 0 ∷ first ++ 0 ∷ second ++ 0 ∷ []
+abbrev pub pair_in_line : List ℕ → List ℕ → List ℕ
+pair_in_line first second = 0 ∷ first ++ 0 ∷ second ++ 0 ∷ []
 
 -- `00 text 00`
-abbrev pub single_text : List ℕ → List ℕ
-single_text text = 0 ∷ text ++ 0 ∷ []
+abbrev pub single_in_line : List ℕ → List ℕ
+single_in_line text = 0 ∷ text ++ 0 ∷ []
+
+-- the number of the last of these strings that is this one, counted from 1 at the end; 0 if none is
+abbrev pub last_equal : List (List ℕ) → List ℕ → ℕ
+last_equal [] text = 0
+last_equal (one ∷ rest) text =
+    if nat_le 1 (last_equal rest text) then last_equal rest text
+    else (if bytes_eq one text then length rest + 1 else 0)
+
+-- the least reference to a string, if one of the last 15,000 of these strings is that string
+abbrev pub reference_of : List (List ℕ) → List ℕ → Option ℕ
+reference_of strings text =
+    if nat_le 1 (last_equal strings text) && nat_le (last_equal strings text) max_entries
+    then Some (last_equal strings text) else None
+
+-- a string by that reference, if there is one; otherwise in line
+abbrev pub by_reference : Option ℕ → List ℕ → List ℕ
+by_reference (Some k) text = number_text k
+by_reference None text = text
+
+-- the strings in line that are entered, after one of this size: the one as well if it is written in
+-- line and isn't too long
+abbrev pub entered_by : Option ℕ → List (List ℕ) → List ℕ → ℕ → List (List ℕ)
+entered_by (Some k) strings text size = strings
+entered_by None strings text size =
+    if nat_le size max_size then strings ++ text ∷ [] else strings
+
+-- a pair of strings after these entered ones, and what is entered after it
+abbrev pub pair_text : List (List ℕ) → List ℕ → List ℕ → List ℕ
+pair_text strings first second =
+    by_reference (reference_of strings (pair_in_line first second)) (pair_in_line first second)
+
+abbrev pub after_pair : List (List ℕ) → List ℕ → List ℕ → List (List ℕ)
+after_pair strings first second =
+    entered_by (reference_of strings (pair_in_line first second)) strings
+    (pair_in_line first second) (length first + length second)
+
+-- a single string after these entered ones, and what is entered after it
+abbrev pub single_text : List (List ℕ) → List ℕ → List ℕ
+single_text strings text =
+    by_reference (reference_of strings (single_in_line text)) (single_in_line text)
+
+abbrev pub after_single : List (List ℕ) → List ℕ → List (List ℕ)
+after_single strings text =
+    entered_by (reference_of strings (single_in_line text)) strings
+    (single_in_line text) (length text)
 
 -- a length, and so many bytes
 abbrev pub part_text : List ℕ → List ℕ
 part_text part = number_text (length part) ++ part
 
 -- version, time, changeset and user
-abbrev pub meta_text : Counters → MetaValue → List ℕ
+abbrev pub meta_text : State → MetaValue → List ℕ
 meta_text s m =
-    number_text m.version ++ difference_text s.time (pos m.time)
-    ++ difference_text s.changeset (pos m.changeset) ++ pair_text (number_text m.uid) m.user
+    number_text m.version ++ difference_text s.counters.time (pos m.time)
+    ++ difference_text s.counters.changeset (pos m.changeset)
+    ++ pair_text s.strings (number_text m.uid) m.user
 
 -- the pairs of keys and values
-abbrev pub tags_text : List Tag → List ℕ
-tags_text [] = []
-tags_text (t ∷ ts) = pair_text t.key t.value ++ tags_text ts
+abbrev pub tags_text : List (List ℕ) → List Tag → List ℕ
+tags_text strings [] = []
+tags_text strings (t ∷ ts) =
+    pair_text strings t.key t.value ++ tags_text (after_pair strings t.key t.value) ts
+
+-- what is entered after tags
+abbrev pub after_tags : List (List ℕ) → List Tag → List (List ℕ)
+after_tags strings [] = strings
+after_tags strings (t ∷ ts) = after_tags (after_pair strings t.key t.value) ts
 
 -- each reference as the difference to the one before it
 abbrev pub refs_text : ℤ → List ℤ → List ℕ
@@ -93,58 +153,76 @@ last_ref before [] = before
 last_ref before (r ∷ rs) = last_ref r rs
 
 -- each member's id as the difference to the one of its kind before it, then its digit and its role
-abbrev pub member_text : Counters → Member → List ℕ
+abbrev pub member_text : State → Member → List ℕ
 member_text s m =
-    difference_text (member_counter m.key.kind s) m.key.id
-    ++ single_text (kind_digit m.key.kind ∷ m.role)
+    difference_text (member_counter m.key.kind s.counters) m.key.id
+    ++ single_text s.strings (kind_digit m.key.kind ∷ m.role)
 
--- the counters after a member
-abbrev pub after_member : Counters → Member → Counters
-after_member s m = with_member_counter m.key.kind s m.key.id
+-- the state after a member
+abbrev pub after_member : State → Member → State
+after_member s m = record {
+  counters = with_member_counter m.key.kind s.counters m.key.id;
+  strings = after_single s.strings (kind_digit m.key.kind ∷ m.role);
+}
 
-abbrev pub members_text : Counters → List Member → List ℕ
+abbrev pub members_text : State → List Member → List ℕ
 members_text s [] = []
 members_text s (m ∷ ms) = member_text s m ++ members_text (after_member s m) ms
 
--- the counters after members
-abbrev pub after_members : Counters → List Member → Counters
+-- the state after members
+abbrev pub after_members : State → List Member → State
 after_members s [] = s
 after_members s (m ∷ ms) = after_members (after_member s m) ms
 
+-- the state after tags
+abbrev pub with_tags : State → List Tag → State
+with_tags s tags = record { counters = s.counters; strings = after_tags s.strings tags }
+
 -- what an object is: a location, references or members, and tags; nothing for a deletion
-abbrev pub what_text : Counters → What → List ℕ
+abbrev pub what_text : State → What → List ℕ
 what_text s (Node lon lat tags) =
-    difference_text s.lon lon ++ difference_text s.lat lat ++ tags_text tags
-what_text s (Way refs tags) = part_text (refs_text s.way_node refs) ++ tags_text tags
-what_text s (Relation members tags) = part_text (members_text s members) ++ tags_text tags
+    difference_text s.counters.lon lon ++ difference_text s.counters.lat lat
+    ++ tags_text s.strings tags
+what_text s (Way refs tags) =
+    part_text (refs_text s.counters.way_node refs) ++ tags_text s.strings tags
+what_text s (Relation members tags) =
+    part_text (members_text s members) ++ tags_text (after_members s members).strings tags
 what_text s Deleted = []
 
--- the counters after what an object is
-abbrev pub after_what : Counters → What → Counters
-after_what s (Node lon lat tags) = record s { lon = lon; lat = lat }
-after_what s (Way refs tags) = record s { way_node = last_ref s.way_node refs }
-after_what s (Relation members tags) = after_members s members
+-- the state after what an object is
+abbrev pub after_what : State → What → State
+after_what s (Node lon lat tags) =
+    with_tags (record s { counters = record s.counters { lon = lon; lat = lat } }) tags
+after_what s (Way refs tags) =
+    with_tags (record s {
+      counters = record s.counters { way_node = last_ref s.counters.way_node refs };
+    }) tags
+after_what s (Relation members tags) = with_tags (after_members s members) tags
 after_what s Deleted = s
 
--- the counters after an id and metadata
-abbrev pub after_meta : Counters → ChangeValue → Counters
-after_meta s c = record s {
-  id = c.key.id;
-  time = pos c.meta.time;
-  changeset = pos c.meta.changeset;
+-- the state after an id and metadata
+abbrev pub after_meta : State → ChangeValue → State
+after_meta s c = record {
+  counters = record s.counters {
+    id = c.key.id;
+    time = pos c.meta.time;
+    changeset = pos c.meta.changeset;
+  };
+  strings = after_pair s.strings (number_text c.meta.uid) c.meta.user;
 }
 
 -- the content of an object
-abbrev pub object_text : Counters → ChangeValue → List ℕ
+abbrev pub object_text : State → ChangeValue → List ℕ
 object_text s c =
-    difference_text s.id c.key.id ++ meta_text s c.meta ++ what_text (after_meta s c) c.what
+    difference_text s.counters.id c.key.id ++ meta_text s c.meta
+    ++ what_text (after_meta s c) c.what
 
--- the counters after an object
-abbrev pub after_object : Counters → ChangeValue → Counters
+-- the state after an object
+abbrev pub after_object : State → ChangeValue → State
 after_object s c = after_what (after_meta s c) c.what
 
 -- the type of an object, its length, and its content
-abbrev pub dataset_text : Counters → ChangeValue → List ℕ
+abbrev pub dataset_text : State → ChangeValue → List ℕ
 dataset_text s c = kind_byte c.key.kind ∷ part_text (object_text s c)
 
 -- whether the object before was of another kind; before the first object there is none
@@ -156,25 +234,25 @@ is_other (Some before) kind = if kind_byte before == kind_byte kind then false e
 abbrev pub reset_text : Option Kind → Kind → List ℕ
 reset_text before kind = if is_other before kind then 0xff ∷ [] else []
 
--- the counters before an object: all 0 after a reset
-abbrev pub counters_before : Option Kind → Counters → Kind → Counters
-counters_before before s kind = if is_other before kind then no_counters else s
+-- the state before an object: as new after a reset
+abbrev pub state_before : Option Kind → State → Kind → State
+state_before before s kind = if is_other before kind then new_state else s
 
 -- an object, after a reset if the kind changes
-abbrev pub change_text : Option Kind → Counters → ChangeValue → List ℕ
+abbrev pub change_text : Option Kind → State → ChangeValue → List ℕ
 change_text before s c =
-    reset_text before c.key.kind ++ dataset_text (counters_before before s c.key.kind) c
+    reset_text before c.key.kind ++ dataset_text (state_before before s c.key.kind) c
 
--- the counters after it
-abbrev pub after_change : Option Kind → Counters → ChangeValue → Counters
-after_change before s c = after_object (counters_before before s c.key.kind) c
+-- the state after it
+abbrev pub after_change : Option Kind → State → ChangeValue → State
+after_change before s c = after_object (state_before before s c.key.kind) c
 
--- the objects after one of that kind, the counters being these
-abbrev pub objects_text : Option Kind → Counters → List ChangeValue → List ℕ
+-- the objects after one of that kind, in this state
+abbrev pub objects_text : Option Kind → State → List ChangeValue → List ℕ
 objects_text before s [] = []
 objects_text before s (c ∷ cs) =
     change_text before s c ++ objects_text (Some c.key.kind) (after_change before s c) cs
 
 -- the written text of a batch
 abbrev pub o5c_text : List ChangeValue → List ℕ
-o5c_text batch = beginning ++ objects_text None no_counters batch ++ end_byte ∷ []
+o5c_text batch = beginning ++ objects_text None new_state batch ++ end_byte ∷ []

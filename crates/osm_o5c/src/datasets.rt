@@ -6,12 +6,11 @@ ghost use Rattle.osm_o5c.specs.Steps.FileReading.{other_dataset_at, dataset_at, 
 ghost use Rattle.osm_o5c.specs.Steps.FileReading.{FileRefused, WantsAt};
 ghost use Rattle.osm_model.specs.ChangeForm.{WriteRefused};
 ghost use Rattle.osm_model.specs.Limits.{max_file};
-ghost use Rattle.osm_o5c.specs.Written.{is_other, reset_text, counters_before, dataset_text};
+ghost use Rattle.osm_o5c.specs.Written.{is_other, reset_text, state_before, dataset_text};
 ghost use Rattle.osm_o5c.specs.Written.{after_object, change_text, after_change, o5c_text};
 ghost use Rattle.osm_o5c.specs.File.{kind_byte, SpellsO5c};
 ghost use Rattle.osm_reading.specs.Steps.Answers.{Gives, Finds};
 
-use crate::counters::Counters;
 use crate::numbers::{part, write_unsigned};
 use crate::reader::Reader;
 use crate::writer::{BEGINNING, Writer};
@@ -192,12 +191,12 @@ impl Writer {
     fn write_reset(&mut self, kind: Kind) -> Result<(), WantOfMemory>
         ensures text { OnOk result
             (self.new.out.items ≡ self.old.out.items ++ reset_text self.old.kind kind) }
-        ensures counters_are { OnOk result
-            (self.new.counters ≡ counters_before self.old.kind self.old.counters kind) }
+        ensures state_is { OnOk result
+            (self.new.state ≡ state_before self.old.kind self.old.state kind) }
     {
         if is_another(self.kind, kind) {
             self.out.push(RESET)?;
-            self.counters = Counters::new();
+            self.state.reset();
         }
         Ok(())
     }
@@ -205,11 +204,11 @@ impl Writer {
     // Appends the type of an object, its length, and its content.
     fn write_dataset(&mut self, change: &Change) -> Result<(), WantOfMemory>
         ensures text { OnOk result
-            (self.new.out.items ≡ self.old.out.items ++ dataset_text self.old.counters change.now) }
-        ensures counters_are { OnOk result
-            (self.new.counters ≡ after_object self.old.counters change.now) }
+            (self.new.out.items ≡ self.old.out.items ++ dataset_text self.old.state change.now) }
+        ensures state_is { OnOk result
+            (self.new.state ≡ after_object self.old.state change.now) }
     {
-        self.buffers.write_object(&mut self.counters, change)?;
+        self.buffers.write_object(&mut self.state, change)?;
         self.out.push(byte_of(change.key().kind))?;
         write_unsigned(&mut self.out, self.buffers.content.len() as u64)?;
         self.out.extend_from_slice(self.buffers.content.as_slice())?;
@@ -220,9 +219,9 @@ impl Writer {
     fn write_change(&mut self, change: &Change) -> Result<(), WantOfMemory>
         ensures text { OnOk result
             (self.new.out.items ≡ self.old.out.items
-            ++ change_text self.old.kind self.old.counters change.now) }
-        ensures counters_are { OnOk result
-            (self.new.counters ≡ after_change self.old.kind self.old.counters change.now) }
+            ++ change_text self.old.kind self.old.state change.now) }
+        ensures state_is { OnOk result
+            (self.new.state ≡ after_change self.old.kind self.old.state change.now) }
         ensures kind { OnOk result (self.new.kind ≡ Option.Some change.now.key.kind) }
     {
         let kind = change.key().kind;

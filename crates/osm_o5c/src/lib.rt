@@ -9,6 +9,7 @@ pub mod o5c;
 mod objects;
 mod reader;
 mod references;
+mod string_index;
 mod strings;
 mod tags;
 mod writer;

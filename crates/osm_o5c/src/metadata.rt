@@ -5,12 +5,15 @@ ghost use Rattle.osm_model.specs.Meta.{IsMeta};
 ghost use Rattle.osm_o5c.specs.Steps.ObjectReading.{meta_at};
 ghost use Rattle.osm_reading.specs.Steps.Answers.{Gives, Finds};
 ghost use Rattle.osm_o5c.specs.Steps.StringReading.{uid_of, user_at};
-ghost use Rattle.osm_o5c.specs.Written.{number_text, pair_text, meta_text};
+ghost use Rattle.osm_o5c.specs.Written.{number_text, pair_in_line, pair_text, after_pair};
+ghost use Rattle.osm_o5c.specs.Written.{meta_text};
 
-use crate::counters::{Counters, positive_sum};
+use crate::counters::positive_sum;
 use crate::numbers::{positive, unsigned, write_difference, write_unsigned};
 use crate::reader::Reader;
-use crate::strings::{StringTable, text};
+use crate::string_index::StringIndex;
+use crate::strings::{StringTable, name_or_enter, text};
+use crate::writer::State;
 use osm_model::form::Why;
 use osm_model::memory::WantOfMemory;
 use osm_model::meta::Meta;
@@ -79,9 +82,10 @@ impl<'a> Reader<'a> {
     }
 }
 
-// Appends a user: the pair of the bytes of the user id, and the name.
-fn write_user(out: &mut Vec<u8>, uid: u32, name: &Text) -> Result<(), WantOfMemory>
-    ensures { OnOk result (out.new.items ≡ out.old.items ++ pair_text (number_text uid) name.now) }
+// Appends a user in line: the pair of the bytes of the user id, and the name.
+fn write_user_in_line(out: &mut Vec<u8>, uid: u32, name: &Text) -> Result<(), WantOfMemory>
+    ensures { OnOk result
+        (out.new.items ≡ out.old.items ++ pair_in_line (number_text uid) name.now) }
 {
     out.push(0)?;
     write_unsigned(out, uid as u64)?;
@@ -91,12 +95,34 @@ fn write_user(out: &mut Vec<u8>, uid: u32, name: &Text) -> Result<(), WantOfMemo
     Ok(())
 }
 
+// Appends a user, by the least reference if one names the pair, otherwise in line.
+fn write_user(
+    out: &mut Vec<u8>,
+    strings: &mut StringIndex,
+    uid: u32,
+    name: &Text,
+) -> Result<(), WantOfMemory>
+    ensures text { OnOk result
+        (out.new.items ≡ out.old.items ++ pair_text strings.old (number_text uid) name.now) }
+    ensures strings_are { OnOk result
+        (strings.new ≡ after_pair strings.old (number_text uid) name.now) }
+{
+    let start = out.len();
+    write_user_in_line(out, uid, name)?;
+    // The pair in line has three bytes 00.
+    let size = out.len() - start - 3;
+    name_or_enter(out, strings, start, size)
+}
+
 /// Appends the metadata.
-pub fn write_meta(out: &mut Vec<u8>, counters: &Counters, meta: &Meta) -> Result<(), WantOfMemory>
-    ensures { OnOk result (out.new.items ≡ out.old.items ++ meta_text counters.now meta.now) }
+pub fn write_meta(out: &mut Vec<u8>, state: &mut State, meta: &Meta) -> Result<(), WantOfMemory>
+    ensures text { OnOk result (out.new.items ≡ out.old.items ++ meta_text state.old meta.now) }
+    ensures state_is { OnOk result (state.new ≡ record state.old {
+      strings = after_pair state.old.strings (number_text meta.now.uid) meta.now.user;
+    }) }
 {
     write_unsigned(out, meta.version() as u64)?;
-    write_difference(out, counters.time, meta.time() as i64)?;
-    write_difference(out, counters.changeset, meta.changeset() as i64)?;
-    write_user(out, meta.uid(), meta.user())
+    write_difference(out, state.counters.time, meta.time() as i64)?;
+    write_difference(out, state.counters.changeset, meta.changeset() as i64)?;
+    write_user(out, &mut state.strings, meta.uid(), meta.user())
 }

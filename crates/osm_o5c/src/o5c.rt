@@ -7,7 +7,8 @@ ghost use Rattle.osm_model.specs.ChangeForm.{SpellsNothing};
 ghost use Rattle.osm_o5c.specs.Context.{Context};
 ghost use Rattle.osm_o5c.specs.Number.{SpellsNumber, SpellsSigned};
 ghost use Rattle.osm_o5c.specs.File.{SpellsO5c, Front, Longest, FaultPlace};
-ghost use Rattle.osm_o5c.specs.Written.{number_text, signed_text};
+ghost use Rattle.osm_o5c.specs.Written.{number_text, signed_text, o5c_text};
+ghost use Rattle.osm_o5c.specs.Shortest.{IsShortest};
 
 use crate::datasets::{read_file, write_file};
 use osm_model::batch::Batch;
@@ -51,7 +52,9 @@ impl ChangeForm for O5c {
 ///
 /// What is spelled is within the limits. Bytes spell one batch or go wrong at one place. One front
 /// is the longest of all. No spelling of a number begins another, and none of a batch does. No
-/// spelling of a number is shorter than the written one.
+/// spelling of a number is shorter than the written one. The written text of a batch spells it as
+/// `IsShortest` says: every number in its fewest bytes, every string by the least number that names
+/// it or else in line, every difference exact, and a reset exactly if the kind changes.
 pub fn laws_of_o5c()
     ensures limits { (bytes : List ℕ) (batch : List ChangeValue)
         → SpellsO5c bytes batch → IsBatch batch }
@@ -67,6 +70,8 @@ pub fn laws_of_o5c()
         → SpellsNumber bytes n → length (number_text n) ≤ length bytes }
     ensures fewest_signed { (bytes : List ℕ) (v : ℤ)
         → SpellsSigned bytes v → length (signed_text v) ≤ length bytes }
+    ensures written { (batch : List ChangeValue) → IsBatch batch
+        → (s : SpellsO5c (o5c_text batch) batch) × IsShortest s }
     ensures one_front { (bytes front rest other more : List ℕ)
         → Longest bytes front rest → Longest bytes other more → front ≡ other }
     ensures longest { (bytes front rest other more : List ℕ)

@@ -4,16 +4,16 @@ ghost use Rattle.std.specs.Prelude.{◌≡◌, ◌++◌, OnOk};
 ghost use Rattle.osm_o5c.specs.Steps.ObjectReading.{node_at, way_at, relation_at, what_at};
 ghost use Rattle.osm_o5c.specs.Steps.ObjectReading.{object_at};
 ghost use Rattle.osm_reading.specs.Steps.Answers.{Gives};
-ghost use Rattle.osm_o5c.specs.Written.{part_text, last_ref, after_members, what_text, after_what};
+ghost use Rattle.osm_o5c.specs.Written.{part_text, what_text, after_what};
 ghost use Rattle.osm_o5c.specs.Written.{object_text, after_object};
 
-use crate::counters::{Counters, id, latitude, longitude};
+use crate::counters::{id, latitude, longitude};
 use crate::metadata::write_meta;
 use crate::numbers::{part, write_coordinate, write_difference, write_unsigned};
 use crate::reader::Reader;
 use crate::references::{refs, write_members, write_refs};
 use crate::tags::{tags, write_tags};
-use crate::writer::Buffers;
+use crate::writer::{Buffers, State};
 use osm_model::change::{Change, What};
 use osm_model::form::Why;
 use osm_model::kind::{Key, Kind};
@@ -100,93 +100,84 @@ impl Buffers {
     // Appends a location and tags.
     fn write_node(
         &mut self,
-        counters: &mut Counters,
+        state: &mut State,
         lon: &i32,
         lat: &i32,
         tags: &Tags,
     ) -> Result<(), WantOfMemory>
         ensures text { OnOk result
-            (self.new.content.items ≡ self.old.content.items ++ what_text counters.old
+            (self.new.content.items ≡ self.old.content.items ++ what_text state.old
             (What.Node lon.now lat.now tags.now)) }
-        ensures counters_are { OnOk result
-            (counters.new ≡ record counters.old { lon = lon.now; lat = lat.now }) }
+        ensures state_is { OnOk result
+            (state.new ≡ after_what state.old (What.Node lon.now lat.now tags.now)) }
     {
-        write_coordinate(&mut self.content, counters.lon, *lon)?;
-        write_coordinate(&mut self.content, counters.lat, *lat)?;
-        counters.lon = *lon;
-        counters.lat = *lat;
-        write_tags(&mut self.content, tags.as_slice())
+        write_coordinate(&mut self.content, state.counters.lon, *lon)?;
+        write_coordinate(&mut self.content, state.counters.lat, *lat)?;
+        state.counters.lon = *lon;
+        state.counters.lat = *lat;
+        write_tags(&mut self.content, &mut state.strings, tags.as_slice())
     }
 
     // Appends references and tags.
-    fn write_way(
-        &mut self,
-        counters: &mut Counters,
-        refs: &Refs,
-        tags: &Tags,
-    ) -> Result<(), WantOfMemory>
+    fn write_way(&mut self, state: &mut State, refs: &Refs, tags: &Tags) -> Result<(), WantOfMemory>
         ensures text { OnOk result
-            (self.new.content.items ≡ self.old.content.items ++ what_text counters.old
+            (self.new.content.items ≡ self.old.content.items ++ what_text state.old
             (What.Way refs.now tags.now)) }
-        ensures counters_are { OnOk result
-            (counters.new
-            ≡ record counters.old { way_node = last_ref counters.old.way_node refs.now }) }
+        ensures state_is { OnOk result
+            (state.new ≡ after_what state.old (What.Way refs.now tags.now)) }
     {
         self.part.clear();
-        write_refs(&mut self.part, counters, refs.as_slice())?;
+        write_refs(&mut self.part, &mut state.counters, refs.as_slice())?;
         self.write_part()?;
-        write_tags(&mut self.content, tags.as_slice())
+        write_tags(&mut self.content, &mut state.strings, tags.as_slice())
     }
 
     // Appends members and tags.
     fn write_relation(
         &mut self,
-        counters: &mut Counters,
+        state: &mut State,
         members: &Members,
         tags: &Tags,
     ) -> Result<(), WantOfMemory>
         ensures text { OnOk result
-            (self.new.content.items ≡ self.old.content.items ++ what_text counters.old
+            (self.new.content.items ≡ self.old.content.items ++ what_text state.old
             (What.Relation members.now tags.now)) }
-        ensures counters_are { OnOk result (counters.new ≡ after_members counters.old members.now) }
+        ensures state_is { OnOk result
+            (state.new ≡ after_what state.old (What.Relation members.now tags.now)) }
     {
         self.part.clear();
-        write_members(&mut self.part, counters, members.as_slice())?;
+        write_members(&mut self.part, state, members.as_slice())?;
         self.write_part()?;
-        write_tags(&mut self.content, tags.as_slice())
+        write_tags(&mut self.content, &mut state.strings, tags.as_slice())
     }
 
     // Appends what an object is.
-    fn write_what(&mut self, counters: &mut Counters, what: &What) -> Result<(), WantOfMemory>
+    fn write_what(&mut self, state: &mut State, what: &What) -> Result<(), WantOfMemory>
         ensures text { OnOk result
-            (self.new.content.items ≡ self.old.content.items ++ what_text counters.old what.now) }
-        ensures counters_are { OnOk result (counters.new ≡ after_what counters.old what.now) }
+            (self.new.content.items ≡ self.old.content.items ++ what_text state.old what.now) }
+        ensures state_is { OnOk result (state.new ≡ after_what state.old what.now) }
     {
         match what {
-            What::Node { lon, lat, tags } => self.write_node(counters, lon, lat, tags),
-            What::Way { refs, tags } => self.write_way(counters, refs, tags),
-            What::Relation { members, tags } => self.write_relation(counters, members, tags),
+            What::Node { lon, lat, tags } => self.write_node(state, lon, lat, tags),
+            What::Way { refs, tags } => self.write_way(state, refs, tags),
+            What::Relation { members, tags } => self.write_relation(state, members, tags),
             What::Deleted => Ok(()),
         }
     }
 
     /// Makes the content that of the object.
-    pub fn write_object(
-        &mut self,
-        counters: &mut Counters,
-        change: &Change,
-    ) -> Result<(), WantOfMemory>
-        ensures text { OnOk result (self.new.content.items ≡ object_text counters.old change.now) }
-        ensures counters_are { OnOk result (counters.new ≡ after_object counters.old change.now) }
+    pub fn write_object(&mut self, state: &mut State, change: &Change) -> Result<(), WantOfMemory>
+        ensures text { OnOk result (self.new.content.items ≡ object_text state.old change.now) }
+        ensures state_is { OnOk result (state.new ≡ after_object state.old change.now) }
     {
         self.content.clear();
         let id = change.key().id;
-        write_difference(&mut self.content, counters.id, id)?;
+        write_difference(&mut self.content, state.counters.id, id)?;
         let meta = change.meta();
-        write_meta(&mut self.content, counters, meta)?;
-        counters.id = id;
-        counters.time = meta.time() as i64;
-        counters.changeset = meta.changeset() as i64;
-        self.write_what(counters, change.what())
+        write_meta(&mut self.content, state, meta)?;
+        state.counters.id = id;
+        state.counters.time = meta.time() as i64;
+        state.counters.changeset = meta.changeset() as i64;
+        self.write_what(state, change.what())
     }
 }

@@ -13,6 +13,7 @@ use crate::counters::{Counters, id};
 use crate::numbers::{signed, write_difference};
 use crate::reader::Reader;
 use crate::strings::{text, write_single};
+use crate::writer::State;
 use osm_model::form::Why;
 use osm_model::kind::{Key, Kind};
 use osm_model::limits::{MAX_ID, MAX_REFS};
@@ -167,34 +168,35 @@ fn digit_of(kind: Kind) -> u8
 }
 
 // Appends a member, its id as the difference to the counter of its kind, which moves on.
-fn write_member(
-    out: &mut Vec<u8>,
-    counters: &mut Counters,
-    member: &Member,
-) -> Result<(), WantOfMemory>
+fn write_member(out: &mut Vec<u8>, state: &mut State, member: &Member) -> Result<(), WantOfMemory>
     ensures text { OnOk result
-        (out.new.items ≡ out.old.items ++ member_text counters.old member.now) }
-    ensures counters_are { OnOk result (counters.new ≡ after_member counters.old member.now) }
+        (out.new.items ≡ out.old.items ++ member_text state.old member.now) }
+    ensures state_is { OnOk result (state.new ≡ after_member state.old member.now) }
 {
     let key = member.key;
-    write_difference(out, counters.member(key.kind), key.id)?;
-    write_single(out, digit_of(key.kind), member.role.as_str().as_bytes())?;
-    counters.set_member(key.kind, key.id);
+    write_difference(out, state.counters.member(key.kind), key.id)?;
+    write_single(
+        out,
+        &mut state.strings,
+        digit_of(key.kind),
+        member.role.as_str().as_bytes(),
+    )?;
+    state.counters.set_member(key.kind, key.id);
     Ok(())
 }
 
 /// Appends members, each id as the difference to the one of its kind before it.
 pub fn write_members(
     out: &mut Vec<u8>,
-    counters: &mut Counters,
+    state: &mut State,
     members: &[Member],
 ) -> Result<(), WantOfMemory>
     ensures text { OnOk result
-        (out.new.items ≡ out.old.items ++ members_text counters.old members.now) }
-    ensures counters_are { OnOk result (counters.new ≡ after_members counters.old members.now) }
+        (out.new.items ≡ out.old.items ++ members_text state.old members.now) }
+    ensures state_is { OnOk result (state.new ≡ after_members state.old members.now) }
 {
     for member in members {
-        write_member(out, counters, member)?;
+        write_member(out, state, member)?;
     }
     Ok(())
 }

@@ -1,13 +1,17 @@
 //! Strings, in line or by reference, and the table of those that a reference names (OSM wiki, O5m).
 
-ghost use Rattle.std.specs.Prelude.{◌≡◌, [], ◌∷◌, ◌++◌, OnOk, option_copied};
+ghost use Rattle.std.specs.Prelude.{◌≡◌, ◌≤◌, [], ◌∷◌, ◌++◌, length, take, drop, OnOk};
+ghost use Rattle.std.specs.Prelude.{option_copied};
 ghost use Rattle.circular_buffer.specs.Buffer.{keep_last};
 ghost use Rattle.osm_reading.specs.Steps.Answers.{Gives, Finds};
 ghost use Rattle.osm_o5c.specs.Steps.StringReading.{entered, latest, until_nul_at, pair_at};
 ghost use Rattle.osm_o5c.specs.Steps.StringReading.{single_at, text_of};
-ghost use Rattle.osm_o5c.specs.Written.{pair_text, single_text};
+ghost use Rattle.osm_o5c.specs.Written.{pair_in_line, single_in_line, reference_of, by_reference};
+ghost use Rattle.osm_o5c.specs.Written.{entered_by, pair_text, after_pair, single_text};
+ghost use Rattle.osm_o5c.specs.Written.{after_single};
 
-use crate::numbers::unsigned;
+use crate::numbers::{unsigned, write_unsigned};
+use crate::string_index::StringIndex;
 use circular_buffer::HeapCircularBuffer;
 use osm_model::form::Why;
 use osm_model::memory::WantOfMemory;
@@ -55,7 +59,7 @@ pub enum Entry<'a> {
 const MAX_SIZE: usize = 250;
 
 /// How many of the last entries can be named.
-const MAX_ENTRIES: usize = 15_000;
+pub const MAX_ENTRIES: usize = 15_000;
 
 /// The last 15,000 strings in line since the last reset, except those of more than 250 bytes. It
 /// borrows them from the file, and makes its ring when the first is entered.
@@ -236,9 +240,9 @@ pub fn text(alloc: Global, bytes: &[u8]) -> Result<Text, Refusal>
     }
 }
 
-/// Appends a pair in line: `00 first 00 second 00`.
-pub fn write_pair(out: &mut Vec<u8>, first: &[u8], second: &[u8]) -> Result<(), WantOfMemory>
-    ensures { OnOk result (out.new.items ≡ out.old.items ++ pair_text first.now second.now) }
+// Appends a pair in line: `00 first 00 second 00`.
+fn write_pair_in_line(out: &mut Vec<u8>, first: &[u8], second: &[u8]) -> Result<(), WantOfMemory>
+    ensures { OnOk result (out.new.items ≡ out.old.items ++ pair_in_line first.now second.now) }
 {
     out.push(0)?;
     out.extend_from_slice(first)?;
@@ -248,13 +252,78 @@ pub fn write_pair(out: &mut Vec<u8>, first: &[u8], second: &[u8]) -> Result<(), 
     Ok(())
 }
 
-/// Appends a single string in line, as `00 digit role 00`.
-pub fn write_single(out: &mut Vec<u8>, digit: u8, role: &[u8]) -> Result<(), WantOfMemory>
-    ensures { OnOk result (out.new.items ≡ out.old.items ++ single_text (digit ∷ role.now)) }
+// Appends a single string in line, as `00 digit role 00`.
+fn write_single_in_line(out: &mut Vec<u8>, digit: u8, role: &[u8]) -> Result<(), WantOfMemory>
+    ensures { OnOk result (out.new.items ≡ out.old.items ++ single_in_line (digit ∷ role.now)) }
 {
     out.push(0)?;
     out.push(digit)?;
     out.extend_from_slice(role)?;
     out.push(0)?;
     Ok(())
+}
+
+/// Puts the least reference in place of the string that stands in line from there on, if one names
+/// it; otherwise enters the string, which is of that size, unless it is too long.
+pub fn name_or_enter(
+    out: &mut Vec<u8>,
+    strings: &mut StringIndex,
+    start: usize,
+    size: usize,
+) -> Result<(), WantOfMemory>
+    requires { start ≤ length out.old.items }
+    ensures text { OnOk result (out.new.items ≡ take start out.old.items
+        ++ by_reference (reference_of strings.old (drop start out.old.items))
+        (drop start out.old.items)) }
+    ensures strings_are { OnOk result (strings.new
+        ≡ entered_by (reference_of strings.old (drop start out.old.items)) strings.old
+        (drop start out.old.items) size) }
+{
+    let text = &out.as_slice()[start..];
+    match strings.find(text) {
+        Some(number) => {
+            out.truncate(start);
+            write_unsigned(out, number as u64)
+        }
+        None => {
+            if size <= MAX_SIZE {
+                strings.enter(text)?;
+            }
+            Ok(())
+        }
+    }
+}
+
+/// Appends a pair, by the least reference if one names it, otherwise in line.
+pub fn write_pair(
+    out: &mut Vec<u8>,
+    strings: &mut StringIndex,
+    first: &[u8],
+    second: &[u8],
+) -> Result<(), WantOfMemory>
+    ensures text { OnOk result
+        (out.new.items ≡ out.old.items ++ pair_text strings.old first.now second.now) }
+    ensures strings_are { OnOk result (strings.new ≡ after_pair strings.old first.now second.now) }
+{
+    let start = out.len();
+    write_pair_in_line(out, first, second)?;
+    name_or_enter(out, strings, start, first.len() + second.len())
+}
+
+/// Appends a single string, a digit and a role, by the least reference if one names it, otherwise
+/// in line.
+pub fn write_single(
+    out: &mut Vec<u8>,
+    strings: &mut StringIndex,
+    digit: u8,
+    role: &[u8],
+) -> Result<(), WantOfMemory>
+    ensures text { OnOk result
+        (out.new.items ≡ out.old.items ++ single_text strings.old (digit ∷ role.now)) }
+    ensures strings_are { OnOk result
+        (strings.new ≡ after_single strings.old (digit ∷ role.now)) }
+{
+    let start = out.len();
+    write_single_in_line(out, digit, role)?;
+    name_or_enter(out, strings, start, role.len() + 1)
 }

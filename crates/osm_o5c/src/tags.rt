@@ -4,8 +4,9 @@ ghost use Rattle.std.specs.Prelude.{◌≡◌, ◌++◌, OnOk};
 ghost use Rattle.osm_o5c.specs.Steps.ObjectReading.{tags_at};
 ghost use Rattle.osm_reading.specs.Steps.Answers.{Gives};
 ghost use Rattle.osm_o5c.specs.Steps.StringReading.{tag_at};
-ghost use Rattle.osm_o5c.specs.Written.{tags_text};
+ghost use Rattle.osm_o5c.specs.Written.{tags_text, after_tags};
 
+use crate::string_index::StringIndex;
 use crate::strings::{StringTable, text, write_pair};
 use osm_model::form::Why;
 use osm_model::limits::MAX_TAGS;
@@ -55,13 +56,20 @@ pub fn tags<'a>(
     Ok(Tags::from_vec(found))
 }
 
-/// Appends tags, each a pair in line.
-pub fn write_tags(out: &mut Vec<u8>, tags: &[Tag]) -> Result<(), WantOfMemory>
-    ensures { OnOk result (out.new.items ≡ out.old.items ++ tags_text tags.now) }
+/// Appends tags, each a pair.
+pub fn write_tags(
+    out: &mut Vec<u8>,
+    strings: &mut StringIndex,
+    tags: &[Tag],
+) -> Result<(), WantOfMemory>
+    ensures text { OnOk result
+        (out.new.items ≡ out.old.items ++ tags_text strings.old tags.now) }
+    ensures strings_are { OnOk result (strings.new ≡ after_tags strings.old tags.now) }
 {
     for tag in tags {
         write_pair(
             out,
+            strings,
             tag.key.as_str().as_bytes(),
             tag.value.as_str().as_bytes(),
         )?;

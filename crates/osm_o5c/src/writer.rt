@@ -2,9 +2,10 @@
 
 ghost use Rattle.std.specs.Prelude.{◌≡◌, [], Option, IfOk};
 ghost use Rattle.osm_o5c.specs.File.{beginning};
-ghost use Rattle.osm_o5c.specs.Written.{no_counters};
+ghost use Rattle.osm_o5c.specs.Written.{new_state};
 
 use crate::counters::Counters;
+use crate::string_index::StringIndex;
 use osm_model::kind::Kind;
 use osm_model::memory::WantOfMemory;
 use std::alloc::Global;
@@ -12,12 +13,19 @@ use std::alloc::Global;
 /// Reset, header, length 4, `o5c2`.
 pub const BEGINNING: [u8; 7] = [0xff, 0xe0, 4, 0x6f, 0x35, 0x63, 0x32];
 
-/// The file so far, the counters since the last reset, and the kind of the last object.
+/// The counters since the last reset, and the strings that were entered since then.
+#[derive(Drop)]
+pub struct State {
+    pub counters: Counters,
+    pub strings: StringIndex,
+}
+
+/// The file so far, the state since the last reset, and the kind of the last object.
 #[derive(Drop)]
 pub struct Writer {
     pub out: Vec<u8>,
     pub buffers: Buffers,
-    pub counters: Counters,
+    pub state: State,
     pub kind: Option<Kind>,
 }
 
@@ -28,10 +36,30 @@ pub struct Buffers {
     pub part: Vec<u8>,
 }
 
+impl State {
+    /// After a reset.
+    pub fn new(alloc: Global) -> Result<State, WantOfMemory>
+        ensures { IfOk result (λ s. s ≡ new_state) }
+    {
+        Ok(State {
+            counters: Counters::new(),
+            strings: StringIndex::new(alloc)?,
+        })
+    }
+
+    /// All counters are 0, and no string is known.
+    pub fn reset(&mut self)
+        ensures { self.new ≡ new_state }
+    {
+        self.counters = Counters::new();
+        self.strings.clear();
+    }
+}
+
 impl Writer {
     /// A file that is only its beginning.
     pub fn new(alloc: Global) -> Result<Writer, WantOfMemory>
-        ensures { IfOk result (λ w. (w.out.items ≡ beginning) × (w.counters ≡ no_counters)
+        ensures { IfOk result (λ w. (w.out.items ≡ beginning) × (w.state ≡ new_state)
             × (w.kind ≡ Option.None)) }
     {
         let mut out = Vec::new(alloc);
@@ -39,7 +67,7 @@ impl Writer {
         Ok(Writer {
             out,
             buffers: Buffers::new(alloc),
-            counters: Counters::new(),
+            state: State::new(alloc)?,
             kind: None,
         })
     }

@@ -5,7 +5,7 @@ use osm_follow::delivery::{DeliverError, Delivered};
 use osm_follow::follower::{Broken, Follower};
 use osm_follow::lag::LagError;
 use osm_follow::publisher::{CloseError, EditError, Publisher};
-use osm_follow::view::ViewError;
+use osm_follow::view::{View, ViewError};
 use osm_model::form::{ChangeForm, FormError, Why};
 use osm_model::kind::{Key, Kind};
 use osm_o5c::o5c::O5c;
@@ -123,6 +123,54 @@ fn a_follower_reads_opl_files(rt: HostRuntime) -> Result<(), Fail> {
 #[test]
 fn a_follower_reads_o5c_files(rt: HostRuntime) -> Result<(), Fail> {
     assert!(rt; applies::<O5c>(rt.alloc(), NODE_O5C)?);
+    Ok(())
+}
+
+// The node and node 2 at the same place, with all strings in line, as they were once written.
+const TWO_IN_LINE: &[u8] =
+    b"\xff\xe0\x04o5c2\x10\x17\x02\x01\x80\x82\x90\xd9\x0c\x0e\x00\x05\x00ann\x00\
+      \x80\xda\xc4\x09\x80\xb4\x89\x13\
+      \x10\x0d\x02\x01\x00\x00\x00\x05\x00ann\x00\x00\x00\xfe";
+
+// The same, as they are written: the second user is a reference.
+const TWO_BY_REFERENCE: &[u8] =
+    b"\xff\xe0\x04o5c2\x10\x17\x02\x01\x80\x82\x90\xd9\x0c\x0e\x00\x05\x00ann\x00\
+      \x80\xda\xc4\x09\x80\xb4\x89\x13\
+      \x10\x07\x02\x01\x00\x00\x01\x00\x00\xfe";
+
+const SECOND_NODE: &[u8] = b"n2 v1 dV c7 t2024-01-01T00:00:00Z i5 uann T x1 y2";
+
+// What a new follower shows after those bytes as the first sequence.
+fn view_after(alloc: Global, bytes: &[u8]) -> Result<View, Fail> {
+    let mut follower = Follower::new(alloc)?;
+    let _ = follower.deliver::<O5c>(alloc, STATE, bytes)?;
+    Ok(follower.view(alloc)?)
+}
+
+// Whether two views show the same.
+fn are_equal(one: &View, other: &View) -> bool {
+    let are_counts = one.users() == other.users() && one.changesets() == other.changesets();
+    let is_sequence = one.number() == other.number() && one.time() == other.time();
+    is_sequence && one.objects() == other.objects() && are_counts && one.held() == other.held()
+}
+
+// Whether the two nodes are published with the reference.
+fn is_published_by_reference(alloc: Global) -> Result<bool, Fail> {
+    let mut publisher = Publisher::new(alloc);
+    publisher.edit(read_line(alloc, NODE)?)?;
+    publisher.edit(read_line(alloc, SECOND_NODE)?)?;
+    Ok(publisher.close(alloc, NEW_YEAR)?.o5c() == TWO_BY_REFERENCE)
+}
+
+#[test]
+fn a_file_with_its_strings_in_line_and_one_with_references_say_the_same(
+    rt: HostRuntime,
+) -> Result<(), Fail> {
+    let alloc = rt.alloc();
+    let old = view_after(alloc, TWO_IN_LINE)?;
+    let new = view_after(alloc, TWO_BY_REFERENCE)?;
+    assert!(rt; are_equal(&old, &new) && new.objects().len() == 2);
+    assert!(rt; is_published_by_reference(alloc)?);
     Ok(())
 }
 

@@ -23,7 +23,7 @@ fn there_and_across(alloc: Global, (lon, lat): (i32, i32)) -> Result<Batch, Fail
 // The heads of the two nodes' datasets, up to their coordinates.
 const FIRST: &[u8] = b"\x10\x15\x02";
 
-const SECOND: &[u8] = b"\x10\x11\x00\x02\x00\x00\x00\x05\x00ann\x00";
+const SECOND: &[u8] = b"\x10\x0b\x00\x02\x00\x00\x01";
 
 // The first node's location, the bytes of its longitude and latitude, and the differences to the
 // second node's, as they are written and as sums that wrap.

@@ -25,8 +25,13 @@ pub const NODE: &[u8] = b"\x10\x17\x02\x01\x80\x82\x90\xd9\x0c\x0e\x00\x05\x00an
 pub const WAY: &[u8] = b"\x11\x21\x14\x01\x80\x82\x90\xd9\x0c\x0e\x00\x05\x00ann\x00\
       \x03\x02\x02\x06\x00highway\x00path\x00";
 
-/// `relation` after a reset.
-pub const RELATION: &[u8] = b"\x12\x21\x06\x01\x80\x82\x90\xd9\x0c\x0e\x00\x05\x00ann\x00\
+/// `relation` after a reset. The role of its last member is named: the one of the first is the
+/// second from the end.
+pub const RELATION: &[u8] = b"\x12\x1f\x06\x01\x80\x82\x90\xd9\x0c\x0e\x00\x05\x00ann\x00\
+      \x0f\x02\x000\x00\x14\x001outer\x00\x06\x02";
+
+/// `relation` after a reset, with all its strings in line.
+pub const RELATION_IN_LINE: &[u8] = b"\x12\x21\x06\x01\x80\x82\x90\xd9\x0c\x0e\x00\x05\x00ann\x00\
       \x11\x02\x000\x00\x14\x001outer\x00\x06\x000\x00";
 
 /// `nested_relation` after a reset.
@@ -78,6 +83,21 @@ pub fn tag(alloc: Global, key: &str, value: &str) -> Result<Tag, Fail> {
 pub fn node(alloc: Global) -> Result<Change, Fail> {
     let meta = first_meta(alloc)?;
     Ok(Change::node(1, meta, 10_000_000, 20_000_000, Tags::new(alloc))?)
+}
+
+/// Node 2 at the same place.
+pub fn second_node(alloc: Global) -> Result<Change, Fail> {
+    let meta = first_meta(alloc)?;
+    Ok(Change::node(2, meta, 10_000_000, 20_000_000, Tags::new(alloc))?)
+}
+
+/// A node at longitude and latitude 0 with those tags.
+pub fn node_with(alloc: Global, id: i64, list: &[(&str, &str)]) -> Result<Change, Fail> {
+    let mut tags = Tags::new(alloc);
+    for (key, value) in list {
+        tags.push(tag(alloc, key, value)?)?;
+    }
+    Ok(Change::node(id, first_meta(alloc)?, 0, 0, tags)?)
 }
 
 /// Way 10 with the nodes 1, 2, 5 and the tag `highway=path`.
@@ -178,6 +198,13 @@ fn reads(alloc: Global, datasets: &[&[u8]], batch: &Batch) -> Result<bool, Fail>
     let bytes = file(alloc, datasets)?;
     let read = O5c::read(alloc, bytes.as_slice())?;
     Ok(read == *batch)
+}
+
+/// Whether the file of that batch ends with those bytes and the end byte.
+pub fn is_ended_by(alloc: Global, batch: &Batch, tail: &[u8]) -> Result<bool, Fail> {
+    let written = O5c::write(alloc, batch)?;
+    let end = joined(alloc, &[tail, b"\xfe"])?;
+    Ok(written.as_slice().ends_with(end.as_slice()))
 }
 
 // Whether that batch is written as a file of those datasets.

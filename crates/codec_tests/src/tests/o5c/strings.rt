@@ -1,10 +1,11 @@
 //! The table of strings: its limits, and what names no string of it.
 
 use super::makes::*;
-use osm_model::change::What;
+use osm_model::batch::Batch;
+use osm_model::change::{Change, What};
 use osm_model::form::{ChangeForm, Why};
 use osm_model::kind::Kind;
-use osm_model::lists::{Part, Tag};
+use osm_model::lists::{Part, Tag, Tags};
 use osm_o5c::o5c::O5c;
 use std::alloc::Global;
 use std::test::Fail;
@@ -147,5 +148,103 @@ fn a_reference_to_the_other_sort_is_refused(rt: HostRuntime) -> Result<(), Fail>
     // A member whose role names the user's pair.
     let member: [&[u8]; 3] = [b"\x12\x12\x02", META, b"\x02\x02\x01"];
     assert!(rt; is_refused(alloc, &member, 7, Why::BadReference)?);
+    Ok(())
+}
+
+// The tags that are numbered from `first` on, so many, each unlike all others.
+fn numbered_tags(alloc: Global, first: u32, count: u32) -> Result<Tags, Fail> {
+    let mut tags = Tags::new(alloc);
+    for i in 0..count.min(5_000) {
+        let key = format!(in alloc; "{}", first.saturating_add(i))?;
+        tags.push(tag(alloc, key.as_str(), "v")?)?;
+    }
+    Ok(tags)
+}
+
+// A node of user `ann` at longitude and latitude 0 with those tags.
+fn numbered_node(alloc: Global, id: i64, first: u32, count: u32) -> Result<Change, Fail> {
+    let tags = numbered_tags(alloc, first, count)?;
+    Ok(Change::node(id, first_meta(alloc)?, 0, 0, tags)?)
+}
+
+// Four nodes with so many different tags, and a fifth that has the first of them again.
+fn five_nodes(alloc: Global, count: u32) -> Result<Batch, Fail> {
+    let mut batch = Batch::new(alloc);
+    for i in 0..4u32 {
+        let first = i.saturating_mul(5_000);
+        let tags = count.saturating_sub(first).min(5_000);
+        batch.push(numbered_node(alloc, i as i64 + 1, first, tags)?)?;
+    }
+    with_last(batch, numbered_node(alloc, 5, 0, 1)?)
+}
+
+#[test]
+fn a_string_is_named_up_to_number_15000(rt: HostRuntime) -> Result<(), Fail> {
+    let alloc = rt.alloc();
+    // The user, entered before the tags, is number 15,000, and the first tag 14,999.
+    let fewer = five_nodes(alloc, 14_999)?;
+    assert!(rt; is_ended_by(alloc, &fewer, b"\x01\x00\x00\x98\x75\x00\x00\x97\x75")?);
+    // The user of the fourth node was number 15,001 and was entered again, so that the first tag is
+    // number 15,001.
+    let more = five_nodes(alloc, 15_000)?;
+    assert!(rt; is_ended_by(alloc, &more, b"\x01\x00\x00\x01\x00\x00\x000\x00v\x00")?);
+    let most = five_nodes(alloc, 15_001)?;
+    assert!(rt; is_ended_by(alloc, &most, b"\x01\x00\x00\x02\x00\x00\x000\x00v\x00")?);
+    Ok(())
+}
+
+// How far from the end the last entry is that has those bytes, found by a plain search.
+fn plain_search(entries: &[Vec<u8>], text: &[u8]) -> Option<usize> {
+    let place = entries
+        .iter()
+        .rev()
+        .position(|entry| entry.as_slice() == text)?;
+    Some(place.saturating_add(1))
+}
+
+// What a writer with a plain search appends for a tag of at most 250 bytes, while there are fewer
+// than 128 entries.
+fn add_plainly(
+    alloc: Global,
+    out: &mut Vec<u8>,
+    entries: &mut Vec<Vec<u8>>,
+    (key, value): (&str, &str),
+) -> Result<(), Fail> {
+    let parts: [&[u8]; 5] = [b"\x00", key.as_bytes(), b"\x00", value.as_bytes(), b"\x00"];
+    let text = joined(alloc, &parts)?;
+    match plain_search(entries.as_slice(), text.as_slice()) {
+        Some(number) => out.push((number % 128) as u8)?,
+        None => {
+            out.extend_from_slice(text.as_slice())?;
+            entries.push(text)?;
+        }
+    }
+    Ok(())
+}
+
+const KEYS: [&str; 5] = ["highway", "name", "", "\x05", "é"];
+
+const VALUES: [&str; 4] = ["path", "ann", "", "12"];
+
+// Whether a node with so many tags, each of a few strings, is written as by a plain search.
+fn is_written_plainly(alloc: Global, count: usize) -> Result<bool, Fail> {
+    let mut tags = Tags::new(alloc);
+    let mut plain = Vec::new(alloc);
+    let mut entries = Vec::new(alloc);
+    entries.push(Vec::from_slice(alloc, b"\x00\x05\x00ann\x00")?)?;
+    for i in 0..count.min(100) {
+        let pair = (KEYS[i * i % 5], VALUES[i / 3 % 4]);
+        tags.push(tag(alloc, pair.0, pair.1)?)?;
+        add_plainly(alloc, &mut plain, &mut entries, pair)?;
+    }
+    let node = Change::node(1, first_meta(alloc)?, 0, 0, tags)?;
+    is_ended_by(alloc, &batch_of(alloc, node)?, plain.as_slice())
+}
+
+#[test]
+fn strings_are_named_as_by_a_plain_search(rt: HostRuntime) -> Result<(), Fail> {
+    for count in [1, 2, 5, 60] {
+        assert!(rt; is_written_plainly(rt.alloc(), count)?, "{count}");
+    }
     Ok(())
 }

@@ -33,35 +33,69 @@ fn an_empty_way_has_a_byte_more_than_a_deleted_one(rt: HostRuntime) -> Result<()
 }
 
 #[test]
-fn a_role_may_be_a_reference(rt: HostRuntime) -> Result<(), Fail> {
+fn a_role_may_stand_in_line_again(rt: HostRuntime) -> Result<(), Fail> {
     let alloc = rt.alloc();
-    let tail = b"\x0f\x02\x000\x00\x14\x001outer\x00\x06\x02";
     let batch = batch_of(alloc, relation(alloc)?)?;
-    assert!(rt; is_read_as(alloc, &[b"\x12\x1f\x06", META, tail], batch)?);
+    assert!(rt; is_read_as(alloc, &[RELATION_IN_LINE], batch)?);
+    Ok(())
+}
+
+// A node, a way and a relation.
+fn three_kinds(alloc: Global) -> Result<Batch, Fail> {
+    let two = batch_of_two(alloc, node(alloc)?, way(alloc)?)?;
+    with_last(two, relation(alloc)?)
+}
+
+#[test]
+fn a_file_of_three_kinds_has_103_bytes(rt: HostRuntime) -> Result<(), Fail> {
+    let alloc = rt.alloc();
+    let datasets: [&[u8]; 5] = [NODE, b"\xff", WAY, b"\xff", RELATION];
+    let length = file(alloc, &datasets)?.len();
+    assert_eq!(rt; length, 103);
+    assert!(rt; is_spelled(alloc, three_kinds(alloc)?, &datasets)?);
     Ok(())
 }
 
 #[test]
-fn a_file_of_three_kinds_has_105_bytes(rt: HostRuntime) -> Result<(), Fail> {
+fn a_file_without_references_is_still_read(rt: HostRuntime) -> Result<(), Fail> {
     let alloc = rt.alloc();
-    let datasets: [&[u8]; 5] = [NODE, b"\xff", WAY, b"\xff", RELATION];
+    let datasets: [&[u8]; 5] = [NODE, b"\xff", WAY, b"\xff", RELATION_IN_LINE];
     let length = file(alloc, &datasets)?.len();
     assert_eq!(rt; length, 105);
-    let two = batch_of_two(alloc, node(alloc)?, way(alloc)?)?;
-    let batch = with_last(two, relation(alloc)?)?;
-    assert!(rt; is_spelled(alloc, batch, &datasets)?);
+    assert!(rt; is_read_as(alloc, &datasets, three_kinds(alloc)?)?);
     Ok(())
 }
 
 #[test]
 fn a_deletion_has_two_spellings(rt: HostRuntime) -> Result<(), Fail> {
     let alloc = rt.alloc();
-    let in_line = b"\x10\x0b\x00\x02\x78\x02\x00\x05\x00ann\x00";
-    let batch = batch_of_two(alloc, node(alloc)?, deleted_node(alloc)?)?;
-    assert!(rt; is_spelled(alloc, batch, &[NODE, in_line])?);
     let named = b"\x10\x05\x00\x02\x78\x02\x01";
     let batch = batch_of_two(alloc, node(alloc)?, deleted_node(alloc)?)?;
-    assert!(rt; is_read_as(alloc, &[NODE, named], batch)?);
+    assert!(rt; is_spelled(alloc, batch, &[NODE, named])?);
+    let in_line = b"\x10\x0b\x00\x02\x78\x02\x00\x05\x00ann\x00";
+    let batch = batch_of_two(alloc, node(alloc)?, deleted_node(alloc)?)?;
+    assert!(rt; is_read_as(alloc, &[NODE, in_line], batch)?);
+    Ok(())
+}
+
+#[test]
+fn a_second_node_with_the_same_user_names_it(rt: HostRuntime) -> Result<(), Fail> {
+    let alloc = rt.alloc();
+    let second = b"\x10\x07\x02\x01\x00\x00\x01\x00\x00";
+    let datasets: [&[u8]; 2] = [NODE, second];
+    let length = file(alloc, &datasets)?.len();
+    assert_eq!(rt; length, 42);
+    let batch = batch_of_two(alloc, node(alloc)?, second_node(alloc)?)?;
+    assert!(rt; is_spelled(alloc, batch, &datasets)?);
+    Ok(())
+}
+
+#[test]
+fn a_tag_that_is_the_user_names_the_user(rt: HostRuntime) -> Result<(), Fail> {
+    let alloc = rt.alloc();
+    let head = b"\x10\x12\x02";
+    let batch = batch_of(alloc, node_with(alloc, 1, &[("\x05", "ann")])?)?;
+    assert!(rt; is_spelled(alloc, batch, &[head, META, b"\x00\x00\x01"])?);
     Ok(())
 }
 

@@ -2,6 +2,7 @@ use Rattle.osm_o5c.proofs.FrontLemmas.{spelled_limits, one_batch, one_front, no_
 use Rattle.osm_o5c.proofs.LongestLemmas.{longest_of_all, one_number}
 use Rattle.osm_o5c.proofs.PlaceLemmas.{spelled_or_wrong, one_place, fault_of}
 use Rattle.osm_o5c.proofs.WrittenNumbers.{fewest_bytes, fewest_signed}
+use Rattle.osm_o5c.proofs.WrittenFile.{text_spells, text_shortest}
 use Rattle.osm_o5c.proofs.o5c.laws_of_o5c.Goals as goal
 
 pub returns-clause-limits : goal.returns-clause-limits
@@ -36,3 +37,6 @@ returns-clause-one_number c = one_number
 
 pub returns-clause-no_longer : goal.returns-clause-no_longer
 returns-clause-no_longer c = no_longer
+
+pub returns-clause-written : goal.returns-clause-written
+returns-clause-written c = λ batch l. (text_spells batch l, text_shortest batch l)

@@ -4,6 +4,6 @@ use Rattle.osm_o5c.proofs.references.write_members.Given as goal
 
 abbrev pub invariant-loop-member : goal.invariant-loop-member
 invariant-loop-member l = record {
-  text : l.out.items ++ members_text l.counters (drop l.member-index l.members) ≡ l.fn.out.items ++ members_text l.fn.counters l.members;
-  counters_are : after_members l.counters (drop l.member-index l.members) ≡ after_members l.fn.counters l.members;
+  text : l.out.items ++ members_text l.state (drop l.member-index l.members) ≡ l.fn.out.items ++ members_text l.fn.state l.members;
+  state_is : after_members l.state (drop l.member-index l.members) ≡ after_members l.fn.state l.members;
 }

@@ -1,0 +1,19 @@
+use Rattle.std.proofs.Common.{rules, ◌≡◌, ◌<◌, length, get_or, arith}
+use Rattle.osm_o5c.specs.Steps.Index.{strings_of, no_slot}
+use Rattle.osm_o5c.proofs.IndexLemmas.{strings_length, previous_is, any_default}
+use Rattle.osm_o5c.proofs.string_index.StringIndex.previous.Goals as goal
+
+pub index-requires : goal.index-requires
+index-requires c =
+    let less : c.args.place < length (strings_of c.self.inside.bytes.items c.self.inside.slots.items) = rw (← c.self.view_is) at c.requires in
+    let size = strings_length c.self.inside.bytes.items c.self.inside.slots.items in
+    let there : c.args.place < length c.self.inside.slots.items = omega arith in
+    search rules
+
+pub returns : goal.returns
+returns c =
+    let less : c.args.place < length (strings_of c.self.inside.bytes.items c.self.inside.slots.items) = rw (← c.self.view_is) at c.requires in
+    let size = strings_length c.self.inside.bytes.items c.self.inside.slots.items in
+    let there : c.args.place < length c.self.inside.slots.items = omega arith in
+    let is : c.index.result.now ≡ get_or c.self.inside.slots.items c.args.place no_slot = any_default c.self.inside.slots.items c.args.place c.index.result.now no_slot there (search rules) in
+    rw (← c.self.view_is) (previous_is (strings_of c.self.inside.bytes.items c.self.inside.slots.items) c.self.inside.slots.items c.self.inside.heads.items c.args.place c.index.result.now there c.self.invariant.chains is)

@@ -1,0 +1,82 @@
+-- An index of strings: those that fall into one bucket form a chain, the last of them first.
+use Rattle.std.specs.Prelude.{◌≡◌, ◌≢◌, ℕ, ◌+◌, ◌-◌, ◌*◌, ◌/◌, ◌%◌, ◌<◌, ◌≤◌, ◌&&◌, List, []}
+use Rattle.std.specs.Prelude.{◌∷◌, length, take, drop, get_or, slice_get, nat_le, if◌then◌else◌}
+use Rattle.std.specs.Prelude.{Option, Some, None}
+use Rattle.osm_o5c.specs.Entries.{max_entries}
+use Rattle.osm_o5c.specs.declared.string_index.Slot.{Slot}
+
+-- a polynomial in the bytes, modulo 2^64
+abbrev pub hash_from : ℕ → List ℕ → ℕ
+hash_from h [] = h
+hash_from h (b ∷ bs) = hash_from ((h * 1099511628211 + b) % 18446744073709551616) bs
+
+-- the bucket of a string: the high bits of its hash
+unfoldable pub bucket_of : List ℕ → ℕ
+bucket_of text = hash_from 0 text * 11400714819323198485 % 18446744073709551616 / 1125899906842624
+
+-- the string of a slot
+abbrev pub string_of : List ℕ → Slot → List ℕ
+string_of bytes slot = take slot.size (drop slot.start bytes)
+
+-- the strings of the slots
+abbrev pub strings_of : List ℕ → List Slot → List (List ℕ)
+strings_of bytes [] = []
+strings_of bytes (slot ∷ slots) = string_of bytes slot ∷ strings_of bytes slots
+
+abbrev pub no_slot : Slot
+no_slot = record { start = 0; size = 0; bucket = 0; previous = 0 }
+
+-- the string at a place
+abbrev pub string_at : List (List ℕ) → ℕ → List ℕ
+string_at strings j = get_or strings j []
+
+-- a number p leads to the string at place j: p is 1 more than the place of a string in the same
+-- bucket, and that place is j or comes after it
+pub record Leads (strings : List (List ℕ)) (j p : ℕ) : Type 0 where
+  pub after : j < p
+  pub within : p ≤ length strings
+  pub same : bucket_of (string_at strings (p - 1)) ≡ bucket_of (string_at strings j)
+
+-- 1 more than the place of the last string in a bucket, or 0 if there is none in it
+pub record IsLastIn (strings : List (List ℕ)) (bucket p : ℕ) : Type 0 where
+  pub within : p ≤ length strings
+  pub last : (j : ℕ) → j < length strings → bucket_of (string_at strings j) ≡ bucket
+      → Leads strings j p
+
+-- 1 more than the place of the last string before that place in its bucket, or 0 if there is none
+pub record IsPrevious (strings : List (List ℕ)) (place p : ℕ) : Type 0 where
+  pub back : p ≤ place
+  pub last : (j : ℕ) → j < place
+      → bucket_of (string_at strings j) ≡ bucket_of (string_at strings place) → Leads strings j p
+
+-- the head of a bucket leads to each string in it, and the number in a slot leads to each string
+-- before it in the same bucket
+pub record IsChained (strings : List (List ℕ)) (slots : List Slot) (heads : List ℕ) : Type 0 where
+  pub heads_are : length heads ≡ 16384
+  pub bucket : (i : ℕ) → i < length slots
+      → (get_or slots i no_slot).bucket ≡ bucket_of (string_at strings i)
+  pub back : (i : ℕ) → i < length slots → (get_or slots i no_slot).previous ≤ i
+  pub head : (j : ℕ) → j < length slots
+      → Leads strings j (get_or heads (bucket_of (string_at strings j)) 0)
+  pub chain : (i j : ℕ) → j < i → i < length slots
+      → bucket_of (string_at strings j) ≡ bucket_of (string_at strings i)
+      → Leads strings j (get_or slots i no_slot).previous
+
+-- each slot stands for some of the bytes, and the chains lead to the strings
+pub record IsIndexed (bytes : List ℕ) (slots : List Slot) (heads : List ℕ) : Type 0 where
+  pub within : (i : ℕ) → i < length slots
+      → (get_or slots i no_slot).start + (get_or slots i no_slot).size ≤ length bytes
+  pub chains : IsChained (strings_of bytes slots) slots heads
+
+-- the k-th string from the end, if a reference can name it
+abbrev pub string_named : List (List ℕ) → ℕ → Option (List ℕ)
+string_named strings k =
+    if nat_le 1 k && nat_le k max_entries && nat_le k (length strings)
+    then slice_get strings (length strings - k) else None
+
+-- a number that names the string such that no smaller one does, or none if no number names it
+abbrev pub IsLeast : List (List ℕ) → List ℕ → Option ℕ → Type 0
+IsLeast strings text (Some k) =
+    (string_named strings k ≡ Some text)
+    × ((j : ℕ) → j < k → string_named strings j ≢ Some text)
+IsLeast strings text None = (k : ℕ) → string_named strings k ≢ Some text
