@@ -1,0 +1,7 @@
+use Rattle.std.proofs.Common.{◌≡◌, ◌++◌, take}
+use Rattle.std.specs.List.{flat_map}
+use Rattle.osm_show.specs.Lines.{numbered_line}
+use Rattle.osm_show.proofs.lines.write_numbered_lines.Given as goal
+
+abbrev pub invariant-loop-number : goal.invariant-loop-number
+invariant-loop-number l = l.text.items ≡ l.initial.text.items ++ flat_map (numbered_line l.fn.name) (take l.number-index l.numbers)

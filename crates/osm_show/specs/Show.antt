@@ -1,0 +1,40 @@
+-- The show text of a view.
+use Rattle.std.specs.Prelude.{ℕ, List, [], ◌∷◌, ◌++◌, length, codes, Option, Some, None}
+use Rattle.std.specs.List.{flat_map}
+use Rattle.osm_model.specs.Change.{ChangeValue}
+use Rattle.osm_model.specs.CivilTime.{time_text}
+use Rattle.osm_opl.specs.Written.{line_text}
+use Rattle.osm_mirror.specs.Mirror.{Counted}
+use Rattle.osm_follow.specs.View.{ViewValue}
+use Rattle.osm_show.specs.Lines.{count_line, number_line, numbered_line}
+
+-- `time none`, or `time` and the time, and LF
+abbrev pub time_line : Option ℕ → List ℕ
+time_line None = codes "time none\n"
+time_line (Some time) = codes "time " ++ time_text time ++ 10 ∷ []
+
+-- an object's line as in an OPL file
+abbrev pub object_line : ChangeValue → List ℕ
+object_line change = line_text change ++ 10 ∷ []
+
+-- how many objects there are, and their lines
+unfoldable pub objects_text : List ChangeValue → List ℕ
+objects_text objects =
+    numbered_line (codes "objects ") (length objects) ++ flat_map object_line objects
+
+-- how many counts there are, and their lines
+unfoldable pub counts_text : List ℕ → List Counted → List ℕ
+counts_text name counts = numbered_line name (length counts) ++ flat_map count_line counts
+
+-- how many numbers are held, and their lines
+unfoldable pub held_text : List ℕ → List ℕ
+held_text numbers = numbered_line (codes "held ") (length numbers) ++ flat_map number_line numbers
+
+-- the show text: number and time, the objects, the users and the changesets with their counts, and
+-- the numbers that are held
+unfoldable pub view_text : ViewValue → List ℕ
+view_text v =
+    numbered_line (codes "number ") v.number ++ time_line v.time ++ objects_text v.mirror.objects
+    ++ counts_text (codes "users ") v.mirror.users
+    ++ counts_text (codes "changesets ") v.mirror.changesets
+    ++ held_text v.held

@@ -1,0 +1,78 @@
+//! Lines with numbers, each ended by LF. A refusal may leave a part of what was to be appended.
+
+ghost use Rattle.std.specs.Prelude.{◌≡◌, ◌++◌, OnOk, decimal};
+ghost use Rattle.std.specs.List.{flat_map};
+ghost use Rattle.osm_show.specs.Lines.{applied_line, count_line, numbered_line};
+
+use itoa::Buffer;
+use osm_model::memory::WantOfMemory;
+
+/// Appends `NAME N`; the name ends with the blank.
+pub fn write_numbered(name: &[u8], number: u64, text: &mut Vec<u8>) -> Result<(), WantOfMemory>
+    ensures { OnOk result (text.new.items ≡ text.old.items ++ numbered_line name.now number) }
+{
+    write_bytes(name, text)?;
+    write_number(number, text)?;
+    write_bytes(b"\n", text)
+}
+
+/// Appends `NAME N` for each of the numbers.
+pub fn write_numbered_lines(
+    name: &[u8],
+    numbers: &[u32],
+    text: &mut Vec<u8>,
+) -> Result<(), WantOfMemory>
+    ensures { OnOk result
+        (text.new.items ≡ text.old.items ++ flat_map (numbered_line name.now) numbers.now) }
+{
+    for number in numbers {
+        write_numbered(name, *number as u64, text)?;
+    }
+    Ok(())
+}
+
+/// Appends `applied LOW..HIGH`.
+pub fn write_applied(low: u32, high: u32, text: &mut Vec<u8>) -> Result<(), WantOfMemory>
+    ensures { OnOk result (text.new.items ≡ text.old.items ++ applied_line (low, high)) }
+{
+    write_bytes(b"applied ", text)?;
+    write_number(low as u64, text)?;
+    write_bytes(b"..", text)?;
+    write_number(high as u64, text)?;
+    write_bytes(b"\n", text)
+}
+
+/// Appends `ID COUNT` for each of the counts.
+pub fn write_count_lines(counts: &[(u32, u64)], text: &mut Vec<u8>) -> Result<(), WantOfMemory>
+    ensures { OnOk result (text.new.items ≡ text.old.items ++ flat_map count_line counts.now) }
+{
+    for (number, count) in counts {
+        write_count(*number, *count, text)?;
+    }
+    Ok(())
+}
+
+fn write_count(number: u32, count: u64, text: &mut Vec<u8>) -> Result<(), WantOfMemory>
+    ensures { OnOk result (text.new.items ≡ text.old.items ++ count_line (number, count)) }
+{
+    write_number(number as u64, text)?;
+    write_bytes(b" ", text)?;
+    write_number(count, text)?;
+    write_bytes(b"\n", text)
+}
+
+/// Appends the number's decimal digits.
+pub fn write_number(number: u64, text: &mut Vec<u8>) -> Result<(), WantOfMemory>
+    ensures { OnOk result (text.new.items ≡ text.old.items ++ decimal number) }
+{
+    let mut buffer = Buffer::new();
+    write_bytes(buffer.format(number).as_bytes(), text)
+}
+
+/// Appends the bytes.
+pub fn write_bytes(bytes: &[u8], text: &mut Vec<u8>) -> Result<(), WantOfMemory>
+    ensures { OnOk result (text.new.items ≡ text.old.items ++ bytes.now) }
+{
+    text.extend_from_slice(bytes)?;
+    Ok(())
+}

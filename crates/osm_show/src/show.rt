@@ -1,0 +1,74 @@
+//! The show text of a view.
+
+ghost use Rattle.std.specs.Prelude.{◌≡◌, ◌++◌, OnOk};
+ghost use Rattle.std.specs.List.{flat_map};
+ghost use Rattle.osm_show.specs.Show.{counts_text, held_text, object_line, objects_text};
+ghost use Rattle.osm_show.specs.Show.{time_line, view_text};
+
+use crate::lines::{write_bytes, write_count_lines, write_numbered, write_numbered_lines};
+use osm_follow::view::View;
+use osm_model::change::Change;
+use osm_model::memory::WantOfMemory;
+use osm_model::time::time_write;
+use osm_opl::lines::write_line;
+
+/// Appends the show text: number, time, objects, users and changesets with their counts of edits,
+/// and the numbers that are held. A refusal may leave a part of it.
+#[tactic(auto, unfolding(crate::specs::Show::view_text))]
+pub fn write_view(view: &View, text: &mut Vec<u8>) -> Result<(), WantOfMemory>
+    ensures { OnOk result (text.new.items ≡ text.old.items ++ view_text view.now) }
+{
+    write_numbered(b"number ", view.number() as u64, text)?;
+    write_time(view.time(), text)?;
+    write_objects(view.objects(), text)?;
+    write_counts(b"users ", view.users(), text)?;
+    write_counts(b"changesets ", view.changesets(), text)?;
+    write_held(view.held(), text)
+}
+
+fn write_time(time: Option<u32>, text: &mut Vec<u8>) -> Result<(), WantOfMemory>
+    ensures { OnOk result (text.new.items ≡ text.old.items ++ time_line time) }
+{
+    match time {
+        None => write_bytes(b"time none\n", text),
+        Some(seconds) => {
+            write_bytes(b"time ", text)?;
+            write_bytes(&time_write(seconds), text)?;
+            write_bytes(b"\n", text)
+        }
+    }
+}
+
+#[tactic(auto, unfolding(crate::specs::Show::objects_text))]
+fn write_objects(objects: &[Change], text: &mut Vec<u8>) -> Result<(), WantOfMemory>
+    ensures { OnOk result (text.new.items ≡ text.old.items ++ objects_text objects.now) }
+{
+    write_numbered(b"objects ", objects.len() as u64, text)?;
+    write_object_lines(objects, text)
+}
+
+fn write_object_lines(objects: &[Change], text: &mut Vec<u8>) -> Result<(), WantOfMemory>
+    ensures { OnOk result (text.new.items ≡ text.old.items ++ flat_map object_line objects.now) }
+{
+    for object in objects {
+        write_line(object, text)?;
+        write_bytes(b"\n", text)?;
+    }
+    Ok(())
+}
+
+#[tactic(auto, unfolding(crate::specs::Show::counts_text))]
+fn write_counts(name: &[u8], counts: &[(u32, u64)], text: &mut Vec<u8>) -> Result<(), WantOfMemory>
+    ensures { OnOk result (text.new.items ≡ text.old.items ++ counts_text name.now counts.now) }
+{
+    write_numbered(name, counts.len() as u64, text)?;
+    write_count_lines(counts, text)
+}
+
+#[tactic(auto, unfolding(crate::specs::Show::held_text))]
+fn write_held(numbers: &[u32], text: &mut Vec<u8>) -> Result<(), WantOfMemory>
+    ensures { OnOk result (text.new.items ≡ text.old.items ++ held_text numbers.now) }
+{
+    write_numbered(b"held ", numbers.len() as u64, text)?;
+    write_numbered_lines(b"", numbers, text)
+}
