@@ -5,7 +5,7 @@ ghost use Rattle.std.specs.Prelude.{IsTrue, IfErr, IfOk, OnOk, OnErr, length};
 ghost use Rattle.osm_model.specs.Limits.{max_file, max_sequence};
 ghost use Rattle.osm_save.specs.Save.{SpellsSave};
 ghost use Rattle.osm_state.specs.State.{StateValue};
-ghost use Rattle.osm_follow.specs.Delivery.{IsTurn};
+ghost use Rattle.osm_follow.specs.Delivery.{IsDue};
 ghost use Rattle.osm_follow.specs.Follower.{held_at, is_held};
 ghost use Rattle.osm_follow.specs.Published.{PublishedValue};
 ghost use Rattle.osm_follow.specs.Reach.{missing_numbers};
@@ -228,7 +228,7 @@ fn deliver_fetched(
     fetched: &Fetched,
     follower: &mut Follower,
 ) -> Result<Delivered, RunFault>
-    requires turn { (time : ℕ) × IsTurn follower.old fetched.now.state.items
+    requires turn { (time : ℕ) × IsDue follower.old fetched.now.state.items
         (record { sequence = number; time = time }) }
     requires small { length fetched.now.changes.items ≤ max_file }
     ensures delivered { IfOk result (λ answer. IsDelivered
@@ -258,7 +258,7 @@ fn deliver<F: ChangeForm>(
     bytes: &[u8],
     follower: &mut Follower,
 ) -> Result<Delivered, RunFault>
-    requires turn { (s : StateValue) × IsTurn follower.old state.now s }
+    requires turn { (s : StateValue) × IsDue follower.old state.now s }
     requires small { length bytes.now ≤ max_file }
     ensures delivered { IfOk result (λ answer. IsDelivered F.spells F.fault_place
         follower.old state.now bytes.now answer follower.new) }
