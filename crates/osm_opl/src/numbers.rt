@@ -14,6 +14,7 @@ use osm_model::limits::MAX_ID;
 use osm_model::memory::WantOfMemory;
 
 const MOST_DIGITS: usize = 20;
+
 const FITTING_DIGITS: usize = 19;
 
 /// The number that 1 to `most` decimal digits write, or `u64::MAX` if it is greater.
