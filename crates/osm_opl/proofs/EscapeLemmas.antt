@@ -1,5 +1,5 @@
 -- Runs of bare characters, and escapes.
-use Rattle.std.proofs.Common.{◌≡◌, ℕ, zero, suc, ◌+◌, ◌/◌, ◌%◌, ◌<◌, ◌≤◌, Bool, true, false, cond, ltb, leb, ◌&&◌, List, [], ◌∷◌, ◌++◌, length, Some, None, refl, sym, arith}
+use Rattle.std.proofs.Common.{◌≡◌, ℕ, zero, suc, ◌+◌, ◌/◌, ◌%◌, ◌<◌, ◌≤◌, Bool, true, false, cond, ltb, leb, ◌&&◌, List, [], ◌∷◌, ◌++◌, ◌∙◌, length, Some, None, refl, sym, arith}
 use Rattle.std.specs.Prelude.{Contains}
 use Rattle.std.specs.Str.{IsUtf8, is_utf8}
 use Rattle.std.specs.List.{list_all}
@@ -10,7 +10,7 @@ use Rattle.std.specs.Char.{encode_utf8}
 use Rattle.std.specs.Prelude.{◌≢◌, not}
 use Rattle.osm_opl.specs.Escape.{NamesChar, is_reserved}
 use Rattle.osm_reading.specs.Pieces.{Lacks}
-use Rattle.osm_reading.proofs.PieceLemmas.{lacks_append}
+use Rattle.osm_reading.proofs.PieceLemmas.{lacks_append, pieces-one}
 use Rattle.osm_reading.specs.Pieces.{pieces}
 use Rattle.osm_reading.proofs.StepLemmas.{both_held, some_then, guard_some}
 use Rattle.osm_opl.proofs.NumberLemmas.{IsNumeralOf, digits_take, digits_again, each_digit, all_from_each}
@@ -138,3 +138,26 @@ text_refused bytes text TooLong is nul long memory =
     let l : 1020 < length text = long refl in
     absurd (omega arith)
 text_refused bytes text WantOfMemory is nul long memory = absurd (memory refl)
+
+-- ---- texts without an escape
+
+bare_is : (bytes : List ℕ) → list_all is_free bytes ≡ true → text_at bytes ≡ and_then (run_at bytes) (λ t. cond (leb (length t) 1020) (Some t) None)
+unfolding text_at
+bare_is bytes free = rw (pieces-one 37 bytes (free_lacks 37 bytes refl free)) refl
+
+pub bare_read : (bytes : List ℕ) → list_all is_free bytes ≡ true → IsText bytes → text_at bytes ≡ Some bytes
+bare_read bytes free h =
+    let short : length bytes ≤ 1020 = h.short in
+    let test : leb (length bytes) 1020 ≡ true = grind (arith, nat_tests) in
+    bare_is bytes free ∙ rw (is_text_run bytes h.utf8 free, test) refl
+
+pub bare_wrong : (bytes : List ℕ) → list_all is_free bytes ≡ true → ¬ IsUtf8 bytes → text_at bytes ≡ None
+bare_wrong bytes free wrong = bare_is bytes free ∙ rw (isnt_text_run bytes wrong) refl
+
+pub bare_long : (bytes : List ℕ) → list_all is_free bytes ≡ true → IsUtf8 bytes → 1020 < length bytes → text_at bytes ≡ None
+bare_long bytes free u long =
+    let test : leb (length bytes) 1020 ≡ false = grind (arith, nat_tests) in
+    bare_is bytes free ∙ rw (is_text_run bytes u free, test) refl
+
+pub bare_nul : (bytes : List ℕ) → list_all is_free bytes ≡ true → Contains bytes 0 → text_at bytes ≡ None
+bare_nul bytes free nul = absurd (lacks_contains 0 bytes (free_lacks 0 bytes refl free) nul)

@@ -1,5 +1,6 @@
 pub mod NumberLemmas
 pub mod NumberLaws
+pub mod PlainLemmas
 pub mod DateLemmas
 pub mod EscapeLemmas
 pub mod EscapeLaws

@@ -2,7 +2,7 @@
 use Rattle.std.proofs.Common.{◌≡◌, ℕ, suc, ◌+◌, ◌<◌, ◌≤◌, true, false, cond, leb, List, [], ◌∷◌, ◌++◌, length, Option, Some, None, refl, sym, ap, ◌∙◌, arith, append_assoc}
 use Rattle.std.proofs.lemmas.Bool.Decides.{nat_tests}
 use Rattle.std.proofs.lemmas.List.{append-nil, length-append}
-use Rattle.std.proofs.lemmas.Option.{same_Some}
+use Rattle.std.proofs.lemmas.Option.{same_Some, some_pair_parts}
 use Rattle.std.specs.Char.{encode_utf8}
 use Rattle.osm_reading.specs.Pieces.{pieces}
 use Rattle.osm_opl.specs.Steps.Reading.{PassesLimit, text_at, each_at, escape_at, list_at, list_pieces, run_at, runs_at}
@@ -10,7 +10,8 @@ use Rattle.osm_reading.specs.Steps.Answers.{and_then}
 use Rattle.osm_reading.specs.Steps.Answers.{Fails}
 use Rattle.osm_reading.specs.declared.refusal.Refusal.{Refusal}
 use Rattle.osm_reading.specs.declared.refusal.Refusal.TheVariants.{WantOfMemory, Fault}
-use Rattle.osm_reading.proofs.StepLemmas.{some_then}
+use Rattle.osm_opl.specs.Steps.Plain.{first_at}
+use Rattle.osm_reading.proofs.StepLemmas.{none_then, some_then}
 
 -- what was read before, before what is read from the rest
 abbrev pub put_before : {X : Type 0} → List X → Option (List X) → Option (List X)
@@ -44,6 +45,18 @@ item_read {X} read all left ps items p x before is e =
     let l : length (items ++ x ∷ []) ≡ length items + 1 = length-append items (x ∷ []) in
     record { same = h.same ∙ ap (put_before items) step ∙ put_before-bind items x (each_at read ps); count = omega arith }
 
+-- the item of the first piece
+pub item_first : {X : Type 0} (read : List ℕ → Option X) (all left ps : List (List ℕ)) (items : List X) (x : X) → ListRead read all left items → first_at read left ≡ Some (x, ps) → ListRead read all ps (items ++ x ∷ [])
+item_first read all [] ps items x before e = absurd cc
+item_first {X} read all (p ∷ qs) ps items x before e =
+    let a = some_then (read p) (λ (y : X). Some (let pair : X × List (List ℕ) = (y, qs) in pair)) (x, ps) e in
+    let parts = some_pair_parts a.0 x qs ps a.2 in
+    let first : a.0 ≡ x = parts.0 in
+    let second : qs ≡ ps = parts.1 in
+    let is : read p ≡ Some x = a.1 ∙ ap (λ (y : X). Some y) first in
+    let next : ListRead read all qs (items ++ x ∷ []) = item_read read all (p ∷ qs) qs items p x before refl is in
+    rw second at next
+
 each_length : {X : Type 0} (read : List ℕ → Option X) (ps : List (List ℕ)) (xs : List X) → each_at read ps ≡ Some xs → length xs ≡ length ps
 each_length read [] xs e = ap length (sym (same_Some [] xs e))
 each_length {X} read (p ∷ ps) xs e =
@@ -69,6 +82,11 @@ item_unread read most bytes left ps items p before is e =
     let step : each_at read (p ∷ ps) ≡ None = rw e refl in
     let fails : each_at read (list_pieces bytes) ≡ None = h.same ∙ put_before-none items (each_at read (p ∷ ps)) step in
     rw fails refl
+
+pub first_unread : {X : Type 0} (read : List ℕ → Option X) (most : ℕ) (bytes : List ℕ) (left : List (List ℕ)) (items : List X) → ListRead read (list_pieces bytes) left items → 1 ≤ length left → first_at read left ≡ None → list_at read most bytes ≡ None
+first_unread read most bytes [] items before some e = absurd (omega arith)
+first_unread {X} read most bytes (p ∷ ps) items before some e =
+    item_unread read most bytes (p ∷ ps) ps items p before refl (none_then (read p) (λ (x : X). let pair : X × List (List ℕ) = (x, ps) in pair) e)
 
 pub item_fails : {X : Type 0} (read : List ℕ → Option X) (most : ℕ) (bytes : List ℕ) (error : Refusal) (left ps : List (List ℕ)) (items : List X) (p : List ℕ) → ListRead read (list_pieces bytes) left items → left ≡ p ∷ ps → Fails error (read p) → Fails error (list_at read most bytes)
 item_fails read most bytes WantOfMemory left ps items p before is e = tt

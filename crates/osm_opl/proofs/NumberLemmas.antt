@@ -6,7 +6,7 @@ use Rattle.std.specs.Prelude.{Result, Ok, Err, IfOk, min, option_map, nat_lt, na
 use Rattle.std.specs.Char.{digit_value, is_ascii_digit}
 use Rattle.std.specs.Str.Parse.{AllDigits, digits_value, digits_value_after}
 use Rattle.std.proofs.lemmas.Bool.Decides.{nat_tests}
-use Rattle.std.proofs.lemmas.List.{take_more, take_all}
+use Rattle.std.proofs.lemmas.List.{length-take, take_more, take_all}
 use Rattle.std.proofs.lemmas.Str.{digit_value_digit}
 use Rattle.std.proofs.lemmas.Str.Parse.{digit_from_value, digits_value_short, numerals_by_value, tells_digits}
 use Rattle.std.proofs.lemmas.Bool.{cases_lt}
@@ -115,6 +115,30 @@ scale_limit k = pow-le-pow_right {n = 10} (lit< tt) {i = 7 - k} {j = 7} (omega a
 
 pub below_scale : (k : ℕ) → k ≤ 7 → 10 ^ k ≤ 10 ^ 7
 below_scale k h = pow-le-pow_right {n = 10} (lit< tt) {i = k} {j = 7} h
+
+-- up to eighteen digits write a number that has room for one digit more in 64 bits
+pub room_for_digit : (bytes : List ℕ) (i so_far : ℕ) → i ≤ 18 → Digits 10 bytes 18446744073709551615 i so_far → so_far < 1000000000000000000
+room_for_digit bytes i so_far few h =
+    let short : length (take i bytes) ≤ 18 = let n : length (take i bytes) ≡ min i (length bytes) = length-take i bytes in omega arith in
+    let small : digits_value 10 (take i bytes) < 10 ^ 18 = few_digits 18 (take i bytes) short h.all in
+    omega (arith, small, h.value)
+
+-- one digit more, if there is room
+pub one_digit_fits : (bytes : List ℕ) (i so_far : ℕ) → i < length bytes → i ≤ 18 → Digits 10 bytes 18446744073709551615 i so_far → is_ascii_digit (get_or bytes i 0) ≡ true → Digits 10 bytes 18446744073709551615 (i + 1) (10 * so_far + (get_or bytes i 0 - 48))
+one_digit_fits bytes i so_far lt few h digit =
+    let room : so_far < 1000000000000000000 = room_for_digit bytes i so_far few h in
+    let high : get_or bytes i 0 ≤ 57 = grind (arith, nat_tests) in
+    let next = one_digit bytes 18446744073709551615 i so_far (get_or bytes i 0 - 48) lt h digit refl in
+    let same : min (min (so_far * 10) 18446744073709551615 + (get_or bytes i 0 - 48)) 18446744073709551615 ≡ 10 * so_far + (get_or bytes i 0 - 48) = omega arith in
+    rw same at next
+
+-- a limit on the number of digits says nothing of fewer
+pub digits_within : (radix most : ℕ) (bytes : List ℕ) → length bytes ≤ most → digits_at radix most bytes ≡ digits_at radix (length bytes) bytes
+unfolding digits_at
+digits_within radix most bytes h =
+    let a : nat_le (length bytes) most ≡ true = grind (arith, nat_tests) in
+    let b : nat_le (length bytes) (length bytes) ≡ true = grind (arith, nat_tests) in
+    rw (a, b) refl
 
 -- what 1 digit to so many write
 pub record IsNumeralOf (radix most : ℕ) (bytes : List ℕ) (n : ℕ) : Type 0 where

@@ -1,17 +1,20 @@
 -- What has been written so far.
 use Rattle.std.proofs.Common.{◌≡◌, ℕ, zero, suc, ◌+◌, ◌-◌, ◌*◌, ◌/◌, ◌%◌, ◌^◌, ◌<◌, ◌≤◌, Bool, true, false, cond, List, [], ◌∷◌, ◌++◌, length, get_or, take, drop, refl, sym, ap, ◌∙◌, append_assoc, arith, lit<}
-use Rattle.std.specs.Prelude.{Result, Ok, Err, OnErr, ◌==◌, min}
+use Rattle.std.specs.Prelude.{Result, Ok, Err, OnErr, ◌==◌, ◌&&◌, min, nat_le, not}
 use Rattle.std.specs.Io.{StartsWith}
 use Rattle.std.proofs.Math.Nat.{pow-suc, pow-le-pow_right, one-le-pow, mod-lt, div-lt_iff_lt-mul}
 use Rattle.std.proofs.lemmas.Bool.Decides.{nat_tests}
 use Rattle.std.proofs.lemmas.List.{append-nil, drop_all, drop_more, length-take, length-append, take-append-drop, take-take, take_all, take_at, take_more}
 use Rattle.std.specs.Char.{digit_char}
 use Rattle.std.specs.Char.{encode_utf8}
-use Rattle.std.specs.Str.{IsUtf8, chars}
-use Rattle.std.proofs.lemmas.Str.{IsUtf8-past_char, chars_past_char}
+use Rattle.std.specs.List.{list_all}
+use Rattle.std.specs.Str.{IsAscii, IsUtf8, chars}
+use Rattle.std.proofs.lemmas.Str.{IsUtf8-past_char, chars-IsAscii, chars_past_char}
 use Rattle.osm_model.specs.Change.{ChangeValue}
 use Rattle.osm_model.specs.Limits.{max_file}
-use Rattle.osm_opl.specs.Written.{line_text, opl_text, char_text, chars_text, escaped_text, decimals, hex_digits, more_items, items_text}
+use Rattle.osm_reading.proofs.StepLemmas.{both_held}
+use Rattle.osm_opl.specs.Escape.{is_reserved}
+use Rattle.osm_opl.specs.Written.{is_written_bare, line_text, opl_text, char_text, chars_text, escaped_text, decimals, hex_digits, more_items, items_text}
 
 -- what was appended stands behind what was there
 pub starts_append : (old prefix : List ℕ) → StartsWith (old ++ prefix) old
@@ -189,6 +192,28 @@ pub text_done : (old new text rest : List ℕ) → TextWritten old new text rest
 unfolding escaped_text chars
 text_done old new text [] h e = writes_all old new (escaped_text text) h.writes
 text_done old new text (b ∷ bs) h e = absurd (omega arith)
+
+ascii_if_bare : (bytes : List ℕ) → list_all is_written_bare bytes ≡ true → IsAscii bytes
+ascii_if_bare [] e i = lit< tt
+ascii_if_bare (b ∷ bs) e zero =
+    let p = both_held (is_written_bare b) (list_all is_written_bare bs) e in
+    let q = both_held (nat_le 0x21 b && nat_le b 0x7e) (not (is_reserved b)) p.0 in
+    let r = both_held (nat_le 0x21 b) (nat_le b 0x7e) q.0 in
+    let test : nat_le b 0x7e ≡ true = r.1 in
+    grind (arith, nat_tests)
+ascii_if_bare (b ∷ bs) e (suc i) = ascii_if_bare bs (both_held (is_written_bare b) (list_all is_written_bare bs) e).1 i
+
+bare_chars : (bytes : List ℕ) → list_all is_written_bare bytes ≡ true → chars_text bytes ≡ bytes
+unfolding char_text
+bare_chars [] e = refl
+bare_chars (b ∷ bs) e =
+    let p = both_held (is_written_bare b) (list_all is_written_bare bs) e in
+    rw (p.0, bare_chars bs p.1) refl
+
+-- a text without an escape is written as it is
+pub written_as_it_is : (bytes : List ℕ) → list_all is_written_bare bytes ≡ true → escaped_text bytes ≡ bytes
+unfolding escaped_text
+written_as_it_is bytes e = ap chars_text (chars-IsAscii bytes (ascii_if_bare bytes e)) ∙ bare_chars bytes e
 
 pub text_start : (old new text rest : List ℕ) → TextWritten old new text rest → StartsWith new old
 text_start old new text rest h = writes_start old new (escaped_text rest) (escaped_text text) h.writes

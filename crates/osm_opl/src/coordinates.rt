@@ -78,7 +78,16 @@ fn scale(decimals: usize) -> u64
     ensures value { result ≡ 10 ^ (7 - decimals) }
     ensures limit { result ≤ 10 ^ 7 }
 {
-    10u64.pow(7 - decimals as u32)
+    match decimals {
+        0 => 10_000_000,
+        1 => 1_000_000,
+        2 => 100_000,
+        3 => 10_000,
+        4 => 1_000,
+        5 => 100,
+        6 => 10,
+        _ => 1,
+    }
 }
 
 #[tactic(auto, unfolding(crate::specs::Written::coordinate_text))]

@@ -2,7 +2,7 @@
 //! `%DIGITS%` with the hexadecimal digits of its code.
 
 ghost use Rattle.std.specs.Prelude.{◌≡◌, ◌-◌, ◌^◌, ◌<◌, ◌≤◌, ◌++◌, length, min, option_map};
-ghost use Rattle.std.specs.Prelude.{string_bytes, if◌then◌else◌, Some, None, IfErr, OnOk, OnErr};
+ghost use Rattle.std.specs.Prelude.{true, string_bytes, if◌then◌else◌, Some, None, IfErr, OnOk, OnErr};
 ghost use Rattle.std.specs.Char.{digit_char, encode_utf8};
 ghost use Rattle.std.specs.Io.{StartsWith};
 ghost use Rattle.std.specs.List.{list_all};
@@ -17,7 +17,7 @@ ghost use Rattle.osm_reading.specs.Steps.Answers.{Finds, Gives};
 use osm_model::form::Why;
 use osm_model::limits::MAX_TEXT;
 use osm_model::memory::WantOfMemory;
-use osm_model::text::Text;
+use osm_model::text::{Text, TextError};
 use osm_reading::pieces::cut;
 use osm_reading::refusal::Refusal;
 use std::alloc::Global;
@@ -27,10 +27,29 @@ use std::alloc::Global;
 pub(crate) fn read_text(alloc: Global, bytes: &[u8]) -> Result<Text, Refusal>
     ensures { Gives (λ t. t) result (text_at bytes.now) }
 {
+    if is_free_run(bytes) {
+        return read_bare(alloc, bytes);
+    }
     let text = unescape(alloc, bytes)?;
     match Text::from_string(text) {
         Ok(text) => Ok(text),
         Err(_) => Err(Refusal::Fault(Why::BadText)),
+    }
+}
+
+// A text without an escape.
+fn read_bare(alloc: Global, bytes: &[u8]) -> Result<Text, Refusal>
+    requires { list_all is_free bytes.now ≡ true }
+    ensures { Gives (λ t. t) result (text_at bytes.now) }
+{
+    let Ok(text) = std::str::from_utf8(bytes) else {
+        return Err(Refusal::Fault(Why::BadText));
+    };
+    match Text::new(alloc, text) {
+        Ok(text) => Ok(text),
+        Err(TextError::HasNul) => Err(Refusal::Fault(Why::BadText)),
+        Err(TextError::TooLong) => Err(Refusal::Fault(Why::BadText)),
+        Err(TextError::WantOfMemory) => Err(Refusal::WantOfMemory),
     }
 }
 
@@ -106,6 +125,7 @@ fn is_free_run(run: &[u8]) -> bool
 }
 
 // Which bytes can't be bare.
+#[inline(always)]
 fn is_reserved(byte: u8) -> bool
     ensures { result ≡ is_reserved byte }
 {
@@ -149,12 +169,30 @@ pub(crate) fn write_text(text: &str, out: &mut Vec<u8>) -> Result<(), WantOfMemo
     ensures ok { OnOk result (out.new.items ≡ out.old.items ++ escaped_text text.now) }
     ensures err { OnErr result (StartsWith out.new.items out.old.items) }
 {
+    if is_written_as_it_is(text.as_bytes()) {
+        out.extend_from_slice(text.as_bytes())?;
+        return Ok(());
+    }
+    write_chars(text, out)
+}
+
+fn is_written_as_it_is(text: &[u8]) -> bool
+    ensures { result ≡ list_all is_written_bare text.now }
+{
+    text.iter().all(|byte| is_written_bare(*byte as u32))
+}
+
+fn write_chars(text: &str, out: &mut Vec<u8>) -> Result<(), WantOfMemory>
+    ensures ok { OnOk result (out.new.items ≡ out.old.items ++ escaped_text text.now) }
+    ensures err { OnErr result (StartsWith out.new.items out.old.items) }
+{
     for character in text.chars() {
         write_char(character, out)?;
     }
     Ok(())
 }
 
+#[inline(always)]
 fn is_written_bare(code: u32) -> bool
     ensures { result ≡ is_written_bare code }
 {

@@ -10,3 +10,4 @@ mod metadata;
 mod numbers;
 mod objects;
 pub mod opl;
+mod plain;

@@ -2,6 +2,7 @@
 //! `n1 v1 dV c7 t2024-01-01T00:00:00Z i5 uann T x1 y2` (Osmium manual, OPL File Format).
 
 ghost use Rattle.std.specs.Prelude.{◌≡◌, ◌++◌, IfOk, IfErr, OnOk, OnErr, MatchResult};
+ghost use Rattle.std.specs.Prelude.{IfSome, Some};
 ghost use Rattle.std.specs.Io.{StartsWith};
 ghost use Rattle.osm_model.specs.Change.{ChangeValue};
 ghost use Rattle.osm_model.specs.Limits.{IsId};
@@ -16,6 +17,7 @@ use crate::lists::{read_kind, write_key};
 use crate::metadata::{read_head, write_head};
 use crate::numbers::read_id;
 use crate::objects::{read_what, write_what};
+use crate::plain::leading_id;
 use osm_model::change::{Change, What};
 use osm_model::form::Why;
 use osm_model::kind::Key;
@@ -72,8 +74,34 @@ fn read_change(alloc: Global, line: &[u8]) -> Result<Change, LineError>
 }
 
 // The kind and the id, and the fields after them.
-#[tactic(auto, unfolding(crate::specs::Steps::Reading::key_at))]
 fn read_key(line: &[u8]) -> Result<(Key, Option<&[u8]>), Why>
+    ensures value { Finds (λ r. (r.0, pieces_after 32 r.1)) result (key_at (pieces 32 line.now)) }
+    ensures limit { IfOk result (λ r. IsId r.0.id) }
+{
+    match plain_key(line) {
+        Some(found) => Ok(found),
+        None => any_key(line),
+    }
+}
+
+// The same, if the id is 1 to 19 digits.
+fn plain_key(line: &[u8]) -> Option<(Key, Option<&[u8]>)>
+    ensures value { IfSome result (λ r.
+        key_at (pieces 32 line.now) ≡ Some (r.0, pieces_after 32 r.1)) }
+    ensures limit { IfSome result (λ r. IsId r.0.id) }
+{
+    let Some((letter, id)) = line.split_first() else {
+        return None;
+    };
+    let Ok(kind) = read_kind(*letter) else {
+        return None;
+    };
+    let (id, rest) = leading_id(id, b' ')?;
+    Some((Key { kind, id }, rest))
+}
+
+#[tactic(auto, unfolding(crate::specs::Steps::Reading::key_at))]
+fn any_key(line: &[u8]) -> Result<(Key, Option<&[u8]>), Why>
     ensures value { Finds (λ r. (r.0, pieces_after 32 r.1)) result (key_at (pieces 32 line.now)) }
     ensures limit { IfOk result (λ r. IsId r.0.id) }
 {

@@ -1,16 +1,19 @@
 //! Lists: tags, the nodes of a way and the members of a relation, with commas between the items.
 
-ghost use Rattle.std.specs.Prelude.{◌≡◌, ◌++◌, ◌∷◌, [], if◌then◌else◌, OnOk, OnErr, Some};
+ghost use Rattle.std.specs.Prelude.{◌≡◌, ◌<◌, ◌++◌, ◌∷◌, [], length, if◌then◌else◌, Some};
+ghost use Rattle.std.specs.Prelude.{IfOk, IfSome, OnOk, OnErr};
 ghost use Rattle.std.specs.Io.{StartsWith};
 ghost use Rattle.osm_opl.specs.Lists.{letter_of};
+ghost use Rattle.osm_opl.specs.Steps.Plain.{first_at};
 ghost use Rattle.osm_opl.specs.Steps.Reading.{kind_at, list_at, list_pieces, member_at};
 ghost use Rattle.osm_opl.specs.Steps.Reading.{ref_at, tag_at};
 ghost use Rattle.osm_opl.specs.Written.{items_text, key_text, member_text, ref_text, tag_text};
-ghost use Rattle.osm_reading.specs.Pieces.{pieces_after};
+ghost use Rattle.osm_reading.specs.Pieces.{pieces, pieces_after};
 ghost use Rattle.osm_reading.specs.Steps.Answers.{Finds, Gives};
 
 use crate::escapes::{read_text, write_text};
 use crate::numbers::{read_id, write_id};
+use crate::plain::leading_id;
 use osm_model::form::Why;
 use osm_model::kind::{Key, Kind};
 use osm_model::limits::{MAX_REFS, MAX_TAGS};
@@ -72,14 +75,50 @@ pub(crate) fn read_refs(alloc: Global, bytes: &[u8]) -> Result<Refs, Refusal>
         if refs.as_slice().len() >= MAX_REFS {
             return Err(Refusal::Fault(Why::TooMany));
         }
-        let (item, after) = cut(items, b',');
-        match read_ref(item) {
-            Ok(id) => refs.push(id)?,
+        match next_ref(items) {
+            Ok((id, after)) => {
+                refs.push(id)?;
+                rest = after;
+            }
             Err(why) => return Err(Refusal::Fault(why)),
         }
-        rest = after;
     }
     Ok(refs)
+}
+
+// The first node, and what follows the comma after it.
+fn next_ref(items: &[u8]) -> Result<(i64, Option<&[u8]>), Why>
+    ensures value { Finds (λ r. (r.0, pieces_after 44 r.1)) result
+        (first_at ref_at (pieces 44 items.now)) }
+    ensures shorter { IfOk result (λ r.
+        IfSome r.1 (λ rest. length rest.now < length items.now)) }
+{
+    match plain_ref(items) {
+        Some(found) => Ok(found),
+        None => any_ref(items),
+    }
+}
+
+fn plain_ref(items: &[u8]) -> Option<(i64, Option<&[u8]>)>
+    ensures value { IfSome result (λ r.
+        first_at ref_at (pieces 44 items.now) ≡ Some (r.0, pieces_after 44 r.1)) }
+    ensures shorter { IfSome result (λ r.
+        IfSome r.1 (λ rest. length rest.now < length items.now)) }
+{
+    match items.split_first() {
+        Some((b'n', id)) => leading_id(id, b','),
+        _ => None,
+    }
+}
+
+fn any_ref(items: &[u8]) -> Result<(i64, Option<&[u8]>), Why>
+    ensures value { Finds (λ r. (r.0, pieces_after 44 r.1)) result
+        (first_at ref_at (pieces 44 items.now)) }
+    ensures shorter { IfOk result (λ r.
+        IfSome r.1 (λ rest. length rest.now < length items.now)) }
+{
+    let (item, after) = cut(items, b',');
+    Ok((read_ref(item)?, after))
 }
 
 // `nID`

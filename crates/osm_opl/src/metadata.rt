@@ -1,6 +1,7 @@
 //! The fields that all objects have after their id: version, status, changeset, time, user.
 
-ghost use Rattle.std.specs.Prelude.{◌≡◌, ◌<◌, ◌++◌, IfOk, codes, OnOk, OnErr};
+ghost use Rattle.std.specs.Prelude.{◌≡◌, ◌≢◌, ◌<◌, ◌++◌, IfOk, IfSome, Some, codes};
+ghost use Rattle.std.specs.Prelude.{OnOk, OnErr};
 ghost use Rattle.std.specs.Io.{StartsWith};
 ghost use Rattle.osm_model.specs.CivilTime.{time_text};
 ghost use Rattle.osm_opl.specs.Steps.Reading.{head_at, positive_field_at, status_at};
@@ -14,6 +15,7 @@ ghost use Rattle.osm_reading.specs.Steps.Answers.{Finds, Gives};
 use crate::escapes::{read_text, write_text};
 use crate::fields::next_field;
 use crate::numbers::{read_positive, write_number};
+use crate::plain::leading_number;
 use osm_model::form::Why;
 use osm_model::memory::WantOfMemory;
 use osm_model::meta::Meta;
@@ -50,8 +52,44 @@ pub(crate) fn read_head<'a>(
     Ok((Head { is_visible, meta }, rest))
 }
 
-#[tactic(auto, unfolding(crate::specs::Steps::Reading::positive_field_at))]
+// `vVERSION`, `cCHANGESET` or `iUID`
 fn positive_field<'a>(rest: Option<&'a [u8]>, letter: u8) -> Result<(u32, Option<&'a [u8]>), Why>
+    requires { letter ≢ 32 }
+    ensures value { Finds (λ r. (r.0, pieces_after 32 r.1)) result
+        (positive_field_at letter (pieces_after 32 rest.entry)) }
+    ensures limit { IfOk result (λ r. 0 < r.0) }
+{
+    match plain_field(rest, letter) {
+        Some(found) => Ok(found),
+        None => any_field(rest, letter),
+    }
+}
+
+// The same, if the field is 1 to 19 digits.
+fn plain_field<'a>(rest: Option<&'a [u8]>, letter: u8) -> Option<(u32, Option<&'a [u8]>)>
+    requires { letter ≢ 32 }
+    ensures value { IfSome result (λ r. positive_field_at letter (pieces_after 32 rest.entry)
+        ≡ Some (r.0, pieces_after 32 r.1)) }
+    ensures limit { IfSome result (λ r. 0 < r.0) }
+{
+    let Some(fields) = rest else {
+        return None;
+    };
+    let Some((first, content)) = fields.split_first() else {
+        return None;
+    };
+    if *first != letter {
+        return None;
+    }
+    let (number, rest) = leading_number(content, b' ')?;
+    if number == 0 || number > u32::MAX as u64 {
+        return None;
+    }
+    Some((number as u32, rest))
+}
+
+#[tactic(auto, unfolding(crate::specs::Steps::Reading::positive_field_at))]
+fn any_field<'a>(rest: Option<&'a [u8]>, letter: u8) -> Result<(u32, Option<&'a [u8]>), Why>
     ensures value { Finds (λ r. (r.0, pieces_after 32 r.1)) result
         (positive_field_at letter (pieces_after 32 rest.entry)) }
     ensures limit { IfOk result (λ r. 0 < r.0) }

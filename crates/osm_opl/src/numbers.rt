@@ -1,7 +1,7 @@
 //! Whole numbers: ids, versions, changesets and user ids.
 
 ghost use Rattle.std.specs.Prelude.{◌≡◌, ◌<◌, ◌≤◌, ◌-◌, ◌^◌, ◌++◌, min, decimal, option_map};
-ghost use Rattle.std.specs.Prelude.{IfOk, OnOk, OnErr};
+ghost use Rattle.std.specs.Prelude.{length, IfOk, OnOk, OnErr};
 ghost use Rattle.std.specs.Fmt.{signed_decimal};
 ghost use Rattle.std.specs.Io.{StartsWith};
 ghost use Rattle.osm_model.specs.Limits.{IsId};
@@ -15,6 +15,8 @@ use osm_model::memory::WantOfMemory;
 
 const MOST_DIGITS: usize = 20;
 
+const FITTING_DIGITS: usize = 19;
+
 /// The number that 1 to `most` decimal digits write, or `u64::MAX` if it is greater.
 pub(crate) fn read_digits(bytes: &[u8], most: usize) -> Result<u64, Why>
     ensures { Finds (λ n. n) result (option_map (min (2 ^ 64 - 1)) (digits_at 10 most bytes.now)) }
@@ -22,6 +24,34 @@ pub(crate) fn read_digits(bytes: &[u8], most: usize) -> Result<u64, Why>
     if bytes.is_empty() || bytes.len() > most {
         return Err(Why::BadNumber);
     }
+    if bytes.len() <= FITTING_DIGITS {
+        read_few_digits(bytes)
+    } else {
+        read_many_digits(bytes)
+    }
+}
+
+// So few digits that their number fits into 64 bits.
+fn read_few_digits(bytes: &[u8]) -> Result<u64, Why>
+    requires { (1 ≤ length bytes.now) × (length bytes.now ≤ 19) }
+    ensures { Finds (λ n. n) result
+        (option_map (min (2 ^ 64 - 1)) (digits_at 10 (length bytes.now) bytes.now)) }
+{
+    let mut number: u64 = 0;
+    for byte in bytes {
+        if !byte.is_ascii_digit() {
+            return Err(Why::BadNumber);
+        }
+        number = 10 * number + (*byte - b'0') as u64;
+    }
+    Ok(number)
+}
+
+fn read_many_digits(bytes: &[u8]) -> Result<u64, Why>
+    requires { 1 ≤ length bytes.now }
+    ensures { Finds (λ n. n) result
+        (option_map (min (2 ^ 64 - 1)) (digits_at 10 (length bytes.now) bytes.now)) }
+{
     let mut number: u64 = 0;
     for byte in bytes {
         if !byte.is_ascii_digit() {

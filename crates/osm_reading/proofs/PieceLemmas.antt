@@ -6,6 +6,7 @@ use Rattle.std.specs.List.{AllByRecursion}
 use Rattle.std.proofs.lemmas.Bool.Decides.{nat_tests}
 use Rattle.std.proofs.lemmas.Option.{some_pair_parts}
 use Rattle.std.proofs.lemmas.List.{append-nil}
+use Rattle.memchr.specs.Find.{NoneBefore, Nowhere, Passes, is_byte}
 use Rattle.osm_reading.specs.Pieces.{Lacks, cut_at, joined, pieces, with_before, with_first}
 use Rattle.osm_reading.specs.Lines.{BeginsWithLine, without_cr}
 use Rattle.osm_reading.proofs.StepLemmas.{chosen}
@@ -78,6 +79,14 @@ pub is_cut : (s : ℕ) (bytes : List ℕ) (i : ℕ) → i < length bytes → get
 is_cut s bytes i lt here none =
     let cut : cut_at s bytes ≡ Some (take i bytes, drop (i + 1) bytes) = cut_found s bytes i lt here none in
     record { within = lt; first = cut; pieces = pieces_cut s bytes (take i bytes) (drop (i + 1) bytes) cut }
+
+-- the same of the place that a search for the separator finds
+pub found_cut : (s : ℕ) (bytes : List ℕ) (i : ℕ) → NoneBefore (Passes (is_byte s) bytes) 0 (length bytes) i → Passes (is_byte s) bytes i → IsCut s bytes i
+found_cut s bytes i h here =
+    is_cut s bytes i h.high (grind (arith, nat_tests)) (λ k lt e. h.before k (omega arith) lt (grind (arith, nat_tests)))
+
+pub nowhere_cut : (s : ℕ) (bytes : List ℕ) → Nowhere (Passes (is_byte s) bytes) 0 (length bytes) → cut_at s bytes ≡ None
+nowhere_cut s bytes h = cut_none s bytes (λ k lt e. h k (omega arith) lt (grind (arith, nat_tests)))
 
 -- a text has at least one piece
 pub pieces_some : (s : ℕ) (bytes : List ℕ) → (p : List ℕ) × (ps : List (List ℕ)) × (pieces s bytes ≡ p ∷ ps)

@@ -1,8 +1,9 @@
 //! Texts in pieces: lines, fields and items are cut at one byte.
 
-ghost use Rattle.std.specs.Prelude.{◌≡◌, ◌≢◌, ℕ, IfNone, slice_index, ◌∷◌, ◌<◌, length};
-ghost use Rattle.std.specs.Prelude.{IfSome, MatchOption, Some, None};
+ghost use Rattle.std.specs.Prelude.{◌≡◌, ◌∷◌, ◌<◌, length, IfSome, MatchOption, Some, None};
 ghost use Rattle.osm_reading.specs.Pieces.{cut_at, pieces, pieces_after};
+
+use memchr::memchr;
 
 /// The bytes before the first separator, and those after it. A text without the separator is all
 /// before it, and nothing follows.
@@ -14,23 +15,8 @@ pub fn cut(bytes: &[u8], separator: u8) -> (&[u8], Option<&[u8]>)
         ≡ result.0.now ∷ pieces_after separator result.1 }
     ensures shorter { IfSome result.1 (λ rest. length rest.now < length bytes.now) }
 {
-    match first_index(bytes, separator) {
+    match memchr(separator, bytes) {
         Some(at) => (&bytes[..at], Some(&bytes[at + 1..])),
         None => (bytes, None),
     }
-}
-
-fn first_index(bytes: &[u8], separator: u8) -> Option<usize>
-    ensures some { IfSome result (λ i. (i < length bytes.now)
-        × (slice_index bytes.now i ≡ separator)
-        × ((k : ℕ) → k < i → slice_index bytes.now k ≢ separator)) }
-    ensures none { IfNone result
-        ((k : ℕ) → k < length bytes.now → slice_index bytes.now k ≢ separator) }
-{
-    for (index, byte) in bytes.iter().enumerate() {
-        if *byte == separator {
-            return Some(index);
-        }
-    }
-    None
 }

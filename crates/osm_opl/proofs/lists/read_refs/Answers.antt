@@ -1,7 +1,7 @@
 use Rattle.std.proofs.Common.{◌≤◌, length, arith}
 use Rattle.osm_opl.specs.Steps.Reading.{ref_at}
 use Rattle.osm_reading.specs.Pieces.{pieces_after}
-use Rattle.osm_opl.proofs.ListLemmas.{item_too_many, item_unread, list_read}
+use Rattle.osm_opl.proofs.ListLemmas.{first_unread, item_first, item_too_many, list_read}
 use Rattle.osm_reading.proofs.PieceLemmas.{some_pieces}
 use Rattle.osm_opl.proofs.lists.read_refs.Goals as goal
 
@@ -16,4 +16,4 @@ returns c =
 
 pub returns-in-Err : goal.returns-in-Err
 returns-in-Err c =
-    item_unread ref_at 32000 c.args.bytes.now (pieces_after 44 c.loop-rest.rest) (pieces_after 44 c.cut.result.1) c.loop-rest.refs c.cut.result.0.now c.loop-rest.invariant.read (rw c.in-Some.is c.cut.ensures.pieces) c.in-Err.ensures
+    first_unread ref_at 32000 c.args.bytes.now (pieces_after 44 c.loop-rest.rest) c.loop-rest.refs c.loop-rest.invariant.read (rw c.in-Some.is (some_pieces 44 c.in-Some.items.now)) (rw c.in-Some.is c.in-Err.ensures.value)

@@ -1,5 +1,5 @@
 use Rattle.osm_opl.proofs.WrittenLemmas.{TextWritten}
-use Rattle.osm_opl.proofs.escapes.write_text.Given as goal
+use Rattle.osm_opl.proofs.escapes.write_chars.Given as goal
 
 abbrev pub invariant-loop-character : goal.invariant-loop-character
 invariant-loop-character l = TextWritten l.initial.out.items l.out.items l.text l.character-iterator.rest.now
