@@ -3,5 +3,5 @@
 
 pub mod disk_store;
 pub mod names;
-pub mod reading;
-pub mod replacing;
+mod reading;
+mod replacing;
