@@ -15,13 +15,13 @@ use Rattle.osm_folder.specs.declared.fault.RunFault.{RunFault}
 use Rattle.osm_folder.specs.declared.fault.RunFault.TheVariants.{WantOfMemory, ReadFault, WriteFault, TooLarge, Absent, BadState, BadChange, TimeBack, SequenceFull, BadNow}
 use Rattle.osm_folder.proofs.FolderLemmas.{goes_on_number}
 
-good_top : NoFaultBesideState → (p : List PublishedValue) (told : Option (List ℕ)) (cause : StateError) → IsTop p told → IsBadState told cause → ⊥
+pub good_top : NoFaultBesideState → (p : List PublishedValue) (told : Option (List ℕ)) (cause : StateError) → IsTop p told → IsBadState told cause → ⊥
 good_top law p None cause t b = (let e = b.there in cc)
 good_top law p (Some bytes) cause (inl a) b = (let e = a.1 in cc)
 good_top law p (Some bytes) cause (inr a) b =
     law bytes _ cause a.1.names (rw (same_Some bytes b.bytes b.there) b.fault)
 
-small_top : (p : List PublishedValue) (told : Option (List ℕ)) → IsTop p told → IsOver max_state told → ⊥
+pub small_top : (p : List PublishedValue) (told : Option (List ℕ)) → IsTop p told → IsOver max_state told → ⊥
 small_top p None t o = (let e = o.there in cc)
 small_top p (Some bytes) (inl a) o = (let e = a.1 in cc)
 small_top p (Some bytes) (inr a) o =

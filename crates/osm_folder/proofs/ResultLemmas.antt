@@ -1,6 +1,6 @@
 -- What `?` passes on.
 use Rattle.std.proofs.Common.{◌≡◌, subst, sym}
-use Rattle.std.specs.Prelude.{Result, Ok, Err, IfErr, OnErr}
+use Rattle.std.specs.Prelude.{Result, Ok, Err, IfErr, IfOk, OnErr}
 use Rattle.std.specs.Result.{IsErrAnd}
 
 pub same_err : {T E : Type 0} (Q : E → Type 0) (r : Result T E) (x : E) → IsErrAnd r (λ y. y ≡ x) → Q x → IfErr r Q
@@ -10,3 +10,11 @@ same_err Q (Err y) x h q = subst Q (sym h) q
 pub on_err : {T E P : Type 0} → (r : Result T E) → P → OnErr r P
 on_err (Ok x) p = tt
 on_err (Err e) p = p
+
+pub ok_map : {T E : Type 0} (P Q : T → Type 0) (r : Result T E) → IfOk r P → ((x : T) → P x → Q x) → IfOk r Q
+ok_map P Q (Ok x) p f = f x p
+ok_map P Q (Err e) p f = tt
+
+pub err_map : {T E : Type 0} (P Q : E → Type 0) (r : Result T E) → IfErr r P → ((e : E) → P e → Q e) → IfErr r Q
+err_map P Q (Ok x) p f = tt
+err_map P Q (Err e) p f = f e p

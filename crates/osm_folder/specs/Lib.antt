@@ -2,7 +2,9 @@ pub mod Conversion
 pub mod Faults
 pub mod Files
 pub mod Folder
+pub mod Following
 pub mod Forms
+pub mod Lagging
 pub mod Names
 pub mod Publication
 pub mod Reports

@@ -9,6 +9,9 @@ use crate::fault::{FileName, RunFault};
 use crate::store::{Store, StoreError};
 use std::alloc::Global;
 
+// The most bytes of a state file.
+pub(crate) const MAX_STATE: u64 = 65_536;
+
 // All bytes of a file, at most so many; None if there is no such file.
 pub(crate) fn read_file<S: Store>(
     alloc: Global,

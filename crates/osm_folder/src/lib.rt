@@ -3,11 +3,15 @@
 
 pub mod convert;
 pub mod fault;
+mod fetch;
 mod files;
+pub mod follow;
 pub mod form;
 pub mod fuse;
+pub mod lag;
 pub mod memory_store;
 pub mod names;
 pub mod publish;
 pub mod report;
+mod start;
 pub mod store;

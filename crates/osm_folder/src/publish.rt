@@ -18,7 +18,7 @@ ghost use Rattle.osm_folder.specs.Steps.Publishing.{IsChangesOf, IsCut, IsMade, 
 ghost use Rattle.osm_folder.specs.Steps.Publishing.{ResumeStops, TopStops, writes_to};
 
 use crate::fault::{FileName, RunFault};
-use crate::files::{read_file, read_present, write_file};
+use crate::files::{MAX_STATE, read_file, read_present, write_file};
 use crate::names::{file_name, top_name};
 use crate::report::{Report, publish_report};
 use crate::store::Store;
@@ -34,9 +34,6 @@ use osm_state::laws::laws_of_state;
 use osm_state::paths::Suffix;
 use osm_state::state_text::state_read;
 use std::alloc::Global;
-
-// The most bytes of a state file.
-const MAX_STATE: u64 = 65_536;
 
 // The names of the files of one sequence, and of the newest state.
 #[derive(Drop)]

@@ -1,0 +1,167 @@
+-- A run of the follower over the folder of published sequences.
+use Rattle.std.proofs.Common.{◌≡◌, ℕ, zero, suc, ◌+◌, ◌-◌, ◌<◌, ◌≤◌, List, [], ◌++◌, length, Option, Some, None, true, inl, inr, arith, refl, sym, ap, subst, ◌∙◌}
+use Rattle.std.specs.Prelude.{◌⊎◌}
+use Rattle.std.proofs.lemmas.Option.{same_Some}
+use Rattle.osm_model.specs.Change.{ChangeValue}
+use Rattle.osm_model.specs.Limits.{max_file}
+use Rattle.osm_mirror.specs.Mirror.{Applies, IsMirrorOf}
+use Rattle.osm_mirror.proofs.MirrorLemmas.{mirror_grown}
+use Rattle.osm_o5c.proofs.FrontLemmas as o5c_file
+use Rattle.osm_opl.proofs.FileLaws as opl_file
+use Rattle.osm_save.proofs.SaveLemmas.{one_save}
+use Rattle.osm_save.specs.Save.{SpellsSave}
+use Rattle.osm_save.specs.declared.save.Saved.{Saved}
+use Rattle.osm_state.proofs.StateLemmas.{one_state}
+use Rattle.osm_state.specs.State.{StateValue}
+use Rattle.osm_state.specs.StateLaws.{NoFaultBesideState}
+use Rattle.osm_state.specs.declared.paths.Suffix.{Suffix}
+use Rattle.osm_state.specs.declared.paths.Suffix.TheVariants.{O5c, Opl, State}
+use Rattle.osm_state.specs.declared.state_text.StateError.{StateError}
+use Rattle.osm_follow.proofs.PublishedLemmas.{changes_next, time_next}
+use Rattle.osm_follow.specs.Published.{AreSequences, PublishedValue, changes_at, changes_up_to, sequence_at, time_at}
+use Rattle.osm_folder.specs.Files.{Files, IsOver, Puts}
+use Rattle.osm_folder.specs.Folder.{IsAbsentOr, IsFile, IsFolderOf, IsStateFile, IsThere, IsTop, max_state}
+use Rattle.osm_folder.specs.Following.{Adds, AddsAll, AreChanges, FollowRefuses, FollowStops, GoesOn, HasBigSave, HasFiles, HasSave, IsBadSave, IsBefore, IsFollowed, IsFollowing, IsInStep, IsInStepAfter, IsSaveOf, IsSaved, IsStarted, IsTopBehind, NamesOther, NumberStops, SaveStops, StartStops, StopsAt, is_lost, limit_of, lost_numbers, max_save, no_save, ranges}
+use Rattle.osm_folder.specs.Forms.{IsFaulty}
+use Rattle.osm_folder.specs.Names.{file_name_of, top_name_of}
+use Rattle.osm_folder.specs.Publication.{IsBadState}
+use Rattle.osm_folder.specs.Reports.{ReportValue, follow_report_of}
+use Rattle.osm_folder.specs.declared.fault.FileName.{FileName}
+use Rattle.osm_folder.specs.declared.fault.FileName.TheVariants.{Top, Sequence, Save}
+use Rattle.osm_folder.specs.declared.fault.RunFault.{RunFault}
+use Rattle.osm_folder.specs.declared.fault.RunFault.TheVariants.{WantOfMemory, ReadFault, WriteFault, TooLarge, Absent, BadState, Mismatch, BadChange, BadSave, TopBehind}
+use Rattle.osm_folder.specs.declared.form.Form.TheVariants as forms
+use Rattle.osm_folder.proofs.RefusalLemmas.{good_top, small_top}
+use Rattle.osm_folder.proofs.TakingLemmas.{adds_number}
+
+-- a save saves one thing
+pub one_saved : (told : Option (List ℕ)) (a b : Saved) → IsSaved told a → IsSaved told b → a ≡ b
+one_saved None a b p q = p ∙ sym q
+one_saved (Some bytes) a b p q = one_save bytes a b p.1 q.1
+
+-- the top state names the last published sequence
+pub top_number : (ps : List PublishedValue) (told : Option (List ℕ)) (top : StateValue) → AreSequences ps → IsTop ps told → IsThere told (IsStateFile top.sequence top.time) → top.sequence ≡ length ps
+top_number ps None top each t there = absurd there
+top_number ps (Some bytes) top each (inl a) there = absurd (let e = a.1 in cc)
+top_number ps (Some bytes) top each (inr a) there =
+    ap (λ (s : StateValue). s.sequence) (one_state bytes top _ there.names a.1.names) ∙ (each (length ps) a.0 (omega arith)).number_is
+
+-- the state and the changes of a number's files are the published ones
+same_time : (told : Option (List ℕ)) (p q : PublishedValue) → IsThere told (IsFile State p) → IsAbsentOr told (IsFile State q) → p.time ≡ q.time
+same_time None p q a b = absurd a
+same_time (Some bytes) p q a b = ap (λ (s : StateValue). s.time) (one_state bytes _ _ a.names b.names)
+
+same_opl : (told : Option (List ℕ)) (p q : PublishedValue) → IsThere told (IsFile Opl p) → IsAbsentOr told (IsFile Opl q) → p.changes ≡ q.changes
+same_opl None p q a b = absurd a
+same_opl (Some bytes) p q a b = opl_file.one_batch bytes p.changes q.changes a.1 b.1
+
+same_changes : (o5c opl : Option (List ℕ)) (p q : PublishedValue) → AreChanges o5c opl p → IsAbsentOr o5c (IsFile O5c q) → IsAbsentOr opl (IsFile Opl q) → p.changes ≡ q.changes
+same_changes None opl p q a b c = same_opl opl p q a c
+same_changes (Some bytes) opl p q a b c = o5c_file.one_batch bytes p.changes q.changes a.1 b.1
+
+-- one number more
+step_in_step : (ps : List PublishedValue) (files : Files) (dir : List ℕ) (old new : Saved) → IsFolderOf ps files dir → old.number + 1 ≤ length ps → Adds files dir old new → IsInStep ps old → IsInStep ps new
+step_in_step ps files dir old new folder within add step =
+    let is = add.number_is in
+    let at : add.next.number ≤ length ps = omega (arith, is) in
+    let above : 0 < add.next.number = omega (arith, is) in
+    let time : add.next.time ≡ (sequence_at ps add.next.number).time = same_time _ add.next (sequence_at ps add.next.number) add.there.state (folder.each add.next.number State above at) in
+    let changes : add.next.changes ≡ changes_at ps add.next.number = same_changes _ _ add.next (sequence_at ps add.next.number) add.there.changes (folder.each add.next.number O5c above at) (folder.each add.next.number Opl above at) in
+    let grown : IsMirrorOf (changes_up_to ps old.number ++ add.next.changes) new.mirror = mirror_grown old.mirror new.mirror (changes_up_to ps old.number) add.next.changes step.mirror add.applied in
+    let joined : changes_up_to ps add.next.number ≡ changes_up_to ps old.number ++ add.next.changes = changes_next ps old.number add.next.number is at ∙ ap (λ cs. changes_up_to ps old.number ++ cs) (sym changes) in
+    record {
+      within = rw add.number at;
+      mirror = rw (add.number, joined) grown;
+      time = add.time ∙ (ap (λ (n : ℕ). Some n) time ∙ rw add.number (sym (time_next ps old.number add.next.number is)));
+    }
+
+-- so many numbers more
+pub all_in_step : (ps : List PublishedValue) (files : Files) (dir : List ℕ) (count : ℕ) (old new : Saved) → IsFolderOf ps files dir → old.number + count ≤ length ps → AddsAll files dir count old new → IsInStep ps old → IsInStep ps new
+all_in_step ps files dir zero old new folder within add step = rw add step
+all_in_step ps files dir (suc count) old new folder within (between, before, last) step =
+    let number = adds_number files dir count old between before in
+    step_in_step ps files dir between new folder (omega (arith, number)) last
+    (all_in_step ps files dir count old between folder (omega arith) before step)
+
+-- what a run reaches over the folder of published sequences, from a save in step with them
+pub record Reached (ps : List PublishedValue) (dir save : List ℕ) (files : Files) (number : ℕ) (text : List ℕ) (report : ReportValue) : Type 0 where
+  pub count : ℕ
+  pub value : Saved
+  pub spelled : SpellsSave text value
+  pub value_is : value.number ≡ number + count
+  pub in_step : IsInStep ps value
+  pub far : (number + count ≡ length ps) ⊎ (is_lost files dir (number + count + 1) ≡ true)
+  pub report_is : report ≡ follow_report_of (ranges number count) (lost_numbers files dir (number + count) (length ps)) (number + count)
+
+pub reached_of : (ps : List PublishedValue) (number : ℕ) (dir save : List ℕ) (files : Files) (text : List ℕ) (report : ReportValue) → IsFolderOf ps files dir → IsSaveOf ps number (files save) → IsFollowing dir save files text report → Reached ps dir save files number text report
+reached_of ps number dir save files text report folder saved run =
+    let same : run.start ≡ saved.value = one_saved (files save) run.start saved.value run.started.saved saved.saved in
+    let start_is : run.start.number ≡ number = ap (λ (v : Saved). v.number) same ∙ saved.number_is in
+    let top_is : run.top.sequence ≡ length ps = top_number ps (files (top_name_of dir)) run.top folder.sequences folder.top run.started.top_is in
+    let until = run.goes_on.until in
+    let sum = run.goes_on.number in
+    let step : IsInStep ps run.start = rw same saved.in_step in
+    let value_is : run.reached.number ≡ number + run.count = rw start_is at sum in
+    record {
+      count = run.count;
+      value = run.reached;
+      spelled = run.spelled;
+      value_is = value_is;
+      in_step = all_in_step ps files dir run.count run.start run.reached folder (omega (arith, sum, until, top_is)) run.goes_on.added step;
+      far = elim run.goes_on.far [
+        | inl top ↦ inl (sym value_is ∙ (top ∙ top_is))
+        | inr lost ↦ inr (rw (← value_is) lost)
+      ];
+      report_is = rw (← value_is, ← top_is, ← start_is) run.report_is;
+    }
+
+pub in_step_after : (ps : List PublishedValue) (number : ℕ) (dir save : List ℕ) (old new : Files) (report : ReportValue) → IsFolderOf ps old dir → IsSaveOf ps number (old save) → IsFollowed dir save old new report → IsInStepAfter ps number dir save old new report
+in_step_after ps number dir save old new report folder saved run =
+    let r = reached_of ps number dir save old run.text report folder saved run.following in
+    record {
+      count = r.count;
+      saved = record {
+        value = r.value;
+        saved = rw run.put.there (run.small, r.spelled);
+        number_is = r.value_is;
+        in_step = r.in_step;
+      };
+      far = r.far;
+      report_is = r.report_is;
+      others = run.put.others;
+    }
+
+-- a right file is no reason to stop
+pub not_faulty : (p : PublishedValue) (told : Option (List ℕ)) (place : ℕ) → IsAbsentOr told (IsFile O5c p) → IsThere told (λ bytes. IsFaulty forms.O5c bytes place) → ⊥
+not_faulty p None place a b = b
+not_faulty p (Some bytes) place a b = b.nothing p.changes a.1
+
+pub not_faulty_opl : (p : PublishedValue) (told : Option (List ℕ)) (place : ℕ) → IsAbsentOr told (IsFile Opl p) → IsThere told (λ bytes. IsFaulty forms.Opl bytes place) → ⊥
+not_faulty_opl p None place a b = b
+not_faulty_opl p (Some bytes) place a b = b.nothing p.changes a.1
+
+pub not_over : (p : PublishedValue) (s : Suffix) (told : Option (List ℕ)) → IsAbsentOr told (IsFile s p) → IsOver (limit_of s) told → ⊥
+not_over p s None a o = (let e = o.there in cc)
+not_over p State (Some bytes) a o =
+    let long = ap length (same_Some bytes o.bytes o.there) in
+    let over = o.over in
+    let small = a.small in
+    omega (arith, long, over, small)
+not_over p O5c (Some bytes) a o =
+    let long = ap length (same_Some bytes o.bytes o.there) in
+    let over = o.over in
+    let small = a.0 in
+    omega (arith, long, over, small)
+not_over p Opl (Some bytes) a o =
+    let long = ap length (same_Some bytes o.bytes o.there) in
+    let over = o.over in
+    let small = a.0 in
+    omega (arith, long, over, small)
+
+pub not_bad : NoFaultBesideState → (p : PublishedValue) (told : Option (List ℕ)) (cause : StateError) → IsAbsentOr told (IsFile State p) → IsBadState told cause → ⊥
+not_bad law p None cause a b = (let e = b.there in cc)
+not_bad law p (Some bytes) cause a b = law bytes _ cause a.names (rw (same_Some bytes b.bytes b.there) b.fault)
+
+pub not_other : (p : PublishedValue) (told : Option (List ℕ)) (number : ℕ) → p.number ≡ number → IsAbsentOr told (IsFile State p) → NamesOther told number → ⊥
+not_other p None number is a o = o.3
+not_other p (Some bytes) number is a o = o.2 (ap (λ (s : StateValue). s.sequence) (one_state bytes _ _ o.3.names a.names) ∙ is)

@@ -1,0 +1,300 @@
+-- A follower that goes on over a folder from what it saved. `known` says that it is known what the
+-- files hold.
+use Rattle.std.specs.Prelude.{◌≡◌, ◌≢◌, ℕ, zero, suc, ◌+◌, ◌-◌, ◌<◌, ◌≤◌, ◌⊎◌, ◌↔◌, List, []}
+use Rattle.std.specs.Prelude.{length, map, filter, min, Bool, true, false, ◌||◌, ◌&&◌, Option}
+use Rattle.std.specs.Prelude.{Some, None, is_none}
+use Rattle.osm_model.specs.Limits.{max_file}
+use Rattle.osm_mirror.specs.Mirror.{Applies, IsMirrorOf, no_mirror}
+use Rattle.osm_save.specs.Save.{SpellsSave}
+use Rattle.osm_save.specs.declared.save.Saved.{Saved}
+use Rattle.osm_state.specs.State.{StateValue}
+use Rattle.osm_state.specs.declared.paths.Suffix.{Suffix}
+use Rattle.osm_state.specs.declared.paths.Suffix.TheVariants.{O5c, Opl, State}
+use Rattle.osm_follow.specs.Published.{PublishedValue, changes_up_to, time_at}
+use Rattle.osm_follow.specs.Reach.{numbers}
+use Rattle.osm_folder.specs.Files.{Files, IsOver, Puts}
+use Rattle.osm_folder.specs.Folder.{IsFile, IsStateFile, IsThere, max_state}
+use Rattle.osm_folder.specs.Forms.{IsFaulty}
+use Rattle.osm_folder.specs.Names.{file_name_of, top_name_of}
+use Rattle.osm_folder.specs.Publication.{IsBadState}
+use Rattle.osm_folder.specs.Reports.{ReportValue, follow_report_of}
+use Rattle.osm_folder.specs.declared.fault.FileName.{FileName}
+use Rattle.osm_folder.specs.declared.fault.FileName.TheVariants.{Top, Sequence, Save}
+use Rattle.osm_folder.specs.declared.fault.RunFault.{RunFault}
+use Rattle.osm_folder.specs.declared.fault.RunFault.TheVariants.{WantOfMemory, ReadFault}
+use Rattle.osm_folder.specs.declared.fault.RunFault.TheVariants.{WriteFault, TooLarge, Absent}
+use Rattle.osm_folder.specs.declared.fault.RunFault.TheVariants.{BadState, Mismatch, BadChange}
+use Rattle.osm_folder.specs.declared.fault.RunFault.TheVariants.{BadSave, TopBehind}
+use Rattle.osm_folder.specs.declared.form.Form.TheVariants as forms
+
+-- the most bytes of a save: 1 GiB
+abbrev pub max_save : ℕ
+max_save = 1073741824
+
+-- what a follower goes on from if it saved nothing
+abbrev pub no_save : Saved
+no_save = record { number = 0; time = None; mirror = no_mirror }
+
+-- what a save holds; none is the start
+abbrev pub IsSaved : Option (List ℕ) → Saved → Type 0
+IsSaved None v = v ≡ no_save
+IsSaved (Some bytes) v = (length bytes ≤ max_save) × SpellsSave bytes v
+
+-- a number is lost if its state isn't there, or its changes in neither form
+abbrev pub is_lost : Files → List ℕ → ℕ → Bool
+is_lost files dir k =
+    is_none (files (file_name_of dir k State))
+    || (is_none (files (file_name_of dir k O5c)) && is_none (files (file_name_of dir k Opl)))
+
+-- the changes of a sequence: the o5c file, or if there is none, the OPL file
+abbrev pub AreChanges : Option (List ℕ) → Option (List ℕ) → PublishedValue → Type 0
+AreChanges (Some bytes) opl p = IsFile O5c p bytes
+AreChanges None opl p = IsThere opl (IsFile Opl p)
+
+-- the files of the sequence's number are there: its state and its changes
+pub record HasFiles (files : Files) (dir : List ℕ) (p : PublishedValue) : Type 0 where
+  pub state : IsThere (files (file_name_of dir p.number State)) (IsFile State p)
+  pub changes : AreChanges (files (file_name_of dir p.number O5c))
+      (files (file_name_of dir p.number Opl)) p
+
+-- a number is lost, or its files are there and right
+abbrev pub IsReadable : Files → List ℕ → ℕ → Type 0
+IsReadable files dir k =
+    (is_lost files dir k ≡ true) ⊎ ((p : PublishedValue) × (p.number ≡ k) × HasFiles files dir p)
+
+-- the next number's changes are applied
+pub record Adds (files : Files) (dir : List ℕ) (old new : Saved) : Type 0 where
+  pub next : PublishedValue
+  pub number_is : next.number ≡ old.number + 1
+  pub there : HasFiles files dir next
+  pub applied : Applies old.mirror next.changes new.mirror
+  pub number : new.number ≡ next.number
+  pub time : new.time ≡ Some next.time
+
+-- those of so many numbers are applied, one after the other
+abbrev pub AddsAll : Files → List ℕ → ℕ → Saved → Saved → Type 0
+AddsAll files dir zero old new = new ≡ old
+AddsAll files dir (suc count) old new =
+    (between : Saved) × AddsAll files dir count old between × Adds files dir between new
+
+-- the numbers n + 1 to n + count, each as a range of its own
+abbrev pub ranges : ℕ → ℕ → List (ℕ × ℕ)
+ranges n count = map (λ k. (k, k)) (numbers n count)
+
+-- the lost numbers after n, up to the smaller of n + 64 and top, rising
+abbrev pub lost_numbers : Files → List ℕ → ℕ → ℕ → List ℕ
+lost_numbers files dir n top = filter (is_lost files dir) (numbers n (min 64 (top - n)))
+
+-- what was reached from the start: the changes of so many numbers after it are applied, up to the
+-- top or to a number that is lost. Those after it, up to the top and within the window, are lost
+-- or right
+pub record GoesOn (files : Files) (dir : List ℕ) (start : Saved) (top count : ℕ) (reached : Saved) :
+    Type 0 where
+  pub added : AddsAll files dir count start reached
+  pub number : reached.number ≡ start.number + count
+  pub until : reached.number ≤ top
+  pub far : (reached.number ≡ top) ⊎ (is_lost files dir (reached.number + 1) ≡ true)
+  pub each : (k : ℕ) → reached.number < k → k ≤ top → k ≤ reached.number + 64
+      → IsReadable files dir k
+
+-- the save and the top state were read
+pub record IsStarted (dir save : List ℕ) (files : Files) (start : Saved) (top : StateValue) :
+    Type 0 where
+  pub saved : IsSaved (files save) start
+  pub top_is : IsThere (files (top_name_of dir)) (IsStateFile top.sequence top.time)
+
+-- what a run of the follower saves and prints
+pub record IsFollowing (dir save : List ℕ) (files : Files) (text : List ℕ) (report : ReportValue) :
+    Type 0 where
+  pub start : Saved
+  pub top : StateValue
+  pub started : IsStarted dir save files start top
+  pub count : ℕ
+  pub reached : Saved
+  pub goes_on : GoesOn files dir start top.sequence count reached
+  pub spelled : SpellsSave text reached
+  pub report_is : report ≡ follow_report_of (ranges start.number count)
+      (lost_numbers files dir reached.number top.sequence) reached.number
+
+-- the save holds what was reached, and no other name changes
+pub record IsFollowed (dir save : List ℕ) (old new : Files) (report : ReportValue) : Type 0 where
+  pub text : List ℕ
+  pub following : IsFollowing dir save old text report
+  pub small : length text ≤ max_save
+  pub put : Puts old save (Some text) new
+
+-- a report of a follower, whatever is known of the files: a number is missing exactly if the one
+-- that was reached is below the top
+pub record IsFollowReport (report : ReportValue) : Type 0 where
+  pub start : ℕ
+  pub count : ℕ
+  pub top : ℕ
+  pub missing : List ℕ
+  pub until : start + count ≤ top
+  pub report_is : report ≡ follow_report_of (ranges start count) missing (start + count)
+  pub gap : (missing ≡ []) ↔ (start + count ≡ top)
+
+-- a save can be read
+abbrev pub HasSave : List ℕ → Files → Type 0
+HasSave save files = (v : Saved) × IsSaved (files save) v
+
+-- the save isn't the text of anything
+pub record IsBadSave (told : Option (List ℕ)) : Type 0 where
+  pub bytes : List ℕ
+  pub there : told ≡ Some bytes
+  pub small : length bytes ≤ max_save
+  pub nothing : (v : Saved) → SpellsSave bytes v → ⊥
+
+-- the top state is below the save
+pub record IsTopBehind (dir save : List ℕ) (files : Files) : Type 0 where
+  pub start : Saved
+  pub top : StateValue
+  pub started : IsStarted dir save files start top
+  pub below : top.sequence < start.number
+
+-- why the save and the top state aren't gone on from: the save before the top state
+abbrev pub StartStops : Type 0 → List ℕ → List ℕ → Files → RunFault → Type 0
+StartStops known dir save files WantOfMemory = Unit {0}
+StartStops known dir save files (ReadFault Save) = Unit {0}
+StartStops known dir save files (TooLarge Save) = known → IsOver max_save (files save)
+StartStops known dir save files (BadSave line) = known → IsBadSave (files save)
+StartStops known dir save files (ReadFault Top) = known → HasSave save files
+StartStops known dir save files (Absent Top) =
+    known → HasSave save files × (files (top_name_of dir) ≡ None)
+StartStops known dir save files (TooLarge Top) =
+    known → HasSave save files × IsOver max_state (files (top_name_of dir))
+StartStops known dir save files (BadState Top cause) =
+    known → HasSave save files × IsBadState (files (top_name_of dir)) cause
+StartStops known dir save files TopBehind = known → IsTopBehind dir save files
+StartStops known dir save files fault = ⊥
+
+-- a number comes to be read: it is after the save's and at most the top's, those between are lost
+-- or right, and none is lost that is 64 or more below it
+pub record ComesTo (dir save : List ℕ) (files : Files) (number : ℕ) : Type 0 where
+  pub start : Saved
+  pub top : StateValue
+  pub started : IsStarted dir save files start top
+  pub above : start.number < number
+  pub until : number ≤ top.sequence
+  pub each : (k : ℕ) → start.number < k → k < number → IsReadable files dir k
+  pub window : (k : ℕ) → start.number < k → k + 64 ≤ number → is_lost files dir k ≡ false
+
+-- the state of a number is right
+abbrev pub HasState : Files → List ℕ → ℕ → Type 0
+HasState files dir number =
+    (time : ℕ) × IsThere (files (file_name_of dir number State)) (IsStateFile number time)
+
+-- what comes before a file of a number: its state is right, and its o5c file before its OPL file
+-- isn't there
+abbrev pub IsBefore : Files → List ℕ → ℕ → Suffix → Type 0
+IsBefore files dir number State = Unit {0}
+IsBefore files dir number O5c = HasState files dir number
+IsBefore files dir number Opl =
+    HasState files dir number × (files (file_name_of dir number O5c) ≡ None)
+
+-- the most bytes of a file
+abbrev pub limit_of : Suffix → ℕ
+limit_of State = max_state
+limit_of O5c = max_file
+limit_of Opl = max_file
+
+-- the state names another number
+abbrev pub NamesOther : Option (List ℕ) → ℕ → Type 0
+NamesOther told number =
+    (other time : ℕ) × (other ≢ number) × IsThere told (IsStateFile other time)
+
+-- why a number isn't taken: its files in their order, each only if those before it are right
+abbrev pub NumberStops : Type 0 → List ℕ → Files → ℕ → RunFault → Type 0
+NumberStops known dir files number WantOfMemory = Unit {0}
+NumberStops known dir files number (ReadFault (Sequence k suffix)) =
+    (k ≡ number) × (known → IsBefore files dir number suffix)
+NumberStops known dir files number (TooLarge (Sequence k suffix)) =
+    (k ≡ number) × (known → IsBefore files dir number suffix
+    × IsOver (limit_of suffix) (files (file_name_of dir number suffix)))
+NumberStops known dir files number (BadState (Sequence k State) cause) =
+    (k ≡ number) × (known → IsBadState (files (file_name_of dir number State)) cause)
+NumberStops known dir files number (Mismatch k) =
+    (k ≡ number) × (known → NamesOther (files (file_name_of dir number State)) number)
+NumberStops known dir files number (BadChange (Sequence k O5c) place why) =
+    (k ≡ number) × (known → IsBefore files dir number O5c
+    × IsThere (files (file_name_of dir number O5c)) (λ bytes. IsFaulty forms.O5c bytes place))
+NumberStops known dir files number (BadChange (Sequence k Opl) place why) =
+    (k ≡ number) × (known → IsBefore files dir number Opl
+    × IsThere (files (file_name_of dir number Opl)) (λ bytes. IsFaulty forms.Opl bytes place))
+NumberStops known dir files number fault = ⊥
+
+-- a number that comes to be read isn't taken
+pub record StopsAt (known : Type 0) (dir save : List ℕ) (files : Files) (fault : RunFault) :
+    Type 0 where
+  pub number : ℕ
+  pub comes : known → ComesTo dir save files number
+  pub stops : NumberStops known dir files number fault
+
+-- all was read, and this is the text to save
+abbrev pub HasText : List ℕ → List ℕ → Files → (List ℕ → Type 0) → Type 0
+HasText dir save files holds =
+    (text : List ℕ) × (report : ReportValue) × IsFollowing dir save files text report × holds text
+
+-- why what was reached isn't saved
+abbrev pub SaveStops : Type 0 → List ℕ → List ℕ → Files → RunFault → Type 0
+SaveStops known dir save files WantOfMemory = Unit {0}
+SaveStops known dir save files (TooLarge Save) =
+    known → HasText dir save files (λ text. max_save < length text)
+SaveStops known dir save files (WriteFault Save) =
+    known → HasText dir save files (λ text. length text ≤ max_save)
+SaveStops known dir save files fault = ⊥
+
+-- why a run of the follower stops: at the save or the top state, at a number, or at what it saves
+abbrev pub FollowStops : Type 0 → List ℕ → List ℕ → Files → RunFault → Type 0
+FollowStops known dir save files fault =
+    StartStops known dir save files fault ⊎ StopsAt known dir save files fault
+    ⊎ SaveStops known dir save files fault
+
+-- exactly the mirror, the counts and the time of published sequences 1 to the number
+pub record IsInStep (published : List PublishedValue) (v : Saved) : Type 0 where
+  pub within : v.number ≤ length published
+  pub mirror : IsMirrorOf (changes_up_to published v.number) v.mirror
+  pub time : v.time ≡ time_at published v.number
+
+-- the save is that of the published sequences 1 to that number; none is that of 0
+pub record IsSaveOf (published : List PublishedValue) (number : ℕ) (told : Option (List ℕ)) :
+    Type 0 where
+  pub value : Saved
+  pub saved : IsSaved told value
+  pub number_is : value.number ≡ number
+  pub in_step : IsInStep published value
+
+-- a follower in step with what was published went on from that number: it saved as many numbers
+-- more as it reports, and stopped at the last published one or before a lost one
+pub record IsInStepAfter (published : List PublishedValue) (number : ℕ) (dir save : List ℕ)
+    (old new : Files) (report : ReportValue) : Type 0 where
+  pub count : ℕ
+  pub saved : IsSaveOf published (number + count) (new save)
+  pub far : (number + count ≡ length published)
+      ⊎ (is_lost old dir (number + count + 1) ≡ true)
+  pub report_is : report ≡ follow_report_of (ranges number count)
+      (lost_numbers old dir (number + count) (length published)) (number + count)
+  pub others : (name : List ℕ) → (name ≡ save → ⊥) → new name ≡ old name
+
+-- a save of the published sequences passes 1 GiB: the one that is there, or the one that is to be
+-- written
+abbrev pub HasBigSave : List PublishedValue → Option (List ℕ) → Type 0
+HasBigSave published told =
+    IsOver max_save told
+    ⊎ ((v : Saved) × (text : List ℕ) × IsInStep published v × SpellsSave text v
+    × (max_save < length text))
+
+-- what a folder of published sequences and a save in step with them refuse to begin with: only that
+-- nothing was published yet
+abbrev pub StartRefuses : List PublishedValue → Option (List ℕ) → RunFault → Type 0
+StartRefuses published told WantOfMemory = Unit {0}
+StartRefuses published told (ReadFault file) = Unit {0}
+StartRefuses published told (Absent file) = (file ≡ Top) × (length published ≡ 0)
+StartRefuses published told (TooLarge file) = (file ≡ Save) × IsOver max_save told
+StartRefuses published told fault = ⊥
+
+-- what they refuse a run of the follower: never a file of their own
+abbrev pub FollowRefuses : List PublishedValue → Option (List ℕ) → RunFault → Type 0
+FollowRefuses published told (WriteFault file) = file ≡ Save
+FollowRefuses published told (TooLarge file) = (file ≡ Save) × HasBigSave published told
+FollowRefuses published told fault = StartRefuses published told fault

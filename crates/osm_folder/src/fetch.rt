@@ -1,0 +1,165 @@
+//! Reading the files of a sequence.
+
+ghost use Rattle.std.specs.Prelude.{◌≡◌, ℕ, ◌≤◌, true, IsTrue, IfErr, IfOk, IfNone, OnOk};
+ghost use Rattle.std.specs.Prelude.{MatchOption, length};
+ghost use Rattle.osm_model.specs.Limits.{max_sequence};
+ghost use Rattle.osm_folder.specs.Files.{IsWithin, Spends, Tells};
+ghost use Rattle.osm_folder.specs.Folder.{IsStateFile, max_state};
+ghost use Rattle.osm_folder.specs.Following.{HasState, NumberStops, is_lost, limit_of};
+ghost use Rattle.osm_folder.specs.Names.{file_name_of};
+ghost use Rattle.osm_folder.specs.Runs.{Blames};
+ghost use Rattle.osm_folder.specs.Steps.Following.{AreChangesRead, IsFetched, IsStateRead};
+ghost use Rattle.osm_folder.specs.Steps.Following.{StateTextStops};
+ghost use Rattle.osm_folder.specs.Steps.Reading.{FileStops};
+
+use crate::fault::{FileName, RunFault};
+use crate::files::{MAX_STATE, read_file};
+use crate::form::Form;
+use crate::names::file_name;
+use crate::store::Store;
+use osm_model::limits::MAX_FILE;
+use osm_state::paths::Suffix;
+use osm_state::state_text::state_read;
+use std::alloc::Global;
+
+// The state text of a sequence, and its changes in one of the two forms.
+#[derive(Drop)]
+pub(crate) struct Fetched {
+    pub(crate) state: Vec<u8>,
+    pub(crate) form: Form,
+    pub(crate) changes: Vec<u8>,
+}
+
+// The files of a number; None if it is lost. The OPL file is read only if there is no o5c file.
+pub(crate) fn fetch<S: Store>(
+    alloc: Global,
+    store: &mut S,
+    dir: &str,
+    number: u32,
+) -> Result<Option<Fetched>, RunFault>
+    requires { number ≤ max_sequence }
+    ensures fetched { IfOk result (λ o. MatchOption o
+        (IsTrue (S.tells store.old) → is_lost (S.told store.old) dir.now number ≡ true)
+        (λ a. IsFetched (IsTrue (S.tells store.old)) (S.told store.old) dir.now number
+        a.state.items a.form a.changes.items)) }
+    ensures stops { IfErr result
+        (NumberStops (IsTrue (S.tells store.old)) dir.now (S.told store.old) number) }
+    ensures device { IfErr result (Blames (S.failures store.old) (S.failures store.new)) }
+    ensures unchanged { S.told store.new ≡ S.told store.old }
+    ensures tells { S.tells store.new ≡ S.tells store.old }
+    ensures left_after { Spends 0 (S.left store.old) (S.left store.new) }
+    ensures kept { S.failures store.old ≤ S.failures store.new }
+{
+    let Some(state) = read_state(alloc, store, dir, number)? else {
+        return Ok(None);
+    };
+    let Some((form, changes)) = read_changes(alloc, store, dir, number)? else {
+        return Ok(None);
+    };
+    Ok(Some(Fetched {
+        state,
+        form,
+        changes,
+    }))
+}
+
+// The state text of a number, which names it.
+fn read_state<S: Store>(
+    alloc: Global,
+    store: &mut S,
+    dir: &str,
+    number: u32,
+) -> Result<Option<Vec<u8>>, RunFault>
+    requires { number ≤ max_sequence }
+    ensures read { IfOk result (IsStateRead (IsTrue (S.tells store.old))
+        (S.told store.old (file_name_of dir.now number Suffix.State)) number) }
+    ensures stops { IfErr result
+        (NumberStops (IsTrue (S.tells store.old)) dir.now (S.told store.old) number) }
+    ensures device { IfErr result (Blames (S.failures store.old) (S.failures store.new)) }
+    ensures unchanged { S.told store.new ≡ S.told store.old }
+    ensures tells { S.tells store.new ≡ S.tells store.old }
+    ensures left_after { Spends 0 (S.left store.old) (S.left store.new) }
+    ensures kept { S.failures store.old ≤ S.failures store.new }
+{
+    let Some(text) = read_numbered(alloc, store, dir, number, Suffix::State)? else {
+        return Ok(None);
+    };
+    check_state(text.as_slice(), number)?;
+    Ok(Some(text))
+}
+
+fn check_state(text: &[u8], number: u32) -> Result<(), RunFault>
+    requires { length text.now ≤ max_state }
+    ensures names { OnOk result ((time : ℕ) × IsStateFile number time text.now) }
+    ensures stops { IfErr result (StateTextStops text.now number) }
+{
+    match state_read(text) {
+        Ok(state) if state.sequence() == number => Ok(()),
+        Ok(_) => Err(RunFault::Mismatch(number)),
+        Err(cause) => Err(RunFault::BadState(FileName::Sequence(number, Suffix::State), cause)),
+    }
+}
+
+// The changes of a number, whose state is right: in o5c, or if there is no such file in OPL.
+fn read_changes<S: Store>(
+    alloc: Global,
+    store: &mut S,
+    dir: &str,
+    number: u32,
+) -> Result<Option<(Form, Vec<u8>)>, RunFault>
+    requires { number ≤ max_sequence }
+    ensures read { IfOk result (AreChangesRead (IsTrue (S.tells store.old))
+        (S.told store.old (file_name_of dir.now number Suffix.O5c))
+        (S.told store.old (file_name_of dir.now number Suffix.Opl))) }
+    ensures stops { IfErr result (λ fault.
+        (IsTrue (S.tells store.old) → HasState (S.told store.old) dir.now number)
+        → NumberStops (IsTrue (S.tells store.old)) dir.now (S.told store.old) number fault) }
+    ensures device { IfErr result (Blames (S.failures store.old) (S.failures store.new)) }
+    ensures unchanged { S.told store.new ≡ S.told store.old }
+    ensures tells { S.tells store.new ≡ S.tells store.old }
+    ensures left_after { Spends 0 (S.left store.old) (S.left store.new) }
+    ensures kept { S.failures store.old ≤ S.failures store.new }
+{
+    if let Some(bytes) = read_numbered(alloc, store, dir, number, Suffix::O5c)? {
+        return Ok(Some((Form::O5c, bytes)));
+    }
+    match read_numbered(alloc, store, dir, number, Suffix::Opl)? {
+        Some(bytes) => Ok(Some((Form::Opl, bytes))),
+        None => Ok(None),
+    }
+}
+
+// A file of a number, if it is there.
+fn read_numbered<S: Store>(
+    alloc: Global,
+    store: &mut S,
+    dir: &str,
+    number: u32,
+    suffix: Suffix,
+) -> Result<Option<Vec<u8>>, RunFault>
+    requires { number ≤ max_sequence }
+    ensures read { IfOk result (λ o. IsTrue (S.tells store.old)
+        → Tells o (S.told store.old (file_name_of dir.now number suffix))) }
+    ensures within { IfOk result (IsWithin (limit_of suffix)) }
+    ensures stops { IfErr result (FileStops (IsTrue (S.tells store.old))
+        (FileName.Sequence number suffix) (limit_of suffix)
+        (S.told store.old (file_name_of dir.now number suffix))) }
+    ensures device { IfErr result (Blames (S.failures store.old) (S.failures store.new)) }
+    ensures unchanged { S.told store.new ≡ S.told store.old }
+    ensures tells { S.tells store.new ≡ S.tells store.old }
+    ensures left_after { Spends 0 (S.left store.old) (S.left store.new) }
+    ensures kept { S.failures store.old ≤ S.failures store.new }
+{
+    let name = file_name(alloc, dir, number, suffix)?;
+    let file = FileName::Sequence(number, suffix);
+    read_file(alloc, store, file, name.as_str(), limit(suffix))
+}
+
+fn limit(suffix: Suffix) -> u64
+    ensures { result ≡ limit_of suffix }
+{
+    match suffix {
+        Suffix::State => MAX_STATE,
+        Suffix::O5c | Suffix::Opl => MAX_FILE as u64,
+    }
+}

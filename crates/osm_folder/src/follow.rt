@@ -1,0 +1,339 @@
+//! Following a folder from a save.
+
+ghost use Rattle.std.specs.Prelude.{◌≡◌, ℕ, ◌+◌, ◌<◌, ◌≤◌, ◌++◌, List, None, true, false};
+ghost use Rattle.std.specs.Prelude.{IsTrue, IfErr, IfOk, OnOk, OnErr, length};
+ghost use Rattle.osm_model.specs.Limits.{max_file, max_sequence};
+ghost use Rattle.osm_save.specs.Save.{SpellsSave};
+ghost use Rattle.osm_state.specs.State.{StateValue};
+ghost use Rattle.osm_follow.specs.Delivery.{IsTurn};
+ghost use Rattle.osm_follow.specs.Follower.{held_at, is_held};
+ghost use Rattle.osm_follow.specs.Published.{PublishedValue};
+ghost use Rattle.osm_follow.specs.Reach.{missing_numbers};
+ghost use Rattle.osm_follow.specs.Restart.{saved_of};
+ghost use Rattle.osm_folder.specs.Files.{Spends};
+ghost use Rattle.osm_folder.specs.Folder.{IsFolderOf};
+ghost use Rattle.osm_folder.specs.Following.{FollowRefuses, FollowStops, IsFollowed};
+ghost use Rattle.osm_folder.specs.Following.{IsFollowing};
+ghost use Rattle.osm_folder.specs.Following.{IsFollowReport, IsInStepAfter, IsSaveOf};
+ghost use Rattle.osm_folder.specs.Following.{NumberStops, max_save};
+ghost use Rattle.osm_folder.specs.Forms.{place_of, spells_of};
+ghost use Rattle.osm_folder.specs.Reports.{follow_report_of};
+ghost use Rattle.osm_folder.specs.Runs.{Blames};
+ghost use Rattle.osm_folder.specs.Steps.Following.{DeliverStops, IsDelivered, IsFresh};
+ghost use Rattle.osm_folder.specs.Steps.Following.{IsNoted, IsTaken, IsTakenUp, MadeStops};
+ghost use Rattle.osm_folder.specs.Steps.Following.{StopsOnTheWay, range_of, suffix_of};
+
+use crate::fault::{FileName, RunFault};
+use crate::fetch::{Fetched, fetch};
+use crate::files::write_file;
+use crate::form::Form;
+use crate::report::{Report, follow_report};
+use crate::start::{MAX_SAVE, read_start};
+use crate::store::Store;
+use osm_follow::delivery::{DeliverError, Delivered};
+use osm_follow::follower::Follower;
+use osm_follow::view::ViewError;
+use osm_model::form::{ChangeForm, FormError};
+use osm_model::memory::WantOfMemory;
+use osm_o5c::o5c::O5c;
+use osm_opl::opl::Opl;
+use osm_state::laws::laws_of_state;
+use osm_state::paths::Suffix;
+use osm_state::state::State;
+use std::alloc::Global;
+
+// The numbers after a follower's that it may hold.
+const WINDOW: u32 = 64;
+
+// What a run saves and prints.
+#[derive(Drop)]
+struct Following {
+    text: Vec<u8>,
+    report: Report,
+}
+
+/// Goes on from a save, or from the start if there is none, as far as the folder's files are there,
+/// and writes the save. A number whose state isn't there, or whose changes aren't there in either
+/// form, is lost; numbers after it are read up to the end of the follower's window, but not saved.
+/// A refusal leaves all files as they were.
+pub fn follow_run<S: Store>(
+    alloc: Global,
+    store: &mut S,
+    dir: &str,
+    save: &str,
+) -> Result<Report, RunFault>
+    ensures followed { IfOk result (λ report. IsTrue (S.tells store.old)
+        → IsFollowed dir.now save.now (S.told store.old) (S.told store.new) report) }
+    ensures in_step { IfOk result (λ report. IsTrue (S.tells store.old)
+        → (published : List PublishedValue) (number : ℕ)
+        → IsFolderOf published (S.told store.old) dir.now
+        → IsSaveOf published number (S.told store.old save.now)
+        → IsInStepAfter published number dir.now save.now
+        (S.told store.old) (S.told store.new) report) }
+    ensures report { IfOk result IsFollowReport }
+    ensures stops { IfErr result (FollowStops (IsTrue (S.tells store.old))
+        dir.now save.now (S.told store.old)) }
+    ensures refuses { IfErr result (λ fault. IsTrue (S.tells store.old)
+        → (published : List PublishedValue) (number : ℕ)
+        → IsFolderOf published (S.told store.old) dir.now
+        → IsSaveOf published number (S.told store.old save.now)
+        → FollowRefuses published (S.told store.old save.now) fault) }
+    ensures device { IfErr result (Blames (S.failures store.old) (S.failures store.new)) }
+    ensures unchanged { OnErr result (S.told store.new ≡ S.told store.old) }
+    ensures tells { S.tells store.new ≡ S.tells store.old }
+    ensures left { OnOk result (Spends 3 (S.left store.old) (S.left store.new)) }
+    ensures left_after { Spends 0 (S.left store.old) (S.left store.new) }
+    ensures kept { S.failures store.old ≤ S.failures store.new }
+{
+    laws_of_state();
+    let made = prepare(alloc, store, dir, save)?;
+    write_file(alloc, store, FileName::Save, save, made.text.as_slice())?;
+    Ok(made.report)
+}
+
+// Reads and makes all that a run needs.
+fn prepare<S: Store>(
+    alloc: Global,
+    store: &mut S,
+    dir: &str,
+    save: &str,
+) -> Result<Following, RunFault>
+    ensures made { IfOk result (λ a. IsTrue (S.tells store.old)
+        → IsFollowing dir.now save.now (S.told store.old) a.text.items a.report) }
+    ensures small { IfOk result (λ a. length a.text.items ≤ max_save) }
+    ensures report { IfOk result (λ a. IsFollowReport a.report) }
+    ensures stops { IfErr result (FollowStops (IsTrue (S.tells store.old))
+        dir.now save.now (S.told store.old)) }
+    ensures device { IfErr result (Blames (S.failures store.old) (S.failures store.new)) }
+    ensures unchanged { S.told store.new ≡ S.told store.old }
+    ensures tells { S.tells store.new ≡ S.tells store.old }
+    ensures left { OnOk result (Spends 2 (S.left store.old) (S.left store.new)) }
+    ensures left_after { Spends 0 (S.left store.old) (S.left store.new) }
+    ensures kept { S.failures store.old ≤ S.failures store.new }
+{
+    let mut start = read_start(alloc, store, dir, save)?;
+    if start.top.sequence() < number_of(&start.follower) {
+        return Err(RunFault::TopBehind);
+    }
+    let applied = take_up(alloc, store, dir, start.top.sequence(), &mut start.follower)?;
+    make(alloc, &start.follower, &start.top, applied.as_slice())
+}
+
+// The numbers after the follower's, up to the top or to the end of its window, and what was
+// reported of them.
+fn take_up<S: Store>(
+    alloc: Global,
+    store: &mut S,
+    dir: &str,
+    top: u32,
+    follower: &mut Follower,
+) -> Result<Vec<(u32, u32)>, RunFault>
+    requires fresh { IsFresh follower.old }
+    requires from { follower.old.number ≤ top }
+    requires most { top ≤ max_sequence }
+    ensures taken { IfOk result (λ applied. IsTakenUp (IsTrue (S.tells store.old))
+        (S.told store.old) dir.now follower.old top follower.new applied.items) }
+    ensures stops { IfErr result (StopsOnTheWay (IsTrue (S.tells store.old))
+        dir.now (S.told store.old) follower.old.number top) }
+    ensures device { IfErr result (Blames (S.failures store.old) (S.failures store.new)) }
+    ensures unchanged { S.told store.new ≡ S.told store.old }
+    ensures tells { S.tells store.new ≡ S.tells store.old }
+    ensures left_after { Spends 0 (S.left store.old) (S.left store.new) }
+    ensures kept { S.failures store.old ≤ S.failures store.new }
+{
+    let mut applied = Vec::new(alloc);
+    for before in number_of(follower)..top {
+        if before >= number_of(follower) + WINDOW {
+            return Ok(applied);
+        }
+        match take(alloc, store, dir, before + 1, follower, &mut applied) {
+            Ok(()) => {}
+            Err(fault) => return Err(fault),
+        }
+    }
+    Ok(applied)
+}
+
+// Takes a number's files, unless it is lost, and adds the range that was applied.
+fn take<S: Store>(
+    alloc: Global,
+    store: &mut S,
+    dir: &str,
+    number: u32,
+    follower: &mut Follower,
+    applied: &mut Vec<(u32, u32)>,
+) -> Result<(), RunFault>
+    requires whole { follower.old.is_broken ≡ false }
+    requires above { follower.old.number < number }
+    requires within { number ≤ follower.old.number + 64 }
+    requires fresh { held_at follower.old number ≡ None }
+    requires most { number ≤ max_sequence }
+    ensures taken { OnOk result (IsNoted (IsTrue (S.tells store.old)) (S.told store.old)
+        dir.now number follower.old follower.new applied.old.items applied.new.items) }
+    ensures stops { IfErr result
+        (NumberStops (IsTrue (S.tells store.old)) dir.now (S.told store.old) number) }
+    ensures device { IfErr result (Blames (S.failures store.old) (S.failures store.new)) }
+    ensures unchanged { S.told store.new ≡ S.told store.old }
+    ensures tells { S.tells store.new ≡ S.tells store.old }
+    ensures left_after { Spends 0 (S.left store.old) (S.left store.new) }
+    ensures kept { S.failures store.old ≤ S.failures store.new }
+{
+    let taken = deliver_number(alloc, store, dir, number, follower)?;
+    note(taken, applied)?;
+    Ok(())
+}
+
+fn note(taken: Option<Delivered>, applied: &mut Vec<(u32, u32)>) -> Result<(), WantOfMemory>
+    ensures { OnOk result (applied.new.items ≡ applied.old.items ++ range_of taken) }
+{
+    if let Some(Delivered::Applied { low, high }) = taken {
+        applied.push((low, high))?;
+    }
+    Ok(())
+}
+
+// Delivers a number's files; None if it is lost.
+fn deliver_number<S: Store>(
+    alloc: Global,
+    store: &mut S,
+    dir: &str,
+    number: u32,
+    follower: &mut Follower,
+) -> Result<Option<Delivered>, RunFault>
+    requires whole { follower.old.is_broken ≡ false }
+    requires above { follower.old.number < number }
+    requires within { number ≤ follower.old.number + 64 }
+    requires fresh { held_at follower.old number ≡ None }
+    requires most { number ≤ max_sequence }
+    ensures taken { IfOk result (λ o. IsTaken (IsTrue (S.tells store.old)) (S.told store.old)
+        dir.now number follower.old o follower.new) }
+    ensures stops { IfErr result
+        (NumberStops (IsTrue (S.tells store.old)) dir.now (S.told store.old) number) }
+    ensures device { IfErr result (Blames (S.failures store.old) (S.failures store.new)) }
+    ensures unchanged { S.told store.new ≡ S.told store.old }
+    ensures tells { S.tells store.new ≡ S.tells store.old }
+    ensures left_after { Spends 0 (S.left store.old) (S.left store.new) }
+    ensures kept { S.failures store.old ≤ S.failures store.new }
+{
+    let Some(fetched) = fetch(alloc, store, dir, number)? else {
+        return Ok(None);
+    };
+    let delivered = deliver_fetched(alloc, number, &fetched, follower)?;
+    Ok(Some(delivered))
+}
+
+fn deliver_fetched(
+    alloc: Global,
+    number: u32,
+    fetched: &Fetched,
+    follower: &mut Follower,
+) -> Result<Delivered, RunFault>
+    requires turn { (time : ℕ) × IsTurn follower.old fetched.now.state.items
+        (record { sequence = number; time = time }) }
+    requires small { length fetched.now.changes.items ≤ max_file }
+    ensures delivered { IfOk result (λ answer. IsDelivered
+        (spells_of fetched.now.form) (place_of fetched.now.form) follower.old
+        fetched.now.state.items fetched.now.changes.items answer follower.new) }
+    ensures stops { IfErr result (DeliverStops
+        (spells_of fetched.now.form) (place_of fetched.now.form) fetched.now.changes.items
+        (FileName.Sequence number (suffix_of fetched.now.form))) }
+{
+    let (state, bytes) = (fetched.state.as_slice(), fetched.changes.as_slice());
+    match fetched.form {
+        Form::O5c => {
+            let file = FileName::Sequence(number, Suffix::O5c);
+            deliver::<O5c>(alloc, file, state, bytes, follower)
+        }
+        Form::Opl => {
+            let file = FileName::Sequence(number, Suffix::Opl);
+            deliver::<Opl>(alloc, file, state, bytes, follower)
+        }
+    }
+}
+
+fn deliver<F: ChangeForm>(
+    alloc: Global,
+    file: FileName,
+    state: &[u8],
+    bytes: &[u8],
+    follower: &mut Follower,
+) -> Result<Delivered, RunFault>
+    requires turn { (s : StateValue) × IsTurn follower.old state.now s }
+    requires small { length bytes.now ≤ max_file }
+    ensures delivered { IfOk result (λ answer. IsDelivered F.spells F.fault_place
+        follower.old state.now bytes.now answer follower.new) }
+    ensures stops { IfErr result (DeliverStops F.spells F.fault_place bytes.now file) }
+{
+    laws_of_state();
+    match follower.deliver::<F>(alloc, state, bytes) {
+        Ok(Delivered::Old | Delivered::Again) => unreachable!(),
+        Ok(answer) => Ok(answer),
+        Err(DeliverError::WantOfMemory | DeliverError::Broke) => Err(RunFault::WantOfMemory),
+        Err(DeliverError::BadChange(FormError::Fault { place, why })) => {
+            Err(RunFault::BadChange(file, place, why))
+        }
+        Err(DeliverError::BadChange(FormError::TooLarge)) => unreachable!(),
+        Err(DeliverError::BadChange(FormError::WantOfMemory)) => unreachable!(),
+        Err(DeliverError::Broken) => unreachable!(),
+        Err(DeliverError::BadState(_)) => unreachable!(),
+        Err(DeliverError::BadSequence) => unreachable!(),
+        Err(DeliverError::TooEarly) => unreachable!(),
+    }
+}
+
+// What is saved and printed of a follower that took all it could up to the top.
+fn make(
+    alloc: Global,
+    follower: &Follower,
+    top: &State,
+    applied: &[(u32, u32)],
+) -> Result<Following, RunFault>
+    requires whole { follower.now.is_broken ≡ false }
+    ensures spelled { IfOk result (λ a. SpellsSave a.text.items (saved_of follower.now)) }
+    ensures small { IfOk result (λ a. length a.text.items ≤ max_save) }
+    ensures report { IfOk result (λ a. a.report ≡ follow_report_of applied.now
+        (missing_numbers (is_held follower.now) follower.now.number top.now.sequence)
+        follower.now.number) }
+    ensures stops { IfErr result (MadeStops follower.now) }
+{
+    let missing = missing(alloc, follower, top)?;
+    let report = follow_report(alloc, applied, missing.as_slice(), number_of(follower))?;
+    let text = save(alloc, follower)?;
+    Ok(Following { text, report })
+}
+
+fn missing(alloc: Global, follower: &Follower, top: &State) -> Result<Vec<u32>, WantOfMemory>
+    requires { follower.now.is_broken ≡ false }
+    ensures { IfOk result (λ missing. missing.items
+        ≡ missing_numbers (is_held follower.now) follower.now.number top.now.sequence) }
+{
+    match follower.missing(alloc, top) {
+        Ok(missing) => Ok(missing),
+        Err(ViewError::WantOfMemory) => Err(WantOfMemory),
+        Err(ViewError::Broken) => unreachable!(),
+    }
+}
+
+fn save(alloc: Global, follower: &Follower) -> Result<Vec<u8>, RunFault>
+    requires { follower.now.is_broken ≡ false }
+    ensures spelled { IfOk result (λ text. SpellsSave text.items (saved_of follower.now)) }
+    ensures small { IfOk result (λ text. length text.items ≤ max_save) }
+    ensures stops { IfErr result (MadeStops follower.now) }
+{
+    match follower.save(alloc) {
+        Ok(text) if text.len() as u64 <= MAX_SAVE => Ok(text),
+        Ok(_) => Err(RunFault::TooLarge(FileName::Save)),
+        Err(ViewError::WantOfMemory) => Err(RunFault::WantOfMemory),
+        Err(ViewError::Broken) => unreachable!(),
+    }
+}
+
+fn number_of(follower: &Follower) -> u32
+    requires { follower.now.is_broken ≡ false }
+    ensures { result ≡ follower.now.number }
+{
+    match follower.number() {
+        Ok(number) => number,
+        Err(_) => unreachable!(),
+    }
+}

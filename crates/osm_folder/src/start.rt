@@ -1,0 +1,128 @@
+//! What a follower's run begins with: its save and the folder's newest state.
+
+ghost use Rattle.std.specs.Prelude.{◌≡◌, ◌≤◌, IsTrue, IfErr, IfOk, OnOk, length};
+ghost use Rattle.osm_save.specs.Save.{SpellsSave};
+ghost use Rattle.osm_follow.specs.Restart.{follower_of, saved_of};
+ghost use Rattle.osm_folder.specs.Files.{Spends};
+ghost use Rattle.osm_folder.specs.Folder.{IsStateFile, IsThere, max_state};
+ghost use Rattle.osm_folder.specs.Following.{IsSaved, IsStarted, StartStops, no_save};
+ghost use Rattle.osm_folder.specs.Names.{top_name_of};
+ghost use Rattle.osm_folder.specs.Runs.{Blames};
+ghost use Rattle.osm_folder.specs.Steps.Following.{FollowerStops, IsFresh, RestartStops};
+ghost use Rattle.osm_folder.specs.Steps.Following.{TopStateStops, TopTextStops};
+
+use crate::fault::{FileName, RunFault};
+use crate::files::{MAX_STATE, read_file, read_present};
+use crate::names::top_name;
+use crate::store::Store;
+use osm_follow::follower::Follower;
+use osm_follow::restart::RestartError;
+use osm_state::state::State;
+use osm_state::state_text::state_read;
+use std::alloc::Global;
+
+// The most bytes of a save: 1 GiB.
+pub(crate) const MAX_SAVE: u64 = 1_073_741_824;
+
+// A follower that goes on from its save, and the folder's newest state.
+#[derive(Drop)]
+pub(crate) struct Start {
+    pub(crate) follower: Follower,
+    pub(crate) top: State,
+}
+
+pub(crate) fn read_start<S: Store>(
+    alloc: Global,
+    store: &mut S,
+    dir: &str,
+    save: &str,
+) -> Result<Start, RunFault>
+    ensures started { IfOk result (λ a. IsTrue (S.tells store.old)
+        → IsStarted dir.now save.now (S.told store.old) (saved_of a.follower) a.top) }
+    ensures fresh { IfOk result (λ a. IsFresh a.follower) }
+    ensures stops { IfErr result (StartStops (IsTrue (S.tells store.old))
+        dir.now save.now (S.told store.old)) }
+    ensures device { IfErr result (Blames (S.failures store.old) (S.failures store.new)) }
+    ensures unchanged { S.told store.new ≡ S.told store.old }
+    ensures tells { S.tells store.new ≡ S.tells store.old }
+    ensures left { OnOk result (Spends 2 (S.left store.old) (S.left store.new)) }
+    ensures left_after { Spends 0 (S.left store.old) (S.left store.new) }
+    ensures kept { S.failures store.old ≤ S.failures store.new }
+{
+    let follower = read_follower(alloc, store, save)?;
+    let top = read_top(alloc, store, dir)?;
+    Ok(Start { follower, top })
+}
+
+// The follower that goes on from a save, or from the start if there is none.
+fn read_follower<S: Store>(alloc: Global, store: &mut S, save: &str) -> Result<Follower, RunFault>
+    ensures saved { IfOk result (λ f. IsTrue (S.tells store.old)
+        → IsSaved (S.told store.old save.now) (saved_of f)) }
+    ensures fresh { IfOk result IsFresh }
+    ensures stops { IfErr result
+        (FollowerStops (IsTrue (S.tells store.old)) (S.told store.old save.now)) }
+    ensures device { IfErr result (Blames (S.failures store.old) (S.failures store.new)) }
+    ensures unchanged { S.told store.new ≡ S.told store.old }
+    ensures tells { S.tells store.new ≡ S.tells store.old }
+    ensures left { OnOk result (Spends 1 (S.left store.old) (S.left store.new)) }
+    ensures left_after { Spends 0 (S.left store.old) (S.left store.new) }
+    ensures kept { S.failures store.old ≤ S.failures store.new }
+{
+    match read_file(alloc, store, FileName::Save, save, MAX_SAVE) {
+        Ok(Some(text)) => restart(alloc, text.as_slice()),
+        Ok(None) => new_follower(alloc),
+        Err(fault) => Err(fault),
+    }
+}
+
+fn new_follower(alloc: Global) -> Result<Follower, RunFault>
+    ensures new { IfOk result (λ f. f ≡ follower_of no_save) }
+    ensures stops { IfErr result (λ fault. fault ≡ RunFault.WantOfMemory) }
+{
+    Ok(Follower::new(alloc)?)
+}
+
+// The follower that goes on from a save text.
+pub(crate) fn restart(alloc: Global, text: &[u8]) -> Result<Follower, RunFault>
+    ensures spelled { IfOk result (λ f. SpellsSave text.now (saved_of f)) }
+    ensures fresh { IfOk result IsFresh }
+    ensures stops { IfErr result (RestartStops text.now) }
+{
+    let mut follower = Follower::new(alloc)?;
+    match follower.restart(alloc, Some(text)) {
+        Ok(()) => Ok(follower),
+        Err(RestartError::BadSave { line }) => Err(RunFault::BadSave(line)),
+        Err(RestartError::WantOfMemory) => Err(RunFault::WantOfMemory),
+    }
+}
+
+// The newest state of a folder.
+fn read_top<S: Store>(alloc: Global, store: &mut S, dir: &str) -> Result<State, RunFault>
+    ensures top { IfOk result (λ s. IsTrue (S.tells store.old)
+        → IsThere (S.told store.old (top_name_of dir.now)) (IsStateFile s.sequence s.time)) }
+    ensures stops { IfErr result
+        (TopStateStops (IsTrue (S.tells store.old)) (S.told store.old (top_name_of dir.now))) }
+    ensures device { IfErr result (Blames (S.failures store.old) (S.failures store.new)) }
+    ensures unchanged { S.told store.new ≡ S.told store.old }
+    ensures tells { S.tells store.new ≡ S.tells store.old }
+    ensures left { OnOk result (Spends 1 (S.left store.old) (S.left store.new)) }
+    ensures left_after { Spends 0 (S.left store.old) (S.left store.new) }
+    ensures kept { S.failures store.old ≤ S.failures store.new }
+{
+    let name = top_name(alloc, dir)?;
+    match read_present(alloc, store, FileName::Top, name.as_str(), MAX_STATE) {
+        Ok(text) => top_state(text.as_slice()),
+        Err(fault) => Err(fault),
+    }
+}
+
+fn top_state(text: &[u8]) -> Result<State, RunFault>
+    requires { length text.now ≤ max_state }
+    ensures named { IfOk result (λ s. IsStateFile s.sequence s.time text.now) }
+    ensures stops { IfErr result (TopTextStops text.now) }
+{
+    match state_read(text) {
+        Ok(state) => Ok(state),
+        Err(cause) => Err(RunFault::BadState(FileName::Top, cause)),
+    }
+}
