@@ -1,0 +1,5 @@
+//! Tests of the store over the disk: osm_disk.
+#![tactic(auto)]
+
+#[cfg(test)]
+mod tests;

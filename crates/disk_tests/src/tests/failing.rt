@@ -1,0 +1,167 @@
+//! The files of the disk with one call failing.
+
+use std::alloc::{AllocError, AllocFailed, Global};
+use std::cell::Cell;
+use std::fs::{Files, Metadata, OpenFile, OpenOptions};
+use std::io::{self, ErrorKind, Read, Seek, SeekFrom, Write};
+use std::path::PathBuf;
+use std::rc::Rc;
+
+/// Counts calls down, and fails the one at which none is left.
+#[derive(Drop)]
+pub struct Countdown {
+    left: Rc<Cell<u64>>,
+}
+
+impl Countdown {
+    /// So many calls go through before the one that fails.
+    pub fn new(alloc: Global, calls: u64) -> Result<Countdown, AllocFailed<Cell<u64>>> {
+        let left = Rc::new(alloc, Cell::new(calls))?;
+        Ok(Countdown { left })
+    }
+
+    fn spend(&self) -> io::Result<()> {
+        let left = self.left.get();
+        self.left.set(left.wrapping_sub(1));
+        if left == 0 {
+            return Err(ErrorKind::Other.into());
+        }
+        Ok(())
+    }
+
+    fn share(&self) -> Result<Countdown, AllocError> {
+        let left = self.left.clone()?;
+        Ok(Countdown { left })
+    }
+}
+
+/// Files whose calls count down, those on open files too.
+#[derive(Drop)]
+pub struct Failing<R: Files> {
+    files: R,
+    countdown: Countdown,
+}
+
+impl<R: Files> Failing<R> {
+    pub fn new(files: R, countdown: Countdown) -> Failing<R> {
+        Failing { files, countdown }
+    }
+}
+
+/// An open file of those. It takes and gives at most three bytes at once.
+#[derive(Drop)]
+pub struct FailingFile<F: Drop> {
+    file: F,
+    countdown: Countdown,
+}
+
+impl<R: Files> Files for Failing<R> {
+    type File = FailingFile<R::File>;
+
+    type Dir = R::Dir;
+
+    fn open_file(&self, how: &OpenOptions, path: &str) -> io::Result<FailingFile<R::File>> {
+        self.countdown.spend()?;
+        let countdown = self.countdown.share()?;
+        let file = self.files.open_file(how, path)?;
+        Ok(FailingFile { file, countdown })
+    }
+
+    fn open_dir(&self, path: &str) -> io::Result<R::Dir> {
+        self.countdown.spend()?;
+        self.files.open_dir(path)
+    }
+
+    fn metadata(&self, path: &str) -> io::Result<Metadata> {
+        self.countdown.spend()?;
+        self.files.metadata(path)
+    }
+
+    fn symlink_metadata(&self, path: &str) -> io::Result<Metadata> {
+        self.countdown.spend()?;
+        self.files.symlink_metadata(path)
+    }
+
+    fn copy(&self, from: &str, to: &str) -> io::Result<u64> {
+        self.countdown.spend()?;
+        self.files.copy(from, to)
+    }
+
+    fn rename(&self, from: &str, to: &str) -> io::Result<()> {
+        self.countdown.spend()?;
+        self.files.rename(from, to)
+    }
+
+    fn remove_file(&self, path: &str) -> io::Result<()> {
+        self.countdown.spend()?;
+        self.files.remove_file(path)
+    }
+
+    fn create_dir(&self, path: &str) -> io::Result<()> {
+        self.countdown.spend()?;
+        self.files.create_dir(path)
+    }
+
+    fn remove_dir(&self, path: &str) -> io::Result<()> {
+        self.countdown.spend()?;
+        self.files.remove_dir(path)
+    }
+
+    fn remove_dir_all<B: std::alloc::Allocator>(&self, alloc: B, path: &str) -> io::Result<()> {
+        self.countdown.spend()?;
+        self.files.remove_dir_all(alloc, path)
+    }
+
+    fn read_link<B: std::alloc::Allocator>(&self, alloc: B, path: &str) -> io::Result<PathBuf<B>> {
+        self.countdown.spend()?;
+        self.files.read_link(alloc, path)
+    }
+}
+
+impl<F: Read + Drop> Read for FailingFile<F> {
+    fn read(&mut self, buf: &mut [u8]) -> io::Result<usize> {
+        self.countdown.spend()?;
+        let most = buf.len().min(3);
+        self.file.read(&mut buf[..most])
+    }
+}
+
+impl<F: Write + Drop> Write for FailingFile<F> {
+    fn write(&mut self, buf: &[u8]) -> io::Result<usize> {
+        self.countdown.spend()?;
+        let most = buf.len().min(3);
+        self.file.write(&buf[..most])
+    }
+
+    fn flush(&mut self) -> io::Result<()> {
+        self.file.flush()
+    }
+}
+
+impl<F: Seek + Drop> Seek for FailingFile<F> {
+    fn seek(&mut self, to: SeekFrom) -> io::Result<u64> {
+        self.file.seek(to)
+    }
+}
+
+impl<F: OpenFile + Drop> OpenFile for FailingFile<F> {
+    fn metadata(&self) -> io::Result<Metadata> {
+        self.countdown.spend()?;
+        self.file.metadata()
+    }
+
+    fn set_len(&self, size: u64) -> io::Result<()> {
+        self.countdown.spend()?;
+        self.file.set_len(size)
+    }
+
+    fn sync_all(&self) -> io::Result<()> {
+        self.countdown.spend()?;
+        self.file.sync_all()
+    }
+
+    fn sync_data(&self) -> io::Result<()> {
+        self.countdown.spend()?;
+        self.file.sync_data()
+    }
+}

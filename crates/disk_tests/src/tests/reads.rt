@@ -1,0 +1,78 @@
+//! Tests of reads: what is absent, too large or fails.
+
+use super::failing::{Countdown, Failing};
+use super::scratch::scratch;
+use osm_disk::disk_store::DiskStore;
+use osm_folder::store::{Store, StoreError};
+use std::alloc::Global;
+use std::fs::{self, Files};
+use std::process;
+use std::test::Fail;
+
+// Whether a file is read so, if at most so many bytes are asked for, with so many failures.
+fn is_read<R: Files>(
+    alloc: Global,
+    store: &mut DiskStore<R>,
+    (path, limit): (&str, u64),
+    expected: Result<Option<&[u8]>, StoreError>,
+) -> bool {
+    let failures = store.failures();
+    let answer = store.read(alloc, path, limit);
+    let is_counted = store.failures() - failures == u64::from(expected == Err(StoreError::Device));
+    let is_expected = match answer {
+        Ok(Some(bytes)) => expected == Ok(Some(bytes.as_slice())),
+        Ok(None) => expected == Ok(None),
+        Err(error) => expected == Err(error),
+    };
+    is_counted && is_expected
+}
+
+#[test]
+fn a_file_is_read_whole_or_refused(rt: HostRuntime) -> Result<(), Fail> {
+    let alloc = rt.alloc();
+    let folder = scratch(alloc, &rt, process::id(rt.process()), "reads")?;
+    let path = format!(in alloc; "{folder}save")?;
+    let below = format!(in alloc; "{folder}save/below")?;
+    let absent = format!(in alloc; "{folder}absent/save")?;
+    fs::write(&rt, path.as_str(), "old")?;
+    let mut store = DiskStore::new(rt.clone()?, 7);
+    for (place, expected) in [
+        ((path.as_str(), 3), Ok(Some(b"old".as_slice()))),
+        ((path.as_str(), 2), Err(StoreError::TooLarge)),
+        ((path.as_str(), 0), Err(StoreError::TooLarge)),
+        ((path.as_str(), u64::MAX), Ok(Some(b"old".as_slice()))),
+        ((absent.as_str(), 3), Ok(None)),
+        ((below.as_str(), 3), Err(StoreError::Device)),
+        ((folder.as_str(), 3), Err(StoreError::Device)),
+        (("/dev/zero", 100_000), Err(StoreError::TooLarge)),
+    ] {
+        assert!(rt; is_read(alloc, &mut store, place, expected), "{place:?}");
+    }
+    Ok(())
+}
+
+// Whether a read with one call failing after so many fails because of the device.
+fn fails<R: Files + Clone + Drop>(
+    alloc: Global,
+    files: &R,
+    calls: u64,
+    path: &str,
+) -> Result<bool, Fail> {
+    let failing = Failing::new(files.clone()?, Countdown::new(alloc, calls)?);
+    let mut store = DiskStore::new(failing, 7);
+    Ok(is_read(alloc, &mut store, (path, 9), Err(StoreError::Device)))
+}
+
+#[test]
+fn a_read_with_each_call_failing_is_refused(rt: HostRuntime) -> Result<(), Fail> {
+    let alloc = rt.alloc();
+    let folder = scratch(alloc, &rt, process::id(rt.process()), "read")?;
+    let path = format!(in alloc; "{folder}save")?;
+    fs::write(&rt, path.as_str(), "older")?;
+    // The opening, two reads of bytes, and the one that finds the end.
+    for calls in 0..4 {
+        assert!(rt; fails(alloc, &rt, calls, path.as_str())?, "{calls}");
+    }
+    assert!(rt; !fails(alloc, &rt, 4, path.as_str())?);
+    Ok(())
+}

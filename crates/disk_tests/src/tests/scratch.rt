@@ -1,0 +1,31 @@
+//! A folder for one test.
+
+use std::alloc::Global;
+use std::fs::{self, Files};
+use std::test::Fail;
+
+/// A new and empty folder of that name: `/tmp/osm_disk-PROCESS-NAME/`.
+pub fn scratch<R: Files>(
+    alloc: Global,
+    files: &R,
+    process: u32,
+    name: &str,
+) -> Result<String, Fail> {
+    let folder = format!(in alloc; "/tmp/osm_disk-{process}-{name}/")?;
+    let _ = files.remove_dir_all(alloc, folder.as_str());
+    files.create_dir(folder.as_str())?;
+    Ok(folder)
+}
+
+/// Whether a file has those bytes.
+pub fn holds<R: Files + AllocGlobal>(rt: &R, path: &str, bytes: &[u8]) -> bool {
+    match fs::read(rt, path) {
+        Ok(found) => found.as_slice() == bytes,
+        Err(_) => false,
+    }
+}
+
+/// Whether nothing is at that path.
+pub fn is_absent<R: Files>(files: &R, path: &str) -> bool {
+    files.symlink_metadata(path).is_err()
+}

@@ -1,0 +1,15 @@
+-- How failures are counted.
+use Rattle.std.specs.Prelude.{◌≡◌, ℕ, ◌+◌, min}
+use Rattle.osm_disk.specs.declared.disk_store.DiskStore.{DiskStore}
+use Rattle.osm_folder.specs.declared.store.StoreError.{StoreError}
+use Rattle.osm_folder.specs.declared.store.StoreError.TheVariants.{Device}
+
+-- the count of a store's failures
+abbrev pub failures_of : {R F D : Type 0} → DiskStore R F D → ℕ
+failures_of store = store.failures
+
+-- a failure of the device adds one to the count, which stops at its greatest value; no other error
+-- changes it
+abbrev pub Counts : ℕ → ℕ → StoreError → Type 0
+Counts old new Device = new ≡ min (old + 1) 18446744073709551615
+Counts old new e = new ≡ old

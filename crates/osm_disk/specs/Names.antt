@@ -1,0 +1,43 @@
+-- Names that belong to a path.
+use Rattle.std.specs.Prelude.{◌≡◌, ℕ, ◌<◌, List, ◌∷◌, ◌++◌, length, slice_index, codes, decimal}
+use Rattle.std.specs.Path.{slash}
+
+-- no byte is a slash
+abbrev pub IsBare : List ℕ → Type 0
+IsBare name = (i : ℕ) → i < length name → slice_index name i ≡ slash → ⊥
+
+-- a path is a folder, its last slash, and a name
+pub record IsIn (folder name path : List ℕ) : Type 0 where
+  pub bare : IsBare name
+  pub whole : path ≡ folder ++ slash ∷ name
+
+-- the folder of a path is what stands before its last slash: `.` if there is no slash, and `/` if
+-- nothing stands before it
+pub data IsFolderOf (path : List ℕ) : List ℕ → Type 0 where
+  in_no_folder : IsBare path → IsFolderOf path (codes ".")
+  in_root : (folder name : List ℕ) → IsIn folder name path → length folder ≡ 0
+      → IsFolderOf path (codes "/")
+  in_folder : (folder name : List ℕ) → IsIn folder name path → 0 < length folder
+      → IsFolderOf path folder
+
+-- `.NAME.osmrepl-PROCESS`
+abbrev pub hidden_text : List ℕ → List ℕ → List ℕ
+hidden_text name process = codes "." ++ (name ++ (codes ".osmrepl-" ++ process))
+
+-- the same with a process id
+abbrev pub hidden_name : List ℕ → ℕ → List ℕ
+hidden_name name process = hidden_text name (decimal process)
+
+-- the temporary file of a path has that name, in the same folder
+pub data IsTemporary (path : List ℕ) (process : ℕ) : List ℕ → Type 0 where
+  hidden : IsBare path → IsTemporary path process (hidden_name path process)
+  hidden_below : (folder name : List ℕ) → IsIn folder name path
+      → IsTemporary path process (folder ++ codes "/" ++ hidden_name name process)
+
+-- a link's text that begins with a slash is the path to which the link leads; any other begins in
+-- the folder of the link
+pub data LeadsTo (link text : List ℕ) : List ℕ → Type 0 where
+  from_root : slice_index text 0 ≡ slash → LeadsTo link text text
+  from_here : IsBare link → LeadsTo link text text
+  from_folder : (folder name : List ℕ) → IsIn folder name link → (slice_index text 0 ≡ slash → ⊥)
+      → LeadsTo link text (folder ++ codes "/" ++ text)

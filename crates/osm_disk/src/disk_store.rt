@@ -1,0 +1,91 @@
+//! A store over the files of the disk.
+
+ghost use Rattle.std.specs.Prelude.{◌≡◌, ◌≤◌, None, false, IfErr, IfOk, OnOk};
+ghost use Rattle.osm_disk.specs.Counts.{Counts};
+ghost use Rattle.osm_folder.specs.Files.{HasFailed, IsWithin, ReadStops, WriteStops};
+
+use crate::reading::{cause_of, read_file};
+use crate::replacing::write_file;
+use osm_folder::store::{Store, StoreError};
+use std::alloc::Global;
+use std::fs::Files;
+
+/// The files of the disk by their paths. Each write replaces a file whole. A killed process leaves
+/// at most a temporary file beside it.
+#[derive(Debug, Drop)]
+pub struct DiskStore<R: Files> {
+    files: R,
+    process: u32,
+    failures: u64,
+}
+
+impl<R: Files> DiskStore<R> {
+    ghost use Rattle.osm_disk.specs.Counts.{failures_of};
+
+    /// A store of the process with that id, which names its temporary files.
+    pub fn new(files: R, process: u32) -> DiskStore<R>
+        ensures { failures_of result ≡ 0 }
+    {
+        DiskStore {
+            files,
+            process,
+            failures: 0,
+        }
+    }
+
+    /// How often a call failed because of the device.
+    pub fn failures(&self) -> u64
+        ensures { result ≡ failures_of self.now }
+    {
+        self.failures
+    }
+
+    // Counts a failure of the device.
+    fn counted(&mut self, error: StoreError) -> StoreError
+        ensures same { result ≡ error }
+        ensures counted { Counts self.old.failures self.new.failures error }
+        ensures kept { self.old.failures ≤ self.new.failures }
+        ensures failed { error ≡ StoreError.Device
+            → HasFailed self.old.failures self.new.failures }
+    {
+        if error == StoreError::Device {
+            self.failures = self.failures.saturating_add(1);
+        }
+        error
+    }
+}
+
+impl<R: Files> Store for DiskStore<R> {
+    ghost failures = { λ s. s.failures };
+
+    ghost left = { λ s. None };
+
+    ghost tells = { λ s. false };
+
+    ghost told = { λ s name. None };
+
+    fn read(&mut self, alloc: Global, name: &str, limit: u64) -> Result<Option<Vec<u8>>, StoreError>
+        ensures within { IfOk result (IsWithin limit) }
+        ensures stops { IfErr result (ReadStops limit self.old.failures self.new.failures) }
+        ensures kept { self.old.failures ≤ self.new.failures }
+        ensures none { OnOk result (self.new.failures ≡ self.old.failures) }
+        ensures counted { IfErr result (Counts self.old.failures self.new.failures) }
+    {
+        match read_file(alloc, &self.files, name, limit) {
+            Ok(found) => Ok(found),
+            Err(error) => Err(self.counted(error)),
+        }
+    }
+
+    fn write(&mut self, alloc: Global, name: &str, bytes: &[u8]) -> Result<(), StoreError>
+        ensures stops { IfErr result (WriteStops self.old.failures self.new.failures) }
+        ensures kept { self.old.failures ≤ self.new.failures }
+        ensures none { OnOk result (self.new.failures ≡ self.old.failures) }
+        ensures counted { IfErr result (Counts self.old.failures self.new.failures) }
+    {
+        match write_file(alloc, &self.files, self.process, name, bytes) {
+            Ok(()) => Ok(()),
+            Err(error) => Err(self.counted(cause_of(&error))),
+        }
+    }
+}

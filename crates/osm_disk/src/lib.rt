@@ -1,0 +1,7 @@
+//! Files on the disk, each replaced whole.
+#![tactic(auto)]
+
+pub mod disk_store;
+pub mod names;
+mod reading;
+mod replacing;

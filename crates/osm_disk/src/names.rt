@@ -1,0 +1,100 @@
+//! Names that belong to a path: its folder, its temporary file, and where a link leads.
+
+ghost use Rattle.std.specs.Prelude.{◌≡◌, ◌<◌, ◌++◌, IfOk, MatchBool, MatchOption, codes, length};
+ghost use Rattle.std.specs.Prelude.{slice_index, string_bytes};
+ghost use Rattle.std.specs.Path.{slash};
+ghost use Rattle.osm_disk.specs.Names.{IsBare, IsFolderOf, IsIn, IsTemporary, LeadsTo};
+ghost use Rattle.osm_disk.specs.Names.{hidden_text};
+
+use itoa::Buffer;
+use std::alloc::{AllocError, Global};
+
+/// The folder that holds the file of that path: `.` for a bare name.
+pub fn folder_of(path: &str) -> &str
+    ensures { IsFolderOf path.now result.now }
+{
+    match split(path) {
+        None => ".",
+        Some((folder, _)) => or_root(folder),
+    }
+}
+
+/// The temporary file of a process beside the file of that path: `FOLDER/.NAME.osmrepl-PROCESS`.
+pub fn temporary_of(alloc: Global, path: &str, process: u32) -> Result<String, AllocError>
+    ensures { IfOk result (λ name. IsTemporary path.now process (string_bytes name)) }
+{
+    let mut digits = Buffer::new();
+    let process = digits.format(process);
+    match split(path) {
+        None => hidden(alloc, path, process),
+        Some((folder, name)) => hidden_below(alloc, folder, name, process),
+    }
+}
+
+/// The path to which a symbolic link leads, from the link's own path and its text.
+pub fn led_by(alloc: Global, link: &str, text: &str) -> Result<String, AllocError>
+    ensures { IfOk result (λ path. LeadsTo link.now text.now (string_bytes path)) }
+{
+    if begins_at_root(text) {
+        return String::from_str(alloc, text);
+    }
+    match split(link) {
+        None => String::from_str(alloc, text),
+        Some((folder, _)) => join(alloc, folder, text),
+    }
+}
+
+// `FOLDER/.NAME.osmrepl-PROCESS`
+fn hidden_below(
+    alloc: Global,
+    folder: &str,
+    name: &str,
+    process: &str,
+) -> Result<String, AllocError>
+    ensures { IfOk result (λ path. string_bytes path
+        ≡ folder.now ++ codes "/" ++ hidden_text name.now process.now) }
+{
+    let name = hidden(alloc, name, process)?;
+    join(alloc, folder, name.as_str())
+}
+
+// `.NAME.osmrepl-PROCESS`
+fn hidden(alloc: Global, name: &str, process: &str) -> Result<String, AllocError>
+    ensures { IfOk result (λ text. string_bytes text ≡ hidden_text name.now process.now) }
+{
+    format!(in alloc; ".{name}.osmrepl-{process}")
+}
+
+// `FOLDER/NAME`
+fn join(alloc: Global, folder: &str, name: &str) -> Result<String, AllocError>
+    ensures { IfOk result (λ path. string_bytes path ≡ folder.now ++ codes "/" ++ name.now) }
+{
+    format!(in alloc; "{folder}/{name}")
+}
+
+// The folder and the name; None if there is no slash.
+fn split(path: &str) -> Option<(&str, &str)>
+    ensures { MatchOption result
+        (IsBare path.now) (λ parts. IsIn parts.0.now parts.1.now path.now) }
+{
+    path.rsplit_once('/')
+}
+
+// The folder, or the root if nothing stands before the slash.
+fn or_root(folder: &str) -> &str
+    ensures root { length folder.now ≡ 0 → result.now ≡ codes "/" }
+    ensures below { 0 < length folder.now → result.now ≡ folder.now }
+{
+    if folder.is_empty() { "/" } else { folder }
+}
+
+// Whether the text begins with a slash.
+fn begins_at_root(text: &str) -> bool
+    ensures { MatchBool result
+        (slice_index text.now 0 ≡ slash) (slice_index text.now 0 ≡ slash → ⊥) }
+{
+    match text.as_bytes() {
+        [] => false,
+        [first, ..] => *first == b'/',
+    }
+}

@@ -1,0 +1,60 @@
+//! Reading a file whole, up to a limit.
+
+ghost use Rattle.std.specs.Prelude.{◌≡◌, ℕ, ◌≤◌, ◌<◌, length, IfErr, IfOk, IfSome};
+ghost use Rattle.osm_disk.specs.Reading.{IsTooLongOnly, cause};
+ghost use Rattle.osm_folder.specs.Files.{IsWithin};
+
+use osm_folder::store::StoreError;
+use std::alloc::Global;
+use std::fs::{self, Files};
+use std::io::{self, ErrorKind, Read};
+
+/// All bytes of a file, at most so many; None if there is no such file.
+pub fn read_file<R: Files>(
+    alloc: Global,
+    files: &R,
+    path: &str,
+    limit: u64,
+) -> Result<Option<Vec<u8>>, StoreError>
+    ensures within { IfOk result (IsWithin limit) }
+{
+    match fs::open(files, path) {
+        Ok(file) => Ok(Some(read_limited(alloc, file, limit)?)),
+        Err(error) => match error.kind() {
+            ErrorKind::NotFound => Ok(None),
+            _ => Err(cause_of(&error)),
+        },
+    }
+}
+
+/// All bytes that the reader has, at most so many. It takes at most one byte more from the reader,
+/// and asks for memory as the bytes come.
+pub fn read_limited<R: Read + Drop>(
+    alloc: Global,
+    reader: R,
+    limit: u64,
+) -> Result<Vec<u8>, StoreError>
+    ensures read { IfOk result (λ bytes. IfSome (R.remaining reader) (λ all. bytes.items ≡ all)) }
+    ensures within { IfOk result (λ bytes. length bytes.items ≤ limit) }
+    ensures over { IfErr result
+        (λ e. IfSome (R.remaining reader) (λ all. IsTooLongOnly limit all e)) }
+{
+    let mut bytes = Vec::new(alloc);
+    if let Err(error) = reader.take(limit.saturating_add(1)).read_to_end(&mut bytes) {
+        return Err(cause_of(&error));
+    }
+    if bytes.len() as u64 > limit {
+        return Err(StoreError::TooLarge);
+    }
+    Ok(bytes)
+}
+
+/// Refused memory, or else the device.
+pub fn cause_of(error: &io::Error) -> StoreError
+    ensures { result ≡ cause error.now }
+{
+    match error.kind() {
+        ErrorKind::OutOfMemory => StoreError::WantOfMemory,
+        _ => StoreError::Device,
+    }
+}
