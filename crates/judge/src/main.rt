@@ -5,7 +5,7 @@
 ghost use Rattle.std.specs.Prelude.{◌<◌, length};
 
 use osm_judge::judge::may_answer;
-use osm_repl::fault::RunFault;
+use osm_folder::fault::RunFault;
 use std::io::Read;
 use std::process::ExitCode;
 

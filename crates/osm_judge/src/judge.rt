@@ -11,7 +11,7 @@ use crate::history::Pair;
 use crate::legal::is_legal;
 use crate::reading::{Unread, read_reply};
 use osm_model::memory::WantOfMemory;
-use osm_repl::fault::RunFault;
+use osm_folder::fault::RunFault;
 use osm_repl::replies::write_replies;
 use osm_repl::script::parse_script;
 use osm_world::event::{Event, Reply};

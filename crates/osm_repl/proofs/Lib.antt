@@ -1,3 +1,4 @@
 pub mod ScriptLemmas
 pub mod EchoLemmas
 pub mod ReplayLemmas
+pub mod CommandLemmas

@@ -15,8 +15,8 @@ use Rattle.osm_world.specs.Step.{Step}
 use Rattle.osm_world.specs.World.{WorldValue}
 use Rattle.osm_world.specs.declared.event.Event.{Event}
 use Rattle.osm_world.specs.declared.event.Reply.{Reply}
-use Rattle.osm_repl.specs.declared.fault.RunFault.{RunFault}
-use Rattle.osm_repl.specs.declared.fault.RunFault.TheVariants.{WantOfMemory, ReadFault, WriteFault, TooLarge, BadScript}
+use Rattle.osm_folder.specs.declared.fault.RunFault.{RunFault}
+use Rattle.osm_folder.specs.declared.fault.RunFault.TheVariants.{WantOfMemory, ReadFault, WriteFault, TooLarge, BadScript}
 
 -- each line that says something is an event
 at_line : (ls after : List (List ℕ)) (line : List ℕ) (es : List Event) → AllZip IsEventLine (ls ++ line ∷ after) es → (e : Event) × IsEventLine line e
@@ -48,11 +48,8 @@ script_fault old new script fault c e h = absurd h
 
 -- all but a failed write leaves nothing written
 pub silent : (input old new : Option (List ℕ)) (fault : RunFault) → ReplayLeaves input old new fault → (IsWriteFault fault → ⊥) → new ≡ old
-silent input old new WantOfMemory h not_written = h
-silent input old new (ReadFault file) h not_written = h
 silent input old new (WriteFault file) h not_written = absurd (not_written tt)
-silent input old new (TooLarge file) h not_written = h
-silent input old new (BadScript line) h not_written = h
+silent input old new fault h not_written = h
 
 -- what the laws of runs say of one step more
 abbrev pub RunsOn : Type 0

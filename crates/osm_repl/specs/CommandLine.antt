@@ -1,24 +1,92 @@
--- The command line that is taken: one word, `replay`, and what asks for help or the version.
-use Rattle.std.specs.Prelude.{ℕ, List, codes, true}
-use Rattle.clap.specs.Words.{App, HasMatchesOf, new_app, with_subcommand}
-use Rattle.clap.specs.declared.parser.matches.ArgMatches.{ArgMatches}
+-- The command line: the words that are taken, and the order that they are.
+use Rattle.std.specs.Prelude.{◌≡◌, ℕ, List, [], ◌∷◌, Option, Some, codes, true, unwrap_or}
+use Rattle.clap.specs.Words.{App, Row, Rule, Text, first_of, new_app, new_rule, subcommand_of}
+use Rattle.clap.specs.Words.{with_rule, with_subcommand}
+use Rattle.clap.specs.declared.builder.value_parser.ValueParser.TheVariants.{NonEmptyString}
 use Rattle.osm_repl.specs.declared.orders.Order.{Order}
-use Rattle.osm_repl.specs.declared.orders.Order.TheVariants.{Replay}
+use Rattle.osm_repl.specs.declared.orders.Order.TheVariants.{Replay, Publish, Follow, Lag, Show}
+use Rattle.osm_repl.specs.declared.orders.Order.TheVariants.{Convert}
 
--- `replay` takes no words of its own
+-- a word that has to be there, and isn't empty
+abbrev pub word_rule : Text → Rule
+word_rule name = record (new_rule name) { required = true; parser = Some NonEmptyString }
+
+-- `--now TIME`, which has to be there
+abbrev pub time_rule : Rule
+time_rule = record (new_rule (codes "TIME")) { long = Some (codes "now"); required = true }
+
+-- the command with one word more
+abbrev pub with_word : App → Text → App
+with_word app name = with_rule app (word_rule name)
+
+-- `replay`
 abbrev pub replay_app : App
 replay_app = new_app (codes "replay")
 
--- the program needs a word, and tells its version
+-- `publish DIR CHANGES --now TIME`
+abbrev pub publish_app : App
+publish_app =
+    with_rule (with_word (with_word (new_app (codes "publish")) (codes "DIR")) (codes "CHANGES"))
+    time_rule
+
+-- `follow DIR SAVE`
+abbrev pub follow_app : App
+follow_app = with_word (with_word (new_app (codes "follow")) (codes "DIR")) (codes "SAVE")
+
+-- `lag DIR SAVE`
+abbrev pub lag_app : App
+lag_app = with_word (with_word (new_app (codes "lag")) (codes "DIR")) (codes "SAVE")
+
+-- `show SAVE`
+abbrev pub show_app : App
+show_app = with_word (new_app (codes "show")) (codes "SAVE")
+
+-- `convert IN OUT`
+abbrev pub convert_app : App
+convert_app = with_word (with_word (new_app (codes "convert")) (codes "IN")) (codes "OUT")
+
+-- the program needs a command, and tells its version
 abbrev pub program_app : App
 program_app =
     let app = new_app (codes "osmrepl") in
     record app { top = record app.top { has_version = true; subcommand_required = true } }
 
--- the program with its one word
+-- the program with its commands
 abbrev pub osmrepl_app : App
-osmrepl_app = with_subcommand program_app replay_app.top
+osmrepl_app =
+    with_subcommand (with_subcommand (with_subcommand (with_subcommand (with_subcommand
+    (with_subcommand program_app replay_app.top) publish_app.top) follow_app.top) lag_app.top)
+    show_app.top) convert_app.top
 
--- the words are ones that clap takes for this command; `replay` is the only order
-abbrev pub IsOrderOf : List (List ℕ) → Order → Type 0
-IsOrderOf words Replay = (matches : ArgMatches) × HasMatchesOf osmrepl_app words matches
+-- the value of that name, empty if there is none
+abbrev pub value_of : Text → List Row → Text
+value_of name rows = unwrap_or (first_of name rows) []
+
+-- those are the values of those names
+abbrev pub AreValues : List Row → List (Text × Text) → Type 0
+AreValues rows [] = Unit {0}
+AreValues rows (v ∷ vs) = (v.1 ≡ value_of v.0 rows) × AreValues rows vs
+
+-- that command was found, and those are the values of its words
+pub record IsFound (found : Option (Text × List Row)) (command : Text)
+    (values : List (Text × Text)) : Type 0 where
+  pub rows : List Row
+  pub command_is : found ≡ Some (command, rows)
+  pub values_are : AreValues rows values
+
+-- the order is that of the command that was found
+abbrev pub IsOrderIn : Option (Text × List Row) → Order → Type 0
+IsOrderIn found Replay = IsFound found (codes "replay") []
+IsOrderIn found (Publish dir changes now) = IsFound found (codes "publish")
+    ((codes "DIR", dir.now) ∷ (codes "CHANGES", changes.now) ∷ (codes "TIME", now.now) ∷ [])
+IsOrderIn found (Follow dir save) =
+    IsFound found (codes "follow") ((codes "DIR", dir.now) ∷ (codes "SAVE", save.now) ∷ [])
+IsOrderIn found (Lag dir save) =
+    IsFound found (codes "lag") ((codes "DIR", dir.now) ∷ (codes "SAVE", save.now) ∷ [])
+IsOrderIn found (Show save) = IsFound found (codes "show") ((codes "SAVE", save.now) ∷ [])
+IsOrderIn found (Convert input output) =
+    IsFound found (codes "convert") ((codes "IN", input.now) ∷ (codes "OUT", output.now) ∷ [])
+
+-- the order is that of the words, as clap reads them
+abbrev pub IsOrderOf : List Text → Order → Type 0
+IsOrderOf words = IsOrderIn (subcommand_of osmrepl_app words)

@@ -10,16 +10,17 @@ use Rattle.osm_repl.specs.declared.ending.Ending.{Ending}
 use Rattle.osm_repl.specs.declared.ending.Said.{Said}
 use Rattle.osm_repl.specs.declared.ending.Said.TheVariants.{ByClap, Fault, NotText}
 use Rattle.osm_repl.specs.declared.ending.Stream.TheVariants.{Output, Error}
-use Rattle.osm_repl.specs.declared.fault.RunFault.{RunFault}
-use Rattle.osm_repl.specs.declared.fault.RunFault.TheVariants.{WantOfMemory}
+use Rattle.osm_folder.specs.Faults.{status_of}
+use Rattle.osm_folder.specs.declared.fault.RunFault.{RunFault}
+use Rattle.osm_folder.specs.declared.fault.RunFault.TheVariants.{WantOfMemory}
 
 -- words that aren't taken end the program with status 2
 abbrev pub refused_words : Said → Ending
 refused_words said = record { said = said; stream = Error; status = 2 }
 
--- a fault is said on standard error, and the status is 3
+-- a fault is said on standard error, and the status is that of the fault
 abbrev pub ending_of_fault : RunFault → Ending
-ending_of_fault fault = record { said = Fault fault; stream = Error; status = 3 }
+ending_of_fault fault = record { said = Fault fault; stream = Error; status = status_of fault }
 
 -- an error of clap of that kind: help and the version go to standard output, and the status is 0;
 -- if clap is out of memory, that is a fault; for any other kind clap's text goes to standard error,

@@ -8,10 +8,10 @@ use Rattle.osm_world.specs.declared.event.Event.{Event}
 use Rattle.osm_world.specs.declared.event.Reply.{Reply}
 use Rattle.osm_repl.specs.Replies.{replies_text}
 use Rattle.osm_repl.specs.Script.{ScriptOf, IsBadLine}
-use Rattle.osm_repl.specs.declared.fault.FileName.TheVariants.{Input, Output}
-use Rattle.osm_repl.specs.declared.fault.RunFault.{RunFault}
-use Rattle.osm_repl.specs.declared.fault.RunFault.TheVariants.{WantOfMemory, ReadFault, WriteFault}
-use Rattle.osm_repl.specs.declared.fault.RunFault.TheVariants.{TooLarge, BadScript}
+use Rattle.osm_folder.specs.declared.fault.FileName.TheVariants.{Input, Output}
+use Rattle.osm_folder.specs.declared.fault.RunFault.{RunFault}
+use Rattle.osm_folder.specs.declared.fault.RunFault.TheVariants.{WantOfMemory, ReadFault}
+use Rattle.osm_folder.specs.declared.fault.RunFault.TheVariants.{WriteFault, TooLarge, BadScript}
 
 -- the text is the reply text of a run over the events of the script
 pub record RepliesTo (script text : List ℕ) : Type 0 where
@@ -38,6 +38,7 @@ ReplayFault input rest (TooLarge file) =
     (file ≡ Input) × ((bytes : List ℕ) × Consumes input rest bytes × (max_file < length bytes))
 ReplayFault input rest (BadScript line) = IfSome input (λ script.
     IsBadLine script line × ((events : List Event) → ScriptOf script events → ⊥))
+ReplayFault input rest fault = ⊥
 
 -- what a fault of a replay leaves written: a prefix of the reply text if writing failed, else
 -- nothing

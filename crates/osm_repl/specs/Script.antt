@@ -11,8 +11,8 @@ use Rattle.osm_world.specs.declared.event.Event.TheVariants.{Edit, Close, Delive
 use Rattle.osm_world.specs.declared.event.Event.TheVariants.{Save, Restart}
 use Rattle.osm_world.specs.declared.event.Form.{Form}
 use Rattle.osm_world.specs.declared.event.Form.TheVariants.{Opl, O5c}
-use Rattle.osm_repl.specs.declared.fault.RunFault.{RunFault}
-use Rattle.osm_repl.specs.declared.fault.RunFault.TheVariants.{WantOfMemory, BadScript}
+use Rattle.osm_folder.specs.declared.fault.RunFault.{RunFault}
+use Rattle.osm_folder.specs.declared.fault.RunFault.TheVariants.{WantOfMemory, BadScript}
 
 -- a blank and the name of a form
 abbrev pub form_text : Form → List ℕ

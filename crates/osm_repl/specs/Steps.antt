@@ -1,4 +1,5 @@
 -- Steps of proofs that clauses of private functions cite: no clause of a public function cites
 -- them.
+pub mod Commands
 pub mod Parsing
 pub mod Replaying

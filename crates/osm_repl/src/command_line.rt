@@ -1,51 +1,109 @@
 //! The command line, read by `clap`.
 
-ghost use Rattle.std.specs.Prelude.{◌≡◌, IfOk, IfErr, map, true, false};
-ghost use Rattle.clap.specs.Words.{HasMatchesOf, app_of, kind_of, takes};
+ghost use Rattle.std.specs.Prelude.{◌≡◌, IfOk, IfErr, Some, map, codes, true, false};
+ghost use Rattle.clap.specs.Words.{FailsBy, HasMatchesOf, app_of, fault_of, found_of, kind_of};
+ghost use Rattle.clap.specs.Words.{rows_of, rule_of, subcommand_rows_of, takes};
 ghost use Rattle.clap.specs.declared.builder.Command.TheViews.{out-Command as fields_of};
-ghost use Rattle.osm_repl.specs.CommandLine.{IsOrderOf, osmrepl_app, program_app, replay_app};
+ghost use Rattle.osm_repl.specs.CommandLine.{IsOrderIn, IsOrderOf, convert_app, follow_app};
+ghost use Rattle.osm_repl.specs.CommandLine.{lag_app, osmrepl_app, program_app, publish_app};
+ghost use Rattle.osm_repl.specs.CommandLine.{replay_app, show_app, time_rule, value_of, word_rule};
+ghost use Rattle.osm_repl.specs.Steps.Commands.{IsCommand};
 
+use crate::help;
 use crate::orders::Order;
+use clap::builder::ValueParser;
 use clap::error::ErrorKind;
-use clap::{ArgMatches, Command, Error};
+use clap::{Arg, ArgMatches, Command, Error};
 use std::alloc::{AllocError, Global};
-
-const STATUSES: &str = "Exit statuses:
-  0  done
-  2  the words of the command line are refused
-  3  any other fault, out of memory included; one line on standard error says which";
-
-const SCRIPTS: &str = "The script is read from standard input, as in
-  osmrepl replay <script.txt >replies.txt
-
-It has one event a line; empty lines and lines that begin with # say nothing:
-  edit LINE      the publisher takes an edit, a line of an OPL file, as
-                 n1 v1 dV c7 t2024-01-01T00:00:00Z i5 uann T x1 y2
-  close TIME     the pending edits are published as the next sequence, at a time as
-                 2024-01-01T00:00:00Z
-  deliver N opl  published sequence N is delivered to the follower as an OPL file
-  deliver N o5c  the same as an o5c file
-  show           the follower shows its number, time, objects and counts of edits
-  save           the follower is saved
-  restart        the follower restarts from what was saved last, or anew if nothing was
-
-A line that is no event is a fault, and nothing is written then.";
 
 /// What the words ask for, the program's name first. Refused if `clap` refuses the words, and if
 /// they ask for help or the version.
-pub fn order<'a>(alloc: Global, words: &'a [&'a str]) -> Result<Order, Error>
+pub fn order<'a>(alloc: Global, words: &'a [&'a str]) -> Result<Order<'a>, Error>
     ensures order { IfOk result (IsOrderOf (map (λ s. s.now) words.entry.now)) }
     ensures taken { IfErr result (λ e. takes osmrepl_app (map (λ s. s.now) words.entry.now) ≡ true
         → kind_of e ≡ ErrorKind.OutOfMemory) }
+    ensures kinds { FailsBy (fault_of osmrepl_app (map (λ s. s.now) words.entry.now)) result }
 {
-    let _matches = matches(alloc, words)?;
-    Ok(Order::Replay)
+    let matches = matches(alloc, words)?;
+    Ok(order_of(&matches))
+}
+
+// The order of the command that was found, with its words.
+fn order_of<'a>(matches: &ArgMatches<'a>) -> Order<'a>
+    requires { IsCommand (subcommand_rows_of matches.now) }
+    ensures { IsOrderIn (subcommand_rows_of matches.now) result }
+{
+    let Some((name, given)) = matches.subcommand() else {
+        unreachable!()
+    };
+    match name {
+        "replay" => Order::Replay,
+        "publish" => publish_of(given),
+        "follow" => follow_of(given),
+        "lag" => lag_of(given),
+        "show" => show_of(given),
+        "convert" => convert_of(given),
+        _ => unreachable!(),
+    }
+}
+
+fn publish_of<'a>(given: &ArgMatches<'a>) -> Order<'a>
+    ensures { IsOrderIn (Some (codes "publish", rows_of (found_of given.now))) result }
+{
+    Order::Publish {
+        dir: value(given, "DIR"),
+        changes: value(given, "CHANGES"),
+        now: value(given, "TIME"),
+    }
+}
+
+fn follow_of<'a>(given: &ArgMatches<'a>) -> Order<'a>
+    ensures { IsOrderIn (Some (codes "follow", rows_of (found_of given.now))) result }
+{
+    Order::Follow {
+        dir: value(given, "DIR"),
+        save: value(given, "SAVE"),
+    }
+}
+
+fn lag_of<'a>(given: &ArgMatches<'a>) -> Order<'a>
+    ensures { IsOrderIn (Some (codes "lag", rows_of (found_of given.now))) result }
+{
+    Order::Lag {
+        dir: value(given, "DIR"),
+        save: value(given, "SAVE"),
+    }
+}
+
+fn show_of<'a>(given: &ArgMatches<'a>) -> Order<'a>
+    ensures { IsOrderIn (Some (codes "show", rows_of (found_of given.now))) result }
+{
+    Order::Show {
+        save: value(given, "SAVE"),
+    }
+}
+
+fn convert_of<'a>(given: &ArgMatches<'a>) -> Order<'a>
+    ensures { IsOrderIn (Some (codes "convert", rows_of (found_of given.now))) result }
+{
+    Order::Convert {
+        input: value(given, "IN"),
+        output: value(given, "OUT"),
+    }
+}
+
+// The value of a word that has to be there.
+fn value<'a>(given: &ArgMatches<'a>, name: &str) -> &'a str
+    ensures { result.now ≡ value_of name.now (rows_of (found_of given.now)) }
+{
+    given.get_str(name).unwrap_or("")
 }
 
 fn matches<'a>(alloc: Global, words: &'a [&'a str]) -> Result<ArgMatches<'a>, Error>
     ensures matches { IfOk result (HasMatchesOf osmrepl_app (map (λ s. s.now) words.entry.now)) }
     ensures taken { IfErr result (λ e. takes osmrepl_app (map (λ s. s.now) words.entry.now) ≡ true
         → kind_of e ≡ ErrorKind.OutOfMemory) }
+    ensures kinds { FailsBy (fault_of osmrepl_app (map (λ s. s.now) words.entry.now)) result }
 {
     let command = command(alloc)?;
     command.try_get_matches_from(words)
@@ -54,24 +112,115 @@ fn matches<'a>(alloc: Global, words: &'a [&'a str]) -> Result<ArgMatches<'a>, Er
 fn command<'a>(alloc: Global) -> Result<Command<'a>, AllocError>
     ensures { IfOk result (λ c. app_of c ≡ osmrepl_app) }
 {
-    program(alloc).subcommand(replay(alloc))
+    program(alloc)
+        .subcommand(replay(alloc))?
+        .subcommand(publish(alloc)?)?
+        .subcommand(follow(alloc)?)?
+        .subcommand(lag(alloc)?)?
+        .subcommand(show(alloc)?)?
+        .subcommand(convert(alloc)?)
 }
 
 fn program<'a>(alloc: Global) -> Command<'a>
     ensures app { app_of result ≡ program_app }
 {
     Command::new(alloc, "osmrepl")
-        .about("Publishes OpenStreetMap edits as numbered sequences, and follows them")
-        .after_help(STATUSES)
+        .about(help::ABOUT)
+        .after_help(help::EXAMPLES)
         .version("0.1.0")
         .subcommand_required(true)
 }
 
 fn replay<'a>(alloc: Global) -> Command<'a>
     ensures app { app_of result ≡ replay_app }
-    ensures globals { (fields_of result).has_globals ≡ false }
+    ensures local { (fields_of result).has_globals ≡ false }
 {
     Command::new(alloc, "replay")
-        .about("Runs a script of edits, closes and deliveries, and writes the replies")
-        .after_help(SCRIPTS)
+        .about(help::REPLAY)
+        .after_help(help::SCRIPTS)
+}
+
+fn publish<'a>(alloc: Global) -> Result<Command<'a>, AllocError>
+    ensures app { IfOk result (λ c. app_of c ≡ publish_app) }
+    ensures local { IfOk result (λ c. (fields_of c).has_globals ≡ false) }
+{
+    Command::new(alloc, "publish")
+        .about(help::PUBLISH)
+        .after_help(help::PUBLISHING)
+        .arg(word(alloc, "DIR", "The folder; it is made if it isn't there"))?
+        .arg(word(alloc, "CHANGES", "The changes, an OPL file"))?
+        .arg(time(alloc))
+}
+
+fn follow<'a>(alloc: Global) -> Result<Command<'a>, AllocError>
+    ensures app { IfOk result (λ c. app_of c ≡ follow_app) }
+    ensures local { IfOk result (λ c. (fields_of c).has_globals ≡ false) }
+{
+    Command::new(alloc, "follow")
+        .about(help::FOLLOW)
+        .after_help(help::FOLLOWING)
+        .arg(word(alloc, "DIR", "The folder"))?
+        .arg(word(
+            alloc,
+            "SAVE",
+            "The save; if it isn't there, it begins at number 0",
+        ))
+}
+
+fn lag<'a>(alloc: Global) -> Result<Command<'a>, AllocError>
+    ensures app { IfOk result (λ c. app_of c ≡ lag_app) }
+    ensures local { IfOk result (λ c. (fields_of c).has_globals ≡ false) }
+{
+    Command::new(alloc, "lag")
+        .about(help::LAG)
+        .after_help(help::LAGGING)
+        .arg(word(alloc, "DIR", "The folder"))?
+        .arg(word(
+            alloc,
+            "SAVE",
+            "The save; if it isn't there, it is at number 0",
+        ))
+}
+
+fn show<'a>(alloc: Global) -> Result<Command<'a>, AllocError>
+    ensures app { IfOk result (λ c. app_of c ≡ show_app) }
+    ensures local { IfOk result (λ c. (fields_of c).has_globals ≡ false) }
+{
+    Command::new(alloc, "show")
+        .about(help::SHOW)
+        .after_help(help::SHOWING)
+        .arg(word(alloc, "SAVE", "The save"))
+}
+
+fn convert<'a>(alloc: Global) -> Result<Command<'a>, AllocError>
+    ensures app { IfOk result (λ c. app_of c ≡ convert_app) }
+    ensures local { IfOk result (λ c. (fields_of c).has_globals ≡ false) }
+{
+    Command::new(alloc, "convert")
+        .about(help::CONVERT)
+        .after_help(help::CONVERTING)
+        .arg(word(alloc, "IN", "The file that is read"))?
+        .arg(word(alloc, "OUT", "The file that is written"))
+}
+
+// A word that has to be there, and isn't empty.
+fn word<'a>(alloc: Global, name: &'a str, says: &'a str) -> Arg<'a>
+    ensures rule { rule_of result ≡ word_rule name.now }
+    ensures local { result.global ≡ false }
+{
+    Arg::new(alloc, name)
+        .help(says)
+        .required(true)
+        .value_parser(ValueParser::NonEmptyString)
+}
+
+// `--now TIME`, which has to be there.
+fn time<'a>(alloc: Global) -> Arg<'a>
+    ensures rule { rule_of result ≡ time_rule }
+    ensures local { result.global ≡ false }
+{
+    Arg::new(alloc, "TIME")
+        .long("now")
+        .required(true)
+        .help("The time of the sequence, as 2024-01-01T00:00:00Z")
 }

@@ -3,9 +3,9 @@
 ghost use Rattle.std.specs.Prelude.{◌≡◌};
 ghost use Rattle.osm_repl.specs.Ending.{ending_of_error, ending_of_fault, ending_of_unread};
 
-use crate::fault::RunFault;
 use clap::Error;
 use clap::error::ErrorKind;
+use osm_folder::fault::RunFault;
 use std::io;
 
 /// Where the last text goes.

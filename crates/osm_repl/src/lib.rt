@@ -1,12 +1,14 @@
-//! Scripts of events, their replays and reply texts, and the command line.
+//! Scripts of events, their replays and reply texts, the command line, and what it asks for.
 #![tactic(auto)]
 
 mod asks;
 pub mod command_line;
 pub mod echo;
 pub mod ending;
-pub mod fault;
+pub mod execution;
+mod help;
 pub mod orders;
 pub mod replay;
 pub mod replies;
 pub mod script;
+mod writing;

@@ -1,8 +1,33 @@
 //! What the words of the command line ask for.
 
-/// A command of the program.
+/// A command of the program, with its words.
 #[derive(Clone, Copy, Debug, PartialEq, Eq)]
-pub enum Order {
+pub enum Order<'a> {
     /// Runs the script on standard input, and writes its replies to standard output.
     Replay,
+    /// Publishes the changes of a file as a folder's next sequence, at a time.
+    Publish {
+        dir: &'a str,
+        changes: &'a str,
+        now: &'a str,
+    },
+    /// Takes a saved follower as far as a folder goes.
+    Follow {
+        dir: &'a str,
+        save: &'a str,
+    },
+    /// Says how far a saved follower is behind a folder.
+    Lag {
+        dir: &'a str,
+        save: &'a str,
+    },
+    /// Shows a saved follower.
+    Show {
+        save: &'a str,
+    },
+    /// Writes the changes of a file in the form of another's name.
+    Convert {
+        input: &'a str,
+        output: &'a str,
+    },
 }

@@ -7,12 +7,13 @@ ghost use Rattle.osm_repl.specs.Replay.{IsWriteFault, ReplayFault, ReplayLeaves,
 ghost use Rattle.osm_repl.specs.Replay.{RepliesTo};
 ghost use Rattle.osm_repl.specs.Steps.Replaying.{AnswerRefused, ReadingFault, WritingFault};
 ghost use Rattle.osm_repl.specs.Steps.Replaying.{most_reads};
-ghost use Rattle.osm_repl.specs.declared.fault.RunFault.{RunFault};
+ghost use Rattle.osm_folder.specs.declared.fault.RunFault.{RunFault};
 
 use crate::asks::Asks;
-use crate::fault::{FileName, RunFault};
 use crate::replies::write_reply;
 use crate::script::{EventSink, send_events};
+use crate::writing::write_text;
+use osm_folder::fault::{FileName, RunFault};
 use osm_model::limits::MAX_FILE;
 use osm_model::memory::WantOfMemory;
 use osm_world::event::Event;
@@ -117,25 +118,4 @@ fn reply_text_of(alloc: Global, script: &[u8]) -> Result<Vec<u8>, RunFault>
     };
     send_events(alloc, script, &mut answering)?;
     Ok(answering.text)
-}
-
-// Writes all the text, or a prefix of it.
-fn write_text<W: Write>(writer: &mut W, text: &[u8]) -> Result<(), RunFault>
-    ensures written { OnOk result
-        (Appends (W.contents writer.old) (W.contents writer.new) text.now) }
-    ensures fault { IfErr result
-        (WritingFault (W.contents writer.old) (W.contents writer.new) text.now) }
-{
-    let mut at = 0usize;
-    while at < text.len() {
-        match writer.write(&text[at..]) {
-            Ok(0) => return Err(RunFault::WriteFault(FileName::Output)),
-            Ok(count) => at += count,
-            Err(_) => return Err(RunFault::WriteFault(FileName::Output)),
-        }
-    }
-    match writer.flush() {
-        Ok(()) => Ok(()),
-        Err(_) => Err(RunFault::WriteFault(FileName::Output)),
-    }
 }

@@ -10,7 +10,7 @@ ghost use Rattle.osm_world.specs.declared.event.Form.{Form};
 ghost use Rattle.osm_repl.specs.Steps.Parsing.{AllAreTaken, IsCloseOf, IsDeliverOf, IsEditOf};
 ghost use Rattle.osm_repl.specs.Steps.Parsing.{IsSaid, LineRefused, Refused};
 
-use crate::fault::RunFault;
+use osm_folder::fault::RunFault;
 use osm_model::memory::WantOfMemory;
 use osm_model::time::time_read;
 use osm_opl::lines::{LineError, read_line};

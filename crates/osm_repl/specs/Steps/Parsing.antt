@@ -8,8 +8,8 @@ use Rattle.osm_repl.specs.Script.{IsEventLine, ScriptOf, form_text}
 use Rattle.osm_world.specs.declared.event.Event.{Event}
 use Rattle.osm_world.specs.declared.event.Event.TheVariants.{Edit, Close, Deliver}
 use Rattle.osm_world.specs.declared.event.Form.{Form}
-use Rattle.osm_repl.specs.declared.fault.RunFault.{RunFault}
-use Rattle.osm_repl.specs.declared.fault.RunFault.TheVariants as faults
+use Rattle.osm_folder.specs.declared.fault.RunFault.{RunFault}
+use Rattle.osm_folder.specs.declared.fault.RunFault.TheVariants as faults
 use Rattle.osm_repl.specs.declared.script.LineFault.{LineFault}
 use Rattle.osm_repl.specs.declared.script.LineFault.TheVariants.{WantOfMemory, NoEvent}
 

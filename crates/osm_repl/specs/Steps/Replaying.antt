@@ -8,10 +8,10 @@ use Rattle.osm_world.specs.declared.event.Event.{Event}
 use Rattle.osm_world.specs.declared.event.Reply.{Reply}
 use Rattle.osm_repl.specs.Replies.{replies_text}
 use Rattle.osm_repl.specs.Script.{IsBadLine}
-use Rattle.osm_repl.specs.declared.fault.FileName.TheVariants.{Input, Output}
-use Rattle.osm_repl.specs.declared.fault.RunFault.{RunFault}
-use Rattle.osm_repl.specs.declared.fault.RunFault.TheVariants.{WantOfMemory, ReadFault, WriteFault}
-use Rattle.osm_repl.specs.declared.fault.RunFault.TheVariants.{TooLarge, BadScript}
+use Rattle.osm_folder.specs.declared.fault.FileName.TheVariants.{Input, Output}
+use Rattle.osm_folder.specs.declared.fault.RunFault.{RunFault}
+use Rattle.osm_folder.specs.declared.fault.RunFault.TheVariants.{WantOfMemory, ReadFault}
+use Rattle.osm_folder.specs.declared.fault.RunFault.TheVariants.{WriteFault, TooLarge, BadScript}
 
 -- how often a reader is asked at most: for each byte of the largest script, for a byte too much,
 -- and once more

@@ -5,7 +5,7 @@ use osm_judge::plain::{plain_content_of, plain_edits_by_changeset, plain_edits_b
 use osm_model::change::Change;
 use osm_model::kind::{Key, Kind};
 use osm_opl::lines::{read_line, write_line};
-use osm_repl::fault::RunFault;
+use osm_folder::fault::RunFault;
 use std::alloc::Global;
 use std::test::Fail;
 

@@ -4,7 +4,7 @@
 use osm_model::change::Change;
 use osm_opl::lines::read_line;
 use osm_repl::echo::echoes;
-use osm_repl::fault::{FileName, RunFault};
+use osm_folder::fault::{FileName, RunFault};
 use osm_repl::replay::replay_run;
 use osm_world::event::{Event, Form, Reply};
 use osm_world::world::World;

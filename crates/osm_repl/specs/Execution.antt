@@ -1,0 +1,120 @@
+-- What the program does for an order: it replays standard input, or it runs over the files and
+-- prints a report. `known` says that it is known what the files hold.
+use Rattle.std.specs.Prelude.{◌≡◌, ℕ, ◌⊎◌, List, Option, take}
+use Rattle.std.specs.Io.KnownBytes.{Appends}
+use Rattle.osm_follow.specs.Published.{PublishedValue}
+use Rattle.osm_folder.specs.Conversion.{ConvertStops, IsConverted}
+use Rattle.osm_folder.specs.Files.{Files}
+use Rattle.osm_folder.specs.Folder.{IsApart, IsFolderOf}
+use Rattle.osm_folder.specs.Publication.{FolderRefuses, IsAdded, IsPublished, PublishStops}
+use Rattle.osm_folder.specs.Reports.{ReportValue, convert_report_of, publish_report_of}
+use Rattle.osm_folder.specs.Runs.{Blames}
+use Rattle.osm_folder.specs.declared.fault.FileName.TheVariants.{Output}
+use Rattle.osm_folder.specs.declared.fault.RunFault.{RunFault}
+use Rattle.osm_folder.specs.declared.fault.RunFault.TheVariants.{WriteFault}
+use Rattle.osm_repl.specs.Replay.{ReplayFault, ReplayLeaves, Replays}
+use Rattle.osm_repl.specs.declared.orders.Order.{Order}
+use Rattle.osm_repl.specs.declared.orders.Order.TheVariants.{Replay, Publish, Follow, Lag, Show}
+use Rattle.osm_repl.specs.declared.orders.Order.TheVariants.{Convert}
+
+-- the order is a run over the files: each is but a replay
+abbrev pub IsOverFiles : Order → Type 0
+IsOverFiles (Publish dir changes now) = Unit {0}
+IsOverFiles (Convert input output) = Unit {0}
+IsOverFiles order = ⊥
+
+-- how many calls of the store a run that is done makes at least
+abbrev pub calls_of : Order → ℕ
+calls_of (Publish dir changes now) = 6
+calls_of (Convert input output) = 2
+calls_of order = 0
+
+-- what the run of the order does with files that are known, and its report
+abbrev pub Does : Order → Files → Files → ReportValue → Type 0
+Does (Publish dir changes now) old new report =
+    IsPublished dir.now changes.now now.now old new report
+Does (Convert input output) old new report = IsConverted input.now output.now old new
+Does order old new report = ⊥
+
+-- the same, if the files are those of sequences that were published
+abbrev pub DoesOver : Order → Files → Files → ReportValue → Type 0
+DoesOver (Publish dir changes now) old new report =
+    (published : List PublishedValue) → IsFolderOf published old dir.now
+    → IsAdded published dir.now changes.now now.now old new report
+DoesOver order old new report = Unit {0}
+
+-- the report of such a run, whatever is known of the files
+abbrev pub IsReportOf : Order → ReportValue → Type 0
+IsReportOf (Publish dir changes now) report = (n : ℕ) × (report ≡ publish_report_of n)
+IsReportOf (Convert input output) report = report ≡ convert_report_of
+IsReportOf order report = ⊥
+
+-- why the run of the order stops, and what it leaves
+abbrev pub RunStops : Type 0 → Order → Files → Files → RunFault → Type 0
+RunStops known (Publish dir changes now) old new fault =
+    PublishStops known dir.now changes.now now.now old new fault
+RunStops known (Convert input output) old new fault =
+    ConvertStops known input.now output.now old fault × (new ≡ old)
+RunStops known order old new fault = ⊥
+
+-- the same, if the files are those of sequences that were published
+abbrev pub StopsOver : Order → Files → Files → RunFault → Type 0
+StopsOver (Publish dir changes now) old new fault =
+    (published : List PublishedValue) → IsFolderOf published old dir.now
+    → FolderRefuses published now.now fault × IsFolderOf published new dir.now
+StopsOver order old new fault = Unit {0}
+
+-- the names that the order doesn't change, however it ends
+abbrev pub IsUntouched : Order → List ℕ → Type 0
+IsUntouched (Publish dir changes now) name = IsApart dir.now name
+IsUntouched order name = ⊥
+
+-- a run was done, and gave that report
+pub record IsRun (known : Type 0) (order : Order) (old new : Files) (report : ReportValue) :
+    Type 0 where
+  pub does : known → Does order old new report
+  pub over : known → DoesOver order old new report
+  pub report_is : IsReportOf order report
+
+-- a run was done, its report was printed, and its status is the program's
+pub record IsDone (known : Type 0) (order : Order) (old new : Files)
+    (printed after : Option (List ℕ)) (status : ℕ) : Type 0 where
+  pub report : ReportValue
+  pub run : IsRun known order old new report
+  pub all : Appends printed after report.text
+  pub status_is : status ≡ report.status
+
+-- a run stopped, and nothing was printed
+pub record IsStopped (known : Type 0) (order : Order) (old new : Files) (failed fails : ℕ)
+    (printed after : Option (List ℕ)) (fault : RunFault) : Type 0 where
+  pub stops : RunStops known order old new fault
+  pub over : known → StopsOver order old new fault
+  pub device : Blames failed fails fault
+  pub nothing : after ≡ printed
+
+-- a run was done, but standard output didn't take all of its report
+pub record IsCutShort (known : Type 0) (order : Order) (old new : Files)
+    (printed after : Option (List ℕ)) (fault : RunFault) : Type 0 where
+  pub report : ReportValue
+  pub run : IsRun known order old new report
+  pub fault_is : fault ≡ WriteFault Output
+  pub count : ℕ
+  pub some : Appends printed after (take count report.text)
+
+-- why an order over the files isn't done: its run stops, or its report isn't printed; the files
+-- that the run wrote then stay
+abbrev pub IsNotDone : Type 0 → Order → Files → Files → ℕ → ℕ
+    → Option (List ℕ) → Option (List ℕ) → RunFault → Type 0
+IsNotDone known order old new failed fails printed after fault =
+    IsStopped known order old new failed fails printed after fault
+    ⊎ IsCutShort known order old new printed after fault
+
+-- a replay was done: the replies were printed, and the status is 0
+abbrev pub IsReplayed : Option (List ℕ) → Option (List ℕ) → Option (List ℕ) → ℕ → Type 0
+IsReplayed input printed after status = (status ≡ 0) × Replays input printed after
+
+-- why a replay isn't done, and what it leaves printed
+abbrev pub IsNotReplayed :
+    Option (List ℕ) → Option (List ℕ) → Option (List ℕ) → Option (List ℕ) → RunFault → Type 0
+IsNotReplayed input rest printed after fault =
+    ReplayFault input rest fault × ReplayLeaves input printed after fault

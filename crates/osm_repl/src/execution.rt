@@ -1,0 +1,124 @@
+//! Carrying out what the words of the command line ask for.
+
+ghost use Rattle.std.specs.Prelude.{◌≡◌, ℕ, ◌≤◌, List, IsTrue, IfOk, IfErr, OnOk};
+ghost use Rattle.osm_folder.specs.Files.{Spends};
+ghost use Rattle.osm_folder.specs.Runs.{Blames};
+ghost use Rattle.osm_repl.specs.Execution.{Does, DoesOver, IsDone, IsNotDone, IsNotReplayed};
+ghost use Rattle.osm_repl.specs.Execution.{IsOverFiles, IsReplayed, IsReportOf, IsUntouched};
+ghost use Rattle.osm_repl.specs.Execution.{RunStops, StopsOver, calls_of};
+
+use crate::orders::Order;
+use crate::replay::replay_run;
+use crate::writing::write_text;
+use osm_folder::convert::convert_run;
+use osm_folder::fault::RunFault;
+use osm_folder::publish::publish_run;
+use osm_folder::report::Report;
+use osm_folder::store::Store;
+use std::alloc::Global;
+use std::io::{Read, Write};
+
+/// Does what an order asks for, and answers the exit status. A replay reads from `reader` and
+/// writes its replies to `writer`; every other order runs over the files of the store, and its
+/// report is written to `writer` afterwards. Nothing is written after any fault but
+/// `WriteFault(Output)`; after that a prefix was, and the files that a run wrote stay.
+pub fn execute<S: Store, R: Read, W: Write>(
+    alloc: Global,
+    order: Order<'_>,
+    store: &mut S,
+    reader: &mut R,
+    writer: &mut W,
+) -> Result<u8, RunFault>
+    ensures done { IsOverFiles order.entry → IfOk result
+        (IsDone (IsTrue (S.tells store.old)) order.entry (S.told store.old) (S.told store.new)
+        (W.contents writer.old) (W.contents writer.new)) }
+    ensures not_done { IsOverFiles order.entry → IfErr result
+        (IsNotDone (IsTrue (S.tells store.old)) order.entry (S.told store.old) (S.told store.new)
+        (S.failures store.old) (S.failures store.new)
+        (W.contents writer.old) (W.contents writer.new)) }
+    ensures silent { IsOverFiles order.entry → reader.new ≡ reader.old }
+    ensures replayed { order.entry ≡ Order.Replay → IfOk result (IsReplayed (R.remaining reader.old)
+        (W.contents writer.old) (W.contents writer.new)) }
+    ensures not_replayed { order.entry ≡ Order.Replay → IfErr result
+        (IsNotReplayed (R.remaining reader.old) (R.remaining reader.new)
+        (W.contents writer.old) (W.contents writer.new)) }
+    ensures idle { order.entry ≡ Order.Replay → store.new ≡ store.old }
+    ensures untouched { IsTrue (S.tells store.old) → (name : List ℕ) → IsUntouched order.entry name
+        → S.told store.new name ≡ S.told store.old name }
+    ensures tells { S.tells store.new ≡ S.tells store.old }
+    ensures left { OnOk result
+        (Spends (calls_of order.entry) (S.left store.old) (S.left store.new)) }
+    ensures left_after { Spends 0 (S.left store.old) (S.left store.new) }
+    ensures kept { S.failures store.old ≤ S.failures store.new }
+{
+    match order {
+        Order::Replay => replay(alloc, reader, writer),
+        _ => run_and_print(alloc, order, store, writer),
+    }
+}
+
+fn replay<R: Read, W: Write>(alloc: Global, reader: &mut R, writer: &mut W) -> Result<u8, RunFault>
+    ensures done { IfOk result (IsReplayed (R.remaining reader.old)
+        (W.contents writer.old) (W.contents writer.new)) }
+    ensures not_done { IfErr result
+        (IsNotReplayed (R.remaining reader.old) (R.remaining reader.new)
+        (W.contents writer.old) (W.contents writer.new)) }
+{
+    replay_run(alloc, reader, writer)?;
+    Ok(0)
+}
+
+fn run_and_print<S: Store, W: Write>(
+    alloc: Global,
+    order: Order<'_>,
+    store: &mut S,
+    writer: &mut W,
+) -> Result<u8, RunFault>
+    requires { IsOverFiles order }
+    ensures done { IfOk result
+        (IsDone (IsTrue (S.tells store.old)) order.entry (S.told store.old) (S.told store.new)
+        (W.contents writer.old) (W.contents writer.new)) }
+    ensures not_done { IfErr result
+        (IsNotDone (IsTrue (S.tells store.old)) order.entry (S.told store.old) (S.told store.new)
+        (S.failures store.old) (S.failures store.new)
+        (W.contents writer.old) (W.contents writer.new)) }
+    ensures untouched { IsTrue (S.tells store.old) → (name : List ℕ) → IsUntouched order.entry name
+        → S.told store.new name ≡ S.told store.old name }
+    ensures tells { S.tells store.new ≡ S.tells store.old }
+    ensures left { OnOk result
+        (Spends (calls_of order.entry) (S.left store.old) (S.left store.new)) }
+    ensures left_after { Spends 0 (S.left store.old) (S.left store.new) }
+    ensures kept { S.failures store.old ≤ S.failures store.new }
+{
+    let report = run(alloc, order, store)?;
+    write_text(writer, report.text())?;
+    Ok(report.status())
+}
+
+// The report of an order's run.
+fn run<S: Store>(alloc: Global, order: Order<'_>, store: &mut S) -> Result<Report, RunFault>
+    requires { IsOverFiles order }
+    ensures does { IfOk result (λ report. IsTrue (S.tells store.old)
+        → Does order.entry (S.told store.old) (S.told store.new) report) }
+    ensures over { IfOk result (λ report. IsTrue (S.tells store.old)
+        → DoesOver order.entry (S.told store.old) (S.told store.new) report) }
+    ensures report { IfOk result (IsReportOf order.entry) }
+    ensures stops { IfErr result
+        (RunStops (IsTrue (S.tells store.old)) order.entry (S.told store.old) (S.told store.new)) }
+    ensures refuses { IfErr result (λ fault. IsTrue (S.tells store.old)
+        → StopsOver order.entry (S.told store.old) (S.told store.new) fault) }
+    ensures device { IfErr result (Blames (S.failures store.old) (S.failures store.new)) }
+    ensures untouched { IsTrue (S.tells store.old) → (name : List ℕ) → IsUntouched order.entry name
+        → S.told store.new name ≡ S.told store.old name }
+    ensures tells { S.tells store.new ≡ S.tells store.old }
+    ensures left { OnOk result
+        (Spends (calls_of order.entry) (S.left store.old) (S.left store.new)) }
+    ensures left_after { Spends 0 (S.left store.old) (S.left store.new) }
+    ensures kept { S.failures store.old ≤ S.failures store.new }
+{
+    match order {
+        Order::Publish { dir, changes, now } => publish_run(alloc, store, dir, changes, now),
+        Order::Convert { input, output } => convert_run(alloc, store, input, output),
+        _ => unreachable!(),
+    }
+}

@@ -1,0 +1,96 @@
+//! The texts of help.
+
+pub(crate) const ABOUT: &str =
+    "Publishes OpenStreetMap edits as numbered sequences, and follows them";
+
+pub(crate) const EXAMPLES: &str = "Examples:
+  osmrepl publish folder changes.opl --now 2024-01-01T00:00:00Z
+  osmrepl follow folder follower.save
+  osmrepl lag folder follower.save
+  osmrepl show follower.save
+  osmrepl convert changes.opl changes.o5c
+  osmrepl replay <script.txt >replies.txt
+
+Exit statuses:
+  0  done
+  1  done, but numbers are missing, which follow printed
+  2  the words of the command line are refused
+  3  any other fault, out of memory included; one line on standard error says which";
+
+pub(crate) const REPLAY: &str =
+    "Runs a script of edits, closes and deliveries, and writes the replies";
+
+pub(crate) const SCRIPTS: &str = "The script is read from standard input, as in
+  osmrepl replay <script.txt >replies.txt
+
+It has one event a line; empty lines and lines that begin with # say nothing:
+  edit LINE      the publisher takes an edit, a line of an OPL file, as
+                 n1 v1 dV c7 t2024-01-01T00:00:00Z i5 uann T x1 y2
+  close TIME     the pending edits are published as the next sequence, at a time as
+                 2024-01-01T00:00:00Z
+  deliver N opl  published sequence N is delivered to the follower as an OPL file
+  deliver N o5c  the same as an o5c file
+  show           the follower shows its number, time, objects and counts of edits
+  save           the follower is saved
+  restart        the follower restarts from what was saved last, or anew if nothing was
+
+A line that is no event is a fault, and nothing is written then. A fault names standard input as
+input, and standard output as output.";
+
+pub(crate) const PUBLISH: &str = "Publishes the changes of a file as a folder's next sequence";
+
+pub(crate) const PUBLISHING: &str = "As in
+  osmrepl publish folder changes.opl --now 2024-01-01T00:00:00Z
+
+The number's files are written first, as folder/000/000/001.o5c, .opl and .state.txt, and then
+folder/state.txt, so the folder is whole at every moment. The number is printed, as 'published 1'.
+
+A fault names a file of DIR by its path there, as state.txt or 000/000/001.o5c, and CHANGES as
+changes.";
+
+pub(crate) const FOLLOW: &str = "Takes what a folder has after a save, and saves that";
+
+pub(crate) const FOLLOWING: &str = "As in
+  osmrepl follow folder follower.save
+
+Each number after the save's is taken from its .o5c file, or if there is none, from its .opl file.
+A number without a state file, or without both, is missing: SAVE goes up to the number before it.
+SAVE is written first. Then is printed:
+  applied LOW..HIGH  for each step
+  missing K          for each missing number; the status is then 1
+  number N           the number that SAVE is at
+
+A file that is there but faulty stops the run at its number, with the place and the cause, and SAVE
+stays as it was: put the right file there, or remove it, and follow again.
+
+A fault names a file of DIR by its path there, as state.txt or 000/000/001.o5c, and SAVE as save.";
+
+pub(crate) const LAG: &str = "Prints how far a save is behind a folder";
+
+pub(crate) const LAGGING: &str = "As in
+  osmrepl lag folder follower.save
+
+It prints 'behind B', the numbers after the save's, and 'seconds S', the time from the save's
+sequence to the folder's newest, or 'seconds none' if nothing was followed yet.
+
+A fault names DIR/state.txt as state.txt, and SAVE as save.";
+
+pub(crate) const SHOW: &str = "Prints what a save holds";
+
+pub(crate) const SHOWING: &str = "As in
+  osmrepl show follower.save
+
+It prints the number and the time, the objects as lines of an OPL file, and the users and the
+changesets with their counts of edits.
+
+A fault names SAVE as save.";
+
+pub(crate) const CONVERT: &str = "Writes the changes of a file in the form of another's name";
+
+pub(crate) const CONVERTING: &str = "As in
+  osmrepl convert changes.opl changes.o5c
+
+A name that ends in .opl is that of an OPL file, and one that ends in .o5c that of an o5c file.
+Nothing is printed.
+
+A fault names IN as input, and OUT as output.";
