@@ -1,18 +1,16 @@
 -- Numbers that are read in one pass are what the readers of whole fields find.
-use Rattle.std.proofs.Common.{◌≡◌, ℕ, suc, ◌+◌, ◌<◌, ◌≤◌, true, false, List, [], ◌∷◌, ◌++◌, length, get_or, take, drop, Option, Some, None, refl, sym, ap, ◌∙◌, ◌^◌, arith, pos, lit≤}
-use Rattle.std.specs.Prelude.{◌≢◌, ◌==◌, IfSome, ℤ, min, nat_le, nat_lt}
+use Rattle.std.proofs.Common.{◌≡◌, ℕ, ◌+◌, ◌<◌, ◌≤◌, true, false, List, [], ◌∷◌, ◌++◌, length, get_or, take, drop, Option, Some, None, refl, sym, ap, ◌∙◌, ◌^◌, arith, pos, lit≤}
+use Rattle.std.specs.Prelude.{◌≢◌, ◌==◌, IfSome, ℤ, min, nat_le}
 use Rattle.std.specs.Borrow.{Bor}
 use Rattle.std.specs.Char.{digit_value}
 use Rattle.std.specs.Str.Parse.{digits_value}
 use Rattle.std.proofs.lemmas.Bool.Decides.{nat_tests}
 use Rattle.std.proofs.lemmas.List.{drop_more, length-take, take-append-drop, take_all}
-use Rattle.osm_model.specs.declared.kind.Key.{Key}
 use Rattle.osm_model.specs.declared.kind.Kind.{Kind}
 use Rattle.osm_opl.specs.Steps.Plain.{IdFirst, NumberFirst, first_at}
 use Rattle.osm_opl.specs.Steps.Reading.{all_digits, digits_at, field_at, id_at, key_at, kind_at, number_at, positive_at, positive_field_at, ref_at}
 use Rattle.osm_reading.specs.Pieces.{Lacks, pieces, pieces_after}
 use Rattle.osm_reading.proofs.PieceLemmas.{pieces-more, pieces-one}
-use Rattle.osm_reading.proofs.StepLemmas.{both_held}
 use Rattle.osm_opl.proofs.NumberLemmas.{Digits, IsNumeralOf, digits_again, digits_take, each_digit, few_digits}
 use Rattle.osm_opl.proofs.NumberLaws.{digits_lack}
 

@@ -2,7 +2,8 @@
 //! `%DIGITS%` with the hexadecimal digits of its code.
 
 ghost use Rattle.std.specs.Prelude.{◌≡◌, ◌-◌, ◌^◌, ◌<◌, ◌≤◌, ◌++◌, length, min, option_map};
-ghost use Rattle.std.specs.Prelude.{true, string_bytes, if◌then◌else◌, Some, None, IfErr, OnOk, OnErr};
+ghost use Rattle.std.specs.Prelude.{true, string_bytes, if◌then◌else◌, Some, None};
+ghost use Rattle.std.specs.Prelude.{IfErr, OnOk, OnErr};
 ghost use Rattle.std.specs.Char.{digit_char, encode_utf8};
 ghost use Rattle.std.specs.Io.{StartsWith};
 ghost use Rattle.std.specs.List.{list_all};

@@ -13,8 +13,10 @@ use osm_model::form::Why;
 use osm_model::limits::MAX_ID;
 use osm_model::memory::WantOfMemory;
 
+// The most digits of a number.
 const MOST_DIGITS: usize = 20;
 
+// A number of so many digits fits into 64 bits.
 const FITTING_DIGITS: usize = 19;
 
 /// The number that 1 to `most` decimal digits write, or `u64::MAX` if it is greater.

@@ -14,8 +14,8 @@ use osm_model::limits::MAX_ID;
 // A number of so many digits fits into 64 bits.
 const FITTING_DIGITS: usize = 19;
 
-/// The number that the digits before the first separator write, and what follows the separator. None
-/// if there are no digits or more than 19, or another byte is among them.
+/// The number that the digits before the first separator write, and what follows the separator.
+/// None if there are no digits or more than 19, or another byte is among them.
 pub(crate) fn leading_number(bytes: &[u8], separator: u8) -> Option<(u64, Option<&[u8]>)>
     requires { 10 ≤ digit_value separator }
     ensures value { IfSome result (λ r.

@@ -1,7 +1,7 @@
 use Rattle.std.proofs.Common.{◌≤◌, length, arith}
 use Rattle.osm_opl.specs.Steps.Reading.{ref_at}
 use Rattle.osm_reading.specs.Pieces.{pieces_after}
-use Rattle.osm_opl.proofs.ListLemmas.{first_unread, item_first, item_too_many, list_read}
+use Rattle.osm_opl.proofs.ListLemmas.{first_unread, item_too_many, list_read}
 use Rattle.osm_reading.proofs.PieceLemmas.{some_pieces}
 use Rattle.osm_opl.proofs.lists.read_refs.Goals as goal
 
