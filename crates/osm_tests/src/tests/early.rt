@@ -71,34 +71,26 @@ fn is_at(
     Ok(is_there && are_counted && is_then)
 }
 
-// Whether a new follower holds the second sequence, which deletes the node, and an empty third.
-fn are_kept(alloc: Global, follower: &mut Follower) -> Result<bool, Fail> {
+#[test]
+fn held_sequences_are_applied_with_the_missing_one(rt: HostRuntime) -> Result<(), Fail> {
+    let alloc = rt.alloc();
+    let mut follower = Follower::new(alloc)?;
     let early = [
         (3, b"".as_slice(), HELD),
         (2, GONE, HELD),
         (2, b"no file".as_slice(), Ok(Delivered::Again)),
     ];
-    let are_held = are_answered(alloc, follower, early.as_slice())?;
-    let are_shown = shows_held(alloc, follower, [2, 3].as_slice())?;
-    Ok(are_held && are_shown && is_at(follower, (0, None), (0, 0), false)?)
-}
-
-// Whether the first sequence is applied with both: the deletion came first and is applied last.
-fn are_applied(alloc: Global, follower: &mut Follower) -> Result<bool, Fail> {
+    assert!(rt; are_answered(alloc, &mut follower, early.as_slice())?);
+    assert!(rt; is_at(&follower, (0, None), (0, 0), false)?);
+    assert!(rt; shows_held(alloc, &follower, [2, 3].as_slice())?);
+    // The deletion came first and is applied last.
     let missing = [
         (1, MADE, Ok(Delivered::Applied { low: 1, high: 3 })),
         (2, b"no file".as_slice(), Ok(Delivered::Old)),
     ];
-    let are_applied = are_answered(alloc, follower, missing.as_slice())?;
-    let are_shown = shows_held(alloc, follower, [].as_slice())?;
-    Ok(are_applied && are_shown && is_at(follower, (3, Some(NEW_YEAR + 180)), (1, 1), false)?)
-}
-
-#[test]
-fn held_sequences_are_applied_with_the_missing_one(rt: HostRuntime) -> Result<(), Fail> {
-    let alloc = rt.alloc();
-    let mut follower = Follower::new(alloc)?;
-    assert!(rt; are_kept(alloc, &mut follower)? && are_applied(alloc, &mut follower)?);
+    assert!(rt; are_answered(alloc, &mut follower, missing.as_slice())?);
+    assert!(rt; is_at(&follower, (3, Some(NEW_YEAR + 180)), (1, 1), false)?);
+    assert!(rt; shows_held(alloc, &follower, [].as_slice())?);
     Ok(())
 }
 
@@ -121,8 +113,12 @@ fn are_held(alloc: Global, follower: &mut Follower) -> Result<bool, Fail> {
     Ok(true)
 }
 
-// Whether the first sequence is applied with those 63, and the window moves with the number.
-fn moves_the_window(alloc: Global, follower: &mut Follower) -> Result<bool, Fail> {
+#[test]
+fn a_window_of_sequences_is_applied_with_its_first(rt: HostRuntime) -> Result<(), Fail> {
+    let alloc = rt.alloc();
+    let mut follower = Follower::new(alloc)?;
+    assert!(rt; are_held(alloc, &mut follower)?);
+    // The window moves with the number.
     let deliveries = [
         (65, b"".as_slice(), Err(DeliverError::TooEarly)),
         (
@@ -134,19 +130,14 @@ fn moves_the_window(alloc: Global, follower: &mut Follower) -> Result<bool, Fail
         (128, b"".as_slice(), HELD),
         (64, b"".as_slice(), Ok(Delivered::Old)),
     ];
-    are_answered(alloc, follower, deliveries.as_slice())
-}
-
-#[test]
-fn a_window_of_sequences_is_applied_with_its_first(rt: HostRuntime) -> Result<(), Fail> {
-    let alloc = rt.alloc();
-    let mut follower = Follower::new(alloc)?;
-    assert!(rt; are_held(alloc, &mut follower)? && moves_the_window(alloc, &mut follower)?);
+    assert!(rt; are_answered(alloc, &mut follower, deliveries.as_slice())?);
     Ok(())
 }
 
-// Whether sequence 2 is applied with the first, and 4, which deletes the node, stays held.
-fn stays_held(alloc: Global, follower: &mut Follower) -> Result<bool, Fail> {
+#[test]
+fn what_is_held_after_a_gap_stays_held(rt: HostRuntime) -> Result<(), Fail> {
+    let alloc = rt.alloc();
+    let mut follower = Follower::new(alloc)?;
     let first = [
         (2, MADE, HELD),
         (4, GONE, HELD),
@@ -156,26 +147,11 @@ fn stays_held(alloc: Global, follower: &mut Follower) -> Result<bool, Fail> {
             Ok(Delivered::Applied { low: 1, high: 2 }),
         ),
     ];
-    let are_applied = are_answered(alloc, follower, first.as_slice())?;
-    let is_shown = shows_held(alloc, follower, [4].as_slice())?;
-    Ok(are_applied && is_shown && is_at(follower, (2, Some(NEW_YEAR + 120)), (1, 0), true)?)
-}
-
-// Whether it is applied with sequence 3.
-fn is_applied_at_last(alloc: Global, follower: &mut Follower) -> Result<bool, Fail> {
-    let third = [(
-        3,
-        b"".as_slice(),
-        Ok(Delivered::Applied { low: 3, high: 4 }),
-    )];
-    let is_applied = are_answered(alloc, follower, third.as_slice())?;
-    Ok(is_applied && is_at(follower, (4, Some(NEW_YEAR + 240)), (1, 1), false)?)
-}
-
-#[test]
-fn what_is_held_after_a_gap_stays_held(rt: HostRuntime) -> Result<(), Fail> {
-    let alloc = rt.alloc();
-    let mut follower = Follower::new(alloc)?;
-    assert!(rt; stays_held(alloc, &mut follower)? && is_applied_at_last(alloc, &mut follower)?);
+    assert!(rt; are_answered(alloc, &mut follower, first.as_slice())?);
+    assert!(rt; shows_held(alloc, &follower, [4].as_slice())?);
+    assert!(rt; is_at(&follower, (2, Some(NEW_YEAR + 120)), (1, 0), true)?);
+    let applied = Ok(Delivered::Applied { low: 3, high: 4 });
+    assert_eq!(rt; deliver(alloc, &mut follower, 3, b"")?, applied);
+    assert!(rt; is_at(&follower, (4, Some(NEW_YEAR + 240)), (1, 1), false)?);
     Ok(())
 }

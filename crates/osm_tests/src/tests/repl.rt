@@ -1,7 +1,6 @@
 //! Tests of scripts and replays: what a person expects, lines that are refused, readers and writers
 //! that fail, texts of faults, echoes of words.
 
-use osm_model::change::Change;
 use osm_opl::lines::read_line;
 use osm_repl::echo::echoes;
 use osm_folder::fault::{FileName, RunFault};
@@ -104,29 +103,20 @@ fn shows_the_node(reply: Reply) -> bool {
     is_first && is_counted && view.objects().len() == 1 && view.held().is_empty()
 }
 
-// Whether the world publishes that edit, but not at time 0.
-fn is_published(world: &mut World, change: Change) -> bool {
-    let is_edited = matches!(world.step(Event::Edit(change)), Reply::Edited);
-    let is_back = matches!(world.step(Event::Close(0)), Reply::TimeBack);
-    let is_closed = matches!(world.step(Event::Close(1_704_067_200)), Reply::Closed(1));
-    is_edited && is_back && is_closed
-}
-
-// Whether the world delivers the node's sequence, and then shows the node.
-fn is_delivered(world: &mut World) -> bool {
+#[test]
+fn a_world_takes_the_events_of_a_script_one_by_one(rt: HostRuntime) -> Result<(), Fail> {
+    let alloc = rt.alloc();
+    let mut world = World::new(alloc)?;
+    let change = read_line(alloc, NODE.as_bytes())?;
+    assert!(rt; matches!(world.step(Event::Edit(change)), Reply::Edited));
+    assert!(rt; matches!(world.step(Event::Close(0)), Reply::TimeBack));
+    assert!(rt; matches!(world.step(Event::Close(1_704_067_200)), Reply::Closed(1)));
     let delivered = world.step(Event::Deliver {
         number: 1,
         form: Form::Opl,
     });
-    let is_applied = matches!(delivered, Reply::Applied { low: 1, high: 1 });
-    is_applied && shows_the_node(world.step(Event::Show))
-}
-
-#[test]
-fn a_world_takes_the_events_of_a_script_one_by_one(rt: HostRuntime) -> Result<(), Fail> {
-    let change = read_line(rt.alloc(), NODE.as_bytes())?;
-    let mut world = World::new(rt.alloc())?;
-    assert!(rt; is_published(&mut world, change) && is_delivered(&mut world));
+    assert!(rt; matches!(delivered, Reply::Applied { low: 1, high: 1 }));
+    assert!(rt; shows_the_node(world.step(Event::Show)));
     Ok(())
 }
 
