@@ -1,5 +1,6 @@
 mod convert;
 mod files;
+mod follow;
 mod publish;
 mod save;
 mod shown;

@@ -9,5 +9,6 @@ pub mod Names
 pub mod Publication
 pub mod Reports
 pub mod Runs
+pub mod Showing
 pub mod Steps
 pub mod Stores

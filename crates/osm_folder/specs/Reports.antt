@@ -1,15 +1,14 @@
 -- What the runs print, line by line, and their exit statuses.
-use Rattle.std.specs.Prelude.{ℕ, List, [], ◌∷◌, ◌++◌, Option, Some, None, codes, decimal}
+use Rattle.std.specs.Prelude.{ℕ, List, [], ◌∷◌, ◌++◌, Option, Some, None, codes}
 use Rattle.std.specs.List.{flat_map}
+use Rattle.osm_follow.specs.View.{ViewValue}
+use Rattle.osm_show.specs.Lines.{applied_line, numbered_line}
+use Rattle.osm_show.specs.Show.{view_text}
 
 -- an exit status, and lines that each end with LF
 pub record ReportValue : Type 0 where
   pub status : ℕ
   pub text : List ℕ
-
--- a name and a number
-abbrev pub numbered_line : List ℕ → ℕ → List ℕ
-numbered_line name n = name ++ decimal n ++ 10 ∷ []
 
 -- nothing
 abbrev pub convert_report_of : ReportValue
@@ -18,6 +17,10 @@ convert_report_of = record { status = 0; text = [] }
 -- published N
 abbrev pub publish_report_of : ℕ → ReportValue
 publish_report_of n = record { status = 0; text = numbered_line (codes "published ") n }
+
+-- the show text of a view
+abbrev pub show_report_of : ViewValue → ReportValue
+show_report_of view = record { status = 0; text = view_text view }
 
 -- seconds S, or seconds none
 abbrev pub seconds_line : Option ℕ → List ℕ
@@ -31,18 +34,10 @@ lag_report_of behind seconds = record {
   text = numbered_line (codes "behind ") behind ++ seconds_line seconds;
 }
 
--- applied LOW..HIGH
-abbrev pub applied_line : ℕ × ℕ → List ℕ
-applied_line range = codes "applied " ++ decimal range.0 ++ codes ".." ++ decimal range.1 ++ 10 ∷ []
-
--- missing K
-abbrev pub missing_line : ℕ → List ℕ
-missing_line n = numbered_line (codes "missing ") n
-
--- a line for each range, a line for each missing number, and number N
+-- applied LOW..HIGH for each range, missing K for each missing number, and number N
 unfoldable pub follow_text : List (ℕ × ℕ) → List ℕ → ℕ → List ℕ
 follow_text applied missing number =
-    flat_map applied_line applied ++ flat_map missing_line missing
+    flat_map applied_line applied ++ flat_map (numbered_line (codes "missing ")) missing
     ++ numbered_line (codes "number ") number
 
 -- 1 exactly if a number is missing

@@ -1,4 +1,4 @@
-//! Files behind a trait, and the runs over them that need no follower.
+//! Files behind a trait, and the runs of the program over them.
 #![tactic(auto)]
 
 pub mod convert;
@@ -13,5 +13,6 @@ pub mod memory_store;
 pub mod names;
 pub mod publish;
 pub mod report;
+pub mod show;
 mod start;
 pub mod store;

@@ -1,13 +1,16 @@
 //! What a run prints, and its exit status.
 
-ghost use Rattle.std.specs.Prelude.{◌≡◌, ◌++◌, [], IfOk, OnOk, length, decimal};
+ghost use Rattle.std.specs.Prelude.{◌≡◌, ◌++◌, [], IfOk, OnOk, length};
 ghost use Rattle.std.specs.List.{flat_map};
-ghost use Rattle.osm_folder.specs.Reports.{applied_line, convert_report_of, follow_report_of};
-ghost use Rattle.osm_folder.specs.Reports.{follow_text, gap_status, lag_report_of, missing_line};
-ghost use Rattle.osm_folder.specs.Reports.{numbered_line, publish_report_of, seconds_line};
+ghost use Rattle.osm_show.specs.Lines.{applied_line};
+ghost use Rattle.osm_folder.specs.Reports.{convert_report_of, follow_report_of, follow_text};
+ghost use Rattle.osm_folder.specs.Reports.{gap_status, lag_report_of, publish_report_of};
+ghost use Rattle.osm_folder.specs.Reports.{seconds_line, show_report_of};
 
-use itoa::Buffer;
+use osm_follow::view::View;
 use osm_model::memory::WantOfMemory;
+use osm_show::lines::{write_applied, write_bytes, write_numbered, write_numbered_lines};
+use osm_show::show::write_view;
 use std::alloc::Global;
 use std::marker::Model;
 
@@ -61,7 +64,7 @@ pub fn publish_report(alloc: Global, number: u32) -> Result<Report, WantOfMemory
     ensures { IfOk result (λ report. report ≡ publish_report_of number) }
 {
     let mut text = Vec::new(alloc);
-    write_numbered(b"published ", number, &mut text)?;
+    write_numbered(b"published ", number as u64, &mut text)?;
     Ok(Report { status: 0, text })
 }
 
@@ -70,8 +73,17 @@ pub fn lag_report(alloc: Global, behind: u32, seconds: Option<u32>) -> Result<Re
     ensures { IfOk result (λ report. report ≡ lag_report_of behind seconds) }
 {
     let mut text = Vec::new(alloc);
-    write_numbered(b"behind ", behind, &mut text)?;
+    write_numbered(b"behind ", behind as u64, &mut text)?;
     write_seconds(seconds, &mut text)?;
+    Ok(Report { status: 0, text })
+}
+
+/// The show text of a view.
+pub fn show_report(alloc: Global, view: &View) -> Result<Report, WantOfMemory>
+    ensures { IfOk result (λ report. report ≡ show_report_of view.now) }
+{
+    let mut text = Vec::new(alloc);
+    write_view(view, &mut text)?;
     Ok(Report { status: 0, text })
 }
 
@@ -80,7 +92,7 @@ fn write_seconds(seconds: Option<u32>, text: &mut Vec<u8>) -> Result<(), WantOfM
 {
     match seconds {
         None => write_bytes(b"seconds none\n", text),
-        Some(seconds) => write_numbered(b"seconds ", seconds, text),
+        Some(seconds) => write_numbered(b"seconds ", seconds as u64, text),
     }
 }
 
@@ -98,8 +110,8 @@ pub fn follow_report(
 {
     let mut text = Vec::new(alloc);
     write_ranges(applied, &mut text)?;
-    write_missing(missing, &mut text)?;
-    write_numbered(b"number ", number, &mut text)?;
+    write_numbered_lines(b"missing ", missing, &mut text)?;
+    write_numbered(b"number ", number as u64, &mut text)?;
     let status = status_of_gap(missing);
     Ok(Report { status, text })
 }
@@ -117,48 +129,7 @@ fn write_ranges(applied: &[(u32, u32)], text: &mut Vec<u8>) -> Result<(), WantOf
     ensures { OnOk result (text.new.items ≡ text.old.items ++ flat_map applied_line applied.now) }
 {
     for (low, high) in applied {
-        write_range(*low, *high, text)?;
+        write_applied(*low, *high, text)?;
     }
-    Ok(())
-}
-
-fn write_range(low: u32, high: u32, text: &mut Vec<u8>) -> Result<(), WantOfMemory>
-    ensures { OnOk result (text.new.items ≡ text.old.items ++ applied_line (low, high)) }
-{
-    write_bytes(b"applied ", text)?;
-    write_number(low, text)?;
-    write_bytes(b"..", text)?;
-    write_number(high, text)?;
-    write_bytes(b"\n", text)
-}
-
-fn write_missing(missing: &[u32], text: &mut Vec<u8>) -> Result<(), WantOfMemory>
-    ensures { OnOk result (text.new.items ≡ text.old.items ++ flat_map missing_line missing.now) }
-{
-    for number in missing {
-        write_numbered(b"missing ", *number, text)?;
-    }
-    Ok(())
-}
-
-fn write_numbered(name: &[u8], number: u32, text: &mut Vec<u8>) -> Result<(), WantOfMemory>
-    ensures { OnOk result (text.new.items ≡ text.old.items ++ numbered_line name.now number) }
-{
-    write_bytes(name, text)?;
-    write_number(number, text)?;
-    write_bytes(b"\n", text)
-}
-
-fn write_number(number: u32, text: &mut Vec<u8>) -> Result<(), WantOfMemory>
-    ensures { OnOk result (text.new.items ≡ text.old.items ++ decimal number) }
-{
-    let mut buffer = Buffer::new();
-    write_bytes(buffer.format(number).as_bytes(), text)
-}
-
-fn write_bytes(bytes: &[u8], text: &mut Vec<u8>) -> Result<(), WantOfMemory>
-    ensures { OnOk result (text.new.items ≡ text.old.items ++ bytes.now) }
-{
-    text.extend_from_slice(bytes)?;
     Ok(())
 }

@@ -1,0 +1,31 @@
+-- A save that is shown, and why one isn't.
+use Rattle.std.proofs.Common.{◌≡◌, ℕ, ◌≤◌, List, length, Option, Some, refl, ap, sym, ◌∙◌}
+use Rattle.osm_save.specs.declared.save.Saved.{Saved}
+use Rattle.osm_follow.specs.Published.{PublishedValue, time_at}
+use Rattle.osm_folder.specs.Following.{IsSaveOf, IsSaved, max_save}
+use Rattle.osm_folder.specs.Reports.{ReportValue}
+use Rattle.osm_folder.specs.Showing.{IsShown, IsShownOf, ShowStops, view_of_saved}
+use Rattle.osm_folder.specs.Steps.Following.{RestartStops}
+use Rattle.osm_folder.specs.declared.fault.RunFault.{RunFault}
+use Rattle.osm_folder.specs.declared.fault.RunFault.TheVariants.{WantOfMemory, BadSave}
+use Rattle.osm_folder.proofs.InStepLemmas.{one_saved}
+
+pub shown_of : (ps : List PublishedValue) (number : ℕ) (told : Option (List ℕ)) (report : ReportValue) → IsSaveOf ps number told → IsShown told report → IsShownOf ps number report
+shown_of ps number told report saved shown =
+    let here : IsSaved told shown.saved = rw shown.there (shown.small, shown.spelled) in
+    let same : shown.saved ≡ saved.value = one_saved told shown.saved saved.value here saved.saved in
+    let step = saved.in_step in
+    record {
+      view = view_of_saved shown.saved;
+      number_is = ap (λ (v : Saved). v.number) same ∙ saved.number_is;
+      time = ap (λ (v : Saved). v.time) same ∙ (step.time ∙ ap (time_at ps) saved.number_is);
+      mirror = rw (same, ← saved.number_is) step.mirror;
+      held = refl;
+      report_is = shown.report_is;
+    }
+
+-- a text that isn't gone on from
+pub restart_stops : (known : Type 0) (told : Option (List ℕ)) (bytes : List ℕ) (fault : RunFault) → (known → told ≡ Some bytes) → length bytes ≤ max_save → RestartStops bytes fault → ShowStops known told fault
+restart_stops known told bytes WantOfMemory there small h = tt
+restart_stops known told bytes (BadSave line) there small h = λ sure. record { bytes = bytes; there = there sure; small = small; nothing = h }
+restart_stops known told bytes fault there small h = absurd h
