@@ -6,6 +6,9 @@ use Rattle.osm_follow.specs.Published.{PublishedValue}
 use Rattle.osm_folder.specs.Conversion.{ConvertStops, IsConverted}
 use Rattle.osm_folder.specs.Files.{Files}
 use Rattle.osm_folder.specs.Folder.{IsApart, IsFolderOf}
+use Rattle.osm_folder.specs.Following.{FollowRefuses, FollowStops, IsFollowReport, IsFollowed}
+use Rattle.osm_folder.specs.Following.{IsInStepAfter, IsSaveOf}
+use Rattle.osm_folder.specs.Lagging.{IsLag, IsLagOf, IsLagReport, LagRefuses, LagStops}
 use Rattle.osm_folder.specs.Publication.{FolderRefuses, IsAdded, IsPublished, PublishStops}
 use Rattle.osm_folder.specs.Reports.{ReportValue, convert_report_of, publish_report_of}
 use Rattle.osm_folder.specs.Runs.{Blames}
@@ -20,12 +23,16 @@ use Rattle.osm_repl.specs.declared.orders.Order.TheVariants.{Convert}
 -- the order is a run over the files: each is but a replay
 abbrev pub IsOverFiles : Order → Type 0
 IsOverFiles (Publish dir changes now) = Unit {0}
+IsOverFiles (Follow dir save) = Unit {0}
+IsOverFiles (Lag dir save) = Unit {0}
 IsOverFiles (Convert input output) = Unit {0}
 IsOverFiles order = ⊥
 
 -- how many calls of the store a run that is done makes at least
 abbrev pub calls_of : Order → ℕ
 calls_of (Publish dir changes now) = 6
+calls_of (Follow dir save) = 3
+calls_of (Lag dir save) = 2
 calls_of (Convert input output) = 2
 calls_of order = 0
 
@@ -33,41 +40,73 @@ calls_of order = 0
 abbrev pub Does : Order → Files → Files → ReportValue → Type 0
 Does (Publish dir changes now) old new report =
     IsPublished dir.now changes.now now.now old new report
+Does (Follow dir save) old new report = IsFollowed dir.now save.now old new report
+Does (Lag dir save) old new report = IsLag dir.now save.now old report
 Does (Convert input output) old new report = IsConverted input.now output.now old new
 Does order old new report = ⊥
 
--- the same, if the files are those of sequences that were published
+-- the same, if the folder is that of published sequences, and the save is one of theirs
 abbrev pub DoesOver : Order → Files → Files → ReportValue → Type 0
 DoesOver (Publish dir changes now) old new report =
     (published : List PublishedValue) → IsFolderOf published old dir.now
     → IsAdded published dir.now changes.now now.now old new report
+DoesOver (Follow dir save) old new report =
+    (published : List PublishedValue) (number : ℕ) → IsFolderOf published old dir.now
+    → IsSaveOf published number (old save.now)
+    → IsInStepAfter published number dir.now save.now old new report
+DoesOver (Lag dir save) old new report =
+    (published : List PublishedValue) (number : ℕ) → IsFolderOf published old dir.now
+    → IsSaveOf published number (old save.now) → IsLagOf published number report
 DoesOver order old new report = Unit {0}
 
 -- the report of such a run, whatever is known of the files
 abbrev pub IsReportOf : Order → ReportValue → Type 0
 IsReportOf (Publish dir changes now) report = (n : ℕ) × (report ≡ publish_report_of n)
+IsReportOf (Follow dir save) report = IsFollowReport report
+IsReportOf (Lag dir save) report = IsLagReport report
 IsReportOf (Convert input output) report = report ≡ convert_report_of
 IsReportOf order report = ⊥
 
--- why the run of the order stops, and what it leaves
+-- why the run of the order stops
 abbrev pub RunStops : Type 0 → Order → Files → Files → RunFault → Type 0
 RunStops known (Publish dir changes now) old new fault =
     PublishStops known dir.now changes.now now.now old new fault
+RunStops known (Follow dir save) old new fault = FollowStops known dir.now save.now old fault
+RunStops known (Lag dir save) old new fault = LagStops known dir.now save.now old fault
 RunStops known (Convert input output) old new fault =
-    ConvertStops known input.now output.now old fault × (new ≡ old)
+    ConvertStops known input.now output.now old fault
 RunStops known order old new fault = ⊥
 
--- the same, if the files are those of sequences that were published
+-- the same, if the folder is that of published sequences, and the save is one of theirs
 abbrev pub StopsOver : Order → Files → Files → RunFault → Type 0
 StopsOver (Publish dir changes now) old new fault =
     (published : List PublishedValue) → IsFolderOf published old dir.now
-    → FolderRefuses published now.now fault × IsFolderOf published new dir.now
+    → FolderRefuses published now.now fault
+StopsOver (Follow dir save) old new fault =
+    (published : List PublishedValue) (number : ℕ) → IsFolderOf published old dir.now
+    → IsSaveOf published number (old save.now) → FollowRefuses published (old save.now) fault
+StopsOver (Lag dir save) old new fault =
+    (published : List PublishedValue) (number : ℕ) → IsFolderOf published old dir.now
+    → IsSaveOf published number (old save.now)
+    → LagRefuses published number (old save.now) fault
 StopsOver order old new fault = Unit {0}
+
+-- what a run that stops leaves: all files as they were, or of a publication, which may be cut off,
+-- the folder of what was published before
+abbrev pub Leaves : Type 0 → Order → Files → Files → Type 0
+Leaves known (Publish dir changes now) old new =
+    known → (published : List PublishedValue) → IsFolderOf published old dir.now
+    → IsFolderOf published new dir.now
+Leaves known order old new = new ≡ old
 
 -- the names that the order doesn't change, however it ends
 abbrev pub IsUntouched : Order → List ℕ → Type 0
+IsUntouched Replay name = Unit {0}
 IsUntouched (Publish dir changes now) name = IsApart dir.now name
-IsUntouched order name = ⊥
+IsUntouched (Follow dir save) name = name ≡ save.now → ⊥
+IsUntouched (Lag dir save) name = Unit {0}
+IsUntouched (Show save) name = Unit {0}
+IsUntouched (Convert input output) name = name ≡ output.now → ⊥
 
 -- a run was done, and gave that report
 pub record IsRun (known : Type 0) (order : Order) (old new : Files) (report : ReportValue) :
@@ -89,6 +128,7 @@ pub record IsStopped (known : Type 0) (order : Order) (old new : Files) (failed 
     (printed after : Option (List ℕ)) (fault : RunFault) : Type 0 where
   pub stops : RunStops known order old new fault
   pub over : known → StopsOver order old new fault
+  pub leaves : Leaves known order old new
   pub device : Blames failed fails fault
   pub nothing : after ≡ printed
 

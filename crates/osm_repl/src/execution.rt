@@ -1,17 +1,19 @@
 //! Carrying out what the words of the command line ask for.
 
-ghost use Rattle.std.specs.Prelude.{◌≡◌, ℕ, ◌≤◌, List, IsTrue, IfOk, IfErr, OnOk};
+ghost use Rattle.std.specs.Prelude.{◌≡◌, ℕ, ◌≤◌, List, IsTrue, IfOk, IfErr, OnOk, OnErr};
 ghost use Rattle.osm_folder.specs.Files.{Spends};
 ghost use Rattle.osm_folder.specs.Runs.{Blames};
 ghost use Rattle.osm_repl.specs.Execution.{Does, DoesOver, IsDone, IsNotDone, IsNotReplayed};
 ghost use Rattle.osm_repl.specs.Execution.{IsOverFiles, IsReplayed, IsReportOf, IsUntouched};
-ghost use Rattle.osm_repl.specs.Execution.{RunStops, StopsOver, calls_of};
+ghost use Rattle.osm_repl.specs.Execution.{Leaves, RunStops, StopsOver, calls_of};
 
 use crate::orders::Order;
 use crate::replay::replay_run;
 use crate::writing::write_text;
 use osm_folder::convert::convert_run;
 use osm_folder::fault::RunFault;
+use osm_folder::follow::follow_run;
+use osm_folder::lag::lag_run;
 use osm_folder::publish::publish_run;
 use osm_folder::report::Report;
 use osm_folder::store::Store;
@@ -107,6 +109,8 @@ fn run<S: Store>(alloc: Global, order: Order<'_>, store: &mut S) -> Result<Repor
         (RunStops (IsTrue (S.tells store.old)) order.entry (S.told store.old) (S.told store.new)) }
     ensures refuses { IfErr result (λ fault. IsTrue (S.tells store.old)
         → StopsOver order.entry (S.told store.old) (S.told store.new) fault) }
+    ensures leaves { OnErr result
+        (Leaves (IsTrue (S.tells store.old)) order.entry (S.told store.old) (S.told store.new)) }
     ensures device { IfErr result (Blames (S.failures store.old) (S.failures store.new)) }
     ensures untouched { IsTrue (S.tells store.old) → (name : List ℕ) → IsUntouched order.entry name
         → S.told store.new name ≡ S.told store.old name }
@@ -118,6 +122,8 @@ fn run<S: Store>(alloc: Global, order: Order<'_>, store: &mut S) -> Result<Repor
 {
     match order {
         Order::Publish { dir, changes, now } => publish_run(alloc, store, dir, changes, now),
+        Order::Follow { dir, save } => follow_run(alloc, store, dir, save),
+        Order::Lag { dir, save } => lag_run(alloc, store, dir, save),
         Order::Convert { input, output } => convert_run(alloc, store, input, output),
         _ => unreachable!(),
     }
