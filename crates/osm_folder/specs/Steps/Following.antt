@@ -16,7 +16,7 @@ use Rattle.osm_follow.specs.Restart.{follower_of, saved_of}
 use Rattle.osm_follow.specs.declared.delivery.Delivered.{Delivered}
 use Rattle.osm_follow.specs.declared.delivery.Delivered.TheVariants.{Old, Again, Held, Applied}
 use Rattle.osm_folder.specs.Files.{Files, IsOver}
-use Rattle.osm_folder.specs.Folder.{IsStateFile, IsThere, max_state}
+use Rattle.osm_folder.specs.Folder.{IsStateFile, max_state}
 use Rattle.osm_folder.specs.Following.{AddsAll, GoesOn, HasFiles, IsBadSave}
 use Rattle.osm_folder.specs.Following.{IsReadable, NumberStops, is_lost, lost_numbers, max_save}
 use Rattle.osm_folder.specs.Following.{ranges}
