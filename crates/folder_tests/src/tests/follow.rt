@@ -214,6 +214,7 @@ const STATE_3: &[u8] = b"sequenceNumber=3\ntimestamp=2024-01-01T00\\:00\\:00Z\n"
 const EARLY_4: &[u8] = b"sequenceNumber=4\ntimestamp=2024-01-01T00\\:02\\:59Z\n";
 
 // The runs over a folder and a save.
+#[derive(Clone, Copy)]
 enum Run {
     Follow,
     Lag,

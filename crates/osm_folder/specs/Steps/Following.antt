@@ -174,7 +174,8 @@ pub record IsTakenUp (known : Type 0) (files : Files) (dir : List ℕ) (f : Foll
   pub next : is_held g (g.number + 1) ≡ false
   pub applied_are : applied ≡ ranges f.number count
   pub goes_on : known → GoesOn files dir (saved_of f) top count (saved_of g)
-  pub missing : known → missing_numbers (is_held g) g.number top ≡ lost_numbers files dir g.number top
+  pub missing : known
+      → missing_numbers (is_held g) g.number top ≡ lost_numbers files dir g.number top
 
 -- a number comes to be taken, from the follower's on
 pub record IsNext (files : Files) (dir : List ℕ) (start top number : ℕ) : Type 0 where
