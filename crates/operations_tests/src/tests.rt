@@ -1,0 +1,116 @@
+//! Replies to operations, and what is there after them.
+
+use osm_folder::memory_store::MemoryStore;
+use osm_model::batch::Batch;
+use osm_operations::operation::{Operation, Reply};
+use osm_operations::world::{Outcome, run};
+use osm_state::paths::Suffix;
+use std::alloc::Global;
+use std::test::Fail;
+
+// 2024-01-01T00:00:00Z
+const TIME: u32 = 1_704_067_200;
+
+// The replies to the operations below.
+const REPLIES: [&str; 14] = [
+    "published 1\n",
+    "published 2\n",
+    "published 3\n",
+    "lost",
+    "not there",
+    "applied 1..1\nmissing 2\nnumber 1\n",
+    "back",
+    "refused",
+    "refused",
+    "applied 2..2\napplied 3..3\nnumber 3\n",
+    "published 4\n",
+    "applied 4..4\nnumber 4\n",
+    "number 4\n",
+    "refused",
+];
+
+const STATE: Suffix = Suffix::State;
+
+// An empty sequence a minute after the one before.
+fn publish(alloc: Global, minute: u32) -> Operation {
+    Operation::Publish {
+        changes: Batch::new(alloc),
+        time: TIME + minute % 60 * 60,
+    }
+}
+
+fn killed_publish(alloc: Global, minute: u32, calls: u64) -> Operation {
+    Operation::KilledPublish {
+        changes: Batch::new(alloc),
+        time: TIME + minute % 60 * 60,
+        calls,
+    }
+}
+
+// Three sequences, of which the second is lost for a while; then runs that are killed early, and
+// runs that are killed after their last write.
+fn operations(alloc: Global) -> Result<Vec<Operation>, Fail> {
+    let mut list = Vec::new(alloc);
+    for operation in [
+        publish(alloc, 0),
+        publish(alloc, 1),
+        publish(alloc, 2),
+        Operation::Lose {
+            number: 2,
+            suffix: STATE,
+        },
+        Operation::Lose {
+            number: 2,
+            suffix: STATE,
+        },
+        Operation::Follow,
+        Operation::PutBack {
+            number: 2,
+            suffix: STATE,
+        },
+        Operation::KilledFollow { calls: 2 },
+        killed_publish(alloc, 3, 5),
+        Operation::Follow,
+        killed_publish(alloc, 3, 6),
+        Operation::KilledFollow { calls: 5 },
+        Operation::KilledFollow { calls: 3 },
+        publish(alloc, 0),
+    ] {
+        list.push(operation)?;
+    }
+    Ok(list)
+}
+
+fn text_of(reply: &Reply) -> &[u8] {
+    match reply {
+        Reply::Published(report) | Reply::Followed(report) => report.text(),
+        Reply::Refused(_) => b"refused",
+        Reply::Lost => b"lost",
+        Reply::IsBack => b"back",
+        Reply::NotThere => b"not there",
+    }
+}
+
+fn is_file(outcome: &Outcome, name: &str, bytes: &[u8]) -> bool {
+    match outcome.store.get(name) {
+        None => false,
+        Some(found) => found == bytes,
+    }
+}
+
+#[test]
+fn losses_and_kills_leave_each_number_reported_once(rt: HostRuntime) -> Result<(), Fail> {
+    let alloc = rt.alloc();
+    let store = MemoryStore::new(alloc);
+    let outcome = run(alloc, store, "dir", "save", "changes", operations(alloc)?)?;
+    assert!(rt; outcome.replies.len() == REPLIES.len());
+    for (reply, text) in outcome.replies.iter().zip(REPLIES) {
+        assert!(rt; text_of(reply) == text.as_bytes(), "{text}");
+    }
+    let save = b"osmrepl-save 1\nsequence 4\ntime 2024-01-01T00:03:00Z\nobjects 0\nusers 0\n\
+        changesets 0\nend\n";
+    assert!(rt; is_file(&outcome, "save", save));
+    let state = b"sequenceNumber=4\ntimestamp=2024-01-01T00\\:03\\:00Z\n";
+    assert!(rt; is_file(&outcome, "dir/state.txt", state));
+    Ok(())
+}

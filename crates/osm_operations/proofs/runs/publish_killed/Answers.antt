@@ -1,0 +1,22 @@
+use Rattle.std.proofs.Common.{ap}
+use Rattle.osm_folder.specs.Stores.{files_of}
+use Rattle.osm_operations.proofs.RunLemmas.{run_step_over}
+use Rattle.osm_operations.proofs.runs.publish_killed.Goals as goal
+
+pub returns-clause-step : goal.returns-clause-step
+returns-clause-step c =
+    run_step_over c.args.dir.now c.args.changes.now c.text_of.result.now c.args.batch.now c.args.time
+    (files_of c.args.store.now) (files_of c.write_changes.new.store) (files_of c.fuse_over-fuse.result.inner)
+    (files_of c.publish_run-answer.new.store.inner) (files_of c.into_inner.result) c.publish_run-answer.result
+    c.fuse_over-fuse.ensures.inner
+    (ap files_of c.into_inner.ensures)
+    (rw c.text_of.ensures c.time_write-now.ensures.shows)
+    (λ some. rw c.text_of.ensures (c.time_write-now.ensures.text some))
+    c.in_ok-write_changes.ensures.written
+    (record {
+      published = c.publish_run-answer.ensures.published;
+      stops = c.publish_run-answer.ensures.stops;
+      refuses = c.publish_run-answer.ensures.refuses;
+      keeps = c.publish_run-answer.ensures.keeps;
+      others = c.publish_run-answer.ensures.others;
+    })

@@ -1,0 +1,4 @@
+pub mod History
+pub mod Allowed
+pub mod Correct
+pub mod Steps

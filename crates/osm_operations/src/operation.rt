@@ -1,0 +1,57 @@
+//! What may happen to a folder and a save, and what it replies.
+
+use osm_folder::fault::RunFault;
+use osm_folder::report::Report;
+use osm_model::batch::Batch;
+use osm_state::paths::Suffix;
+
+/// What is done to a folder and a save. A killed run makes at most so many calls of the store; each
+/// call after them is refused, so nothing is read or written any more.
+#[derive(Debug, Drop)]
+pub enum Operation {
+    /// The changes are published as the next sequence, at that time in seconds since
+    /// 1970-01-01T00:00:00Z.
+    Publish {
+        changes: Batch,
+        time: u32,
+    },
+    /// The same, by a run that is killed.
+    KilledPublish {
+        changes: Batch,
+        time: u32,
+        calls: u64,
+    },
+    /// The follower goes on from the save.
+    Follow,
+    /// The same, by a run that is killed.
+    KilledFollow {
+        calls: u64,
+    },
+    /// A file of a published sequence is taken away.
+    Lose {
+        number: u32,
+        suffix: Suffix,
+    },
+    /// A file that was taken away is put back with the bytes that it had.
+    PutBack {
+        number: u32,
+        suffix: Suffix,
+    },
+}
+
+/// What an operation answers. A run that is killed after its last write answers as a whole run.
+#[derive(Debug, Drop)]
+pub enum Reply {
+    /// A publication is done, and this is what it prints.
+    Published(Report),
+    /// A run of the follower is done, and this is what it prints.
+    Followed(Report),
+    /// The run stopped, or the file wasn't moved.
+    Refused(RunFault),
+    /// The file was taken away.
+    Lost,
+    /// The file is there again.
+    IsBack,
+    /// The number isn't published, the file to lose is lost, or the file to put back isn't.
+    NotThere,
+}

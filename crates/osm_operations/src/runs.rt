@@ -1,0 +1,159 @@
+//! Runs over a store in memory, whole or killed.
+
+ghost use Rattle.std.specs.Prelude.{◌≡◌, ◌≤◌, IfErr, IfOk, OnErr, OnOk};
+ghost use Rattle.std.specs.Str.{IsAscii};
+ghost use Rattle.osm_model.specs.Limits.{max_sequence};
+ghost use Rattle.osm_folder.specs.Names.{file_name_of};
+ghost use Rattle.osm_folder.specs.Stores.{calls_of, files_of, inner_of};
+ghost use Rattle.osm_operations.specs.Steps.Stepping.{AreChangesPut, ChangesStop, FollowStep};
+ghost use Rattle.osm_operations.specs.Steps.Stepping.{IsNoDevice, Moves, PublishStep};
+
+use osm_folder::fault::{FileName, RunFault};
+use osm_folder::follow::follow_run;
+use osm_folder::fuse::Fuse;
+use osm_folder::memory_store::MemoryStore;
+use osm_folder::names::file_name;
+use osm_folder::publish::publish_run;
+use osm_folder::report::Report;
+use osm_model::batch::Batch;
+use osm_model::form::{ChangeForm, FormError};
+use osm_model::memory::WantOfMemory;
+use osm_model::time::time_write;
+use osm_opl::opl::Opl;
+use osm_state::paths::Suffix;
+use std::alloc::Global;
+use std::mem;
+
+// Writes the changes in OPL into a file, and publishes that file.
+pub(crate) fn publish(
+    alloc: Global,
+    store: &mut MemoryStore,
+    dir: &str,
+    changes: &str,
+    batch: &Batch,
+    time: u32,
+) -> Result<Report, RunFault>
+    ensures step { PublishStep dir.now changes.now batch.now time result
+        (files_of store.old) (files_of store.new) }
+    ensures device { IfErr result IsNoDevice }
+{
+    write_changes(alloc, store, changes, batch)?;
+    let now = time_write(time);
+    publish_run(alloc, store, dir, changes, text_of(&now))
+}
+
+// The same, by a run that is killed after so many calls. The file of changes is there before.
+pub(crate) fn publish_killed(
+    alloc: Global,
+    store: &mut MemoryStore,
+    dir: &str,
+    changes: &str,
+    batch: &Batch,
+    time: u32,
+    calls: u64,
+) -> Result<Report, RunFault>
+    ensures step { PublishStep dir.now changes.now batch.now time result
+        (files_of store.old) (files_of store.new) }
+    ensures left { OnOk result (6 ≤ calls) }
+{
+    write_changes(alloc, store, changes, batch)?;
+    let now = time_write(time);
+    let mut fuse = fuse_over(alloc, store, calls);
+    let answer = publish_run(alloc, &mut fuse, dir, changes, text_of(&now));
+    *store = fuse.into_inner();
+    answer
+}
+
+// A run of the follower.
+pub(crate) fn follow(
+    alloc: Global,
+    store: &mut MemoryStore,
+    dir: &str,
+    save: &str,
+) -> Result<Report, RunFault>
+    ensures step { FollowStep dir.now save.now result (files_of store.old) (files_of store.new) }
+    ensures device { IfErr result IsNoDevice }
+{
+    follow_run(alloc, store, dir, save)
+}
+
+// The same, by a run that is killed after so many calls.
+pub(crate) fn follow_killed(
+    alloc: Global,
+    store: &mut MemoryStore,
+    dir: &str,
+    save: &str,
+    calls: u64,
+) -> Result<Report, RunFault>
+    ensures step { FollowStep dir.now save.now result (files_of store.old) (files_of store.new) }
+    ensures left { OnOk result (3 ≤ calls) }
+{
+    let mut fuse = fuse_over(alloc, store, calls);
+    let answer = follow_run(alloc, &mut fuse, dir, save);
+    *store = fuse.into_inner();
+    answer
+}
+
+// The store behind a fuse; an empty one is in its place until it is handed back.
+fn fuse_over(alloc: Global, store: &mut MemoryStore, calls: u64) -> Fuse<MemoryStore>
+    ensures inner { files_of (inner_of result) ≡ files_of store.old }
+    ensures calls { calls_of result ≡ calls }
+{
+    Fuse::new(mem::replace(store, MemoryStore::new(alloc)), calls)
+}
+
+fn write_changes(
+    alloc: Global,
+    store: &mut MemoryStore,
+    name: &str,
+    batch: &Batch,
+) -> Result<(), RunFault>
+    ensures written { OnOk result
+        (AreChangesPut name.now batch.now (files_of store.old) (files_of store.new)) }
+    ensures stops { IfErr result (ChangesStop batch.now) }
+    ensures refused { OnErr result (files_of store.new ≡ files_of store.old) }
+{
+    let _changes = batch.changes();
+    let text = match Opl::write(alloc, batch) {
+        Ok(text) => text,
+        Err(FormError::WantOfMemory) => return Err(RunFault::WantOfMemory),
+        Err(FormError::TooLarge) => return Err(RunFault::TooLarge(FileName::Changes)),
+        Err(FormError::Fault { place: _, why: _ }) => unreachable!(),
+    };
+    store.put(alloc, name, text.as_slice())?;
+    Ok(())
+}
+
+fn text_of(time: &[u8; 20]) -> &str
+    requires { IsAscii time.now }
+    ensures { result.now ≡ time.now }
+{
+    match str::from_utf8(time) {
+        Ok(text) => text,
+        Err(_) => unreachable!(),
+    }
+}
+
+// Moves a file of a sequence from one store to another; false if it isn't there.
+pub(crate) fn move_file(
+    alloc: Global,
+    from: &mut MemoryStore,
+    to: &mut MemoryStore,
+    dir: &str,
+    number: u32,
+    suffix: Suffix,
+) -> Result<bool, WantOfMemory>
+    requires { number ≤ max_sequence }
+    ensures moved { IfOk result (λ is_moved. Moves is_moved (file_name_of dir.now number suffix)
+        (files_of from.old) (files_of to.old) (files_of from.new) (files_of to.new)) }
+    ensures from_kept { OnErr result (files_of from.new ≡ files_of from.old) }
+    ensures to_kept { OnErr result (files_of to.new ≡ files_of to.old) }
+{
+    let name = file_name(alloc, dir, number, suffix)?;
+    let Some(bytes) = from.get(name.as_str()) else {
+        return Ok(false);
+    };
+    to.put(alloc, name.as_str(), bytes)?;
+    from.remove(name.as_str());
+    Ok(true)
+}
