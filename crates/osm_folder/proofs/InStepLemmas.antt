@@ -1,10 +1,8 @@
 -- A run of the follower over the folder of published sequences.
-use Rattle.std.proofs.Common.{◌≡◌, ℕ, zero, suc, ◌+◌, ◌-◌, ◌<◌, ◌≤◌, List, [], ◌++◌, length, Option, Some, None, true, inl, inr, arith, refl, sym, ap, subst, ◌∙◌}
+use Rattle.std.proofs.Common.{◌≡◌, ℕ, zero, suc, ◌+◌, ◌<◌, ◌≤◌, List, ◌++◌, length, Option, Some, None, true, inl, inr, arith, sym, ap, ◌∙◌}
 use Rattle.std.specs.Prelude.{◌⊎◌}
 use Rattle.std.proofs.lemmas.Option.{same_Some}
-use Rattle.osm_model.specs.Change.{ChangeValue}
-use Rattle.osm_model.specs.Limits.{max_file}
-use Rattle.osm_mirror.specs.Mirror.{Applies, IsMirrorOf}
+use Rattle.osm_mirror.specs.Mirror.{IsMirrorOf}
 use Rattle.osm_mirror.proofs.MirrorLemmas.{mirror_grown}
 use Rattle.osm_o5c.proofs.FrontLemmas as o5c_file
 use Rattle.osm_opl.proofs.FileLaws as opl_file
@@ -18,20 +16,15 @@ use Rattle.osm_state.specs.declared.paths.Suffix.{Suffix}
 use Rattle.osm_state.specs.declared.paths.Suffix.TheVariants.{O5c, Opl, State}
 use Rattle.osm_state.specs.declared.state_text.StateError.{StateError}
 use Rattle.osm_follow.proofs.PublishedLemmas.{changes_next, time_next}
-use Rattle.osm_follow.specs.Published.{AreSequences, PublishedValue, changes_at, changes_up_to, sequence_at, time_at}
-use Rattle.osm_folder.specs.Files.{Files, IsOver, Puts}
-use Rattle.osm_folder.specs.Folder.{IsAbsentOr, IsFile, IsFolderOf, IsStateFile, IsThere, IsTop, max_state}
-use Rattle.osm_folder.specs.Following.{Adds, AddsAll, AreChanges, FollowRefuses, FollowStops, GoesOn, HasBigSave, HasFiles, HasSave, IsBadSave, IsBefore, IsFollowed, IsFollowing, IsInStep, IsInStepAfter, IsSaveOf, IsSaved, IsStarted, IsTopBehind, NamesOther, NumberStops, SaveStops, StartStops, StopsAt, is_lost, limit_of, lost_numbers, max_save, no_save, ranges}
+use Rattle.osm_follow.specs.Published.{AreSequences, PublishedValue, changes_at, changes_up_to, sequence_at}
+use Rattle.osm_folder.specs.Files.{Files, IsOver}
+use Rattle.osm_folder.specs.Folder.{IsAbsentOr, IsFile, IsFolderOf, IsStateFile, IsThere, IsTop}
+use Rattle.osm_folder.specs.Following.{Adds, AddsAll, AreChanges, IsFollowed, IsFollowing, IsInStep, IsInStepAfter, IsSaveOf, IsSaved, NamesOther, is_lost, limit_of, lost_numbers, ranges}
 use Rattle.osm_folder.specs.Forms.{IsFaulty}
-use Rattle.osm_folder.specs.Names.{file_name_of, top_name_of}
+use Rattle.osm_folder.specs.Names.{top_name_of}
 use Rattle.osm_folder.specs.Publication.{IsBadState}
 use Rattle.osm_folder.specs.Reports.{ReportValue, follow_report_of}
-use Rattle.osm_folder.specs.declared.fault.FileName.{FileName}
-use Rattle.osm_folder.specs.declared.fault.FileName.TheVariants.{Top, Sequence, Save}
-use Rattle.osm_folder.specs.declared.fault.RunFault.{RunFault}
-use Rattle.osm_folder.specs.declared.fault.RunFault.TheVariants.{WantOfMemory, ReadFault, WriteFault, TooLarge, Absent, BadState, Mismatch, BadChange, BadSave, TopBehind}
 use Rattle.osm_folder.specs.declared.form.Form.TheVariants as forms
-use Rattle.osm_folder.proofs.RefusalLemmas.{good_top, small_top}
 use Rattle.osm_folder.proofs.TakingLemmas.{adds_number}
 
 -- a save saves one thing

@@ -1,11 +1,10 @@
 -- A lag that is told, and why one isn't.
-use Rattle.std.proofs.Common.{◌≡◌, ℕ, ◌+◌, ◌<◌, List, length, Option, Some, None, inl, inr, arith, refl, sym, ap, subst, ◌∙◌}
+use Rattle.std.proofs.Common.{◌≡◌, ℕ, List, length, Option, Some, None, inl, inr, sym, ap, ◌∙◌}
 use Rattle.osm_save.specs.declared.save.Saved.{Saved}
 use Rattle.osm_state.proofs.StateLemmas.{one_state}
 use Rattle.osm_state.specs.State.{StateValue}
 use Rattle.osm_state.specs.StateLaws.{NoFaultBesideState}
 use Rattle.osm_follow.specs.Follower.{FollowerValue}
-use Rattle.osm_follow.specs.Lag.{AreSeconds}
 use Rattle.osm_follow.specs.Published.{PublishedValue, sequence_at, time_at}
 use Rattle.osm_follow.specs.Restart.{saved_of}
 use Rattle.osm_folder.specs.Files.{Files}

@@ -1,5 +1,5 @@
 -- What a run of the follower reports, and what it saves.
-use Rattle.std.proofs.Common.{◌≡◌, ℕ, zero, suc, ◌+◌, ◌-◌, ◌<◌, ◌≤◌, List, [], ◌∷◌, ◌++◌, length, filter, Bool, true, false, arith, refl, sym, ap, ◌∙◌, length-append}
+use Rattle.std.proofs.Common.{◌≡◌, ℕ, zero, suc, ◌+◌, ◌-◌, ◌<◌, ◌≤◌, List, [], ◌∷◌, length, filter, Bool, true, false, arith, refl, ap, ◌∙◌, length-append}
 use Rattle.std.specs.Prelude.{not, min, ◌↔◌}
 use Rattle.std.proofs.lemmas.List.Elements.{filter-append}
 use Rattle.osm_save.specs.Save.{SpellsSave}

@@ -1,5 +1,5 @@
 -- A save that is shown, and why one isn't.
-use Rattle.std.proofs.Common.{◌≡◌, ℕ, ◌≤◌, List, length, Option, Some, refl, ap, sym, ◌∙◌}
+use Rattle.std.proofs.Common.{◌≡◌, ℕ, ◌≤◌, List, length, Option, Some, refl, ap, ◌∙◌}
 use Rattle.osm_save.specs.declared.save.Saved.{Saved}
 use Rattle.osm_follow.specs.Published.{PublishedValue, time_at}
 use Rattle.osm_folder.specs.Following.{IsSaveOf, IsSaved, max_save}

@@ -1,6 +1,5 @@
 -- Why a run of the follower stops, and what the folder of published sequences refuses.
-use Rattle.std.proofs.Common.{◌≡◌, ℕ, ◌+◌, ◌<◌, ◌≤◌, List, [], length, Option, Some, None, inl, inr, arith, refl, sym, ap, subst, ◌∙◌}
-use Rattle.std.specs.Prelude.{◌⊎◌}
+use Rattle.std.proofs.Common.{◌≡◌, ℕ, ◌<◌, ◌≤◌, List, length, Option, Some, None, inl, inr, arith, refl, ap}
 use Rattle.std.proofs.lemmas.Option.{same_Some}
 use Rattle.osm_save.specs.Save.{SpellsSave}
 use Rattle.osm_save.specs.declared.save.Saved.{Saved}
@@ -12,10 +11,10 @@ use Rattle.osm_follow.specs.Published.{PublishedValue, sequence_at}
 use Rattle.osm_follow.specs.Restart.{saved_of}
 use Rattle.osm_folder.specs.Files.{Files}
 use Rattle.osm_folder.specs.Folder.{IsFolderOf, IsTop}
-use Rattle.osm_folder.specs.Following.{ComesTo, FollowRefuses, FollowStops, HasBigSave, HasText, IsBadSave, IsFollowing, IsSaveOf, IsSaved, IsStarted, IsTopBehind, NumberStops, SaveStops, StartRefuses, StartStops, StopsAt, max_save}
+use Rattle.osm_folder.specs.Following.{FollowRefuses, FollowStops, HasText, IsBadSave, IsFollowing, IsSaveOf, IsSaved, IsStarted, NumberStops, SaveStops, StartRefuses, StartStops, max_save}
 use Rattle.osm_folder.specs.Names.{file_name_of, top_name_of}
 use Rattle.osm_folder.specs.Reports.{ReportValue}
-use Rattle.osm_folder.specs.Steps.Following.{IsBigSave, MadeStops, StopsOnTheWay}
+use Rattle.osm_folder.specs.Steps.Following.{MadeStops, StopsOnTheWay}
 use Rattle.osm_folder.specs.Steps.Reading.{PutStops}
 use Rattle.osm_folder.specs.declared.fault.FileName.TheVariants.{Top, Sequence, Save}
 use Rattle.osm_folder.specs.declared.fault.RunFault.{RunFault}

@@ -1,26 +1,25 @@
 -- The numbers that a follower takes, one after the other.
-use Rattle.std.proofs.Common.{◌≡◌, ◌≢◌, ℕ, zero, suc, ◌+◌, ◌-◌, ◌<◌, ◌≤◌, List, [], ◌∷◌, ◌++◌, length, map, filter, Option, Some, None, Bool, true, false, inl, inr, arith, refl, sym, ap, subst, ◌∙◌, append-nil, length-append}
-use Rattle.std.specs.Prelude.{not, min, is_none, is_some, ◌||◌, ◌&&◌, ◌⊎◌, ◌↔◌, cond}
+use Rattle.std.proofs.Common.{◌≡◌, ℕ, zero, suc, ◌+◌, ◌-◌, ◌<◌, ◌≤◌, List, [], ◌∷◌, ◌++◌, filter, Option, Some, None, Bool, true, false, inl, inr, arith, refl, sym, ap, subst, ◌∙◌, append-nil}
+use Rattle.std.specs.Prelude.{not, min, is_none, is_some, ◌||◌, ◌&&◌, ◌⊎◌, cond}
 use Rattle.std.specs.Option.{option_map_or}
 use Rattle.std.proofs.lemmas.List.{map-append}
 use Rattle.std.proofs.lemmas.List.Elements.{filter-append}
-use Rattle.std.proofs.lemmas.Bool.{cases_Bool, cases_eq, cases_lt}
-use Rattle.osm_model.specs.Change.{ChangeValue}
+use Rattle.std.proofs.lemmas.Bool.{cases_lt}
 use Rattle.osm_mirror.specs.Mirror.{Applies}
 use Rattle.osm_save.specs.declared.save.Saved.{Saved}
 use Rattle.osm_state.specs.declared.paths.Suffix.TheVariants as suffixes
 use Rattle.osm_follow.specs.Delivery.{Holds, Takes}
 use Rattle.osm_follow.specs.Follower.{FollowerValue, changes_held, held_at, is_held}
 use Rattle.osm_follow.specs.Published.{PublishedValue}
-use Rattle.osm_follow.specs.Reach.{between, missing_numbers, numbers}
+use Rattle.osm_follow.specs.Reach.{between, numbers}
 use Rattle.osm_follow.specs.Restart.{follower_of, saved_of}
 use Rattle.osm_follow.specs.declared.delivery.Delivered.{Delivered}
 use Rattle.osm_follow.specs.declared.delivery.Delivered.TheVariants.{Old, Again, Held, Applied}
 use Rattle.osm_folder.specs.Files.{Files}
 use Rattle.osm_folder.specs.Folder.{IsFile, IsThere}
-use Rattle.osm_folder.specs.Following.{Adds, AddsAll, AreChanges, GoesOn, HasFiles, IsReadable, is_lost, lost_numbers, ranges}
+use Rattle.osm_folder.specs.Following.{AddsAll, AreChanges, HasFiles, is_lost, ranges}
 use Rattle.osm_folder.specs.Names.{file_name_of}
-use Rattle.osm_folder.specs.Steps.Following.{AreTaken, IsFresh, IsNext, IsTaken, IsTakenTo, IsTakenUp, range_of}
+use Rattle.osm_folder.specs.Steps.Following.{IsFresh, IsNext, IsTaken, IsTakenTo, IsTakenUp, range_of}
 
 -- a sequence whose files are there isn't lost
 pub has_not_lost : (files : Files) (dir : List ℕ) (p : PublishedValue) → HasFiles files dir p → is_lost files dir p.number ≡ false

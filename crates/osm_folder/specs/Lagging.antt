@@ -1,5 +1,5 @@
 -- How far a saved follower is behind a folder. `known` says that it is known what the files hold.
-use Rattle.std.specs.Prelude.{◌≡◌, ℕ, ◌+◌, ◌<◌, ◌⊎◌, List, length, Option, Some}
+use Rattle.std.specs.Prelude.{◌≡◌, ℕ, ◌+◌, ◌<◌, List, length, Option, Some}
 use Rattle.osm_save.specs.declared.save.Saved.{Saved}
 use Rattle.osm_state.specs.State.{StateValue}
 use Rattle.osm_follow.specs.Lag.{AreSeconds}

@@ -62,12 +62,7 @@ fn fill_the_gap(alloc: Global, store: &mut MemoryStore) -> Result<(), Fail> {
 }
 
 // Whether a run of the follower prints that text and ends with that status.
-fn follows<S: Store>(
-    alloc: Global,
-    store: &mut S,
-    text: &str,
-    status: u8,
-) -> Result<bool, Fail> {
+fn follows<S: Store>(alloc: Global, store: &mut S, text: &str, status: u8) -> Result<bool, Fail> {
     let report = follow_run(alloc, store, "dir", "save")?;
     Ok(report.status() == status && report.text() == text.as_bytes())
 }
@@ -202,7 +197,11 @@ fn no_number_past_the_window_is_asked_for(rt: HostRuntime) -> Result<(), Fail> {
     let mut fuse = Fuse::new(store, 67);
     let report = follow_run(alloc, &mut fuse, "dir", "save")?;
     assert!(rt; report.status() == 1 && fuse.calls() == 0);
-    assert!(rt; report.text().ends_with(b"missing 63\nmissing 64\nnumber 0\n"));
+    assert!(rt;
+        report
+            .text()
+            .ends_with(b"missing 63\nmissing 64\nnumber 0\n")
+    );
     Ok(())
 }
 
@@ -215,6 +214,7 @@ const STATE_3: &[u8] = b"sequenceNumber=3\ntimestamp=2024-01-01T00\\:00\\:00Z\n"
 const EARLY_4: &[u8] = b"sequenceNumber=4\ntimestamp=2024-01-01T00\\:02\\:59Z\n";
 
 // The runs over a folder and a save.
+#[derive(Clone, Copy)]
 enum Run {
     Follow,
     Lag,
@@ -243,7 +243,10 @@ fn is_refused(
 #[test]
 fn a_save_is_refused_before_the_newest_state(rt: HostRuntime) -> Result<(), Fail> {
     let alloc = rt.alloc();
-    let files = [("save", b"osmrepl-save 2\n".as_slice()), ("dir/state.txt", b"")];
+    let files = [
+        ("save", b"osmrepl-save 2\n".as_slice()),
+        ("dir/state.txt", b""),
+    ];
     let fault = RunFault::BadSave(1);
     for run in [Run::Follow, Run::Lag, Run::Show] {
         assert!(rt; is_refused(alloc, files.as_slice(), run, fault, "save: line 1")?);
@@ -278,14 +281,30 @@ fn a_newest_state_below_the_save_is_refused(rt: HostRuntime) -> Result<(), Fail>
         assert!(rt; is_refused(alloc, below.as_slice(), run, RunFault::TopBehind, older)?);
     }
     let early = [save, ("dir/state.txt", EARLY_4)];
-    assert!(rt; is_refused(alloc, early.as_slice(), Run::Lag, RunFault::TimeBehind, older)?);
+    assert!(rt;
+        is_refused(
+            alloc,
+            early.as_slice(),
+            Run::Lag,
+            RunFault::TimeBehind,
+            older
+        )?
+    );
     Ok(())
 }
 
 #[test]
 fn nothing_is_shown_without_a_save(rt: HostRuntime) -> Result<(), Fail> {
     let absent = RunFault::Absent(FileName::Save);
-    assert!(rt; is_refused(rt.alloc(), [].as_slice(), Run::Show, absent, "save: not there")?);
+    assert!(rt;
+        is_refused(
+            rt.alloc(),
+            [].as_slice(),
+            Run::Show,
+            absent,
+            "save: not there"
+        )?
+    );
     assert_eq!(rt; absent.status(), 3);
     Ok(())
 }
@@ -306,7 +325,11 @@ fn a_file_of_a_number_is_refused_with_its_name(rt: HostRuntime) -> Result<(), Fa
             "sequence 1: wrong number in state",
         ),
         (
-            [top, ("dir/000/000/001.state.txt", b"".as_slice()), empty_opl],
+            [
+                top,
+                ("dir/000/000/001.state.txt", b"".as_slice()),
+                empty_opl,
+            ],
             RunFault::BadState(state, StateError::MissingSequence),
             "000/000/001.state.txt: bad state: MissingSequence",
         ),
@@ -321,7 +344,10 @@ fn a_file_of_a_number_is_refused_with_its_name(rt: HostRuntime) -> Result<(), Fa
             "000/000/001.opl: at 2: BadKind",
         ),
     ] {
-        assert!(rt; is_refused(alloc, files.as_slice(), Run::Follow, fault, text)?, "{text}");
+        assert!(rt;
+            is_refused(alloc, files.as_slice(), Run::Follow, fault, text)?,
+            "{text}"
+        );
     }
     Ok(())
 }

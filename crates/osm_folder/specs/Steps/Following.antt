@@ -16,7 +16,7 @@ use Rattle.osm_follow.specs.Restart.{follower_of, saved_of}
 use Rattle.osm_follow.specs.declared.delivery.Delivered.{Delivered}
 use Rattle.osm_follow.specs.declared.delivery.Delivered.TheVariants.{Old, Again, Held, Applied}
 use Rattle.osm_folder.specs.Files.{Files, IsOver}
-use Rattle.osm_folder.specs.Folder.{IsStateFile, IsThere, max_state}
+use Rattle.osm_folder.specs.Folder.{IsStateFile, max_state}
 use Rattle.osm_folder.specs.Following.{AddsAll, GoesOn, HasFiles, IsBadSave}
 use Rattle.osm_folder.specs.Following.{IsReadable, NumberStops, is_lost, lost_numbers, max_save}
 use Rattle.osm_folder.specs.Following.{ranges}
@@ -174,7 +174,8 @@ pub record IsTakenUp (known : Type 0) (files : Files) (dir : List ℕ) (f : Foll
   pub next : is_held g (g.number + 1) ≡ false
   pub applied_are : applied ≡ ranges f.number count
   pub goes_on : known → GoesOn files dir (saved_of f) top count (saved_of g)
-  pub missing : known → missing_numbers (is_held g) g.number top ≡ lost_numbers files dir g.number top
+  pub missing : known
+      → missing_numbers (is_held g) g.number top ≡ lost_numbers files dir g.number top
 
 -- a number comes to be taken, from the follower's on
 pub record IsNext (files : Files) (dir : List ℕ) (start top number : ℕ) : Type 0 where

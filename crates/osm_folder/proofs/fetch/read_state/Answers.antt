@@ -1,4 +1,4 @@
-use Rattle.std.proofs.Common.{Some, subst}
+use Rattle.std.proofs.Common.{subst}
 use Rattle.std.specs.Prelude.{IsTrue}
 use Rattle.osm_state.specs.declared.paths.Suffix.TheVariants.{State}
 use Rattle.osm_folder.specs.Files.{IsWithin, Tells}

@@ -1,4 +1,4 @@
-use Rattle.std.proofs.Common.{List, ℕ, Some, subst, sym}
+use Rattle.std.proofs.Common.{Some, subst, sym}
 use Rattle.std.specs.Prelude.{IsTrue}
 use Rattle.osm_folder.specs.Files.{Puts}
 use Rattle.osm_folder.proofs.InStepLemmas.{in_step_after}

@@ -1,7 +1,5 @@
-use Rattle.std.proofs.Common.{◌∙◌, sym, subst, arith}
+use Rattle.std.proofs.Common.{sym}
 use Rattle.std.specs.Prelude.{IsTrue}
-use Rattle.osm_folder.specs.Steps.Following.{IsTakenUp, MadeStops}
-use Rattle.osm_folder.specs.Following.{FollowStops, IsFollowReport}
 use Rattle.osm_folder.specs.Reports.{follow_report_of}
 use Rattle.osm_follow.specs.Follower.{is_held}
 use Rattle.osm_follow.specs.Reach.{missing_numbers}

@@ -1,6 +1,5 @@
 use Rattle.std.proofs.Common.{◌≡◌, ◌+◌, ◌<◌, ◌≤◌, inl, inr, arith, ◌∙◌}
 use Rattle.std.proofs.lemmas.Grind.{common_steps}
-use Rattle.std.specs.Prelude.{IsTrue}
 use Rattle.osm_folder.proofs.FileLemmas.{spends_both}
 use Rattle.osm_folder.proofs.TakingLemmas.{comes_next, taken_more, taken_up}
 use Rattle.osm_folder.proofs.follow.take_up.Goals as goal

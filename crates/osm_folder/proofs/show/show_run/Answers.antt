@@ -1,4 +1,4 @@
-use Rattle.std.proofs.Common.{subst, ◌∙◌}
+use Rattle.std.proofs.Common.{subst}
 use Rattle.std.specs.Prelude.{IsTrue}
 use Rattle.osm_save.specs.Save.{SpellsSave}
 use Rattle.osm_follow.specs.Restart.{saved_of}
