@@ -4,8 +4,8 @@
 
 ghost use Rattle.std.specs.Prelude.{◌<◌, length};
 
-use osm_judge::judge::may_answer;
 use osm_folder::fault::RunFault;
+use osm_judge::judge::may_answer;
 use std::io::Read;
 use std::process::ExitCode;
 

@@ -1,5 +1,5 @@
 -- Words that clap takes name one of the commands.
-use Rattle.std.proofs.Common.{◌≡◌, ◌∙◌, ◌++◌, ℕ, ◌+◌, Bool, true, false, not, List, [], ◌∷◌, Option, Some, None, refl, ap, sym, subst, is_some, codes, option_map, ◌⊎◌, inl, inr, ◌&&◌, ◌||◌}
+use Rattle.std.proofs.Common.{◌≡◌, ◌∙◌, ◌++◌, Bool, true, false, not, List, [], ◌∷◌, Option, Some, None, refl, ap, sym, is_some, codes, option_map, ◌⊎◌, inl, inr, ◌&&◌, ◌||◌}
 use Rattle.std.specs.Prelude.{find, fold, cond}
 use Rattle.std.proofs.lemmas.Option.{same_Some}
 use Rattle.std.specs.Str.{bytes_eq}

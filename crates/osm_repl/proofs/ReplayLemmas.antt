@@ -16,7 +16,7 @@ use Rattle.osm_world.specs.World.{WorldValue}
 use Rattle.osm_world.specs.declared.event.Event.{Event}
 use Rattle.osm_world.specs.declared.event.Reply.{Reply}
 use Rattle.osm_folder.specs.declared.fault.RunFault.{RunFault}
-use Rattle.osm_folder.specs.declared.fault.RunFault.TheVariants.{WantOfMemory, ReadFault, WriteFault, TooLarge, BadScript}
+use Rattle.osm_folder.specs.declared.fault.RunFault.TheVariants.{WantOfMemory, WriteFault, BadScript}
 
 -- each line that says something is an event
 at_line : (ls after : List (List ℕ)) (line : List ℕ) (es : List Event) → AllZip IsEventLine (ls ++ line ∷ after) es → (e : Event) × IsEventLine line e

@@ -3,6 +3,7 @@
 use Rattle.std.specs.Prelude.{◌≡◌, ℕ, ◌⊎◌, List, Option, take}
 use Rattle.std.specs.Io.KnownBytes.{Appends}
 use Rattle.osm_follow.specs.Published.{PublishedValue}
+use Rattle.osm_follow.specs.View.{ViewValue}
 use Rattle.osm_folder.specs.Conversion.{ConvertStops, IsConverted}
 use Rattle.osm_folder.specs.Files.{Files}
 use Rattle.osm_folder.specs.Folder.{IsApart, IsFolderOf}
@@ -11,7 +12,9 @@ use Rattle.osm_folder.specs.Following.{IsInStepAfter, IsSaveOf}
 use Rattle.osm_folder.specs.Lagging.{IsLag, IsLagOf, IsLagReport, LagRefuses, LagStops}
 use Rattle.osm_folder.specs.Publication.{FolderRefuses, IsAdded, IsPublished, PublishStops}
 use Rattle.osm_folder.specs.Reports.{ReportValue, convert_report_of, publish_report_of}
+use Rattle.osm_folder.specs.Reports.{show_report_of}
 use Rattle.osm_folder.specs.Runs.{Blames}
+use Rattle.osm_folder.specs.Showing.{IsShown, IsShownOf, ShowStops}
 use Rattle.osm_folder.specs.declared.fault.FileName.TheVariants.{Output}
 use Rattle.osm_folder.specs.declared.fault.RunFault.{RunFault}
 use Rattle.osm_folder.specs.declared.fault.RunFault.TheVariants.{WriteFault}
@@ -22,19 +25,17 @@ use Rattle.osm_repl.specs.declared.orders.Order.TheVariants.{Convert}
 
 -- the order is a run over the files: each is but a replay
 abbrev pub IsOverFiles : Order → Type 0
-IsOverFiles (Publish dir changes now) = Unit {0}
-IsOverFiles (Follow dir save) = Unit {0}
-IsOverFiles (Lag dir save) = Unit {0}
-IsOverFiles (Convert input output) = Unit {0}
-IsOverFiles order = ⊥
+IsOverFiles Replay = ⊥
+IsOverFiles order = Unit {0}
 
 -- how many calls of the store a run that is done makes at least
 abbrev pub calls_of : Order → ℕ
 calls_of (Publish dir changes now) = 6
 calls_of (Follow dir save) = 3
 calls_of (Lag dir save) = 2
+calls_of (Show save) = 1
 calls_of (Convert input output) = 2
-calls_of order = 0
+calls_of Replay = 0
 
 -- what the run of the order does with files that are known, and its report
 abbrev pub Does : Order → Files → Files → ReportValue → Type 0
@@ -42,8 +43,9 @@ Does (Publish dir changes now) old new report =
     IsPublished dir.now changes.now now.now old new report
 Does (Follow dir save) old new report = IsFollowed dir.now save.now old new report
 Does (Lag dir save) old new report = IsLag dir.now save.now old report
+Does (Show save) old new report = IsShown (old save.now) report
 Does (Convert input output) old new report = IsConverted input.now output.now old new
-Does order old new report = ⊥
+Does Replay old new report = ⊥
 
 -- the same, if the folder is that of published sequences, and the save is one of theirs
 abbrev pub DoesOver : Order → Files → Files → ReportValue → Type 0
@@ -57,6 +59,9 @@ DoesOver (Follow dir save) old new report =
 DoesOver (Lag dir save) old new report =
     (published : List PublishedValue) (number : ℕ) → IsFolderOf published old dir.now
     → IsSaveOf published number (old save.now) → IsLagOf published number report
+DoesOver (Show save) old new report =
+    (published : List PublishedValue) (number : ℕ)
+    → IsSaveOf published number (old save.now) → IsShownOf published number report
 DoesOver order old new report = Unit {0}
 
 -- the report of such a run, whatever is known of the files
@@ -64,8 +69,9 @@ abbrev pub IsReportOf : Order → ReportValue → Type 0
 IsReportOf (Publish dir changes now) report = (n : ℕ) × (report ≡ publish_report_of n)
 IsReportOf (Follow dir save) report = IsFollowReport report
 IsReportOf (Lag dir save) report = IsLagReport report
+IsReportOf (Show save) report = (view : ViewValue) × (report ≡ show_report_of view)
 IsReportOf (Convert input output) report = report ≡ convert_report_of
-IsReportOf order report = ⊥
+IsReportOf Replay report = ⊥
 
 -- why the run of the order stops
 abbrev pub RunStops : Type 0 → Order → Files → Files → RunFault → Type 0
@@ -73,9 +79,10 @@ RunStops known (Publish dir changes now) old new fault =
     PublishStops known dir.now changes.now now.now old new fault
 RunStops known (Follow dir save) old new fault = FollowStops known dir.now save.now old fault
 RunStops known (Lag dir save) old new fault = LagStops known dir.now save.now old fault
+RunStops known (Show save) old new fault = ShowStops known (old save.now) fault
 RunStops known (Convert input output) old new fault =
     ConvertStops known input.now output.now old fault
-RunStops known order old new fault = ⊥
+RunStops known Replay old new fault = ⊥
 
 -- the same, if the folder is that of published sequences, and the save is one of theirs
 abbrev pub StopsOver : Order → Files → Files → RunFault → Type 0

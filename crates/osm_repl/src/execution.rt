@@ -16,6 +16,7 @@ use osm_folder::follow::follow_run;
 use osm_folder::lag::lag_run;
 use osm_folder::publish::publish_run;
 use osm_folder::report::Report;
+use osm_folder::show::show_run;
 use osm_folder::store::Store;
 use std::alloc::Global;
 use std::io::{Read, Write};
@@ -124,7 +125,8 @@ fn run<S: Store>(alloc: Global, order: Order<'_>, store: &mut S) -> Result<Repor
         Order::Publish { dir, changes, now } => publish_run(alloc, store, dir, changes, now),
         Order::Follow { dir, save } => follow_run(alloc, store, dir, save),
         Order::Lag { dir, save } => lag_run(alloc, store, dir, save),
+        Order::Show { save } => show_run(alloc, store, save),
         Order::Convert { input, output } => convert_run(alloc, store, input, output),
-        _ => unreachable!(),
+        Order::Replay => unreachable!(),
     }
 }

@@ -2,14 +2,15 @@
 #![tactic(auto)]
 
 use clap::Error;
+use osm_disk::disk_store::DiskStore;
+use osm_folder::fault::{FileName, RunFault};
 use osm_repl::command_line::order;
 use osm_repl::echo::echoes;
 use osm_repl::ending::{Ending, Said, Stream, explained, reported, unread};
-use osm_repl::fault::{FileName, RunFault};
+use osm_repl::execution::execute;
 use osm_repl::orders::Order;
-use osm_repl::replay::replay_run;
 use std::process::ExitCode;
-use std::{env, io};
+use std::{env, io, process};
 
 const NOT_TEXT: &str = "the words of the command line aren't text";
 
@@ -35,14 +36,22 @@ fn run(rt: &HostRuntime) -> u8 {
         return report(rt, RunFault::WantOfMemory);
     };
     match order(alloc, words.as_slice()) {
-        Ok(Order::Replay) => replay(rt),
+        Ok(order) => done(rt, order),
         Err(error) => explain(rt, &error, words.as_slice()),
     }
 }
 
-fn replay(rt: &HostRuntime) -> u8 {
-    match replay_run(rt.alloc(), &mut rt.stdin(), &mut rt.stdout()) {
-        Ok(()) => 0,
+// Does what the order asks for, over the files of the disk.
+fn done(rt: &HostRuntime, order: Order<'_>) -> u8 {
+    let mut store = DiskStore::new(rt, process::id(rt.process()));
+    match execute(
+        rt.alloc(),
+        order,
+        &mut store,
+        &mut rt.stdin(),
+        &mut rt.stdout(),
+    ) {
+        Ok(status) => status,
         Err(fault) => report(rt, fault),
     }
 }
@@ -62,7 +71,7 @@ fn explain(rt: &HostRuntime, error: &Error, words: &[&str]) -> u8 {
         return report(rt, RunFault::WantOfMemory);
     };
     match order(alloc, echoed.as_slice()) {
-        Ok(Order::Replay) => end(rt, explained(error)),
+        Ok(_) => end(rt, explained(error)),
         Err(shown) => end(rt, explained(&shown)),
     }
 }

@@ -1,11 +1,11 @@
 //! Tests of osm_judge: which texts it judges, and its definitions on lists that a person wrote.
 
+use osm_folder::fault::RunFault;
 use osm_judge::judge::may_answer;
 use osm_judge::plain::{plain_content_of, plain_edits_by_changeset, plain_edits_by_user};
 use osm_model::change::Change;
 use osm_model::kind::{Key, Kind};
 use osm_opl::lines::{read_line, write_line};
-use osm_folder::fault::RunFault;
 use std::alloc::Global;
 use std::test::Fail;
 

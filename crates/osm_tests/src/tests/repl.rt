@@ -1,9 +1,9 @@
 //! Tests of scripts and replays: what a person expects, lines that are refused, readers and writers
 //! that fail, texts of faults, echoes of words.
 
+use osm_folder::fault::{FileName, RunFault};
 use osm_opl::lines::read_line;
 use osm_repl::echo::echoes;
-use osm_folder::fault::{FileName, RunFault};
 use osm_repl::replay::replay_run;
 use osm_world::event::{Event, Form, Reply};
 use osm_world::world::World;

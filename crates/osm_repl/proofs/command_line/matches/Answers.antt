@@ -1,6 +1,6 @@
-use Rattle.std.proofs.Common.{◌≡◌, ap, ◌∙◌, map, refl, subst, true, sym}
+use Rattle.std.proofs.Common.{◌≡◌, ap, ◌∙◌, map, refl, subst, true}
 use Rattle.std.proofs.lemmas.Result.{IfErr-weaker, IfOk-weaker}
-use Rattle.clap.specs.Words.{App, FailsBy, HasMatchesOf, app_of, fault_of, is_simple_and_free, takes}
+use Rattle.clap.specs.Words.{App, FailsBy, HasMatchesOf, fault_of, is_simple_and_free, takes}
 use Rattle.osm_repl.specs.CommandLine.{osmrepl_app}
 use Rattle.osm_repl.proofs.command_line.matches.Goals as goal
 

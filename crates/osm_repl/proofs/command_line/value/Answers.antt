@@ -1,8 +1,8 @@
-use Rattle.std.proofs.Common.{◌≡◌, ◌∙◌, ap, sym, refl, List, [], Option, Some, None, ℕ, option_map, rules}
+use Rattle.std.proofs.Common.{◌≡◌, ◌∙◌, ap, refl, List, [], Option, Some, None, ℕ, option_map}
 use Rattle.std.specs.Borrow.{Bor}
 use Rattle.std.specs.Prelude.{unwrap_or}
 use Rattle.clap.proofs.WalkLemmas.{first_value-rows}
-use Rattle.clap.specs.Words.{found_of, first_value}
+use Rattle.clap.specs.Words.{found_of}
 use Rattle.osm_repl.proofs.command_line.value.Goals as goal
 
 -- the text of what is there, or else nothing
