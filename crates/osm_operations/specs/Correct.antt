@@ -34,8 +34,8 @@ pub record IsOther (dir save changes name : List ℕ) : Type 0 where
   pub changes_are : name ≡ changes → ⊥
 
 -- the files are what the history says: the folder is that of the sequences that it published, each
--- file as it was written unless it is lost; the save is that of sequences 1 to the follower's number;
--- these numbers were reported once each, in order; and no other file has changed
+-- file as it was written unless it is lost; the save is that of sequences 1 to the follower's
+-- number; these numbers were reported once each, in order; and no other file has changed
 pub record IsInStep (h : History) (dir save changes : List ℕ) (start files : Files) : Type 0 where
   pub folder : IsFolderOf (published_of h) files dir
   pub each : (k : ℕ) (suffix : Suffix) → 0 < k → k ≤ length (published_of h)

@@ -1,5 +1,6 @@
 -- Steps of operations: what each does to the files of a store.
-use Rattle.std.specs.Prelude.{◌≡◌, ℕ, ◌+◌, ◌<◌, ◌≤◌, ◌⊎◌, List, length, Bool, true, false, Some, None}
+use Rattle.std.specs.Prelude.{◌≡◌, ℕ, ◌+◌, ◌<◌, ◌≤◌, ◌⊎◌, List, length, Bool, true, false}
+use Rattle.std.specs.Prelude.{Some, None}
 use Rattle.std.specs.Prelude.{IsTrue, Result, Ok, Err}
 use Rattle.osm_model.specs.Batch.{IsBatch}
 use Rattle.osm_model.specs.Change.{ChangeValue}
