@@ -94,8 +94,8 @@ impl Part for Member {
 /// The members of a relation, in order.
 pub type Members = Parts<Member>;
 
-// How many parts a list of a change may have room for beside its own. To fit a list moves its parts,
-// so a short one is left as it is.
+// How many parts a list of a change may have unused room for. To fit a list moves its parts, so a
+// short one is left as it is.
 const MAX_SPARE: usize = 64;
 
 /// Parts of one sort, in order.

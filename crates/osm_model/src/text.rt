@@ -1,7 +1,7 @@
 //! Texts of objects: user names, keys and values of tags, roles of members.
 
-ghost use Rattle.std.specs.Prelude.{◌≡◌, ◌<◌, ◌≤◌, ◌↔◌, length, IfOk, IsErrOf, OnOk, OnErr, Contains};
-ghost use Rattle.std.specs.Prelude.{string_bytes};
+ghost use Rattle.std.specs.Prelude.{◌≡◌, ◌<◌, ◌≤◌, ◌↔◌, length, IfOk, IsErrOf, OnOk, OnErr};
+ghost use Rattle.std.specs.Prelude.{Contains, string_bytes};
 ghost use Rattle.osm_model.specs.Steps.Kept.{kept_bytes};
 ghost use Rattle.osm_model.specs.Text.{IsText};
 ghost use Rattle.osm_model.specs.declared.text.TextError.TheVariants.{WantOfMemory};
