@@ -17,8 +17,8 @@ use std::marker::Model;
 /// How many buckets the strings fall into.
 const BUCKETS: usize = 16_384;
 
-/// Where a string stands in the bytes, its bucket, and 1 more than the place of the string before it
-/// in that bucket, or 0 if there is none.
+/// Where a string stands in the bytes, its bucket, and 1 more than the place of the string before
+/// it in that bucket, or 0 if there is none.
 #[derive(Clone, Copy)]
 struct Slot {
     start: usize,
