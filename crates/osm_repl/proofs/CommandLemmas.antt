@@ -1,5 +1,5 @@
 -- Words that clap takes name one of the commands.
-use Rattle.std.proofs.Common.{◌≡◌, ◌∙◌, ◌++◌, Bool, true, false, not, List, [], ◌∷◌, Option, Some, None, refl, ap, sym, is_some, codes, option_map, ◌⊎◌, inl, inr, ◌&&◌, ◌||◌}
+use Rattle.std.proofs.Common.{◌≡◌, ◌∙◌, ◌++◌, ℕ, Bool, subst, true, false, not, List, [], ◌∷◌, Option, Some, None, refl, ap, sym, is_some, codes, option_map, ◌⊎◌, inl, inr, ◌&&◌, ◌||◌}
 use Rattle.std.specs.Prelude.{find, fold, cond}
 use Rattle.std.proofs.lemmas.Option.{same_Some}
 use Rattle.std.specs.Str.{bytes_eq}
@@ -10,22 +10,19 @@ use Rattle.clap.specs.Faults.{fault_of, other_fault, turn_fault, walk_fault, wor
 use Rattle.clap.specs.Simple.{App, Shape, argument_words, built, entered, names_of}
 use Rattle.clap.specs.Walk.{Held, Names, Outcome, Row, Rule, Step, Text, Waiting, Walk, after_flag, after_step, arg_by_index, bundle, done, idle, long_met, arg_by_long, long_or_other, next, nothing_held, option, plain, plain_word, positional, refused, short_or_plain, subcommand, subcommand_met, subcommand_or_other, to_positional, trailing, value, waits, walk, walk_from, walked, walked_from, word_met}
 use Rattle.clap.specs.Simple.{label_of, rows_at}
-use Rattle.clap.specs.Walk.{answers_to, finished, settled}
+use Rattle.clap.specs.Walk.{answers_to, finished}
 use Rattle.clap.specs.Kinds.{check_kinds}
-use Rattle.clap.specs.Faults.{check_fault, defaults_fault, entered_fault, level_fault, settle_fault}
+use Rattle.clap.specs.Faults.{check_fault, entered_fault, level_fault}
 use Rattle.clap.specs.declared.error.kind.ErrorKind.TheVariants.{DisplayHelp, InvalidSubcommand}
 use Rattle.clap.specs.Words.{subcommand_of}
-use Rattle.osm_repl.specs.CommandLine.{osmrepl_app}
-use Rattle.osm_repl.specs.Steps.Commands.{IsCommand}
-
--- of two steps that pass, both do
-first_passes : (a b : Kinds) → or_else a b ≡ [] → a ≡ []
-first_passes [] b h = refl
-first_passes (k ∷ ks) b h = absurd cc
-
-second_passes : (a b : Kinds) → or_else a b ≡ [] → b ≡ []
-second_passes [] b h = h
-second_passes (k ∷ ks) b h = absurd cc
+use Rattle.clap.specs.Simple.{filled, help_rule, with_index}
+use Rattle.clap.specs.Walk.{first_of, rows_after}
+use Rattle.std.specs.Option.{option_map_or}
+use Rattle.std.specs.Borrow.{Bor}
+use Rattle.clap.specs.declared.error.kind.ErrorKind.TheVariants.{InvalidValue}
+use Rattle.osm_repl.specs.CommandLine.{osmrepl_app, time_rule, word_rule}
+use Rattle.osm_repl.specs.Steps.Commands.{HasValue, HasWord, HasWords, IsCommand, IsCommandOf}
+use Rattle.osm_repl.proofs.WordLemmas.{Each, HasValueIn, IsGoodRule, IsGoodValue, Passes, first_passes, level_passes, second_passes, words_have_values}
 
 -- a step that meets no subcommand
 abbrev IsOwn : Step → Type 0
@@ -129,24 +126,28 @@ no_help s names w (word ∷ rest) on none h =
       | inr e ↦ stays s.rules names (walked s.rules names w word) (e.0, []) rest (ap (λ (v : Walk). v.stopped) is ∙ e.1) e.2
     ]
 
--- one of the commands answers to the word
+-- one of the commands answers to the word, and passes the words after it
 abbrev AnyOf : (Shape → Type 0) → List Shape → Type 0
 AnyOf P [] = ⊥
 AnyOf P (s ∷ subs) = P s ⊎ AnyOf P subs
 
-abbrev Meets : Text → Text → Shape → Type 0
-Meets word name s = (name ≡ s.name) × (answers_to word (label_of s) ≡ true)
+abbrev Meets : Text → List Text → Text × List Row → Shape → Type 0
+Meets word rest f s = (f ≡ rows_at s rest) × (answers_to word (label_of s) ≡ true) × (level_fault s [] nothing_held rest false [] ≡ [])
 
 found_any : (word : Text) (rest : List Text) (subs : List Shape) (f : Text × List Row) → option_map (λ s. rows_at s rest) (find (λ s. answers_to word (label_of s)) subs) ≡ Some f
-    → AnyOf (Meets word f.0) subs
-found_any word rest [] f h = absurd cc
-found_any word rest (s ∷ subs) f h = go (answers_to word (label_of s)) refl (found_any word rest subs f) h
+    → option_map_or (λ s. level_fault s [] nothing_held rest false []) (find (λ s. answers_to word (label_of s)) subs) [] ≡ []
+    → AnyOf (Meets word rest f) subs
+found_any word rest [] f h passes = absurd cc
+found_any word rest (s ∷ subs) f h passes = go (answers_to word (label_of s)) refl (found_any word rest subs f) h passes
   where
     go : (b : Bool) → answers_to word (label_of s) ≡ b
-        → (option_map (λ s. rows_at s rest) (find (λ s. answers_to word (label_of s)) subs) ≡ Some f → AnyOf (Meets word f.0) subs)
-        → option_map (λ s. rows_at s rest) (cond b (Some s) (find (λ s. answers_to word (label_of s)) subs)) ≡ Some f → AnyOf (Meets word f.0) (s ∷ subs)
-    go true e later h = inl (ap (λ (p : Text × List Row). p.0) (sym (same_Some _ f h)), e)
-    go false e later h = inr (later h)
+        → (option_map (λ s. rows_at s rest) (find (λ s. answers_to word (label_of s)) subs) ≡ Some f
+        → option_map_or (λ s. level_fault s [] nothing_held rest false []) (find (λ s. answers_to word (label_of s)) subs) [] ≡ [] → AnyOf (Meets word rest f) subs)
+        → option_map (λ s. rows_at s rest) (cond b (Some s) (find (λ s. answers_to word (label_of s)) subs)) ≡ Some f
+        → option_map_or (λ s. level_fault s [] nothing_held rest false []) (cond b (Some s) (find (λ s. answers_to word (label_of s)) subs)) [] ≡ []
+        → AnyOf (Meets word rest f) (s ∷ subs)
+    go true e later h passes = inl (sym (same_Some _ f h), e, passes)
+    go false e later h passes = inr (later h passes)
 
 needs_command : (x r y : Bool) → check_kinds x r y ≡ [] → r ≡ false
 needs_command true r y h = absurd cc
@@ -169,45 +170,122 @@ two_ways word fine h =
     let bad : false ≡ true = sym fine ∙ both in
     absurd cc
 
-is_command : (p : Text × List Text) (f : Text × List Row) → bytes_eq p.0 (codes "help") ≡ false → AnyOf (Meets p.0 f.0) (built osmrepl_app).subs → IsCommand (Some f)
-is_command p f fine (inl h) = inl h.0
-is_command p f fine (inr (inl h)) = inr (inl h.0)
-is_command p f fine (inr (inr (inl h))) = inr (inr (inl h.0))
-is_command p f fine (inr (inr (inr (inl h)))) = inr (inr (inr (inl h.0)))
-is_command p f fine (inr (inr (inr (inr (inl h))))) = inr (inr (inr (inr (inl h.0))))
-is_command p f fine (inr (inr (inr (inr (inr (inl h)))))) = inr (inr (inr (inr (inr h.0))))
+-- ---- the words of the commands
+
+-- the rules of a word, of the time and of help, as they are built
+abbrev built_word : Text → ℕ → Rule
+built_word id i = with_index i (filled (word_rule id))
+
+abbrev built_time : ℕ → Rule
+built_time i = with_index i (filled time_rule)
+
+abbrev built_help : ℕ → Rule
+built_help i = with_index i (filled help_rule)
+
+good_word : (id : Text) (i : ℕ) → IsGoodRule (built_word id i)
+good_word id i = record {
+  use_is = inr (record {
+    is_set = refl;
+    some = λ h. let bad : ◌≡◌ {A = Kinds} (InvalidValue ∷ []) [] = h in absurd cc;
+    empty = λ h. let bad : ◌≡◌ {A = Kinds} (InvalidValue ∷ []) [] = h in absurd cc;
+  });
+  no_default = refl;
+}
+
+good_time : (i : ℕ) → IsGoodRule (built_time i)
+good_time i = record {
+  use_is = inr (record {
+    is_set = refl;
+    some = λ h. let bad : ◌≡◌ {A = Kinds} (InvalidValue ∷ []) [] = h in absurd cc;
+    empty = λ h. refl;
+  });
+  no_default = refl;
+}
+
+good_help : (i : ℕ) → IsGoodRule (built_help i)
+good_help i = record { use_is = inl refl; no_default = refl }
+
+has_word : (rows : List Row) (id : Text) → bytes_eq id (codes "TIME") ≡ false → IsGoodValue id (first_of id rows) → HasWord rows id
+has_word rows id other good = go (first_of id rows) refl good
+  where
+    no_time : id ≡ codes "TIME" → ⊥
+    no_time e =
+        let bad : false ≡ true = sym other ∙ (bytes_eq-Decides id (codes "TIME")).1 e in
+        absurd cc
+
+    go : (o : Option Text) → first_of id rows ≡ o → IsGoodValue id o → HasWord rows id
+    go None e h = absurd h
+    go (Some v) e h = record { value = v; is_first = e; is_filled = λ none. no_time (h none) }
+
+has_value : (rows : List Row) (id : Text) → IsGoodValue id (first_of id rows) → HasValue rows id
+has_value rows id good = go (first_of id rows) refl good
+  where
+    go : (o : Option Text) → first_of id rows ≡ o → IsGoodValue id o → HasValue rows id
+    go None e h = absurd h
+    go (Some v) e h = record { value = v; is_first = e }
+
+-- a command that was entered has the values of its required words
+entered_with : (word : Text) (rest : List Text) (f : Text × List Row) (s : Shape) (rules : List Rule) → s.rules ≡ rules → Each IsGoodRule rules → Meets word rest f s
+    → (f.0 ≡ s.name) × Each (HasValueIn f.1) rules
+entered_with word rest f s rules are good h =
+    let values : Each (HasValueIn (rows_after s.rules [] rest)) s.rules = words_have_values s rest (subst (Each IsGoodRule) (sym are) good) h.2 in
+    subst (λ (q : Text × List Row). (q.0 ≡ s.name) × Each (HasValueIn q.1) rules) (sym h.0) (refl, subst (Each (HasValueIn (rows_after s.rules [] rest))) are values)
+
+-- such a command of two words
+pair_with : (word : Text) (rest : List Text) (f : Text × List Row) (s : Shape) (a b : Text) → s.rules ≡ built_word a 1 ∷ built_word b 2 ∷ built_help 3 ∷ []
+    → bytes_eq a (codes "TIME") ≡ false → bytes_eq b (codes "TIME") ≡ false → Meets word rest f s → (f.0 ≡ s.name) × HasWords f.1 (a ∷ b ∷ [])
+pair_with word rest f s a b are no_a no_b h =
+    let has = entered_with word rest f s _ are (good_word a 1, (good_word b 2, (good_help 3, tt))) h in
+    (has.0, (has_word f.1 a no_a (has.1.0 refl), (has_word f.1 b no_b (has.1.1.0 refl), tt)))
+
+named : (name : Text) (f : Text × List Row) → f.0 ≡ name → IsCommandOf name f.1 → IsCommand (Some f)
+named name f e is = subst (λ (n : Text). IsCommandOf n f.1) (sym e) is
+
+is_command : (p : Text × List Text) (f : Text × List Row) → bytes_eq p.0 (codes "help") ≡ false → AnyOf (Meets p.0 p.1 f) (built osmrepl_app).subs → IsCommand (Some f)
+is_command p f fine (inl h) = named (codes "replay") f (ap (λ (q : Text × List Row). q.0) h.0) (inl refl, tt, tt)
+is_command p f fine (inr (inl h)) =
+    let rules : List Rule = built_word (codes "DIR") 1 ∷ built_word (codes "CHANGES") 2 ∷ built_time 3 ∷ built_help 3 ∷ [] in
+    let has = entered_with p.0 p.1 f _ rules refl (good_word (codes "DIR") 1, (good_word (codes "CHANGES") 2, (good_time 3, (good_help 3, tt)))) h in
+    named (codes "publish") f has.0 (
+      inr (inl refl),
+      (has_word f.1 (codes "DIR") refl (has.1.0 refl), (has_word f.1 (codes "CHANGES") refl (has.1.1.0 refl), tt)),
+      (has_value f.1 (codes "TIME") (has.1.1.1.0 refl), tt),
+    )
+is_command p f fine (inr (inr (inl h))) =
+    let has = pair_with p.0 p.1 f _ (codes "DIR") (codes "SAVE") refl refl refl h in named (codes "follow") f has.0 (inr (inr (inl refl)), has.1, tt)
+is_command p f fine (inr (inr (inr (inl h)))) =
+    let has = pair_with p.0 p.1 f _ (codes "DIR") (codes "SAVE") refl refl refl h in named (codes "lag") f has.0 (inr (inr (inr (inl refl))), has.1, tt)
+is_command p f fine (inr (inr (inr (inr (inl h))))) =
+    let has = entered_with p.0 p.1 f _ (built_word (codes "SAVE") 1 ∷ built_help 2 ∷ []) refl (good_word (codes "SAVE") 1, (good_help 2, tt)) h in
+    named (codes "show") f has.0 (inr (inr (inr (inr (inl refl)))), (has_word f.1 (codes "SAVE") refl (has.1.0 refl), tt), tt)
+is_command p f fine (inr (inr (inr (inr (inr (inl h)))))) =
+    let has = pair_with p.0 p.1 f _ (codes "IN") (codes "OUT") refl refl refl h in
+    named (codes "convert") f has.0 (inr (inr (inr (inr (inr refl)))), has.1, tt)
 is_command p f fine (inr (inr (inr (inr (inr (inr (inl h))))))) = absurd (two_ways p.0 fine h.1)
 is_command p f fine (inr (inr (inr (inr (inr (inr (inr h))))))) = absurd h
 
-entered_command : (o : Option (Text × List Text)) → IsNoHelp o → is_some (entered (built osmrepl_app) o) ≡ true → IsCommand (entered (built osmrepl_app) o)
-entered_command None fine some = absurd cc
-entered_command (Some p) fine some = go (entered (built osmrepl_app) (Some p)) refl some
+entered_command : (o : Option (Text × List Text)) → IsNoHelp o → is_some (entered (built osmrepl_app) o) ≡ true → entered_fault (built osmrepl_app) o ≡ []
+    → IsCommand (entered (built osmrepl_app) o)
+entered_command None fine some passes = absurd cc
+entered_command (Some p) fine some passes = go (entered (built osmrepl_app) (Some p)) refl some
   where
     go : (e : Option (Text × List Row)) → entered (built osmrepl_app) (Some p) ≡ e → is_some e ≡ true → IsCommand e
     go None is some = absurd cc
-    go (Some f) is some = is_command p f fine (found_any p.0 p.1 (built osmrepl_app).subs f is)
+    go (Some f) is some = is_command p f fine (found_any p.0 p.1 (built osmrepl_app).subs f is passes)
 
--- a level that passes passes its walk and its last checks
-level_checks : (s : Shape) (names : Names) (h : Held) (words : List Text) (has : Bool) (below : Kinds) → level_fault s names h words has below ≡ []
-    → (walk_fault s names (walk_from h) words ≡ []) × (check_fault s (finished s.rules (walk s.rules names h words).held) has ≡ [])
-level_checks s names h words has below e =
-    let end : Held = (walk s.rules names h words).held in
-    let walks : Kinds = walk_fault s names (walk_from h) words in
-    let settles : Kinds = settle_fault s.rules s.args_override_self end in
-    let defaults : Kinds = defaults_fault (settled s.rules end).rows s.rules in
-    let checks : Kinds = check_fault s (finished s.rules end) has in
-    let after_walk : or_else below (or_else settles (or_else defaults checks)) ≡ [] = second_passes walks _ e in
-    let after_below : or_else settles (or_else defaults checks) ≡ [] = second_passes below _ after_walk in (
-      first_passes walks (or_else below (or_else settles (or_else defaults checks))) e,
-      second_passes defaults checks (second_passes settles (or_else defaults checks) after_below),
-    )
-
--- words that clap doesn't refuse name one of the program's commands
+-- words that clap doesn't refuse name one of the program's commands, and give it the values of its words
 pub names_command : (words : List Text) → fault_of osmrepl_app words ≡ [] → IsCommand (subcommand_of osmrepl_app words)
 names_command words h =
     let a : App = built osmrepl_app in
     let ws : List Text = argument_words osmrepl_app words in
     let end : Walk = walk a.top.rules (names_of a) nothing_held ws in
-    let parts = level_checks a.top (names_of a) nothing_held ws (is_some (entered a end.stopped)) (entered_fault a end.stopped) h in
-    entered_command end.stopped (no_help a.top (names_of a) (walk_from nothing_held) ws refl refl parts.0)
-    (is_named (finished a.top.rules end.held) (is_some (entered a end.stopped)) parts.1)
+    let parts : Passes a.top (names_of a) nothing_held ws (is_some (entered a end.stopped)) (entered_fault a end.stopped) =
+    level_passes a.top (names_of a) nothing_held ws (is_some (entered a end.stopped)) (entered_fault a end.stopped) h in
+    entered_command end.stopped (no_help a.top (names_of a) (walk_from nothing_held) ws refl refl parts.walks)
+    (is_named (finished a.top.rules end.held) (is_some (entered a end.stopped)) parts.checks) parts.enters
+
+-- a word with a value was found
+pub no_value : (found : Option (Bor Text)) (name : Text) (rows : List Row) → found ≡ None → option_map (λ (s : Bor Text). s.now) found ≡ first_of name rows → HasValue rows name → ⊥
+no_value found name rows none is has =
+    let bad : ◌≡◌ {A = Option Text} None (Some has.value) = sym (ap (option_map (λ (s : Bor Text). s.now)) none) ∙ (is ∙ has.is_first) in
+    absurd cc

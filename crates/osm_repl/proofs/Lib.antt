@@ -1,4 +1,5 @@
 pub mod ScriptLemmas
 pub mod EchoLemmas
 pub mod ReplayLemmas
+pub mod WordLemmas
 pub mod CommandLemmas

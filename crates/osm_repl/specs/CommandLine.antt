@@ -1,5 +1,5 @@
 -- The command line: the words that are taken, and the order that they are.
-use Rattle.std.specs.Prelude.{◌≡◌, List, [], ◌∷◌, Option, Some, codes, true, unwrap_or}
+use Rattle.std.specs.Prelude.{◌≡◌, List, [], ◌∷◌, Option, Some, codes, true}
 use Rattle.clap.specs.Words.{App, Row, Rule, Text, first_of, new_app, new_rule, subcommand_of}
 use Rattle.clap.specs.Words.{with_rule, with_subcommand}
 use Rattle.clap.specs.declared.builder.value_parser.ValueParser.TheVariants.{NonEmptyString}
@@ -58,14 +58,10 @@ osmrepl_app =
     (with_subcommand program_app replay_app.top) publish_app.top) follow_app.top) lag_app.top)
     show_app.top) convert_app.top
 
--- the value of that name, empty if there is none
-abbrev pub value_of : Text → List Row → Text
-value_of name rows = unwrap_or (first_of name rows) []
-
--- those are the values of those names
+-- those are the values of those words
 abbrev pub AreValues : List Row → List (Text × Text) → Type 0
 AreValues rows [] = Unit {0}
-AreValues rows (v ∷ vs) = (v.1 ≡ value_of v.0 rows) × AreValues rows vs
+AreValues rows (v ∷ vs) = (first_of v.0 rows ≡ Some v.1) × AreValues rows vs
 
 -- that command was found, and those are the values of its words
 pub record IsFound (found : Option (Text × List Row)) (command : Text)
@@ -90,3 +86,12 @@ IsOrderIn found (Convert input output) =
 -- the order is that of the words, as clap reads them
 abbrev pub IsOrderOf : List Text → Order → Type 0
 IsOrderOf words = IsOrderIn (subcommand_of osmrepl_app words)
+
+-- no word of the order is empty, except a time
+abbrev pub HasNoEmptyWord : Order → Type 0
+HasNoEmptyWord Replay = Unit {0}
+HasNoEmptyWord (Publish dir changes now) = (dir.now ≡ [] → ⊥) × (changes.now ≡ [] → ⊥)
+HasNoEmptyWord (Follow dir save) = (dir.now ≡ [] → ⊥) × (save.now ≡ [] → ⊥)
+HasNoEmptyWord (Lag dir save) = (dir.now ≡ [] → ⊥) × (save.now ≡ [] → ⊥)
+HasNoEmptyWord (Show save) = save.now ≡ [] → ⊥
+HasNoEmptyWord (Convert input output) = (input.now ≡ [] → ⊥) × (output.now ≡ [] → ⊥)

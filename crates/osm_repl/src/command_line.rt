@@ -1,13 +1,15 @@
 //! The command line, read by `clap`.
 
-ghost use Rattle.std.specs.Prelude.{◌≡◌, IfOk, IfErr, Some, map, codes, true, false};
+ghost use Rattle.std.specs.Prelude.{◌≡◌, IfOk, IfErr, Some, [], map, codes, true, false};
 ghost use Rattle.clap.specs.Words.{FailsBy, HasMatchesOf, app_of, fault_of, found_of, kind_of};
-ghost use Rattle.clap.specs.Words.{rows_of, rule_of, subcommand_rows_of, takes};
+ghost use Rattle.clap.specs.Words.{first_of, rows_of, rule_of, subcommand_rows_of, takes};
 ghost use Rattle.clap.specs.declared.builder.Command.TheViews.{out-Command as fields_of};
-ghost use Rattle.osm_repl.specs.CommandLine.{IsOrderIn, IsOrderOf, convert_app, follow_app};
-ghost use Rattle.osm_repl.specs.CommandLine.{lag_app, osmrepl_app, program_app, publish_app};
-ghost use Rattle.osm_repl.specs.CommandLine.{replay_app, show_app, time_rule, value_of, word_rule};
-ghost use Rattle.osm_repl.specs.Steps.Commands.{IsCommand};
+ghost use Rattle.osm_repl.specs.CommandLine.{HasNoEmptyWord, IsOrderIn, IsOrderOf, convert_app};
+ghost use Rattle.osm_repl.specs.CommandLine.{follow_app, lag_app, osmrepl_app, program_app};
+ghost use Rattle.osm_repl.specs.CommandLine.{publish_app, replay_app, show_app, time_rule};
+ghost use Rattle.osm_repl.specs.CommandLine.{word_rule};
+ghost use Rattle.osm_repl.specs.Steps.Commands.{HasValue, HasValues, HasWord, HasWords, IsCommand};
+ghost use Rattle.osm_repl.specs.Steps.Commands.{times_of, words_of};
 
 use crate::help;
 use crate::orders::Order;
@@ -16,10 +18,11 @@ use clap::error::ErrorKind;
 use clap::{Arg, ArgMatches, Command, Error};
 use std::alloc::{AllocError, Global};
 
-/// What the words ask for, the program's name first. Refused if `clap` refuses the words, and if
-/// they ask for help or the version.
+/// What the words ask for, the program's name first. No word but a time is empty. Refused if `clap`
+/// refuses the words, and if they ask for help or the version.
 pub fn order<'a>(alloc: Global, words: &'a [&'a str]) -> Result<Order<'a>, Error>
     ensures order { IfOk result (IsOrderOf (map (λ s. s.now) words.entry.now)) }
+    ensures not_empty { IfOk result HasNoEmptyWord }
     ensures taken { IfErr result (λ e. takes osmrepl_app (map (λ s. s.now) words.entry.now) ≡ true
         → kind_of e ≡ ErrorKind.OutOfMemory) }
     ensures kinds { FailsBy (fault_of osmrepl_app (map (λ s. s.now) words.entry.now)) result }
@@ -31,7 +34,8 @@ pub fn order<'a>(alloc: Global, words: &'a [&'a str]) -> Result<Order<'a>, Error
 // The order of the command that was found, with its words.
 fn order_of<'a>(matches: &ArgMatches<'a>) -> Order<'a>
     requires { IsCommand (subcommand_rows_of matches.now) }
-    ensures { IsOrderIn (subcommand_rows_of matches.now) result }
+    ensures order { IsOrderIn (subcommand_rows_of matches.now) result }
+    ensures not_empty { HasNoEmptyWord result }
 {
     let Some((name, given)) = matches.subcommand() else {
         unreachable!()
@@ -48,55 +52,79 @@ fn order_of<'a>(matches: &ArgMatches<'a>) -> Order<'a>
 }
 
 fn publish_of<'a>(given: &ArgMatches<'a>) -> Order<'a>
-    ensures { IsOrderIn (Some (codes "publish", rows_of (found_of given.now))) result }
+    requires words { HasWords (rows_of (found_of given.now)) (words_of (codes "publish")) }
+    requires times { HasValues (rows_of (found_of given.now)) (times_of (codes "publish")) }
+    ensures order { IsOrderIn (Some (codes "publish", rows_of (found_of given.now))) result }
+    ensures not_empty { HasNoEmptyWord result }
 {
     Order::Publish {
-        dir: value(given, "DIR"),
-        changes: value(given, "CHANGES"),
+        dir: nonempty(given, "DIR"),
+        changes: nonempty(given, "CHANGES"),
         now: value(given, "TIME"),
     }
 }
 
 fn follow_of<'a>(given: &ArgMatches<'a>) -> Order<'a>
-    ensures { IsOrderIn (Some (codes "follow", rows_of (found_of given.now))) result }
+    requires { HasWords (rows_of (found_of given.now)) (words_of (codes "follow")) }
+    ensures order { IsOrderIn (Some (codes "follow", rows_of (found_of given.now))) result }
+    ensures not_empty { HasNoEmptyWord result }
 {
     Order::Follow {
-        dir: value(given, "DIR"),
-        save: value(given, "SAVE"),
+        dir: nonempty(given, "DIR"),
+        save: nonempty(given, "SAVE"),
     }
 }
 
 fn lag_of<'a>(given: &ArgMatches<'a>) -> Order<'a>
-    ensures { IsOrderIn (Some (codes "lag", rows_of (found_of given.now))) result }
+    requires { HasWords (rows_of (found_of given.now)) (words_of (codes "lag")) }
+    ensures order { IsOrderIn (Some (codes "lag", rows_of (found_of given.now))) result }
+    ensures not_empty { HasNoEmptyWord result }
 {
     Order::Lag {
-        dir: value(given, "DIR"),
-        save: value(given, "SAVE"),
+        dir: nonempty(given, "DIR"),
+        save: nonempty(given, "SAVE"),
     }
 }
 
 fn show_of<'a>(given: &ArgMatches<'a>) -> Order<'a>
-    ensures { IsOrderIn (Some (codes "show", rows_of (found_of given.now))) result }
+    requires { HasWords (rows_of (found_of given.now)) (words_of (codes "show")) }
+    ensures order { IsOrderIn (Some (codes "show", rows_of (found_of given.now))) result }
+    ensures not_empty { HasNoEmptyWord result }
 {
     Order::Show {
-        save: value(given, "SAVE"),
+        save: nonempty(given, "SAVE"),
     }
 }
 
 fn convert_of<'a>(given: &ArgMatches<'a>) -> Order<'a>
-    ensures { IsOrderIn (Some (codes "convert", rows_of (found_of given.now))) result }
+    requires { HasWords (rows_of (found_of given.now)) (words_of (codes "convert")) }
+    ensures order { IsOrderIn (Some (codes "convert", rows_of (found_of given.now))) result }
+    ensures not_empty { HasNoEmptyWord result }
 {
     Order::Convert {
-        input: value(given, "IN"),
-        output: value(given, "OUT"),
+        input: nonempty(given, "IN"),
+        output: nonempty(given, "OUT"),
     }
 }
 
-// The value of a word that has to be there.
-fn value<'a>(given: &ArgMatches<'a>, name: &str) -> &'a str
-    ensures { result.now ≡ value_of name.now (rows_of (found_of given.now)) }
+// The value of a word that has one, and that isn't empty.
+fn nonempty<'a>(given: &ArgMatches<'a>, name: &str) -> &'a str
+    requires { HasWord (rows_of (found_of given.now)) name.now }
+    ensures value { first_of name.now (rows_of (found_of given.now)) ≡ Some result.now }
+    ensures not_empty { result.now ≡ [] → ⊥ }
 {
-    given.get_str(name).unwrap_or("")
+    value(given, name)
+}
+
+// The value of a word that has one.
+fn value<'a>(given: &ArgMatches<'a>, name: &str) -> &'a str
+    requires { HasValue (rows_of (found_of given.now)) name.now }
+    ensures { first_of name.now (rows_of (found_of given.now)) ≡ Some result.now }
+{
+    let Some(value) = given.get_str(name) else {
+        unreachable!()
+    };
+    value
 }
 
 fn matches<'a>(alloc: Global, words: &'a [&'a str]) -> Result<ArgMatches<'a>, Error>

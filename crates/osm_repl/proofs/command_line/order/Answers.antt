@@ -3,7 +3,7 @@ use Rattle.osm_repl.specs.Steps.Commands.{IsCommand}
 use Rattle.osm_repl.proofs.CommandLemmas.{names_command}
 use Rattle.osm_repl.proofs.command_line.order.Goals as goal
 
--- words that `clap` takes name a command
+-- words that `clap` takes name a command, and give it the values of its words
 pub order_of-requires : goal.order_of-requires
 order_of-requires c =
     subst IsCommand (sym (c.in_ok-matches.ensures.matches refl).1)
