@@ -16,7 +16,7 @@ use std::alloc::Global;
 use std::io::{self, Write};
 
 /// Writes the replies, then the files that are there, and a line `end`.
-pub fn write_outcome<W: Write>(alloc: Global, outcome: &Outcome, out: &mut W) -> Result<()> {
+pub(crate) fn write_outcome<W: Write>(alloc: Global, outcome: &Outcome, out: &mut W) -> Result<()> {
     for reply in &outcome.replies {
         write_reply(reply, out)?;
     }

@@ -1,5 +1,9 @@
 //! A list of operations, as its lines are read.
 
+ghost use Rattle.std.specs.Prelude.{◌≡◌, [], IfSome, OnOk};
+ghost use Rattle.osm_reading.specs.Sequence.{SpellsSequence};
+ghost use Rattle.operations.specs.Words.{IsEdited, Says, changes_after, suffix_word};
+
 use anyhow::{Result, bail};
 use osm_model::batch::Batch;
 use osm_model::time::time_read;
@@ -12,14 +16,14 @@ use std::mem;
 
 /// The operations so far, and the changes of the next publication.
 #[derive(Debug, Drop)]
-pub struct List {
+pub(crate) struct List {
     alloc: Global,
     changes: Batch,
     operations: Vec<Operation>,
 }
 
 impl List {
-    pub fn new(alloc: Global) -> List {
+    pub(crate) fn new(alloc: Global) -> List {
         List {
             alloc,
             changes: Batch::new(alloc),
@@ -29,11 +33,9 @@ impl List {
 
     /// Takes a line: a change, as `edit n1 v1 dV c7 t2024-01-01T00:00:00Z i5 uann T x1 y2`, or an
     /// operation.
-    pub fn read(&mut self, line: &str) -> Result<()> {
+    pub(crate) fn read(&mut self, line: &str) -> Result<()> {
         if let Some(change) = line.strip_prefix("edit ") {
-            self.changes
-                .push(read_line(self.alloc, change.as_bytes())?)?;
-            return Ok(());
+            return self.edit(change);
         }
         let words: Vec<&str> = line.split(' ').collect(self.alloc)?;
         match self.operation(&words) {
@@ -43,8 +45,21 @@ impl List {
         Ok(())
     }
 
+    // One change more, a line of OPL.
+    fn edit(&mut self, line: &str) -> Result<()>
+        ensures { OnOk result (IsEdited line.now self.old.changes self.new.changes) }
+    {
+        self.changes.push(read_line(self.alloc, line.as_bytes())?)?;
+        Ok(())
+    }
+
     // None if the words are no operation.
-    fn operation(&mut self, words: &[&str]) -> Option<Operation> {
+    fn operation(&mut self, words: &[&str]) -> Option<Operation>
+        ensures says { IfSome result (Says words.now self.old.changes) }
+        ensures left { IfSome result
+            (λ operation. self.new.changes ≡ changes_after operation self.old.changes) }
+        ensures kept { self.new.operations ≡ self.old.operations }
+    {
         match *words {
             ["publish", time] => Some(Operation::Publish {
                 time: time_read(time.as_bytes())?,
@@ -72,25 +87,36 @@ impl List {
     }
 
     /// Whether no line was taken since the last list.
-    pub fn is_empty(&self) -> bool {
+    pub(crate) fn is_empty(&self) -> bool {
         self.operations.is_empty() && self.changes.changes().is_empty()
     }
 
-    fn take_changes(&mut self) -> Batch {
+    fn take_changes(&mut self) -> Batch
+        ensures taken { result ≡ self.old.changes }
+        ensures emptied { self.new.changes ≡ [] }
+        ensures kept { self.new.operations ≡ self.old.operations }
+    {
         mem::replace(&mut self.changes, Batch::new(self.alloc))
     }
 
     /// The operations; the next line begins another list.
-    pub fn take(&mut self) -> Vec<Operation> {
+    pub(crate) fn take(&mut self) -> Vec<Operation>
+        ensures taken { result.items ≡ self.old.operations.items }
+        ensures emptied { self.new.operations.items ≡ [] }
+    {
         mem::replace(&mut self.operations, Vec::new(self.alloc))
     }
 }
 
-fn number_of(word: &str) -> Option<u32> {
+fn number_of(word: &str) -> Option<u32>
+    ensures { IfSome result (SpellsSequence word.now) }
+{
     sequence_read(word.as_bytes())
 }
 
-fn suffix_of(word: &str) -> Option<Suffix> {
+fn suffix_of(word: &str) -> Option<Suffix>
+    ensures { IfSome result (λ suffix. word.now ≡ suffix_word suffix) }
+{
     match word {
         "o5c" => Some(Suffix::O5c),
         "opl" => Some(Suffix::Opl),

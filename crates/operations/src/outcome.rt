@@ -10,15 +10,15 @@ use osm_operations::operation::Operation;
 use osm_operations::world::{Outcome, run};
 use std::alloc::Global;
 
-pub const DIR: &str = "dir";
+pub(crate) const DIR: &str = "dir";
 
-pub const SAVE: &str = "save";
+pub(crate) const SAVE: &str = "save";
 
-pub const CHANGES: &str = "changes";
+pub(crate) const CHANGES: &str = "changes";
 
 /// Runs a list in a new store. These names meet the premises of the main statement over folders, so
 /// that it holds of each outcome.
-pub fn outcome_of(alloc: Global, operations: Vec<Operation>) -> Result<Outcome, WantOfMemory>
+pub(crate) fn outcome_of(alloc: Global, operations: Vec<Operation>) -> Result<Outcome, WantOfMemory>
     ensures { IfOk result (λ r. IsRun operations.items r.replies.items
         (codes "dir") (codes "save") (codes "changes") (λ name. None) (files_of r.store)) }
 {
