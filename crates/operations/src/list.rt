@@ -15,7 +15,7 @@ use std::alloc::Global;
 use std::mem;
 
 /// The operations so far, and the changes of the next publication.
-#[derive(Debug, Drop)]
+#[derive(Drop)]
 pub(crate) struct List {
     alloc: Global,
     changes: Batch,
