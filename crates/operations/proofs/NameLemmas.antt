@@ -1,0 +1,38 @@
+-- The names of the program's folder, save and changes meet the premises of the main statement.
+use Rattle.std.proofs.Common.{◌≡◌, ℕ, List, refl, arith, ap, get_or, None, Ok, Err, IfOk, codes}
+use Rattle.std.specs.Prelude.{Result}
+use Rattle.osm_folder.specs.Files.{Files}
+use Rattle.osm_folder.specs.Folder.{IsApart}
+use Rattle.osm_folder.specs.Names.{file_name_of, top_name_of}
+use Rattle.osm_folder.specs.Stores.{files_of}
+use Rattle.osm_model.specs.declared.memory.WantOfMemory.{WantOfMemory}
+use Rattle.osm_operations.specs.Correct.{AreApart, IsNew, IsRun}
+use Rattle.osm_operations.specs.declared.operation.Operation.{Operation}
+use Rattle.osm_operations.specs.declared.world.Outcome.{Outcome}
+
+-- another first letter than that of the folder
+outside : (name : List ℕ) → (get_or name 0 0 ≡ 100 → ⊥) → IsApart (codes "dir") name
+unfolding file_name_of top_name_of
+outside name other = record {
+  top = λ e. other (ap (λ (l : List ℕ). get_or l 0 0) e);
+  each = λ k suffix most e. other (ap (λ (l : List ℕ). get_or l 0 0) e);
+}
+
+names_are_apart : AreApart (codes "dir") (codes "save") (codes "changes")
+names_are_apart = record {
+  save_is = outside (codes "save") (λ e. omega (arith, e));
+  changes_are = outside (codes "changes") (λ e. omega (arith, e));
+  differ = λ e. let h : 115 ≡ 99 = ap (λ (l : List ℕ). get_or l 0 0) e in omega (arith, h);
+}
+
+-- what holds of a run of lists under the premises holds in a new store
+pub holds_in_new_store : (operations : List Operation) (result : Result Outcome WantOfMemory) (start : Files)
+    → start ≡ (λ name. None)
+    → IfOk result (λ r. AreApart (codes "dir") (codes "save") (codes "changes") → IsNew (codes "dir") (codes "save") start
+    → IsRun operations r.replies.items (codes "dir") (codes "save") (codes "changes") start (files_of r.store))
+    → IfOk result (λ r. IsRun operations r.replies.items (codes "dir") (codes "save") (codes "changes") (λ name. None) (files_of r.store))
+holds_in_new_store operations (Ok r) start new h =
+    let run : (AreApart (codes "dir") (codes "save") (codes "changes") → IsNew (codes "dir") (codes "save") (λ name. None)
+    → IsRun operations r.replies.items (codes "dir") (codes "save") (codes "changes") (λ name. None) (files_of r.store)) = rw new at h in
+    run names_are_apart (record { top = refl; saved = refl })
+holds_in_new_store operations (Err refused) start new h = tt

@@ -1,0 +1,6 @@
+use Rattle.osm_folder.specs.Stores.{files_of}
+use Rattle.operations.proofs.NameLemmas.{holds_in_new_store}
+use Rattle.operations.proofs.outcome.outcome_of.Goals as goal
+
+pub returns : goal.returns
+returns c = holds_in_new_store c.args.operations.items c.run.result (files_of c.new.result) c.new.ensures c.run.ensures.run

@@ -1,0 +1,88 @@
+-- What the words of a line say.
+use Rattle.std.specs.Prelude.{◌≡◌, ℕ, List, [], ◌∷◌, ◌++◌, length, slice_index_or, codes}
+use Rattle.std.specs.Borrow.{Bor}
+use Rattle.osm_model.specs.Change.{ChangeValue}
+use Rattle.osm_model.specs.Time.{TimeText}
+use Rattle.osm_opl.specs.Line.{SpellsLine}
+use Rattle.osm_reading.specs.Sequence.{SpellsSequence}
+use Rattle.osm_state.specs.declared.paths.Suffix.{Suffix}
+use Rattle.osm_state.specs.declared.paths.Suffix.TheVariants.{O5c, Opl, State}
+use Rattle.osm_operations.specs.declared.operation.Operation.{Operation}
+use Rattle.osm_operations.specs.declared.operation.Operation.TheVariants.{Publish, KilledPublish}
+use Rattle.osm_operations.specs.declared.operation.Operation.TheVariants.{Follow, KilledFollow}
+use Rattle.osm_operations.specs.declared.operation.Operation.TheVariants.{Lose, PutBack}
+
+-- a `&[&str]`
+abbrev pub Words : Type 0
+Words = List (Bor (List ℕ))
+
+-- the text of a word, counted from 0
+abbrev pub word : Words → ℕ → List ℕ
+word words i = (slice_index_or words i (record { ref_ptr = (0, 0); now = [] })).now
+
+-- the word of a suffix
+abbrev pub suffix_word : Suffix → List ℕ
+suffix_word O5c = codes "o5c"
+suffix_word Opl = codes "opl"
+suffix_word State = codes "state"
+
+-- `publish TIME`
+pub record IsPublish (words : Words) (time : ℕ) : Type 0 where
+  pub many : length words ≡ 2
+  pub first : word words 0 ≡ codes "publish"
+  pub time_is : TimeText (word words 1) time
+
+-- `killed publish CALLS TIME`
+pub record IsKilledPublish (words : Words) (calls time : ℕ) : Type 0 where
+  pub many : length words ≡ 4
+  pub first : word words 0 ≡ codes "killed"
+  pub second : word words 1 ≡ codes "publish"
+  pub calls_are : SpellsSequence (word words 2) calls
+  pub time_is : TimeText (word words 3) time
+
+-- `follow`
+pub record IsFollow (words : Words) : Type 0 where
+  pub many : length words ≡ 1
+  pub first : word words 0 ≡ codes "follow"
+
+-- `killed follow CALLS`
+pub record IsKilledFollow (words : Words) (calls : ℕ) : Type 0 where
+  pub many : length words ≡ 3
+  pub first : word words 0 ≡ codes "killed"
+  pub second : word words 1 ≡ codes "follow"
+  pub calls_are : SpellsSequence (word words 2) calls
+
+-- `lose NUMBER SUFFIX`
+pub record IsLose (words : Words) (number : ℕ) (suffix : Suffix) : Type 0 where
+  pub many : length words ≡ 3
+  pub first : word words 0 ≡ codes "lose"
+  pub number_is : SpellsSequence (word words 1) number
+  pub suffix_is : word words 2 ≡ suffix_word suffix
+
+-- `put back NUMBER SUFFIX`
+pub record IsPutBack (words : Words) (number : ℕ) (suffix : Suffix) : Type 0 where
+  pub many : length words ≡ 4
+  pub first : word words 0 ≡ codes "put"
+  pub second : word words 1 ≡ codes "back"
+  pub number_is : SpellsSequence (word words 2) number
+  pub suffix_is : word words 3 ≡ suffix_word suffix
+
+-- the words are the operation; a publication has the changes that were read before
+abbrev pub Says : Words → List ChangeValue → Operation → Type 0
+Says words changes (Publish batch time) = IsPublish words time × (batch ≡ changes)
+Says words changes (KilledPublish batch time calls) =
+    IsKilledPublish words calls time × (batch ≡ changes)
+Says words changes Follow = IsFollow words
+Says words changes (KilledFollow calls) = IsKilledFollow words calls
+Says words changes (Lose number suffix) = IsLose words number suffix
+Says words changes (PutBack number suffix) = IsPutBack words number suffix
+
+-- the changes that are left for the next publication
+abbrev pub changes_after : Operation → List ChangeValue → List ChangeValue
+changes_after (Publish batch time) changes = []
+changes_after (KilledPublish batch time calls) changes = []
+changes_after operation changes = changes
+
+-- the change of a line of OPL is added
+abbrev pub IsEdited : List ℕ → List ChangeValue → List ChangeValue → Type 0
+IsEdited line old new = (change : ChangeValue) × SpellsLine line change × (new ≡ old ++ change ∷ [])

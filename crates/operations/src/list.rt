@@ -1,0 +1,126 @@
+//! A list of operations, as its lines are read.
+
+ghost use Rattle.std.specs.Prelude.{◌≡◌, [], IfSome, OnOk};
+ghost use Rattle.osm_reading.specs.Sequence.{SpellsSequence};
+ghost use Rattle.operations.specs.Words.{IsEdited, Says, changes_after, suffix_word};
+
+use anyhow::{Result, bail};
+use osm_model::batch::Batch;
+use osm_model::time::time_read;
+use osm_operations::operation::Operation;
+use osm_opl::lines::read_line;
+use osm_reading::sequence::sequence_read;
+use osm_state::paths::Suffix;
+use std::alloc::Global;
+use std::mem;
+
+/// The operations so far, and the changes of the next publication.
+#[derive(Drop)]
+pub(crate) struct List {
+    alloc: Global,
+    changes: Batch,
+    operations: Vec<Operation>,
+}
+
+impl List {
+    pub(crate) fn new(alloc: Global) -> List {
+        List {
+            alloc,
+            changes: Batch::new(alloc),
+            operations: Vec::new(alloc),
+        }
+    }
+
+    /// Takes a line: a change, as `edit n1 v1 dV c7 t2024-01-01T00:00:00Z i5 uann T x1 y2`, or an
+    /// operation.
+    pub(crate) fn read(&mut self, line: &str) -> Result<()> {
+        if let Some(change) = line.strip_prefix("edit ") {
+            return self.edit(change);
+        }
+        let words: Vec<&str> = line.split(' ').collect(self.alloc)?;
+        match self.operation(&words) {
+            Some(operation) => self.operations.push(operation)?,
+            None => bail!("no operation"),
+        }
+        Ok(())
+    }
+
+    // One change more, a line of OPL.
+    fn edit(&mut self, line: &str) -> Result<()>
+        ensures { OnOk result (IsEdited line.now self.old.changes self.new.changes) }
+    {
+        self.changes.push(read_line(self.alloc, line.as_bytes())?)?;
+        Ok(())
+    }
+
+    // None if the words are no operation.
+    fn operation(&mut self, words: &[&str]) -> Option<Operation>
+        ensures says { IfSome result (Says words.now self.old.changes) }
+        ensures left { IfSome result
+            (λ operation. self.new.changes ≡ changes_after operation self.old.changes) }
+        ensures kept { self.new.operations ≡ self.old.operations }
+    {
+        match *words {
+            ["publish", time] => Some(Operation::Publish {
+                time: time_read(time.as_bytes())?,
+                changes: self.take_changes(),
+            }),
+            ["killed", "publish", calls, time] => Some(Operation::KilledPublish {
+                calls: number_of(calls)? as u64,
+                time: time_read(time.as_bytes())?,
+                changes: self.take_changes(),
+            }),
+            ["follow"] => Some(Operation::Follow),
+            ["killed", "follow", calls] => Some(Operation::KilledFollow {
+                calls: number_of(calls)? as u64,
+            }),
+            ["lose", number, suffix] => Some(Operation::Lose {
+                number: number_of(number)?,
+                suffix: suffix_of(suffix)?,
+            }),
+            ["put", "back", number, suffix] => Some(Operation::PutBack {
+                number: number_of(number)?,
+                suffix: suffix_of(suffix)?,
+            }),
+            _ => None,
+        }
+    }
+
+    /// Whether no line was taken since the last list.
+    pub(crate) fn is_empty(&self) -> bool {
+        self.operations.is_empty() && self.changes.changes().is_empty()
+    }
+
+    fn take_changes(&mut self) -> Batch
+        ensures taken { result ≡ self.old.changes }
+        ensures emptied { self.new.changes ≡ [] }
+        ensures kept { self.new.operations ≡ self.old.operations }
+    {
+        mem::replace(&mut self.changes, Batch::new(self.alloc))
+    }
+
+    /// The operations; the next line begins another list.
+    pub(crate) fn take(&mut self) -> Vec<Operation>
+        ensures taken { result.items ≡ self.old.operations.items }
+        ensures emptied { self.new.operations.items ≡ [] }
+    {
+        mem::replace(&mut self.operations, Vec::new(self.alloc))
+    }
+}
+
+fn number_of(word: &str) -> Option<u32>
+    ensures { IfSome result (SpellsSequence word.now) }
+{
+    sequence_read(word.as_bytes())
+}
+
+fn suffix_of(word: &str) -> Option<Suffix>
+    ensures { IfSome result (λ suffix. word.now ≡ suffix_word suffix) }
+{
+    match word {
+        "o5c" => Some(Suffix::O5c),
+        "opl" => Some(Suffix::Opl),
+        "state" => Some(Suffix::State),
+        _ => None,
+    }
+}

@@ -1,0 +1,43 @@
+//! Runs lists of operations on a folder and a save, each in a new store in memory, and writes what
+//! was replied and the files after each list. Standard input has a line for each operation:
+//! `publish 2024-01-01T00:00:00Z`, `killed publish 5 2024-01-01T00:00:00Z`, `follow`,
+//! `killed follow 2`, `lose 1 o5c`, `put back 1 state`; before a publication a line `edit OPL` for
+//! each of its changes; and a line `run` after each list.
+#![tactic(auto)]
+
+mod answers;
+mod list;
+mod outcome;
+
+use answers::write_outcome;
+use anyhow::{Result, bail};
+use list::List;
+use outcome::outcome_of;
+use std::alloc::Global;
+use std::io::{self, BufRead, BufReader, BufWriter, Write};
+
+fn main(rt: HostRuntime) -> Result<()> {
+    let alloc = rt.alloc();
+    let lines = BufReader::new(alloc, rt.reader())?.lines(alloc);
+    let mut out = BufWriter::new(alloc, io::writer(&rt))?;
+    let mut list = List::new(alloc);
+    for (index, line) in lines.enumerate() {
+        if let Err(error) = take_line(alloc, line?.as_str(), &mut list, &mut out) {
+            bail!("line {}: {error}", index + 1);
+        }
+    }
+    if !list.is_empty() {
+        bail!("the last list has no line `run`");
+    }
+    out.flush()?;
+    Ok(())
+}
+
+// Runs the list at the line `run`; every other line belongs to the list.
+fn take_line<W: Write>(alloc: Global, line: &str, list: &mut List, out: &mut W) -> Result<()> {
+    if line == "run" {
+        let outcome = outcome_of(alloc, list.take())?;
+        return write_outcome(alloc, &outcome, out);
+    }
+    list.read(line)
+}

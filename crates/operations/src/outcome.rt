@@ -1,0 +1,33 @@
+//! Running a list.
+
+ghost use Rattle.std.specs.Prelude.{None, IfOk, codes};
+ghost use Rattle.osm_folder.specs.Stores.{files_of};
+ghost use Rattle.osm_operations.specs.Correct.{IsRun};
+
+use osm_folder::memory_store::MemoryStore;
+use osm_model::memory::WantOfMemory;
+use osm_operations::operation::Operation;
+use osm_operations::world::{Outcome, run};
+use std::alloc::Global;
+
+pub(crate) const DIR: &str = "dir";
+
+pub(crate) const SAVE: &str = "save";
+
+pub(crate) const CHANGES: &str = "changes";
+
+/// Runs a list in a new store. These names meet the premises of the main statement over folders, so
+/// that it holds of each outcome.
+pub(crate) fn outcome_of(alloc: Global, operations: Vec<Operation>) -> Result<Outcome, WantOfMemory>
+    ensures { IfOk result (λ r. IsRun operations.items r.replies.items
+        (codes "dir") (codes "save") (codes "changes") (λ name. None) (files_of r.store)) }
+{
+    run(
+        alloc,
+        MemoryStore::new(alloc),
+        DIR,
+        SAVE,
+        CHANGES,
+        operations,
+    )
+}
