@@ -33,6 +33,16 @@ abbrev pub Spends : ℕ → Option ℕ → Option ℕ → Type 0
 Spends calls None left = left ≡ None
 Spends calls (Some n) left = (m : ℕ) × (left ≡ Some m) × (m + calls ≤ n)
 
+-- at most so many fewer calls are left now
+abbrev pub SpendsAtMost : ℕ → Option ℕ → Option ℕ → Type 0
+SpendsAtMost calls None left = left ≡ None
+SpendsAtMost calls (Some n) left = (m : ℕ) × (left ≡ Some m) × (n ≤ m + calls)
+
+-- fewer than so many calls are left
+abbrev pub HasFewer : ℕ → Option ℕ → Type 0
+HasFewer calls None = ⊥
+HasFewer calls (Some n) = n < calls
+
 -- the count of a device's failures rose, or had stood at its greatest value
 abbrev pub HasFailed : ℕ → ℕ → Type 0
 HasFailed old new = (old < new) ⊎ (18446744073709551615 ≤ old)
@@ -46,6 +56,11 @@ ReadStops limit old new e = Unit {0}
 abbrev pub IsOverOnly : ℕ → Option (List ℕ) → StoreError → Type 0
 IsOverOnly limit told TooLarge = IsOver limit told
 IsOverOnly limit told e = Unit {0}
+
+-- the device is the reason only if no call is left
+abbrev pub IsOutOnly : Option ℕ → StoreError → Type 0
+IsOutOnly left Device = left ≡ Some 0
+IsOutOnly left e = Unit {0}
 
 -- why a file isn't written: its device failed, or no memory
 abbrev pub WriteStops : ℕ → ℕ → StoreError → Type 0

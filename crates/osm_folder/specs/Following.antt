@@ -1,7 +1,7 @@
 -- A follower that goes on over a folder from what it saved. `known` says that it is known what the
 -- files hold.
-use Rattle.std.specs.Prelude.{◌≡◌, ◌≢◌, ℕ, zero, suc, ◌+◌, ◌-◌, ◌<◌, ◌≤◌, ◌⊎◌, ◌↔◌, List, []}
-use Rattle.std.specs.Prelude.{length, map, filter, min, Bool, true, false, ◌||◌, ◌&&◌, Option}
+use Rattle.std.specs.Prelude.{◌≡◌, ◌≢◌, ℕ, zero, suc, ◌+◌, ◌-◌, ◌*◌, ◌<◌, ◌≤◌, ◌⊎◌, ◌↔◌, List}
+use Rattle.std.specs.Prelude.{[], length, map, filter, min, Bool, true, false, ◌||◌, ◌&&◌, Option}
 use Rattle.std.specs.Prelude.{Some, None, is_none}
 use Rattle.osm_model.specs.Limits.{max_file}
 use Rattle.osm_mirror.specs.Mirror.{Applies, IsMirrorOf, no_mirror}
@@ -274,6 +274,11 @@ pub record IsInStepAfter (published : List PublishedValue) (number : ℕ) (dir s
   pub report_is : report ≡ follow_report_of (ranges number count)
       (lost_numbers old dir (number + count) (length published)) (number + count)
   pub others : (name : List ℕ) → (name ≡ save → ⊥) → new name ≡ old name
+
+-- the most calls of a run from that number: its save, the top state, at most three files of each
+-- number after it, and the save that it writes
+abbrev pub follow_calls : List PublishedValue → ℕ → ℕ
+follow_calls published number = 3 + 3 * (length published - number)
 
 -- a save of the published sequences passes 1 GiB: the one that is there, or the one that is to be
 -- written

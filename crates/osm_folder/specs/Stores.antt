@@ -1,5 +1,5 @@
 -- What contracts see of a store in memory and of one that stops.
-use Rattle.std.specs.Prelude.{◌≡◌, ℕ, ◌⊎◌}
+use Rattle.std.specs.Prelude.{◌≡◌, ℕ, ◌⊎◌, Option, Some, None, min}
 use Rattle.std.specs.BTreeMap.{get_by_text}
 use Rattle.osm_folder.specs.Files.{Files, HasFailed}
 use Rattle.osm_folder.specs.declared.fuse.Fuse.{Fuse}
@@ -18,6 +18,11 @@ inner_of fuse = fuse.inner
 -- the calls that a fuse still passes on
 abbrev pub calls_of : {S : Type 0} → Fuse S → ℕ
 calls_of fuse = fuse.calls
+
+-- how many calls are left over a store, if a fuse passes so many on
+abbrev pub fewer_of : ℕ → Option ℕ → Option ℕ
+fewer_of calls None = Some calls
+fewer_of calls (Some n) = Some (min calls n)
 
 -- a fuse fails only if no call was left, or if its store's device failed
 abbrev pub FuseStops : ℕ → ℕ → ℕ → StoreError → Type 0

@@ -2,9 +2,9 @@
 
 ghost use Rattle.std.specs.Prelude.{◌≡◌, ◌≤◌, IsTrue, IfErr, IfOk, OnOk, OnErr};
 ghost use Rattle.osm_folder.specs.Conversion.{ConvertStops, IsConverted};
-ghost use Rattle.osm_folder.specs.Files.{Spends};
+ghost use Rattle.osm_folder.specs.Files.{Spends, SpendsAtMost};
 ghost use Rattle.osm_folder.specs.Reports.{convert_report_of};
-ghost use Rattle.osm_folder.specs.Runs.{Blames};
+ghost use Rattle.osm_folder.specs.Runs.{Blames, LacksCalls};
 
 use crate::fault::{FileName, RunFault};
 use crate::files::{read_present, write_file};
@@ -28,9 +28,12 @@ pub fn convert_run<S: Store>(
     ensures stops { IfErr result
         (ConvertStops (IsTrue (S.tells store.old)) input.now output.now (S.told store.old)) }
     ensures device { IfErr result (Blames (S.failures store.old) (S.failures store.new)) }
+    ensures lacks { IfErr result
+        (λ fault. IsTrue (S.tells store.old) → LacksCalls 2 (S.left store.old) fault) }
     ensures unchanged { OnErr result (S.told store.new ≡ S.told store.old) }
     ensures tells { S.tells store.new ≡ S.tells store.old }
     ensures left { OnOk result (Spends 2 (S.left store.old) (S.left store.new)) }
+    ensures most { OnOk result (SpendsAtMost 2 (S.left store.old) (S.left store.new)) }
     ensures left_after { Spends 0 (S.left store.old) (S.left store.new) }
     ensures kept { S.failures store.old ≤ S.failures store.new }
 {

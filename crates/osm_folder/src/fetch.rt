@@ -3,11 +3,11 @@
 ghost use Rattle.std.specs.Prelude.{◌≡◌, ℕ, ◌≤◌, true, IsTrue, IfErr, IfOk, IfNone, OnOk};
 ghost use Rattle.std.specs.Prelude.{MatchOption, length};
 ghost use Rattle.osm_model.specs.Limits.{max_sequence};
-ghost use Rattle.osm_folder.specs.Files.{IsWithin, Spends, Tells};
+ghost use Rattle.osm_folder.specs.Files.{IsWithin, Spends, SpendsAtMost, Tells};
 ghost use Rattle.osm_folder.specs.Folder.{IsStateFile, max_state};
 ghost use Rattle.osm_folder.specs.Following.{HasState, NumberStops, is_lost, limit_of};
 ghost use Rattle.osm_folder.specs.Names.{file_name_of};
-ghost use Rattle.osm_folder.specs.Runs.{Blames};
+ghost use Rattle.osm_folder.specs.Runs.{Blames, LacksCalls};
 ghost use Rattle.osm_folder.specs.Steps.Following.{AreChangesRead, IsFetched, IsStateRead};
 ghost use Rattle.osm_folder.specs.Steps.Following.{StateTextStops};
 ghost use Rattle.osm_folder.specs.Steps.Reading.{FileStops};
@@ -45,8 +45,11 @@ pub(crate) fn fetch<S: Store>(
     ensures stops { IfErr result
         (NumberStops (IsTrue (S.tells store.old)) dir.now (S.told store.old) number) }
     ensures device { IfErr result (Blames (S.failures store.old) (S.failures store.new)) }
+    ensures lacks { IfErr result
+        (λ fault. IsTrue (S.tells store.old) → LacksCalls 3 (S.left store.old) fault) }
     ensures unchanged { S.told store.new ≡ S.told store.old }
     ensures tells { S.tells store.new ≡ S.tells store.old }
+    ensures most { OnOk result (SpendsAtMost 3 (S.left store.old) (S.left store.new)) }
     ensures left_after { Spends 0 (S.left store.old) (S.left store.new) }
     ensures kept { S.failures store.old ≤ S.failures store.new }
 {
@@ -76,8 +79,11 @@ fn read_state<S: Store>(
     ensures stops { IfErr result
         (NumberStops (IsTrue (S.tells store.old)) dir.now (S.told store.old) number) }
     ensures device { IfErr result (Blames (S.failures store.old) (S.failures store.new)) }
+    ensures lacks { IfErr result
+        (λ fault. IsTrue (S.tells store.old) → LacksCalls 1 (S.left store.old) fault) }
     ensures unchanged { S.told store.new ≡ S.told store.old }
     ensures tells { S.tells store.new ≡ S.tells store.old }
+    ensures most { OnOk result (SpendsAtMost 1 (S.left store.old) (S.left store.new)) }
     ensures left_after { Spends 0 (S.left store.old) (S.left store.new) }
     ensures kept { S.failures store.old ≤ S.failures store.new }
 {
@@ -115,8 +121,11 @@ fn read_changes<S: Store>(
         (IsTrue (S.tells store.old) → HasState (S.told store.old) dir.now number)
         → NumberStops (IsTrue (S.tells store.old)) dir.now (S.told store.old) number fault) }
     ensures device { IfErr result (Blames (S.failures store.old) (S.failures store.new)) }
+    ensures lacks { IfErr result
+        (λ fault. IsTrue (S.tells store.old) → LacksCalls 2 (S.left store.old) fault) }
     ensures unchanged { S.told store.new ≡ S.told store.old }
     ensures tells { S.tells store.new ≡ S.tells store.old }
+    ensures most { OnOk result (SpendsAtMost 2 (S.left store.old) (S.left store.new)) }
     ensures left_after { Spends 0 (S.left store.old) (S.left store.new) }
     ensures kept { S.failures store.old ≤ S.failures store.new }
 {
@@ -145,8 +154,11 @@ fn read_numbered<S: Store>(
         (FileName.Sequence number suffix) (limit_of suffix)
         (S.told store.old (file_name_of dir.now number suffix))) }
     ensures device { IfErr result (Blames (S.failures store.old) (S.failures store.new)) }
+    ensures lacks { IfErr result
+        (λ fault. IsTrue (S.tells store.old) → LacksCalls 1 (S.left store.old) fault) }
     ensures unchanged { S.told store.new ≡ S.told store.old }
     ensures tells { S.tells store.new ≡ S.tells store.old }
+    ensures most { OnOk result (SpendsAtMost 1 (S.left store.old) (S.left store.new)) }
     ensures left_after { Spends 0 (S.left store.old) (S.left store.new) }
     ensures kept { S.failures store.old ≤ S.failures store.new }
 {

@@ -1,8 +1,8 @@
 //! Reading and writing the files of a run.
 
 ghost use Rattle.std.specs.Prelude.{◌≡◌, ◌≤◌, IsTrue, Some, IfErr, IfOk, OnOk, OnErr, length};
-ghost use Rattle.osm_folder.specs.Files.{IsWithin, Puts, Spends, Tells};
-ghost use Rattle.osm_folder.specs.Runs.{Blames};
+ghost use Rattle.osm_folder.specs.Files.{IsWithin, Puts, Spends, SpendsAtMost, Tells};
+ghost use Rattle.osm_folder.specs.Runs.{Blames, LacksCalls};
 ghost use Rattle.osm_folder.specs.Steps.Reading.{FileStops, PresentStops, PutStops};
 
 use crate::fault::{FileName, RunFault};
@@ -26,9 +26,12 @@ pub(crate) fn read_file<S: Store>(
     ensures stops { IfErr result
         (FileStops (IsTrue (S.tells store.old)) file limit (S.told store.old name.now)) }
     ensures device { IfErr result (Blames (S.failures store.old) (S.failures store.new)) }
+    ensures lacks { IfErr result
+        (λ fault. IsTrue (S.tells store.old) → LacksCalls 1 (S.left store.old) fault) }
     ensures unchanged { S.told store.new ≡ S.told store.old }
     ensures tells { S.tells store.new ≡ S.tells store.old }
     ensures left { OnOk result (Spends 1 (S.left store.old) (S.left store.new)) }
+    ensures most { OnOk result (SpendsAtMost 1 (S.left store.old) (S.left store.new)) }
     ensures left_after { Spends 0 (S.left store.old) (S.left store.new) }
     ensures kept { S.failures store.old ≤ S.failures store.new }
 {
@@ -54,9 +57,12 @@ pub(crate) fn read_present<S: Store>(
     ensures stops { IfErr result
         (PresentStops (IsTrue (S.tells store.old)) file limit (S.told store.old name.now)) }
     ensures device { IfErr result (Blames (S.failures store.old) (S.failures store.new)) }
+    ensures lacks { IfErr result
+        (λ fault. IsTrue (S.tells store.old) → LacksCalls 1 (S.left store.old) fault) }
     ensures unchanged { S.told store.new ≡ S.told store.old }
     ensures tells { S.tells store.new ≡ S.tells store.old }
     ensures left { OnOk result (Spends 1 (S.left store.old) (S.left store.new)) }
+    ensures most { OnOk result (SpendsAtMost 1 (S.left store.old) (S.left store.new)) }
     ensures left_after { Spends 0 (S.left store.old) (S.left store.new) }
     ensures kept { S.failures store.old ≤ S.failures store.new }
 {
@@ -79,9 +85,12 @@ pub(crate) fn write_file<S: Store>(
         → Puts (S.told store.old) name.now (Some bytes.now) (S.told store.new)) }
     ensures stops { IfErr result (PutStops file) }
     ensures device { IfErr result (Blames (S.failures store.old) (S.failures store.new)) }
+    ensures lacks { IfErr result
+        (λ fault. IsTrue (S.tells store.old) → LacksCalls 1 (S.left store.old) fault) }
     ensures refused { OnErr result (S.told store.new ≡ S.told store.old) }
     ensures tells { S.tells store.new ≡ S.tells store.old }
     ensures left { OnOk result (Spends 1 (S.left store.old) (S.left store.new)) }
+    ensures most { OnOk result (SpendsAtMost 1 (S.left store.old) (S.left store.new)) }
     ensures left_after { Spends 0 (S.left store.old) (S.left store.new) }
     ensures kept { S.failures store.old ≤ S.failures store.new }
 {

@@ -1,7 +1,7 @@
 //! Following a folder from a save.
 
-ghost use Rattle.std.specs.Prelude.{◌≡◌, ℕ, ◌+◌, ◌<◌, ◌≤◌, ◌++◌, List, None, true, false};
-ghost use Rattle.std.specs.Prelude.{IsTrue, IfErr, IfOk, OnOk, OnErr, length};
+ghost use Rattle.std.specs.Prelude.{◌≡◌, ℕ, ◌+◌, ◌-◌, ◌*◌, ◌<◌, ◌≤◌, ◌++◌, List, None, true};
+ghost use Rattle.std.specs.Prelude.{false, IsTrue, IfErr, IfOk, OnOk, OnErr, length};
 ghost use Rattle.osm_model.specs.Limits.{max_file, max_sequence};
 ghost use Rattle.osm_save.specs.Save.{SpellsSave};
 ghost use Rattle.osm_state.specs.State.{StateValue};
@@ -10,15 +10,15 @@ ghost use Rattle.osm_follow.specs.Follower.{held_at, is_held};
 ghost use Rattle.osm_follow.specs.Published.{PublishedValue};
 ghost use Rattle.osm_follow.specs.Reach.{missing_numbers};
 ghost use Rattle.osm_follow.specs.Restart.{saved_of};
-ghost use Rattle.osm_folder.specs.Files.{Spends};
+ghost use Rattle.osm_folder.specs.Files.{Spends, SpendsAtMost};
 ghost use Rattle.osm_folder.specs.Folder.{IsFolderOf};
 ghost use Rattle.osm_folder.specs.Following.{FollowRefuses, FollowStops, IsFollowed};
 ghost use Rattle.osm_folder.specs.Following.{IsFollowing};
 ghost use Rattle.osm_folder.specs.Following.{IsFollowReport, IsInStepAfter, IsSaveOf};
-ghost use Rattle.osm_folder.specs.Following.{NumberStops, max_save};
+ghost use Rattle.osm_folder.specs.Following.{NumberStops, follow_calls, max_save};
 ghost use Rattle.osm_folder.specs.Forms.{place_of, spells_of};
 ghost use Rattle.osm_folder.specs.Reports.{follow_report_of};
-ghost use Rattle.osm_folder.specs.Runs.{Blames};
+ghost use Rattle.osm_folder.specs.Runs.{Blames, LacksCalls};
 ghost use Rattle.osm_folder.specs.Steps.Following.{DeliverStops, IsDelivered, IsFresh};
 ghost use Rattle.osm_folder.specs.Steps.Following.{IsNoted, IsTaken, IsTakenUp, MadeStops};
 ghost use Rattle.osm_folder.specs.Steps.Following.{StopsOnTheWay, range_of, suffix_of};
@@ -79,9 +79,20 @@ pub fn follow_run<S: Store>(
         → IsSaveOf published number (S.told store.old save.now)
         → FollowRefuses published (S.told store.old save.now) fault) }
     ensures device { IfErr result (Blames (S.failures store.old) (S.failures store.new)) }
+    ensures lacks { IfErr result (λ fault. IsTrue (S.tells store.old)
+        → (published : List PublishedValue) (number : ℕ)
+        → IsFolderOf published (S.told store.old) dir.now
+        → IsSaveOf published number (S.told store.old save.now)
+        → LacksCalls (follow_calls published number) (S.left store.old) fault) }
     ensures unchanged { OnErr result (S.told store.new ≡ S.told store.old) }
     ensures tells { S.tells store.new ≡ S.tells store.old }
     ensures left { OnOk result (Spends 3 (S.left store.old) (S.left store.new)) }
+    ensures most { OnOk result (IsTrue (S.tells store.old)
+        → (published : List PublishedValue) (number : ℕ)
+        → IsFolderOf published (S.told store.old) dir.now
+        → IsSaveOf published number (S.told store.old save.now)
+        → SpendsAtMost (follow_calls published number)
+        (S.left store.old) (S.left store.new)) }
     ensures left_after { Spends 0 (S.left store.old) (S.left store.new) }
     ensures kept { S.failures store.old ≤ S.failures store.new }
 {
@@ -105,9 +116,20 @@ fn prepare<S: Store>(
     ensures stops { IfErr result (FollowStops (IsTrue (S.tells store.old))
         dir.now save.now (S.told store.old)) }
     ensures device { IfErr result (Blames (S.failures store.old) (S.failures store.new)) }
+    ensures lacks { IfErr result (λ fault. IsTrue (S.tells store.old)
+        → (published : List PublishedValue) (number : ℕ)
+        → IsFolderOf published (S.told store.old) dir.now
+        → IsSaveOf published number (S.told store.old save.now)
+        → LacksCalls (2 + 3 * (length published - number)) (S.left store.old) fault) }
     ensures unchanged { S.told store.new ≡ S.told store.old }
     ensures tells { S.tells store.new ≡ S.tells store.old }
     ensures left { OnOk result (Spends 2 (S.left store.old) (S.left store.new)) }
+    ensures most { OnOk result (IsTrue (S.tells store.old)
+        → (published : List PublishedValue) (number : ℕ)
+        → IsFolderOf published (S.told store.old) dir.now
+        → IsSaveOf published number (S.told store.old save.now)
+        → SpendsAtMost (2 + 3 * (length published - number))
+        (S.left store.old) (S.left store.new)) }
     ensures left_after { Spends 0 (S.left store.old) (S.left store.new) }
     ensures kept { S.failures store.old ≤ S.failures store.new }
 {
@@ -136,8 +158,12 @@ fn take_up<S: Store>(
     ensures stops { IfErr result (StopsOnTheWay (IsTrue (S.tells store.old))
         dir.now (S.told store.old) follower.old.number top) }
     ensures device { IfErr result (Blames (S.failures store.old) (S.failures store.new)) }
+    ensures lacks { IfErr result (λ fault. IsTrue (S.tells store.old)
+        → LacksCalls (3 * (top - follower.old.number)) (S.left store.old) fault) }
     ensures unchanged { S.told store.new ≡ S.told store.old }
     ensures tells { S.tells store.new ≡ S.tells store.old }
+    ensures most { OnOk result (SpendsAtMost (3 * (top - follower.old.number))
+        (S.left store.old) (S.left store.new)) }
     ensures left_after { Spends 0 (S.left store.old) (S.left store.new) }
     ensures kept { S.failures store.old ≤ S.failures store.new }
 {
@@ -173,8 +199,11 @@ fn take<S: Store>(
     ensures stops { IfErr result
         (NumberStops (IsTrue (S.tells store.old)) dir.now (S.told store.old) number) }
     ensures device { IfErr result (Blames (S.failures store.old) (S.failures store.new)) }
+    ensures lacks { IfErr result
+        (λ fault. IsTrue (S.tells store.old) → LacksCalls 3 (S.left store.old) fault) }
     ensures unchanged { S.told store.new ≡ S.told store.old }
     ensures tells { S.tells store.new ≡ S.tells store.old }
+    ensures most { OnOk result (SpendsAtMost 3 (S.left store.old) (S.left store.new)) }
     ensures left_after { Spends 0 (S.left store.old) (S.left store.new) }
     ensures kept { S.failures store.old ≤ S.failures store.new }
 {
@@ -210,8 +239,11 @@ fn deliver_number<S: Store>(
     ensures stops { IfErr result
         (NumberStops (IsTrue (S.tells store.old)) dir.now (S.told store.old) number) }
     ensures device { IfErr result (Blames (S.failures store.old) (S.failures store.new)) }
+    ensures lacks { IfErr result
+        (λ fault. IsTrue (S.tells store.old) → LacksCalls 3 (S.left store.old) fault) }
     ensures unchanged { S.told store.new ≡ S.told store.old }
     ensures tells { S.tells store.new ≡ S.tells store.old }
+    ensures most { OnOk result (SpendsAtMost 3 (S.left store.old) (S.left store.new)) }
     ensures left_after { Spends 0 (S.left store.old) (S.left store.new) }
     ensures kept { S.failures store.old ≤ S.failures store.new }
 {

@@ -2,9 +2,9 @@
 
 ghost use Rattle.std.specs.Prelude.{◌≡◌, ◌+◌, ◌<◌, ◌≤◌, ℕ, true, Some, IsTrue, OnOk, OnErr};
 ghost use Rattle.std.specs.Prelude.{IfErr, IfOk, Option};
-ghost use Rattle.osm_folder.specs.Files.{HasFailed, IsOverOnly, IsWithin, Puts, ReadStops, Spends};
-ghost use Rattle.osm_folder.specs.Files.{Tells, WriteStops};
-ghost use Rattle.osm_folder.specs.Stores.{FuseStops};
+ghost use Rattle.osm_folder.specs.Files.{HasFailed, IsOutOnly, IsOverOnly, IsWithin, Puts};
+ghost use Rattle.osm_folder.specs.Files.{ReadStops, Spends, SpendsAtMost, Tells, WriteStops};
+ghost use Rattle.osm_folder.specs.Stores.{FuseStops, fewer_of};
 
 use crate::store::{Store, StoreError};
 use std::alloc::Global;
@@ -67,7 +67,7 @@ fn spend(calls: &mut u64, refused: &mut u64) -> Result<(), StoreError>
 impl<S: Store> Store for Fuse<S> {
     ghost failures = { λ f. S.Store.failures f.inner + f.refused };
 
-    ghost left = { λ f. Some f.calls };
+    ghost left = { λ f. fewer_of f.calls (S.Store.left f.inner) };
 
     ghost tells = { λ f. S.Store.tells f.inner };
 
@@ -86,8 +86,17 @@ impl<S: Store> Store for Fuse<S> {
             → IsOverOnly limit (S.Store.told self.old.inner name.now) e) }
         ensures unchanged { S.Store.told self.new.inner ≡ S.Store.told self.old.inner }
         ensures tells { S.Store.tells self.new.inner ≡ S.Store.tells self.old.inner }
-        ensures left { OnOk result (Spends 1 (Some self.old.calls) (Some self.new.calls)) }
-        ensures left_after { Spends 0 (Some self.old.calls) (Some self.new.calls) }
+        ensures left { OnOk result (Spends 1
+            (fewer_of self.old.calls (S.Store.left self.old.inner))
+            (fewer_of self.new.calls (S.Store.left self.new.inner))) }
+        ensures most { OnOk result (SpendsAtMost 1
+            (fewer_of self.old.calls (S.Store.left self.old.inner))
+            (fewer_of self.new.calls (S.Store.left self.new.inner))) }
+        ensures left_after { Spends 0
+            (fewer_of self.old.calls (S.Store.left self.old.inner))
+            (fewer_of self.new.calls (S.Store.left self.new.inner)) }
+        ensures out { IfErr result (λ e. IsTrue (S.Store.tells self.old.inner)
+            → IsOutOnly (fewer_of self.old.calls (S.Store.left self.old.inner)) e) }
         ensures kept { S.Store.failures self.old.inner + self.old.refused
             ≤ S.Store.failures self.new.inner + self.new.refused }
     {
@@ -107,8 +116,17 @@ impl<S: Store> Store for Fuse<S> {
         ensures refused { OnErr result
             (S.Store.told self.new.inner ≡ S.Store.told self.old.inner) }
         ensures tells { S.Store.tells self.new.inner ≡ S.Store.tells self.old.inner }
-        ensures left { OnOk result (Spends 1 (Some self.old.calls) (Some self.new.calls)) }
-        ensures left_after { Spends 0 (Some self.old.calls) (Some self.new.calls) }
+        ensures left { OnOk result (Spends 1
+            (fewer_of self.old.calls (S.Store.left self.old.inner))
+            (fewer_of self.new.calls (S.Store.left self.new.inner))) }
+        ensures most { OnOk result (SpendsAtMost 1
+            (fewer_of self.old.calls (S.Store.left self.old.inner))
+            (fewer_of self.new.calls (S.Store.left self.new.inner))) }
+        ensures left_after { Spends 0
+            (fewer_of self.old.calls (S.Store.left self.old.inner))
+            (fewer_of self.new.calls (S.Store.left self.new.inner)) }
+        ensures out { IfErr result (λ e. IsTrue (S.Store.tells self.old.inner)
+            → IsOutOnly (fewer_of self.old.calls (S.Store.left self.old.inner)) e) }
         ensures kept { S.Store.failures self.old.inner + self.old.refused
             ≤ S.Store.failures self.new.inner + self.new.refused }
     {

@@ -2,11 +2,11 @@
 
 ghost use Rattle.std.specs.Prelude.{◌≡◌, ℕ, ◌≤◌, List, false, IsTrue, IfErr, IfOk, OnOk};
 ghost use Rattle.osm_follow.specs.Published.{PublishedValue};
-ghost use Rattle.osm_folder.specs.Files.{Spends};
+ghost use Rattle.osm_folder.specs.Files.{Spends, SpendsAtMost};
 ghost use Rattle.osm_folder.specs.Folder.{IsFolderOf};
 ghost use Rattle.osm_folder.specs.Following.{IsSaveOf};
 ghost use Rattle.osm_folder.specs.Lagging.{IsLag, IsLagOf, IsLagReport, LagRefuses, LagStops};
-ghost use Rattle.osm_folder.specs.Runs.{Blames};
+ghost use Rattle.osm_folder.specs.Runs.{Blames, LacksCalls};
 ghost use Rattle.osm_folder.specs.Steps.Lagging.{IsTold, ToldStops};
 
 use crate::fault::RunFault;
@@ -41,9 +41,12 @@ pub fn lag_run<S: Store>(
         → IsSaveOf published number (S.told store.old save.now)
         → LagRefuses published number (S.told store.old save.now) fault) }
     ensures device { IfErr result (Blames (S.failures store.old) (S.failures store.new)) }
+    ensures lacks { IfErr result
+        (λ fault. IsTrue (S.tells store.old) → LacksCalls 2 (S.left store.old) fault) }
     ensures unchanged { S.told store.new ≡ S.told store.old }
     ensures tells { S.tells store.new ≡ S.tells store.old }
     ensures left { OnOk result (Spends 2 (S.left store.old) (S.left store.new)) }
+    ensures most { OnOk result (SpendsAtMost 2 (S.left store.old) (S.left store.new)) }
     ensures left_after { Spends 0 (S.left store.old) (S.left store.new) }
     ensures kept { S.failures store.old ≤ S.failures store.new }
 {

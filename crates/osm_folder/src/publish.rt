@@ -6,13 +6,13 @@ ghost use Rattle.osm_follow.specs.Published.{PublishedValue, written_of};
 ghost use Rattle.osm_follow.specs.Publisher.{CanClose, IsSmall, closing};
 ghost use Rattle.osm_model.specs.Limits.{max_file, max_sequence};
 ghost use Rattle.osm_opl.specs.File.{SpellsOpl};
-ghost use Rattle.osm_folder.specs.Files.{Spends};
+ghost use Rattle.osm_folder.specs.Files.{Spends, SpendsAtMost};
 ghost use Rattle.osm_folder.specs.Folder.{IsApart, IsFolderOf, IsStateFile, max_state};
 ghost use Rattle.osm_folder.specs.Names.{top_name_of};
 ghost use Rattle.osm_folder.specs.Publication.{FolderRefuses, GoesOnFrom, IsAdded};
 ghost use Rattle.osm_folder.specs.Publication.{IsPublished, NotReady, PublishStops, Writes};
 ghost use Rattle.osm_folder.specs.Reports.{publish_report_of};
-ghost use Rattle.osm_folder.specs.Runs.{Blames};
+ghost use Rattle.osm_folder.specs.Runs.{Blames, LacksCalls};
 ghost use Rattle.osm_folder.specs.Steps.Publishing.{AreNames, ChangesStop, CloseStops};
 ghost use Rattle.osm_folder.specs.Steps.Publishing.{IsChangesOf, IsCut, IsMade, ParseStops};
 ghost use Rattle.osm_folder.specs.Steps.Publishing.{ResumeStops, TopStops, writes_to};
@@ -75,6 +75,8 @@ pub fn publish_run<S: Store>(
         → (published : List PublishedValue) → IsFolderOf published (S.told store.old) dir.now
         → FolderRefuses published now.now fault) }
     ensures device { IfErr result (Blames (S.failures store.old) (S.failures store.new)) }
+    ensures lacks { IfErr result
+        (λ fault. IsTrue (S.tells store.old) → LacksCalls 6 (S.left store.old) fault) }
     ensures keeps { OnErr result (IsTrue (S.tells store.old)
         → (published : List PublishedValue) → IsFolderOf published (S.told store.old) dir.now
         → IsFolderOf published (S.told store.new) dir.now) }
@@ -82,6 +84,7 @@ pub fn publish_run<S: Store>(
         → S.told store.new name ≡ S.told store.old name }
     ensures tells { S.tells store.new ≡ S.tells store.old }
     ensures left { OnOk result (Spends 6 (S.left store.old) (S.left store.new)) }
+    ensures most { OnOk result (SpendsAtMost 6 (S.left store.old) (S.left store.new)) }
     ensures left_after { Spends 0 (S.left store.old) (S.left store.new) }
     ensures kept { S.failures store.old ≤ S.failures store.new }
 {
@@ -104,9 +107,12 @@ fn prepare<S: Store>(
     ensures stops { IfErr result (NotReady (IsTrue (S.tells store.old))
         dir.now changes.now now.now (S.told store.old)) }
     ensures device { IfErr result (Blames (S.failures store.old) (S.failures store.new)) }
+    ensures lacks { IfErr result
+        (λ fault. IsTrue (S.tells store.old) → LacksCalls 2 (S.left store.old) fault) }
     ensures unchanged { S.told store.new ≡ S.told store.old }
     ensures tells { S.tells store.new ≡ S.tells store.old }
     ensures left { OnOk result (Spends 2 (S.left store.old) (S.left store.new)) }
+    ensures most { OnOk result (SpendsAtMost 2 (S.left store.old) (S.left store.new)) }
     ensures left_after { Spends 0 (S.left store.old) (S.left store.new) }
     ensures kept { S.failures store.old ≤ S.failures store.new }
 {
@@ -134,9 +140,12 @@ fn publisher_of<S: Store>(alloc: Global, store: &mut S, dir: &str) -> Result<Pub
     ensures stops { IfErr result
         (TopStops (IsTrue (S.tells store.old)) (S.told store.old (top_name_of dir.now))) }
     ensures device { IfErr result (Blames (S.failures store.old) (S.failures store.new)) }
+    ensures lacks { IfErr result
+        (λ fault. IsTrue (S.tells store.old) → LacksCalls 1 (S.left store.old) fault) }
     ensures unchanged { S.told store.new ≡ S.told store.old }
     ensures tells { S.tells store.new ≡ S.tells store.old }
     ensures left { OnOk result (Spends 1 (S.left store.old) (S.left store.new)) }
+    ensures most { OnOk result (SpendsAtMost 1 (S.left store.old) (S.left store.new)) }
     ensures left_after { Spends 0 (S.left store.old) (S.left store.new) }
     ensures kept { S.failures store.old ≤ S.failures store.new }
 {
@@ -167,9 +176,12 @@ fn read_changes<S: Store>(alloc: Global, store: &mut S, name: &str) -> Result<Ba
     ensures stops { IfErr result
         (ChangesStop (IsTrue (S.tells store.old)) (S.told store.old name.now)) }
     ensures device { IfErr result (Blames (S.failures store.old) (S.failures store.new)) }
+    ensures lacks { IfErr result
+        (λ fault. IsTrue (S.tells store.old) → LacksCalls 1 (S.left store.old) fault) }
     ensures unchanged { S.told store.new ≡ S.told store.old }
     ensures tells { S.tells store.new ≡ S.tells store.old }
     ensures left { OnOk result (Spends 1 (S.left store.old) (S.left store.new)) }
+    ensures most { OnOk result (SpendsAtMost 1 (S.left store.old) (S.left store.new)) }
     ensures left_after { Spends 0 (S.left store.old) (S.left store.new) }
     ensures kept { S.failures store.old ≤ S.failures store.new }
 {
@@ -246,8 +258,11 @@ fn write_files<S: Store>(
     ensures cut { IfErr result (IsCut (IsTrue (S.tells store.old))
         names.now published.now (S.told store.old) (S.told store.new)) }
     ensures device { IfErr result (Blames (S.failures store.old) (S.failures store.new)) }
+    ensures lacks { IfErr result
+        (λ fault. IsTrue (S.tells store.old) → LacksCalls 4 (S.left store.old) fault) }
     ensures tells { S.tells store.new ≡ S.tells store.old }
     ensures left { OnOk result (Spends 4 (S.left store.old) (S.left store.new)) }
+    ensures most { OnOk result (SpendsAtMost 4 (S.left store.old) (S.left store.new)) }
     ensures left_after { Spends 0 (S.left store.old) (S.left store.new) }
     ensures kept { S.failures store.old ≤ S.failures store.new }
 {

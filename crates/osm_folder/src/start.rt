@@ -3,11 +3,11 @@
 ghost use Rattle.std.specs.Prelude.{◌≡◌, ◌≤◌, IsTrue, IfErr, IfOk, OnOk, length};
 ghost use Rattle.osm_save.specs.Save.{SpellsSave};
 ghost use Rattle.osm_follow.specs.Restart.{follower_of, saved_of};
-ghost use Rattle.osm_folder.specs.Files.{Spends};
+ghost use Rattle.osm_folder.specs.Files.{Spends, SpendsAtMost};
 ghost use Rattle.osm_folder.specs.Folder.{IsStateFile, IsThere, max_state};
 ghost use Rattle.osm_folder.specs.Following.{IsSaved, IsStarted, StartStops, no_save};
 ghost use Rattle.osm_folder.specs.Names.{top_name_of};
-ghost use Rattle.osm_folder.specs.Runs.{Blames};
+ghost use Rattle.osm_folder.specs.Runs.{Blames, LacksCalls};
 ghost use Rattle.osm_folder.specs.Steps.Following.{FollowerStops, IsFresh, RestartStops};
 ghost use Rattle.osm_folder.specs.Steps.Following.{TopStateStops, TopTextStops};
 
@@ -43,9 +43,12 @@ pub(crate) fn read_start<S: Store>(
     ensures stops { IfErr result (StartStops (IsTrue (S.tells store.old))
         dir.now save.now (S.told store.old)) }
     ensures device { IfErr result (Blames (S.failures store.old) (S.failures store.new)) }
+    ensures lacks { IfErr result
+        (λ fault. IsTrue (S.tells store.old) → LacksCalls 2 (S.left store.old) fault) }
     ensures unchanged { S.told store.new ≡ S.told store.old }
     ensures tells { S.tells store.new ≡ S.tells store.old }
     ensures left { OnOk result (Spends 2 (S.left store.old) (S.left store.new)) }
+    ensures most { OnOk result (SpendsAtMost 2 (S.left store.old) (S.left store.new)) }
     ensures left_after { Spends 0 (S.left store.old) (S.left store.new) }
     ensures kept { S.failures store.old ≤ S.failures store.new }
 {
@@ -62,9 +65,12 @@ fn read_follower<S: Store>(alloc: Global, store: &mut S, save: &str) -> Result<F
     ensures stops { IfErr result
         (FollowerStops (IsTrue (S.tells store.old)) (S.told store.old save.now)) }
     ensures device { IfErr result (Blames (S.failures store.old) (S.failures store.new)) }
+    ensures lacks { IfErr result
+        (λ fault. IsTrue (S.tells store.old) → LacksCalls 1 (S.left store.old) fault) }
     ensures unchanged { S.told store.new ≡ S.told store.old }
     ensures tells { S.tells store.new ≡ S.tells store.old }
     ensures left { OnOk result (Spends 1 (S.left store.old) (S.left store.new)) }
+    ensures most { OnOk result (SpendsAtMost 1 (S.left store.old) (S.left store.new)) }
     ensures left_after { Spends 0 (S.left store.old) (S.left store.new) }
     ensures kept { S.failures store.old ≤ S.failures store.new }
 {
@@ -103,9 +109,12 @@ fn read_top<S: Store>(alloc: Global, store: &mut S, dir: &str) -> Result<State, 
     ensures stops { IfErr result
         (TopStateStops (IsTrue (S.tells store.old)) (S.told store.old (top_name_of dir.now))) }
     ensures device { IfErr result (Blames (S.failures store.old) (S.failures store.new)) }
+    ensures lacks { IfErr result
+        (λ fault. IsTrue (S.tells store.old) → LacksCalls 1 (S.left store.old) fault) }
     ensures unchanged { S.told store.new ≡ S.told store.old }
     ensures tells { S.tells store.new ≡ S.tells store.old }
     ensures left { OnOk result (Spends 1 (S.left store.old) (S.left store.new)) }
+    ensures most { OnOk result (SpendsAtMost 1 (S.left store.old) (S.left store.new)) }
     ensures left_after { Spends 0 (S.left store.old) (S.left store.new) }
     ensures kept { S.failures store.old ≤ S.failures store.new }
 {

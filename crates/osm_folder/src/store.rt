@@ -2,8 +2,8 @@
 
 ghost use Rattle.std.specs.Prelude.{◌≡◌, ℕ, ◌≤◌, Bool, IsTrue, Option, Some, IfErr, IfOk, OnOk};
 ghost use Rattle.std.specs.Prelude.{OnErr};
-ghost use Rattle.osm_folder.specs.Files.{Files, IsOverOnly, IsWithin, Puts, ReadStops, Spends};
-ghost use Rattle.osm_folder.specs.Files.{Tells, WriteStops};
+ghost use Rattle.osm_folder.specs.Files.{Files, IsOutOnly, IsOverOnly, IsWithin, Puts, ReadStops};
+ghost use Rattle.osm_folder.specs.Files.{Spends, SpendsAtMost, Tells, WriteStops};
 
 use std::alloc::Global;
 use thiserror::Error;
@@ -34,7 +34,8 @@ pub trait Store {
     /// killed is a run over a store that stops.
     ghost left: { Self → Option ℕ };
 
-    /// Whether it is known what the files hold.
+    /// Whether it is known what the files hold. The device of such a store fails only by refusing
+    /// a call after the last one that was left.
     ghost tells: { Self → Bool };
 
     /// What they hold, if that is known.
@@ -51,7 +52,10 @@ pub trait Store {
         ensures unchanged { told self.new ≡ told self.old }
         ensures tells { tells self.new ≡ tells self.old }
         ensures left { OnOk result (Spends 1 (left self.old) (left self.new)) }
+        ensures most { OnOk result (SpendsAtMost 1 (left self.old) (left self.new)) }
         ensures left_after { Spends 0 (left self.old) (left self.new) }
+        ensures out { IfErr result
+            (λ e. IsTrue (tells self.old) → IsOutOnly (left self.old) e) }
         ensures kept { failures self.old ≤ failures self.new };
 
     /// Makes the bytes the whole of a file, with the folders that it needs.
@@ -62,6 +66,9 @@ pub trait Store {
         ensures refused { OnErr result (told self.new ≡ told self.old) }
         ensures tells { tells self.new ≡ tells self.old }
         ensures left { OnOk result (Spends 1 (left self.old) (left self.new)) }
+        ensures most { OnOk result (SpendsAtMost 1 (left self.old) (left self.new)) }
         ensures left_after { Spends 0 (left self.old) (left self.new) }
+        ensures out { IfErr result
+            (λ e. IsTrue (tells self.old) → IsOutOnly (left self.old) e) }
         ensures kept { failures self.old ≤ failures self.new };
 }

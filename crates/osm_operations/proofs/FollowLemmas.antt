@@ -11,9 +11,10 @@ use Rattle.osm_follow.specs.Published.{PublishedValue, sequence_at}
 use Rattle.osm_follow.specs.Reach.{numbers}
 use Rattle.osm_folder.specs.Files.{Files, IsOver}
 use Rattle.osm_folder.specs.Folder.{IsFile, IsThere}
-use Rattle.osm_folder.specs.Following.{AddsAll, AreChanges, FollowRefuses, HasFiles, IsFollowed, IsInStepAfter, IsSaved, IsSaveOf, is_lost, lost_numbers, max_save, ranges}
+use Rattle.osm_folder.specs.Following.{AddsAll, AreChanges, FollowRefuses, HasFiles, IsFollowed, IsInStepAfter, IsSaved, IsSaveOf, follow_calls, is_lost, lost_numbers, max_save, ranges}
 use Rattle.osm_folder.specs.Names.{file_name_of, top_name_of}
 use Rattle.osm_folder.specs.Reports.{ReportValue, follow_report_of}
+use Rattle.osm_folder.specs.Runs.{LacksCalls}
 use Rattle.osm_folder.specs.declared.fault.RunFault.{RunFault}
 use Rattle.osm_folder.specs.declared.fault.RunFault.TheVariants.{WantOfMemory, ReadFault, WriteFault, TooLarge, Absent}
 use Rattle.osm_folder.proofs.InStepLemmas.{in_step_after, one_saved}
@@ -163,12 +164,12 @@ followed p lost m dir save changes start f g l n report apart s run =
     }
 
 -- a run that stopped
-pub stopped_follow : (p : List PublishedValue) (m : ℕ) (told : Option (List ℕ)) (fault : RunFault) → IsSaveOf p m told → FollowRefuses p told fault → KilledFollowingRefused p fault
-stopped_follow p m told WantOfMemory s r = tt
-stopped_follow p m told (ReadFault file) s r = tt
-stopped_follow p m told (WriteFault file) s r = r
-stopped_follow p m told (Absent file) s r = r
-stopped_follow p m told (TooLarge file) s r = (
+pub stopped_follow : (p : List PublishedValue) (m calls : ℕ) (told : Option (List ℕ)) (fault : RunFault) → LacksCalls (follow_calls p m) (Some calls) fault → IsSaveOf p m told → FollowRefuses p told fault → KilledFollowingRefused p m calls fault
+stopped_follow p m calls told WantOfMemory lacks s r = tt
+stopped_follow p m calls told (ReadFault file) lacks s r = lacks
+stopped_follow p m calls told (WriteFault file) lacks s r = (r, lacks)
+stopped_follow p m calls told (Absent file) lacks s r = r
+stopped_follow p m calls told (TooLarge file) lacks s r = (
   r.0,
   elim r.1 [
     | inl over ↦ absurd (not_over told s.value s.saved over)
@@ -182,9 +183,9 @@ stopped_follow p m told (TooLarge file) s r = (
         let long = ap length (same_Some _ _ b.there) in
         let over = b.over in
         omega (arith, long, over, a.0)
-stopped_follow p m told fault s r = absurd r
+stopped_follow p m calls told fault lacks s r = absurd r
 
-pub not_killed_follow : (p : List PublishedValue) (fault : RunFault) → IsNoDevice fault → KilledFollowingRefused p fault → FollowingRefused p fault
-not_killed_follow p (ReadFault file) none h = absurd none
-not_killed_follow p (WriteFault file) none h = absurd none
-not_killed_follow p fault none h = h
+pub not_killed_follow : (p : List PublishedValue) (m calls : ℕ) (fault : RunFault) → IsNoDevice fault → KilledFollowingRefused p m calls fault → FollowingRefused p fault
+not_killed_follow p m calls (ReadFault file) none h = absurd none
+not_killed_follow p m calls (WriteFault file) none h = absurd none
+not_killed_follow p m calls fault none h = h

@@ -10,9 +10,10 @@ use Rattle.osm_state.specs.declared.paths.Suffix.{Suffix}
 use Rattle.osm_follow.specs.Published.{PublishedValue, sequence_at}
 use Rattle.osm_follow.specs.Reach.{numbers}
 use Rattle.osm_folder.specs.Files.{Files}
-use Rattle.osm_folder.specs.Following.{no_save}
+use Rattle.osm_folder.specs.Following.{follow_calls, no_save}
 use Rattle.osm_folder.specs.Names.{file_name_of}
 use Rattle.osm_folder.specs.Reports.{ReportValue, publish_report_of}
+use Rattle.osm_folder.specs.Runs.{LacksCalls}
 use Rattle.osm_folder.specs.Stores.{files_of}
 use Rattle.osm_folder.specs.declared.fault.RunFault.{RunFault}
 use Rattle.osm_operations.specs.Allowed.{AreAllowed, IsNoNumber, KilledFollowingRefused, KilledPublicationRefused, following_report}
@@ -26,7 +27,7 @@ use Rattle.osm_operations.specs.declared.operation.Reply.TheVariants.{Published,
 use Rattle.osm_operations.specs.declared.world.World.{World}
 use Rattle.osm_opl.specs.Written.{opl_text}
 use Rattle.osm_operations.proofs.StandLemmas.{Stands, changes_put, few, published_stands, stopped_stands}
-use Rattle.osm_operations.proofs.RowLemmas.{not_killed, stopped_row, unwritten_row}
+use Rattle.osm_operations.proofs.RowLemmas.{no_device_lacks, not_killed, stopped_row, unwritten_row}
 use Rattle.osm_operations.proofs.FollowLemmas.{followed, not_killed_follow, stopped_follow}
 use Rattle.osm_operations.proofs.MoveLemmas.{back_stands, kept_none, lost_stands, not_true}
 
@@ -73,20 +74,20 @@ publish_more p lost m dir save changes start a b batch time report apart s step 
       done.1,
     )
 
-publish_stopped : (p : List PublishedValue) (lost : ℕ → Suffix → Bool) (m : ℕ) (dir save changes : List ℕ) (start : Files) (a b : World) (batch : List ChangeValue) (time : ℕ) (fault : RunFault) → AreApart dir save changes → StandsIn p lost m dir save changes start a → PublishTo dir changes batch time (Refused fault) a b → StandsIn (p ++ []) lost (m + 0) dir save changes start b × KilledPublicationRefused p batch time fault
-publish_stopped p lost m dir save changes start a b batch time fault apart s step =
+publish_stopped : (p : List PublishedValue) (lost : ℕ → Suffix → Bool) (m : ℕ) (dir save changes : List ℕ) (start : Files) (a b : World) (batch : List ChangeValue) (time calls : ℕ) (fault : RunFault) → LacksCalls 6 (Some calls) fault → AreApart dir save changes → StandsIn p lost m dir save changes start a → PublishTo dir changes batch time (Refused fault) a b → StandsIn (p ++ []) lost (m + 0) dir save changes start b × KilledPublicationRefused p batch time calls fault
+publish_stopped p lost m dir save changes start a b batch time calls fault lacks apart s step =
     let done = by_step step.0 in (
       quiet p lost m dir save changes start (files_of b.store) (files_of b.lost) b.published
           (renewed p lost m dir save changes start (files_of b.store) (files_of a.lost) (files_of b.store) (files_of b.lost) a.published b.published refl (ap files_of step.1) step.2 done.0),
       done.1,
     )
   where
-    by_step : PublishStep dir changes batch time (Err fault) (files_of a.store) (files_of b.store) → Stands p lost m dir save changes start (files_of b.store) (files_of a.lost) a.published × KilledPublicationRefused p batch time fault
-    by_step (inl h) = (renewed p lost m dir save changes start (files_of a.store) (files_of a.lost) (files_of b.store) (files_of a.lost) a.published a.published h.1 refl refl s, unwritten_row p batch time fault h.0)
+    by_step : PublishStep dir changes batch time (Err fault) (files_of a.store) (files_of b.store) → Stands p lost m dir save changes start (files_of b.store) (files_of a.lost) a.published × KilledPublicationRefused p batch time calls fault
+    by_step (inl h) = (renewed p lost m dir save changes start (files_of a.store) (files_of a.lost) (files_of b.store) (files_of a.lost) a.published a.published h.1 refl refl s, unwritten_row p batch time calls fault h.0)
     by_step (inr run) =
         let mid = changes_put p lost m dir save changes start (files_of a.store) run.middle (files_of a.lost) a.published (Some (opl_text batch)) apart run.there.put s in (
           stopped_stands p lost m dir save changes start (files_of a.store) (files_of b.store) (files_of a.lost) a.published batch time fault apart s run,
-          stopped_row p dir changes run.now batch time (files_of a.store) run.middle (files_of b.store) fault run.shows run.is_text run.there run.is_so.stops (run.is_so.refuses p mid.folder),
+          stopped_row p dir changes run.now batch time calls (files_of a.store) run.middle (files_of b.store) fault lacks run.shows run.is_text run.there run.is_so.stops (run.is_so.refuses p mid.folder),
         )
 
 follow_more : (h : hist.History) (dir save changes : List ℕ) (start : Files) (a b : World) (report : ReportValue) → AreApart dir save changes → StandsIn (hist.published_of h) (hist.is_file_lost h) (hist.number_of h) dir save changes start a → FollowTo dir save (Followed report) a b → StandsIn (hist.published_of h ++ []) (hist.is_file_lost h) (hist.number_of h + hist.count_after h (hist.number_of h)) dir save changes start b × (report ≡ following_report h)
@@ -97,11 +98,11 @@ follow_more h dir save changes start a b report apart s step =
       done.1,
     )
 
-follow_stopped : (p : List PublishedValue) (lost : ℕ → Suffix → Bool) (m : ℕ) (dir save changes : List ℕ) (start : Files) (a b : World) (fault : RunFault) → StandsIn p lost m dir save changes start a → FollowTo dir save (Refused fault) a b → StandsIn (p ++ []) lost (m + 0) dir save changes start b × KilledFollowingRefused p fault
-follow_stopped p lost m dir save changes start a b fault s step = (
+follow_stopped : (p : List PublishedValue) (lost : ℕ → Suffix → Bool) (m : ℕ) (dir save changes : List ℕ) (start : Files) (a b : World) (calls : ℕ) (fault : RunFault) → LacksCalls (follow_calls p m) (Some calls) fault → StandsIn p lost m dir save changes start a → FollowTo dir save (Refused fault) a b → StandsIn (p ++ []) lost (m + 0) dir save changes start b × KilledFollowingRefused p m calls fault
+follow_stopped p lost m dir save changes start a b calls fault lacks s step = (
   quiet p lost m dir save changes start (files_of b.store) (files_of b.lost) b.published
       (renewed p lost m dir save changes start (files_of a.store) (files_of a.lost) (files_of b.store) (files_of b.lost) a.published b.published step.0.0 (ap files_of step.1) step.2 s),
-  stopped_follow p m (files_of a.store save) fault s.saved (step.0.1 p m s.folder s.saved),
+  stopped_follow p m calls (files_of a.store save) fault lacks s.saved (step.0.1 p m s.folder s.saved),
 )
 
 -- a number that isn't published
@@ -122,28 +123,28 @@ step_holds h (Publish batch time) (Published report) dir save changes start a b 
     let done = publish_more (hist.published_of h) (hist.is_file_lost h) (hist.number_of h) dir save changes start a b batch time report apart s.stands t.0 in
     record { stands = done.0; allowed = (done.1, s.allowed) }
 step_holds h (Publish batch time) (Refused fault) dir save changes start a b apart s t =
-    let done = publish_stopped (hist.published_of h) (hist.is_file_lost h) (hist.number_of h) dir save changes start a b batch time fault apart s.stands t.0 in
-    record { stands = done.0; allowed = (not_killed (hist.published_of h) batch time fault t.1 done.1, s.allowed) }
+    let done = publish_stopped (hist.published_of h) (hist.is_file_lost h) (hist.number_of h) dir save changes start a b batch time 0 fault (no_device_lacks 6 (Some 0) fault t.1) apart s.stands t.0 in
+    record { stands = done.0; allowed = (not_killed (hist.published_of h) batch time 0 fault t.1 done.1, s.allowed) }
 step_holds h (Publish batch time) r dir save changes start a b apart s t = absurd t.0
 step_holds h (KilledPublish batch time calls) (Published report) dir save changes start a b apart s t =
     let done = publish_more (hist.published_of h) (hist.is_file_lost h) (hist.number_of h) dir save changes start a b batch time report apart s.stands t.0 in
     record { stands = done.0; allowed = ((done.1, t.1), s.allowed) }
 step_holds h (KilledPublish batch time calls) (Refused fault) dir save changes start a b apart s t =
-    let done = publish_stopped (hist.published_of h) (hist.is_file_lost h) (hist.number_of h) dir save changes start a b batch time fault apart s.stands t.0 in
+    let done = publish_stopped (hist.published_of h) (hist.is_file_lost h) (hist.number_of h) dir save changes start a b batch time calls fault t.1 apart s.stands t.0 in
     record { stands = done.0; allowed = (done.1, s.allowed) }
 step_holds h (KilledPublish batch time calls) r dir save changes start a b apart s t = absurd t.0
 step_holds h Follow (Followed report) dir save changes start a b apart s t =
     let done = follow_more h dir save changes start a b report apart s.stands t.0 in
     record { stands = done.0; allowed = (done.1, s.allowed) }
 step_holds h Follow (Refused fault) dir save changes start a b apart s t =
-    let done = follow_stopped (hist.published_of h) (hist.is_file_lost h) (hist.number_of h) dir save changes start a b fault s.stands t.0 in
-    record { stands = done.0; allowed = (not_killed_follow (hist.published_of h) fault t.1 done.1, s.allowed) }
+    let done = follow_stopped (hist.published_of h) (hist.is_file_lost h) (hist.number_of h) dir save changes start a b 0 fault (no_device_lacks (follow_calls (hist.published_of h) (hist.number_of h)) (Some 0) fault t.1) s.stands t.0 in
+    record { stands = done.0; allowed = (not_killed_follow (hist.published_of h) (hist.number_of h) 0 fault t.1 done.1, s.allowed) }
 step_holds h Follow r dir save changes start a b apart s t = absurd t.0
 step_holds h (KilledFollow calls) (Followed report) dir save changes start a b apart s t =
     let done = follow_more h dir save changes start a b report apart s.stands t.0 in
     record { stands = done.0; allowed = ((done.1, t.1), s.allowed) }
 step_holds h (KilledFollow calls) (Refused fault) dir save changes start a b apart s t =
-    let done = follow_stopped (hist.published_of h) (hist.is_file_lost h) (hist.number_of h) dir save changes start a b fault s.stands t.0 in
+    let done = follow_stopped (hist.published_of h) (hist.is_file_lost h) (hist.number_of h) dir save changes start a b calls fault (t.1 (hist.published_of h) (hist.number_of h) s.stands.folder s.stands.saved) s.stands t.0 in
     record { stands = done.0; allowed = (done.1, s.allowed) }
 step_holds h (KilledFollow calls) r dir save changes start a b apart s t = absurd t.0
 step_holds h (Lose n suffix) Lost dir save changes start a b apart s (move, same) =

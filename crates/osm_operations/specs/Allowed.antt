@@ -8,7 +8,7 @@ use Rattle.osm_save.specs.declared.save.Saved.{Saved}
 use Rattle.osm_state.specs.declared.paths.Suffix.{Suffix}
 use Rattle.osm_follow.specs.Published.{PublishedValue, sequence_at}
 use Rattle.osm_follow.specs.Publisher.{IsTooLarge}
-use Rattle.osm_folder.specs.Following.{IsInStep, max_save, ranges}
+use Rattle.osm_folder.specs.Following.{IsInStep, follow_calls, max_save, ranges}
 use Rattle.osm_folder.specs.Reports.{ReportValue, follow_report_of, publish_report_of}
 use Rattle.osm_folder.specs.declared.fault.FileName.TheVariants.{Changes, Save, Top}
 use Rattle.osm_folder.specs.declared.fault.RunFault.{RunFault}
@@ -40,12 +40,14 @@ PublicationRefused published changes time SequenceFull = length published ≡ ma
 PublicationRefused published changes time TimeBack = IsBelowLast published time
 PublicationRefused published changes time fault = ⊥
 
--- why a publication isn't done that may be killed: a call of the store after the last one
+-- why a publication isn't done that is killed after so many calls: a call after the last one, if
+-- there are fewer than the run needs; else only what refuses a whole one
 abbrev pub KilledPublicationRefused :
-    List PublishedValue → List ChangeValue → ℕ → RunFault → Type 0
-KilledPublicationRefused published changes time (ReadFault file) = (file ≡ Top) ⊎ (file ≡ Changes)
-KilledPublicationRefused published changes time (WriteFault file) = Unit {0}
-KilledPublicationRefused published changes time fault =
+    List PublishedValue → List ChangeValue → ℕ → ℕ → RunFault → Type 0
+KilledPublicationRefused published changes time calls (ReadFault file) =
+    ((file ≡ Top) ⊎ (file ≡ Changes)) × (calls < 6)
+KilledPublicationRefused published changes time calls (WriteFault file) = calls < 6
+KilledPublicationRefused published changes time calls fault =
     PublicationRefused published changes time fault
 
 -- the save text of a follower of the published sequences passes 1 GiB
@@ -64,11 +66,15 @@ FollowingRefused published (Absent file) = (file ≡ Top) × (length published �
 FollowingRefused published (TooLarge file) = (file ≡ Save) × HasBigSave published
 FollowingRefused published fault = ⊥
 
--- why a run of the follower isn't done that may be killed
-abbrev pub KilledFollowingRefused : List PublishedValue → RunFault → Type 0
-KilledFollowingRefused published (ReadFault file) = Unit {0}
-KilledFollowingRefused published (WriteFault file) = file ≡ Save
-KilledFollowingRefused published fault = FollowingRefused published fault
+-- why a run of the follower from that number isn't done that is killed after so many calls: a call
+-- after the last one, if there are fewer than such a run may make; else only what refuses a whole
+-- one
+abbrev pub KilledFollowingRefused : List PublishedValue → ℕ → ℕ → RunFault → Type 0
+KilledFollowingRefused published number calls (ReadFault file) =
+    calls < follow_calls published number
+KilledFollowingRefused published number calls (WriteFault file) =
+    (file ≡ Save) × (calls < follow_calls published number)
+KilledFollowingRefused published number calls fault = FollowingRefused published fault
 
 -- what a publication prints: the next number
 abbrev pub publication_report : History → ReportValue
@@ -93,7 +99,7 @@ abbrev pub AllowedKilledPublish : History → List ChangeValue → ℕ → ℕ �
 AllowedKilledPublish h changes time calls (Published report) =
     (report ≡ publication_report h) × (6 ≤ calls)
 AllowedKilledPublish h changes time calls (Refused fault) =
-    KilledPublicationRefused (published_of h) changes time fault
+    KilledPublicationRefused (published_of h) changes time calls fault
 AllowedKilledPublish h changes time calls r = ⊥
 
 abbrev pub AllowedFollow : History → Reply → Type 0
@@ -103,7 +109,8 @@ AllowedFollow h r = ⊥
 
 abbrev pub AllowedKilledFollow : History → ℕ → Reply → Type 0
 AllowedKilledFollow h calls (Followed report) = (report ≡ following_report h) × (3 ≤ calls)
-AllowedKilledFollow h calls (Refused fault) = KilledFollowingRefused (published_of h) fault
+AllowedKilledFollow h calls (Refused fault) =
+    KilledFollowingRefused (published_of h) (number_of h) calls fault
 AllowedKilledFollow h calls r = ⊥
 
 -- the number is that of a published sequence

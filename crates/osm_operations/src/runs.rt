@@ -1,12 +1,14 @@
 //! Runs over a store in memory, whole or killed.
 
-ghost use Rattle.std.specs.Prelude.{◌≡◌, ◌≤◌, IfErr, IfOk, OnErr, OnOk};
+ghost use Rattle.std.specs.Prelude.{◌≡◌, ◌≤◌, IfErr, IfOk, OnErr, OnOk, Some};
 ghost use Rattle.std.specs.Str.{IsAscii};
 ghost use Rattle.osm_model.specs.Limits.{max_sequence};
 ghost use Rattle.osm_folder.specs.Names.{file_name_of};
+ghost use Rattle.osm_folder.specs.Runs.{LacksCalls};
 ghost use Rattle.osm_folder.specs.Stores.{calls_of, files_of, inner_of};
 ghost use Rattle.osm_operations.specs.Steps.Stepping.{AreChangesPut, ChangesStop, FollowStep};
-ghost use Rattle.osm_operations.specs.Steps.Stepping.{IsNoDevice, Moves, PublishStep};
+ghost use Rattle.osm_operations.specs.Steps.Stepping.{IsNoDevice, LacksFollowCalls, Moves};
+ghost use Rattle.osm_operations.specs.Steps.Stepping.{PublishStep};
 
 use osm_folder::fault::{FileName, RunFault};
 use osm_folder::follow::follow_run;
@@ -55,6 +57,7 @@ pub(crate) fn publish_killed(
     ensures step { PublishStep dir.now changes.now batch.now time result
         (files_of store.old) (files_of store.new) }
     ensures left { OnOk result (6 ≤ calls) }
+    ensures lacks { IfErr result (LacksCalls 6 (Some calls)) }
 {
     write_changes(alloc, store, changes, batch)?;
     let now = time_write(time);
@@ -87,6 +90,8 @@ pub(crate) fn follow_killed(
 ) -> Result<Report, RunFault>
     ensures step { FollowStep dir.now save.now result (files_of store.old) (files_of store.new) }
     ensures left { OnOk result (3 ≤ calls) }
+    ensures lacks { IfErr result
+        (LacksFollowCalls dir.now save.now calls (files_of store.old)) }
 {
     let mut fuse = fuse_over(alloc, store, calls);
     let answer = follow_run(alloc, &mut fuse, dir, save);

@@ -3,8 +3,9 @@
 ghost use Rattle.std.specs.Prelude.{◌≡◌, length, IfOk};
 ghost use Rattle.osm_folder.specs.Stores.{files_of};
 ghost use Rattle.osm_operations.specs.Correct.{AreApart, IsNew, IsRun};
-ghost use Rattle.osm_operations.specs.Steps.Stepping.{FollowTo, HasCalls, IsNumber, IsWhole};
-ghost use Rattle.osm_operations.specs.Steps.Stepping.{LoseTo, PublishTo, PutBackTo, Step};
+ghost use Rattle.osm_operations.specs.Steps.Stepping.{FollowTo, HasFollowCalls, HasPublishCalls};
+ghost use Rattle.osm_operations.specs.Steps.Stepping.{IsNumber, IsWhole, LoseTo, PublishTo};
+ghost use Rattle.osm_operations.specs.Steps.Stepping.{PutBackTo, Step};
 
 use crate::operation::{Operation, Reply};
 use crate::runs::{follow, follow_killed, move_file, publish, publish_killed};
@@ -109,7 +110,7 @@ impl World {
         calls: u64,
     ) -> Reply
         ensures step { PublishTo dir.now changes.now batch.now time result self.old self.new }
-        ensures left { HasCalls 6 calls result }
+        ensures left { HasPublishCalls calls result }
     {
         match publish_killed(
             self.alloc,
@@ -140,7 +141,7 @@ impl World {
 
     fn follow_killed(&mut self, dir: &str, save: &str, calls: u64) -> Reply
         ensures step { FollowTo dir.now save.now result self.old self.new }
-        ensures left { HasCalls 3 calls result }
+        ensures left { HasFollowCalls dir.now save.now calls result (files_of self.old.store) }
     {
         match follow_killed(self.alloc, &mut self.store, dir, save, calls) {
             Ok(report) => Reply::Followed(report),

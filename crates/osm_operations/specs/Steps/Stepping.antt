@@ -11,10 +11,11 @@ use Rattle.osm_state.specs.declared.paths.Suffix.{Suffix}
 use Rattle.osm_follow.specs.Published.{PublishedValue}
 use Rattle.osm_folder.specs.Files.{Files, Puts}
 use Rattle.osm_folder.specs.Folder.{IsApart, IsFolderOf}
-use Rattle.osm_folder.specs.Following.{FollowRefuses, IsFollowed, IsSaveOf}
+use Rattle.osm_folder.specs.Following.{FollowRefuses, IsFollowed, IsSaveOf, follow_calls}
 use Rattle.osm_folder.specs.Publication.{FolderRefuses, IsPublished, PublishStops}
 use Rattle.osm_folder.specs.Names.{file_name_of}
 use Rattle.osm_folder.specs.Reports.{ReportValue}
+use Rattle.osm_folder.specs.Runs.{LacksCalls}
 use Rattle.osm_folder.specs.Stores.{files_of}
 use Rattle.osm_folder.specs.declared.fault.FileName.TheVariants.{Changes}
 use Rattle.osm_folder.specs.declared.fault.RunFault.{RunFault}
@@ -126,12 +127,26 @@ FollowTo dir save (Refused fault) a b =
     × (b.lost ≡ a.lost) × (b.published ≡ a.published)
 FollowTo dir save r a b = ⊥
 
--- what a reply says of a killed run, and of one that isn't
-abbrev pub HasCalls : ℕ → ℕ → Reply → Type 0
-HasCalls least calls (Published report) = least ≤ calls
-HasCalls least calls (Followed report) = least ≤ calls
-HasCalls least calls r = Unit {0}
+-- what a reply says of the calls that a killed publication had
+abbrev pub HasPublishCalls : ℕ → Reply → Type 0
+HasPublishCalls calls (Published report) = 6 ≤ calls
+HasPublishCalls calls (Refused fault) = LacksCalls 6 (Some calls) fault
+HasPublishCalls calls r = Unit {0}
 
+-- why a run of the follower is refused that had so many calls
+abbrev pub LacksFollowCalls : List ℕ → List ℕ → ℕ → Files → RunFault → Type 0
+LacksFollowCalls dir save calls files fault =
+    (published : List PublishedValue) (number : ℕ) → IsFolderOf published files dir
+    → IsSaveOf published number (files save)
+    → LacksCalls (follow_calls published number) (Some calls) fault
+
+-- what a reply says of the calls that a killed run of the follower had
+abbrev pub HasFollowCalls : List ℕ → List ℕ → ℕ → Reply → Files → Type 0
+HasFollowCalls dir save calls (Followed report) files = 3 ≤ calls
+HasFollowCalls dir save calls (Refused fault) files = LacksFollowCalls dir save calls files fault
+HasFollowCalls dir save calls r files = Unit {0}
+
+-- what a reply says of a run that isn't killed
 abbrev pub IsWhole : Reply → Type 0
 IsWhole (Refused fault) = IsNoDevice fault
 IsWhole r = Unit {0}
@@ -179,9 +194,9 @@ abbrev pub Step : List ℕ → List ℕ → List ℕ → Operation → Reply →
 Step dir save changes (Publish batch time) r a b =
     PublishTo dir changes batch time r a b × IsWhole r
 Step dir save changes (KilledPublish batch time calls) r a b =
-    PublishTo dir changes batch time r a b × HasCalls 6 calls r
+    PublishTo dir changes batch time r a b × HasPublishCalls calls r
 Step dir save changes Follow r a b = FollowTo dir save r a b × IsWhole r
 Step dir save changes (KilledFollow calls) r a b =
-    FollowTo dir save r a b × HasCalls 3 calls r
+    FollowTo dir save r a b × HasFollowCalls dir save calls r (files_of a.store)
 Step dir save changes (Lose n s) r a b = LoseTo dir n s r a b
 Step dir save changes (PutBack n s) r a b = PutBackTo dir n s r a b

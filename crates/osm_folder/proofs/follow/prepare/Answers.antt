@@ -1,10 +1,12 @@
-use Rattle.std.proofs.Common.{sym}
+use Rattle.std.proofs.Common.{subst, sym}
 use Rattle.std.specs.Prelude.{IsTrue}
 use Rattle.osm_folder.specs.Reports.{follow_report_of}
 use Rattle.osm_follow.specs.Follower.{is_held}
 use Rattle.osm_follow.specs.Reach.{missing_numbers}
+use Rattle.osm_follow.specs.Restart.{saved_of}
+use Rattle.osm_folder.proofs.CallLemmas.{way_lacks, way_most}
 use Rattle.osm_folder.proofs.ReportLemmas.{follow_report_is, following}
-use Rattle.osm_folder.proofs.ResultLemmas.{err_map, ok_map}
+use Rattle.osm_folder.proofs.ResultLemmas.{err_map, ok_map, on_ok, same_err}
 use Rattle.osm_folder.proofs.StopLemmas.{made_stops}
 use Rattle.osm_folder.proofs.follow.prepare.Goals as goal
 
@@ -22,3 +24,18 @@ returns-clause-stops g c =
       following _ _ _ _ c.in_ok-start.start.follower c.take_up.new.follower c.in_ok-start.start.top c.sequence-2.result _ text yes (c.in_ok-start.ensures.started yes) c.sequence-2.ensures.sequence taken spelled,
     ))
     stops)
+
+pub returns-in_err-applied-clause-lacks : goal.returns-in_err-applied-clause-lacks
+returns-in_err-applied-clause-lacks g c =
+    same_err _ c.from_residual-in_err-applied.result _ c.from_residual-in_err-applied.ensures.1 (λ yes p n folder saved.
+    (let then : IsTrue (g.S.Store.tells c.read_start.new.store) = subst IsTrue (sym c.read_start.ensures.tells) yes in
+    way_lacks p n c.args.dir.now c.args.save.now (g.S.Store.told c.args.store.now) (saved_of c.in_ok-start.start.follower) c.in_ok-start.start.top c.sequence-2.result
+    (g.S.Store.left c.args.store.now) (g.S.Store.left c.read_start.new.store) _ c.sequence-2.ensures.sequence folder saved
+    (c.in_ok-start.ensures.started yes) c.in_ok-start.ensures.most (c.in_err-applied.ensures.lacks then)))
+
+pub returns-clause-most : goal.returns-clause-most
+returns-clause-most g c =
+    on_ok c.make.result (λ yes p n folder saved.
+    way_most p n c.args.dir.now c.args.save.now (g.S.Store.told c.args.store.now) (saved_of c.in_ok-start.start.follower) c.in_ok-start.start.top c.sequence-2.result
+    (g.S.Store.left c.args.store.now) (g.S.Store.left c.read_start.new.store) (g.S.Store.left c.take_up.new.store) c.sequence-2.ensures.sequence folder saved
+    (c.in_ok-start.ensures.started yes) c.in_ok-start.ensures.most c.in_ok-applied.ensures.most)

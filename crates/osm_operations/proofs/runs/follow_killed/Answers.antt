@@ -1,5 +1,10 @@
-use Rattle.std.proofs.Common.{ap}
+use Rattle.std.proofs.Common.{Some, ap, refl, subst, sym}
+use Rattle.osm_folder.specs.Files.{Files}
+use Rattle.osm_folder.specs.Folder.{IsFolderOf}
+use Rattle.osm_folder.specs.Following.{IsSaveOf, follow_calls}
+use Rattle.osm_folder.specs.Runs.{LacksCalls}
 use Rattle.osm_folder.specs.Stores.{files_of}
+use Rattle.osm_folder.proofs.ResultLemmas.{err_map}
 use Rattle.osm_operations.proofs.RunLemmas.{follow_step}
 use Rattle.osm_operations.proofs.runs.follow_killed.Goals as goal
 
@@ -9,3 +14,10 @@ returns-clause-step c =
     (files_of c.follow_run-answer.new.store.inner) (files_of c.into_inner.result) c.follow_run-answer.result
     c.fuse_over-fuse.ensures.inner (ap files_of c.into_inner.ensures)
     c.follow_run-answer.ensures.followed c.follow_run-answer.ensures.refuses c.follow_run-answer.ensures.unchanged
+
+pub returns-clause-lacks : goal.returns-clause-lacks
+returns-clause-lacks c =
+    err_map _ _ c.follow_run-answer.result c.follow_run-answer.ensures.lacks (λ fault lacks p n folder saved.
+    subst (λ calls. LacksCalls (follow_calls p n) (Some calls) fault) c.fuse_over-fuse.ensures.calls
+    (lacks refl p n (subst (λ (f : Files). IsFolderOf p f c.args.dir.now) (sym c.fuse_over-fuse.ensures.inner) folder)
+    (subst (λ (f : Files). IsSaveOf p n (f c.args.save.now)) (sym c.fuse_over-fuse.ensures.inner) saved)))

@@ -1,5 +1,7 @@
-use Rattle.std.proofs.Common.{ap}
+use Rattle.std.proofs.Common.{Some, ap, refl, subst}
+use Rattle.osm_folder.specs.Runs.{LacksCalls}
 use Rattle.osm_folder.specs.Stores.{files_of}
+use Rattle.osm_folder.proofs.ResultLemmas.{err_map}
 use Rattle.osm_operations.proofs.RunLemmas.{run_step_over}
 use Rattle.osm_operations.proofs.runs.publish_killed.Goals as goal
 
@@ -20,3 +22,8 @@ returns-clause-step c =
       keeps = c.publish_run-answer.ensures.keeps;
       others = c.publish_run-answer.ensures.others;
     })
+
+pub returns-clause-lacks : goal.returns-clause-lacks
+returns-clause-lacks c =
+    err_map _ _ c.publish_run-answer.result c.publish_run-answer.ensures.lacks
+    (λ fault lacks. subst (λ n. LacksCalls 6 (Some n) fault) c.fuse_over-fuse.ensures.calls (lacks refl))
