@@ -88,13 +88,15 @@ following_report h =
     (lost_after h (number_of h + count_after h (number_of h)))
     (number_of h + count_after h (number_of h))
 
--- a killed run that is done had as many calls as the run needs at least
+-- a publication is done or refused
 abbrev pub AllowedPublish : History → List ChangeValue → ℕ → Reply → Type 0
 AllowedPublish h changes time (Published report) = report ≡ publication_report h
 AllowedPublish h changes time (Refused fault) =
     PublicationRefused (published_of h) changes time fault
 AllowedPublish h changes time r = ⊥
 
+-- a killed publication that is done had as many calls as it makes; one that the device refused had
+-- fewer
 abbrev pub AllowedKilledPublish : History → List ChangeValue → ℕ → ℕ → Reply → Type 0
 AllowedKilledPublish h changes time calls (Published report) =
     (report ≡ publication_report h) × (6 ≤ calls)
@@ -102,11 +104,14 @@ AllowedKilledPublish h changes time calls (Refused fault) =
     KilledPublicationRefused (published_of h) changes time calls fault
 AllowedKilledPublish h changes time calls r = ⊥
 
+-- a run of the follower is done or refused
 abbrev pub AllowedFollow : History → Reply → Type 0
 AllowedFollow h (Followed report) = report ≡ following_report h
 AllowedFollow h (Refused fault) = FollowingRefused (published_of h) fault
 AllowedFollow h r = ⊥
 
+-- a killed one that is done had as many calls as it makes at least; one that the device refused had
+-- fewer than it may make
 abbrev pub AllowedKilledFollow : History → ℕ → Reply → Type 0
 AllowedKilledFollow h calls (Followed report) = (report ≡ following_report h) × (3 ≤ calls)
 AllowedKilledFollow h calls (Refused fault) =
