@@ -1,5 +1,5 @@
 -- The chains of an index lead to every string of their bucket.
-use Rattle.std.proofs.Common.{◌≡◌, ℕ, zero, suc, ◌+◌, ◌-◌, ◌<◌, ◌≤◌, true, false, leb, List, [], ◌∷◌, ◌++◌, length, get_or, take, drop, Option, Some, None, refl, sym, ap, subst, ◌∙◌, arith, inl, inr, slice_set}
+use Rattle.std.proofs.Common.{◌≡◌, ℕ, zero, suc, ◌+◌, ◌-◌, ◌/◌, ◌<◌, ◌≤◌, true, false, leb, List, [], ◌∷◌, ◌++◌, length, get_or, take, drop, Option, Some, None, refl, sym, ap, subst, ◌∙◌, arith, inl, inr, slice_set}
 use Rattle.std.specs.Prelude.{◌≢◌, slice_get}
 use Rattle.std.specs.Str.{bytes_eq}
 use Rattle.std.proofs.lemmas.Bool.{cases_lt, cases_eq, cases_Bool}
@@ -9,7 +9,7 @@ use Rattle.std.proofs.lemmas.Option.{slice_get-get_or, get_or_from_slice_get}
 use Rattle.std.proofs.lemmas.Slice.Eq.{bytes_eq-Decides}
 use Rattle.std.proofs.Math.Seq.{drop-append_seam, get_or-append_seam}
 use Rattle.osm_o5c.specs.Written.{last_equal, reference_of}
-use Rattle.osm_o5c.specs.Steps.Index.{bucket_of, string_of, strings_of, string_at, no_slot, Leads, IsLastIn, IsPrevious, IsChained, IsIndexed, string_named, IsLeast}
+use Rattle.osm_o5c.specs.Steps.Index.{hash_of, bucket_of, string_of, strings_of, string_at, no_slot, Leads, IsLastIn, IsPrevious, IsChained, IsIndexed, string_named, IsLeast}
 use Rattle.osm_o5c.specs.declared.string_index.Slot.{Slot}
 
 -- ---- the strings of slots
@@ -40,15 +40,15 @@ take_whole : (xs : List ℕ) → take (length xs) xs ≡ xs
 take_whole [] = refl
 take_whole (x ∷ xs) = ap (λ (l : List ℕ). x ∷ l) (take_whole xs)
 
-string_new : (bytes text : List ℕ) (bucket previous : ℕ) → string_of (bytes ++ text) (record { start = length bytes; size = length text; bucket = bucket; previous = previous }) ≡ text
-string_new bytes text bucket previous = ap (λ (l : List ℕ). take (length text) l) (drop-append_seam bytes text) ∙ take_whole text
+string_new : (bytes text : List ℕ) (hash previous : ℕ) → string_of (bytes ++ text) (record { start = length bytes; size = length text; hash = hash; previous = previous }) ≡ text
+string_new bytes text hash previous = ap (λ (l : List ℕ). take (length text) l) (drop-append_seam bytes text) ∙ take_whole text
 
 -- the strings after one more is entered
-pub strings_entered : (bytes text : List ℕ) (slots : List Slot) (bucket previous : ℕ) → ((i : ℕ) → i < length slots → (get_or slots i no_slot).start + (get_or slots i no_slot).size ≤ length bytes) → strings_of (bytes ++ text) (slots ++ record { start = length bytes; size = length text; bucket = bucket; previous = previous } ∷ []) ≡ strings_of bytes slots ++ text ∷ []
-strings_entered bytes text slots bucket previous w =
-    strings_push (bytes ++ text) slots (record { start = length bytes; size = length text; bucket = bucket; previous = previous })
-    ∙ ap (λ (l : List (List ℕ)). l ++ string_of (bytes ++ text) (record { start = length bytes; size = length text; bucket = bucket; previous = previous }) ∷ []) (strings_more bytes text slots w)
-    ∙ ap (λ (t : List ℕ). strings_of bytes slots ++ t ∷ []) (string_new bytes text bucket previous)
+pub strings_entered : (bytes text : List ℕ) (slots : List Slot) (hash previous : ℕ) → ((i : ℕ) → i < length slots → (get_or slots i no_slot).start + (get_or slots i no_slot).size ≤ length bytes) → strings_of (bytes ++ text) (slots ++ record { start = length bytes; size = length text; hash = hash; previous = previous } ∷ []) ≡ strings_of bytes slots ++ text ∷ []
+strings_entered bytes text slots hash previous w =
+    strings_push (bytes ++ text) slots (record { start = length bytes; size = length text; hash = hash; previous = previous })
+    ∙ ap (λ (l : List (List ℕ)). l ++ string_of (bytes ++ text) (record { start = length bytes; size = length text; hash = hash; previous = previous }) ∷ []) (strings_more bytes text slots w)
+    ∙ ap (λ (t : List ℕ). strings_of bytes slots ++ t ∷ []) (string_new bytes text hash previous)
 
 -- ---- chains
 
@@ -83,20 +83,20 @@ slot_last slots s i h = rw h (get_or-append_seam slots s [] no_slot)
 record Entered (strings : List (List ℕ)) (slots : List Slot) (heads : List ℕ) (text : List ℕ) (s : Slot) : Type 0 where
   count : length strings ≡ length slots
   chains : IsChained strings slots heads
-  bucket : s.bucket ≡ bucket_of text
+  hash : s.hash ≡ hash_of text
   bound : bucket_of text < 16384
   previous : IsLastIn strings (bucket_of text) s.previous
 
-new_bucket : (strings : List (List ℕ)) (slots : List Slot) (heads : List ℕ) (text : List ℕ) (s : Slot) → Entered strings slots heads text s → (i : ℕ) → i < length (slots ++ s ∷ []) → (get_or (slots ++ s ∷ []) i no_slot).bucket ≡ bucket_of (string_at (strings ++ text ∷ []) i)
-new_bucket strings slots heads text s e i h =
+new_hash : (strings : List (List ℕ)) (slots : List Slot) (heads : List ℕ) (text : List ℕ) (s : Slot) → Entered strings slots heads text s → (i : ℕ) → i < length (slots ++ s ∷ []) → (get_or (slots ++ s ∷ []) i no_slot).hash ≡ hash_of (string_at (strings ++ text ∷ []) i)
+new_hash strings slots heads text s e i h =
     let size = length-append slots (s ∷ []) in
     let count = e.count in
     elim (cases_lt i (length slots)) [
-      | inl early ↦ ap (λ (x : Slot). x.bucket) (slot_early slots s i early) ∙ e.chains.bucket i early ∙ sym (ap bucket_of ((same strings text).early i (omega arith)))
+      | inl early ↦ ap (λ (x : Slot). x.hash) (slot_early slots s i early) ∙ e.chains.hash i early ∙ sym (ap hash_of ((same strings text).early i (omega arith)))
       | inr late ↦
           let at : i ≡ length slots = omega (arith, size) in
           let also : i ≡ length strings = omega arith in
-          ap (λ (x : Slot). x.bucket) (slot_last slots s i at) ∙ e.bucket ∙ sym (ap bucket_of (rw also (same strings text).last))
+          ap (λ (x : Slot). x.hash) (slot_last slots s i at) ∙ e.hash ∙ sym (ap hash_of (rw also (same strings text).last))
     ]
 
 new_back : (strings : List (List ℕ)) (slots : List Slot) (heads : List ℕ) (text : List ℕ) (s : Slot) → Entered strings slots heads text s → (i : ℕ) → i < length (slots ++ s ∷ []) → (get_or (slots ++ s ∷ []) i no_slot).previous ≤ i
@@ -156,7 +156,7 @@ new_chain strings slots heads text s e i j less h b =
 chained_entered : (strings : List (List ℕ)) (slots : List Slot) (heads : List ℕ) (text : List ℕ) (s : Slot) → Entered strings slots heads text s → IsChained (strings ++ text ∷ []) (slots ++ s ∷ []) (slice_set heads (bucket_of text) (length slots + 1))
 chained_entered strings slots heads text s e = record {
   heads_are = length-set heads (bucket_of text) (length slots + 1) ∙ e.chains.heads_are;
-  bucket = new_bucket strings slots heads text s e;
+  hash = new_hash strings slots heads text s e;
   back = new_back strings slots heads text s e;
   head = new_head strings slots heads text s e;
   chain = new_chain strings slots heads text s e;
@@ -171,14 +171,14 @@ new_within bytes text slots s whole w i h =
     ]
 
 -- the index after one more string is entered
-pub indexed_entered : (bytes text : List ℕ) (slots : List Slot) (heads : List ℕ) (bucket previous : ℕ) → bucket ≡ bucket_of text → bucket < 16384 → IsIndexed bytes slots heads → IsLastIn (strings_of bytes slots) bucket previous → IsIndexed (bytes ++ text) (slots ++ record { start = length bytes; size = length text; bucket = bucket; previous = previous } ∷ []) (slice_set heads bucket (length slots + 1))
-indexed_entered bytes text slots heads bucket previous is bound x last =
-    let s : Slot = record { start = length bytes; size = length text; bucket = bucket; previous = previous } in
-    let e : Entered (strings_of bytes slots) slots heads text s = record { count = strings_length bytes slots; chains = x.chains; bucket = is; bound = subst (λ (b : ℕ). b < 16384) is bound; previous = subst (λ (b : ℕ). IsLastIn (strings_of bytes slots) b previous) is last } in
+pub indexed_entered : (bytes text : List ℕ) (slots : List Slot) (heads : List ℕ) (hash bucket previous : ℕ) → hash ≡ hash_of text → bucket ≡ bucket_of text → bucket < 16384 → IsIndexed bytes slots heads → IsLastIn (strings_of bytes slots) bucket previous → IsIndexed (bytes ++ text) (slots ++ record { start = length bytes; size = length text; hash = hash; previous = previous } ∷ []) (slice_set heads bucket (length slots + 1))
+indexed_entered bytes text slots heads hash bucket previous hash_is is bound x last =
+    let s : Slot = record { start = length bytes; size = length text; hash = hash; previous = previous } in
+    let e : Entered (strings_of bytes slots) slots heads text s = record { count = strings_length bytes slots; chains = x.chains; hash = hash_is; bound = subst (λ (b : ℕ). b < 16384) is bound; previous = subst (λ (b : ℕ). IsLastIn (strings_of bytes slots) b previous) is last } in
     let c : IsChained (strings_of bytes slots ++ text ∷ []) (slots ++ s ∷ []) (slice_set heads (bucket_of text) (length slots + 1)) = chained_entered (strings_of bytes slots) slots heads text s e in
     record {
       within = new_within bytes text slots s (sym (length-append bytes text)) x.within;
-      chains = subst (λ (l : List (List ℕ)). IsChained l (slots ++ s ∷ []) (slice_set heads bucket (length slots + 1))) (sym (strings_entered bytes text slots bucket previous x.within)) (subst (λ (b : ℕ). IsChained (strings_of bytes slots ++ text ∷ []) (slots ++ s ∷ []) (slice_set heads b (length slots + 1))) (sym is) c);
+      chains = subst (λ (l : List (List ℕ)). IsChained l (slots ++ s ∷ []) (slice_set heads bucket (length slots + 1))) (sym (strings_entered bytes text slots hash previous x.within)) (subst (λ (b : ℕ). IsChained (strings_of bytes slots ++ text ∷ []) (slots ++ s ∷ []) (slice_set heads b (length slots + 1))) (sym is) c);
     }
 
 -- ---- the last string in a bucket
@@ -189,14 +189,15 @@ last_found strings slots heads bucket head count x is within = record {
   last = λ j h b. subst (λ (p : ℕ). Leads strings j p) (ap (λ (i : ℕ). get_or heads i 0) b ∙ sym is) (x.head j (omega arith));
 }
 
-pub none_in : (strings : List (List ℕ)) (slots : List Slot) (heads : List ℕ) (bucket head : ℕ) → length strings ≡ length slots → IsChained strings slots heads → head ≡ get_or heads bucket 0 → (0 < head → head ≤ length slots → (get_or slots (head - 1) no_slot).bucket ≢ bucket) → IsLastIn strings bucket 0
+pub none_in : (strings : List (List ℕ)) (slots : List Slot) (heads : List ℕ) (bucket head : ℕ) → length strings ≡ length slots → IsChained strings slots heads → head ≡ get_or heads bucket 0 → (0 < head → head ≤ length slots → (get_or slots (head - 1) no_slot).hash / 262144 ≢ bucket) → IsLastIn strings bucket 0
+unfolding bucket_of
 none_in strings slots heads bucket head count x is none = record {
   within = omega arith;
   last = λ j h b.
       let l : Leads strings j head = subst (λ (p : ℕ). Leads strings j p) (ap (λ (i : ℕ). get_or heads i 0) b ∙ sym is) (x.head j (omega arith)) in
       let after : j < head = l.after in
       let within : head ≤ length strings = l.within in
-      absurd (none (omega arith) (omega arith) (x.bucket (head - 1) (omega arith) ∙ l.same ∙ b));
+      absurd (none (omega arith) (omega arith) (ap (λ (h : ℕ). h / 262144) (x.hash (head - 1) (omega arith)) ∙ l.same ∙ b));
 }
 
 -- ---- the least number

@@ -1,18 +1,41 @@
 -- An index of strings: those that fall into one bucket form a chain, the last of them first.
 use Rattle.std.specs.Prelude.{◌≡◌, ◌≢◌, ℕ, ◌+◌, ◌-◌, ◌*◌, ◌/◌, ◌%◌, ◌<◌, ◌≤◌, ◌&&◌, List, []}
-use Rattle.std.specs.Prelude.{◌∷◌, length, take, drop, get_or, slice_get, nat_le, if◌then◌else◌}
-use Rattle.std.specs.Prelude.{Option, Some, None}
+use Rattle.std.specs.Prelude.{◌∷◌, length, take, drop, get_or, slice_get, nat_le, nat_lt}
+use Rattle.std.specs.Prelude.{Option, Some, None, if◌then◌else◌}
+use Rattle.std.specs.Int.{w64, from_le_bytes}
+use Rattle.std.specs.Simd.{first_chunks}
 use Rattle.osm_o5c.specs.Entries.{max_entries}
 use Rattle.osm_o5c.specs.declared.string_index.Slot.{Slot}
 
--- a polynomial in the bytes, modulo 2^64
-abbrev pub hash_from : ℕ → List ℕ → ℕ
-hash_from h [] = h
-hash_from h (b ∷ bs) = hash_from ((h * 1099511628211 + b) % 18446744073709551616) bs
+-- one more step of a polynomial, modulo 2^64
+abbrev pub mixed : ℕ → ℕ → ℕ
+mixed h n = (h * 1099511628211 + n) % 18446744073709551616
 
--- the bucket of a string: the high bits of its hash
+-- a polynomial in words of eight bytes
+abbrev pub words_hash : ℕ → List (List ℕ) → ℕ
+words_hash h [] = h
+words_hash h (w ∷ ws) = words_hash (mixed h (from_le_bytes w64 w)) ws
+
+-- a polynomial in bytes
+abbrev pub bytes_hash : ℕ → List ℕ → ℕ
+bytes_hash h [] = h
+bytes_hash h (b ∷ bs) = bytes_hash (mixed h b) bs
+
+-- of a string: in its whole words and then in its last eight bytes; in its bytes if it is shorter
+unfoldable pub polynomial_of : List ℕ → ℕ
+polynomial_of text =
+    if nat_lt (length text) 8 then bytes_hash 0 text
+    else mixed (words_hash 0 (first_chunks 8 (length text / 8) text))
+    (from_le_bytes w64 (drop (length text - 8) text))
+
+-- the hash of a string: the high 32 bits of a multiple of its polynomial
+unfoldable pub hash_of : List ℕ → ℕ
+hash_of text =
+    polynomial_of text * 11400714819323198485 % 18446744073709551616 / 4294967296
+
+-- the bucket of a string: the high 14 bits of its hash
 unfoldable pub bucket_of : List ℕ → ℕ
-bucket_of text = hash_from 0 text * 11400714819323198485 % 18446744073709551616 / 1125899906842624
+bucket_of text = hash_of text / 262144
 
 -- the string of a slot
 abbrev pub string_of : List ℕ → Slot → List ℕ
@@ -24,7 +47,7 @@ strings_of bytes [] = []
 strings_of bytes (slot ∷ slots) = string_of bytes slot ∷ strings_of bytes slots
 
 abbrev pub no_slot : Slot
-no_slot = record { start = 0; size = 0; bucket = 0; previous = 0 }
+no_slot = record { start = 0; size = 0; hash = 0; previous = 0 }
 
 -- the string at a place
 abbrev pub string_at : List (List ℕ) → ℕ → List ℕ
@@ -53,8 +76,8 @@ pub record IsPrevious (strings : List (List ℕ)) (place p : ℕ) : Type 0 where
 -- before it in the same bucket
 pub record IsChained (strings : List (List ℕ)) (slots : List Slot) (heads : List ℕ) : Type 0 where
   pub heads_are : length heads ≡ 16384
-  pub bucket : (i : ℕ) → i < length slots
-      → (get_or slots i no_slot).bucket ≡ bucket_of (string_at strings i)
+  pub hash : (i : ℕ) → i < length slots
+      → (get_or slots i no_slot).hash ≡ hash_of (string_at strings i)
   pub back : (i : ℕ) → i < length slots → (get_or slots i no_slot).previous ≤ i
   pub head : (j : ℕ) → j < length slots
       → Leads strings j (get_or heads (bucket_of (string_at strings j)) 0)
