@@ -6,7 +6,7 @@
 ghost use Rattle.std.specs.Prelude.{◌≡◌, [], ◌∷◌, ◌++◌, ◌<◌, ◌≤◌, ◌+◌, take, drop, length, OnOk};
 ghost use Rattle.std.specs.Prelude.{◌/◌, ◌↔◌, IfOk, IsTrue};
 ghost use Rattle.osm_o5c.specs.Steps.Index.{IsLeast, IsLastIn, IsPrevious, string_at, bucket_of};
-ghost use Rattle.osm_o5c.specs.Steps.Index.{mixed, words_hash, bytes_hash};
+ghost use Rattle.osm_o5c.specs.Steps.Index.{mixed, words_hash, bytes_hash, short_hash};
 ghost use Rattle.osm_o5c.specs.Steps.Index.{polynomial_of, hash_of};
 ghost use Rattle.osm_o5c.specs.Written.{reference_of};
 
@@ -16,7 +16,7 @@ use std::alloc::Global;
 use std::marker::Model;
 
 /// How many buckets the strings fall into.
-const BUCKETS: usize = 16_384;
+const BUCKETS: usize = 32_768;
 
 /// A string as it stands in line, and its hash.
 #[derive(Drop)]
@@ -61,7 +61,7 @@ impl<'a> HashedString<'a> {
     #[tactic(auto, unfolding(crate::specs::Steps::Index::bucket_of))]
     fn bucket(&self) -> usize
         ensures value { result ≡ bucket_of self.now }
-        ensures bound { result < 16384 }
+        ensures bound { result < 32768 }
     {
         bucket_for(self.hash)
     }
@@ -107,8 +107,8 @@ const SPREAD: u64 = 11_400_714_819_323_198_485;
 /// 2^32: the high 32 bits of a product are the hash.
 const LOW_BITS: u64 = 4_294_967_296;
 
-/// 2^18: the high 14 bits of a hash give its bucket.
-const HASHES_OF_BUCKET: u32 = 262_144;
+/// 2^17: the high 15 bits of a hash give its bucket.
+const HASHES_OF_BUCKET: u32 = 131_072;
 
 // One more step of the polynomial, modulo 2^64.
 fn mix(hash: u64, number: u64) -> u64
@@ -137,14 +137,26 @@ fn hash_bytes(bytes: &[u8]) -> u64
     hash
 }
 
+fn hash_short(text: &[u8]) -> u64
+    ensures { result ≡ short_hash text.now }
+{
+    let (Some(first), Some(last)) = (text.first_chunk::<4>(), text.last_chunk::<4>()) else {
+        return hash_bytes(text);
+    };
+    mix(
+        u32::from_le_bytes(*first) as u64,
+        u32::from_le_bytes(*last) as u64,
+    )
+}
+
 // A polynomial in the words of the string, the last eight bytes once more, so that no byte is left
-// over; a shorter string goes byte by byte.
+// over.
 #[tactic(auto, unfolding(crate::specs::Steps::Index::polynomial_of))]
 fn polynomial(text: &[u8]) -> u64
     ensures { result ≡ polynomial_of text.now }
 {
     let Some(last) = text.last_chunk::<8>() else {
-        return hash_bytes(text);
+        return hash_short(text);
     };
     let (words, _rest) = text.as_chunks::<8>();
     mix(hash_words(words), u64::from_le_bytes(*last))
@@ -159,8 +171,8 @@ fn hash(text: &[u8]) -> u32
 
 // The bucket of the strings with that hash.
 fn bucket_for(hash: u32) -> usize
-    ensures value { result ≡ hash / 262144 }
-    ensures bound { result < 16384 }
+    ensures value { result ≡ hash / 131072 }
+    ensures bound { result < 32768 }
 {
     (hash / HASHES_OF_BUCKET) as usize
 }
@@ -173,6 +185,13 @@ fn narrow(number: usize) -> Result<u32, WantOfMemory>
         return Err(WantOfMemory);
     }
     Ok(number as u32)
+}
+
+// Whether a number leads to a string that can be named, if there are so many strings.
+fn is_recent(head: usize, count: usize) -> bool
+    ensures { IsTrue result ↔ ((0 < head) × (head ≤ count) × (count < head + 15000)) }
+{
+    0 < head && head <= count && count - head < MAX_ENTRIES
 }
 
 // The slot of a string that stands from there on.
@@ -222,18 +241,20 @@ impl StringIndex {
         self.slots.clear();
     }
 
-    // One more than the place of the last string in the bucket, or 0. A head that is older than the
-    // last reset may lead to a string in another bucket, or to none.
+    // One more than the place of the last string in the bucket, or 0 if none in it can be named. A
+    // head that is older than the last reset may lead to a string in another bucket, or to none.
     fn last_in(&self, bucket: usize) -> usize
-        requires { bucket < 16384 }
+        requires { bucket < 32768 }
         ensures { IsLastIn self.now bucket result }
     {
         let head = self.heads[bucket] as usize;
-        if 0 < head && head <= self.slots.len() && bucket_for(self.slots[head - 1].hash) == bucket {
-            head
-        } else {
-            0
+        if !is_recent(head, self.slots.len()) {
+            return 0;
         }
+        if bucket_for(self.slots[head - 1].hash) != bucket {
+            return 0;
+        }
+        head
     }
 
     fn len(&self) -> usize
