@@ -222,13 +222,13 @@ fn piece(bytes: &[u8], start: usize, size: usize) -> &[u8]
 }
 
 impl StringIndex {
-    /// With no string.
-    pub fn new(alloc: Global) -> Result<StringIndex, WantOfMemory>
+    /// With no string, and with room for so many of some 16 bytes.
+    pub fn new(alloc: Global, room: usize) -> Result<StringIndex, WantOfMemory>
         ensures { IfOk result (λ i. i ≡ []) }
     {
         Ok(StringIndex {
-            bytes: Vec::new(alloc),
-            slots: Vec::new(alloc),
+            bytes: Vec::with_capacity(alloc, room.saturating_mul(16))?,
+            slots: Vec::with_capacity(alloc, room)?,
             heads: Vec::from_elem(alloc, 0, BUCKETS)?,
         })
     }
