@@ -1,5 +1,5 @@
 -- The chains of an index lead to every string of their bucket.
-use Rattle.std.proofs.Common.{◌≡◌, ℕ, zero, suc, ◌+◌, ◌-◌, ◌<◌, ◌≤◌, true, false, leb, List, [], ◌∷◌, ◌++◌, length, get_or, take, drop, Option, Some, None, refl, sym, ap, subst, ◌∙◌, arith, inl, inr, slice_set}
+use Rattle.std.proofs.Common.{◌≡◌, ℕ, zero, suc, ◌+◌, ◌-◌, ◌/◌, ◌<◌, ◌≤◌, true, false, leb, List, [], ◌∷◌, ◌++◌, length, get_or, take, drop, Option, Some, None, refl, sym, ap, subst, ◌∙◌, arith, inl, inr, slice_set}
 use Rattle.std.specs.Prelude.{◌≢◌, slice_get}
 use Rattle.std.specs.Str.{bytes_eq}
 use Rattle.std.proofs.lemmas.Bool.{cases_lt, cases_eq, cases_Bool}
@@ -9,7 +9,7 @@ use Rattle.std.proofs.lemmas.Option.{slice_get-get_or, get_or_from_slice_get}
 use Rattle.std.proofs.lemmas.Slice.Eq.{bytes_eq-Decides}
 use Rattle.std.proofs.Math.Seq.{drop-append_seam, get_or-append_seam}
 use Rattle.osm_o5c.specs.Written.{last_equal, reference_of}
-use Rattle.osm_o5c.specs.Steps.Index.{bucket_of, string_of, strings_of, string_at, no_slot, Leads, IsLastIn, IsPrevious, IsChained, IsIndexed, string_named, IsLeast}
+use Rattle.osm_o5c.specs.Steps.Index.{hash_of, bucket_of, string_of, strings_of, string_at, no_slot, Leads, IsLastIn, IsPrevious, IsRecent, IsChained, IsIndexed, string_named, IsLeast}
 use Rattle.osm_o5c.specs.declared.string_index.Slot.{Slot}
 
 -- ---- the strings of slots
@@ -40,15 +40,15 @@ take_whole : (xs : List ℕ) → take (length xs) xs ≡ xs
 take_whole [] = refl
 take_whole (x ∷ xs) = ap (λ (l : List ℕ). x ∷ l) (take_whole xs)
 
-string_new : (bytes text : List ℕ) (bucket previous : ℕ) → string_of (bytes ++ text) (record { start = length bytes; size = length text; bucket = bucket; previous = previous }) ≡ text
-string_new bytes text bucket previous = ap (λ (l : List ℕ). take (length text) l) (drop-append_seam bytes text) ∙ take_whole text
+string_new : (bytes text : List ℕ) (hash previous : ℕ) → string_of (bytes ++ text) (record { start = length bytes; size = length text; hash = hash; previous = previous }) ≡ text
+string_new bytes text hash previous = ap (λ (l : List ℕ). take (length text) l) (drop-append_seam bytes text) ∙ take_whole text
 
 -- the strings after one more is entered
-pub strings_entered : (bytes text : List ℕ) (slots : List Slot) (bucket previous : ℕ) → ((i : ℕ) → i < length slots → (get_or slots i no_slot).start + (get_or slots i no_slot).size ≤ length bytes) → strings_of (bytes ++ text) (slots ++ record { start = length bytes; size = length text; bucket = bucket; previous = previous } ∷ []) ≡ strings_of bytes slots ++ text ∷ []
-strings_entered bytes text slots bucket previous w =
-    strings_push (bytes ++ text) slots (record { start = length bytes; size = length text; bucket = bucket; previous = previous })
-    ∙ ap (λ (l : List (List ℕ)). l ++ string_of (bytes ++ text) (record { start = length bytes; size = length text; bucket = bucket; previous = previous }) ∷ []) (strings_more bytes text slots w)
-    ∙ ap (λ (t : List ℕ). strings_of bytes slots ++ t ∷ []) (string_new bytes text bucket previous)
+pub strings_entered : (bytes text : List ℕ) (slots : List Slot) (hash previous : ℕ) → ((i : ℕ) → i < length slots → (get_or slots i no_slot).start + (get_or slots i no_slot).size ≤ length bytes) → strings_of (bytes ++ text) (slots ++ record { start = length bytes; size = length text; hash = hash; previous = previous } ∷ []) ≡ strings_of bytes slots ++ text ∷ []
+strings_entered bytes text slots hash previous w =
+    strings_push (bytes ++ text) slots (record { start = length bytes; size = length text; hash = hash; previous = previous })
+    ∙ ap (λ (l : List (List ℕ)). l ++ string_of (bytes ++ text) (record { start = length bytes; size = length text; hash = hash; previous = previous }) ∷ []) (strings_more bytes text slots w)
+    ∙ ap (λ (t : List ℕ). strings_of bytes slots ++ t ∷ []) (string_new bytes text hash previous)
 
 -- ---- chains
 
@@ -83,20 +83,20 @@ slot_last slots s i h = rw h (get_or-append_seam slots s [] no_slot)
 record Entered (strings : List (List ℕ)) (slots : List Slot) (heads : List ℕ) (text : List ℕ) (s : Slot) : Type 0 where
   count : length strings ≡ length slots
   chains : IsChained strings slots heads
-  bucket : s.bucket ≡ bucket_of text
-  bound : bucket_of text < 16384
+  hash : s.hash ≡ hash_of text
+  bound : bucket_of text < 32768
   previous : IsLastIn strings (bucket_of text) s.previous
 
-new_bucket : (strings : List (List ℕ)) (slots : List Slot) (heads : List ℕ) (text : List ℕ) (s : Slot) → Entered strings slots heads text s → (i : ℕ) → i < length (slots ++ s ∷ []) → (get_or (slots ++ s ∷ []) i no_slot).bucket ≡ bucket_of (string_at (strings ++ text ∷ []) i)
-new_bucket strings slots heads text s e i h =
+new_hash : (strings : List (List ℕ)) (slots : List Slot) (heads : List ℕ) (text : List ℕ) (s : Slot) → Entered strings slots heads text s → (i : ℕ) → i < length (slots ++ s ∷ []) → (get_or (slots ++ s ∷ []) i no_slot).hash ≡ hash_of (string_at (strings ++ text ∷ []) i)
+new_hash strings slots heads text s e i h =
     let size = length-append slots (s ∷ []) in
     let count = e.count in
     elim (cases_lt i (length slots)) [
-      | inl early ↦ ap (λ (x : Slot). x.bucket) (slot_early slots s i early) ∙ e.chains.bucket i early ∙ sym (ap bucket_of ((same strings text).early i (omega arith)))
+      | inl early ↦ ap (λ (x : Slot). x.hash) (slot_early slots s i early) ∙ e.chains.hash i early ∙ sym (ap hash_of ((same strings text).early i (omega arith)))
       | inr late ↦
           let at : i ≡ length slots = omega (arith, size) in
           let also : i ≡ length strings = omega arith in
-          ap (λ (x : Slot). x.bucket) (slot_last slots s i at) ∙ e.bucket ∙ sym (ap bucket_of (rw also (same strings text).last))
+          ap (λ (x : Slot). x.hash) (slot_last slots s i at) ∙ e.hash ∙ sym (ap hash_of (rw also (same strings text).last))
     ]
 
 new_back : (strings : List (List ℕ)) (slots : List Slot) (heads : List ℕ) (text : List ℕ) (s : Slot) → Entered strings slots heads text s → (i : ℕ) → i < length (slots ++ s ∷ []) → (get_or (slots ++ s ∷ []) i no_slot).previous ≤ i
@@ -111,8 +111,8 @@ new_back strings slots heads text s e i h =
           rw (slot_last slots s i at) (omega arith)
     ]
 
-new_head : (strings : List (List ℕ)) (slots : List Slot) (heads : List ℕ) (text : List ℕ) (s : Slot) → Entered strings slots heads text s → (j : ℕ) → j < length (slots ++ s ∷ []) → Leads (strings ++ text ∷ []) j (get_or (slice_set heads (bucket_of text) (length slots + 1)) (bucket_of (string_at (strings ++ text ∷ []) j)) 0)
-new_head strings slots heads text s e j h =
+new_head : (strings : List (List ℕ)) (slots : List Slot) (heads : List ℕ) (text : List ℕ) (s : Slot) → Entered strings slots heads text s → (j : ℕ) → j < length (slots ++ s ∷ []) → IsRecent (strings ++ text ∷ []) j → Leads (strings ++ text ∷ []) j (get_or (slice_set heads (bucket_of text) (length slots + 1)) (bucket_of (string_at (strings ++ text ∷ []) j)) 0)
+new_head strings slots heads text s e j h r =
     let size = length-append slots (s ∷ []) in
     let sizes = length-append strings (text ∷ []) in
     let count = e.count in
@@ -130,33 +130,34 @@ new_head strings slots heads text s e j h =
           ]) in
           let there : string_at (strings ++ text ∷ []) j ≡ string_at strings j = (same strings text).early j early in
           let found : get_or (slice_set heads (bucket_of text) (length slots + 1)) (bucket_of (string_at (strings ++ text ∷ []) j)) 0 ≡ get_or heads (bucket_of (string_at (strings ++ text ∷ []) j)) 0 = get_or-set_other heads (bucket_of text) (bucket_of (string_at (strings ++ text ∷ []) j)) (length slots + 1) 0 other in
-          let old : Leads strings j (get_or heads (bucket_of (string_at strings j)) 0) = e.chains.head j (omega arith) in
+          let old : Leads strings j (get_or heads (bucket_of (string_at strings j)) 0) = e.chains.head j (omega arith) (omega arith) in
           subst (λ (p : ℕ). Leads (strings ++ text ∷ []) j p) (ap (λ (t : List ℕ). get_or heads (bucket_of t) 0) (sym there) ∙ sym found) (leads_more strings text j (get_or heads (bucket_of (string_at strings j)) 0) early old)
     ]
 
-new_chain : (strings : List (List ℕ)) (slots : List Slot) (heads : List ℕ) (text : List ℕ) (s : Slot) → Entered strings slots heads text s → (i j : ℕ) → j < i → i < length (slots ++ s ∷ []) → bucket_of (string_at (strings ++ text ∷ []) j) ≡ bucket_of (string_at (strings ++ text ∷ []) i) → Leads (strings ++ text ∷ []) j (get_or (slots ++ s ∷ []) i no_slot).previous
-new_chain strings slots heads text s e i j less h b =
+new_chain : (strings : List (List ℕ)) (slots : List Slot) (heads : List ℕ) (text : List ℕ) (s : Slot) → Entered strings slots heads text s → (i j : ℕ) → j < i → i < length (slots ++ s ∷ []) → IsRecent (strings ++ text ∷ []) j → bucket_of (string_at (strings ++ text ∷ []) j) ≡ bucket_of (string_at (strings ++ text ∷ []) i) → Leads (strings ++ text ∷ []) j (get_or (slots ++ s ∷ []) i no_slot).previous
+new_chain strings slots heads text s e i j less h r b =
     let size = length-append slots (s ∷ []) in
+    let sizes = length-append strings (text ∷ []) in
     let count = e.count in
     let early : j < length strings = omega (arith, size) in
     let there : string_at (strings ++ text ∷ []) j ≡ string_at strings j = (same strings text).early j early in
     elim (cases_lt i (length slots)) [
       | inl inside ↦
           let here : string_at (strings ++ text ∷ []) i ≡ string_at strings i = (same strings text).early i (omega arith) in
-          let old : Leads strings j (get_or slots i no_slot).previous = e.chains.chain i j less inside (sym (ap bucket_of there) ∙ b ∙ ap bucket_of here) in
+          let old : Leads strings j (get_or slots i no_slot).previous = e.chains.chain i j less inside (omega arith) (sym (ap bucket_of there) ∙ b ∙ ap bucket_of here) in
           rw (slot_early slots s i inside) (leads_more strings text j (get_or slots i no_slot).previous early old)
       | inr late ↦
           let at : i ≡ length slots = omega (arith, size) in
           let also : i ≡ length strings = omega arith in
           let last : string_at (strings ++ text ∷ []) i ≡ text = rw also (same strings text).last in
-          let old : Leads strings j s.previous = e.previous.last j early (sym (ap bucket_of there) ∙ b ∙ ap bucket_of last) in
+          let old : Leads strings j s.previous = e.previous.last j early (omega arith) (sym (ap bucket_of there) ∙ b ∙ ap bucket_of last) in
           rw (slot_last slots s i at) (leads_more strings text j s.previous early old)
     ]
 
 chained_entered : (strings : List (List ℕ)) (slots : List Slot) (heads : List ℕ) (text : List ℕ) (s : Slot) → Entered strings slots heads text s → IsChained (strings ++ text ∷ []) (slots ++ s ∷ []) (slice_set heads (bucket_of text) (length slots + 1))
 chained_entered strings slots heads text s e = record {
   heads_are = length-set heads (bucket_of text) (length slots + 1) ∙ e.chains.heads_are;
-  bucket = new_bucket strings slots heads text s e;
+  hash = new_hash strings slots heads text s e;
   back = new_back strings slots heads text s e;
   head = new_head strings slots heads text s e;
   chain = new_chain strings slots heads text s e;
@@ -171,14 +172,14 @@ new_within bytes text slots s whole w i h =
     ]
 
 -- the index after one more string is entered
-pub indexed_entered : (bytes text : List ℕ) (slots : List Slot) (heads : List ℕ) (bucket previous : ℕ) → bucket ≡ bucket_of text → bucket < 16384 → IsIndexed bytes slots heads → IsLastIn (strings_of bytes slots) bucket previous → IsIndexed (bytes ++ text) (slots ++ record { start = length bytes; size = length text; bucket = bucket; previous = previous } ∷ []) (slice_set heads bucket (length slots + 1))
-indexed_entered bytes text slots heads bucket previous is bound x last =
-    let s : Slot = record { start = length bytes; size = length text; bucket = bucket; previous = previous } in
-    let e : Entered (strings_of bytes slots) slots heads text s = record { count = strings_length bytes slots; chains = x.chains; bucket = is; bound = subst (λ (b : ℕ). b < 16384) is bound; previous = subst (λ (b : ℕ). IsLastIn (strings_of bytes slots) b previous) is last } in
+pub indexed_entered : (bytes text : List ℕ) (slots : List Slot) (heads : List ℕ) (hash bucket previous : ℕ) → hash ≡ hash_of text → bucket ≡ bucket_of text → bucket < 32768 → IsIndexed bytes slots heads → IsLastIn (strings_of bytes slots) bucket previous → IsIndexed (bytes ++ text) (slots ++ record { start = length bytes; size = length text; hash = hash; previous = previous } ∷ []) (slice_set heads bucket (length slots + 1))
+indexed_entered bytes text slots heads hash bucket previous hash_is is bound x last =
+    let s : Slot = record { start = length bytes; size = length text; hash = hash; previous = previous } in
+    let e : Entered (strings_of bytes slots) slots heads text s = record { count = strings_length bytes slots; chains = x.chains; hash = hash_is; bound = subst (λ (b : ℕ). b < 32768) is bound; previous = subst (λ (b : ℕ). IsLastIn (strings_of bytes slots) b previous) is last } in
     let c : IsChained (strings_of bytes slots ++ text ∷ []) (slots ++ s ∷ []) (slice_set heads (bucket_of text) (length slots + 1)) = chained_entered (strings_of bytes slots) slots heads text s e in
     record {
       within = new_within bytes text slots s (sym (length-append bytes text)) x.within;
-      chains = subst (λ (l : List (List ℕ)). IsChained l (slots ++ s ∷ []) (slice_set heads bucket (length slots + 1))) (sym (strings_entered bytes text slots bucket previous x.within)) (subst (λ (b : ℕ). IsChained (strings_of bytes slots ++ text ∷ []) (slots ++ s ∷ []) (slice_set heads b (length slots + 1))) (sym is) c);
+      chains = subst (λ (l : List (List ℕ)). IsChained l (slots ++ s ∷ []) (slice_set heads bucket (length slots + 1))) (sym (strings_entered bytes text slots hash previous x.within)) (subst (λ (b : ℕ). IsChained (strings_of bytes slots ++ text ∷ []) (slots ++ s ∷ []) (slice_set heads b (length slots + 1))) (sym is) c);
     }
 
 -- ---- the last string in a bucket
@@ -186,17 +187,18 @@ indexed_entered bytes text slots heads bucket previous is bound x last =
 pub last_found : (strings : List (List ℕ)) (slots : List Slot) (heads : List ℕ) (bucket head : ℕ) → length strings ≡ length slots → IsChained strings slots heads → head ≡ get_or heads bucket 0 → head ≤ length slots → IsLastIn strings bucket head
 last_found strings slots heads bucket head count x is within = record {
   within = omega arith;
-  last = λ j h b. subst (λ (p : ℕ). Leads strings j p) (ap (λ (i : ℕ). get_or heads i 0) b ∙ sym is) (x.head j (omega arith));
+  last = λ j h r b. subst (λ (p : ℕ). Leads strings j p) (ap (λ (i : ℕ). get_or heads i 0) b ∙ sym is) (x.head j (omega arith) r);
 }
 
-pub none_in : (strings : List (List ℕ)) (slots : List Slot) (heads : List ℕ) (bucket head : ℕ) → length strings ≡ length slots → IsChained strings slots heads → head ≡ get_or heads bucket 0 → (0 < head → head ≤ length slots → (get_or slots (head - 1) no_slot).bucket ≢ bucket) → IsLastIn strings bucket 0
+pub none_in : (strings : List (List ℕ)) (slots : List Slot) (heads : List ℕ) (bucket head : ℕ) → length strings ≡ length slots → IsChained strings slots heads → head ≡ get_or heads bucket 0 → (0 < head → head ≤ length slots → length slots < head + 15000 → (get_or slots (head - 1) no_slot).hash / 131072 ≢ bucket) → IsLastIn strings bucket 0
+unfolding bucket_of
 none_in strings slots heads bucket head count x is none = record {
   within = omega arith;
-  last = λ j h b.
-      let l : Leads strings j head = subst (λ (p : ℕ). Leads strings j p) (ap (λ (i : ℕ). get_or heads i 0) b ∙ sym is) (x.head j (omega arith)) in
+  last = λ j h r b.
+      let l : Leads strings j head = subst (λ (p : ℕ). Leads strings j p) (ap (λ (i : ℕ). get_or heads i 0) b ∙ sym is) (x.head j (omega arith) r) in
       let after : j < head = l.after in
       let within : head ≤ length strings = l.within in
-      absurd (none (omega arith) (omega arith) (x.bucket (head - 1) (omega arith) ∙ l.same ∙ b));
+      absurd (none (omega arith) (omega arith) (omega arith) (ap (λ (h : ℕ). h / 131072) (x.hash (head - 1) (omega arith)) ∙ l.same ∙ b));
 }
 
 -- ---- the least number
@@ -259,13 +261,13 @@ any_default (y ∷ ys) (suc i) x d h e = any_default ys i x d (omega arith) e
 
 -- ---- the search
 
--- whatever equals the text stands before a place to which the chain leads
+-- whatever equals the text and can be named stands before a place to which the chain leads
 pub record IsAhead (strings : List (List ℕ)) (text : List ℕ) (at : ℕ) : Type 0 where
   pub within : at ≤ length strings
-  pub leads : (j : ℕ) → j < length strings → string_at strings j ≡ text → Leads strings j at
+  pub leads : (j : ℕ) → j < length strings → IsRecent strings j → string_at strings j ≡ text → Leads strings j at
 
 pub ahead_first : (strings : List (List ℕ)) (text : List ℕ) (b p : ℕ) → b ≡ bucket_of text → IsLastIn strings b p → IsAhead strings text p
-ahead_first strings text b p is l = record { within = l.within; leads = λ j h e. l.last j h (ap bucket_of e ∙ sym is) }
+ahead_first strings text b p is l = record { within = l.within; leads = λ j h r e. l.last j h r (ap bucket_of e ∙ sym is) }
 
 pub ahead_next : (strings : List (List ℕ)) (text : List ℕ) (at next : ℕ) → 0 < at → IsAhead strings text at → string_at strings (at - 1) ≢ text → IsPrevious strings (at - 1) next → IsAhead strings text next
 ahead_next strings text at next some a other p =
@@ -273,31 +275,34 @@ ahead_next strings text at next some a other p =
     let back : next ≤ at - 1 = p.back in
     record {
       within = omega arith;
-      leads = λ j h e.
-          let l : Leads strings j at = a.leads j h e in
+      leads = λ j h r e.
+          let l : Leads strings j at = a.leads j h r e in
           let after : j < at = l.after in
           elim (cases_eq j (at - 1)) [
             | inl is ↦ absurd (other (subst (λ (i : ℕ). string_at strings i ≡ text) is e))
-            | inr before ↦ let less : j < at - 1 = omega arith in p.last j less (sym l.same)
+            | inr before ↦ let less : j < at - 1 = omega arith in p.last j less r (sym l.same)
           ];
     }
 
 pub previous_is : (strings : List (List ℕ)) (slots : List Slot) (heads : List ℕ) (place : ℕ) (slot : Slot) → place < length slots → IsChained strings slots heads → slot ≡ get_or slots place no_slot → IsPrevious strings place slot.previous
-previous_is strings slots heads place slot h x is = rw is (record { back = x.back place h; last = λ j less b. x.chain place j less h b })
+previous_is strings slots heads place slot h x is = rw is (record { back = x.back place h; last = λ j less r b. x.chain place j less h r b })
 
 pub reference_past : (strings : List (List ℕ)) (text : List ℕ) (at : ℕ) → IsAhead strings text at → (0 < at → 15000 < length strings - (at - 1)) → reference_of strings text ≡ None
 reference_past strings text at a far =
     elim (cases_lt (last_equal strings text) 1) [
       | inl none ↦ let t : leb 1 (last_equal strings text) ≡ false = grind (arith, nat_tests) in rw t refl
       | inr some ↦
-          let f : Found strings text (last_equal strings text) = last_there strings text some in
-          let bound : last_equal strings text ≤ length strings = f.bound in
-          let l : Leads strings (length strings - last_equal strings text) at = a.leads (length strings - last_equal strings text) (omega arith) f.at in
-          let after : length strings - last_equal strings text < at = l.after in
-          let more : 15000 < length strings - (at - 1) = far (omega arith) in
           let t : leb 1 (last_equal strings text) ≡ true = grind (arith, nat_tests) in
-          let u : leb (last_equal strings text) 15000 ≡ false = (let k : 15000 < last_equal strings text = omega arith in grind (arith, nat_tests)) in
-          rw (t, u) refl
+          elim (cases_lt 15000 (last_equal strings text)) [
+            | inl past ↦ let u : leb (last_equal strings text) 15000 ≡ false = grind (arith, nat_tests) in rw (t, u) refl
+            | inr near ↦
+                let f : Found strings text (last_equal strings text) = last_there strings text some in
+                let bound : last_equal strings text ≤ length strings = f.bound in
+                let l : Leads strings (length strings - last_equal strings text) at = a.leads (length strings - last_equal strings text) (omega arith) (omega arith) f.at in
+                let after : length strings - last_equal strings text < at = l.after in
+                let more : 15000 < length strings - (at - 1) = far (omega arith) in
+                absurd (omega arith)
+          ]
     ]
 
 pub reference_found : (strings : List (List ℕ)) (text : List ℕ) (at number : ℕ) → IsAhead strings text at → 0 < at → string_at strings (at - 1) ≡ text → number ≡ length strings - (at - 1) → number ≤ 15000 → reference_of strings text ≡ Some number
@@ -308,7 +313,7 @@ reference_found strings text at number a some e is few =
     let least : last_equal strings text + (at - 1) ≤ length strings = above.least in
     let f : Found strings text (last_equal strings text) = last_there strings text one in
     let bound : last_equal strings text ≤ length strings = f.bound in
-    let after : length strings - last_equal strings text < at = (a.leads (length strings - last_equal strings text) (omega arith) f.at).after in
+    let after : length strings - last_equal strings text < at = (a.leads (length strings - last_equal strings text) (omega arith) (omega arith) f.at).after in
     let same : last_equal strings text ≡ number = omega arith in
     let t : leb 1 (last_equal strings text) ≡ true = grind (arith, nat_tests) in
     let u : leb (last_equal strings text) 15000 ≡ true = (let k : last_equal strings text ≤ 15000 = omega arith in grind (arith, nat_tests)) in

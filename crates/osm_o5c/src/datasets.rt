@@ -238,10 +238,10 @@ pub fn write_file(alloc: Global, batch: &Batch) -> Result<Vec<u8>, FormError>
     ensures small { IfOk result (λ v. length v.items ≤ max_file) }
     ensures refused { IfErr result (WriteRefused (o5c_text batch.now)) }
 {
-    let Ok(mut writer) = Writer::new(alloc) else {
+    let changes = batch.changes();
+    let Ok(mut writer) = Writer::new(alloc, changes.len()) else {
         return Err(FormError::WantOfMemory);
     };
-    let changes = batch.changes();
     for change in changes {
         if writer.write_change(change).is_err() {
             return Err(FormError::WantOfMemory);

@@ -1,6 +1,6 @@
 //! Numbers as varints, signed ones by zigzag (OSM wiki, O5m).
 
-ghost use Rattle.std.specs.Prelude.{◌≡◌, ◌++◌, ◌<◌, ◌≤◌, ◌^◌, ◌-ℤ◌, OnOk, IfOk};
+ghost use Rattle.std.specs.Prelude.{◌≡◌, ◌++◌, ◌<◌, ◌≤◌, ◌^◌, ◌-ℤ◌, OnOk, IfOk, IfSome};
 ghost use Rattle.osm_o5c.specs.Number.{zigzag};
 ghost use Rattle.osm_o5c.specs.Steps.NumberReading.{varint_at, unsigned_at, signed_at, part_at};
 ghost use Rattle.osm_o5c.specs.Steps.NumberReading.{positive_at};
@@ -87,9 +87,15 @@ pub fn positive(bytes: &[u8]) -> Result<(u32, &[u8]), Why>
 }
 
 /// Appends an unsigned number in its fewest bytes.
+#[inline]
 pub fn write_unsigned(out: &mut Vec<u8>, number: u64) -> Result<(), WantOfMemory>
     ensures { OnOk result (out.new.items ≡ out.old.items ++ number_text number) }
 {
+    // Most numbers have one byte.
+    if number < 128 {
+        out.push(number as u8)?;
+        return Ok(());
+    }
     write_varint(out, number, 10)
 }
 
@@ -109,7 +115,19 @@ fn write_varint(out: &mut Vec<u8>, number: u64, most: usize) -> Result<(), WantO
 }
 
 /// Appends the difference of two numbers in its fewest bytes.
+#[inline]
 pub fn write_difference(out: &mut Vec<u8>, before: i64, value: i64) -> Result<(), WantOfMemory>
+    ensures { OnOk result (out.new.items ≡ out.old.items ++ difference_text before value) }
+{
+    // Most differences have one byte.
+    if let Some(zigzag) = near_zigzag(before, value) {
+        out.push(zigzag)?;
+        return Ok(());
+    }
+    write_wide_difference(out, before, value)
+}
+
+fn write_wide_difference(out: &mut Vec<u8>, before: i64, value: i64) -> Result<(), WantOfMemory>
     ensures { OnOk result (out.new.items ≡ out.old.items ++ difference_text before value) }
 {
     // The zigzag of a difference may have 65 bits; all but the lowest seven fit in 64.
@@ -127,6 +145,22 @@ pub fn write_coordinate(out: &mut Vec<u8>, before: i32, value: i32) -> Result<()
     ensures { OnOk result (out.new.items ≡ out.old.items ++ difference_text before value) }
 {
     write_difference(out, before as i64, value as i64)
+}
+
+// The zigzag of the difference, if it has one byte.
+fn near_zigzag(before: i64, value: i64) -> Option<u8>
+    ensures value { IfSome result (λ z. z ≡ zigzag (value -ℤ before)) }
+    ensures bound { IfSome result (λ z. z < 128) }
+{
+    let distance = value.abs_diff(before);
+    if distance >= 64 {
+        return None;
+    }
+    if value >= before {
+        Some(2 * distance as u8)
+    } else {
+        Some(2 * distance as u8 - 1)
+    }
 }
 
 // The zigzag of the difference.

@@ -43,7 +43,8 @@ pub fn refs(counters: &mut Counters, alloc: Global, part: &[u8]) -> Result<Refs,
     ensures others { OnOk result
         (counters.new ≡ record counters.old { way_node = counters.new.way_node }) }
 {
-    let mut found = Vec::new(alloc);
+    // A reference has a byte or more.
+    let mut found = Vec::with_capacity(alloc, part.len().min(MAX_REFS))?;
     let mut rest = part;
     while !rest.is_empty() {
         if found.len() >= MAX_REFS {

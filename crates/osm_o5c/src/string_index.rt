@@ -4,9 +4,10 @@
 //! first. A search walks the chain of its bucket, so the first equal string has the least number.
 
 ghost use Rattle.std.specs.Prelude.{◌≡◌, [], ◌∷◌, ◌++◌, ◌<◌, ◌≤◌, ◌+◌, take, drop, length, OnOk};
-ghost use Rattle.std.specs.Prelude.{IfOk};
+ghost use Rattle.std.specs.Prelude.{◌/◌, ◌↔◌, IfOk, IsTrue};
 ghost use Rattle.osm_o5c.specs.Steps.Index.{IsLeast, IsLastIn, IsPrevious, string_at, bucket_of};
-ghost use Rattle.osm_o5c.specs.Steps.Index.{hash_from};
+ghost use Rattle.osm_o5c.specs.Steps.Index.{mixed, words_hash, bytes_hash, short_hash};
+ghost use Rattle.osm_o5c.specs.Steps.Index.{polynomial_of, hash_of};
 ghost use Rattle.osm_o5c.specs.Written.{reference_of};
 
 use crate::strings::MAX_ENTRIES;
@@ -15,16 +16,65 @@ use std::alloc::Global;
 use std::marker::Model;
 
 /// How many buckets the strings fall into.
-const BUCKETS: usize = 16_384;
+const BUCKETS: usize = 32_768;
 
-/// Where a string stands in the bytes, its bucket, and 1 more than the place of the string before
-/// it in that bucket, or 0 if there is none.
+/// A string as it stands in line, and its hash.
+#[derive(Drop)]
+pub struct HashedString<'a> {
+    bytes: &'a [u8],
+    hash: u32,
+}
+
+impl<'a> Model for HashedString<'a> {
+    ghost use Rattle.std.specs.Prelude.{ℕ, List, ◌≡◌};
+    ghost use Rattle.osm_o5c.specs.Steps.Index.{hash_of};
+
+    ghost Value = { List ℕ };
+
+    ghost view = { λ a. a.bytes.now };
+
+    ghost invariant = { λ a. a.hash ≡ hash_of a.bytes.now };
+}
+
+impl<'a> HashedString<'a> {
+    pub fn new(bytes: &'a [u8]) -> HashedString<'a>
+        ensures { result ≡ bytes.now }
+    {
+        HashedString {
+            bytes,
+            hash: hash(bytes),
+        }
+    }
+
+    fn as_slice(&self) -> &'a [u8]
+        ensures { result.now ≡ self.now }
+    {
+        self.bytes
+    }
+
+    fn hash(&self) -> u32
+        ensures { result ≡ hash_of self.now }
+    {
+        self.hash
+    }
+
+    #[tactic(auto, unfolding(crate::specs::Steps::Index::bucket_of))]
+    fn bucket(&self) -> usize
+        ensures value { result ≡ bucket_of self.now }
+        ensures bound { result < 32768 }
+    {
+        bucket_for(self.hash)
+    }
+}
+
+/// Where a string stands in the bytes, its hash, and 1 more than the place of the string before
+/// it in its bucket, or 0 if there is none.
 #[derive(Clone, Copy)]
 struct Slot {
-    start: usize,
-    size: usize,
-    bucket: usize,
-    previous: usize,
+    start: u32,
+    size: u32,
+    hash: u32,
+    previous: u32,
 }
 
 /// Strings since the last reset in the order in which they were entered, each as it stands in line.
@@ -34,7 +84,7 @@ struct Slot {
 pub struct StringIndex {
     bytes: Vec<u8>,
     slots: Vec<Slot>,
-    heads: Vec<usize>,
+    heads: Vec<u32>,
 }
 
 impl Model for StringIndex {
@@ -48,32 +98,117 @@ impl Model for StringIndex {
     ghost invariant = { λ a. IsIndexed a.bytes.items a.slots.items a.heads.items };
 }
 
-/// The hash is a polynomial in the bytes at this odd prime, modulo 2^64.
+/// The factor of the polynomial, an odd prime.
 const FACTOR: u64 = 1_099_511_628_211;
 
 /// An odd number near 2^64 divided by the golden ratio, which spreads a hash over its high bits.
 const SPREAD: u64 = 11_400_714_819_323_198_485;
 
-/// 2^50: the high 14 bits of a hash give its bucket.
-const LOW_BITS: u64 = 1_125_899_906_842_624;
+/// 2^32: the high 32 bits of a product are the hash.
+const LOW_BITS: u64 = 4_294_967_296;
 
-fn hash(text: &[u8]) -> u64
-    ensures { result ≡ hash_from 0 text.now }
+/// 2^17: the high 15 bits of a hash give its bucket.
+const HASHES_OF_BUCKET: u32 = 131_072;
+
+// One more step of the polynomial, modulo 2^64.
+fn mix(hash: u64, number: u64) -> u64
+    ensures { result ≡ mixed hash number }
 {
-    let mut hash: u64 = 0;
-    for byte in text {
-        hash = hash.wrapping_mul(FACTOR).wrapping_add(*byte as u64);
+    hash.wrapping_mul(FACTOR).wrapping_add(number)
+}
+
+fn hash_words(words: &[[u8; 8]]) -> u64
+    ensures { result ≡ words_hash 0 words.now }
+{
+    let mut hash = 0;
+    for word in words {
+        hash = mix(hash, u64::from_le_bytes(*word));
     }
     hash
 }
 
-// The bucket of a string.
-#[tactic(auto, unfolding(crate::specs::Steps::Index::bucket_of))]
-fn bucket(text: &[u8]) -> usize
-    ensures value { result ≡ bucket_of text.now }
-    ensures bound { result < 16384 }
+fn hash_bytes(bytes: &[u8]) -> u64
+    ensures { result ≡ bytes_hash 0 bytes.now }
 {
-    (hash(text).wrapping_mul(SPREAD) / LOW_BITS) as usize
+    let mut hash = 0;
+    for byte in bytes {
+        hash = mix(hash, *byte as u64);
+    }
+    hash
+}
+
+fn hash_short(text: &[u8]) -> u64
+    ensures { result ≡ short_hash text.now }
+{
+    let (Some(first), Some(last)) = (text.first_chunk::<4>(), text.last_chunk::<4>()) else {
+        return hash_bytes(text);
+    };
+    mix(
+        u32::from_le_bytes(*first) as u64,
+        u32::from_le_bytes(*last) as u64,
+    )
+}
+
+// A polynomial in the words of the string, the last eight bytes once more, so that no byte is left
+// over.
+#[tactic(auto, unfolding(crate::specs::Steps::Index::polynomial_of))]
+fn polynomial(text: &[u8]) -> u64
+    ensures { result ≡ polynomial_of text.now }
+{
+    let Some(last) = text.last_chunk::<8>() else {
+        return hash_short(text);
+    };
+    let (words, _rest) = text.as_chunks::<8>();
+    mix(hash_words(words), u64::from_le_bytes(*last))
+}
+
+#[tactic(auto, unfolding(crate::specs::Steps::Index::hash_of))]
+fn hash(text: &[u8]) -> u32
+    ensures { result ≡ hash_of text.now }
+{
+    (polynomial(text).wrapping_mul(SPREAD) / LOW_BITS) as u32
+}
+
+// The bucket of the strings with that hash.
+fn bucket_for(hash: u32) -> usize
+    ensures value { result ≡ hash / 131072 }
+    ensures bound { result < 32768 }
+{
+    (hash / HASHES_OF_BUCKET) as usize
+}
+
+// The number in 32 bits.
+fn narrow(number: usize) -> Result<u32, WantOfMemory>
+    ensures { IfOk result (λ n. n ≡ number) }
+{
+    if number > u32::MAX as usize {
+        return Err(WantOfMemory);
+    }
+    Ok(number as u32)
+}
+
+// Whether a number leads to a string that can be named, if there are so many strings.
+fn is_recent(head: usize, count: usize) -> bool
+    ensures { IsTrue result ↔ ((0 < head) × (head ≤ count) × (count < head + 15000)) }
+{
+    0 < head && head <= count && count - head < MAX_ENTRIES
+}
+
+// The slot of a string that stands from there on.
+fn slot_of(text: &HashedString, start: usize, previous: usize) -> Result<Slot, WantOfMemory>
+    ensures { IfOk result (λ slot. slot ≡ record {
+      start = start;
+      size = length text.now;
+      hash = hash_of text.now;
+      previous = previous;
+    }) }
+{
+    Ok(Slot {
+        start: narrow(start)?,
+        size: narrow(text.as_slice().len())?,
+        hash: text.hash(),
+        previous: narrow(previous)?,
+    })
 }
 
 // So many bytes from there on.
@@ -87,13 +222,13 @@ fn piece(bytes: &[u8], start: usize, size: usize) -> &[u8]
 }
 
 impl StringIndex {
-    /// With no string.
-    pub fn new(alloc: Global) -> Result<StringIndex, WantOfMemory>
+    /// With no string, and with room for so many of some 16 bytes.
+    pub fn new(alloc: Global, room: usize) -> Result<StringIndex, WantOfMemory>
         ensures { IfOk result (λ i. i ≡ []) }
     {
         Ok(StringIndex {
-            bytes: Vec::new(alloc),
-            slots: Vec::new(alloc),
+            bytes: Vec::with_capacity(alloc, room.saturating_mul(16))?,
+            slots: Vec::with_capacity(alloc, room)?,
             heads: Vec::from_elem(alloc, 0, BUCKETS)?,
         })
     }
@@ -106,18 +241,20 @@ impl StringIndex {
         self.slots.clear();
     }
 
-    // One more than the place of the last string in the bucket, or 0. A head that is older than the
-    // last reset may lead to a string in another bucket, or to none.
+    // One more than the place of the last string in the bucket, or 0 if none in it can be named. A
+    // head that is older than the last reset may lead to a string in another bucket, or to none.
     fn last_in(&self, bucket: usize) -> usize
-        requires { bucket < 16384 }
+        requires { bucket < 32768 }
         ensures { IsLastIn self.now bucket result }
     {
-        let head = self.heads[bucket];
-        if 0 < head && head <= self.slots.len() && self.slots[head - 1].bucket == bucket {
-            head
-        } else {
-            0
+        let head = self.heads[bucket] as usize;
+        if !is_recent(head, self.slots.len()) {
+            return 0;
         }
+        if bucket_for(self.slots[head - 1].hash) != bucket {
+            return 0;
+        }
+        head
     }
 
     fn len(&self) -> usize
@@ -132,7 +269,31 @@ impl StringIndex {
         ensures { result.now ≡ string_at self.now place }
     {
         let slot = self.slots[place];
-        piece(self.bytes.as_slice(), slot.start, slot.size)
+        piece(
+            self.bytes.as_slice(),
+            slot.start as usize,
+            slot.size as usize,
+        )
+    }
+
+    // The hash of the string at a place.
+    fn hash_at(&self, place: usize) -> u32
+        requires { place < length self.now }
+        ensures { result ≡ hash_of (string_at self.now place) }
+    {
+        self.slots[place].hash
+    }
+
+    // Whether the string at a place is that one. Another hash means another string, so mostly none
+    // but an equal string is looked at.
+    fn is_at(&self, place: usize, text: &HashedString) -> bool
+        requires { place < length self.now }
+        ensures { IsTrue result ↔ (string_at self.now place ≡ text.now) }
+    {
+        if self.hash_at(place) != text.hash() {
+            return false;
+        }
+        self.string(place) == text.as_slice()
     }
 
     // One more than the place of the string before it in the same bucket, or 0.
@@ -140,21 +301,21 @@ impl StringIndex {
         requires { place < length self.now }
         ensures { IsPrevious self.now place result }
     {
-        self.slots[place].previous
+        self.slots[place].previous as usize
     }
 
     /// The least number by which a reference can name the string.
-    pub fn find(&self, text: &[u8]) -> Option<usize>
+    pub fn find(&self, text: &HashedString) -> Option<usize>
         ensures least { IsLeast self.now text.now result }
         ensures reference { result ≡ reference_of self.now text.now }
     {
-        let mut at = self.last_in(bucket(text));
+        let mut at = self.last_in(text.bucket());
         while 0 < at {
             let number = self.len() - (at - 1);
             if number > MAX_ENTRIES {
                 return None;
             }
-            if self.string(at - 1) == text {
+            if self.is_at(at - 1, text) {
                 return Some(number);
             }
             at = self.previous(at - 1);
@@ -162,21 +323,18 @@ impl StringIndex {
         None
     }
 
-    /// Enters one more string.
-    pub fn enter(&mut self, text: &[u8]) -> Result<(), WantOfMemory>
+    /// Enters one more string. Out of memory as well if a number has more than 32 bits, which the
+    /// strings of a file don't come near.
+    pub fn enter(&mut self, text: &HashedString) -> Result<(), WantOfMemory>
         ensures { OnOk result (self.new ≡ self.old ++ text.now ∷ []) }
     {
-        let bucket = bucket(text);
-        let start = self.bytes.len();
+        let bucket = text.bucket();
         let previous = self.last_in(bucket);
-        self.bytes.extend_from_slice(text)?;
-        self.slots.push(Slot {
-            start,
-            size: text.len(),
-            bucket,
-            previous,
-        })?;
-        self.heads[bucket] = self.slots.len();
+        let slot = slot_of(text, self.bytes.len(), previous)?;
+        let head = narrow(self.slots.len() + 1)?;
+        self.bytes.extend_from_slice(text.as_slice())?;
+        self.slots.push(slot)?;
+        self.heads[bucket] = head;
         Ok(())
     }
 }

@@ -1,6 +1,7 @@
 //! Strings, in line or by reference, and the table of those that a reference names (OSM wiki, O5m).
 
 ghost use Rattle.std.specs.Prelude.{◌≡◌, ◌≤◌, [], ◌∷◌, ◌++◌, length, take, drop, OnOk};
+ghost use Rattle.std.specs.Prelude.{IfOk};
 ghost use Rattle.std.specs.Prelude.{option_copied};
 ghost use Rattle.circular_buffer.specs.Buffer.{keep_last};
 ghost use Rattle.osm_reading.specs.Steps.Answers.{Gives, Finds};
@@ -11,7 +12,7 @@ ghost use Rattle.osm_o5c.specs.Written.{entered_by, pair_text, after_pair, singl
 ghost use Rattle.osm_o5c.specs.Written.{after_single};
 
 use crate::numbers::{unsigned, write_unsigned};
-use crate::string_index::StringIndex;
+use crate::string_index::{HashedString, StringIndex};
 use circular_buffer::HeapCircularBuffer;
 use osm_model::form::Why;
 use osm_model::memory::WantOfMemory;
@@ -263,6 +264,29 @@ fn write_single_in_line(out: &mut Vec<u8>, digit: u8, role: &[u8]) -> Result<(),
     Ok(())
 }
 
+// The least number that names the string, if one does; otherwise enters the string, which is of
+// that size, unless it is too long.
+fn find_or_enter(
+    strings: &mut StringIndex,
+    text: &[u8],
+    size: usize,
+) -> Result<Option<usize>, WantOfMemory>
+    ensures number { IfOk result (λ r. r ≡ reference_of strings.old text.now) }
+    ensures strings_are { OnOk result (strings.new
+        ≡ entered_by (reference_of strings.old text.now) strings.old text.now size) }
+{
+    let text = HashedString::new(text);
+    match strings.find(&text) {
+        Some(number) => Ok(Some(number)),
+        None => {
+            if size <= MAX_SIZE {
+                strings.enter(&text)?;
+            }
+            Ok(None)
+        }
+    }
+}
+
 /// Puts the least reference in place of the string that stands in line from there on, if one names
 /// it; otherwise enters the string, which is of that size, unless it is too long.
 pub fn name_or_enter(
@@ -279,18 +303,12 @@ pub fn name_or_enter(
         ≡ entered_by (reference_of strings.old (drop start out.old.items)) strings.old
         (drop start out.old.items) size) }
 {
-    let text = &out.as_slice()[start..];
-    match strings.find(text) {
+    match find_or_enter(strings, &out.as_slice()[start..], size)? {
         Some(number) => {
             out.truncate(start);
             write_unsigned(out, number as u64)
         }
-        None => {
-            if size <= MAX_SIZE {
-                strings.enter(text)?;
-            }
-            Ok(())
-        }
+        None => Ok(()),
     }
 }
 

@@ -37,13 +37,13 @@ pub struct Buffers {
 }
 
 impl State {
-    /// After a reset.
-    pub fn new(alloc: Global) -> Result<State, WantOfMemory>
+    /// After a reset, with room for so many strings.
+    pub fn new(alloc: Global, room: usize) -> Result<State, WantOfMemory>
         ensures { IfOk result (λ s. s ≡ new_state) }
     {
         Ok(State {
             counters: Counters::new(),
-            strings: StringIndex::new(alloc)?,
+            strings: StringIndex::new(alloc, room)?,
         })
     }
 
@@ -57,17 +57,17 @@ impl State {
 }
 
 impl Writer {
-    /// A file that is only its beginning.
-    pub fn new(alloc: Global) -> Result<Writer, WantOfMemory>
+    /// A file that is only its beginning, with room for so many changes of the usual size.
+    pub fn new(alloc: Global, changes: usize) -> Result<Writer, WantOfMemory>
         ensures { IfOk result (λ w. (w.out.items ≡ beginning) × (w.state ≡ new_state)
             × (w.kind ≡ Option.None)) }
     {
-        let mut out = Vec::new(alloc);
+        let mut out = Vec::with_capacity(alloc, changes.saturating_mul(32))?;
         out.extend_from_slice(&BEGINNING)?;
         Ok(Writer {
             out,
             buffers: Buffers::new(alloc),
-            state: State::new(alloc)?,
+            state: State::new(alloc, changes.saturating_mul(2))?,
             kind: None,
         })
     }

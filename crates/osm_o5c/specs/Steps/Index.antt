@@ -1,18 +1,47 @@
 -- An index of strings: those that fall into one bucket form a chain, the last of them first.
 use Rattle.std.specs.Prelude.{◌≡◌, ◌≢◌, ℕ, ◌+◌, ◌-◌, ◌*◌, ◌/◌, ◌%◌, ◌<◌, ◌≤◌, ◌&&◌, List, []}
-use Rattle.std.specs.Prelude.{◌∷◌, length, take, drop, get_or, slice_get, nat_le, if◌then◌else◌}
-use Rattle.std.specs.Prelude.{Option, Some, None}
+use Rattle.std.specs.Prelude.{◌∷◌, length, take, drop, get_or, slice_get, nat_le, nat_lt}
+use Rattle.std.specs.Prelude.{Option, Some, None, if◌then◌else◌}
+use Rattle.std.specs.Int.{w32, w64, from_le_bytes}
+use Rattle.std.specs.Simd.{first_chunks}
 use Rattle.osm_o5c.specs.Entries.{max_entries}
 use Rattle.osm_o5c.specs.declared.string_index.Slot.{Slot}
 
--- a polynomial in the bytes, modulo 2^64
-abbrev pub hash_from : ℕ → List ℕ → ℕ
-hash_from h [] = h
-hash_from h (b ∷ bs) = hash_from ((h * 1099511628211 + b) % 18446744073709551616) bs
+-- one more step of a polynomial, modulo 2^64
+abbrev pub mixed : ℕ → ℕ → ℕ
+mixed h n = (h * 1099511628211 + n) % 18446744073709551616
 
--- the bucket of a string: the high bits of its hash
+-- a polynomial in words of eight bytes
+abbrev pub words_hash : ℕ → List (List ℕ) → ℕ
+words_hash h [] = h
+words_hash h (w ∷ ws) = words_hash (mixed h (from_le_bytes w64 w)) ws
+
+-- a polynomial in bytes
+abbrev pub bytes_hash : ℕ → List ℕ → ℕ
+bytes_hash h [] = h
+bytes_hash h (b ∷ bs) = bytes_hash (mixed h b) bs
+
+-- of a string of at most seven bytes: in its first four bytes and its last four, if it has four
+abbrev pub short_hash : List ℕ → ℕ
+short_hash text =
+    if nat_lt (length text) 4 then bytes_hash 0 text
+    else mixed (from_le_bytes w32 (take 4 text)) (from_le_bytes w32 (drop (length text - 4) text))
+
+-- of a string: in its whole words and then in its last eight bytes
+unfoldable pub polynomial_of : List ℕ → ℕ
+polynomial_of text =
+    if nat_lt (length text) 8 then short_hash text
+    else mixed (words_hash 0 (first_chunks 8 (length text / 8) text))
+    (from_le_bytes w64 (drop (length text - 8) text))
+
+-- the hash of a string: the high 32 bits of a multiple of its polynomial
+unfoldable pub hash_of : List ℕ → ℕ
+hash_of text =
+    polynomial_of text * 11400714819323198485 % 18446744073709551616 / 4294967296
+
+-- the bucket of a string: the high 15 bits of its hash
 unfoldable pub bucket_of : List ℕ → ℕ
-bucket_of text = hash_from 0 text * 11400714819323198485 % 18446744073709551616 / 1125899906842624
+bucket_of text = hash_of text / 131072
 
 -- the string of a slot
 abbrev pub string_of : List ℕ → Slot → List ℕ
@@ -24,7 +53,7 @@ strings_of bytes [] = []
 strings_of bytes (slot ∷ slots) = string_of bytes slot ∷ strings_of bytes slots
 
 abbrev pub no_slot : Slot
-no_slot = record { start = 0; size = 0; bucket = 0; previous = 0 }
+no_slot = record { start = 0; size = 0; hash = 0; previous = 0 }
 
 -- the string at a place
 abbrev pub string_at : List (List ℕ) → ℕ → List ℕ
@@ -37,28 +66,32 @@ pub record Leads (strings : List (List ℕ)) (j p : ℕ) : Type 0 where
   pub within : p ≤ length strings
   pub same : bucket_of (string_at strings (p - 1)) ≡ bucket_of (string_at strings j)
 
--- 1 more than the place of the last string in a bucket, or 0 if there is none in it
+-- the string at a place can be named
+abbrev pub IsRecent : List (List ℕ) → ℕ → Type 0
+IsRecent strings j = length strings ≤ j + max_entries
+
+-- a number that leads to each string in a bucket that can be named, or 0 if there is none
 pub record IsLastIn (strings : List (List ℕ)) (bucket p : ℕ) : Type 0 where
   pub within : p ≤ length strings
-  pub last : (j : ℕ) → j < length strings → bucket_of (string_at strings j) ≡ bucket
-      → Leads strings j p
+  pub last : (j : ℕ) → j < length strings → IsRecent strings j
+      → bucket_of (string_at strings j) ≡ bucket → Leads strings j p
 
--- 1 more than the place of the last string before that place in its bucket, or 0 if there is none
+-- a number that leads to each string before that place in its bucket that can be named, or 0
 pub record IsPrevious (strings : List (List ℕ)) (place p : ℕ) : Type 0 where
   pub back : p ≤ place
-  pub last : (j : ℕ) → j < place
+  pub last : (j : ℕ) → j < place → IsRecent strings j
       → bucket_of (string_at strings j) ≡ bucket_of (string_at strings place) → Leads strings j p
 
--- the head of a bucket leads to each string in it, and the number in a slot leads to each string
--- before it in the same bucket
+-- the head of a bucket leads to each string in it that can be named, and the number in a slot leads
+-- to each such string before it in the same bucket
 pub record IsChained (strings : List (List ℕ)) (slots : List Slot) (heads : List ℕ) : Type 0 where
-  pub heads_are : length heads ≡ 16384
-  pub bucket : (i : ℕ) → i < length slots
-      → (get_or slots i no_slot).bucket ≡ bucket_of (string_at strings i)
+  pub heads_are : length heads ≡ 32768
+  pub hash : (i : ℕ) → i < length slots
+      → (get_or slots i no_slot).hash ≡ hash_of (string_at strings i)
   pub back : (i : ℕ) → i < length slots → (get_or slots i no_slot).previous ≤ i
-  pub head : (j : ℕ) → j < length slots
+  pub head : (j : ℕ) → j < length slots → IsRecent strings j
       → Leads strings j (get_or heads (bucket_of (string_at strings j)) 0)
-  pub chain : (i j : ℕ) → j < i → i < length slots
+  pub chain : (i j : ℕ) → j < i → i < length slots → IsRecent strings j
       → bucket_of (string_at strings j) ≡ bucket_of (string_at strings i)
       → Leads strings j (get_or slots i no_slot).previous
 

@@ -11,14 +11,14 @@ returns-then-number-gt-MAX_ENTRIES-clause-reference c =
     let far : 15000 < length c.args.self.now - (c.loop-at.at - 1) = search rules in
     sym (reference_past c.args.self.now c.args.text.now c.loop-at.at c.loop-at.invariant (λ some. far))
 
-pub returns-then-eq-clause-reference : goal.returns-then-eq-clause-reference
-returns-then-eq-clause-reference c =
+pub returns-then-is_at-clause-reference : goal.returns-then-is_at-clause-reference
+returns-then-is_at-clause-reference c =
     let same : string_at c.args.self.now (c.loop-at.at - 1) ≡ c.args.text.now = search rules in
     let is : c.len.result - (c.loop-at.at - 1) ≡ length c.args.self.now - (c.loop-at.at - 1) = search rules in
     sym (reference_found c.args.self.now c.args.text.now c.loop-at.at (c.len.result - (c.loop-at.at - 1)) c.loop-at.invariant (search rules) same is (search rules))
 
-pub returns-then-eq-clause-least : goal.returns-then-eq-clause-least
-returns-then-eq-clause-least c =
+pub returns-then-is_at-clause-least : goal.returns-then-is_at-clause-least
+returns-then-is_at-clause-least c =
     let same : string_at c.args.self.now (c.loop-at.at - 1) ≡ c.args.text.now = search rules in
     let is : c.len.result - (c.loop-at.at - 1) ≡ length c.args.self.now - (c.loop-at.at - 1) = search rules in
     least_is c.args.self.now c.args.text.now (Some (c.len.result - (c.loop-at.at - 1))) (sym (reference_found c.args.self.now c.args.text.now c.loop-at.at (c.len.result - (c.loop-at.at - 1)) c.loop-at.invariant (search rules) same is (search rules)))
