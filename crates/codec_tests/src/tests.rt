@@ -1,6 +1,5 @@
 mod forms;
+mod lines;
 mod model;
-mod o5c;
-mod opl;
 mod shown;
 mod state;

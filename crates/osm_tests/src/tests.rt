@@ -1,9 +1,7 @@
-mod early;
-mod follow;
+mod answers;
+mod follower;
 mod holding;
 mod judge;
-mod lag;
-mod large;
-mod orders;
-mod repl;
-mod restarts;
+mod publisher;
+mod replay;
+mod world;

@@ -1,22 +1,41 @@
-//! Mixed changes are written and read back alike in each form of change files.
+//! Mixed changes are written and read back alike in each form of change files, and copied alike.
 
 use made_changes::mixed;
+use osm_model::batch::Batch;
 use osm_model::form::{ChangeForm, there_and_back};
 use osm_o5c::o5c::O5c;
-use osm_opl::opl::Opl;
+use osm_opl::opl::{Opl, laws_of_opl};
 use std::alloc::Global;
-use std::test::Fail;
 
-// Whether mixed changes are written and read back alike.
-fn come_back<F: ChangeForm>(alloc: Global) -> Result<bool, Fail> {
-    let batch = mixed(alloc, 100)?;
-    let back = there_and_back::<F>(alloc, &batch)?;
-    Ok(back == batch && back.changes().len() == 100)
+fn comes_back<F: ChangeForm>(alloc: Global, batch: &Batch) -> bool {
+    match there_and_back::<F>(alloc, batch) {
+        Ok(back) => back == *batch,
+        Err(_) => false,
+    }
+}
+
+fn is_copied(alloc: Global, batch: &Batch) -> bool {
+    match batch.copy(alloc) {
+        Ok(copy) => copy == *batch && copy.changes().len() == 100,
+        Err(_) => false,
+    }
+}
+
+fn is_kept(alloc: Global, batch: &Batch) -> bool {
+    let comes_back = comes_back::<Opl>(alloc, batch) && comes_back::<O5c>(alloc, batch);
+    comes_back && is_copied(alloc, batch)
+}
+
+// Whether mixed changes are kept by each form and by a copy.
+fn are_kept(alloc: Global) -> bool {
+    match mixed(alloc, 100) {
+        Ok(batch) => is_kept(alloc, &batch),
+        Err(_) => false,
+    }
 }
 
 #[test]
-fn mixed_changes_come_back_in_each_form(rt: HostRuntime) -> Result<(), Fail> {
-    assert!(rt; come_back::<Opl>(rt.alloc())?);
-    assert!(rt; come_back::<O5c>(rt.alloc())?);
-    Ok(())
+fn mixed_changes_come_back_in_each_form_and_are_copied(rt: HostRuntime) {
+    assert!(rt; are_kept(rt.alloc()));
+    laws_of_opl();
 }

@@ -5,7 +5,6 @@ use osm_state::paths::{Suffix, path, path_number};
 use osm_state::state::State;
 use osm_state::state_text::{StateError, state_read, state_write};
 use std::alloc::Global;
-use std::test::Fail;
 
 // 2024-01-01T00:00:00Z
 const NEW_YEAR: u32 = 1_704_067_200;
@@ -58,7 +57,7 @@ const SERVER_TEXTS: [(&[u8], (u32, u32)); 8] = [
 #[test]
 fn texts_of_planet_servers_are_read(rt: HostRuntime) {
     for (text, state) in SERVER_TEXTS {
-        assert_eq!(rt; read(text), Ok(state), "{state:?}");
+        assert!(rt; read(text) == Ok(state), "{state:?}");
     }
 }
 
@@ -180,7 +179,7 @@ const TEXTS: [(&[u8], Result<(u32, u32), StateError>); 29] = [
 #[test]
 fn the_first_fault_is_named(rt: HostRuntime) {
     for (index, (text, state)) in TEXTS.iter().enumerate() {
-        assert_eq!(rt; read(*text), *state, "text {index}");
+        assert!(rt; read(*text) == *state, "text {index}");
     }
 }
 
@@ -196,18 +195,27 @@ fn a_cut_text_is_refused_for_what_it_lacks(rt: HostRuntime) {
             49.. => Ok((1, NEW_YEAR)),
             _ => Err(StateError::BadTime),
         };
-        assert_eq!(rt; read(&text[..length]), expected, "{length} bytes");
+        assert!(rt; read(&text[..length]) == expected, "{length} bytes");
     }
 }
 
 // Whether the state of that number and time is written so.
-fn is_written(alloc: Global, sequence: u32, time: u32, text: &[u8]) -> Result<bool, Fail> {
-    let state = State::new(sequence, time).ok_or(StateError::BadTime)?;
-    Ok(state_write(alloc, &state)?.as_slice() == text)
+fn is_written(alloc: Global, sequence: u32, time: u32, text: &[u8]) -> bool {
+    match State::new(sequence, time) {
+        Some(state) => is_text_of(alloc, &state, text),
+        None => false,
+    }
+}
+
+fn is_text_of(alloc: Global, state: &State, text: &[u8]) -> bool {
+    match state_write(alloc, state) {
+        Ok(written) => written.as_slice() == text,
+        Err(_) => false,
+    }
 }
 
 #[test]
-fn a_state_is_written_with_escaped_colons(rt: HostRuntime) -> Result<(), Fail> {
+fn a_state_is_written_with_escaped_colons(rt: HostRuntime) {
     let written: [(u32, u32, &[u8]); 3] = [
         (
             1_234_567,
@@ -226,9 +234,8 @@ fn a_state_is_written_with_escaped_colons(rt: HostRuntime) -> Result<(), Fail> {
         ),
     ];
     for (sequence, time, text) in written {
-        assert!(rt; is_written(rt.alloc(), sequence, time, text)?, "{sequence}");
+        assert!(rt; is_written(rt.alloc(), sequence, time, text), "{sequence}");
     }
-    Ok(())
 }
 
 #[test]
@@ -238,16 +245,18 @@ fn a_state_is_refused_outside_its_limits(rt: HostRuntime) {
 }
 
 // Whether that is the path of the number and the suffix.
-fn is_path(alloc: Global, number: u32, suffix: Suffix, text: &str) -> Result<bool, Fail> {
-    if 999_999_999 < number {
-        return Ok(false);
+fn is_path(alloc: Global, number: u32, suffix: Suffix, text: &str) -> bool {
+    if 999_999_999 < number || path_number(text) != Some((number, suffix)) {
+        return false;
     }
-    let written = path(alloc, number, suffix)?;
-    Ok(written.as_str() == text && path_number(text) == Some((number, suffix)))
+    match path(alloc, number, suffix) {
+        Ok(written) => written.as_str() == text,
+        Err(_) => false,
+    }
 }
 
 #[test]
-fn paths_are_written_and_read_back(rt: HostRuntime) -> Result<(), Fail> {
+fn paths_are_written_and_read_back(rt: HostRuntime) {
     let paths = [
         (0, Suffix::Opl, "000/000/000.opl"),
         (1, Suffix::Opl, "000/000/001.opl"),
@@ -257,9 +266,8 @@ fn paths_are_written_and_read_back(rt: HostRuntime) -> Result<(), Fail> {
         (20_030_100, Suffix::State, "020/030/100.state.txt"),
     ];
     for (number, suffix, text) in paths {
-        assert!(rt; is_path(rt.alloc(), number, suffix, text)?, "{text}");
+        assert!(rt; is_path(rt.alloc(), number, suffix, text), "{text}");
     }
-    Ok(())
 }
 
 #[test]
@@ -284,7 +292,7 @@ fn what_is_no_path_has_no_number(rt: HostRuntime) {
 }
 
 #[test]
-fn a_fault_prints_its_name(rt: HostRuntime) -> Result<(), Fail> {
+fn a_fault_prints_its_name(rt: HostRuntime) {
     let texts = [
         (StateError::MissingSequence, "MissingSequence"),
         (StateError::BadEscape, "BadEscape"),
@@ -293,7 +301,6 @@ fn a_fault_prints_its_name(rt: HostRuntime) -> Result<(), Fail> {
         (StateError::BadTime, "BadTime"),
     ];
     for (fault, text) in texts {
-        assert!(rt; is_shown(rt.alloc(), &fault, text)?, "{text}");
+        assert!(rt; is_shown(rt.alloc(), &fault, text), "{text}");
     }
-    Ok(())
 }

@@ -4,10 +4,11 @@ use osm_folder::fault::RunFault;
 use osm_judge::judge::may_answer;
 use osm_judge::plain::{plain_content_of, plain_edits_by_changeset, plain_edits_by_user};
 use osm_model::change::Change;
+use osm_model::form::ChangeForm;
 use osm_model::kind::{Key, Kind};
-use osm_opl::lines::{read_line, write_line};
+use osm_opl::lines::write_line;
+use osm_opl::opl::Opl;
 use std::alloc::Global;
-use std::test::Fail;
 
 // Lines of changes, the line of node 1 that they leave (empty if they leave none), and how many
 // edits are of user 5 and of changeset 7.
@@ -71,33 +72,22 @@ n1 v2 dV c7 t2024-01-01T00:00:00Z i5 ubea T x1 y2",
     ),
 ];
 
-#[test]
-fn what_is_no_script_is_not_judged(rt: HostRuntime) {
-    let refused = may_answer(rt.alloc(), b"show\nx\n", b"old\n").err();
-    assert_eq!(rt; refused, Some(RunFault::BadScript(2)));
-}
-
-// The changes of those lines.
-fn changes_of(alloc: Global, lines: &str) -> Result<Vec<Change>, Fail> {
-    let mut changes = Vec::new(alloc);
-    for line in lines.lines() {
-        changes.push(read_line(alloc, line.as_bytes())?)?;
-    }
-    Ok(changes)
-}
-
 // Whether the changes leave node 1 as on that line, or no node 1 if it is empty.
-fn leave_the_node(alloc: Global, changes: &[Change], left: &str) -> Result<bool, Fail> {
+fn leave_the_node(alloc: Global, changes: &[Change], left: &str) -> bool {
     let key = Key {
         kind: Kind::Node,
         id: 1,
     };
-    let Some(change) = plain_content_of(changes, key) else {
-        return Ok(left.is_empty());
-    };
+    match plain_content_of(changes, key) {
+        Some(change) => is_line(alloc, change, left),
+        None => left.is_empty(),
+    }
+}
+
+fn is_line(alloc: Global, change: &Change, text: &str) -> bool {
     let mut line = Vec::new(alloc);
-    write_line(change, &mut line)?;
-    Ok(line.as_slice() == left.as_bytes())
+    let is_written = write_line(change, &mut line).is_ok();
+    is_written && line.as_slice() == text.as_bytes()
 }
 
 // Whether so many of the changes are of user 5 and of changeset 7.
@@ -105,16 +95,32 @@ fn are_counted(changes: &[Change], users: usize, changesets: usize) -> bool {
     plain_edits_by_user(changes, 5) == users && plain_edits_by_changeset(changes, 7) == changesets
 }
 
+// Whether the definitions say that of the changes of those lines.
+fn is_said_of(alloc: Global, lines: &str, left: &str, (users, changesets): (usize, usize)) -> bool {
+    match Opl::read(alloc, lines.as_bytes()) {
+        Ok(batch) => {
+            let changes = batch.changes();
+            leave_the_node(alloc, changes, left) && are_counted(changes, users, changesets)
+        }
+        Err(_) => false,
+    }
+}
+
 #[test]
-fn the_definitions_say_what_a_person_expects(rt: HostRuntime) -> Result<(), Fail> {
-    let alloc = rt.alloc();
+fn the_definitions_say_what_a_person_expects(rt: HostRuntime) {
     for (name, lines, left, users, changesets) in LEFT {
-        let changes = changes_of(alloc, lines)?;
-        assert!(rt; leave_the_node(alloc, changes.as_slice(), left)?, "{name}");
         assert!(rt;
-            are_counted(changes.as_slice(), users, changesets),
+            is_said_of(rt.alloc(), lines, left, (users, changesets)),
             "{name}"
         );
     }
-    Ok(())
+}
+
+fn refusal(alloc: Global) -> Option<RunFault> {
+    may_answer(alloc, b"show\nx\n", b"old\n").err()
+}
+
+#[test]
+fn what_is_no_script_is_not_judged(rt: HostRuntime) {
+    assert!(rt; refusal(rt.alloc()) == Some(RunFault::BadScript(2)));
 }

@@ -1,0 +1,89 @@
+//! Tests of lines: read and written one by one, cut, and skipped; and of sequence numbers.
+
+use super::shown::is_shown;
+use osm_model::form::Why;
+use osm_opl::lines::{LineError, read_line, write_line};
+use osm_reading::lines::{is_skipped_line, split_line};
+use osm_reading::sequence::sequence_read;
+use std::alloc::Global;
+
+const NODE: &[u8] = b"n1 v1 dV c7 t2024-01-01T00:00:00Z i5 uann T x1 y2";
+
+// Whether the line is read, and its change then written as the same line, after what is there.
+fn is_written_again(alloc: Global, out: &mut Vec<u8>, line: &[u8]) -> bool {
+    let is_written = match read_line(alloc, line) {
+        Ok(change) => write_line(&change, out).is_ok(),
+        Err(_) => false,
+    };
+    is_written && out.as_slice().starts_with(NODE) && out.as_slice().ends_with(line)
+}
+
+#[test]
+fn lines_are_written_one_after_the_other(rt: HostRuntime) {
+    let mut out = Vec::new(rt.alloc());
+    let is_first = is_written_again(rt.alloc(), &mut out, NODE);
+    let is_second = is_written_again(rt.alloc(), &mut out, NODE);
+    let length = out.len();
+    assert!(rt; is_first && is_second && length == 2 * NODE.len());
+}
+
+// Why that line isn't read.
+fn refusal(alloc: Global, line: &[u8]) -> Option<LineError> {
+    read_line(alloc, line).err()
+}
+
+#[test]
+fn a_line_is_not_empty(rt: HostRuntime) {
+    let refused = refusal(rt.alloc(), b"");
+    assert!(rt; refused == Some(LineError::Fault(Why::BadKind)));
+}
+
+#[test]
+fn lines_are_cut_and_told_apart(rt: HostRuntime) {
+    let cases: [(&[u8], &[u8], Option<&[u8]>); 6] = [
+        (b"# a\r\r\nb", b"# a\r", Some(b"b")),
+        (b"b\r", b"b", None),
+        (b"", b"", None),
+        (b"\n", b"", Some(b"")),
+        (b"a\n\r", b"a", Some(b"\r")),
+        (b"a\rb\n\n", b"a\rb", Some(b"\n")),
+    ];
+    for (bytes, line, rest) in cases {
+        assert_eq!(rt; split_line(bytes), (line, rest));
+    }
+}
+
+#[test]
+fn only_empty_lines_and_those_of_a_number_sign_are_skipped(rt: HostRuntime) {
+    assert!(rt; is_skipped_line(b""));
+    for code in 0u32..256 {
+        let line = [code as u8, b'1'];
+        assert_eq!(rt; is_skipped_line(&line), code == 0x23, "{code}");
+    }
+}
+
+#[test]
+fn a_sequence_is_one_to_nine_digits(rt: HostRuntime) {
+    let cases: [(&[u8], Option<u32>); 11] = [
+        (b"0", Some(0)),
+        (b"7", Some(7)),
+        (b"000000012", Some(12)),
+        (b"999999999", Some(999_999_999)),
+        (b"", None),
+        (b"0000000001", None),
+        (b"1000000000", None),
+        (b"1a", None),
+        (b"+1", None),
+        (b"-1", None),
+        (b" 1", None),
+    ];
+    for (digits, number) in cases {
+        assert_eq!(rt; sequence_read(digits), number);
+    }
+}
+
+#[test]
+fn the_texts_of_refusals_are_their_names(rt: HostRuntime) {
+    assert!(rt; is_shown(rt.alloc(), &LineError::WantOfMemory, "WantOfMemory"));
+    assert!(rt; is_shown(rt.alloc(), &LineError::Fault(Why::BadText), "Fault"));
+}
