@@ -44,7 +44,7 @@ pub fn convert_run<S: Store>(
         return Err(RunFault::UnknownForm);
     };
     let bytes = read_present(alloc, store, FileName::Input, input, MAX_FILE as u64)?;
-    let text = convert(alloc, from, to, bytes.as_slice())?;
+    let text = convert(alloc, from, to, bytes)?;
     let report = convert_report(alloc);
     write_file(alloc, store, FileName::Output, output, text.as_slice())?;
     Ok(report)

@@ -1,7 +1,6 @@
 use Rattle.std.proofs.Common.{subst, sym, Some}
 use Rattle.std.specs.Prelude.{IsTrue}
 use Rattle.osm_folder.specs.Files.{Puts}
-use Rattle.osm_folder.specs.Forms.{Converts, ConvertRefused}
 use Rattle.osm_folder.proofs.ConversionLemmas.{text_stops, put_stops}
 use Rattle.osm_folder.proofs.ResultLemmas.{same_err}
 use Rattle.osm_folder.proofs.convert.convert_run.Goals as goal
@@ -11,7 +10,7 @@ returns-in_err-text-clause-stops g c =
     same_err _ c.from_residual-in_err-text.result _ c.from_residual-in_err-text.ensures.1
     (text_stops (IsTrue (g.S.Store.tells c.args.store.now)) c.args.input.now c.args.output.now c.in_ok-bytes.bytes.items (g.S.Store.told c.args.store.now)
     c.in-Some.from c.in-Some-form_of.to c.in-Some.ensures.found c.in-Some-form_of.ensures.found c.in_ok-bytes.ensures.read c.in_ok-bytes.ensures.within _
-    (subst (λ xs. ConvertRefused c.in-Some.from c.in-Some-form_of.to xs c.in_err-text.field-0.0) c.as_slice.ensures.value c.in_err-text.ensures.refused))
+    c.in_err-text.ensures.refused)
 
 pub returns-in_err-write_file-clause-stops : goal.returns-in_err-write_file-clause-stops
 returns-in_err-write_file-clause-stops g c =
@@ -24,7 +23,7 @@ returns-in_err-write_file-clause-stops g c =
       text = c.in_ok-text.text.items;
       there = c.in_ok-bytes.ensures.read yes;
       small = c.in_ok-bytes.ensures.within;
-      converts = subst (λ xs. Converts c.in-Some.from c.in-Some-form_of.to xs c.in_ok-text.text.items) c.as_slice.ensures.value c.in_ok-text.ensures.converted;
+      converts = c.in_ok-text.ensures.converted;
     }) _ c.in_err-write_file.ensures.stops)
 
 pub returns-clause-converted : goal.returns-clause-converted
@@ -37,8 +36,8 @@ returns-clause-converted g c = λ yes.
         text = c.in_ok-text.text.items;
         there = c.in_ok-bytes.ensures.read yes;
         small = c.in_ok-bytes.ensures.within;
-        converts = subst (λ xs. Converts c.in-Some.from c.in-Some-form_of.to xs c.in_ok-text.text.items) c.as_slice.ensures.value c.in_ok-text.ensures.converted;
+        converts = c.in_ok-text.ensures.converted;
       };
       put = subst (λ f. Puts f c.args.output.now (Some c.in_ok-text.text.items) (g.S.Store.told c.write_file.new.store)) c.read_present.ensures.unchanged
-          (subst (λ xs. Puts (g.S.Store.told c.read_present.new.store) c.args.output.now (Some xs) (g.S.Store.told c.write_file.new.store)) c.as_slice-2.ensures.value (c.in_ok-write_file.ensures.written then));
+          (subst (λ xs. Puts (g.S.Store.told c.read_present.new.store) c.args.output.now (Some xs) (g.S.Store.told c.write_file.new.store)) c.as_slice.ensures.value (c.in_ok-write_file.ensures.written then));
     }
