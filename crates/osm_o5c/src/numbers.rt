@@ -87,7 +87,7 @@ pub fn positive(bytes: &[u8]) -> Result<(u32, &[u8]), Why>
 }
 
 /// Appends an unsigned number in its fewest bytes.
-#[inline]
+#[inline(always)]
 pub fn write_unsigned(out: &mut Vec<u8>, number: u64) -> Result<(), WantOfMemory>
     ensures { OnOk result (out.new.items ≡ out.old.items ++ number_text number) }
 {
@@ -100,6 +100,7 @@ pub fn write_unsigned(out: &mut Vec<u8>, number: u64) -> Result<(), WantOfMemory
 }
 
 // Appends the varint of a number, in at most so many bytes.
+#[inline(never)]
 fn write_varint(out: &mut Vec<u8>, number: u64, most: usize) -> Result<(), WantOfMemory>
     ensures { OnOk result (out.new.items ≡ out.old.items ++ varint_text most number) }
 {
@@ -115,7 +116,7 @@ fn write_varint(out: &mut Vec<u8>, number: u64, most: usize) -> Result<(), WantO
 }
 
 /// Appends the difference of two numbers in its fewest bytes.
-#[inline]
+#[inline(always)]
 pub fn write_difference(out: &mut Vec<u8>, before: i64, value: i64) -> Result<(), WantOfMemory>
     ensures { OnOk result (out.new.items ≡ out.old.items ++ difference_text before value) }
 {
@@ -127,6 +128,7 @@ pub fn write_difference(out: &mut Vec<u8>, before: i64, value: i64) -> Result<()
     write_wide_difference(out, before, value)
 }
 
+#[inline(never)]
 fn write_wide_difference(out: &mut Vec<u8>, before: i64, value: i64) -> Result<(), WantOfMemory>
     ensures { OnOk result (out.new.items ≡ out.old.items ++ difference_text before value) }
 {
