@@ -1,7 +1,5 @@
-mod convert;
 mod files;
-mod follow;
-mod publish;
+mod runs;
 mod save;
 mod shown;
 mod store;

@@ -1,11 +1,19 @@
-//! A store of a few files, and what it holds.
+//! Runs over a store of a few files, and what they leave.
 
+use osm_folder::convert::convert_run;
+use osm_folder::fault::RunFault;
+use osm_folder::follow::follow_run;
+use osm_folder::lag::lag_run;
 use osm_folder::memory_store::MemoryStore;
+use osm_folder::publish::publish_run;
+use osm_folder::report::Report;
+use osm_folder::show::show_run;
+use osm_folder::store::Store;
+use osm_model::memory::WantOfMemory;
 use std::alloc::Global;
-use std::test::Fail;
 
 /// A node, as a file of the form OPL.
-pub const NODE: &str = "n1 v1 dV c7 t2024-01-01T00:00:00Z i5 uann T x1 y2\n";
+pub const NODE: &[u8] = b"n1 v1 dV c7 t2024-01-01T00:00:00Z i5 uann T x1 y2\n";
 
 /// The same in o5c (OSM wiki, O5m).
 pub const NODE_O5C: &[u8] =
@@ -13,7 +21,7 @@ pub const NODE_O5C: &[u8] =
       \x80\xda\xc4\x09\x80\xb4\x89\x13\xfe";
 
 /// A store that holds those files.
-pub fn store_with(alloc: Global, files: &[(&str, &[u8])]) -> Result<MemoryStore, Fail> {
+pub fn store_with(alloc: Global, files: &[(&str, &[u8])]) -> Result<MemoryStore, WantOfMemory> {
     let mut store = MemoryStore::new(alloc);
     for (name, bytes) in files {
         store.put(alloc, *name, *bytes)?;
@@ -27,4 +35,58 @@ pub fn is_file(store: &MemoryStore, name: &str, bytes: &[u8]) -> bool {
         None => false,
         Some(found) => found == bytes,
     }
+}
+
+/// Whether the store holds those files.
+pub fn are_files(store: &MemoryStore, files: &[(&str, &[u8])]) -> bool {
+    for (name, bytes) in files {
+        if !is_file(store, *name, *bytes) {
+            return false;
+        }
+    }
+    true
+}
+
+/// A run over the folder `dir`.
+#[derive(Clone, Copy, Debug)]
+pub enum Run {
+    /// Publishes the changes of `changes`, at New Year.
+    Publish,
+    /// Follows with the save `save`.
+    Follow,
+    /// Prints the lag of that save.
+    Lag,
+    /// Shows that save.
+    Show,
+    /// Converts `a.opl` into `b.o5c`.
+    Convert,
+}
+
+/// How the run ends over that store.
+pub fn outcome<S: Store>(alloc: Global, store: &mut S, run: Run) -> Result<Report, RunFault> {
+    match run {
+        Run::Publish => publish_run(alloc, store, "dir", "changes", "2024-01-01T00:00:00Z"),
+        Run::Follow => follow_run(alloc, store, "dir", "save"),
+        Run::Lag => lag_run(alloc, store, "dir", "save"),
+        Run::Show => show_run(alloc, store, "save"),
+        Run::Convert => convert_run(alloc, store, "a.opl", "b.o5c"),
+    }
+}
+
+/// Whether the run prints that text and ends with that status.
+pub fn reports<S: Store>(
+    alloc: Global,
+    store: &mut S,
+    kind: Run,
+    (status, text): (u8, &str),
+) -> bool {
+    match outcome(alloc, store, kind) {
+        Ok(report) => report.status() == status && report.text() == text.as_bytes(),
+        Err(_) => false,
+    }
+}
+
+/// Why the run isn't done.
+pub fn refusal<S: Store>(alloc: Global, store: &mut S, kind: Run) -> Option<RunFault> {
+    outcome(alloc, store, kind).err()
 }

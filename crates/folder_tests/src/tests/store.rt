@@ -3,7 +3,9 @@
 use super::files::{is_file, store_with};
 use super::shown::is_shown;
 use osm_folder::fault::{FileName, RunFault};
+use osm_folder::form::{Form, form_of};
 use osm_folder::fuse::Fuse;
+use osm_folder::memory_store::MemoryStore;
 use osm_folder::names::{file_name, top_name};
 use osm_folder::report::{follow_report, lag_report};
 use osm_folder::store::{Store, StoreError};
@@ -11,7 +13,6 @@ use osm_model::form::Why;
 use osm_state::paths::Suffix;
 use osm_state::state_text::StateError;
 use std::alloc::Global;
-use std::test::Fail;
 
 // Whether a file is read so, if at most so many bytes are asked for.
 fn is_read<S: Store>(
@@ -27,36 +28,57 @@ fn is_read<S: Store>(
     }
 }
 
-#[test]
-fn a_store_in_memory_holds_what_was_put(rt: HostRuntime) -> Result<(), Fail> {
-    let alloc = rt.alloc();
-    let files = [("a", b"one".as_slice()), ("b", b"two".as_slice())];
-    let mut store = store_with(alloc, files.as_slice())?;
-    store.put(alloc, "a", b"three")?;
+// Whether a store of two files holds what was put, and no longer what was removed.
+fn holds_what_was_put(alloc: Global, store: &mut MemoryStore) -> bool {
+    let is_put = store.put(alloc, "a", b"three").is_ok();
     store.remove("b");
     store.remove("c");
-    assert!(rt; is_file(&store, "a", b"three") && store.get("b").is_none());
-    let three = Ok(Some(b"three".as_slice()));
-    assert!(rt; is_read(alloc, &mut store, ("a", 5), three));
-    assert!(rt; is_read(alloc, &mut store, ("a", 4), Err(StoreError::TooLarge)));
-    assert!(rt; is_read(alloc, &mut store, ("b", 4), Ok(None)));
-    assert_eq!(rt; store.write(alloc, "b", b"four"), Ok(()));
-    assert!(rt; is_file(&store, "b", b"four"));
-    Ok(())
+    is_put && is_file(store, "a", b"three") && store.get("b").is_none()
+}
+
+fn reads_and_writes(alloc: Global, store: &mut MemoryStore) -> bool {
+    let is_whole = is_read(alloc, store, ("a", 5), Ok(Some(b"three".as_slice())));
+    let is_too_large = is_read(alloc, store, ("a", 4), Err(StoreError::TooLarge));
+    let is_gone = is_read(alloc, store, ("b", 4), Ok(None));
+    let is_written = store.write(alloc, "b", b"four") == Ok(()) && is_file(store, "b", b"four");
+    is_whole && is_too_large && is_gone && is_written
+}
+
+fn is_a_store(alloc: Global) -> bool {
+    match store_with(alloc, &[("a", b"one"), ("b", b"two")]) {
+        Ok(mut store) => {
+            holds_what_was_put(alloc, &mut store) && reads_and_writes(alloc, &mut store)
+        }
+        Err(_) => false,
+    }
 }
 
 #[test]
-fn a_fuse_passes_on_so_many_calls(rt: HostRuntime) -> Result<(), Fail> {
-    let alloc = rt.alloc();
-    let store = store_with(alloc, [("a", b"one".as_slice())].as_slice())?;
+fn a_store_in_memory_holds_what_was_put(rt: HostRuntime) {
+    assert!(rt; is_a_store(rt.alloc()));
+}
+
+// Whether a fuse with two calls left passes them on, and no more.
+fn passes_two_calls(alloc: Global, fuse: &mut Fuse<MemoryStore>) -> bool {
+    let is_first = is_read(alloc, fuse, ("a", 3), Ok(Some(b"one".as_slice())));
+    let is_second = fuse.write(alloc, "a", b"two") == Ok(());
+    let is_refused = fuse.write(alloc, "a", b"three") == Err(StoreError::Device);
+    let is_unread = is_read(alloc, fuse, ("a", 3), Err(StoreError::Device));
+    is_first && is_second && is_refused && is_unread
+}
+
+fn is_a_fuse(alloc: Global) -> bool {
+    let Ok(store) = store_with(alloc, &[("a", b"one")]) else {
+        return false;
+    };
     let mut fuse = Fuse::new(store, 2);
-    let one = Ok(Some(b"one".as_slice()));
-    assert!(rt; is_read(alloc, &mut fuse, ("a", 3), one));
-    assert_eq!(rt; fuse.write(alloc, "a", b"two"), Ok(()));
-    assert_eq!(rt; fuse.write(alloc, "a", b"three"), Err(StoreError::Device));
-    assert!(rt; is_read(alloc, &mut fuse, ("a", 3), Err(StoreError::Device)));
-    assert!(rt; is_file(&fuse.into_inner(), "a", b"two"));
-    Ok(())
+    let is_passing = passes_two_calls(alloc, &mut fuse);
+    is_passing && is_file(&fuse.into_inner(), "a", b"two")
+}
+
+#[test]
+fn a_fuse_passes_on_so_many_calls(rt: HostRuntime) {
+    assert!(rt; is_a_fuse(rt.alloc()));
 }
 
 // Ranges that were applied, numbers that are missing, the number reached, and the report.
@@ -78,59 +100,71 @@ fn is_follow_report(
     alloc: Global,
     (applied, missing, number): (&[(u32, u32)], &[u32], u32),
     (status, text): (u8, &str),
-) -> Result<bool, Fail> {
-    let report = follow_report(alloc, applied, missing, number)?;
-    Ok(report.status() == status && report.text() == text.as_bytes())
+) -> bool {
+    match follow_report(alloc, applied, missing, number) {
+        Ok(report) => report.status() == status && report.text() == text.as_bytes(),
+        Err(_) => false,
+    }
 }
 
 #[test]
-fn a_follower_reports_a_line_for_each_range_and_each_gap(rt: HostRuntime) -> Result<(), Fail> {
+fn a_follower_reports_a_line_for_each_range_and_each_gap(rt: HostRuntime) {
     for (applied, missing, number, status, text) in FOLLOWED {
         let followed = (applied, missing, number);
         assert!(rt;
-            is_follow_report(rt.alloc(), followed, (status, text))?,
+            is_follow_report(rt.alloc(), followed, (status, text)),
             "{text}"
         );
     }
-    Ok(())
 }
 
 // Whether a lag is reported so.
-fn is_lag_report(
-    alloc: Global,
-    behind: u32,
-    seconds: Option<u32>,
-    text: &str,
-) -> Result<bool, Fail> {
-    let report = lag_report(alloc, behind, seconds)?;
-    Ok(report.status() == 0 && report.text() == text.as_bytes())
-}
-
-#[test]
-fn a_lag_is_two_lines(rt: HostRuntime) -> Result<(), Fail> {
-    let alloc = rt.alloc();
-    assert!(rt; is_lag_report(alloc, 3, Some(180), "behind 3\nseconds 180\n")?);
-    assert!(rt; is_lag_report(alloc, 4, None, "behind 4\nseconds none\n")?);
-    Ok(())
-}
-
-fn is_top_name(alloc: Global, dir: &str, text: &str) -> Result<bool, Fail> {
-    Ok(top_name(alloc, dir)?.as_str() == text)
-}
-
-fn is_file_name(alloc: Global, number: u32, suffix: Suffix, text: &str) -> Result<bool, Fail> {
-    if 999_999_999 < number {
-        return Ok(false);
+fn is_lag_report(alloc: Global, behind: u32, seconds: Option<u32>, text: &str) -> bool {
+    match lag_report(alloc, behind, seconds) {
+        Ok(report) => report.status() == 0 && report.text() == text.as_bytes(),
+        Err(_) => false,
     }
-    Ok(file_name(alloc, "a", number, suffix)?.as_str() == text)
 }
 
 #[test]
-fn names_are_the_folder_and_the_path(rt: HostRuntime) -> Result<(), Fail> {
-    let alloc = rt.alloc();
-    assert!(rt; is_top_name(alloc, "a/b", "a/b/state.txt")?);
-    assert!(rt; is_file_name(alloc, 1_002_003, Suffix::Opl, "a/001/002/003.opl")?);
-    Ok(())
+fn a_lag_is_two_lines(rt: HostRuntime) {
+    assert!(rt; is_lag_report(rt.alloc(), 3, Some(180), "behind 3\nseconds 180\n"));
+    assert!(rt; is_lag_report(rt.alloc(), 4, None, "behind 4\nseconds none\n"));
+}
+
+fn is_top_name(alloc: Global, dir: &str, text: &str) -> bool {
+    match top_name(alloc, dir) {
+        Ok(name) => name.as_str() == text,
+        Err(_) => false,
+    }
+}
+
+fn is_file_name(alloc: Global, suffix: Suffix, text: &str) -> bool {
+    match file_name(alloc, "a", 1_002_003, suffix) {
+        Ok(name) => name.as_str() == text,
+        Err(_) => false,
+    }
+}
+
+#[test]
+fn names_are_the_folder_and_the_path(rt: HostRuntime) {
+    assert!(rt; is_top_name(rt.alloc(), "a/b", "a/b/state.txt"));
+    assert!(rt; is_file_name(rt.alloc(), Suffix::Opl, "a/001/002/003.opl"));
+}
+
+#[test]
+fn the_end_of_a_name_tells_the_form(rt: HostRuntime) {
+    for (name, form) in [
+        ("a.opl", Some(Form::Opl)),
+        ("a.opl.o5c", Some(Form::O5c)),
+        (".opl", Some(Form::Opl)),
+        ("opl", None),
+        ("a.opl ", None),
+        ("a.o5m", None),
+        ("", None),
+    ] {
+        assert!(rt; form_of(name) == form, "{name}");
+    }
 }
 
 // A fault, its text and its exit status.
@@ -191,22 +225,16 @@ const FAULTS: [(RunFault, &str, u8); 18] = [
 ];
 
 #[test]
-fn faults_of_runs_say_the_file_and_what_was_wrong(rt: HostRuntime) -> Result<(), Fail> {
+fn faults_of_runs_say_the_file_and_what_was_wrong(rt: HostRuntime) {
     for (fault, text, status) in FAULTS {
-        assert!(rt; is_shown(rt.alloc(), &fault, text)?, "{text}");
-        assert_eq!(rt; fault.status(), status, "{text}");
+        let is_said = is_shown(rt.alloc(), &fault, text) && fault.status() == status;
+        assert!(rt; is_said, "{text}");
     }
-    Ok(())
 }
 
 #[test]
-fn errors_of_stores_print_their_names(rt: HostRuntime) -> Result<(), Fail> {
-    for (error, text) in [
-        (StoreError::Device, "Device"),
-        (StoreError::TooLarge, "TooLarge"),
-        (StoreError::WantOfMemory, "WantOfMemory"),
-    ] {
-        assert!(rt; is_shown(rt.alloc(), &error, text)?, "{text}");
-    }
-    Ok(())
+fn errors_of_stores_print_their_names(rt: HostRuntime) {
+    assert!(rt; is_shown(rt.alloc(), &StoreError::Device, "Device"));
+    assert!(rt; is_shown(rt.alloc(), &StoreError::TooLarge, "TooLarge"));
+    assert!(rt; is_shown(rt.alloc(), &StoreError::WantOfMemory, "WantOfMemory"));
 }

@@ -1,0 +1,272 @@
+//! Tests of runs in memory: what each prints and writes, and what is left when each call of its
+//! store fails in turn.
+
+use super::files::{
+    NODE, NODE_O5C, Run, are_files, is_file, outcome, refusal, reports, store_with,
+};
+use osm_folder::fault::{FileName, RunFault};
+use osm_folder::fuse::Fuse;
+use osm_folder::memory_store::MemoryStore;
+use osm_folder::publish::publish_run;
+use osm_state::paths::Suffix;
+use std::alloc::Global;
+
+const EMPTY_O5C: &[u8] = b"\xff\xe0\x04o5c2\xfe";
+
+const STATE_1: &[u8] = b"sequenceNumber=1\ntimestamp=2024-01-01T00\\:00\\:00Z\n";
+
+const STATE_2: &[u8] = b"sequenceNumber=2\ntimestamp=2024-01-01T00\\:01\\:00Z\n";
+
+const STATE_3: &[u8] = b"sequenceNumber=3\ntimestamp=2024-01-01T00\\:02\\:00Z\n";
+
+const STATE_4: &[u8] = b"sequenceNumber=4\ntimestamp=2024-01-01T00\\:03\\:00Z\n";
+
+const TOP_100: &[u8] = b"sequenceNumber=100\ntimestamp=2024-01-01T00\\:00\\:00Z\n";
+
+const EMPTY_SAVE_4: &[u8] = b"osmrepl-save 1\nsequence 4\ntime 2024-01-01T00:03:00Z\nobjects 0\n\
+    users 0\nchangesets 0\nend\n";
+
+const SAVE_1: &[u8] = b"osmrepl-save 1\nsequence 1\ntime 2024-01-01T00:00:00Z\nobjects 1\n\
+    n1 v1 dV c7 t2024-01-01T00:00:00Z i5 uann T x1 y2\nusers 1\n5 1\nchangesets 1\n7 1\nend\n";
+
+const SHOWN_1: &str = "number 1\ntime 2024-01-01T00:00:00Z\nobjects 1\n\
+    n1 v1 dV c7 t2024-01-01T00:00:00Z i5 uann T x1 y2\nusers 1\n5 1\nchangesets 1\n7 1\nheld 0\n";
+
+const ALL_APPLIED: &str = "applied 1..1\napplied 2..2\napplied 3..3\napplied 4..4\nnumber 4\n";
+
+// The files that a run reads, and those that it writes, in their order.
+struct Case<'a> {
+    run: Run,
+    files: &'a [(&'a str, &'a [u8])],
+    written: &'a [(&'a str, &'a [u8])],
+}
+
+const PUBLISH: Case = Case {
+    run: Run::Publish,
+    files: &[("changes", NODE)],
+    written: &[
+        ("dir/000/000/001.o5c", NODE_O5C),
+        ("dir/000/000/001.opl", NODE),
+        ("dir/000/000/001.state.txt", STATE_1),
+        ("dir/state.txt", STATE_1),
+    ],
+};
+
+// A folder of four empty sequences.
+const FOUR: &[(&str, &[u8])] = &[
+    ("dir/state.txt", STATE_4),
+    ("dir/000/000/001.state.txt", STATE_1),
+    ("dir/000/000/001.o5c", EMPTY_O5C),
+    ("dir/000/000/002.state.txt", STATE_2),
+    ("dir/000/000/002.o5c", EMPTY_O5C),
+    ("dir/000/000/003.state.txt", STATE_3),
+    ("dir/000/000/003.o5c", EMPTY_O5C),
+    ("dir/000/000/004.state.txt", STATE_4),
+    ("dir/000/000/004.o5c", EMPTY_O5C),
+];
+
+const FOLLOW: Case = Case {
+    run: Run::Follow,
+    files: FOUR,
+    written: &[("save", EMPTY_SAVE_4)],
+};
+
+const LAG: Case = Case {
+    run: Run::Lag,
+    files: FOUR,
+    written: &[],
+};
+
+const SHOW: Case = Case {
+    run: Run::Show,
+    files: &[("save", SAVE_1)],
+    written: &[],
+};
+
+const CONVERT: Case = Case {
+    run: Run::Convert,
+    files: &[("a.opl", NODE)],
+    written: &[("b.o5c", NODE_O5C)],
+};
+
+// Whether the run prints that text with status 0, writes its files and keeps those that it reads.
+fn is_done(alloc: Global, case: &Case, text: &str) -> bool {
+    let Ok(mut store) = store_with(alloc, case.files) else {
+        return false;
+    };
+    let is_printed = reports(alloc, &mut store, case.run, (0, text));
+    is_printed && are_files(&store, case.written) && are_files(&store, case.files)
+}
+
+#[test]
+fn each_run_prints_and_writes_what_a_person_expects(rt: HostRuntime) {
+    for (case, text) in [
+        (&PUBLISH, "published 1\n"),
+        (&FOLLOW, ALL_APPLIED),
+        (&LAG, "behind 4\nseconds none\n"),
+        (&SHOW, SHOWN_1),
+        (&CONVERT, ""),
+    ] {
+        assert!(rt; is_done(rt.alloc(), case, text), "{text}");
+    }
+}
+
+// Whether the store holds the first files that the run writes, so many, and none of the others.
+fn holds_the_first(store: &MemoryStore, case: &Case, count: usize) -> bool {
+    for (index, (name, bytes)) in case.written.iter().enumerate() {
+        let is_written = is_file(store, *name, *bytes);
+        if is_written != (index < count) || store.get(*name).is_some() != is_written {
+            return false;
+        }
+    }
+    are_files(store, case.files)
+}
+
+// Whether the run over a store that stops after so many calls makes them all, ends with that fault,
+// and leaves so many of the files that it writes.
+fn is_stopped(
+    alloc: Global,
+    case: &Case,
+    (calls, count): (u64, usize),
+    fault: Option<RunFault>,
+) -> bool {
+    let Ok(store) = store_with(alloc, case.files) else {
+        return false;
+    };
+    let mut fuse = Fuse::new(store, calls);
+    let is_refused = refusal(alloc, &mut fuse, case.run) == fault && fuse.calls() == 0;
+    is_refused && holds_the_first(&fuse.into_inner(), case, count)
+}
+
+fn read_fault(number: u32, suffix: Suffix) -> Option<RunFault> {
+    Some(RunFault::ReadFault(FileName::Sequence(number, suffix)))
+}
+
+fn write_fault(suffix: Suffix) -> Option<RunFault> {
+    Some(RunFault::WriteFault(FileName::Sequence(1, suffix)))
+}
+
+#[test]
+fn each_store_call_of_a_publication_failing_in_turn(rt: HostRuntime) {
+    for (calls, count, fault) in [
+        (0, 0, Some(RunFault::ReadFault(FileName::Top))),
+        (1, 0, Some(RunFault::ReadFault(FileName::Changes))),
+        (2, 0, write_fault(Suffix::O5c)),
+        (3, 1, write_fault(Suffix::Opl)),
+        (4, 2, write_fault(Suffix::State)),
+        (5, 3, Some(RunFault::WriteFault(FileName::Top))),
+        (6, 4, None),
+    ] {
+        assert!(rt;
+            is_stopped(rt.alloc(), &PUBLISH, (calls, count), fault),
+            "{calls}"
+        );
+    }
+}
+
+#[test]
+fn each_store_call_of_a_follower_failing_in_turn(rt: HostRuntime) {
+    for (calls, count, fault) in [
+        (0, 0, Some(RunFault::ReadFault(FileName::Save))),
+        (1, 0, Some(RunFault::ReadFault(FileName::Top))),
+        (2, 0, read_fault(1, Suffix::State)),
+        (3, 0, read_fault(1, Suffix::O5c)),
+        (4, 0, read_fault(2, Suffix::State)),
+        (5, 0, read_fault(2, Suffix::O5c)),
+        (6, 0, read_fault(3, Suffix::State)),
+        (7, 0, read_fault(3, Suffix::O5c)),
+        (8, 0, read_fault(4, Suffix::State)),
+        (9, 0, read_fault(4, Suffix::O5c)),
+        (10, 0, Some(RunFault::WriteFault(FileName::Save))),
+        (11, 1, None),
+    ] {
+        assert!(rt;
+            is_stopped(rt.alloc(), &FOLLOW, (calls, count), fault),
+            "{calls}"
+        );
+    }
+}
+
+#[test]
+fn each_store_call_of_the_other_runs_failing_in_turn(rt: HostRuntime) {
+    for (case, calls, count, fault) in [
+        (&LAG, 0, 0, Some(RunFault::ReadFault(FileName::Save))),
+        (&LAG, 1, 0, Some(RunFault::ReadFault(FileName::Top))),
+        (&LAG, 2, 0, None),
+        (&SHOW, 0, 0, Some(RunFault::ReadFault(FileName::Save))),
+        (&SHOW, 1, 0, None),
+        (&CONVERT, 0, 0, Some(RunFault::ReadFault(FileName::Input))),
+        (&CONVERT, 1, 0, Some(RunFault::WriteFault(FileName::Output))),
+        (&CONVERT, 2, 1, None),
+    ] {
+        assert!(rt;
+            is_stopped(rt.alloc(), case, (calls, count), fault),
+            "{fault:?}"
+        );
+    }
+}
+
+// What a run leaves that is stopped after so many calls.
+fn left_after(alloc: Global, case: &Case, calls: u64) -> Option<MemoryStore> {
+    let store = store_with(alloc, case.files).ok()?;
+    let mut fuse = Fuse::new(store, calls);
+    let _ = refusal(alloc, &mut fuse, case.run)?;
+    Some(fuse.into_inner())
+}
+
+// Whether a publication that was cut off is made again, of other changes.
+fn is_published_again(alloc: Global, store: &mut MemoryStore) -> bool {
+    let had_node = is_file(store, "dir/000/000/001.opl", NODE);
+    let is_put = store.put(alloc, "changes", b"").is_ok();
+    let is_again = reports(alloc, store, Run::Publish, (0, "published 1\n"));
+    had_node && is_put && is_again && is_file(store, "dir/000/000/001.opl", b"")
+}
+
+#[test]
+fn a_publication_that_was_cut_off_is_made_again(rt: HostRuntime) {
+    let is_so = match left_after(rt.alloc(), &PUBLISH, 4) {
+        Some(mut store) => is_published_again(rt.alloc(), &mut store),
+        None => false,
+    };
+    assert!(rt; is_so);
+}
+
+#[test]
+fn a_follower_that_was_cut_off_follows_again(rt: HostRuntime) {
+    let is_so = match left_after(rt.alloc(), &FOLLOW, 10) {
+        Some(mut store) => reports(rt.alloc(), &mut store, Run::Follow, (0, ALL_APPLIED)),
+        None => false,
+    };
+    assert!(rt; is_so);
+}
+
+// Whether a follower of a top far ahead asks for the save, the top and the numbers of the window.
+fn asks_for_the_window(alloc: Global) -> bool {
+    let Ok(store) = store_with(alloc, &[("dir/state.txt", TOP_100)]) else {
+        return false;
+    };
+    let mut fuse = Fuse::new(store, 67);
+    let is_reported = match outcome(alloc, &mut fuse, Run::Follow) {
+        Ok(report) => report
+            .text()
+            .ends_with(b"missing 63\nmissing 64\nnumber 0\n"),
+        Err(_) => false,
+    };
+    is_reported && fuse.calls() == 0
+}
+
+#[test]
+fn no_number_past_the_window_is_asked_for(rt: HostRuntime) {
+    assert!(rt; asks_for_the_window(rt.alloc()));
+}
+
+// Why a publication at a wrong time isn't made, over a store that takes no call.
+fn refusal_at_no_time(alloc: Global) -> Option<RunFault> {
+    let mut fuse = Fuse::new(MemoryStore::new(alloc), 0);
+    publish_run(alloc, &mut fuse, "dir", "changes", "2024").err()
+}
+
+#[test]
+fn a_time_that_is_wrong_is_refused_before_any_call(rt: HostRuntime) {
+    assert!(rt; refusal_at_no_time(rt.alloc()) == Some(RunFault::BadNow));
+}
