@@ -1,6 +1,6 @@
 -- What has been written so far.
 use Rattle.std.proofs.Common.{◌≡◌, ℕ, zero, suc, ◌+◌, ◌-◌, ◌*◌, ◌/◌, ◌%◌, ◌^◌, ◌<◌, ◌≤◌, Bool, true, false, cond, List, [], ◌∷◌, ◌++◌, length, get_or, take, drop, refl, sym, ap, ◌∙◌, append_assoc, arith, lit<}
-use Rattle.std.specs.Prelude.{Result, Ok, Err, OnErr, ◌==◌, ◌&&◌, min, nat_le, not}
+use Rattle.std.specs.Prelude.{Result, Ok, Err, OnErr, ◌==◌, ◌&&◌, min, nat_le, nat_lt, not}
 use Rattle.std.specs.Io.{StartsWith}
 use Rattle.std.proofs.Math.Nat.{pow-suc, pow-le-pow_right, one-le-pow, mod-lt, div-lt_iff_lt-mul}
 use Rattle.std.proofs.lemmas.Bool.Decides.{nat_tests}
@@ -14,7 +14,7 @@ use Rattle.osm_model.specs.Change.{ChangeValue}
 use Rattle.osm_model.specs.Limits.{max_file}
 use Rattle.osm_reading.proofs.StepLemmas.{both_held}
 use Rattle.osm_opl.specs.Escape.{is_reserved}
-use Rattle.osm_opl.specs.Written.{is_written_bare, line_text, opl_text, char_text, chars_text, escaped_text, decimals, hex_digits, more_items, items_text}
+use Rattle.osm_opl.specs.Written.{hex_count, is_written_bare, line_text, opl_text, char_text, chars_text, escaped_text, decimals, hex_digits, more_items, items_text}
 
 -- what was appended stands behind what was there
 pub starts_append : (old prefix : List ℕ) → StartsWith (old ++ prefix) old
@@ -102,6 +102,15 @@ fraction_done old new part rest scale h e =
     writes_all old new (decimals 7 part) (rw none at h.writes)
 
 -- ---- hexadecimal digits
+
+-- the escape of a code below 256 has two digits
+pub two_hex_digits : (c : ℕ) → c < 256 → hex_digits (hex_count c) c ≡ digit_char (c / 16) ∷ digit_char (c % 16) ∷ []
+unfolding hex_digits
+two_hex_digits c h =
+    let test : nat_lt c 0x100 ≡ true = grind (arith, nat_tests) in
+    let first : c / 16 ^ 1 % 16 ≡ c / 16 = omega arith in
+    let second : c / 16 ^ 0 % 16 ≡ c % 16 = omega arith in
+    rw test (rw (first, second) refl)
 
 pub record HexWritten (old new : List ℕ) (code count left : ℕ) : Type 0 where
   pub few : left ≤ 6
