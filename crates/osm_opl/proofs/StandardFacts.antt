@@ -1,11 +1,11 @@
 -- The definitions at values that a person knows: the examples of the Osmium manual's page, and the
 -- edges of our own choices.
-use Rattle.std.proofs.Common.{◌≡◌, ℕ, zero, suc, ◌+◌, List, [], ◌∷◌, ◌++◌, Some, None, refl}
+use Rattle.std.proofs.Common.{◌≡◌, ℕ, zero, suc, ◌+◌, List, [], ◌∷◌, Some, None, refl}
 use Rattle.std.specs.Prelude.{codes, filter, not, pos, negsuc}
 use Rattle.std.specs.Fmt.{digits}
 use Rattle.osm_opl.specs.Escape.{is_reserved}
 use Rattle.osm_opl.specs.Steps.Reading.{digits_at, escape_at}
-use Rattle.osm_opl.specs.Written.{char_text, coordinate_text, decimals, hex_digits, is_written_bare, line_text}
+use Rattle.osm_opl.specs.Written.{char_text, coordinate_text, decimals, hex_digits, is_written_bare}
 
 -- so many numbers from the first on
 numbers_from : ℕ → ℕ → List ℕ

@@ -16,6 +16,9 @@ use osm_reading::pieces::cut;
 
 const UNITS: u32 = 10_000_000;
 
+// The units of the first decimal.
+const FIRST_DECIMAL: u32 = 1_000_000;
+
 /// A coordinate in degrees, as `-0.1`, or nothing.
 #[tactic(auto, unfolding(crate::specs::Steps::Reading::maybe_coordinate_at))]
 pub(crate) fn read_maybe_coordinate(bytes: &[u8], most: i32) -> Result<Option<i32>, Why>
@@ -118,17 +121,19 @@ fn write_fraction(part: u32, out: &mut Vec<u8>) -> Result<(), WantOfMemory>
     Ok(())
 }
 
+// The next digit is always the first of seven, so that each division is by one constant; `left` says
+// how many may follow.
 fn write_decimals(part: u32, out: &mut Vec<u8>) -> Result<(), WantOfMemory>
     requires { part < 10 ^ 7 }
     ensures ok { OnOk result (out.new.items ≡ out.old.items ++ decimals 7 part) }
     ensures err { OnErr result (StartsWith out.new.items out.old.items) }
 {
     let mut rest = part;
-    let mut scale = UNITS;
+    let mut left: u32 = 7;
     while rest > 0 {
-        scale /= 10;
-        out.push(b'0' + (rest / scale) as u8)?;
-        rest %= scale;
+        left -= 1;
+        out.push(b'0' + (rest / FIRST_DECIMAL) as u8)?;
+        rest = rest % FIRST_DECIMAL * 10;
     }
     Ok(())
 }

@@ -2,7 +2,7 @@
 //! `%DIGITS%` with the hexadecimal digits of its code.
 
 ghost use Rattle.std.specs.Prelude.{◌≡◌, ◌-◌, ◌^◌, ◌<◌, ◌≤◌, ◌++◌, length, min, option_map};
-ghost use Rattle.std.specs.Prelude.{true, string_bytes, if◌then◌else◌, Some, None};
+ghost use Rattle.std.specs.Prelude.{true, string_bytes, if◌then◌else◌, Some, None, ◌∷◌, []};
 ghost use Rattle.std.specs.Prelude.{IfErr, OnOk, OnErr};
 ghost use Rattle.std.specs.Char.{digit_char, encode_utf8};
 ghost use Rattle.std.specs.Io.{StartsWith};
@@ -210,9 +210,25 @@ fn write_char(character: char, out: &mut Vec<u8>) -> Result<(), WantOfMemory>
         out.push(code as u8)?;
         return Ok(());
     }
+    if code < 0x100 {
+        return write_short_escape(code, out);
+    }
     out.push(b'%')?;
     write_hex(code, digit_count(code), out)?;
     out.push(b'%')?;
+    Ok(())
+}
+
+// An escape of two digits.
+fn write_short_escape(code: u32, out: &mut Vec<u8>) -> Result<(), WantOfMemory>
+    requires { code < 0x100 }
+    ensures ok { OnOk result (out.new.items
+        ≡ out.old.items ++ (37 ∷ hex_digits (hex_count code) code ++ 37 ∷ [])) }
+    ensures err { OnErr result (StartsWith out.new.items out.old.items) }
+{
+    let first = hex_digit((code / 16) as u8);
+    let second = hex_digit((code % 16) as u8);
+    out.extend_from_slice(&[b'%', first, second, b'%'])?;
     Ok(())
 }
 

@@ -1,6 +1,6 @@
 //! Lists: tags, the nodes of a way and the members of a relation, with commas between the items.
 
-ghost use Rattle.std.specs.Prelude.{◌≡◌, ◌<◌, ◌++◌, ◌∷◌, [], length, if◌then◌else◌, Some};
+ghost use Rattle.std.specs.Prelude.{◌≡◌, ◌<◌, ◌≤◌, ◌++◌, ◌∷◌, [], length, if◌then◌else◌, Some};
 ghost use Rattle.std.specs.Prelude.{IfOk, IfSome, OnOk, OnErr};
 ghost use Rattle.std.specs.Io.{StartsWith};
 ghost use Rattle.osm_opl.specs.Lists.{letter_of};
@@ -30,14 +30,34 @@ fn first_item(bytes: &[u8]) -> Option<&[u8]>
     if bytes.is_empty() { None } else { Some(bytes) }
 }
 
+// How many items to make room for: as many as there are pieces, but no more than are read.
+fn room_for(bytes: &[u8], most: usize) -> usize
+    ensures { result ≤ most }
+{
+    if bytes.is_empty() {
+        return 0;
+    }
+    commas(bytes).saturating_add(1).min(most)
+}
+
+fn commas(bytes: &[u8]) -> usize
+    ensures { result ≤ length bytes.now }
+{
+    let mut count = 0;
+    for byte in bytes {
+        count += (*byte == b',') as usize;
+    }
+    count
+}
+
 /// At most 5,000 tags.
 pub(crate) fn read_tags(alloc: Global, bytes: &[u8]) -> Result<Tags, Refusal>
     ensures { Gives (λ t. t) result (list_at tag_at 5000 bytes.now) }
 {
-    let mut tags = Tags::new(alloc);
+    let mut tags = Vec::with_capacity(alloc, room_for(bytes, MAX_TAGS))?;
     let mut rest = first_item(bytes);
     while let Some(items) = rest {
-        if tags.as_slice().len() >= MAX_TAGS {
+        if tags.len() >= MAX_TAGS {
             return Err(Refusal::Fault(Why::TooMany));
         }
         let (item, after) = cut(items, b',');
@@ -47,7 +67,7 @@ pub(crate) fn read_tags(alloc: Global, bytes: &[u8]) -> Result<Tags, Refusal>
         }
         rest = after;
     }
-    Ok(tags)
+    Ok(Tags::from_vec(tags))
 }
 
 // `KEY=VALUE`
@@ -69,10 +89,10 @@ fn read_tag(alloc: Global, bytes: &[u8]) -> Result<Tag, Refusal>
 pub(crate) fn read_refs(alloc: Global, bytes: &[u8]) -> Result<Refs, Refusal>
     ensures { Gives (λ r. r) result (list_at ref_at 32000 bytes.now) }
 {
-    let mut refs = Refs::new(alloc);
+    let mut refs = Vec::with_capacity(alloc, room_for(bytes, MAX_REFS))?;
     let mut rest = first_item(bytes);
     while let Some(items) = rest {
-        if refs.as_slice().len() >= MAX_REFS {
+        if refs.len() >= MAX_REFS {
             return Err(Refusal::Fault(Why::TooMany));
         }
         match next_ref(items) {
@@ -83,7 +103,7 @@ pub(crate) fn read_refs(alloc: Global, bytes: &[u8]) -> Result<Refs, Refusal>
             Err(why) => return Err(Refusal::Fault(why)),
         }
     }
-    Ok(refs)
+    Ok(Refs::from_vec(refs))
 }
 
 // The first node, and what follows the comma after it.
@@ -136,10 +156,10 @@ fn read_ref(bytes: &[u8]) -> Result<i64, Why>
 pub(crate) fn read_members(alloc: Global, bytes: &[u8]) -> Result<Members, Refusal>
     ensures { Gives (λ m. m) result (list_at member_at 32000 bytes.now) }
 {
-    let mut members = Members::new(alloc);
+    let mut members = Vec::with_capacity(alloc, room_for(bytes, MAX_REFS))?;
     let mut rest = first_item(bytes);
     while let Some(items) = rest {
-        if members.as_slice().len() >= MAX_REFS {
+        if members.len() >= MAX_REFS {
             return Err(Refusal::Fault(Why::TooMany));
         }
         let (item, after) = cut(items, b',');
@@ -149,7 +169,7 @@ pub(crate) fn read_members(alloc: Global, bytes: &[u8]) -> Result<Members, Refus
         }
         rest = after;
     }
-    Ok(members)
+    Ok(Members::from_vec(members))
 }
 
 // `nID@ROLE`, `wID@ROLE` or `rID@ROLE`

@@ -196,6 +196,7 @@ fn write_user(meta: &Meta, out: &mut Vec<u8>) -> Result<(), WantOfMemory>
 }
 
 // A mark and a number.
+#[inline(always)]
 #[tactic(auto, using(crate::proofs::WrittenLemmas::starts_back))]
 fn write_number_field(mark: &[u8], number: u32, out: &mut Vec<u8>) -> Result<(), WantOfMemory>
     ensures ok { OnOk result (out.new.items ≡ out.old.items ++ number_field mark.now number) }

@@ -112,6 +112,7 @@ pub(crate) fn read_id(bytes: &[u8]) -> Result<i64, Why>
     Ok(size as i64)
 }
 
+#[inline(always)]
 pub(crate) fn write_number(number: u32, out: &mut Vec<u8>) -> Result<(), WantOfMemory>
     ensures ok { OnOk result (out.new.items ≡ out.old.items ++ decimal number) }
     ensures err { OnErr result (StartsWith out.new.items out.old.items) }
@@ -120,6 +121,7 @@ pub(crate) fn write_number(number: u32, out: &mut Vec<u8>) -> Result<(), WantOfM
     Ok(())
 }
 
+#[inline(always)]
 pub(crate) fn write_id(id: i64, out: &mut Vec<u8>) -> Result<(), WantOfMemory>
     ensures ok { OnOk result (out.new.items ≡ out.old.items ++ signed_decimal id) }
     ensures err { OnErr result (StartsWith out.new.items out.old.items) }

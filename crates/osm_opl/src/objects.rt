@@ -143,6 +143,7 @@ fn write_tags_field(tags: &[Tag], out: &mut Vec<u8>) -> Result<(), WantOfMemory>
 }
 
 // A mark and a coordinate.
+#[inline(always)]
 #[tactic(auto, using(crate::proofs::WrittenLemmas::starts_back))]
 fn write_coordinate_field(mark: &[u8], units: i32, out: &mut Vec<u8>) -> Result<(), WantOfMemory>
     ensures ok { OnOk result (out.new.items ≡ out.old.items ++ coordinate_field mark.now units) }

@@ -1,5 +1,4 @@
-use Rattle.std.proofs.Common.{◌≡◌, ◌<◌, List, ℕ, length, ap, rules}
-use Rattle.std.specs.Prelude.{Err}
+use Rattle.std.proofs.Common.{◌≡◌, ◌<◌, length, rules}
 use Rattle.osm_opl.proofs.EscapeLemmas.{bare_long, bare_read, bare_wrong}
 use Rattle.osm_opl.proofs.escapes.read_bare.Goals as goal
 

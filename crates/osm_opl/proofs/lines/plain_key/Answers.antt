@@ -1,8 +1,7 @@
-use Rattle.std.proofs.Common.{◌≡◌, ◌∷◌, FitsSigned, w64, Some, rules}
+use Rattle.std.proofs.Common.{◌≡◌, ◌∷◌, FitsSigned, w64, rules}
 use Rattle.std.proofs.lemmas.Int.{to_z-of_z}
-use Rattle.osm_opl.specs.Steps.Reading.{key_at}
 use Rattle.osm_opl.proofs.PlainLemmas.{plain_key}
-use Rattle.osm_reading.specs.Pieces.{pieces, pieces_after}
+use Rattle.osm_reading.specs.Pieces.{pieces_after}
 use Rattle.osm_opl.proofs.lines.plain_key.Goals as goal
 
 pub returns-clause-value : goal.returns-clause-value

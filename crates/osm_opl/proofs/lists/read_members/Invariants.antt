@@ -7,8 +7,8 @@ use Rattle.osm_opl.proofs.lists.read_members.Given as goal
 
 abbrev pub invariant-loop-rest : goal.invariant-loop-rest
 invariant-loop-rest l = record {
-  read : ListRead member_at (list_pieces l.bytes) (pieces_after 44 l.rest) l.members;
-  few : length l.members ≤ 32000;
+  read : ListRead member_at (list_pieces l.bytes) (pieces_after 44 l.rest) l.members.items;
+  few : length l.members.items ≤ 32000;
 }
 
 abbrev pub decreases-loop-rest : goal.decreases-loop-rest

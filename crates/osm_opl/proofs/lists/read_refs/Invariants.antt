@@ -7,8 +7,8 @@ use Rattle.osm_opl.proofs.lists.read_refs.Given as goal
 
 abbrev pub invariant-loop-rest : goal.invariant-loop-rest
 invariant-loop-rest l = record {
-  read : ListRead ref_at (list_pieces l.bytes) (pieces_after 44 l.rest) l.refs;
-  few : length l.refs ≤ 32000;
+  read : ListRead ref_at (list_pieces l.bytes) (pieces_after 44 l.rest) l.refs.items;
+  few : length l.refs.items ≤ 32000;
 }
 
 abbrev pub decreases-loop-rest : goal.decreases-loop-rest

@@ -7,8 +7,8 @@ use Rattle.osm_opl.proofs.lists.read_tags.Given as goal
 
 abbrev pub invariant-loop-rest : goal.invariant-loop-rest
 invariant-loop-rest l = record {
-  read : ListRead tag_at (list_pieces l.bytes) (pieces_after 44 l.rest) l.tags;
-  few : length l.tags ≤ 5000;
+  read : ListRead tag_at (list_pieces l.bytes) (pieces_after 44 l.rest) l.tags.items;
+  few : length l.tags.items ≤ 5000;
 }
 
 abbrev pub decreases-loop-rest : goal.decreases-loop-rest

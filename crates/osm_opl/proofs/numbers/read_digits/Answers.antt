@@ -1,5 +1,4 @@
-use Rattle.std.proofs.Common.{◌≤◌, length, arith, rules}
-use Rattle.std.proofs.lemmas.Bool.Decides.{nat_tests}
+use Rattle.std.proofs.Common.{arith, rules}
 use Rattle.osm_opl.proofs.NumberLemmas.{no_numeral, digits_none, digits_many, digits_within}
 use Rattle.osm_opl.proofs.numbers.read_digits.Goals as goal
 use Rattle.osm_opl.proofs.numbers.read_digits.Goals.{then-is_empty-via-then-is_empty, then-is_empty-via-else-is_empty+then-bytes-most}

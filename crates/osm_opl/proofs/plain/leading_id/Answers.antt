@@ -1,7 +1,6 @@
-use Rattle.std.proofs.Common.{◌≡◌, ◌<◌, ◌≤◌, ◌^◌, arith, pos, w64}
+use Rattle.std.proofs.Common.{◌<◌, ◌≤◌, ◌^◌, arith, w64}
 use Rattle.std.proofs.lemmas.Int.{to_z_pos}
 use Rattle.osm_opl.proofs.PlainLemmas.{id_first}
-use Rattle.osm_opl.specs.Steps.Plain.{IdFirst}
 use Rattle.osm_reading.specs.Pieces.{pieces_after}
 use Rattle.osm_opl.proofs.plain.leading_id.Goals as goal
 

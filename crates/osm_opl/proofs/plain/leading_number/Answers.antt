@@ -1,4 +1,4 @@
-use Rattle.std.proofs.Common.{◌≡◌, ◌+◌, ◌<◌, ◌≤◌, length, get_or, arith}
+use Rattle.std.proofs.Common.{◌+◌, arith}
 use Rattle.std.proofs.lemmas.List.{take_rest}
 use Rattle.osm_opl.proofs.PlainLemmas.{number_then, number_whole}
 use Rattle.osm_opl.proofs.plain.leading_number.Goals as goal
