@@ -121,8 +121,8 @@ fn write_fraction(part: u32, out: &mut Vec<u8>) -> Result<(), WantOfMemory>
     Ok(())
 }
 
-// The next digit is always the first of seven, so that each division is by one constant; `left` says
-// how many may follow.
+// What is left is moved up by one digit each time, so the next digit is the first of seven, and
+// each division is by the same constant. `left` is how many digits may follow.
 fn write_decimals(part: u32, out: &mut Vec<u8>) -> Result<(), WantOfMemory>
     requires { part < 10 ^ 7 }
     ensures ok { OnOk result (out.new.items ≡ out.old.items ++ decimals 7 part) }
