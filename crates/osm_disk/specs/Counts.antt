@@ -1,4 +1,4 @@
--- How failures are counted.
+-- What is known of a store: its process, and how its failures are counted.
 use Rattle.std.specs.Prelude.{◌≡◌, ℕ, ◌+◌, min}
 use Rattle.osm_disk.specs.declared.disk_store.DiskStore.{DiskStore}
 use Rattle.osm_folder.specs.declared.store.StoreError.{StoreError}
@@ -7,6 +7,10 @@ use Rattle.osm_folder.specs.declared.store.StoreError.TheVariants.{Device}
 -- the count of a store's failures
 abbrev pub failures_of : {R F D : Type 0} → DiskStore R F D → ℕ
 failures_of store = store.failures
+
+-- the process that names a store's temporary files
+abbrev pub process_of : {R F D : Type 0} → DiskStore R F D → ℕ
+process_of store = store.process
 
 -- a failure of the device adds one to the count, which stops at its greatest value; no other error
 -- changes it

@@ -20,11 +20,12 @@ pub struct DiskStore<R: Files> {
 }
 
 impl<R: Files> DiskStore<R> {
-    ghost use Rattle.osm_disk.specs.Counts.{failures_of};
+    ghost use Rattle.osm_disk.specs.Counts.{failures_of, process_of};
 
     /// A store of the process with that id, which names its temporary files.
     pub fn new(files: R, process: u32) -> DiskStore<R>
-        ensures { failures_of result ≡ 0 }
+        ensures none { failures_of result ≡ 0 }
+        ensures named { process_of result ≡ process }
     {
         DiskStore {
             files,

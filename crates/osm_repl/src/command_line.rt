@@ -235,6 +235,7 @@ fn convert<'a>(alloc: Global) -> Result<Command<'a>, AllocError>
 fn word<'a>(alloc: Global, name: &'a str, says: &'a str) -> Arg<'a>
     ensures rule { rule_of result ≡ word_rule name.now }
     ensures local { result.global ≡ false }
+    ensures help { result.help ≡ Some says.entry }
 {
     Arg::new(alloc, name)
         .help(says)
