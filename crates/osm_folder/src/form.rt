@@ -39,9 +39,9 @@ pub fn form_of(name: &str) -> Option<Form>
     None
 }
 
-/// The changes of a file of one form, written in another. The file's bytes are dropped before any are
-/// written, so that they and the text are never held at once. A fault names the input, unless it is
-/// the output that passes 64 MiB.
+/// The changes of a file of one form, written in another. The file's bytes are dropped before any
+/// are written, so that they and the text are never held at once. A fault names the input, unless
+/// it is the output that passes 64 MiB.
 pub fn convert(alloc: Global, from: Form, to: Form, bytes: Vec<u8>) -> Result<Vec<u8>, RunFault>
     ensures converted { IfOk result (λ text. Converts from to bytes.items text.items) }
     ensures refused { IfErr result (ConvertRefused from to bytes.items) }
