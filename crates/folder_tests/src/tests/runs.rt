@@ -4,6 +4,7 @@
 use super::files::{
     NODE, NODE_O5C, Run, are_files, is_file, outcome, refusal, reports, store_with,
 };
+use osm_folder::convert::convert_run;
 use osm_folder::fault::{FileName, RunFault};
 use osm_folder::fuse::Fuse;
 use osm_folder::memory_store::MemoryStore;
@@ -34,6 +35,9 @@ const SHOWN_1: &str = "number 1\ntime 2024-01-01T00:00:00Z\nobjects 1\n\
 
 const ALL_APPLIED: &str = "applied 1..1\napplied 2..2\napplied 3..3\napplied 4..4\nnumber 4\n";
 
+// The files of number 2, which get lost.
+const LOST: [&str; 2] = ["dir/000/000/002.state.txt", "dir/000/000/002.o5c"];
+
 // The files that a run reads, and those that it writes, in their order.
 struct Case<'a> {
     run: Run,
@@ -51,6 +55,19 @@ const PUBLISH: Case = Case {
         ("dir/state.txt", STATE_1),
     ],
 };
+
+const UP_TO_THE_LOSS: &str = "applied 1..1\nmissing 2\nnumber 1\n";
+
+const AFTER_THE_LOSS: &str = "applied 2..2\napplied 3..3\napplied 4..4\nnumber 4\n";
+
+// A newest state below the save, and a number whose state names another.
+const TOP_BELOW: &[(&str, &[u8])] = &[("save", EMPTY_SAVE_4), ("dir/state.txt", STATE_3)];
+
+const OTHER_NUMBER: &[(&str, &[u8])] = &[
+    ("dir/state.txt", STATE_2),
+    ("dir/000/000/001.state.txt", STATE_2),
+    ("dir/000/000/001.o5c", EMPTY_O5C),
+];
 
 // A folder of four empty sequences.
 const FOUR: &[(&str, &[u8])] = &[
@@ -109,6 +126,62 @@ fn each_run_prints_and_writes_what_a_person_expects(rt: HostRuntime) {
     ] {
         assert!(rt; is_done(rt.alloc(), case, text), "{text}");
     }
+}
+
+// Whether a follower of the four sequences stops at a lost number and says so, and goes on once its
+// files are back.
+fn goes_on_after_a_loss(alloc: Global) -> bool {
+    let Ok(mut store) = store_with(alloc, FOUR) else {
+        return false;
+    };
+    for name in LOST {
+        store.remove(name);
+    }
+    let stops = reports(alloc, &mut store, Run::Follow, (1, UP_TO_THE_LOSS));
+    let is_behind = reports(alloc, &mut store, Run::Lag, (0, "behind 3\nseconds 180\n"));
+    let is_back = is_put(alloc, &mut store, LOST[0], STATE_2)
+        && is_put(alloc, &mut store, LOST[1], EMPTY_O5C);
+    stops && is_behind && is_back && reports(alloc, &mut store, Run::Follow, (0, AFTER_THE_LOSS))
+}
+
+fn is_put(alloc: Global, store: &mut MemoryStore, name: &str, bytes: &[u8]) -> bool {
+    store.put(alloc, name, bytes).is_ok()
+}
+
+#[test]
+fn a_lost_number_is_named_and_is_taken_once_it_is_back(rt: HostRuntime) {
+    assert!(rt; goes_on_after_a_loss(rt.alloc()));
+}
+
+// Whether the run over those files is refused with that fault, and leaves them.
+fn is_refused(alloc: Global, files: &[(&str, &[u8])], run: Run, fault: RunFault) -> bool {
+    let Ok(mut store) = store_with(alloc, files) else {
+        return false;
+    };
+    refusal(alloc, &mut store, run) == Some(fault) && are_files(&store, files)
+}
+
+#[test]
+fn a_wrong_folder_and_an_absent_save_are_refused(rt: HostRuntime) {
+    for (files, run, fault) in [
+        (TOP_BELOW, Run::Follow, RunFault::TopBehind),
+        (OTHER_NUMBER, Run::Follow, RunFault::Mismatch(1)),
+        (FOUR, Run::Show, RunFault::Absent(FileName::Save)),
+    ] {
+        assert!(rt; is_refused(rt.alloc(), files, run, fault), "{fault:?}");
+    }
+}
+
+// Why a conversion into a file of another name isn't made, over a store that takes no call.
+fn refusal_of_a_name(alloc: Global) -> Option<RunFault> {
+    let mut fuse = Fuse::new(MemoryStore::new(alloc), 0);
+    convert_run(alloc, &mut fuse, "a.opl", "b.osc").err()
+}
+
+#[test]
+fn an_unknown_form_is_refused_before_any_call(rt: HostRuntime) {
+    assert!(rt; refusal_of_a_name(rt.alloc()) == Some(RunFault::UnknownForm));
+    assert!(rt; RunFault::UnknownForm.status() == 2);
 }
 
 // Whether the store holds the first files that the run writes, so many, and none of the others.
