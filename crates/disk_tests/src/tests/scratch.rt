@@ -1,17 +1,19 @@
 //! A folder for one test.
 
 use std::alloc::Global;
+use std::env::{self, Env};
 use std::fs::{self, Files};
 use std::test::Fail;
 
-/// A new and empty folder of that name: `/tmp/osm_disk-PROCESS-NAME/`.
-pub fn scratch<R: Files>(
+/// A new and empty folder of that name, `osm_disk-PROCESS-NAME/`, in the folder of temporary files.
+pub fn scratch<R: Files + Env + AllocGlobal>(
     alloc: Global,
     files: &R,
     process: u32,
     name: &str,
 ) -> Result<String, Fail> {
-    let folder = format!(in alloc; "/tmp/osm_disk-{process}-{name}/")?;
+    let root = env::temp_dir(files)?;
+    let folder = format!(in alloc; "{}/osm_disk-{process}-{name}/", root.as_str())?;
     let _ = files.remove_dir_all(alloc, folder.as_str());
     files.create_dir(folder.as_str())?;
     Ok(folder)
