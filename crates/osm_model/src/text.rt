@@ -93,6 +93,16 @@ impl Text {
         Ok(Text { kept })
     }
 
+    /// The text of those characters, which are known to be within the limits: none is tested again.
+    pub fn within_limits(alloc: Global, text: &str) -> Result<Text, WantOfMemory>
+        requires { IsText text.now }
+        ensures ok { IfOk result (λ t. t ≡ text.now) }
+        ensures refused { OnErr result (30 < length text.now) }
+    {
+        let kept = keep(alloc, text)?;
+        Ok(Text { kept })
+    }
+
     pub fn as_str(&self) -> &str
         ensures text { result.now ≡ self.now }
         ensures limits { IsText self.now }
