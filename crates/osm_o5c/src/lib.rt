@@ -3,6 +3,7 @@
 
 mod counters;
 mod datasets;
+mod file_string;
 mod metadata;
 mod numbers;
 pub mod o5c;

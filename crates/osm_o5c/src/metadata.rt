@@ -9,10 +9,11 @@ ghost use Rattle.osm_o5c.specs.Written.{number_text, pair_in_line, pair_text, af
 ghost use Rattle.osm_o5c.specs.Written.{meta_text};
 
 use crate::counters::positive_sum;
+use crate::file_string::text;
 use crate::numbers::{positive, unsigned, write_difference, write_unsigned};
 use crate::reader::Reader;
 use crate::string_index::StringIndex;
-use crate::strings::{StringTable, name_or_enter, text};
+use crate::strings::{StringTable, name_or_enter};
 use crate::writer::State;
 use osm_model::form::Why;
 use osm_model::memory::WantOfMemory;
@@ -57,8 +58,8 @@ fn user<'a>(
     ensures limits { IfOk result (λ r. 1 ≤ r.0) }
 {
     let (first, second, rest) = strings.pair(alloc, bytes)?;
-    let uid = uid(first)?;
-    let name = text(alloc, second)?;
+    let uid = uid(first.as_slice())?;
+    let name = text(alloc, &second)?;
     Ok((uid, name, rest))
 }
 

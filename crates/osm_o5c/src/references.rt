@@ -1,6 +1,6 @@
 //! The reference part of a way or a relation.
 
-ghost use Rattle.std.specs.Prelude.{◌≡◌, ◌++◌, ◌+ℤ◌, true, false, IfOk, OnOk, OnErr};
+ghost use Rattle.std.specs.Prelude.{◌≡◌, ◌≤◌, ◌++◌, ◌+ℤ◌, true, false, length, IfOk, OnOk, OnErr};
 ghost use Rattle.osm_o5c.specs.Context.{kind_digit};
 ghost use Rattle.osm_o5c.specs.Steps.ObjectReading.{refs_at, ref_at, role_of, member_at};
 ghost use Rattle.osm_o5c.specs.Steps.ObjectReading.{members_at};
@@ -10,9 +10,10 @@ ghost use Rattle.osm_o5c.specs.Written.{difference_text, refs_text, last_ref, me
 ghost use Rattle.osm_o5c.specs.Written.{after_member, members_text, after_members};
 
 use crate::counters::{Counters, id};
+use crate::file_string::{FileString, text};
 use crate::numbers::{signed, write_difference};
 use crate::reader::Reader;
-use crate::strings::{text, write_single};
+use crate::strings::write_single;
 use crate::writer::State;
 use osm_model::form::Why;
 use osm_model::kind::{Key, Kind};
@@ -36,6 +37,17 @@ fn reference<'b>(counters: &mut Counters, bytes: &'b [u8]) -> Result<(i64, &'b [
     Ok((id, rest))
 }
 
+// How many numbers there are: each ends with a byte below 128.
+fn count_numbers(part: &[u8]) -> usize
+    ensures { result ≤ length part.now }
+{
+    let mut count = 0;
+    for byte in part {
+        count += (*byte < 128) as usize;
+    }
+    count
+}
+
 /// The references up to the end of the part, at most 32,000; the counter of way nodes moves on.
 pub fn refs(counters: &mut Counters, alloc: Global, part: &[u8]) -> Result<Refs, Refusal>
     ensures gives { Gives (λ r. (r, counters.new.way_node)) result
@@ -43,8 +55,7 @@ pub fn refs(counters: &mut Counters, alloc: Global, part: &[u8]) -> Result<Refs,
     ensures others { OnOk result
         (counters.new ≡ record counters.old { way_node = counters.new.way_node }) }
 {
-    // A reference has a byte or more.
-    let mut found = Vec::with_capacity(alloc, part.len().min(MAX_REFS))?;
+    let mut found = Vec::with_capacity(alloc, count_numbers(part).min(MAX_REFS))?;
     let mut rest = part;
     while !rest.is_empty() {
         if found.len() >= MAX_REFS {
@@ -76,7 +87,7 @@ fn role(alloc: Global, bytes: &[u8]) -> Result<(Kind, Text), Refusal>
         b'2' => Kind::Relation,
         _ => return Err(Refusal::Fault(Why::BadKind)),
     };
-    let role = text(alloc, rest)?;
+    let role = text(alloc, &FileString::new(rest))?;
     Ok((kind, role))
 }
 

@@ -6,54 +6,26 @@ ghost use Rattle.std.specs.Prelude.{option_copied};
 ghost use Rattle.circular_buffer.specs.Buffer.{keep_last};
 ghost use Rattle.osm_reading.specs.Steps.Answers.{Gives, Finds};
 ghost use Rattle.osm_o5c.specs.Steps.StringReading.{entered, latest, until_nul_at, pair_at};
-ghost use Rattle.osm_o5c.specs.Steps.StringReading.{single_at, text_of};
+ghost use Rattle.osm_o5c.specs.Steps.StringReading.{single_at};
 ghost use Rattle.osm_o5c.specs.Written.{pair_in_line, single_in_line, reference_of, by_reference};
 ghost use Rattle.osm_o5c.specs.Written.{entered_by, pair_text, after_pair, single_text};
 ghost use Rattle.osm_o5c.specs.Written.{after_single};
 
+use crate::file_string::FileString;
 use crate::numbers::{unsigned, write_unsigned};
 use crate::string_index::{HashedString, StringIndex};
 use circular_buffer::HeapCircularBuffer;
 use osm_model::form::Why;
 use osm_model::memory::WantOfMemory;
-use osm_model::text::{Text, TextError};
 use osm_reading::refusal::Refusal;
 use std::alloc::Global;
 use std::marker::Model;
 
-/// Some of the bytes of the file that is read.
-#[derive(Drop)]
-pub struct Bytes<'a> {
-    bytes: &'a [u8],
-}
-
-impl<'a> Model for Bytes<'a> {
-    ghost use Rattle.std.specs.Prelude.{ℕ, List};
-
-    ghost Value = { List ℕ };
-
-    ghost view = { λ a. a.bytes.now };
-}
-
-impl<'a> Bytes<'a> {
-    fn new(bytes: &'a [u8]) -> Bytes<'a>
-        ensures { result ≡ bytes.now }
-    {
-        Bytes { bytes }
-    }
-
-    fn as_slice(&self) -> &'a [u8]
-        ensures { result.now ≡ self.now }
-    {
-        self.bytes
-    }
-}
-
 /// A string that was in line: a pair, or a single one.
 #[derive(Drop)]
 pub enum Entry<'a> {
-    Pair { first: Bytes<'a>, second: Bytes<'a> },
-    Single { text: Bytes<'a> },
+    Pair { first: FileString<'a>, second: FileString<'a> },
+    Single { text: FileString<'a> },
 }
 
 /// The longest string that is entered, in bytes; of a pair both together.
@@ -134,14 +106,14 @@ impl<'a> StringTable<'a> {
     fn enter_pair(
         &mut self,
         alloc: Global,
-        first: &'a [u8],
-        second: &'a [u8],
+        first: &FileString<'a>,
+        second: &FileString<'a>,
     ) -> Result<(), WantOfMemory>
         ensures { OnOk result (self.new ≡ entered self.old (Entry.Pair first.now second.now)) }
     {
-        if first.len() + second.len() <= MAX_SIZE {
-            let first = Bytes::new(first);
-            let second = Bytes::new(second);
+        if first.as_slice().len() + second.as_slice().len() <= MAX_SIZE {
+            let first = first.copy();
+            let second = second.copy();
             self.push(alloc, Entry::Pair { first, second })?;
         }
         Ok(())
@@ -153,7 +125,7 @@ impl<'a> StringTable<'a> {
         ensures { OnOk result (self.new ≡ entered self.old (Entry.Single text.now)) }
     {
         if text.len() <= MAX_SIZE {
-            let text = Bytes::new(text);
+            let text = FileString::new(text);
             self.push(alloc, Entry::Single { text })?;
         }
         Ok(())
@@ -165,8 +137,8 @@ impl<'a> StringTable<'a> {
         &mut self,
         alloc: Global,
         bytes: &'a [u8],
-    ) -> Result<(&'a [u8], &'a [u8], &'a [u8]), Refusal>
-        ensures { Gives (λ r. ((r.0.now, r.1.now), self.new, r.2.now)) result
+    ) -> Result<(FileString<'a>, FileString<'a>, &'a [u8]), Refusal>
+        ensures { Gives (λ r. ((r.0, r.1), self.new, r.2.now)) result
             (pair_at self.old bytes.now) }
     {
         let Some((first, rest)) = bytes.split_first() else {
@@ -175,14 +147,14 @@ impl<'a> StringTable<'a> {
         if *first == 0 {
             let (first, rest) = until_nul(rest)?;
             let (second, rest) = until_nul(rest)?;
-            self.enter_pair(alloc, first, second)?;
+            let first = FileString::new(first);
+            let second = FileString::new(second);
+            self.enter_pair(alloc, &first, &second)?;
             return Ok((first, second, rest));
         }
         let (k, rest) = unsigned(bytes)?;
         match self.get(k) {
-            Some(Entry::Pair { first, second }) => {
-                Ok((first.as_slice(), second.as_slice(), rest))
-            }
+            Some(Entry::Pair { first, second }) => Ok((first.copy(), second.copy(), rest)),
             _ => Err(Refusal::Fault(Why::BadReference)),
         }
     }
@@ -224,21 +196,6 @@ fn until_nul(bytes: &[u8]) -> Result<(&[u8], &[u8]), Why>
         at += 1;
     }
     Err(Why::BadLength)
-}
-
-/// The text of those bytes.
-pub fn text(alloc: Global, bytes: &[u8]) -> Result<Text, Refusal>
-    ensures { Gives (λ t. t) result (text_of bytes.now) }
-{
-    let Ok(characters) = str::from_utf8(bytes) else {
-        return Err(Refusal::Fault(Why::BadText));
-    };
-    match Text::new(alloc, characters) {
-        Ok(text) => Ok(text),
-        Err(TextError::WantOfMemory) => Err(Refusal::WantOfMemory),
-        Err(TextError::HasNul) => Err(Refusal::Fault(Why::BadText)),
-        Err(TextError::TooLong) => Err(Refusal::Fault(Why::BadText)),
-    }
 }
 
 // Appends a pair in line: `00 first 00 second 00`.

@@ -6,8 +6,9 @@ ghost use Rattle.osm_reading.specs.Steps.Answers.{Gives};
 ghost use Rattle.osm_o5c.specs.Steps.StringReading.{tag_at};
 ghost use Rattle.osm_o5c.specs.Written.{tags_text, after_tags};
 
+use crate::file_string::text;
 use crate::string_index::StringIndex;
-use crate::strings::{StringTable, text, write_pair};
+use crate::strings::{StringTable, write_pair};
 use osm_model::form::Why;
 use osm_model::limits::MAX_TAGS;
 use osm_model::lists::{Tag, Tags};
@@ -25,8 +26,8 @@ fn tag<'a>(
     ensures { Gives (λ r. (r.0, strings.new, r.1.now)) result (tag_at strings.old bytes.now) }
 {
     let (key, value, rest) = strings.pair(alloc, bytes)?;
-    let key = text(alloc, key)?;
-    let value = text(alloc, value)?;
+    let key = text(alloc, &key)?;
+    let value = text(alloc, &value)?;
     Ok((Tag { key, value }, rest))
 }
 
