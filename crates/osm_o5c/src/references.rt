@@ -23,7 +23,7 @@ use osm_model::text::Text;
 use osm_reading::refusal::Refusal;
 use std::alloc::Global;
 
-// The reference at the start, which becomes the counter of way nodes, and the bytes after it.
+// The reference at the start, which the counter of way nodes is set to, and the bytes after it.
 #[tactic(auto, unfolding(crate::specs::Steps::ObjectReading::ref_at))]
 fn reference<'b>(counters: &mut Counters, bytes: &'b [u8]) -> Result<(i64, &'b [u8]), Why>
     ensures finds { Finds (λ r. (r.0, counters.new.way_node, r.1.now)) result
@@ -36,14 +36,15 @@ fn reference<'b>(counters: &mut Counters, bytes: &'b [u8]) -> Result<(i64, &'b [
     Ok((id, rest))
 }
 
-/// The references up to the end of the part, at most 32,000; the counter of way nodes moves on.
+/// The references up to the end of the part, at most 32,000; sets the counter of way nodes to the
+/// last one.
 pub fn refs(counters: &mut Counters, alloc: Global, part: &[u8]) -> Result<Refs, Refusal>
     ensures gives { Gives (λ r. (r, counters.new.way_node)) result
         (refs_at counters.old.way_node part.now) }
     ensures others { OnOk result
         (counters.new ≡ record counters.old { way_node = counters.new.way_node }) }
 {
-    // A reference has a byte or more.
+    // A reference takes at least one byte.
     let mut found = Vec::with_capacity(alloc, part.len().min(MAX_REFS))?;
     let mut rest = part;
     while !rest.is_empty() {
@@ -80,7 +81,7 @@ fn role(alloc: Global, bytes: &[u8]) -> Result<(Kind, Text), Refusal>
     Ok((kind, role))
 }
 
-// The id that a difference to the counter gives.
+// The id that the counter and the difference add up to.
 fn moved(counter: i64, difference: i64) -> Result<i64, Why>
     ensures found { IfOk result (λ id. (id ≡ counter +ℤ difference) × (is_id id ≡ true)) }
     ensures refused { OnErr result (is_id (counter +ℤ difference) ≡ false) }
@@ -129,7 +130,7 @@ impl<'a> Reader<'a> {
     }
 }
 
-// Appends a reference as the difference to the counter of way nodes, which moves on.
+// Appends a reference as its difference from the counter of way nodes, and sets the counter to it.
 fn write_reference(out: &mut Vec<u8>, counters: &mut Counters, id: &i64) -> Result<(), WantOfMemory>
     ensures text { OnOk result
         (out.new.items ≡ out.old.items ++ difference_text counters.old.way_node id.now) }
@@ -140,7 +141,7 @@ fn write_reference(out: &mut Vec<u8>, counters: &mut Counters, id: &i64) -> Resu
     Ok(())
 }
 
-/// Appends references, each as the difference to the one before it.
+/// Appends references, each as its difference from the one before it.
 pub fn write_refs(
     out: &mut Vec<u8>,
     counters: &mut Counters,
@@ -168,7 +169,8 @@ fn digit_of(kind: Kind) -> u8
     }
 }
 
-// Appends a member, its id as the difference to the counter of its kind, which moves on.
+// Appends a member, with its id as the difference from the counter of its kind, and sets the
+// counter to the id.
 fn write_member(out: &mut Vec<u8>, state: &mut State, member: &Member) -> Result<(), WantOfMemory>
     ensures text { OnOk result
         (out.new.items ≡ out.old.items ++ member_text state.old member.now) }
@@ -186,7 +188,7 @@ fn write_member(out: &mut Vec<u8>, state: &mut State, member: &Member) -> Result
     Ok(())
 }
 
-/// Appends members, each id as the difference to the one of its kind before it.
+/// Appends members, each with its id as the difference from the one of its kind before it.
 pub fn write_members(
     out: &mut Vec<u8>,
     state: &mut State,
