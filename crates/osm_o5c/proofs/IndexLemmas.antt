@@ -60,7 +60,7 @@ leads_more strings text j p h l =
     let here : string_at (strings ++ text ∷ []) j ≡ string_at strings j = get_or_append_left strings (text ∷ []) [] j h in
     record { after = after; within = omega (arith, length-append strings (text ∷ [])); same = ap bucket_of there ∙ l.same ∙ sym (ap bucket_of here) }
 
--- bytes after those of the slots change nothing
+-- bytes appended without a slot change nothing
 pub indexed_more : (bytes more : List ℕ) (slots : List Slot) (heads : List ℕ) → IsIndexed bytes slots heads → IsIndexed (bytes ++ more) slots heads
 indexed_more bytes more slots heads x = record {
   within = λ i h. omega (arith, x.within i h, length-append bytes more);

@@ -15,7 +15,7 @@ use Rattle.osm_o5c.specs.Context.{with_strings, kind_digit}
 use Rattle.osm_o5c.specs.Many.{SpellsMany}
 use Rattle.osm_o5c.specs.declared.strings.Entry.{Entry}
 
--- a user: a pair of the user id, spelled as an unsigned number, and the name
+-- a user: the pair of the user id, spelled as an unsigned number, and the name
 pub record SpellsUser (strings : List Entry) (bytes : List ℕ) (uid : ℕ) (name : List ℕ)
     (after : List Entry) : Type 0 where
   pub first : List ℕ

@@ -148,9 +148,9 @@ abbrev pub ends_in_reset : {bytes : List ℕ} {C : Context} {changes : List Chan
 ends_in_reset begin = false
 ends_in_reset (next prefix C changes dataset found after f s few) = is_reset s
 
--- a dataset of a shortest file, after these changes, directly after a reset or not: an object, which
--- follows a reset exactly if its kind differs from that of the last change; or a reset, which never
--- follows another
+-- a dataset of a shortest file, after these changes, directly after a reset or not: an object,
+-- which follows a reset exactly if its kind differs from that of the last change; or a reset, which
+-- never follows another
 abbrev pub IsShortestDataset : List ChangeValue → Bool
     → {C : Context} {bytes : List ℕ} {found : Option ChangeValue} {after : Context}
     → Dataset C bytes found after → Type 0

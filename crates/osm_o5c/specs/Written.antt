@@ -75,8 +75,8 @@ pair_in_line first second = 0 ∷ first ++ 0 ∷ second ++ 0 ∷ []
 abbrev pub single_in_line : List ℕ → List ℕ
 single_in_line text = 0 ∷ text ++ 0 ∷ []
 
--- the number of the last of these strings that equals this one, counted from 1 at the end; 0 if none
--- does
+-- the number of the last of these strings that equals this one, counted from 1 at the end; 0 if
+-- none does
 abbrev pub last_equal : List (List ℕ) → List ℕ → ℕ
 last_equal [] text = 0
 last_equal (one ∷ rest) text =
@@ -101,7 +101,7 @@ entered_by (Some k) strings text size = strings
 entered_by None strings text size =
     if nat_le size max_size then strings ++ text ∷ [] else strings
 
--- a pair of strings, given the entered ones
+-- the text of a pair, given the entered strings
 abbrev pub pair_text : List (List ℕ) → List ℕ → List ℕ → List ℕ
 pair_text strings first second =
     by_reference (reference_of strings (pair_in_line first second)) (pair_in_line first second)
@@ -112,12 +112,12 @@ after_pair strings first second =
     entered_by (reference_of strings (pair_in_line first second)) strings
     (pair_in_line first second) (length first + length second)
 
--- a single string, given the entered ones
+-- the text of a single string, given the entered strings
 abbrev pub single_text : List (List ℕ) → List ℕ → List ℕ
 single_text strings text =
     by_reference (reference_of strings (single_in_line text)) (single_in_line text)
 
--- the entered strings after a single one
+-- the entered strings after a single string
 abbrev pub after_single : List (List ℕ) → List ℕ → List (List ℕ)
 after_single strings text =
     entered_by (reference_of strings (single_in_line text)) strings

@@ -100,7 +100,7 @@ impl<'a> Reader<'a> {
         }
     }
 
-    // Reads one dataset, adds its change to the batch if it has one, and returns the bytes after it.
+    // Reads one dataset, adds its change to the batch if it has one, and returns what follows it.
     #[tactic(auto, unfolding(crate::specs::Steps::FileReading::step))]
     fn next(
         &mut self,

@@ -21,7 +21,7 @@ use osm_model::text::Text;
 use osm_reading::refusal::Refusal;
 use std::alloc::Global;
 
-// The user id that is all of these bytes.
+// The user id, which takes up all of these bytes.
 #[tactic(auto, unfolding(crate::specs::Steps::StringReading::uid_of))]
 fn uid(bytes: &[u8]) -> Result<u32, Why>
     ensures finds { Finds (λ n. n) result (uid_of bytes.now) }

@@ -50,7 +50,7 @@ impl ChangeForm for O5c {
 
 /// States the laws of the form; does nothing at run time.
 ///
-/// A batch that is spelled is within the limits. Bytes spell exactly one batch or go wrong at
+/// Every batch that bytes spell is within the limits. Bytes spell exactly one batch or go wrong at
 /// exactly one place, never both. There is one longest valid prefix. No spelling of a number is a
 /// prefix of another one, and the same holds for batches. No spelling of a number is shorter than
 /// the written one. The written text of a batch spells it as `IsShortest` says: every number in its

@@ -73,7 +73,7 @@ impl<'a> Reader<'a> {
         }
     }
 
-    /// The change that is all of these bytes.
+    /// The change, which takes up all of these bytes.
     #[tactic(auto, unfolding(crate::specs::Steps::ObjectReading::object_at))]
     pub fn object(&mut self, alloc: Global, kind: Kind, bytes: &'a [u8]) -> Result<Change, Refusal>
         ensures { Gives (λ c. (c, self.new)) result (object_at kind self.old bytes.now) }

@@ -23,7 +23,7 @@ use osm_model::text::Text;
 use osm_reading::refusal::Refusal;
 use std::alloc::Global;
 
-// The reference at the start, which the counter of way nodes is set to, and the bytes after it.
+// The reference at the start, which becomes the counter of way nodes, and the bytes after it.
 #[tactic(auto, unfolding(crate::specs::Steps::ObjectReading::ref_at))]
 fn reference<'b>(counters: &mut Counters, bytes: &'b [u8]) -> Result<(i64, &'b [u8]), Why>
     ensures finds { Finds (λ r. (r.0, counters.new.way_node, r.1.now)) result
@@ -36,8 +36,7 @@ fn reference<'b>(counters: &mut Counters, bytes: &'b [u8]) -> Result<(i64, &'b [
     Ok((id, rest))
 }
 
-/// The references up to the end of the part, at most 32,000; sets the counter of way nodes to the
-/// last one.
+/// The references up to the end of the part, at most 32,000; each becomes the counter of way nodes.
 pub fn refs(counters: &mut Counters, alloc: Global, part: &[u8]) -> Result<Refs, Refusal>
     ensures gives { Gives (λ r. (r, counters.new.way_node)) result
         (refs_at counters.old.way_node part.now) }

@@ -58,7 +58,7 @@ impl State {
 }
 
 impl Writer {
-    /// A file with only its beginning, and room for that many changes of the usual size.
+    /// A file with only its beginning, and room for `changes` changes of the usual size.
     pub fn new(alloc: Global, changes: usize) -> Result<Writer, WantOfMemory>
         ensures { IfOk result (λ w. (w.out.items ≡ beginning) × (w.state ≡ new_state)
             × (w.kind ≡ Option.None)) }

@@ -97,7 +97,7 @@ pub record IsChained (strings : List (List ℕ)) (slots : List Slot) (heads : Li
       → bucket_of (string_at strings j) ≡ bucket_of (string_at strings i)
       → Leads strings j (get_or slots i no_slot).previous
 
--- each slot lies within the bytes, and the chains lead to the strings
+-- the string of each slot lies within the bytes, and the chains lead to the strings
 pub record IsIndexed (bytes : List ℕ) (slots : List Slot) (heads : List ℕ) : Type 0 where
   pub within : (i : ℕ) → i < length slots
       → (get_or slots i no_slot).start + (get_or slots i no_slot).size ≤ length bytes
