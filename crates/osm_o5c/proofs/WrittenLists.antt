@@ -66,7 +66,7 @@ pub record RefsWritten (before : List ℤ) (refs : List ℤ) : Type 0 where
   pub last : total after ≡ last_ref (total before) refs
   pub shortest : AreShortestRefs spells
 
--- the references after one, counted from its value
+-- what is written for references, with the counter at this value, spells them
 record RefsFrom (before : List ℤ) (counter : ℤ) (refs : List ℤ) : Type 0 where
   after : List ℤ
   spells : SpellsRefs before (refs_text counter refs) refs after

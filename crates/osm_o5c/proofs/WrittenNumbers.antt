@@ -15,7 +15,7 @@ use Rattle.osm_o5c.proofs.StringLemmas.{none_before}
 
 -- ---- varints
 
--- how many numbers the varints of at most this many bytes can spell
+-- how many numbers varints of this many bytes can spell
 abbrev capacity : ℕ → ℕ
 capacity zero = 1
 capacity (suc k) = 128 * capacity k

@@ -5,7 +5,7 @@ use Rattle.osm_o5c.specs.declared.string_index.Slot.{Slot}
 use Rattle.osm_o5c.proofs.IndexLemmas.{strings_length, last_found, none_in, any_default}
 use Rattle.osm_o5c.proofs.string_index.StringIndex.last_in.Goals as goal
 
--- a head too far back leads to no string that can be named
+-- a head that isn't recent leads to no string that can be named
 pub returns-then-not-is_recent : goal.returns-then-not-is_recent
 returns-then-not-is_recent c =
     let many = c.self.invariant.chains.heads_are in
