@@ -36,14 +36,14 @@ fn reference<'b>(counters: &mut Counters, bytes: &'b [u8]) -> Result<(i64, &'b [
     Ok((id, rest))
 }
 
-/// The references up to the end of the part, at most 32,000; each becomes the counter of way nodes.
+/// The references up to the end of the part, at most 32,000; the counter of way nodes moves on.
 pub fn refs(counters: &mut Counters, alloc: Global, part: &[u8]) -> Result<Refs, Refusal>
     ensures gives { Gives (λ r. (r, counters.new.way_node)) result
         (refs_at counters.old.way_node part.now) }
     ensures others { OnOk result
         (counters.new ≡ record counters.old { way_node = counters.new.way_node }) }
 {
-    // A reference takes at least one byte.
+    // A reference has a byte or more.
     let mut found = Vec::with_capacity(alloc, part.len().min(MAX_REFS))?;
     let mut rest = part;
     while !rest.is_empty() {

@@ -21,7 +21,7 @@ use osm_reading::refusal::Refusal;
 use std::alloc::Global;
 use std::marker::Model;
 
-/// Some of the bytes of the file being read.
+/// Some of the bytes of the file that is read.
 #[derive(Drop)]
 pub struct Bytes<'a> {
     bytes: &'a [u8],
@@ -226,7 +226,7 @@ fn until_nul(bytes: &[u8]) -> Result<(&[u8], &[u8]), Why>
     Err(Why::BadLength)
 }
 
-/// The text with these bytes.
+/// The text of those bytes.
 pub fn text(alloc: Global, bytes: &[u8]) -> Result<Text, Refusal>
     ensures { Gives (λ t. t) result (text_of bytes.now) }
 {
