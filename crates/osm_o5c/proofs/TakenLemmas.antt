@@ -7,7 +7,7 @@ pub record Taken (spelled_by : List ℕ → Type 0) (bytes rest : List ℕ) : Ty
   pub parts : bytes ≡ prefix ++ rest
   pub spelled : spelled_by prefix
 
--- the same for a prefix that leads to a context, of which this is the state
+-- the same for a prefix that leads to a context with this state
 pub record TakenTo {Ctx S : Type 0} (state_of : Ctx → S) (spelled_by : List ℕ → Ctx → Type 0) (bytes : List ℕ) (state : S) (rest : List ℕ) : Type 0 where
   pub prefix : List ℕ
   pub after : Ctx

@@ -135,7 +135,7 @@ last_kind [] = None
 last_kind (c ∷ []) = Some c.key.kind
 last_kind (c ∷ d ∷ cs) = last_kind (d ∷ cs)
 
--- whether the last dataset of a front is a reset
+-- whether the last dataset of a valid prefix is a reset
 abbrev pub is_reset : {C : Context} {bytes : List ℕ} {found : Option ChangeValue}
     {after : Context} → Dataset C bytes found after → Bool
 is_reset (object C length_bytes content c after n s) = false
