@@ -49,7 +49,7 @@ impl<'a> Bytes<'a> {
     }
 }
 
-/// A string that was in line: a pair or a single string.
+/// A string that was in line: a pair, or a single one.
 #[derive(Drop)]
 pub enum Entry<'a> {
     Pair { first: Bytes<'a>, second: Bytes<'a> },
