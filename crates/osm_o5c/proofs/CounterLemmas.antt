@@ -1,4 +1,4 @@
--- A difference that is read makes the sum of its counter what is spelled, and the other way round.
+-- A difference that is read brings its counter to the sum that is spelled, and vice versa.
 use Rattle.std.proofs.Common.{◌≡◌, ℕ, ◌<◌, true, List, [], ◌∷◌, ◌++◌, length, Some, refl, sym, ap, subst, ◌∙◌, arith}
 use Rattle.std.specs.Prelude.{ℤ, pos, negsuc, ◌+ℤ◌}
 use Rattle.std.proofs.lemmas.Int.{ints}
@@ -66,7 +66,7 @@ id_takes before bytes x e =
       same = sym (total-push before d.0.0);
     })
 
--- the sum that the difference of a spelling makes
+-- the sum to which the difference of a spelling leads
 pub sum_of : (before : List ℤ) (prefix : List ℕ) (sum : ℤ) (after : List ℤ) (s : SpellsSum before prefix sum after) → total before +ℤ s.difference ≡ sum
 sum_of before prefix sum after s = sym (total-push before s.difference) ∙ ap total (sym s.added) ∙ sym s.sum_is
 
@@ -119,7 +119,7 @@ wrapped_total ds = wrapped_of (total ds)
 wrapped-push : (before : List ℤ) (d : ℤ) → wrapped_of (wrapped_total before +ℤ d) ≡ wrapped_total (before ++ d ∷ [])
 wrapped-push before d = wrapped_more (total before) d ∙ ap wrapped_of (sym (total-push before d))
 
--- the number that the difference of a spelling makes
+-- the number to which the difference of a spelling leads
 wrapped_value : (before : List ℤ) (prefix : List ℕ) (v : ℤ) (after : List ℤ) (s : SpellsWrapped before prefix v after) → wrapped_of (wrapped_total before +ℤ s.difference) ≡ v
 wrapped_value before prefix v after s = wrapped-push before s.difference ∙ ap wrapped_total (sym s.added) ∙ wrapped_same v (total after) s.wrapped
 

@@ -1,4 +1,4 @@
--- Datasets that are read are spelled, and the other way round; a step of the reading is a dataset more.
+-- Datasets that are read are spelled, and vice versa; each step of the reader is one more dataset.
 use Rattle.std.proofs.Common.{◌≡◌, ℕ, ◌<◌, ◌≤◌, true, false, cond, eqb, ltb, List, [], ◌∷◌, ◌++◌, length, Option, Some, None, refl, sym, ap, subst, ◌∙◌, arith}
 use Rattle.std.proofs.lemmas.Bool.Decides.{nat_tests}
 use Rattle.std.proofs.lemmas.Option.{same_Some}

@@ -1,4 +1,4 @@
--- Users, tags, references, members and metadata that are read are spelled, and the other way round.
+-- Users, tags, references, members and metadata that are read are spelled, and vice versa.
 use Rattle.std.proofs.Common.{◌≡◌, ℕ, suc, ◌<◌, true, cond, eqb, List, [], ◌∷◌, ◌++◌, length, Some, None, refl, sym, ap, subst, ◌∙◌, append_assoc, arith}
 use Rattle.std.specs.Prelude.{ℤ, pos, ◌+ℤ◌}
 use Rattle.std.proofs.lemmas.Bool.Decides.{nat_tests}
@@ -78,7 +78,7 @@ uid_again bytes uid s p =
     let read : unsigned_at bytes ≡ Some (uid, []) = subst (λ (l : List ℕ). unsigned_at l ≡ Some (uid, [])) (append-nil bytes) (unsigned_again bytes uid [] s) in
     rw (read, is_positive_again uid p) refl
 
--- nothing is no user id
+-- an empty string isn't a user id
 pub no_uid : (bytes : List ℕ) → length bytes ≡ 0 → uid_of bytes ≡ None
 unfolding uid_of varint_at
 no_uid [] e = refl
@@ -191,7 +191,7 @@ role_again : (kind : Kind) (role : List ℕ) → IsText role → role_of (kind_d
 unfolding role_of
 role_again kind role t = rw (kind_again kind, text_again role t) refl
 
--- a counter of members is the total of their differences
+-- a counter for members is the total of their differences
 pub counter_is : (k : Kind) (C : Context) → member_counter k (counters_of C) ≡ total (members_of k C)
 counter_is Node C = refl
 counter_is Way C = refl

@@ -1,4 +1,4 @@
--- What the reading of a file says of the form.
+-- The refusals of the form follow from those of a file.
 use Rattle.std.proofs.Common.{◌≡◌, ℕ, ◌≤◌, List, length, Result, Ok, Err}
 use Rattle.std.specs.Prelude.{IfErr}
 use Rattle.osm_model.specs.ChangeForm.{ReadRefused}

@@ -1,4 +1,4 @@
--- A front is read step by step, so the longest front is one, and so are its changes.
+-- A valid prefix is read step by step, so there is one longest valid prefix, with one list of changes.
 use Rattle.std.proofs.Common.{◌≡◌, ℕ, zero, suc, ◌<◌, ◌≤◌, List, [], ◌∷◌, ◌++◌, length, get_or, take, drop, Option, Some, None, refl, sym, ap, subst, ◌∙◌, append_assoc, arith, inl, inr}
 use Rattle.std.specs.List.{AllByRecursion}
 use Rattle.std.proofs.lemmas.Bool.{cases_lt, cases_eq}
@@ -18,12 +18,12 @@ use Rattle.osm_o5c.proofs.DatasetLemmas.{fresh_reader, TakesStep, step_takes, st
 
 -- ---- many steps
 
--- so many steps after the beginning
+-- this many steps after the beginning
 abbrev pub walk : ℕ → List ℕ → Option Position
 walk zero bytes = Some (position new_reader [] bytes)
 walk (suc k) bytes = and_then (walk k bytes) step
 
--- a front, and where it leads: so many steps after the beginning
+-- a valid prefix leads to the position that a number of steps after the beginning reaches
 pub record Walked (prefix : List ℕ) (rest : List ℕ) (p : Position) : Type 0 where
   pub behind : List ℕ
   pub begins : prefix ≡ beginning ++ behind
@@ -65,7 +65,7 @@ spelled_limits bytes batch s = record { few = front_few s.prefix s.context batch
 
 -- ---- the last step
 
--- so many steps lead there, and no further
+-- a number of steps leads to this position, and none leads on
 pub record Ends (bytes : List ℕ) (p : Position) : Type 0 where
   pub count : ℕ
   pub leads : walk count bytes ≡ Some p
@@ -96,9 +96,9 @@ none_or_some : {A : Type 0} (o : Option A) → ((x : A) → o ≡ Some x → ⊥
 none_or_some None h = refl
 none_or_some (Some x) h = absurd (h x refl)
 
--- ---- the longest front
+-- ---- the longest valid prefix
 
--- the bytes begin, and the steps after the beginning end there
+-- the bytes have the beginning, and the steps after it end at this position
 pub record EndsAt (bytes : List ℕ) (p : Position) : Type 0 where
   pub behind : List ℕ
   pub begins : bytes ≡ beginning ++ behind
@@ -142,7 +142,7 @@ end_last _ _ _ _ rest more (skipped C t length_bytes content low other n) e = le
 end_last _ _ _ _ rest more (lone C t big small) e = let q : 254 ≡ t = heads 254 t rest more e in omega arith
 end_last _ _ _ _ rest more (reset C) e = let q : ◌≡◌ {A = ℕ} 254 255 = heads 254 255 rest more e in omega arith
 
--- a front before the end byte is the longest
+-- a valid prefix before the end byte is the longest one
 pub ended_longest : (bytes prefix rest : List ℕ) (C : Context) (xs : List ChangeValue) → Front prefix C xs → bytes ≡ prefix ++ 254 ∷ rest → Longest bytes prefix (254 ∷ rest)
 ended_longest bytes prefix rest C xs f whole = record {
   context = C;
@@ -159,11 +159,11 @@ ended_ends bytes prefix rest C xs f whole = longest_ends bytes prefix (254 ∷ r
 pub spelled_ends : (bytes : List ℕ) (batch : List ChangeValue) (s : SpellsO5c bytes batch) → EndsAt bytes (position (reader_of s.context) batch (254 ∷ []))
 spelled_ends bytes batch s = ended_ends bytes s.prefix [] s.context batch s.is_front s.whole
 
--- one list of bytes spells at most one batch
+-- bytes spell at most one batch
 pub one_batch : (bytes : List ℕ) (a b : List ChangeValue) → SpellsO5c bytes a → SpellsO5c bytes b → a ≡ b
 one_batch bytes a b s t = ap (λ (p : Position). p.changes) (one_end_at bytes (position (reader_of s.context) a (254 ∷ [])) (position (reader_of t.context) b (254 ∷ [])) (spelled_ends bytes a s) (spelled_ends bytes b t))
 
--- what follows a spelling of a batch makes no other spelling
+-- no spelling of a batch is a prefix of another one
 pub no_longer : (bytes more : List ℕ) (a b : List ChangeValue) → SpellsO5c bytes a → SpellsO5c (bytes ++ more) b → more ≡ []
 no_longer bytes more a b s t =
     let whole : bytes ++ more ≡ s.prefix ++ 254 ∷ more = ap (λ (l : List ℕ). l ++ more) s.whole ∙ append_assoc s.prefix (254 ∷ []) more in
@@ -222,7 +222,7 @@ same_front prefix rest other more e w =
     let size : length prefix ≡ length other = omega (arith, ap length whole, length-append prefix rest, length-append other rest) in
     sym (take_at prefix rest (length prefix) refl) ∙ ap (take (length prefix)) whole ∙ take_at other rest (length prefix) (sym size)
 
--- one front is the longest
+-- there is one longest valid prefix
 pub one_front : (bytes prefix rest other more : List ℕ) → Longest bytes prefix rest → Longest bytes other more → prefix ≡ other
 one_front bytes prefix rest other more l k =
     let same : position (reader_of l.context) l.changes rest ≡ position (reader_of k.context) k.changes more = one_end_at bytes (position (reader_of l.context) l.changes rest) (position (reader_of k.context) k.changes more) (longest_ends bytes prefix rest l) (longest_ends bytes other more k) in

@@ -1,4 +1,4 @@
--- The chains of an index lead to every string of their bucket.
+-- The chains of an index lead to every string of their bucket that can be named.
 use Rattle.std.proofs.Common.{◌≡◌, ℕ, zero, suc, ◌+◌, ◌-◌, ◌/◌, ◌<◌, ◌≤◌, true, false, leb, List, [], ◌∷◌, ◌++◌, length, get_or, take, drop, Option, Some, None, refl, sym, ap, subst, ◌∙◌, arith, inl, inr, slice_set}
 use Rattle.std.specs.Prelude.{◌≢◌, slice_get}
 use Rattle.std.specs.Str.{bytes_eq}
@@ -18,10 +18,10 @@ pub strings_length : (bytes : List ℕ) (slots : List Slot) → length (strings_
 strings_length bytes [] = refl
 strings_length bytes (s ∷ ss) = ap suc (strings_length bytes ss)
 
-pub strings_place : (bytes : List ℕ) (slots : List Slot) (i : ℕ) → i < length slots → string_at (strings_of bytes slots) i ≡ string_of bytes (get_or slots i no_slot)
-strings_place bytes [] i h = absurd (omega arith)
-strings_place bytes (s ∷ ss) zero h = refl
-strings_place bytes (s ∷ ss) (suc i) h = strings_place bytes ss i (omega arith)
+pub strings_at : (bytes : List ℕ) (slots : List Slot) (i : ℕ) → i < length slots → string_at (strings_of bytes slots) i ≡ string_of bytes (get_or slots i no_slot)
+strings_at bytes [] i h = absurd (omega arith)
+strings_at bytes (s ∷ ss) zero h = refl
+strings_at bytes (s ∷ ss) (suc i) h = strings_at bytes ss i (omega arith)
 
 string_more : (bytes more : List ℕ) (s : Slot) → s.start + s.size ≤ length bytes → string_of (bytes ++ more) s ≡ string_of bytes s
 string_more bytes more s h = ap (λ (l : List ℕ). take s.size l) (drop-append-le s.start bytes more (omega arith)) ∙ take-append-le s.size (drop s.start bytes) more (omega (arith, length-drop s.start bytes))
@@ -60,7 +60,7 @@ leads_more strings text j p h l =
     let here : string_at (strings ++ text ∷ []) j ≡ string_at strings j = get_or_append_left strings (text ∷ []) [] j h in
     record { after = after; within = omega (arith, length-append strings (text ∷ [])); same = ap bucket_of there ∙ l.same ∙ sym (ap bucket_of here) }
 
--- bytes that no slot stands for change nothing
+-- bytes appended without a slot change nothing
 pub indexed_more : (bytes more : List ℕ) (slots : List Slot) (heads : List ℕ) → IsIndexed bytes slots heads → IsIndexed (bytes ++ more) slots heads
 indexed_more bytes more slots heads x = record {
   within = λ i h. omega (arith, x.within i h, length-append bytes more);
@@ -121,8 +121,8 @@ new_head strings slots heads text s e j h r =
     elim (cases_eq (bucket_of (string_at (strings ++ text ∷ []) j)) (bucket_of text)) [
       | inl is ↦
           let found : get_or (slice_set heads (bucket_of text) (length slots + 1)) (bucket_of text) 0 ≡ length slots + 1 = get_or-set_same heads (bucket_of text) (length slots + 1) 0 (omega arith) in
-          let place : length slots + 1 - 1 ≡ length strings = omega arith in
-          rw (is, found) (record { after = omega (arith, size); within = omega (arith, sizes); same = rw place (ap bucket_of (same strings text).last ∙ sym is) })
+          let newest : length slots + 1 - 1 ≡ length strings = omega arith in
+          rw (is, found) (record { after = omega (arith, size); within = omega (arith, sizes); same = rw newest (ap bucket_of (same strings text).last ∙ sym is) })
       | inr other ↦
           let early : j < length strings = (elim (cases_lt j (length strings)) [
             | inl less ↦ less
@@ -203,7 +203,7 @@ none_in strings slots heads bucket head count x is none = record {
 
 -- ---- the least number
 
--- the last equal string stands where its number says
+-- the last equal string is at the index that its number gives
 record Found (table : List (List ℕ)) (text : List ℕ) (m : ℕ) : Type 0 where
   bound : m ≤ length table
   at : string_at table (length table - m) ≡ text
@@ -216,16 +216,16 @@ last_there (x ∷ xs) text h =
           let t : leb 1 (last_equal xs text) ≡ false = grind (arith, nat_tests) in
           elim (cases_Bool (bytes_eq x text)) [
             | inl is ↦
-                let place : length (x ∷ xs) - (length xs + 1) ≡ 0 = omega arith in
-                rw (t, is) (record { bound = omega arith; at = rw place ((bytes_eq-Decides x text).0 is) })
+                let first : length (x ∷ xs) - (length xs + 1) ≡ 0 = omega arith in
+                rw (t, is) (record { bound = omega arith; at = rw first ((bytes_eq-Decides x text).0 is) })
             | inr other ↦ let k : 1 ≤ 0 = rw (t, other) at h in absurd (omega arith)
           ]
       | inr some ↦
           let t : leb 1 (last_equal xs text) ≡ true = grind (arith, nat_tests) in
           let inner : Found xs text (last_equal xs text) = last_there xs text some in
           let bound : last_equal xs text ≤ length xs = inner.bound in
-          let place : length (x ∷ xs) - last_equal xs text ≡ suc (length xs - last_equal xs text) = omega arith in
-          rw t (record { bound = omega arith; at = rw place inner.at })
+          let next : length (x ∷ xs) - last_equal xs text ≡ suc (length xs - last_equal xs text) = omega arith in
+          rw t (record { bound = omega arith; at = rw next inner.at })
     ]
 
 -- an equal string has no smaller number
@@ -261,7 +261,7 @@ any_default (y ∷ ys) (suc i) x d h e = any_default ys i x d (omega arith) e
 
 -- ---- the search
 
--- whatever equals the text and can be named stands before a place to which the chain leads
+-- the chain from here on leads to every string that equals the text and can be named
 pub record IsAhead (strings : List (List ℕ)) (text : List ℕ) (at : ℕ) : Type 0 where
   pub within : at ≤ length strings
   pub leads : (j : ℕ) → j < length strings → IsRecent strings j → string_at strings j ≡ text → Leads strings j at
@@ -284,8 +284,8 @@ ahead_next strings text at next some a other p =
           ];
     }
 
-pub previous_is : (strings : List (List ℕ)) (slots : List Slot) (heads : List ℕ) (place : ℕ) (slot : Slot) → place < length slots → IsChained strings slots heads → slot ≡ get_or slots place no_slot → IsPrevious strings place slot.previous
-previous_is strings slots heads place slot h x is = rw is (record { back = x.back place h; last = λ j less r b. x.chain place j less h r b })
+pub previous_is : (strings : List (List ℕ)) (slots : List Slot) (heads : List ℕ) (index : ℕ) (slot : Slot) → index < length slots → IsChained strings slots heads → slot ≡ get_or slots index no_slot → IsPrevious strings index slot.previous
+previous_is strings slots heads index slot h x is = rw is (record { back = x.back index h; last = λ j less r b. x.chain index j less h r b })
 
 pub reference_past : (strings : List (List ℕ)) (text : List ℕ) (at : ℕ) → IsAhead strings text at → (0 < at → 15000 < length strings - (at - 1)) → reference_of strings text ≡ None
 reference_past strings text at a far =
@@ -319,7 +319,7 @@ reference_found strings text at number a some e is few =
     let u : leb (last_equal strings text) 15000 ≡ true = (let k : last_equal strings text ≤ 15000 = omega arith in grind (arith, nat_tests)) in
     rw (t, u) (ap (λ (n : ℕ). Some n) same)
 
--- what a number that names the text says
+-- what holds of a number that names the text
 pub record Names (strings : List (List ℕ)) (text : List ℕ) (k : ℕ) : Type 0 where
   pub low : 1 ≤ k
   pub high : k ≤ 15000
@@ -338,8 +338,8 @@ names strings text k e =
                   | inl past ↦ let v : leb k (length strings) ≡ false = grind (arith, nat_tests) in let x : None ≡ Some text = rw (t, u, v) at e in absurd cc
                   | inr within ↦ let v : leb k (length strings) ≡ true = grind (arith, nat_tests) in
                       let x : slice_get strings (length strings - k) ≡ Some text = rw (t, u, v) at e in
-                      let place : string_at strings (length strings - k) ≡ text = get_or_from_slice_get strings (length strings - k) text [] x in
-                      let a : Above strings text (length strings - k) = no_smaller strings text (length strings - k) (omega arith) place in
+                      let there : string_at strings (length strings - k) ≡ text = get_or_from_slice_get strings (length strings - k) text [] x in
+                      let a : Above strings text (length strings - k) = no_smaller strings text (length strings - k) (omega arith) there in
                       let one : 1 ≤ last_equal strings text = a.some in
                       let least : last_equal strings text + (length strings - k) ≤ length strings = a.least in
                       record { low = low; high = high; above = omega arith; some = one }

@@ -1,4 +1,4 @@
--- What a writer has entered are the entries of the context, each as it stands in line.
+-- The strings that a writer has entered are the entries of the context, each as its in-line bytes.
 use Rattle.std.proofs.Common.{◌≡◌, ℕ, zero, suc, ◌+◌, ◌-◌, ◌^◌, ◌<◌, ◌≤◌, Bool, true, false, cond, leb, ◌&&◌, List, [], ◌∷◌, ◌++◌, length, Option, Some, None, refl, sym, ap, subst, ◌∙◌, append_assoc, arith, inl, inr}
 use Rattle.std.specs.Prelude.{Contains, slice_get}
 use Rattle.std.specs.List.{AllByRecursion}
@@ -33,7 +33,7 @@ abbrev pub IsClean : Entry → Type 0
 IsClean (Pair first second) = (¬ Contains first 0) × (¬ Contains second 0)
 IsClean (Single text) = ¬ Contains text 0
 
--- these strings are the entries of a context, each in line
+-- these strings are the entries of a context, each as its in-line bytes
 pub record IsKnown (ss : List Entry) (strings : List (List ℕ)) : Type 0 where
   pub are : strings ≡ entries_in_line (entries_of ss)
   pub clean : AllByRecursion IsClean (entries_of ss)
@@ -50,7 +50,7 @@ clean-push : (es : List Entry) (e : Entry) → AllByRecursion IsClean es → IsC
 clean-push [] e all c = (c, tt)
 clean-push (x ∷ xs) e all c = (all.0, clean-push xs e all.1 c)
 
--- ---- two strings that stand in line alike are one
+-- ---- strings with the same in-line bytes are the same
 
 abbrev tail_of : List ℕ → List ℕ
 tail_of [] = []
@@ -126,7 +126,7 @@ named_to es e k h =
 
 -- ---- a string by reference or in line
 
--- what is entered after a string in line
+-- the strings entered after a string in line
 known_after : (ss : List Entry) (strings : List (List ℕ)) (e : Entry) → IsKnown ss strings → IsClean e → IsKnown (ss ++ e ∷ []) (entered_by None strings (entry_in_line e) (size_of e))
 known_after ss strings e k c =
     elim (cases_lt 250 (size_of e)) [
@@ -188,7 +188,7 @@ pair_by ss strings first second None known c l = record {
   shortest = no_name ss strings (Pair first second) known l;
 }
 
--- the strings in line after a written pair, and what is entered then
+-- the strings in line after a written pair, and the strings entered then
 pub record PairWritten (ss : List Entry) (strings : List (List ℕ)) (first second : List ℕ) : Type 0 where
   pub after : List Entry
   pub spells : SpellsPair ss (pair_text strings first second) first second after

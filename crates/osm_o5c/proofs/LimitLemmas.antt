@@ -1,4 +1,4 @@
--- What is read is within its limits, whatever stood before it.
+-- What is read is within its limits, whatever came before it.
 use Rattle.std.proofs.Common.{◌≡◌, ℕ, zero, suc, ◌≤◌, List, [], ◌∷◌, length, Option, Some, refl, subst, arith}
 use Rattle.std.specs.Prelude.{ℤ, ◌+ℤ◌}
 use Rattle.std.specs.List.{AllByRecursion}

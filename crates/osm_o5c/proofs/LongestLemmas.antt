@@ -1,4 +1,4 @@
--- The front that no dataset lengthens is the longest of all, and no spelling of a number begins another.
+-- A valid prefix that no dataset extends is the longest of all; no spelling of a number is a prefix of another.
 use Rattle.std.proofs.Common.{◌≡◌, ℕ, zero, suc, ◌+◌, ◌-◌, ◌<◌, ◌≤◌, cond, eqb, ltb, List, [], ◌∷◌, ◌++◌, length, Option, Some, None, refl, sym, ap, subst, ◌∙◌, arith, inl, inr}
 use Rattle.std.proofs.lemmas.Bool.{cases_lt}
 use Rattle.std.proofs.lemmas.Option.{same_Some, some_pair_parts}
@@ -80,7 +80,7 @@ walked_back bytes k p q here ends =
       | inr most ↦ walk_shrinks bytes k (ends.count - k) p q here (subst (λ (i : ℕ). walk i bytes ≡ Some q) (let z : ends.count ≡ k + (ends.count - k) = omega arith in z) ends.leads)
     ]
 
--- each front that the bytes begin with is at most as long
+-- every valid prefix of the bytes is at most as long
 pub longest_of_all : (bytes prefix rest other more : List ℕ) (C : Context) (xs : List ChangeValue) → Longest bytes prefix rest → Front other C xs → bytes ≡ other ++ more → length other ≤ length prefix
 longest_of_all bytes prefix rest other more C xs l f whole =
     let w = front_walks other C xs more f in
@@ -89,7 +89,7 @@ longest_of_all bytes prefix rest other more C xs l f whole =
     let back : length rest ≤ length more = walked_back (w.behind ++ more) w.count (position (reader_of C) xs more) (position (reader_of l.context) l.changes rest) w.leads (subst (λ (b : List ℕ). Ends b (position (reader_of l.context) l.changes rest)) same end.ends) in
     omega (arith, ap length whole, ap length l.whole, length-append prefix rest, length-append other more)
 
--- two spellings of numbers at the start of the same bytes are one, of one number
+-- two spellings at the start of the same bytes are the same, of the same number
 pub one_number : (prefix rest other more : List ℕ) (n m : ℕ) → SpellsNumber prefix n → SpellsNumber other m → prefix ++ rest ≡ other ++ more → (n ≡ m) × (prefix ≡ other)
 one_number prefix rest other more n m a b e =
     let first : unsigned_at (prefix ++ rest) ≡ Some (n, rest) = unsigned_again prefix n rest a in

@@ -1,4 +1,4 @@
--- What the loops over tags, references and members lean on: each part read leaves fewer bytes.
+-- The loops over tags, references and members end: each part that is read leaves fewer bytes.
 use Rattle.std.proofs.Common.{◌≡◌, ℕ, ◌<◌, eqb, List, [], ◌∷◌, length, Some, ap, subst, arith}
 use Rattle.std.specs.Prelude.{ℤ, ◌+ℤ◌}
 use Rattle.std.proofs.lemmas.Option.{same_Some}

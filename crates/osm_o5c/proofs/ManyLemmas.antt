@@ -1,4 +1,4 @@
--- Parts of one form up to the end: the loop that reads them, and the laws between reading and spelling.
+-- Lists: the loop that reads their parts, and the laws that connect reading and spelling.
 use Rattle.std.proofs.Common.{◌≡◌, ℕ, zero, suc, ◌<◌, ◌≤◌, List, [], ◌∷◌, ◌++◌, length, Option, Some, None, refl, ap, subst, ◌∙◌, append_assoc, arith}
 use Rattle.std.specs.List.{AllByRecursion}
 use Rattle.std.proofs.lemmas.Option.{same_Some}
@@ -14,7 +14,7 @@ use Rattle.osm_o5c.proofs.TakenLemmas.{TakenTo}
 module _ {S A : Type 0} where
   -- ---- the loop
 
-  -- the reading of what comes after these parts
+  -- the answer for a list that begins with these parts, from the answer for the rest of it
   abbrev pub behind : List A → Option (List A × S) → Option (List A × S)
   behind prefix (Some m) = Some (prefix ++ m.0, m.1)
   behind prefix None = None
@@ -46,22 +46,22 @@ module _ {S A : Type 0} where
   many_bad one zero s bytes h e = many_full one s bytes h
   many_bad one (suc k) s bytes h e = many_one one k s bytes h ∙ rw e refl
 
-  -- one part more at the loop's step
+  -- a step of the loop reads one more part
   pub loop_more : (one : S → List ℕ → Option (A × S × List ℕ)) (k j : ℕ) (s : S) (bytes : List ℕ) (x : A) (t : S) (rest : List ℕ) (found : List A) (whole : Option (List A × S)) → 0 < length bytes → k ≡ suc j → one s bytes ≡ Some (x, t, rest) → whole ≡ behind found (many_at one k s bytes) → whole ≡ behind (found ++ x ∷ []) (many_at one j t rest)
   loop_more one k j s bytes x t rest found whole h is e w =
       let step : many_at one k s bytes ≡ and_then (many_at one j t rest) (λ m. Some (x ∷ m.0, m.1)) = rw (is, many_one one j s bytes h, e) refl in
       w ∙ ap (behind found) step ∙ behind_one found x (many_at one j t rest)
 
-  -- too many
+  -- there are too many parts
   pub loop_over : (one : S → List ℕ → Option (A × S × List ℕ)) (k : ℕ) (s : S) (bytes : List ℕ) (found : List A) (whole : Option (List A × S)) → whole ≡ behind found (many_at one k s bytes) → k ≡ 0 → 0 < length bytes → whole ≡ None
   loop_over one k s bytes found whole w z h = w ∙ rw (z, many_full one s bytes h) refl
 
-  -- a wrong part
+  -- a part is wrong
   pub loop_wrong : (one : S → List ℕ → Option (A × S × List ℕ)) (k : ℕ) (s : S) (bytes : List ℕ) (found : List A) (whole : Option (List A × S)) (refusal : Refusal) → whole ≡ behind found (many_at one k s bytes) → 0 < length bytes → Fails refusal (one s bytes) → Fails refusal whole
   loop_wrong one k s bytes found whole WantOfMemory w h f = tt
   loop_wrong one k s bytes found whole (Fault why) w h f = w ∙ rw (many_bad one k s bytes h f) refl
 
-  -- the end
+  -- the bytes end
   pub loop_end : (one : S → List ℕ → Option (A × S × List ℕ)) (k : ℕ) (s : S) (bytes : List ℕ) (found : List A) (whole : Option (List A × S)) → whole ≡ behind found (many_at one k s bytes) → length bytes ≡ 0 → whole ≡ Some (found, s)
   loop_end one k s [] found whole w h = w ∙ rw (many_end one k s, append-nil found) refl
   loop_end one k s (b ∷ bs) found whole w h = absurd (omega arith)

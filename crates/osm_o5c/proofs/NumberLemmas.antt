@@ -13,7 +13,7 @@ use Rattle.osm_o5c.proofs.TakenLemmas.{Taken, parts_then}
 
 -- ---- unsigned numbers
 
--- the prefix is a varint of so many bytes at most
+-- the prefix is a varint of at most this many bytes
 record TakesVarint (most n : ℕ) (prefix : List ℕ) : Type 0 where
   varint : IsVarint prefix
   value : n ≡ varint_value prefix
@@ -73,7 +73,7 @@ unsigned_takes bytes x e =
     let t = varint_take 10 bytes x e in
     record { prefix = t.prefix; parts = t.parts; spelled = record { varint = t.spelled.varint; value = t.spelled.value; short = t.spelled.short; small = t.spelled.small } }
 
--- no spelling of a number begins another: the number and the bytes after it are the only ones
+-- no spelling of a number is a prefix of another: the number and the bytes after it are the only ones
 pub unsigned_again : (prefix : List ℕ) (n : ℕ) (rest : List ℕ) → SpellsNumber prefix n → unsigned_at (prefix ++ rest) ≡ Some (n, rest)
 unsigned_again prefix n rest s = varint_again 10 prefix n rest (record { varint = s.varint; value = s.value; short = s.short; small = s.small })
 

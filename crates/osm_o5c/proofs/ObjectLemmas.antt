@@ -1,4 +1,4 @@
--- Objects that are read are spelled, and the other way round.
+-- Objects that are read are spelled, and vice versa.
 use Rattle.std.proofs.Common.{◌≡◌, ℕ, ◌<◌, List, [], ◌∷◌, ◌++◌, length, Some, refl, ap, subst, ◌∙◌, append_assoc, arith}
 use Rattle.std.specs.Prelude.{ℤ}
 use Rattle.std.specs.List.{AllByRecursion}
@@ -64,7 +64,7 @@ members_again C bytes members after s l = many_again reader_of member_at SpellsM
 
 -- ---- what an object is
 
--- the bytes spell what is within the limits, and leave this reader
+-- the bytes spell something within the limits, and this is the reader after them
 pub record WhatSpelled (kind : Kind) (C : Context) (bytes : List ℕ) (what : What) (s : Reader) : Type 0 where
   pub after : Context
   pub spells : SpellsWhat kind C bytes what after
@@ -111,9 +111,9 @@ node_takes C bytes x e =
 
 node_again : (C : Context) (bytes : List ℕ) (lon lat : ℤ) (tags : List Tag) (after : Context) → SpellsNode C bytes lon lat tags after → IsLocation lon lat → AreTags tags → node_at (reader_of C) bytes ≡ Some (Node lon lat tags, reader_of after)
 unfolding node_at
-node_again C bytes lon lat tags after s place l =
-    let x : longitude_at (wrapped_total C.lons) (s.lon_bytes ++ (s.lat_bytes ++ s.tag_bytes)) ≡ Some (lon, s.lat_bytes ++ s.tag_bytes) = longitude_again C.lons s.lon_bytes lon s.lons (s.lat_bytes ++ s.tag_bytes) s.longitude place.longitude in
-    let y : latitude_at (wrapped_total C.lats) (s.lat_bytes ++ s.tag_bytes) ≡ Some (lat, s.tag_bytes) = latitude_again C.lats s.lat_bytes lat s.lats s.tag_bytes s.latitude place.latitude in
+node_again C bytes lon lat tags after s location l =
+    let x : longitude_at (wrapped_total C.lons) (s.lon_bytes ++ (s.lat_bytes ++ s.tag_bytes)) ≡ Some (lon, s.lat_bytes ++ s.tag_bytes) = longitude_again C.lons s.lon_bytes lon s.lons (s.lat_bytes ++ s.tag_bytes) s.longitude location.longitude in
+    let y : latitude_at (wrapped_total C.lats) (s.lat_bytes ++ s.tag_bytes) ≡ Some (lat, s.tag_bytes) = latitude_again C.lats s.lat_bytes lat s.lats s.tag_bytes s.latitude location.latitude in
     let t : tags_at (table_of C.strings) s.tag_bytes ≡ Some (tags, table_of s.strings) = tags_again C.strings s.tag_bytes tags s.strings s.tags_are l in
     let whole : bytes ≡ s.lon_bytes ++ (s.lat_bytes ++ s.tag_bytes) = s.whole ∙ append_assoc s.lon_bytes s.lat_bytes s.tag_bytes in
     rw (whole, x, y, t, s.context, wrapped_state C.lons s.lon_bytes lon s.lons s.longitude, wrapped_state C.lats s.lat_bytes lat s.lats s.latitude) refl

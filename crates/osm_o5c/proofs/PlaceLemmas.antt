@@ -20,7 +20,7 @@ use Rattle.osm_reading.proofs.StepLemmas.{some_then, some_when, chosen}
 use Rattle.osm_o5c.proofs.FieldLemmas.{reader_of}
 use Rattle.osm_o5c.proofs.FrontLemmas.{IsReached, reached_first, reached_more, reached_longest, step_shorter, walk, Ends, EndsAt, one_end_at, same_behind, none_later, apart, longest_ends, spelled_ends, front_walks}
 
--- how far after the longest front the place of the fault is, by what follows the front
+-- how far after the longest valid prefix the place of the fault is, given the bytes after the prefix
 abbrev offset : List ℕ → Option ℕ
 offset [] = Some 0
 offset (b ∷ []) = cond (eqb b 254) None (Some 0)
@@ -59,7 +59,7 @@ fault_parts _ _ (no_dataset bytes prefix rest l h) = inr (record {
   sum = omega (arith, ap length l.whole, length-append prefix rest);
 })
 
--- if a front was read, the bytes have the beginning
+-- if the bytes have a valid prefix, they have the beginning
 front_begins : (bytes prefix rest : List ℕ) (C : Context) (xs : List ChangeValue) → Front prefix C xs → bytes ≡ prefix ++ rest → Unbegun bytes → ⊥
 front_begins bytes prefix rest C xs f whole u =
     let w = front_walks prefix C xs rest f in
@@ -105,8 +105,8 @@ spelled_or_wrong bytes batch p s f =
 
 -- ---- what a reader finds
 
-stands_wrong : (bytes : List ℕ) (p : Position) (n : ℕ) → IsReached bytes p → step p ≡ None → ((more : List ℕ) → p.rest ≡ 254 ∷ more → ⊥) → n + length p.rest ≡ length bytes → FaultPlace bytes n
-stands_wrong bytes p n s e other at =
+reached_wrong : (bytes : List ℕ) (p : Position) (n : ℕ) → IsReached bytes p → step p ≡ None → ((more : List ℕ) → p.rest ≡ 254 ∷ more → ⊥) → n + length p.rest ≡ length bytes → FaultPlace bytes n
+reached_wrong bytes p n s e other at =
     let l : Longest bytes s.prefix p.rest = reached_longest bytes p s e in
     let w : length s.prefix ≡ n = omega (arith, ap length s.whole, length-append s.prefix p.rest) in
     subst (FaultPlace bytes) w (no_dataset bytes s.prefix p.rest l other)
@@ -127,16 +127,16 @@ step_empty : (p : Position) → p.rest ≡ [] → step p ≡ None
 unfolding step dataset_at
 step_empty p e = rw e refl
 
--- the bytes stop being datasets
+-- no dataset follows
 pub exit_bad : (bytes : List ℕ) (p : Position) → IsReached bytes p → step p ≡ None → get_or p.rest 0 0 ≢ 254 → FaultPlace bytes (length bytes - length p.rest)
 exit_bad bytes p s e other =
-    stands_wrong bytes p (length bytes - length p.rest) s e (λ more is. other (ap (λ (l : List ℕ). get_or l 0 0) is)) (omega (arith, ap length s.whole, length-append s.prefix p.rest))
+    reached_wrong bytes p (length bytes - length p.rest) s e (λ more is. other (ap (λ (l : List ℕ). get_or l 0 0) is)) (omega (arith, ap length s.whole, length-append s.prefix p.rest))
 
 -- the bytes end without the end byte
 pub exit_empty : (bytes : List ℕ) (p : Position) → IsReached bytes p → length p.rest ≡ 0 → FaultPlace bytes (length bytes)
 exit_empty bytes p s none =
     let is : p.rest ≡ [] = nothing_left p.rest none in
-    stands_wrong bytes p (length bytes) s (step_empty p is) (λ more e. omega (arith, ap length e)) (omega arith)
+    reached_wrong bytes p (length bytes) s (step_empty p is) (λ more e. omega (arith, ap length e)) (omega arith)
 
 -- bytes follow the end byte
 pub exit_more : (bytes : List ℕ) (p : Position) → IsReached bytes p → 1 < length p.rest → get_or p.rest 0 0 ≡ 254 → FaultPlace bytes (length bytes - length p.rest + 1)
@@ -271,9 +271,9 @@ walk_grows bytes k (suc j) p q a b =
     let r = some_then (walk (k + j) bytes) step q last in
     omega (arith, walk_grows bytes k j p r.0 a r.1, step_grows r.0 q r.2)
 
--- so many steps led to where a reader is
-stands_walked : (bytes : List ℕ) (p : Position) → IsReached bytes p → (behind : List ℕ) × (bytes ≡ beginning ++ behind) × ((k : ℕ) × (walk k behind ≡ Some p))
-stands_walked bytes p s =
+-- a number of steps leads to the position of a reader
+reached_walked : (bytes : List ℕ) (p : Position) → IsReached bytes p → (behind : List ℕ) × (bytes ≡ beginning ++ behind) × ((k : ℕ) × (walk k behind ≡ Some p))
+reached_walked bytes p s =
     let w = front_walks s.prefix s.context p.changes p.rest s.is_front in (
       w.behind ++ p.rest,
       s.whole ∙ ap (λ (l : List ℕ). l ++ p.rest) w.begins,
@@ -291,9 +291,9 @@ empty_later bytes k p q here object none ends other =
           elim (which (step p)) [
             | inl stuck ↦ apart (walk ends.count bytes) q (none_later bytes ends.count k p less here stuck) ends.leads
             | inr more ↦
-                let next_place : walk (suc k) bytes ≡ Some more.0 = walked_one bytes k p more.0 here more.1 in
+                let next_step : walk (suc k) bytes ≡ Some more.0 = walked_one bytes k p more.0 here more.1 in
                 let adds : 0 < length more.0.changes = step_adds p more.0 object more.1 in
-                omega (arith, walk_grows bytes (suc k) (ends.count - suc k) more.0 q next_place later, ap (λ (l : List ChangeValue). length l) none)
+                omega (arith, walk_grows bytes (suc k) (ends.count - suc k) more.0 q next_step later, ap (λ (l : List ChangeValue). length l) none)
           ]
       | inr most ↦ elim (cases_lt ends.count k) [
         | inl less ↦ apart (walk k bytes) p (none_later bytes k ends.count q less ends.leads ends.stuck) here
@@ -306,7 +306,7 @@ empty_later bytes k p q here object none ends other =
 -- if an object begins after what was read, the bytes don't spell the empty batch
 pub wanted_at_object : (bytes : List ℕ) (p : Position) → IsReached bytes p → BeginsObject p.rest → SpellsO5c bytes [] → ⊥
 wanted_at_object bytes p s object empty =
-    let here = stands_walked bytes p s in
+    let here = reached_walked bytes p s in
     let ends : EndsAt bytes (position (reader_of empty.context) [] (254 ∷ [])) = spelled_ends bytes [] empty in
     let same : ends.behind ≡ here.0 = same_behind ends.behind here.0 (sym ends.begins ∙ here.1) in
     empty_later here.0 here.2.0 p (position (reader_of empty.context) [] (254 ∷ [])) here.2.1 object refl (subst (λ (l : List ℕ). Ends l (position (reader_of empty.context) [] (254 ∷ []))) same ends.ends) no_some
@@ -315,7 +315,7 @@ no_found : (s : Reader) (bytes : List ℕ) (c : ChangeValue) (after : Reader) (r
 no_found s bytes c after rest e =
     let found : ◌≡◌ {A = Option ChangeValue} None (Some c) = ap (λ (q : Option ChangeValue × Reader × List ℕ). q.0) (same_Some (None, s, bytes) (Some c, after, rest) e) in cc
 
--- if a change is found, an object begins
+-- a change is only found in an object
 other_found : (t : ℕ) (s : Reader) (bytes : List ℕ) (c : ChangeValue) (after : Reader) (rest : List ℕ) → other_dataset_at t s bytes ≡ Some (Some c, after, rest) → ⊥
 unfolding other_dataset_at
 other_found t s bytes c after rest e =

@@ -42,7 +42,7 @@ signed_minus_65 : signed_text (negsuc 64) ≡ 0x81 ∷ 0x01 ∷ []
 unfolding varint_text
 signed_minus_65 = refl
 
--- a last byte that adds nothing
+-- a varint with a last byte that adds nothing
 padded_5 : SpellsNumber (0x85 ∷ 0x00 ∷ []) 5
 padded_5 = record { varint = (omega arith, omega arith); value = refl; short = omega arith; small = omega arith }
 
@@ -64,7 +64,7 @@ node_dataset : dataset_text new_state (record { key = record { kind = kinds.Node
 unfolding varint_text ann
 node_dataset = refl
 
--- node 2 at the same place after it: the user is the last string
+-- node 2 at the same location, after node 1: the user is the last string
 second_dataset : dataset_text (after_object new_state (record { key = record { kind = kinds.Node; id = pos 1 }; meta = ann; what = Node (pos 10000000) (pos 20000000) [] })) (record { key = record { kind = kinds.Node; id = pos 2 }; meta = ann; what = Node (pos 10000000) (pos 20000000) [] })
     ≡ 0x10 ∷ 0x07 ∷ 0x02 ∷ 0x01 ∷ 0x00 ∷ 0x00 ∷ 0x01 ∷ 0x00 ∷ 0x00 ∷ []
 unfolding varint_text ann

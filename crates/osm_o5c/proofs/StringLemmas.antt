@@ -54,7 +54,7 @@ until_again (b ∷ bs) rest none =
     let inner : until_nul_at (bs ++ 0 ∷ rest) ≡ Some (bs, rest) = until_again bs rest (λ c. none (suc c.0, omega (arith, c.1), c.2)) in
     rw (other, inner) refl
 
--- where the code finds the first 00
+-- what the code finds is the first 00
 pub until_found : (bytes : List ℕ) (i : ℕ) → i < length bytes → get_or bytes i 0 ≡ 0 → ((k : ℕ) → k < i → get_or bytes k 0 ≢ 0) → until_nul_at bytes ≡ Some (take i bytes, drop (i + 1) bytes)
 unfolding until_nul_at
 until_found [] i h e none = absurd (omega arith)
@@ -74,7 +74,7 @@ until_none (b ∷ bs) none =
 
 -- ---- references
 
--- what spells a number that names an entry begins with no 00
+-- a spelling of a number that names an entry doesn't begin with 00
 named_none : (es : List Entry) (s : Entry) → named es 0 ≡ Some s → ⊥
 named_none es s e = absurd cc
 
@@ -258,7 +258,7 @@ is_text_true : (b : Bool) → (b ≡ true → ⊥) → b ≡ false
 is_text_true true h = absurd (h refl)
 is_text_true false h = refl
 
--- what the code answers if it is no text
+-- the answer for bytes that aren't a text
 pub text_none : (bs : List ℕ) → (IsText bs → ⊥) → text_of bs ≡ None
 unfolding text_of
 text_none bs h = rw (is_text_true (is_text bs) (λ e. h (is_text_is bs e))) refl

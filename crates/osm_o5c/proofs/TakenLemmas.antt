@@ -1,13 +1,13 @@
--- What a reading takes from the start of bytes.
+-- What is read from the start of bytes.
 use Rattle.std.proofs.Common.{◌≡◌, ℕ, List, ◌++◌, sym, ap, ◌∙◌, append_assoc}
 
--- the bytes have a prefix that is so, and the rest after it
+-- the bytes are a prefix with this property, followed by the rest
 pub record Taken (spelled_by : List ℕ → Type 0) (bytes rest : List ℕ) : Type 0 where
   pub prefix : List ℕ
   pub parts : bytes ≡ prefix ++ rest
   pub spelled : spelled_by prefix
 
--- the same if the prefix leads to another context, and the state is that of the context
+-- the same for a prefix that leads to a context with this state
 pub record TakenTo {Ctx S : Type 0} (state_of : Ctx → S) (spelled_by : List ℕ → Ctx → Type 0) (bytes : List ℕ) (state : S) (rest : List ℕ) : Type 0 where
   pub prefix : List ℕ
   pub after : Ctx

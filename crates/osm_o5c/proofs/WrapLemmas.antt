@@ -6,7 +6,7 @@ use Rattle.std.proofs.lemmas.Int.{ints}
 use Rattle.osm_o5c.specs.Context.{IsWrapped}
 use Rattle.osm_o5c.specs.Steps.NumberReading.{wrapped_of}
 
--- a number and its rest differ by whole multiple
+-- a number and its remainder differ by a multiple of 2^32
 multiple_of : (z : ℤ) → (t : ℤ) × (z ≡ int_rem_euclid z (pos 4294967296) +ℤ pos 4294967296 *ℤ t)
 multiple_of (pos a) = (pos (a / 4294967296), omega (arith, ints))
 multiple_of (negsuc a) = (negsuc (a / 4294967296), omega (arith, ints))
@@ -32,14 +32,14 @@ wrapped_is sum =
       differs = omega (arith, ints, t.1);
     }
 
--- a sum is one number in 32 bits
+-- a sum has one value in 32 bits
 pub one_wrapped : (v w sum : ℤ) → IsWrapped v sum → IsWrapped w sum → v ≡ w
 one_wrapped v w sum a b = omega (arith, ints, a.low, a.high, a.differs, b.low, b.high, b.differs)
 
 pub wrapped_same : (v sum : ℤ) → IsWrapped v sum → wrapped_of sum ≡ v
 wrapped_same v sum w = one_wrapped (wrapped_of sum) v sum (wrapped_is sum) w
 
--- a difference added to the number in 32 bits is added to the sum
+-- adding a difference to the sum in 32 bits is the same as adding it to the sum itself
 pub wrapped_more : (sum d : ℤ) → wrapped_of (wrapped_of sum +ℤ d) ≡ wrapped_of (sum +ℤ d)
 wrapped_more sum d =
     let a : IsWrapped (wrapped_of sum) sum = wrapped_is sum in
@@ -51,7 +51,7 @@ wrapped_more sum d =
       differs = omega (arith, ints, a.differs, b.differs);
     }))
 
--- what the code computes of a rest by whole multiple
+-- what the code computes from the remainder
 pub wrapped_high : (v counter d : ℤ) → v +ℤ pos 4294967296 ≡ counter +ℤ int_rem_euclid d (pos 4294967296) → neg_ℤ (pos 2147483648) ≤ℤ v → v ≤ℤ pos 2147483647 → v ≡ wrapped_of (counter +ℤ d)
 wrapped_high v counter d e low high =
     let t : (t : ℤ) × (d ≡ int_rem_euclid d (pos 4294967296) +ℤ pos 4294967296 *ℤ t) = multiple_of d in

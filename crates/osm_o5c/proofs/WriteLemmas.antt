@@ -73,13 +73,13 @@ drop-cons_at [] i c h is = absurd (omega arith)
 drop-cons_at (x ∷ xs) zero c h is = ap (λ (y : ChangeValue). y ∷ xs) is
 drop-cons_at (x ∷ xs) (suc i) c h is = let n : suc i + 1 ≡ suc (i + 1) = omega arith in rw n (drop-cons_at xs i c (omega arith) is)
 
--- the objects from one on: its text and those after it
+-- the text of the objects from one on is its text and that of the objects after it
 objects_from : (before : Option Kind) (s : State) (cs : List ChangeValue) (i : ℕ) (c : ChangeValue) → i < length cs → get_or cs i c ≡ c → objects_text before s (drop i cs) ≡ change_text before s c ++ objects_text (Some c.key.kind) (after_change before s c) (drop (i + 1) cs)
 objects_from before s cs i c h is =
     let here : drop i cs ≡ c ∷ drop (i + 1) cs = drop-cons_at cs i c h is in
     rw here refl
 
--- the loop's step: what is written and what is left stay together
+-- a step of the loop: what is written and the text of what is left stay the whole text
 pub objects_more : (before kind : Option Kind) (s t : State) (cs : List ChangeValue) (i : ℕ) (c : ChangeValue) (old new whole : List ℕ) → i < length cs → get_or cs i c ≡ c → old ++ objects_text before s (drop i cs) ≡ whole → new ≡ old ++ change_text before s c → t ≡ after_change before s c → kind ≡ Some c.key.kind → new ++ objects_text kind t (drop (i + 1) cs) ≡ whole
 objects_more before kind s t cs i c old new whole h is w e state_is k =
     rw (e, state_is, k) (append_assoc old (change_text before s c) (objects_text (Some c.key.kind) (after_change before s c) (drop (i + 1) cs)) ∙ ap (λ (l : List ℕ). old ++ l) (sym (objects_from before s cs i c h is)) ∙ w)

@@ -33,7 +33,7 @@ no_bounds = record { id = zero_id; time_low = omega (arith, ints); time_high = o
 new_known : IsKnown [] []
 new_known = record { are = refl; clean = tt }
 
--- where a writer is: after a shortest front, in this state, after a reset or not
+-- the position of a writer: after a shortest valid prefix, in this state, directly after a reset or not
 record At (prefix : List ℕ) (xs : List ChangeValue) (s : State) (after_reset : Bool) : Type 0 where
   context : Context
   is_front : Front prefix context xs

@@ -1,4 +1,4 @@
--- What is written of tags, references and members spells them, and how long it is.
+-- What is written for tags, references and members spells them, and how long it is.
 use Rattle.std.proofs.Common.{◌≡◌, ℕ, ◌*◌, ◌≤◌, List, [], ◌∷◌, ◌++◌, length, refl, sym, ap, subst, ◌∙◌, arith}
 use Rattle.std.specs.Prelude.{ℤ, pos, neg_ℤ, ◌-ℤ◌, ◌≤ℤ◌, Contains}
 use Rattle.std.specs.List.{AllByRecursion}
@@ -28,7 +28,7 @@ use Rattle.osm_o5c.proofs.KnownLemmas.{IsKnown, PairWritten, pair_written, pair_
 
 -- ---- tags
 
--- the strings in line after the tags, and what is entered then
+-- the strings in line after the tags, and the strings entered then
 pub record TagsWritten (ss : List Entry) (strings : List (List ℕ)) (tags : List Tag) : Type 0 where
   pub after : List Entry
   pub spells : SpellsTags ss (tags_text strings tags) tags after
@@ -56,7 +56,7 @@ tags_short strings (t ∷ ts) each =
 
 -- ---- references
 
--- the difference of two ids is short
+-- the difference of two ids fits in 64 bits
 pub ids_apart : (a b : ℤ) → IsId a → IsId b → (neg_ℤ (pos 9223372036854775808) ≤ℤ (b -ℤ a)) × ((b -ℤ a) ≤ℤ pos 9223372036854775807)
 ids_apart a b p q = let al = p.low in let ah = p.high in let bl = q.low in let bh = q.high in (omega (arith, ints), omega (arith, ints))
 
@@ -66,7 +66,7 @@ pub record RefsWritten (before : List ℤ) (refs : List ℤ) : Type 0 where
   pub last : total after ≡ last_ref (total before) refs
   pub shortest : AreShortestRefs spells
 
--- the references after one, from its value
+-- what is written for references, with the counter at this value, spells them
 record RefsFrom (before : List ℤ) (counter : ℤ) (refs : List ℤ) : Type 0 where
   after : List ℤ
   spells : SpellsRefs before (refs_text counter refs) refs after
@@ -132,7 +132,7 @@ positive_sum_with Node C ids ss = refl
 positive_sum_with Way C ids ss = refl
 positive_sum_with Relation C ids ss = refl
 
--- a writer's state is that of a context with these counters and entries
+-- the state of a writer is that of a context, with its counters and entries
 pub record IsState (C : Context) (s : State) : Type 0 where
   pub counters_are : counters_of C ≡ s.counters
   pub known : IsKnown C.strings s.strings

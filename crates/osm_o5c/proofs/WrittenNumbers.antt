@@ -1,4 +1,4 @@
--- What is written of numbers and strings spells them, and how long it is.
+-- What is written for numbers and strings spells them, and how long it is.
 use Rattle.std.proofs.Common.{◌≡◌, ℕ, zero, suc, ◌+◌, ◌*◌, ◌/◌, ◌%◌, ◌^◌, ◌<◌, ◌≤◌, true, false, ltb, List, [], ◌∷◌, ◌++◌, length, refl, ap, arith, inl, inr}
 use Rattle.std.specs.Prelude.{ℤ, pos, negsuc, neg_ℤ, ◌+ℤ◌, ◌-ℤ◌, ◌≤ℤ◌, Contains}
 use Rattle.std.proofs.lemmas.Bool.{cases_lt}
@@ -15,7 +15,7 @@ use Rattle.osm_o5c.proofs.StringLemmas.{none_before}
 
 -- ---- varints
 
--- how many numbers varints of so many bytes can show
+-- how many numbers varints of this many bytes can spell
 abbrev capacity : ℕ → ℕ
 capacity zero = 1
 capacity (suc k) = 128 * capacity k
@@ -120,7 +120,7 @@ sum_spells before v low high = record {
   sum_is = let t : total (before ++ (v -ℤ total before) ∷ []) ≡ total before +ℤ (v -ℤ total before) = total-push before (v -ℤ total before) in omega (arith, ints);
 }
 
--- a written difference to a counter
+-- a written difference from a counter
 pub record SumWritten (before : List ℤ) (counter v : ℤ) : Type 0 where
   pub spells : SpellsSum before (difference_text counter v) v (before ++ (v -ℤ total before) ∷ [])
   pub shortest : IsShortestSum spells

@@ -1,4 +1,4 @@
--- What is written of an object spells it, and the counters move on as in its context.
+-- What is written for an object spells it, and the counters change as in its context.
 use Rattle.std.proofs.Common.{◌≡◌, ℕ, ◌^◌, ◌<◌, ◌≤◌, List, [], ◌∷◌, ◌++◌, length, refl, sym, subst, arith}
 use Rattle.std.specs.Prelude.{ℤ, pos, neg_ℤ, ◌-ℤ◌, ◌≤ℤ◌}
 use Rattle.std.proofs.lemmas.Int.{ints}
@@ -111,8 +111,8 @@ record WhatWritten (kind : Kind) (C : Context) (s : State) (what : What) : Type 
 location_counters : (C : Context) (lons lats : List ℤ) (ss : List Entry) (lon lat : ℤ) → wrapped_total lons ≡ lon → wrapped_total lats ≡ lat → counters_of (record C { lons = lons; lats = lats; strings = ss }) ≡ record (counters_of C) { lon = lon; lat = lat }
 location_counters C lons lats ss lon lat x y = rw (x, y) refl
 
-bounds_place : (s : Counters) (lon lat : ℤ) → Bounds s → Bounds (record s { lon = lon; lat = lat })
-bounds_place s lon lat b = record { id = b.id; time_low = b.time_low; time_high = b.time_high; changeset_low = b.changeset_low; changeset_high = b.changeset_high; way_node = b.way_node; node_member = b.node_member; way_member = b.way_member; relation_member = b.relation_member }
+bounds_location : (s : Counters) (lon lat : ℤ) → Bounds s → Bounds (record s { lon = lon; lat = lat })
+bounds_location s lon lat b = record { id = b.id; time_low = b.time_low; time_high = b.time_high; changeset_low = b.changeset_low; changeset_high = b.changeset_high; way_node = b.way_node; node_member = b.node_member; way_member = b.way_member; relation_member = b.relation_member }
 
 node_written : (kind : Kind) (C : Context) (strings : List (List ℕ)) (lon lat : ℤ) (tags : List Tag) → IsKnown C.strings strings → Bounds (counters_of C) → kind ≡ kinds.Node → IsLocation lon lat → AreTags tags → WhatWritten kind C (state_of C strings) (Node lon lat tags)
 node_written kind C strings lon lat tags known b k p l =
@@ -153,7 +153,7 @@ node_written kind C strings lon lat tags known b k p l =
         counters_are = location_counters C (C.lons ++ (lon -ℤ wrapped_total C.lons) ∷ []) (C.lats ++ (lat -ℤ wrapped_total C.lats) ∷ []) t.after lon lat (wrapped_after C.lons lon lows highs) (wrapped_after C.lats lat lowt hight);
         known = t.known;
       };
-      bounds = bounds_place (counters_of C) lon lat b;
+      bounds = bounds_location (counters_of C) lon lat b;
       shortest = (x.shortest, y.shortest, t.shortest);
     }
 

@@ -1,4 +1,4 @@
--- What a file said since its last reset, and the numbers that differences make of it (OSM wiki,
+-- What a file has said since its last reset, and the numbers that its differences give (OSM wiki,
 -- O5m: delta coding).
 use Rattle.std.specs.Prelude.{◌≡◌, List, [], ◌∷◌, ◌++◌, ℕ, ℤ, pos, neg_ℤ, ◌+ℤ◌, ◌*ℤ◌, ◌≤ℤ◌}
 use Rattle.osm_model.specs.declared.kind.Kind.{Kind}
@@ -46,14 +46,14 @@ pub record IsWrapped (value sum : ℤ) : Type 0 where
   pub high : value ≤ℤ pos 2147483647
   pub differs : sum ≡ value +ℤ pos 4294967296 *ℤ multiple
 
--- a difference that makes the sum of its counter this number
+-- a difference that brings the sum of its counter to this number
 pub record SpellsSum (before : List ℤ) (bytes : List ℕ) (sum : ℤ) (after : List ℤ) : Type 0 where
   pub difference : ℤ
   pub signed : SpellsSigned bytes difference
   pub added : after ≡ before ++ difference ∷ []
   pub sum_is : sum ≡ total after
 
--- a difference that makes the sum of its counter, in 32 bits, this number
+-- a difference that brings the sum of its counter, in 32 bits, to this number
 pub record SpellsWrapped (before : List ℤ) (bytes : List ℕ) (value : ℤ)
     (after : List ℤ) : Type 0 where
   pub difference : ℤ
@@ -61,13 +61,13 @@ pub record SpellsWrapped (before : List ℤ) (bytes : List ℕ) (value : ℤ)
   pub added : after ≡ before ++ difference ∷ []
   pub wrapped : IsWrapped value (total after)
 
--- the differences of the members of a kind
+-- the differences of the counter for members of a kind
 abbrev pub members_of : Kind → Context → List ℤ
 members_of Node C = C.node_members
 members_of Way C = C.way_members
 members_of Relation C = C.relation_members
 
--- the context with these differences of the members of a kind
+-- the context with these differences of the counter for members of a kind
 abbrev pub with_members : Kind → Context → List ℤ → Context
 with_members Node C ds = record C { node_members = ds }
 with_members Way C ds = record C { way_members = ds }

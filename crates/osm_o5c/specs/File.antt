@@ -23,8 +23,9 @@ kind_byte Relation = 0x12
 abbrev pub end_byte : ℕ
 end_byte = 0xfe
 
--- one dataset, with the change that it is if it is one: an object with its length; another dataset
--- below f0, which is skipped by its length; f0 to fd, which has neither length nor content; a reset
+-- one dataset, and the change that it holds if it is an object: an object with its length; another
+-- type below f0, skipped by its length; a type from f0 to fd, with neither length nor content; a
+-- reset
 pub data Dataset : Context → List ℕ → Option ChangeValue → Context → Type 0 where
   object : (C : Context) (length_bytes content : List ℕ) (c : ChangeValue) (after : Context)
       → SpellsNumber length_bytes (length content) → SpellsObject C content c after
@@ -36,12 +37,13 @@ pub data Dataset : Context → List ℕ → Option ChangeValue → Context → T
   lone : (C : Context) (kind : ℕ) → 0xf0 ≤ kind → kind < 0xfe → Dataset C (kind ∷ []) None C
   reset : (C : Context) → Dataset C (0xff ∷ []) None fresh
 
--- the changes with the one of a dataset
+-- the changes, with that of one more dataset if it holds one
 abbrev pub changes_with : List ChangeValue → Option ChangeValue → List ChangeValue
 changes_with changes None = changes
 changes_with changes (Some c) = changes ++ c ∷ []
 
--- the beginning, or a front followed by one dataset; at most 100,000 changes
+-- a valid prefix of a file: the beginning, followed by any number of datasets; at most 100,000
+-- changes
 pub data Front : List ℕ → Context → List ChangeValue → Type 0 where
   begin : Front beginning fresh []
   next : (prefix : List ℕ) (C : Context) (changes : List ChangeValue) (dataset : List ℕ)
@@ -50,14 +52,14 @@ pub data Front : List ℕ → Context → List ChangeValue → Type 0 where
       → length (changes_with changes found) ≤ max_changes
       → Front (prefix ++ dataset) after (changes_with changes found)
 
--- a front with the changes of the batch, the end byte, and nothing else
+-- a valid prefix with the changes of the batch, the end byte, and nothing else
 pub record SpellsO5c (bytes : List ℕ) (batch : List ChangeValue) : Type 0 where
   pub prefix : List ℕ
   pub context : Context
   pub is_front : Front prefix context batch
   pub whole : bytes ≡ prefix ++ end_byte ∷ []
 
--- the bytes begin with a front that no dataset lengthens to another front
+-- the bytes begin with a valid prefix that no dataset extends to a longer one
 pub record Longest (bytes prefix rest : List ℕ) : Type 0 where
   pub context : Context
   pub changes : List ChangeValue
@@ -67,8 +69,8 @@ pub record Longest (bytes prefix rest : List ℕ) : Type 0 where
       → Dataset context dataset found after → length (changes_with changes found) ≤ max_changes
       → rest ≡ dataset ++ more → ⊥
 
--- the place of a fault: 0 if the bytes don't have the beginning; one past the longest front if the
--- end byte follows it and more bytes follow that; otherwise the end of the longest front
+-- the place of a fault: 0 if the bytes don't have the beginning; one past the longest valid prefix
+-- if the end byte follows it and more bytes follow that; otherwise the end of that prefix
 pub data FaultPlace : List ℕ → ℕ → Type 0 where
   no_beginning : (bytes : List ℕ) → ((more : List ℕ) → bytes ≡ beginning ++ more → ⊥)
       → FaultPlace bytes 0

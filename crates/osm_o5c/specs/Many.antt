@@ -1,7 +1,7 @@
--- Parts of one form up to the end of the bytes.
+-- Lists: parts of the same form up to the end of the bytes.
 use Rattle.std.specs.Prelude.{ℕ, List, [], ◌∷◌, ◌++◌}
 
--- one part after another, each in the state that those before it leave, and nothing after them
+-- one part after another, each in the state that the parts before it leave, and nothing after them
 pub data SpellsMany {State A : Type 0} (spells : State → List ℕ → A → State → Type 0)
     : State → List ℕ → List A → State → Type 0 where
   none : (s : State) → SpellsMany spells s [] [] s

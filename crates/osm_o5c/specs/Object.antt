@@ -15,7 +15,7 @@ use Rattle.osm_o5c.specs.Context.{with_strings, kind_digit}
 use Rattle.osm_o5c.specs.Many.{SpellsMany}
 use Rattle.osm_o5c.specs.declared.strings.Entry.{Entry}
 
--- a user: the pair of the bytes of one unsigned number, and the name
+-- a user: the pair of the user id, spelled as an unsigned number, and the name
 pub record SpellsUser (strings : List Entry) (bytes : List ℕ) (uid : ℕ) (name : List ℕ)
     (after : List Entry) : Type 0 where
   pub first : List ℕ
@@ -51,8 +51,8 @@ SpellsTags = SpellsMany SpellsTag
 abbrev pub SpellsRefs : List ℤ → List ℕ → List ℤ → List ℤ → Type 0
 SpellsRefs = SpellsMany SpellsSum
 
--- a member: its id as a difference to the counter of its kind, then its kind's digit and its role
--- as one string
+-- a member: its id as a difference from the counter of its kind, then the digit of its kind and its
+-- role as one string
 pub record SpellsMember (C : Context) (bytes : List ℕ) (m : Member) (after : Context) : Type 0 where
   pub id_bytes : List ℕ
   pub role_bytes : List ℕ
@@ -110,7 +110,7 @@ pub record SpellsRelation (C : Context) (bytes : List ℕ) (members : List Membe
   pub tags_are : SpellsTags then.strings tag_bytes tags strings
   pub context : after ≡ with_strings then strings
 
--- what an object of that kind is: nothing if it is deleted
+-- what an object of this kind is; no bytes if it is deleted
 abbrev pub SpellsWhat : Kind → Context → List ℕ → What → Context → Type 0
 SpellsWhat kind C bytes (Node lon lat tags) after =
     (kind ≡ kinds.Node) × SpellsNode C bytes lon lat tags after

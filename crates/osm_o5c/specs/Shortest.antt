@@ -1,6 +1,6 @@
 -- Spellings that are as short as they can be: every number in its fewest bytes, every string by the
--- least number that names it, or else in line, every difference exact, and a reset exactly before
--- an object of another kind than the object before it.
+-- least number that names it or else in line, every difference exact, and a reset exactly before an
+-- object whose kind differs from that of the object before it.
 use Rattle.std.specs.Prelude.{◌≡◌, ◌≢◌, ℕ, ◌<◌, ◌≤◌, List, [], ◌∷◌, length, Option, Some, None}
 use Rattle.std.specs.Prelude.{Bool, true, false, ℤ, ◌-ℤ◌}
 use Rattle.osm_model.specs.Change.{ChangeValue}
@@ -27,7 +27,7 @@ use Rattle.osm_o5c.specs.declared.strings.Entry.TheVariants.{Pair, Single}
 abbrev pub IsFewest : List ℕ → ℕ → Type 0
 IsFewest bytes n = (other : List ℕ) → SpellsNumber other n → length bytes ≤ length other
 
--- of the signed number
+-- no other spelling of the signed number has fewer bytes
 abbrev pub IsFewestSigned : List ℕ → ℤ → Type 0
 IsFewestSigned bytes v = IsFewest bytes (zigzag v)
 
@@ -46,7 +46,8 @@ IsShortestPair (in_line strings first second f s) = HasNoName strings (Pair firs
 IsShortestPair (reference strings bytes k first second n is) =
     IsFewest bytes k × IsLeastName strings k (Pair first second)
 
--- a single string likewise
+-- a single string in line that no number names, or the least number that names it, in its fewest
+-- bytes
 abbrev pub IsShortestSingle : {strings : List Entry} {bytes text : List ℕ} {after : List Entry}
     → SpellsSingle strings bytes text after → Type 0
 IsShortestSingle (in_line_single strings text t) = HasNoName strings (Single text)
@@ -58,15 +59,15 @@ abbrev pub IsShortestSum : {before : List ℤ} {bytes : List ℕ} {sum : ℤ} {a
     → SpellsSum before bytes sum after → Type 0
 IsShortestSum {before} {bytes} s = IsFewestSigned bytes s.difference
 
--- a difference of a location in its fewest bytes: the value less the one before it, not a number
--- that differs from that by a multiple of 2^32
+-- a difference of a longitude or latitude in its fewest bytes: the value minus the one before it,
+-- not a number that differs from that by a multiple of 2^32
 abbrev pub IsShortestWrapped : {before : List ℤ} {bytes : List ℕ} {value : ℤ} {after : List ℤ}
     → SpellsWrapped before bytes value after → Type 0
 IsShortestWrapped {before} {bytes} {value} s =
     IsFewestSigned bytes s.difference
     × ((last : ℤ) → IsWrapped last (total before) → s.difference ≡ value -ℤ last)
 
--- each part of a list
+-- each part of a list is a shortest one
 abbrev pub AllParts : {State A : Type 0} {spells : State → List ℕ → A → State → Type 0}
     (IsShortest : (s : State) (bytes : List ℕ) (x : A) (t : State) → spells s bytes x t → Type 0)
     {s : State} {bytes : List ℕ} {xs : List A} {after : State}
@@ -83,7 +84,7 @@ abbrev pub AreShortestRefs : {before : List ℤ} {bytes : List ℕ} {refs : List
     {after : List ℤ} → SpellsRefs before bytes refs after → Type 0
 AreShortestRefs refs = AllParts (λ s bytes x t spells. IsShortestSum spells) refs
 
--- the fields of metadata, the user's number among them
+-- the fields of the metadata, and the number in the first string of the user
 abbrev pub IsShortestMeta : {C : Context} {bytes : List ℕ} {m : MetaValue} {after : Context}
     → SpellsMeta C bytes m after → Type 0
 IsShortestMeta {C} {bytes} {m} s =
@@ -134,7 +135,7 @@ last_kind [] = None
 last_kind (c ∷ []) = Some c.key.kind
 last_kind (c ∷ d ∷ cs) = last_kind (d ∷ cs)
 
--- whether the last dataset of a front is a reset
+-- whether the last dataset of a valid prefix is a reset
 abbrev pub is_reset : {C : Context} {bytes : List ℕ} {found : Option ChangeValue}
     {after : Context} → Dataset C bytes found after → Bool
 is_reset (object C length_bytes content c after n s) = false
@@ -147,8 +148,9 @@ abbrev pub ends_in_reset : {bytes : List ℕ} {C : Context} {changes : List Chan
 ends_in_reset begin = false
 ends_in_reset (next prefix C changes dataset found after f s few) = is_reset s
 
--- a dataset of a shortest file, after these changes, after a reset or not: an object, after a
--- reset exactly if its kind isn't that of the change before it, or a reset after an object
+-- a dataset of a shortest file, after these changes, directly after a reset or not: an object,
+-- which follows a reset exactly if its kind differs from that of the last change; or a reset, which
+-- never follows another
 abbrev pub IsShortestDataset : List ChangeValue → Bool
     → {C : Context} {bytes : List ℕ} {found : Option ChangeValue} {after : Context}
     → Dataset C bytes found after → Type 0
@@ -165,7 +167,7 @@ IsShortestFront begin = Unit {0}
 IsShortestFront (next prefix C changes dataset found after f s few) =
     IsShortestFront f × IsShortestDataset changes (ends_in_reset f) s
 
--- a spelling of a batch as it is written: nothing is skipped, and the last dataset is no reset
+-- a spelling of a batch as it is written: no dataset is skipped, and the last one isn't a reset
 abbrev pub IsShortest : {bytes : List ℕ} {batch : List ChangeValue}
     → SpellsO5c bytes batch → Type 0
 IsShortest s = IsShortestFront s.is_front × (ends_in_reset s.is_front ≡ false)

@@ -1,5 +1,5 @@
--- No public clause cites a word of this folder: each reader once more as a function, for the
--- clauses of private functions.
+-- Each reader once more as a function, for the clauses of private functions. No public clause uses
+-- a definition of this folder.
 pub mod Ring
 pub mod NumberReading
 pub mod StringReading

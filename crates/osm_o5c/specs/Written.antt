@@ -1,6 +1,6 @@
 -- The written text of a batch (our choice of spelling): every number in its fewest bytes, exact
--- differences, every string that a reference names by the least one, a reset exactly if the kind
--- changes.
+-- differences, every string by the least number that names it or else in line, a reset exactly if
+-- the kind changes.
 use Rattle.std.specs.Prelude.{ℕ, zero, suc, ◌+◌, ◌/◌, ◌%◌, List, [], ◌∷◌, ◌++◌, length, Option}
 use Rattle.std.specs.Prelude.{Some, None, Bool, true, false, if◌then◌else◌, nat_lt, ◌==◌, ℤ, pos}
 use Rattle.std.specs.Prelude.{◌-ℤ◌, nat_le, ◌&&◌}
@@ -34,23 +34,23 @@ no_counters = record {
   relation_member = pos 0;
 }
 
--- right after a reset: all counters 0, no strings
+-- the state right after a reset: all counters 0, no strings
 abbrev pub new_state : State
 new_state = record { counters = no_counters; strings = [] }
 
--- the counter of the members of a kind
+-- the counter for members of a kind
 abbrev pub member_counter : Kind → Counters → ℤ
 member_counter kinds.Node s = s.node_member
 member_counter kinds.Way s = s.way_member
 member_counter kinds.Relation s = s.relation_member
 
--- the counters with this one of the members of a kind
+-- the counters with this one for members of a kind
 abbrev pub with_member_counter : Kind → Counters → ℤ → Counters
 with_member_counter kinds.Node s id = record s { node_member = id }
 with_member_counter kinds.Way s id = record s { way_member = id }
 with_member_counter kinds.Relation s id = record s { relation_member = id }
 
--- the varint of a number, the least significant seven bits first, in so many bytes at most
+-- the varint of a number, the least significant seven bits first, in at most this many bytes
 unfoldable pub varint_text : ℕ → ℕ → List ℕ
 varint_text zero n = []
 varint_text (suc k) n = if nat_lt n 128 then n ∷ [] else (n % 128 + 128) ∷ varint_text k (n / 128)
@@ -63,7 +63,7 @@ number_text n = varint_text 10 n
 abbrev pub signed_text : ℤ → List ℕ
 signed_text v = number_text (zigzag v)
 
--- the exact difference of a number to the last value of its counter
+-- the exact difference between a number and the last value of its counter
 abbrev pub difference_text : ℤ → ℤ → List ℕ
 difference_text before value = signed_text (value -ℤ before)
 
@@ -75,52 +75,55 @@ pair_in_line first second = 0 ∷ first ++ 0 ∷ second ++ 0 ∷ []
 abbrev pub single_in_line : List ℕ → List ℕ
 single_in_line text = 0 ∷ text ++ 0 ∷ []
 
--- the number of the last of these strings that is this one, counted from 1 at the end; 0 if none is
+-- the number of the last of these strings that equals this one, counted from 1 at the end; 0 if
+-- none does
 abbrev pub last_equal : List (List ℕ) → List ℕ → ℕ
 last_equal [] text = 0
 last_equal (one ∷ rest) text =
     if nat_le 1 (last_equal rest text) then last_equal rest text
     else (if bytes_eq one text then length rest + 1 else 0)
 
--- the least reference to a string, if one of the last 15,000 of these strings is that string
+-- the least number that names a string, if it equals one of the last 15,000 of these strings
 abbrev pub reference_of : List (List ℕ) → List ℕ → Option ℕ
 reference_of strings text =
     if nat_le 1 (last_equal strings text) && nat_le (last_equal strings text) max_entries
     then Some (last_equal strings text) else None
 
--- a string by that reference, if there is one; otherwise in line
+-- a string by that number, if there is one; otherwise in line
 abbrev pub by_reference : Option ℕ → List ℕ → List ℕ
 by_reference (Some k) text = number_text k
 by_reference None text = text
 
--- the strings in line that are entered, after one of this size: the one as well if it is written in
--- line and isn't too long
+-- the entered strings after one more of this size, which is entered if it is written in line and
+-- isn't too long
 abbrev pub entered_by : Option ℕ → List (List ℕ) → List ℕ → ℕ → List (List ℕ)
 entered_by (Some k) strings text size = strings
 entered_by None strings text size =
     if nat_le size max_size then strings ++ text ∷ [] else strings
 
--- a pair of strings after these entered ones, and what is entered after it
+-- the text of a pair, given the entered strings
 abbrev pub pair_text : List (List ℕ) → List ℕ → List ℕ → List ℕ
 pair_text strings first second =
     by_reference (reference_of strings (pair_in_line first second)) (pair_in_line first second)
 
+-- the entered strings after a pair
 abbrev pub after_pair : List (List ℕ) → List ℕ → List ℕ → List (List ℕ)
 after_pair strings first second =
     entered_by (reference_of strings (pair_in_line first second)) strings
     (pair_in_line first second) (length first + length second)
 
--- a single string after these entered ones, and what is entered after it
+-- the text of a single string, given the entered strings
 abbrev pub single_text : List (List ℕ) → List ℕ → List ℕ
 single_text strings text =
     by_reference (reference_of strings (single_in_line text)) (single_in_line text)
 
+-- the entered strings after a single string
 abbrev pub after_single : List (List ℕ) → List ℕ → List (List ℕ)
 after_single strings text =
     entered_by (reference_of strings (single_in_line text)) strings
     (single_in_line text) (length text)
 
--- a length, and so many bytes
+-- a length, and that many bytes
 abbrev pub part_text : List ℕ → List ℕ
 part_text part = number_text (length part) ++ part
 
@@ -137,22 +140,23 @@ tags_text strings [] = []
 tags_text strings (t ∷ ts) =
     pair_text strings t.key t.value ++ tags_text (after_pair strings t.key t.value) ts
 
--- what is entered after tags
+-- the entered strings after tags
 abbrev pub after_tags : List (List ℕ) → List Tag → List (List ℕ)
 after_tags strings [] = strings
 after_tags strings (t ∷ ts) = after_tags (after_pair strings t.key t.value) ts
 
--- each reference as the difference to the one before it
+-- each reference as the difference from the one before it
 abbrev pub refs_text : ℤ → List ℤ → List ℕ
 refs_text before [] = []
 refs_text before (r ∷ rs) = difference_text before r ++ refs_text r rs
 
--- the last reference, or the counter before them
+-- the last reference, or the counter if there are none
 abbrev pub last_ref : ℤ → List ℤ → ℤ
 last_ref before [] = before
 last_ref before (r ∷ rs) = last_ref r rs
 
--- each member's id as the difference to the one of its kind before it, then its digit and its role
+-- a member: its id as the difference from the counter of its kind, then the digit of its kind and
+-- its role
 abbrev pub member_text : State → Member → List ℕ
 member_text s m =
     difference_text (member_counter m.key.kind s.counters) m.key.id
@@ -178,7 +182,7 @@ after_members s (m ∷ ms) = after_members (after_member s m) ms
 abbrev pub with_tags : State → List Tag → State
 with_tags s tags = record { counters = s.counters; strings = after_tags s.strings tags }
 
--- what an object is: a location, references or members, and tags; nothing for a deletion
+-- what an object is: a location, references or members, and tags; no bytes for a deletion
 abbrev pub what_text : State → What → List ℕ
 what_text s (Node lon lat tags) =
     difference_text s.counters.lon lon ++ difference_text s.counters.lat lat
@@ -225,7 +229,7 @@ after_object s c = after_what (after_meta s c) c.what
 abbrev pub dataset_text : State → ChangeValue → List ℕ
 dataset_text s c = kind_byte c.key.kind ∷ part_text (object_text s c)
 
--- whether the object before was of another kind; before the first object there is none
+-- whether the object before this one was of another kind; the first object has none before it
 abbrev pub is_other : Option Kind → Kind → Bool
 is_other None kind = false
 is_other (Some before) kind = if kind_byte before == kind_byte kind then false else true
@@ -234,7 +238,7 @@ is_other (Some before) kind = if kind_byte before == kind_byte kind then false e
 abbrev pub reset_text : Option Kind → Kind → List ℕ
 reset_text before kind = if is_other before kind then 0xff ∷ [] else []
 
--- the state before an object: as new after a reset
+-- the state before an object: new if a reset precedes it
 abbrev pub state_before : Option Kind → State → Kind → State
 state_before before s kind = if is_other before kind then new_state else s
 
@@ -243,11 +247,11 @@ abbrev pub change_text : Option Kind → State → ChangeValue → List ℕ
 change_text before s c =
     reset_text before c.key.kind ++ dataset_text (state_before before s c.key.kind) c
 
--- the state after it
+-- the state after an object and the reset before it, if there is one
 abbrev pub after_change : Option Kind → State → ChangeValue → State
 after_change before s c = after_object (state_before before s c.key.kind) c
 
--- the objects after one of that kind, in this state
+-- objects in this state, after one of this kind
 abbrev pub objects_text : Option Kind → State → List ChangeValue → List ℕ
 objects_text before s [] = []
 objects_text before s (c ∷ cs) =

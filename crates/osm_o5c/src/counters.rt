@@ -12,7 +12,8 @@ use osm_model::form::Why;
 use osm_model::kind::Kind;
 use osm_model::limits::{MAX_ID, MAX_LAT, MAX_LON};
 
-/// The last value of each field since the last reset, or 0. A location is in units of 10^-7 degree.
+/// The last value of each field since the last reset, or 0 if there is none. Longitude and latitude
+/// are in units of 10^-7 degree.
 #[derive(Clone, Copy)]
 pub struct Counters {
     pub id: i64,
@@ -27,7 +28,7 @@ pub struct Counters {
 }
 
 impl Counters {
-    /// After a reset: all are 0.
+    /// The counters after a reset, all 0.
     pub fn new() -> Counters
         ensures { result ≡ no_counters }
     {
@@ -44,7 +45,7 @@ impl Counters {
         }
     }
 
-    /// The counter of the members of a kind.
+    /// The counter for members of this kind.
     pub fn member(&self, kind: Kind) -> i64
         ensures { result ≡ member_counter kind self.now }
     {
@@ -55,7 +56,7 @@ impl Counters {
         }
     }
 
-    /// Moves the counter of the members of a kind on.
+    /// Sets the counter for members of this kind.
     pub fn set_member(&mut self, kind: Kind, id: i64)
         ensures { self.new ≡ with_member_counter kind self.old id }
     {
@@ -67,7 +68,7 @@ impl Counters {
     }
 }
 
-/// The id that a difference to the counter gives, and the bytes after the difference.
+/// The id that the counter and the difference at the start add up to, and the bytes after it.
 #[tactic(auto, unfolding(crate::specs::Steps::NumberReading::id_at))]
 pub fn id(counter: i64, bytes: &[u8]) -> Result<(i64, &[u8]), Why>
     ensures limits { IfOk result (λ r. IsId r.0) }
@@ -81,7 +82,8 @@ pub fn id(counter: i64, bytes: &[u8]) -> Result<(i64, &[u8]), Why>
     }
 }
 
-/// The time or changeset that a difference to the counter gives.
+/// The time or changeset that the counter and the difference at the start add up to, and the bytes
+/// after it.
 #[tactic(auto, unfolding(crate::specs::Steps::NumberReading::positive_sum_at))]
 pub fn positive_sum(counter: i64, bytes: &[u8]) -> Result<(u32, &[u8]), Why>
     ensures finds { Finds (λ r. (r.0, r.1.now)) result (positive_sum_at counter bytes.now) }
@@ -95,7 +97,8 @@ pub fn positive_sum(counter: i64, bytes: &[u8]) -> Result<(u32, &[u8]), Why>
     }
 }
 
-/// The longitude that a difference in 32 bits gives.
+/// The longitude that the counter and the difference at the start add up to in 32 bits, and the
+/// bytes after it.
 #[tactic(auto, unfolding(crate::specs::Steps::NumberReading::longitude_at))]
 pub fn longitude(counter: i32, bytes: &[u8]) -> Result<(i32, &[u8]), Why>
     ensures { Finds (λ r. (r.0, r.1.now)) result (longitude_at counter bytes.now) }
@@ -109,7 +112,8 @@ pub fn longitude(counter: i32, bytes: &[u8]) -> Result<(i32, &[u8]), Why>
     }
 }
 
-/// The latitude that a difference in 32 bits gives.
+/// The latitude that the counter and the difference at the start add up to in 32 bits, and the
+/// bytes after it.
 #[tactic(auto, unfolding(crate::specs::Steps::NumberReading::latitude_at))]
 pub fn latitude(counter: i32, bytes: &[u8]) -> Result<(i32, &[u8]), Why>
     ensures { Finds (λ r. (r.0, r.1.now)) result (latitude_at counter bytes.now) }
@@ -125,7 +129,7 @@ pub fn latitude(counter: i32, bytes: &[u8]) -> Result<(i32, &[u8]), Why>
 
 const TWO_TO_32: i64 = 4_294_967_296;
 
-// The sum in 32 bits.
+// The sum, wrapped to 32 bits.
 fn wrapped(counter: i32, difference: i64) -> i32
     ensures { result ≡ wrapped_of (counter +ℤ difference) }
 {

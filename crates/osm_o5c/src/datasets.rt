@@ -1,4 +1,4 @@
-//! Datasets: objects with their lengths, resets, and what is skipped.
+//! Datasets: objects with their lengths, resets, and datasets that are skipped.
 
 ghost use Rattle.std.specs.Prelude.{◌≡◌, ◌≤◌, ◌++◌, length, Option, OnOk, IfOk, IfErr};
 ghost use Rattle.osm_o5c.specs.Steps.FileReading.{kind_of_byte, object_dataset_at};
@@ -54,7 +54,7 @@ impl<'a> Reader<'a> {
         Ok((Some(change), rest))
     }
 
-    // Passes over a dataset that is no object; a reset forgets counters and strings.
+    // Skips a dataset that isn't an object; a reset also resets the reader.
     #[tactic(auto, unfolding(crate::specs::Steps::FileReading::other_dataset_at))]
     fn other_dataset(
         &mut self,
@@ -100,7 +100,7 @@ impl<'a> Reader<'a> {
         }
     }
 
-    // Reads one more dataset, and gives the bytes after it.
+    // Reads one dataset, adds its change to the batch if it has one, and returns what follows it.
     #[tactic(auto, unfolding(crate::specs::Steps::FileReading::step))]
     fn next(
         &mut self,
@@ -176,7 +176,7 @@ fn byte_of(kind: Kind) -> u8
     }
 }
 
-// Whether the object before was of another kind.
+// Whether there is an object before this one and it is of another kind.
 fn is_another(before: Option<Kind>, kind: Kind) -> bool
     ensures { result ≡ is_other before kind }
 {
@@ -215,7 +215,7 @@ impl Writer {
         Ok(())
     }
 
-    // Appends an object, after a reset if it is of another kind than the object before it.
+    // Appends an object, after a reset if its kind differs from that of the object before it.
     fn write_change(&mut self, change: &Change) -> Result<(), WantOfMemory>
         ensures text { OnOk result
             (self.new.out.items ≡ self.old.out.items
@@ -232,7 +232,7 @@ impl Writer {
     }
 }
 
-/// The written text of a batch; too large soon after it passes 64 MiB.
+/// The written text of a batch; stops as too large soon after the text passes 64 MiB.
 pub fn write_file(alloc: Global, batch: &Batch) -> Result<Vec<u8>, FormError>
     ensures text { IfOk result (λ v. v.items ≡ o5c_text batch.now) }
     ensures small { IfOk result (λ v. length v.items ≤ max_file) }

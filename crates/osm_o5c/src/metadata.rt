@@ -22,7 +22,7 @@ use osm_model::text::Text;
 use osm_reading::refusal::Refusal;
 use std::alloc::Global;
 
-// The user id that is all of those bytes.
+// The user id, which takes up all of these bytes.
 #[tactic(auto, unfolding(crate::specs::Steps::StringReading::uid_of))]
 fn uid(bytes: &[u8]) -> Result<u32, Why>
     ensures finds { Finds (λ n. n) result (uid_of bytes.now) }
@@ -96,7 +96,7 @@ fn write_user_in_line(out: &mut Vec<u8>, uid: u32, name: &Text) -> Result<(), Wa
     Ok(())
 }
 
-// Appends a user, by the least reference if one names the pair, otherwise in line.
+// Appends a user: the least number that names the pair if there is one, otherwise the pair in line.
 fn write_user(
     out: &mut Vec<u8>,
     strings: &mut StringIndex,
@@ -110,12 +110,12 @@ fn write_user(
 {
     let start = out.len();
     write_user_in_line(out, uid, name)?;
-    // The pair in line has three bytes 00.
+    // The in-line form adds three bytes 00.
     let size = out.len() - start - 3;
     name_or_enter(out, strings, start, size)
 }
 
-/// Appends the metadata.
+/// Appends version, time, changeset and user.
 pub fn write_meta(out: &mut Vec<u8>, state: &mut State, meta: &Meta) -> Result<(), WantOfMemory>
     ensures text { OnOk result (out.new.items ≡ out.old.items ++ meta_text state.old meta.now) }
     ensures state_is { OnOk result (state.new ≡ record state.old {

@@ -10,14 +10,14 @@ ghost use Rattle.osm_o5c.specs.Written.{varint_text, number_text, difference_tex
 use osm_model::form::Why;
 use osm_model::memory::WantOfMemory;
 
-/// The unsigned number at the start, of at most 10 bytes, and the bytes after it.
+/// The unsigned number at the start, at most 10 bytes long, and the bytes after it.
 pub fn unsigned(bytes: &[u8]) -> Result<(u64, &[u8]), Why>
     ensures { Finds (λ r. (r.0, r.1.now)) result (unsigned_at bytes.now) }
 {
     varint(bytes, 10)
 }
 
-// The varint at the start, of at most so many bytes, and the bytes after it.
+// The varint at the start, at most `most` bytes long, and the bytes after it.
 #[tactic(auto, unfolding(crate::specs::Steps::NumberReading::varint_at))]
 fn varint(bytes: &[u8], most: usize) -> Result<(u64, &[u8]), Why>
     ensures { Finds (λ r. (r.0, r.1.now)) result (varint_at most bytes.now) }
@@ -53,8 +53,8 @@ pub fn signed(bytes: &[u8]) -> Result<(i64, &[u8]), Why>
     }
 }
 
-/// A length at the start, so many bytes, and the bytes after them; `past` is the cause if there are
-/// fewer.
+/// The part at the start, which is a length and that many bytes, and the bytes after it; `past` is
+/// the cause if there are fewer.
 #[tactic(auto, unfolding(crate::specs::Steps::NumberReading::part_at))]
 pub fn part(bytes: &[u8], past: Why) -> Result<(&[u8], &[u8]), Why>
     ensures { Finds (λ r. (r.0.now, r.1.now)) result (part_at bytes.now) }
@@ -70,7 +70,7 @@ pub fn part(bytes: &[u8], past: Why) -> Result<(&[u8], &[u8]), Why>
     Ok(rest.split_at(length as usize))
 }
 
-/// A version, changeset or user id: an unsigned number from 1 to 4,294,967,295.
+/// The version at the start, an unsigned number from 1 to 4,294,967,295, and the bytes after it.
 #[tactic(auto, unfolding(crate::specs::Steps::NumberReading::positive_at))]
 pub fn positive(bytes: &[u8]) -> Result<(u32, &[u8]), Why>
     ensures finds { Finds (λ r. (r.0, r.1.now)) result (positive_at bytes.now) }
@@ -99,7 +99,7 @@ pub fn write_unsigned(out: &mut Vec<u8>, number: u64) -> Result<(), WantOfMemory
     write_varint(out, number, 10)
 }
 
-// Appends the varint of a number, in at most so many bytes.
+// Appends the varint of a number in at most `most` bytes.
 #[inline(never)]
 fn write_varint(out: &mut Vec<u8>, number: u64, most: usize) -> Result<(), WantOfMemory>
     ensures { OnOk result (out.new.items ≡ out.old.items ++ varint_text most number) }
@@ -115,7 +115,7 @@ fn write_varint(out: &mut Vec<u8>, number: u64, most: usize) -> Result<(), WantO
     write_varint(out, number / 128, most - 1)
 }
 
-/// Appends the difference of two numbers in its fewest bytes.
+/// Appends the difference `value - before` in its fewest bytes.
 #[inline(always)]
 pub fn write_difference(out: &mut Vec<u8>, before: i64, value: i64) -> Result<(), WantOfMemory>
     ensures { OnOk result (out.new.items ≡ out.old.items ++ difference_text before value) }
@@ -142,7 +142,7 @@ fn write_wide_difference(out: &mut Vec<u8>, before: i64, value: i64) -> Result<(
     write_varint(out, (zigzag / 128) as u64, 9)
 }
 
-/// Appends the exact difference of two coordinates, in units of 10^-7 degree.
+/// Appends the exact difference `value - before` of two coordinates in units of 10^-7 degree.
 pub fn write_coordinate(out: &mut Vec<u8>, before: i32, value: i32) -> Result<(), WantOfMemory>
     ensures { OnOk result (out.new.items ≡ out.old.items ++ difference_text before value) }
 {

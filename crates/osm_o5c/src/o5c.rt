@@ -16,11 +16,11 @@ use osm_model::form::{ChangeForm, FormError};
 use osm_model::limits::MAX_FILE;
 use std::alloc::Global;
 
-/// The form o5c: datasets in binary, with differences for numbers and references for strings.
+/// The form o5c: binary datasets, with differences for numbers and references for strings.
 ///
-/// The place of a fault is the offset of the first dataset that isn't in the grammar; the seven
+/// The place of a fault is the offset of the first dataset that doesn't fit the grammar; the seven
 /// bytes of the beginning count as one dataset at offset 0. If the end byte is missing, the place
-/// is the end of the file; if bytes follow it, the first of them.
+/// is the end of the file; if bytes follow it, the place is the offset of the first of them.
 #[derive(Clone, Copy, Debug, PartialEq, Eq)]
 pub struct O5c;
 
@@ -48,13 +48,14 @@ impl ChangeForm for O5c {
     fn laws() {}
 }
 
-/// Laws of the form; does nothing at run time.
+/// States the laws of the form; does nothing at run time.
 ///
-/// What is spelled is within the limits. Bytes spell one batch or go wrong at one place. One front
-/// is the longest of all. No spelling of a number begins another, and none of a batch does. No
-/// spelling of a number is shorter than the written one. The written text of a batch spells it as
-/// `IsShortest` says: every number in its fewest bytes, every string by the least number that names
-/// it or else in line, every difference exact, and a reset exactly if the kind changes.
+/// Every batch that bytes spell is within the limits. Bytes spell exactly one batch or go wrong at
+/// exactly one place, never both. There is one longest valid prefix. No spelling of a number is a
+/// prefix of another one, and the same holds for batches. No spelling of a number is shorter than
+/// the written one. The written text of a batch spells it as `IsShortest` says: every number in its
+/// fewest bytes, every string by the least number that names it or else in line, every difference
+/// exact, and a reset exactly if the kind changes.
 pub fn laws_of_o5c()
     ensures limits { (bytes : List ℕ) (batch : List ChangeValue)
         → SpellsO5c bytes batch → IsBatch batch }

@@ -58,7 +58,7 @@ impl<'a> Reader<'a> {
         Ok(What::Relation { members, tags })
     }
 
-    // What an object of that kind is; a deletion if nothing is left.
+    // What an object of this kind is; a deletion if no bytes are left.
     #[tactic(auto, unfolding(crate::specs::Steps::ObjectReading::what_at))]
     fn what(&mut self, alloc: Global, kind: Kind, bytes: &'a [u8]) -> Result<What, Refusal>
         ensures { Gives (λ w. (w, self.new)) result (what_at kind self.old bytes.now) }
@@ -73,7 +73,7 @@ impl<'a> Reader<'a> {
         }
     }
 
-    /// The change that is all of those bytes.
+    /// The change, which takes up all of these bytes.
     #[tactic(auto, unfolding(crate::specs::Steps::ObjectReading::object_at))]
     pub fn object(&mut self, alloc: Global, kind: Kind, bytes: &'a [u8]) -> Result<Change, Refusal>
         ensures { Gives (λ c. (c, self.new)) result (object_at kind self.old bytes.now) }
@@ -165,7 +165,7 @@ impl Buffers {
         }
     }
 
-    /// Makes the content that of the object.
+    /// Replaces the content with that of this object.
     pub fn write_object(&mut self, state: &mut State, change: &Change) -> Result<(), WantOfMemory>
         ensures text { OnOk result (self.new.content.items ≡ object_text state.old change.now) }
         ensures state_is { OnOk result (state.new ≡ after_object state.old change.now) }

@@ -14,7 +14,7 @@ pub struct Reader<'a> {
 }
 
 impl<'a> Reader<'a> {
-    /// At the beginning of a file, which takes no memory.
+    /// A reader at the beginning of a file; takes no memory.
     pub fn new() -> Reader<'a>
         ensures { result ≡ new_reader }
     {
@@ -24,7 +24,7 @@ impl<'a> Reader<'a> {
         }
     }
 
-    /// All counters are 0, and no string is known.
+    /// Sets all counters to 0 and forgets all strings.
     pub fn reset(&mut self)
         ensures { self.new ≡ new_reader }
     {

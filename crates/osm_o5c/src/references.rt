@@ -91,7 +91,7 @@ fn role(alloc: Global, bytes: &[u8]) -> Result<(Kind, Text), Refusal>
     Ok((kind, role))
 }
 
-// The id that a difference to the counter gives.
+// The id that the counter and the difference add up to.
 fn moved(counter: i64, difference: i64) -> Result<i64, Why>
     ensures found { IfOk result (λ id. (id ≡ counter +ℤ difference) × (is_id id ≡ true)) }
     ensures refused { OnErr result (is_id (counter +ℤ difference) ≡ false) }
@@ -140,7 +140,7 @@ impl<'a> Reader<'a> {
     }
 }
 
-// Appends a reference as the difference to the counter of way nodes, which moves on.
+// Appends a reference as its difference from the counter of way nodes, and sets the counter to it.
 fn write_reference(out: &mut Vec<u8>, counters: &mut Counters, id: &i64) -> Result<(), WantOfMemory>
     ensures text { OnOk result
         (out.new.items ≡ out.old.items ++ difference_text counters.old.way_node id.now) }
@@ -151,7 +151,7 @@ fn write_reference(out: &mut Vec<u8>, counters: &mut Counters, id: &i64) -> Resu
     Ok(())
 }
 
-/// Appends references, each as the difference to the one before it.
+/// Appends references, each as its difference from the one before it.
 pub fn write_refs(
     out: &mut Vec<u8>,
     counters: &mut Counters,
@@ -179,7 +179,8 @@ fn digit_of(kind: Kind) -> u8
     }
 }
 
-// Appends a member, its id as the difference to the counter of its kind, which moves on.
+// Appends a member, with its id as the difference from the counter of its kind, and sets the
+// counter to the id.
 fn write_member(out: &mut Vec<u8>, state: &mut State, member: &Member) -> Result<(), WantOfMemory>
     ensures text { OnOk result
         (out.new.items ≡ out.old.items ++ member_text state.old member.now) }
@@ -197,7 +198,7 @@ fn write_member(out: &mut Vec<u8>, state: &mut State, member: &Member) -> Result
     Ok(())
 }
 
-/// Appends members, each id as the difference to the one of its kind before it.
+/// Appends members, each with its id as the difference from the one of its kind before it.
 pub fn write_members(
     out: &mut Vec<u8>,
     state: &mut State,

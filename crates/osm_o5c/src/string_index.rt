@@ -1,7 +1,7 @@
-//! The strings that a writer has entered, and the least number by which a reference names one.
+//! The strings that a writer has entered, and the least number that names each of them.
 //!
-//! The strings fall into buckets by a hash, and those of a bucket form a chain, the last of them
-//! first. A search walks the chain of its bucket, so the first equal string has the least number.
+//! Strings fall into buckets by their hash. The strings of a bucket form a chain, newest first, so
+//! the first equal string that a search finds has the least number.
 
 ghost use Rattle.std.specs.Prelude.{◌≡◌, [], ◌∷◌, ◌++◌, ◌<◌, ◌≤◌, ◌+◌, take, drop, length, OnOk};
 ghost use Rattle.std.specs.Prelude.{◌/◌, ◌↔◌, IfOk, IsTrue};
@@ -15,10 +15,10 @@ use osm_model::memory::WantOfMemory;
 use std::alloc::Global;
 use std::marker::Model;
 
-/// How many buckets the strings fall into.
+/// The number of buckets.
 const BUCKETS: usize = 32_768;
 
-/// A string as it stands in line, and its hash.
+/// The in-line bytes of a string, and their hash.
 #[derive(Drop)]
 pub struct HashedString<'a> {
     bytes: &'a [u8],
@@ -67,8 +67,8 @@ impl<'a> HashedString<'a> {
     }
 }
 
-/// Where a string stands in the bytes, its hash, and 1 more than the place of the string before
-/// it in its bucket, or 0 if there is none.
+/// Where a string begins in the bytes, its size and its hash. `previous` is one more than the index
+/// of the string before it in its bucket, or 0 if there was none that could be named.
 #[derive(Clone, Copy)]
 struct Slot {
     start: u32,
@@ -77,9 +77,10 @@ struct Slot {
     previous: u32,
 }
 
-/// Strings since the last reset in the order in which they were entered, each as it stands in line.
-/// `heads` has for each bucket 1 more than the place of the last string in it; a head that is older
-/// than the last reset is left there, and is known by the bucket of the string to which it leads.
+/// The strings entered since the last reset, oldest first, each as its in-line bytes.
+///
+/// `heads` has for each bucket one more than the index of its newest string. A reset leaves the
+/// heads alone: a head from before it leads to no string, or to a string in another bucket.
 #[derive(Drop)]
 pub struct StringIndex {
     bytes: Vec<u8>,
@@ -110,7 +111,7 @@ const LOW_BITS: u64 = 4_294_967_296;
 /// 2^17: the high 15 bits of a hash give its bucket.
 const HASHES_OF_BUCKET: u32 = 131_072;
 
-// One more step of the polynomial, modulo 2^64.
+// One step of the polynomial, modulo 2^64.
 fn mix(hash: u64, number: u64) -> u64
     ensures { result ≡ mixed hash number }
 {
@@ -149,8 +150,8 @@ fn hash_short(text: &[u8]) -> u64
     )
 }
 
-// A polynomial in the words of the string, the last eight bytes once more, so that no byte is left
-// over.
+// A polynomial in the whole words of the string and then in its last eight bytes, so that no byte
+// is left out.
 #[tactic(auto, unfolding(crate::specs::Steps::Index::polynomial_of))]
 fn polynomial(text: &[u8]) -> u64
     ensures { result ≡ polynomial_of text.now }
@@ -169,7 +170,7 @@ fn hash(text: &[u8]) -> u32
     (polynomial(text).wrapping_mul(SPREAD) / LOW_BITS) as u32
 }
 
-// The bucket of the strings with that hash.
+// The bucket of the strings with this hash.
 fn bucket_for(hash: u32) -> usize
     ensures value { result ≡ hash / 131072 }
     ensures bound { result < 32768 }
@@ -177,7 +178,7 @@ fn bucket_for(hash: u32) -> usize
     (hash / HASHES_OF_BUCKET) as usize
 }
 
-// The number in 32 bits.
+// The number in 32 bits; out of memory if it needs more.
 fn narrow(number: usize) -> Result<u32, WantOfMemory>
     ensures { IfOk result (λ n. n ≡ number) }
 {
@@ -187,14 +188,14 @@ fn narrow(number: usize) -> Result<u32, WantOfMemory>
     Ok(number as u32)
 }
 
-// Whether a number leads to a string that can be named, if there are so many strings.
+// Whether `head` leads to one of `count` strings that can still be named.
 fn is_recent(head: usize, count: usize) -> bool
     ensures { IsTrue result ↔ ((0 < head) × (head ≤ count) × (count < head + 15000)) }
 {
     0 < head && head <= count && count - head < MAX_ENTRIES
 }
 
-// The slot of a string that stands from there on.
+// The slot of a string that begins at `start`.
 fn slot_of(text: &HashedString, start: usize, previous: usize) -> Result<Slot, WantOfMemory>
     ensures { IfOk result (λ slot. slot ≡ record {
       start = start;
@@ -211,7 +212,7 @@ fn slot_of(text: &HashedString, start: usize, previous: usize) -> Result<Slot, W
     })
 }
 
-// So many bytes from there on.
+// The `size` bytes from `start` on.
 fn piece(bytes: &[u8], start: usize, size: usize) -> &[u8]
     requires { start + size ≤ length bytes.now }
     ensures { result.now ≡ take size (drop start bytes.now) }
@@ -222,7 +223,7 @@ fn piece(bytes: &[u8], start: usize, size: usize) -> &[u8]
 }
 
 impl StringIndex {
-    /// With no string, and with room for so many of some 16 bytes.
+    /// An empty index, with room for `room` strings of about 16 bytes each.
     pub fn new(alloc: Global, room: usize) -> Result<StringIndex, WantOfMemory>
         ensures { IfOk result (λ i. i ≡ []) }
     {
@@ -233,7 +234,7 @@ impl StringIndex {
         })
     }
 
-    /// Forgets all strings, and keeps what memory it has.
+    /// Forgets all strings but keeps the memory.
     pub fn clear(&mut self)
         ensures { self.new ≡ [] }
     {
@@ -241,8 +242,8 @@ impl StringIndex {
         self.slots.clear();
     }
 
-    // One more than the place of the last string in the bucket, or 0 if none in it can be named. A
-    // head that is older than the last reset may lead to a string in another bucket, or to none.
+    // One more than the index of the newest string in the bucket, or 0 if none in it can be named.
+    // A head from before the last reset may lead to a string in another bucket, or to none.
     fn last_in(&self, bucket: usize) -> usize
         requires { bucket < 32768 }
         ensures { IsLastIn self.now bucket result }
@@ -263,12 +264,12 @@ impl StringIndex {
         self.slots.len()
     }
 
-    // The string at a place.
-    fn string(&self, place: usize) -> &[u8]
-        requires { place < length self.now }
-        ensures { result.now ≡ string_at self.now place }
+    // The string at an index.
+    fn string(&self, index: usize) -> &[u8]
+        requires { index < length self.now }
+        ensures { result.now ≡ string_at self.now index }
     {
-        let slot = self.slots[place];
+        let slot = self.slots[index];
         piece(
             self.bytes.as_slice(),
             slot.start as usize,
@@ -276,35 +277,36 @@ impl StringIndex {
         )
     }
 
-    // The hash of the string at a place.
-    fn hash_at(&self, place: usize) -> u32
-        requires { place < length self.now }
-        ensures { result ≡ hash_of (string_at self.now place) }
+    // The hash of the string at an index.
+    fn hash_at(&self, index: usize) -> u32
+        requires { index < length self.now }
+        ensures { result ≡ hash_of (string_at self.now index) }
     {
-        self.slots[place].hash
+        self.slots[index].hash
     }
 
-    // Whether the string at a place is that one. Another hash means another string, so mostly none
-    // but an equal string is looked at.
-    fn is_at(&self, place: usize, text: &HashedString) -> bool
-        requires { place < length self.now }
-        ensures { IsTrue result ↔ (string_at self.now place ≡ text.now) }
+    // Whether the string at an index is this one. Strings with different hashes differ, so bytes
+    // are rarely compared unless they are equal.
+    fn is_at(&self, index: usize, text: &HashedString) -> bool
+        requires { index < length self.now }
+        ensures { IsTrue result ↔ (string_at self.now index ≡ text.now) }
     {
-        if self.hash_at(place) != text.hash() {
+        if self.hash_at(index) != text.hash() {
             return false;
         }
-        self.string(place) == text.as_slice()
+        self.string(index) == text.as_slice()
     }
 
-    // One more than the place of the string before it in the same bucket, or 0.
-    fn previous(&self, place: usize) -> usize
-        requires { place < length self.now }
-        ensures { IsPrevious self.now place result }
+    // One more than the index of the string before this one in the same bucket, or 0 if there was
+    // none that could be named.
+    fn previous(&self, index: usize) -> usize
+        requires { index < length self.now }
+        ensures { IsPrevious self.now index result }
     {
-        self.slots[place].previous as usize
+        self.slots[index].previous as usize
     }
 
-    /// The least number by which a reference can name the string.
+    /// The least number that names the string, or `None` if no number does.
     pub fn find(&self, text: &HashedString) -> Option<usize>
         ensures least { IsLeast self.now text.now result }
         ensures reference { result ≡ reference_of self.now text.now }
@@ -323,8 +325,8 @@ impl StringIndex {
         None
     }
 
-    /// Enters one more string. Out of memory as well if a number has more than 32 bits, which the
-    /// strings of a file don't come near.
+    /// Enters a string. Also out of memory if an offset, a size or an index needs more than 32
+    /// bits, which never happens with the strings of one file.
     pub fn enter(&mut self, text: &HashedString) -> Result<(), WantOfMemory>
         ensures { OnOk result (self.new ≡ self.old ++ text.now ∷ []) }
     {

@@ -1,4 +1,4 @@
-//! Strings, in line or by reference, and the table of those that a reference names (OSM wiki, O5m).
+//! Strings, in line or by reference, and the table of those that references name (OSM wiki, O5m).
 
 ghost use Rattle.std.specs.Prelude.{◌≡◌, ◌≤◌, [], ◌∷◌, ◌++◌, length, take, drop, OnOk};
 ghost use Rattle.std.specs.Prelude.{IfOk};
@@ -28,14 +28,14 @@ pub enum Entry<'a> {
     Single { text: FileString<'a> },
 }
 
-/// The longest string that is entered, in bytes; of a pair both together.
+/// The size of the longest string that is entered, in bytes; a pair counts as both together.
 const MAX_SIZE: usize = 250;
 
-/// How many of the last entries can be named.
+/// How many of the latest entries can be named.
 pub const MAX_ENTRIES: usize = 15_000;
 
-/// The last 15,000 strings in line since the last reset, except those of more than 250 bytes. It
-/// borrows them from the file, and makes its ring when the first is entered.
+/// The last 15,000 strings in line since the last reset, not counting those of more than 250 bytes.
+/// The table borrows them from the file, and makes its ring when the first one is entered.
 #[derive(Drop)]
 pub struct StringTable<'a> {
     ring: Option<HeapCircularBuffer<Entry<'a>>>,
@@ -55,14 +55,14 @@ impl<'a> Model for StringTable<'a> {
 }
 
 impl<'a> StringTable<'a> {
-    /// The empty table, which takes no memory.
+    /// The empty table; takes no memory.
     pub fn new() -> StringTable<'a>
         ensures { result ≡ [] }
     {
         StringTable { ring: None }
     }
 
-    /// Forgets all strings, and keeps the ring.
+    /// Forgets all strings but keeps the ring.
     pub fn clear(&mut self)
         ensures { self.new ≡ [] }
     {
@@ -87,7 +87,7 @@ impl<'a> StringTable<'a> {
         Ok(())
     }
 
-    // The k-th most recent entry.
+    // The k-th most recent entry, counted from 1.
     #[tactic(auto, unfolding(crate::specs::Steps::StringReading::latest))]
     fn get(&self, k: u64) -> Option<&Entry<'a>>
         ensures { option_copied result ≡ latest self.now k }
@@ -210,7 +210,7 @@ fn write_pair_in_line(out: &mut Vec<u8>, first: &[u8], second: &[u8]) -> Result<
     Ok(())
 }
 
-// Appends a single string in line, as `00 digit role 00`.
+// Appends a single string in line: `00 digit role 00`.
 fn write_single_in_line(out: &mut Vec<u8>, digit: u8, role: &[u8]) -> Result<(), WantOfMemory>
     ensures { OnOk result (out.new.items ≡ out.old.items ++ single_in_line (digit ∷ role.now)) }
 {
@@ -221,8 +221,8 @@ fn write_single_in_line(out: &mut Vec<u8>, digit: u8, role: &[u8]) -> Result<(),
     Ok(())
 }
 
-// The least number that names the string, if one does; otherwise enters the string, which is of
-// that size, unless it is too long.
+// The least number that names the string, if there is one; otherwise enters the string, unless it
+// is too long. `size` is its size without the bytes 00 of the in-line form.
 fn find_or_enter(
     strings: &mut StringIndex,
     text: &[u8],
@@ -244,8 +244,9 @@ fn find_or_enter(
     }
 }
 
-/// Puts the least reference in place of the string that stands in line from there on, if one names
-/// it; otherwise enters the string, which is of that size, unless it is too long.
+/// Replaces the in-line string that begins at `start` with the least number that names it, if there
+/// is one; otherwise enters the string, unless it is too long. `size` is its size without the bytes
+/// 00 of the in-line form.
 pub fn name_or_enter(
     out: &mut Vec<u8>,
     strings: &mut StringIndex,
@@ -269,7 +270,7 @@ pub fn name_or_enter(
     }
 }
 
-/// Appends a pair, by the least reference if one names it, otherwise in line.
+/// Appends a pair: the least number that names it if there is one, otherwise the pair in line.
 pub fn write_pair(
     out: &mut Vec<u8>,
     strings: &mut StringIndex,
@@ -285,8 +286,8 @@ pub fn write_pair(
     name_or_enter(out, strings, start, first.len() + second.len())
 }
 
-/// Appends a single string, a digit and a role, by the least reference if one names it, otherwise
-/// in line.
+/// Appends a single string, a digit and a role: the least number that names it if there is one,
+/// otherwise the string in line.
 pub fn write_single(
     out: &mut Vec<u8>,
     strings: &mut StringIndex,

@@ -13,7 +13,7 @@ use std::alloc::Global;
 /// Reset, header, length 4, `o5c2`.
 pub const BEGINNING: [u8; 7] = [0xff, 0xe0, 4, 0x6f, 0x35, 0x63, 0x32];
 
-/// The counters since the last reset, and the strings that were entered since then.
+/// The counters and the entered strings since the last reset.
 #[derive(Drop)]
 pub struct State {
     pub counters: Counters,
@@ -29,7 +29,8 @@ pub struct Writer {
     pub kind: Option<Kind>,
 }
 
-/// The content of an object and its reference part, written here before their lengths are known.
+/// The content of an object and its reference part; their lengths go before them in the file, so
+/// they are written here first.
 #[derive(Drop)]
 pub struct Buffers {
     pub content: Vec<u8>,
@@ -37,7 +38,7 @@ pub struct Buffers {
 }
 
 impl State {
-    /// After a reset, with room for so many strings.
+    /// The state after a reset, with room for `room` strings.
     pub fn new(alloc: Global, room: usize) -> Result<State, WantOfMemory>
         ensures { IfOk result (λ s. s ≡ new_state) }
     {
@@ -47,7 +48,7 @@ impl State {
         })
     }
 
-    /// All counters are 0, and no string is known.
+    /// Sets all counters to 0 and forgets all strings.
     pub fn reset(&mut self)
         ensures { self.new ≡ new_state }
     {
@@ -57,7 +58,7 @@ impl State {
 }
 
 impl Writer {
-    /// A file that is only its beginning, with room for so many changes of the usual size.
+    /// A file with only its beginning, and room for `changes` changes of the usual size.
     pub fn new(alloc: Global, changes: usize) -> Result<Writer, WantOfMemory>
         ensures { IfOk result (λ w. (w.out.items ≡ beginning) × (w.state ≡ new_state)
             × (w.kind ≡ Option.None)) }
@@ -74,7 +75,7 @@ impl Writer {
 }
 
 impl Buffers {
-    /// Both are empty.
+    /// Two empty buffers.
     pub fn new(alloc: Global) -> Buffers
         ensures content { result.content.items ≡ [] }
         ensures part { result.part.items ≡ [] }

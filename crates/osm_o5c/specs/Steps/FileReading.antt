@@ -1,4 +1,4 @@
--- The dataset at the start of bytes, and how far a file is read.
+-- The dataset at the start of bytes, and how far a file has been read.
 use Rattle.std.specs.Prelude.{ℕ, ◌==◌, List, [], ◌∷◌, ◌++◌, length, Option, Some, None, IsSome}
 use Rattle.std.specs.Prelude.{if◌then◌else◌, nat_lt}
 use Rattle.osm_model.specs.Change.{ChangeValue}
@@ -37,7 +37,7 @@ other_dataset_at t s bytes =
     else (if nat_lt t 254 then Some (None, s, bytes)
     else (if t == 255 then Some (None, new_reader, bytes) else None))
 
--- by the kind of an object, if it is one
+-- the dataset after its type byte: an object of that kind, or another dataset
 abbrev pub dataset_of : Option Kind → ℕ → Reader → List ℕ
     → Option (Option ChangeValue × Reader × List ℕ)
 dataset_of (Some kind) t = object_dataset_at kind
@@ -53,7 +53,7 @@ abbrev pub BeginsObject : List ℕ → Type 0
 BeginsObject [] = ⊥
 BeginsObject (t ∷ bytes) = IsSome (kind_of_byte t)
 
--- memory is refused only at an object
+-- out of memory only at an object
 abbrev pub WantsAt : List ℕ → Refusal → Type 0
 WantsAt bytes WantOfMemory = BeginsObject bytes
 WantsAt bytes (Fault why) = Unit {0}
@@ -67,18 +67,18 @@ pub record Position : Type 0 where
 abbrev pub position : Reader → List ChangeValue → List ℕ → Position
 position reader changes rest = record { reader = reader; changes = changes; rest = rest }
 
--- the change is added, if there is one and room for it
+-- the position after a dataset: its change is added if it holds one and the batch isn't full
 abbrev pub with_found : List ChangeValue → Option ChangeValue × Reader × List ℕ → Option Position
 with_found changes (None, reader, rest) = Some (position reader changes rest)
 with_found changes (Some c, reader, rest) =
     when (nat_lt (length changes) max_changes) (Some (position reader (changes ++ c ∷ []) rest))
 
--- one dataset more
+-- the position after one more dataset
 unfoldable pub step : Position → Option Position
 step p = and_then (dataset_at p.reader p.rest) (with_found p.changes)
 
 -- why a file that isn't too large is refused: out of memory, only if it doesn't spell the empty
--- batch, or a fault, at the place where it goes wrong
+-- batch; or a fault, at its place
 abbrev pub FileRefused : List ℕ → FormError → Type 0
 FileRefused bytes errors.WantOfMemory = SpellsO5c bytes [] → ⊥
 FileRefused bytes errors.TooLarge = ⊥

@@ -1,4 +1,4 @@
--- An index of strings: those that fall into one bucket form a chain, the last of them first.
+-- An index of strings: the strings of each bucket form a chain, newest first.
 use Rattle.std.specs.Prelude.{◌≡◌, ◌≢◌, ℕ, ◌+◌, ◌-◌, ◌*◌, ◌/◌, ◌%◌, ◌<◌, ◌≤◌, ◌&&◌, List, []}
 use Rattle.std.specs.Prelude.{◌∷◌, length, take, drop, get_or, slice_get, nat_le, nat_lt}
 use Rattle.std.specs.Prelude.{Option, Some, None, if◌then◌else◌}
@@ -7,7 +7,7 @@ use Rattle.std.specs.Simd.{first_chunks}
 use Rattle.osm_o5c.specs.Entries.{max_entries}
 use Rattle.osm_o5c.specs.declared.string_index.Slot.{Slot}
 
--- one more step of a polynomial, modulo 2^64
+-- one step of a polynomial, modulo 2^64
 abbrev pub mixed : ℕ → ℕ → ℕ
 mixed h n = (h * 1099511628211 + n) % 18446744073709551616
 
@@ -21,13 +21,14 @@ abbrev pub bytes_hash : ℕ → List ℕ → ℕ
 bytes_hash h [] = h
 bytes_hash h (b ∷ bs) = bytes_hash (mixed h b) bs
 
--- of a string of at most seven bytes: in its first four bytes and its last four, if it has four
+-- the polynomial of a string of at most seven bytes: in its first four bytes and its last four, or
+-- in each byte if it has fewer than four
 abbrev pub short_hash : List ℕ → ℕ
 short_hash text =
     if nat_lt (length text) 4 then bytes_hash 0 text
     else mixed (from_le_bytes w32 (take 4 text)) (from_le_bytes w32 (drop (length text - 4) text))
 
--- of a string: in its whole words and then in its last eight bytes
+-- the polynomial of a string: in its whole words, then in its last eight bytes
 unfoldable pub polynomial_of : List ℕ → ℕ
 polynomial_of text =
     if nat_lt (length text) 8 then short_hash text
@@ -55,32 +56,33 @@ strings_of bytes (slot ∷ slots) = string_of bytes slot ∷ strings_of bytes sl
 abbrev pub no_slot : Slot
 no_slot = record { start = 0; size = 0; hash = 0; previous = 0 }
 
--- the string at a place
+-- the string at an index
 abbrev pub string_at : List (List ℕ) → ℕ → List ℕ
 string_at strings j = get_or strings j []
 
--- a number p leads to the string at place j: p is 1 more than the place of a string in the same
--- bucket, and that place is j or comes after it
+-- a number p leads to the string at index j: p is one more than the index of a string in the same
+-- bucket, and that index is j or greater
 pub record Leads (strings : List (List ℕ)) (j p : ℕ) : Type 0 where
   pub after : j < p
   pub within : p ≤ length strings
   pub same : bucket_of (string_at strings (p - 1)) ≡ bucket_of (string_at strings j)
 
--- the string at a place can be named
+-- the string at an index can be named
 abbrev pub IsRecent : List (List ℕ) → ℕ → Type 0
 IsRecent strings j = length strings ≤ j + max_entries
 
--- a number that leads to each string in a bucket that can be named, or 0 if there is none
+-- a number that leads to each string in a bucket that can be named; 0 only if there is none
 pub record IsLastIn (strings : List (List ℕ)) (bucket p : ℕ) : Type 0 where
   pub within : p ≤ length strings
   pub last : (j : ℕ) → j < length strings → IsRecent strings j
       → bucket_of (string_at strings j) ≡ bucket → Leads strings j p
 
--- a number that leads to each string before that place in its bucket that can be named, or 0
-pub record IsPrevious (strings : List (List ℕ)) (place p : ℕ) : Type 0 where
-  pub back : p ≤ place
-  pub last : (j : ℕ) → j < place → IsRecent strings j
-      → bucket_of (string_at strings j) ≡ bucket_of (string_at strings place) → Leads strings j p
+-- a number that leads to each string that can be named among those before an index in its bucket;
+-- 0 only if there is none
+pub record IsPrevious (strings : List (List ℕ)) (index p : ℕ) : Type 0 where
+  pub back : p ≤ index
+  pub last : (j : ℕ) → j < index → IsRecent strings j
+      → bucket_of (string_at strings j) ≡ bucket_of (string_at strings index) → Leads strings j p
 
 -- the head of a bucket leads to each string in it that can be named, and the number in a slot leads
 -- to each such string before it in the same bucket
@@ -95,7 +97,7 @@ pub record IsChained (strings : List (List ℕ)) (slots : List Slot) (heads : Li
       → bucket_of (string_at strings j) ≡ bucket_of (string_at strings i)
       → Leads strings j (get_or slots i no_slot).previous
 
--- each slot stands for some of the bytes, and the chains lead to the strings
+-- the string of each slot lies within the bytes, and the chains lead to the strings
 pub record IsIndexed (bytes : List ℕ) (slots : List Slot) (heads : List ℕ) : Type 0 where
   pub within : (i : ℕ) → i < length slots
       → (get_or slots i no_slot).start + (get_or slots i no_slot).size ≤ length bytes
@@ -107,7 +109,7 @@ string_named strings k =
     if nat_le 1 k && nat_le k max_entries && nat_le k (length strings)
     then slice_get strings (length strings - k) else None
 
--- a number that names the string such that no smaller one does, or none if no number names it
+-- the least number that names the string: it does, and no smaller one does; none if no number does
 abbrev pub IsLeast : List (List ℕ) → List ℕ → Option ℕ → Type 0
 IsLeast strings text (Some k) =
     (string_named strings k ≡ Some text)

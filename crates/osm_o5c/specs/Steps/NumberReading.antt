@@ -5,7 +5,7 @@ use Rattle.std.specs.Prelude.{nat_le, int_le, ℤ, pos, negsuc, neg_ℤ, ◌+ℤ
 use Rattle.osm_reading.specs.Steps.Answers.{and_then, when}
 use Rattle.std.specs.Int.{int_rem_euclid}
 
--- a varint of so many bytes at most, of a number below 2^64
+-- a varint of at most this many bytes, of a number below 2^64
 unfoldable pub varint_at : ℕ → List ℕ → Option (ℕ × List ℕ)
 varint_at zero bytes = None
 varint_at (suc k) [] = None
@@ -28,7 +28,7 @@ signed_at bytes = and_then (unsigned_at bytes) (λ n. Some (from_zigzag n.0, n.1
 unfoldable pub wrapped_of : ℤ → ℤ
 wrapped_of sum = int_rem_euclid (sum +ℤ pos 2147483648) (pos 4294967296) -ℤ pos 2147483648
 
--- a length, and so many bytes
+-- a length, and that many bytes
 unfoldable pub part_at : List ℕ → Option (List ℕ × List ℕ)
 part_at bytes = and_then (unsigned_at bytes) (λ n.
     when (nat_le n.0 (length n.1)) (Some (take n.0 n.1, drop n.0 n.1)))
@@ -49,7 +49,7 @@ is_latitude lat = int_le (neg_ℤ (pos 900000000)) lat && int_le lat (pos 900000
 unfoldable pub positive_at : List ℕ → Option (ℕ × List ℕ)
 positive_at bytes = and_then (unsigned_at bytes) (λ n. when (is_positive n.0) (Some n))
 
--- the natural number of an integer from 0 on
+-- the integer as a natural number; 0 if it is negative
 abbrev pub natural : ℤ → ℕ
 natural (pos n) = n
 natural (negsuc n) = 0

@@ -18,7 +18,7 @@ use Rattle.osm_o5c.specs.Steps.StringReading.{single_at, user_at, tag_at, text_o
 use Rattle.osm_o5c.specs.declared.reader.Reader.{Reader}
 use Rattle.osm_o5c.specs.declared.strings.Entry.{Entry}
 
--- parts of one form up to the end, so many at most
+-- a list up to the end of the bytes, of at most this many parts
 unfoldable pub many_at : {State A : Type 0} → (State → List ℕ → Option (A × State × List ℕ)) → ℕ
     → State → List ℕ → Option (List A × State)
 many_at one most s [] = Some ([], s)
@@ -43,7 +43,7 @@ meta_at s bytes = and_then (positive_at bytes) (λ v.
 abbrev pub tags_at : List Entry → List ℕ → Option (List Tag × List Entry)
 tags_at = many_at tag_at max_tags
 
--- a reference is the counter after it
+-- a reference, which is also the counter after it
 unfoldable pub ref_at : ℤ → List ℕ → Option (ℤ × ℤ × List ℕ)
 ref_at before bytes = and_then (id_at before bytes) (λ r. Some (r.0, r.0, r.1))
 
@@ -55,7 +55,7 @@ kind_of_digit b =
     if b == 48 then Some kinds.Node else (if b == 49 then Some kinds.Way
     else (if b == 50 then Some kinds.Relation else None))
 
--- the kind that the first byte says, and the rest
+-- the kind that the first byte names, and the role
 unfoldable pub role_of : List ℕ → Option (Kind × List ℕ)
 role_of [] = None
 role_of (b ∷ bs) = and_then (kind_of_digit b)
@@ -115,12 +115,12 @@ shape_at kinds.Node = node_at
 shape_at kinds.Way = way_at
 shape_at kinds.Relation = relation_at
 
--- a deletion if nothing is left
+-- what an object of this kind is; a deletion if no bytes are left
 unfoldable pub what_at : Kind → Reader → List ℕ → Option (What × Reader)
 what_at kind s [] = Some (Deleted, s)
 what_at kind s (b ∷ bs) = shape_at kind s (b ∷ bs)
 
--- the whole content of an object
+-- the change that the content of an object holds
 unfoldable pub object_at : Kind → Reader → List ℕ → Option (ChangeValue × Reader)
 object_at kind s bytes = and_then (id_at s.counters.id bytes) (λ i.
     and_then (meta_at

@@ -1,4 +1,4 @@
--- A ring that may not be made yet.
+-- The ring of a string table, which is only made when the first string is entered.
 use Rattle.std.specs.Prelude.{◌≡◌, List, [], Option, Some, None}
 use Rattle.osm_o5c.specs.declared.strings.Entry.{Entry}
 use Rattle.circular_buffer.specs.Buffer.{Buffer}

@@ -21,7 +21,7 @@ unfoldable pub latest : List Entry → ℕ → Option Entry
 latest table k =
     if nat_le 1 k && nat_le k (length table) then slice_get table (length table - k) else None
 
--- the table with one string more, unless it is too long
+-- the table after one more string, which is entered unless it is too long
 unfoldable pub entered : List Entry → Entry → List Entry
 entered table entry =
     if nat_le (size_of entry) max_size then keep_last max_entries (table ++ entry ∷ []) else table

@@ -5,7 +5,7 @@ use Rattle.osm_o5c.specs.declared.string_index.Slot.{Slot}
 use Rattle.osm_o5c.proofs.IndexLemmas.{strings_length, last_found, none_in, any_default}
 use Rattle.osm_o5c.proofs.string_index.StringIndex.last_in.Goals as goal
 
--- a head that can't be named leads to no string that can be
+-- a head that isn't recent leads to no string that can be named
 pub returns-then-not-is_recent : goal.returns-then-not-is_recent
 returns-then-not-is_recent c =
     let many = c.self.invariant.chains.heads_are in
@@ -14,7 +14,7 @@ returns-then-not-is_recent c =
     let none : 0 < c.index.result.now → c.index.result.now ≤ length c.self.inside.slots.items → length c.self.inside.slots.items < c.index.result.now + 15000 → (get_or c.self.inside.slots.items (c.index.result.now - 1) no_slot).hash / 131072 ≢ c.args.bucket = λ p q r. absurd (search rules) in
     rw (← c.self.view_is) (none_in (strings_of c.self.inside.bytes.items c.self.inside.slots.items) c.self.inside.slots.items c.self.inside.heads.items c.args.bucket c.index.result.now (strings_length c.self.inside.bytes.items c.self.inside.slots.items) c.self.invariant.chains is none)
 
--- nor does one that leads to another bucket
+-- nor does a head that leads into another bucket
 pub returns-then-bucket_for-bucket : goal.returns-then-bucket_for-bucket
 returns-then-bucket_for-bucket c =
     let many = c.self.invariant.chains.heads_are in
