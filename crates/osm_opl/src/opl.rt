@@ -36,7 +36,7 @@ impl ChangeForm for Opl {
 
     ghost fault_place = { FaultLine };
 
-    /// Writes a line for each change, and a line feed after it. The empty batch gives an empty file.
+    /// Writes a line for each change, each ended by a line feed. The empty batch gives no bytes.
     fn write(alloc: Global, batch: &Batch) -> Result<Vec<u8>, FormError> {
         write_batch(alloc, batch)
     }
