@@ -1,6 +1,6 @@
 //! Saves a follower of made-up changes, restarts it from the text, and writes and reads the same
 //! objects as OPL. With a number as its argument it makes five batches of that many changes, and
-//! prints how fast.
+//! prints how fast it was.
 #![tactic(auto)]
 
 use made_changes::mixed_from;
@@ -21,7 +21,7 @@ const BATCHES: u32 = 5;
 
 const FIRST_TIME: u32 = 1_704_067_200;
 
-// How long it took.
+// How long it took since `start`.
 fn micros_since<R: Clock>(rt: &R, start: Instant) -> anyhow::Result<u64> {
     let micros = start.elapsed(rt)?.as_micros();
     Ok(u64::try_from(micros).unwrap_or(u64::MAX))
@@ -39,13 +39,17 @@ fn edit_all(publisher: &mut Publisher, batch: Batch) -> anyhow::Result<()> {
 }
 
 // Closes what is pending and delivers it.
-fn turn(alloc: Global, publisher: &mut Publisher, follower: &mut Follower) -> anyhow::Result<()> {
+fn close_and_deliver(
+    alloc: Global,
+    publisher: &mut Publisher,
+    follower: &mut Follower,
+) -> anyhow::Result<()> {
     let sequence = publisher.close(alloc, FIRST_TIME)?;
     follower.deliver::<O5c>(alloc, sequence.state(), sequence.o5c())?;
     Ok(())
 }
 
-// The follower takes five sequences, each of so many changes.
+// Publishes five sequences of `count` changes each and delivers them to the follower.
 fn follow(alloc: Global, follower: &mut Follower, count: u32) -> anyhow::Result<()> {
     let mut publisher = Publisher::new(alloc);
     for index in 0..BATCHES {
@@ -53,7 +57,7 @@ fn follow(alloc: Global, follower: &mut Follower, count: u32) -> anyhow::Result<
             &mut publisher,
             mixed_from(alloc, count.saturating_mul(index), count)?,
         )?;
-        turn(alloc, &mut publisher, follower)?;
+        close_and_deliver(alloc, &mut publisher, follower)?;
     }
     Ok(())
 }

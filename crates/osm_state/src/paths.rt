@@ -8,7 +8,7 @@ ghost use Rattle.osm_state.specs.Path.{path_text, suffix_text, three_digits, fol
 use osm_model::memory::WantOfMemory;
 use std::alloc::Global;
 
-/// What a file of a sequence holds, its changes as o5c or as OPL, or its state, by the end of its path.
+/// The end of a path, which says what the file holds: changes as o5c or as OPL, or a state.
 #[derive(Clone, Copy, Debug, PartialEq, Eq)]
 pub enum Suffix {
     /// `.o5c`

@@ -44,10 +44,10 @@ pub enum StateError {
 /// `timestamp=YYYY-MM-DDTHH:MM:SSZ`.
 ///
 /// The two lines may come in either order, among other lines. Lines end with LF or CR LF. Lines
-/// that begin with `#` or `!`, lines without `=` and lines with other keys are skipped. Blanks around
-/// a key or a value are dropped. If several lines have the same key, the last one counts. In a value
-/// `\c` stands for the byte c (OSM wiki, Planet.osm/diffs; what it leaves open is our choice). It
-/// takes no memory.
+/// that begin with `#` or `!`, lines without `=` and lines with other keys are skipped. Blanks
+/// around a key or a value are dropped. If several lines have the same key, the last one counts. In
+/// a value `\c` stands for the byte c (OSM wiki, Planet.osm/diffs; what it leaves open is our
+/// choice). It takes no memory.
 pub fn state_read(bytes: &[u8]) -> Result<State, StateError>
     ensures found { IfOk result (λ s. StateOf bytes.now s) }
     ensures only { (s : StateValue) → StateOf bytes.now s → result ≡ Ok s }
