@@ -1,6 +1,6 @@
 //! Publishes ten batches of made-up changes and delivers them to followers as o5c: in order, and in
-//! reverse, so that all but the last are held. With a number as its argument it makes batches of that
-//! many changes, and prints how fast it was.
+//! reverse, so that all but the last are held. With a number as its argument it makes batches of
+//! that many changes, and prints how fast it was.
 #![tactic(auto)]
 
 use made_changes::mixed_from;

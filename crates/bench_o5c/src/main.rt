@@ -1,6 +1,6 @@
-//! Writes changes as o5c and reads them back: mixed changes, and nodes each with a tag that no other
-//! has. With a number as its argument it takes that many of each, does so several times, and prints
-//! how fast it was.
+//! Writes changes as o5c and reads them back: mixed changes, and nodes each with a tag that no
+//! other has. With a number as its argument it takes that many of each, does so several times, and
+//! prints how fast it was.
 #![tactic(auto)]
 
 use made_changes::{MakeError, mixed};

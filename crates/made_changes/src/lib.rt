@@ -163,8 +163,8 @@ fn deletion(alloc: Global, seed: u32) -> Result<Change, MakeError> {
     Ok(Change::deleted(key, meta(alloc, seed)?)?)
 }
 
-/// Makes `count` changes, at most 100,000. Of every twenty, fourteen are nodes, four are ways, one is
-/// a relation and one is a deletion.
+/// Makes `count` changes, at most 100,000. Of every twenty, fourteen are nodes, four are ways, one
+/// is a relation and one is a deletion.
 pub fn mixed(alloc: Global, count: u32) -> Result<Batch, MakeError>
     ensures { IfOk result (λ batch. length batch ≡ min count 100000) }
 {
