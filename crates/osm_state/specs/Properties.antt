@@ -57,7 +57,7 @@ last_value key (line ∷ lines) = option_or (last_value key lines) (value_at key
 abbrev pub value_of : List ℕ → List ℕ → Option (List ℕ)
 value_of text key = last_value key (lines_of text)
 
--- a value without its escapes: `\c` stands for the byte c; a value can't end with a lone backslash
+-- a value without its escapes: `\c` stands for the byte c; none if a lone backslash ends the value
 unfoldable pub unescaped : List ℕ → Option (List ℕ)
 unescaped [] = Some []
 unescaped (b ∷ []) = if b == 92 then None else Some (b ∷ [])
