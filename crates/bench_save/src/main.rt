@@ -39,11 +39,7 @@ fn edit_all(publisher: &mut Publisher, batch: Batch) -> anyhow::Result<()> {
 }
 
 // Closes what is pending and delivers it.
-fn close_and_deliver(
-    alloc: Global,
-    publisher: &mut Publisher,
-    follower: &mut Follower,
-) -> anyhow::Result<()> {
+fn turn(alloc: Global, publisher: &mut Publisher, follower: &mut Follower) -> anyhow::Result<()> {
     let sequence = publisher.close(alloc, FIRST_TIME)?;
     follower.deliver::<O5c>(alloc, sequence.state(), sequence.o5c())?;
     Ok(())
@@ -57,7 +53,7 @@ fn follow(alloc: Global, follower: &mut Follower, count: u32) -> anyhow::Result<
             &mut publisher,
             mixed_from(alloc, count.saturating_mul(index), count)?,
         )?;
-        close_and_deliver(alloc, &mut publisher, follower)?;
+        turn(alloc, &mut publisher, follower)?;
     }
     Ok(())
 }

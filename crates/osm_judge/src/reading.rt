@@ -68,18 +68,18 @@ pub fn read_reply(alloc: Global, text: &[u8]) -> Result<(Reply, &[u8]), Unread> 
 fn read_longer(alloc: Global, text: &[u8]) -> Result<(Reply, &[u8]), Unread> {
     let (line, rest) = next_line(text)?;
     if let Some(number) = line.strip_prefix(b"closed ") {
-        return Ok((Reply::Closed(parse_u32(number)?), rest));
+        return Ok((Reply::Closed(small(number)?), rest));
     }
     if let Some(number) = line.strip_prefix(b"saved ") {
-        return Ok((Reply::Saved(parse_u32(number)?), rest));
+        return Ok((Reply::Saved(small(number)?), rest));
     }
     if let Some(number) = line.strip_prefix(b"restarted ") {
-        return Ok((Reply::Restarted(parse_u32(number)?), rest));
+        return Ok((Reply::Restarted(small(number)?), rest));
     }
     if let Some(range) = line.strip_prefix(b"applied ") {
-        let (low, high) = split_at_byte(range, b'.')?;
-        let low = parse_u32(low)?;
-        let high = parse_u32(after_prefix(high, b".")?)?;
+        let (low, high) = halves(range, b'.')?;
+        let low = small(low)?;
+        let high = small(after_prefix(high, b".")?)?;
         return Ok((Reply::Applied { low, high }, rest));
     }
     let (view, rest) = read_view(alloc, text)?;
@@ -88,12 +88,12 @@ fn read_longer(alloc: Global, text: &[u8]) -> Result<(Reply, &[u8]), Unread> {
 
 fn read_view(alloc: Global, text: &[u8]) -> Result<(View, &[u8]), Unread> {
     let (line, rest) = next_line(text)?;
-    let number = parse_u32(after_prefix(line, b"number ")?)?;
+    let number = small(after_prefix(line, b"number ")?)?;
     let (line, rest) = next_line(rest)?;
     let time = time_read(after_prefix(line, b"time ")?);
     let (line, mut rest) = next_line(rest)?;
     let mut objects = Vec::new(alloc);
-    for _ in 0..parse_u64(after_prefix(line, b"objects ")?)? {
+    for _ in 0..count(after_prefix(line, b"objects ")?)? {
         let (line, after) = next_line(rest)?;
         objects.push(read_line(alloc, line)?)?;
         rest = after;
@@ -102,9 +102,9 @@ fn read_view(alloc: Global, text: &[u8]) -> Result<(View, &[u8]), Unread> {
     let (changesets, rest) = read_counts(alloc, rest, b"changesets ")?;
     let (line, mut rest) = next_line(rest)?;
     let mut held = Vec::new(alloc);
-    for _ in 0..parse_u64(after_prefix(line, b"held ")?)? {
+    for _ in 0..count(after_prefix(line, b"held ")?)? {
         let (line, after) = next_line(rest)?;
-        held.push(parse_u32(line)?)?;
+        held.push(small(line)?)?;
         rest = after;
     }
     Ok((
@@ -120,10 +120,10 @@ fn read_counts<'a>(
 ) -> Result<(Vec<(u32, u64)>, &'a [u8]), Unread> {
     let (line, mut rest) = next_line(text)?;
     let mut counts = Vec::new(alloc);
-    for _ in 0..parse_u64(after_prefix(line, name)?)? {
+    for _ in 0..count(after_prefix(line, name)?)? {
         let (line, after) = next_line(rest)?;
-        let (number, edits) = split_at_byte(line, b' ')?;
-        counts.push((parse_u32(number)?, parse_u64(edits)?))?;
+        let (number, edits) = halves(line, b' ')?;
+        counts.push((small(number)?, count(edits)?))?;
         rest = after;
     }
     Ok((counts, rest))
@@ -140,18 +140,18 @@ fn after_prefix<'a>(line: &'a [u8], prefix: &[u8]) -> Result<&'a [u8], Unread> {
     line.strip_prefix(prefix).ok_or(Unread::NoReply)
 }
 
-fn split_at_byte(line: &[u8], separator: u8) -> Result<(&[u8], &[u8]), Unread> {
-    match line.iter().position(|byte| *byte == separator) {
+fn halves(line: &[u8], at: u8) -> Result<(&[u8], &[u8]), Unread> {
+    match line.iter().position(|byte| *byte == at) {
         Some(index) => Ok((&line[..index], &line[index + 1..])),
         None => Err(Unread::NoReply),
     }
 }
 
-fn parse_u64(digits: &[u8]) -> Result<u64, Unread> {
+fn count(digits: &[u8]) -> Result<u64, Unread> {
     let text = str::from_utf8(digits).map_err(|_| Unread::NoReply)?;
     text.parse::<u64>().map_err(|_| Unread::NoReply)
 }
 
-fn parse_u32(digits: &[u8]) -> Result<u32, Unread> {
-    u32::try_from(parse_u64(digits)?).map_err(|_| Unread::NoReply)
+fn small(digits: &[u8]) -> Result<u32, Unread> {
+    u32::try_from(count(digits)?).map_err(|_| Unread::NoReply)
 }
