@@ -1,6 +1,6 @@
-//! Publishes batches of made-up changes and delivers them to followers as o5c: in order, and each
-//! window in reverse, so that all but the last are held. With a number as its argument it makes ten
-//! batches of that many changes, and prints how fast.
+//! Publishes ten batches of made-up changes and delivers them to followers as o5c: in order, and in
+//! reverse, so that all but the last are held. With a number as its argument it makes batches of
+//! that many changes, and prints how fast it was.
 #![tactic(auto)]
 
 use made_changes::mixed_from;
@@ -19,13 +19,13 @@ const BATCHES: usize = 10;
 
 const FIRST_TIME: u32 = 1_704_067_200;
 
-// How long it took.
+// How long it took since `start`.
 fn micros_since<R: Clock>(rt: &R, start: Instant) -> anyhow::Result<u64> {
     let micros = start.elapsed(rt)?.as_micros();
     Ok(u64::try_from(micros).unwrap_or(u64::MAX))
 }
 
-// The texts of ten sequences, each of so many changes.
+// Publishes ten sequences of `count` changes each.
 fn publish(alloc: Global, count: u32) -> anyhow::Result<Vec<Published>> {
     let mut publisher = Publisher::new(alloc);
     let mut sequences = Vec::new(alloc);
@@ -43,7 +43,7 @@ fn publish(alloc: Global, count: u32) -> anyhow::Result<Vec<Published>> {
     Ok(sequences)
 }
 
-// Reads the files and does nothing with them.
+// Reads the o5c files, and only counts their changes.
 fn decode(alloc: Global, sequences: &[Published]) -> anyhow::Result<usize> {
     let mut changes: usize = 0;
     for sequence in sequences.iter() {
@@ -52,7 +52,7 @@ fn decode(alloc: Global, sequences: &[Published]) -> anyhow::Result<usize> {
     Ok(changes)
 }
 
-// The number that a new follower reaches, if the sequences come in this order or in reverse.
+// The number that a new follower reaches if the sequences come in order, or in reverse.
 fn follow(alloc: Global, sequences: &[Published], in_reverse: bool) -> anyhow::Result<u32> {
     let mut follower = Follower::new(alloc)?;
     for index in 0..sequences.len() {

@@ -1,5 +1,6 @@
-//! Writes changes as o5c and reads them back: mixed ones, and nodes with a tag that no other has.
-//! With a number as its argument it takes that many of each, several times, and prints how fast.
+//! Writes changes as o5c and reads them back: mixed changes, and nodes each with a tag that no
+//! other has. With a number as its argument it takes that many of each, does so several times, and
+//! prints how fast it was.
 #![tactic(auto)]
 
 use made_changes::{MakeError, mixed};
@@ -31,7 +32,7 @@ fn numbered_node(alloc: Global, number: u32) -> Result<Change, MakeError> {
     Ok(Change::node(number as i64 + 1, meta, 85_000_000, 470_000_000, tags)?)
 }
 
-// So many nodes, each with another tag.
+// `count` nodes, each with a tag that no other has.
 fn numbered_nodes(alloc: Global, count: u32) -> Result<Batch, MakeError> {
     let mut batch = Batch::new(alloc);
     for number in 0..count {
@@ -40,7 +41,7 @@ fn numbered_nodes(alloc: Global, count: u32) -> Result<Batch, MakeError> {
     Ok(batch)
 }
 
-// How long it took.
+// How long it took since `start`.
 fn micros_since<R: Clock>(rt: &R, start: Instant) -> anyhow::Result<u64> {
     let micros = start.elapsed(rt)?.as_micros();
     Ok(u64::try_from(micros).unwrap_or(u64::MAX))
@@ -95,7 +96,7 @@ fn measure_both<R: Print + Clock>(rt: &R, alloc: Global, count: u32) -> anyhow::
     measure(rt, alloc, "different tags", &numbered_nodes(alloc, count)?)
 }
 
-// There and back, in one line.
+// Writes a batch and reads it back, and prints one line.
 fn check<R: Print>(rt: &R, alloc: Global, batch: &Batch) -> anyhow::Result<()> {
     let bytes = O5c::write(alloc, batch)?;
     let same = O5c::read(alloc, bytes.as_slice())? == *batch;

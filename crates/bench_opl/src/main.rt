@@ -1,6 +1,6 @@
-//! How fast OPL files are written and read: `bench_opl N` writes and reads N mixed changes several
-//! times, and prints the speed of each direction. Without a number it takes a few changes there and
-//! back, and prints no times.
+//! Measures how fast OPL files are written and read: `bench_opl N` writes and reads N mixed changes
+//! several times, and prints the speed of each direction. Without a number it writes a few changes
+//! and reads them back, and prints no times.
 #![tactic(auto)]
 
 use made_changes::mixed;
@@ -46,7 +46,7 @@ fn main(rt: HostRuntime) -> Result<(), anyhow::Error> {
     Ok(())
 }
 
-// In megabytes of 1,000,000 bytes a second.
+// In megabytes of 1,000,000 bytes per second.
 fn speed(bytes: usize, time: Duration) -> u128 {
     let all = bytes as u128 * ROUNDS as u128;
     let micros = time.as_micros();

@@ -1,6 +1,6 @@
 //! Saves a follower of made-up changes, restarts it from the text, and writes and reads the same
 //! objects as OPL. With a number as its argument it makes five batches of that many changes, and
-//! prints how fast.
+//! prints how fast it was.
 #![tactic(auto)]
 
 use made_changes::mixed_from;
@@ -21,7 +21,7 @@ const BATCHES: u32 = 5;
 
 const FIRST_TIME: u32 = 1_704_067_200;
 
-// How long it took.
+// How long it took since `start`.
 fn micros_since<R: Clock>(rt: &R, start: Instant) -> anyhow::Result<u64> {
     let micros = start.elapsed(rt)?.as_micros();
     Ok(u64::try_from(micros).unwrap_or(u64::MAX))
@@ -45,7 +45,7 @@ fn turn(alloc: Global, publisher: &mut Publisher, follower: &mut Follower) -> an
     Ok(())
 }
 
-// The follower takes five sequences, each of so many changes.
+// Publishes five sequences of `count` changes each and delivers them to the follower.
 fn follow(alloc: Global, follower: &mut Follower, count: u32) -> anyhow::Result<()> {
     let mut publisher = Publisher::new(alloc);
     for index in 0..BATCHES {

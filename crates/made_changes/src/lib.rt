@@ -1,5 +1,5 @@
 //! Made-up changes for benchmarks and tests: nodes, ways, relations and deletions, with tags, mixed
-//! as in a file of a minute.
+//! as in a change file of one minute.
 #![tactic(auto)]
 
 ghost use Rattle.std.specs.Prelude.{◌≡◌, length, min, IfOk};
@@ -17,10 +17,10 @@ use thiserror::Error;
 /// Why no changes are made.
 #[derive(Clone, Copy, Debug, PartialEq, Eq, Error)]
 pub enum MakeError {
-    /// Memory was refused.
+    /// Out of memory.
     #[error("out of memory")]
     WantOfMemory,
-    /// A part is outside its limits, which none of them is.
+    /// A part is outside its limits, which never happens.
     #[error("outside the limits")]
     OutsideLimits,
 }
@@ -163,16 +163,16 @@ fn deletion(alloc: Global, seed: u32) -> Result<Change, MakeError> {
     Ok(Change::deleted(key, meta(alloc, seed)?)?)
 }
 
-/// So many changes, at most 100,000: of twenty, fourteen are nodes, four ways, one a relation and
-/// one a deletion.
+/// Makes `count` changes, at most 100,000. Of every twenty, fourteen are nodes, four are ways, one
+/// is a relation and one is a deletion.
 pub fn mixed(alloc: Global, count: u32) -> Result<Batch, MakeError>
     ensures { IfOk result (λ batch. length batch ≡ min count 100000) }
 {
     mixed_from(alloc, 0, count)
 }
 
-/// The same from another first number on, so that the objects are others. They are others than
-/// those of the batches before if the first number is the sum of their counts.
+/// The same, with objects numbered from `first` on. They are other objects than those of earlier
+/// batches if `first` is the sum of the counts of these.
 pub fn mixed_from(alloc: Global, first: u32, count: u32) -> Result<Batch, MakeError>
     ensures { IfOk result (λ batch. length batch ≡ min count 100000) }
 {

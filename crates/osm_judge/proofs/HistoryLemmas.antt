@@ -1,4 +1,4 @@
--- What one close more publishes.
+-- What one more close publishes.
 use Rattle.std.proofs.Common.{◌≡◌, List, [], ◌∷◌, ◌++◌, refl}
 use Rattle.osm_follow.specs.Published.{PublishedValue, last_time}
 

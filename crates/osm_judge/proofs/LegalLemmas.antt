@@ -1,4 +1,4 @@
--- The number of a history is one, and so are the sequences that can be applied from one on.
+-- Only one number is reached: by a history, and by the sequences that can be applied from one on.
 use Rattle.std.proofs.Common.{◌≡◌, ℕ, zero, suc, ◌+◌, ◌-◌, ◌<◌, ◌≤◌, List, [], ◌∷◌, ◌++◌, length, refl, ap, sym, ◌∙◌, Bool, true, false, arith, length-append, inl, inr, subst, take, get_or, append-nil}
 use Rattle.std.proofs.lemmas.Grind.{flat_map-append}
 use Rattle.std.proofs.lemmas.List.{take_more, take_all, get_or_past}
@@ -39,7 +39,7 @@ open_row h k reached Q r number told = (λ t. (let both = told.0 t in (reached, 
 pub wanted_row : (h : History) (k reached : ℕ) (Q : ℕ → Type 0) (r : Bool) → IsNumber h reached → IsTrue r ↔ (IsWanted h k reached × Q reached) → IsTrue r ↔ ((n : ℕ) × IsWanted h k n × Q n)
 wanted_row h k reached Q r number told = (λ t. (let both = told.0 t in (reached, both.0, both.1)), λ row. told.1 (subst (λ (m : ℕ). IsWanted h k m × Q m) (one_reach (accepted_of h) (start_of h) row.0 reached row.1.is_open.number number) (row.1, row.2)))
 
--- a sequence more, also behind the last: there is no change there
+-- one more sequence, even after the last, where there is no change
 changes_up_to_more : (ps : List PublishedValue) (n : ℕ) → changes_up_to ps (n + 1) ≡ changes_up_to ps n ++ changes_at ps (n + 1)
 changes_up_to_more ps n = elim (cases_lt n (length ps)) [
   | inl within ↦ within_more within
@@ -75,7 +75,7 @@ changes_up_to_between ps n (suc count) =
     let last : length (changes_at ps (n + suc count)) ≡ length (changes_at ps (n + count + 1)) = ap (λ (j : ℕ). length (changes_at ps j)) next in
     omega arith
 
--- sequence k has a change exactly where more changes stand up to k than before it
+-- sequence k has a change exactly if there are more changes up to k than before it
 pub has_change : (ps : List PublishedValue) (k : ℕ) → 0 < k → (length (changes_up_to ps (k - 1)) < length (changes_up_to ps k)) ↔ (0 < length (changes_at ps k))
 has_change ps k above = (λ less. omega (arith, longer), λ some. omega (arith, longer))
   where
@@ -85,7 +85,7 @@ has_change ps k above = (λ less. omega (arith, longer), λ some. omega (arith, 
     longer : length (changes_up_to ps k) ≡ length (changes_up_to ps (k - 1)) + length (changes_at ps k)
     longer = rw next at (ap length (changes_up_to_more ps (k - 1)) ∙ length-append (changes_up_to ps (k - 1)) (changes_at ps (k - 1 + 1)))
 
--- the same of those from k on up to high
+-- the same for those from k up to high
 pub have_changes : (ps : List PublishedValue) (k count : ℕ) → 0 < k → length (changes_up_to ps (k + count)) ≡ length (changes_up_to ps (k - 1)) + length (changes_at ps k ++ between (changes_at ps) k count)
 have_changes ps k count above =
     let next : k - 1 + 1 ≡ k = omega arith in
@@ -162,7 +162,7 @@ pub few_pending : (h : History) → IsLegal h → length (pending_of h) ≤ max_
 few_pending [] legal = omega arith
 few_pending ((e, r) ∷ h) legal = few_more h e r (legal.each [] h e r refl) (few_pending h (legal_before h e r legal))
 
--- where one list is empty, no pair is left
+-- if one list is empty, no pair is left
 pub no_first : {X Y : Type 0} (xs : List X) (ys : List Y) (n : ℕ) → n ≡ length xs → n ≡ 0 → zip xs ys ≡ []
 no_first [] ys n is none = refl
 no_first (x ∷ xs) ys n is none = absurd (omega arith)

@@ -1,4 +1,4 @@
--- One change more is the last of its key.
+-- One more change is the last of its key.
 use Rattle.std.proofs.Common.{◌≡◌, ℕ, ◌+◌, ◌<◌, List, [], ◌∷◌, ◌++◌, length, take, get_or, refl, ap, ◌∙◌, Bool, true, false, Some, None}
 use Rattle.std.proofs.lemmas.List.{take_more}
 use Rattle.std.specs.Prelude.{if◌then◌else◌}

@@ -1,4 +1,4 @@
--- What holds at the keys and numbers that two lists name holds at all of them.
+-- What holds at the keys and numbers that two lists name holds at all keys and numbers.
 use Rattle.std.proofs.Common.{◌≡◌, ℕ, zero, suc, ◌+◌, ◌<◌, List, [], ◌∷◌, length, refl, sym, ◌∙◌, Bool, true, false, Option, Some, None, arith, cond, subst, slice_index_or}
 use Rattle.std.proofs.lemmas.Bool.{eqb-true}
 use Rattle.std.specs.BTreeMap.{is_at}
@@ -30,7 +30,7 @@ use Rattle.osm_follow.specs.Published.{changes_up_to, time_at}
 use Rattle.osm_follow.specs.Reach.{Reaches}
 use Rattle.osm_follow.specs.View.{ViewValue, IsView}
 
--- a list has an object with that key, so what holds at its keys holds there
+-- if a list has an object with that key, what holds at the keys of the list holds there
 at_object : (P : Key → Type 0) (os : List ChangeValue) (k : Key) (o : ChangeValue) → object_at os k ≡ Some o → AllByRecursion (λ c. P c.key) os → P k
 at_object P [] k o is all = absurd (cc)
 at_object P (c ∷ os) k o is all = by_test (same_key k c.key) refl is (λ there. at_object P os k o there all.1)
@@ -39,7 +39,7 @@ at_object P (c ∷ os) k o is all = by_test (same_key k c.key) refl is (λ there
     by_test true same is rest = rw (same_key-only k c.key same) all.0
     by_test false same is rest = rest is
 
--- the same of the last change with that key
+-- the same for the last change with that key
 at_change : (P : Key → Type 0) (cs : List ChangeValue) (k : Key) (o : ChangeValue) → last_of cs k ≡ Some o → AllByRecursion (λ c. P c.key) cs → P k
 at_change P [] k o is all = absurd (cc)
 at_change P (c ∷ cs) k o is all = by_last (last_of cs k) refl is (λ p there. at_change P cs k p there all.1)
@@ -52,7 +52,7 @@ at_change P (c ∷ cs) k o is all = by_last (last_of cs k) refl is (λ p there. 
     by_last None there is rest = by_test (same_key c.key k) refl is
     by_last (Some p) there is rest = rest p there
 
--- objects that are right at the keys of both lists are right everywhere: elsewhere neither has one
+-- objects that are right at the keys of both lists are right everywhere, since elsewhere neither has one
 pub right_everywhere : (os cs : List ChangeValue) → AllByRecursion (λ c. object_at os c.key ≡ content_of cs c.key) os → AllByRecursion (λ c. object_at os c.key ≡ content_of cs c.key) cs → (k : Key) → object_at os k ≡ content_of cs k
 right_everywhere os cs here there k = by_object (object_at os k) refl (last_of cs k) refl
   where
@@ -64,7 +64,7 @@ right_everywhere os cs here there k = by_object (object_at os k) refl (last_of c
 same_number : (n m : ℕ) → is_at (nat_cmp n) m ≡ true → n ≡ m
 same_number n m same = let equal : nat_cmp n m ≡ Equal = (Equal-is (nat_cmp n m)).0 same in grind (arith, common_steps)
 
--- counts that are right for the numbers of both lists are right for all: others have none
+-- counts that are right for the numbers of both lists are right for all, since others have none
 at_count : (P : ℕ → Type 0) (es : List Counted) (n c : ℕ) → lookup (is_at (nat_cmp n)) es ≡ Some c → AllByRecursion (λ e. P e.0) es → P n
 at_count P [] n c is all = absurd (cc)
 at_count P (e ∷ es) n c is all = by_test (is_at (nat_cmp n) e.0) refl is (λ there. at_count P es n c there all.1)
@@ -97,7 +97,7 @@ users_everywhere es cs here there = counted_everywhere (λ c. c.meta.uid) es cs 
 pub changesets_everywhere : (es : List Counted) (cs : List ChangeValue) → AllByRecursion (λ e. count_at es e.0 ≡ edits_by_changeset cs e.0) es → AllByRecursion (λ c. count_at es c.meta.changeset ≡ edits_by_changeset cs c.meta.changeset) cs → (n : ℕ) → count_at es n ≡ edits_by_changeset cs n
 changesets_everywhere es cs here there = counted_everywhere (λ c. c.meta.changeset) es cs here there
 
--- what holds everywhere holds in a list
+-- what holds everywhere holds for the items of a list
 pub everywhere_in : {X Y : Type 0} (P : Y → Type 0) (f : X → Y) (xs : List X) → ((y : Y) → P y) → AllByRecursion (λ x. P (f x)) xs
 everywhere_in P f [] all = tt
 everywhere_in P f (x ∷ xs) all = (all (f x), everywhere_in P f xs all)
@@ -106,7 +106,7 @@ everywhere_in P f (x ∷ xs) all = (all (f x), everywhere_in P f xs all)
 pub one_line : (a b : ChangeValue) → IsChange a → IsChange b → line_text a ≡ line_text b → a ≡ b
 one_line a b p q same = one_change (line_text a) a b (line_spells a p) (rw same (line_spells b q))
 
--- the test of two texts tells whether they are one
+-- the test of two texts tells whether they are equal
 pub told_apart : (xs ys : List ℕ) (r : Bool) → r ≡ pointwise nat_eq xs ys → IsTrue r ↔ (xs ≡ ys)
 told_apart xs ys r is = slice_eq-Decides Decides-eqb xs ys r is
 
@@ -130,7 +130,7 @@ pub no_items : {X : Type 0} (xs : List X) → length xs ≡ 0 → xs ≡ []
 no_items [] none = refl
 no_items (x ∷ xs) none = absurd (omega arith)
 
--- what holds of the first and of the others
+-- what holds for the first and for the others
 pub all-cons : {X : Type 0} (P : X → Type 0) (x : X) (xs : List X) (r : Bool) → P x → IsTrue r ↔ AllByRecursion P xs → IsTrue r ↔ AllByRecursion P (x ∷ xs)
 all-cons P x xs r first rest = (λ t. (first, rest.0 t), λ all. rest.1 all.1)
 

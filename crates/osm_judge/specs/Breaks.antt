@@ -1,5 +1,5 @@
--- At which deliveries a follower may break: once the application of a batch has begun, memory is
--- taken for new entries alone.
+-- At which deliveries a follower may break: once the application of a batch has begun, only new
+-- entries need memory.
 use Rattle.std.specs.Prelude.{◌≡◌, ℕ, ◌-◌, ◌≤◌, List, Some, None, [], ◌∷◌, length, take, ◌⊎◌}
 use Rattle.std.specs.Bool.{⊤}
 use Rattle.std.specs.List.{slice_get}
@@ -13,8 +13,8 @@ use Rattle.osm_world.specs.declared.event.Event.TheVariants.{Deliver}
 use Rattle.osm_world.specs.declared.event.Reply.{Reply}
 use Rattle.osm_world.specs.declared.event.Reply.TheVariants.{Broke}
 
--- after those changes, this one is the first edit of its user or of its changeset, or is an object
--- whose key has none
+-- after those changes, this one is the first edit of its user or of its changeset, or it is an
+-- object and its key has none yet
 abbrev pub IsNewEntry : List ChangeValue → ChangeValue → Type 0
 IsNewEntry before c =
     (edits_by_user before c.meta.uid ≡ 0)

@@ -1,4 +1,4 @@
--- What may answer a script.
+-- Which texts may answer a script.
 use Rattle.std.specs.Prelude.{◌≡◌, ℕ, List, length}
 use Rattle.osm_world.specs.History.{history_of}
 use Rattle.osm_world.specs.Legal.{IsLegal}

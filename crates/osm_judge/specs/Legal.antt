@@ -5,7 +5,7 @@ use Rattle.osm_world.specs.History.{History, pending_of}
 use Rattle.osm_judge.specs.declared.legal.Unjudged.{Unjudged}
 use Rattle.osm_judge.specs.declared.legal.Unjudged.TheVariants.{TooManyPending, WantOfMemory}
 
--- more edits are pending than a batch can have, or memory was refused
+-- more edits are pending than a batch can have, or the judge is out of memory
 abbrev pub IsUnjudged : History → Unjudged → Type 0
 IsUnjudged h TooManyPending = max_changes < length (pending_of h)
 IsUnjudged h WantOfMemory = Unit {0}

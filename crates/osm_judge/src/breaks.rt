@@ -1,4 +1,4 @@
-//! Whether a follower broke only if a change needs memory for a new entry.
+//! Whether a follower broke only if a change needed memory for a new entry.
 
 ghost use Rattle.std.specs.Prelude.{◌≡◌, IfOk, IsTrue, Some, None};
 ghost use Rattle.osm_model.specs.Content.{content_of, standing_of};

@@ -14,7 +14,7 @@ use osm_model::memory::WantOfMemory;
 use osm_world::event::{Event, Reply};
 use std::alloc::Global;
 
-/// An event and its reply. A history is a list of pairs, its newest first.
+/// An event and its reply. A history is a list of pairs, the newest first.
 pub type Pair = (Event, Reply);
 
 fn is_closing(pair: &Pair) -> bool
@@ -37,7 +37,7 @@ pub fn published_count(history: &[Pair]) -> usize
     }
 }
 
-/// The edits that were taken since the last close that published.
+/// The edits that were taken since the last close that published a sequence.
 pub fn pending(alloc: Global, history: &[Pair]) -> Result<Vec<Change>, WantOfMemory>
     ensures { IfOk result (λ v. v.items ≡ pending_of history.now) }
 {
@@ -65,7 +65,7 @@ fn closing_time(pair: &Pair) -> u32
     }
 }
 
-/// The time that the next close may not fall below: the last one's, or 1 before the first.
+/// The least time that the next close may have: that of the last close, or 1 before the first.
 #[tactic(auto, using(crate::proofs::HistoryLemmas::last_time_more))]
 pub fn least_time(history: &[Pair]) -> u32
     ensures { result ≡ last_time (published_of history.now) }
@@ -82,7 +82,7 @@ pub fn least_time(history: &[Pair]) -> u32
     }
 }
 
-/// Whether the pair is a restart that was made.
+/// Whether the pair is a restart that succeeded.
 pub fn is_restarting(pair: &Pair) -> bool
     ensures { result ≡ restarts pair.now.0 pair.now.1 }
 {
@@ -98,7 +98,7 @@ fn saved_after(pair: &Pair, before: Option<u32>) -> Option<u32>
     }
 }
 
-/// The number that was saved last, if one was.
+/// The number that was saved last, if any was.
 pub fn saved_last(history: &[Pair]) -> Option<u32>
     ensures { result ≡ last_saved history.now }
 {
@@ -188,7 +188,7 @@ fn most_accepted(history: &[Pair]) -> u32
     }
 }
 
-/// The number that the pair accepts; 0, which is above no number, if it accepts none.
+/// The number that the pair accepts, or 0, which is above no number, if it accepts none.
 pub fn accepted_by(pair: &Pair) -> u32
     ensures some { 0 < result → accepts pair.now.0 pair.now.1 result ≡ true }
     ensures only { (j : ℕ) → accepts pair.now.0 pair.now.1 j ≡ true → j ≡ result }
@@ -199,7 +199,7 @@ pub fn accepted_by(pair: &Pair) -> u32
     }
 }
 
-/// The greatest number such that it and all above `from` up to it were accepted since the last
+/// The greatest number such that all numbers above `from` up to it were accepted since the last
 /// restart.
 pub fn reach(history: &[Pair], from: u32) -> u32
     ensures { Reaches (accepted_of history.now) from result }
@@ -213,7 +213,7 @@ pub fn reach(history: &[Pair], from: u32) -> u32
     most
 }
 
-/// The number of the follower, unless it is broken.
+/// The number that the follower has reached, unless it is broken.
 pub fn follower_number(history: &[Pair]) -> u32
     ensures { IsNumber history.now result }
 {
@@ -241,7 +241,7 @@ pub fn joined_changes(
     }
 }
 
-/// The time of that sequence; the empty start has none.
+/// The time of that sequence. The empty start has none.
 pub fn time_of_sequence(history: &[Pair], number: u32) -> Option<u32>
     ensures { result ≡ time_at (published_of history.now) number }
 {

@@ -1,4 +1,4 @@
-//! Whether a reply text may be what a script is answered.
+//! Whether a reply text may answer a script.
 
 ghost use Rattle.std.specs.Prelude.{◌≡◌, ◌<◌, ◌^◌, length, IfOk, IfSome, IsTrue};
 ghost use Rattle.osm_world.specs.History.{history_of};
@@ -17,8 +17,9 @@ use osm_repl::script::parse_script;
 use osm_world::event::{Event, Reply};
 use std::alloc::Global;
 
-/// Whether the text may be the reply text of the script: that of one reply for each event, each
-/// reply allowed after what came before it. Refused if the script is none, or for memory.
+/// True only if the text may answer the script: it is the text of one reply for each event, each
+/// reply is allowed after what came before it, and the follower breaks only at a new entry. Fails
+/// if the script can't be read or if out of memory.
 pub fn may_answer(alloc: Global, script: &[u8], text: &[u8]) -> Result<bool, RunFault>
     requires { length script.now < 2 ^ 63 }
     ensures { IfOk result (λ b. IsTrue b → MayAnswer script.now text.now) }

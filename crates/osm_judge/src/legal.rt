@@ -1,4 +1,4 @@
-//! Which reply may follow a history.
+//! Which replies may follow a history.
 
 ghost use Rattle.std.specs.Prelude.{◌≡◌, ℕ, ◌+◌, ◌-◌, ◌<◌, ◌≤◌, ◌↔◌, true, false, length};
 ghost use Rattle.std.specs.Prelude.{IfErr, IfOk, IsTrue};
@@ -28,15 +28,15 @@ use osm_opl::opl::Opl;
 use osm_world::event::{Event, Reply};
 use std::alloc::Global;
 
-// How many numbers after its own a follower takes: `window` of the definitions.
+// How many numbers after its own a follower accepts: `window` in the definitions.
 const WINDOW: u64 = 64;
 
-/// Why there is no judgement of a reply.
+/// Why a reply isn't judged.
 #[derive(Clone, Copy, Debug, PartialEq, Eq)]
 pub enum Unjudged {
-    /// More than 100,000 edits are pending, as after no legal history.
+    /// More than 100,000 edits are pending, which they never are after a legal history.
     TooManyPending,
-    /// Memory was refused.
+    /// Out of memory.
     WantOfMemory,
 }
 
@@ -83,7 +83,7 @@ fn is_allowed_next(
     }
 }
 
-/// Whether the reply may follow the history at that event.
+/// Whether the reply may answer the event after that history.
 pub fn is_allowed(
     alloc: Global,
     history: &[Pair],
@@ -138,7 +138,7 @@ fn is_close_allowed(
     }
 }
 
-// Whether a number is left, and the time isn't below the last one.
+// Whether a number is left, and the time isn't before the last one.
 fn can_close(history: &[Pair], time: u32) -> bool
     ensures { IsTrue result ↔ CanClose (publisher_of history.now) time }
 {
@@ -168,7 +168,7 @@ fn is_written_small<F: ChangeForm>(alloc: Global, batch: &Batch) -> Result<bool,
     }
 }
 
-// The pending edits as a batch, which has at most 100,000.
+// The pending edits as a batch, which holds at most 100,000.
 fn pending_batch(alloc: Global, history: &[Pair]) -> Result<Batch, Unjudged>
     ensures batch { IfOk result (λ b. b ≡ pending_of history.now) }
     ensures refused { IfErr result (IsUnjudged history.now) }
@@ -235,7 +235,7 @@ fn is_open(history: &[Pair], number: u32, reached: u32) -> bool
     is_published(history, number) && !is_broken(history)
 }
 
-// Whether it was applied before.
+// Whether the sequence was applied before.
 fn is_old(history: &[Pair], number: u32, reached: u32) -> bool
     requires { IsNumber history.now reached }
     ensures { IsTrue result ↔ (IsOpen history.now number reached × (number ≤ reached)) }
@@ -243,7 +243,7 @@ fn is_old(history: &[Pair], number: u32, reached: u32) -> bool
     is_open(history, number, reached) && number <= reached
 }
 
-// Whether it is above the number, and was accepted.
+// Whether the sequence is above `reached` and was accepted.
 fn is_again(history: &[Pair], number: u32, reached: u32) -> bool
     requires { IsNumber history.now reached }
     ensures { IsTrue result ↔ (IsOpen history.now number reached
@@ -252,7 +252,7 @@ fn is_again(history: &[Pair], number: u32, reached: u32) -> bool
     is_open(history, number, reached) && reached < number && is_accepted(history, u64::from(number))
 }
 
-// Whether it is above the window, and wasn't accepted.
+// Whether the sequence is above the window and wasn't accepted.
 fn is_too_early(history: &[Pair], number: u32, reached: u32) -> bool
     requires { IsNumber history.now reached }
     ensures { IsTrue result ↔ (IsOpen history.now number reached
@@ -263,7 +263,7 @@ fn is_too_early(history: &[Pair], number: u32, reached: u32) -> bool
         && !is_accepted(history, u64::from(number))
 }
 
-// Whether it is within the window, and wasn't accepted.
+// Whether the sequence is within the window and wasn't accepted.
 fn is_wanted(history: &[Pair], number: u32, reached: u32) -> bool
     requires { IsNumber history.now reached }
     ensures { IsTrue result ↔ IsWanted history.now number reached }
@@ -272,7 +272,7 @@ fn is_wanted(history: &[Pair], number: u32, reached: u32) -> bool
     is_open(history, number, reached) && is_within && !is_accepted(history, u64::from(number))
 }
 
-// Whether it is wanted, and a number before it is missing.
+// Whether the sequence is wanted, and one before it is missing.
 fn is_early(history: &[Pair], number: u32, reached: u32) -> bool
     requires { IsNumber history.now reached }
     ensures { IsTrue result ↔ (IsWanted history.now number reached × (reached + 1 < number)) }
@@ -280,7 +280,7 @@ fn is_early(history: &[Pair], number: u32, reached: u32) -> bool
     is_wanted(history, number, reached) && u64::from(reached) + 1 < u64::from(number)
 }
 
-// Whether it is wanted, and no number before it is missing.
+// Whether the sequence is wanted, and none before it is missing.
 fn is_next(history: &[Pair], number: u32, reached: u32) -> bool
     requires { IsNumber history.now reached }
     ensures { IsTrue result ↔ (IsWanted history.now number reached × (number ≡ reached + 1)) }
@@ -288,7 +288,7 @@ fn is_next(history: &[Pair], number: u32, reached: u32) -> bool
     is_wanted(history, number, reached) && u64::from(number) == u64::from(reached) + 1
 }
 
-// Whether it is the next, and sequences `low` to `high` are those that can then be applied.
+// Whether the sequence is the next, and `low` to `high` are those that can then be applied.
 fn is_applied(history: &[Pair], number: u32, reached: u32, low: u32, high: u32) -> bool
     requires { IsNumber history.now reached }
     ensures { IsTrue result ↔ (IsWanted history.now number reached × (number ≡ reached + 1)
@@ -303,7 +303,7 @@ fn is_reach(history: &[Pair], from: u32, high: u32) -> bool
     high == reach(history, from)
 }
 
-// Whether it is wanted, and sequences `number` to `high` aren't all empty.
+// Whether the sequence is wanted, and sequences `number` to `high` aren't all empty.
 fn is_wanted_with_changes(
     alloc: Global,
     history: &[Pair],
@@ -319,7 +319,7 @@ fn is_wanted_with_changes(
     Ok(is_wanted(history, number, reached) && have_changes(alloc, history, number, high)?)
 }
 
-// Whether it is the next, and sequences `number` to `high` aren't all empty.
+// Whether the sequence is the next, and sequences `number` to `high` aren't all empty.
 fn is_next_with_changes(
     alloc: Global,
     history: &[Pair],

@@ -7,7 +7,7 @@ ghost use Rattle.osm_model.specs.Content.{content_of, edits_by_changeset, edits_
 use osm_model::change::Change;
 use osm_model::kind::Key;
 
-/// The last change of the list with that key.
+/// The last change with that key in the list.
 pub fn plain_last_of<'a>(changes: &'a [Change], key: Key) -> Option<&'a Change>
     ensures { option_copied result ≡ last_of changes.entry.now key }
 {
@@ -36,7 +36,7 @@ pub fn plain_content_of<'a>(changes: &'a [Change], key: Key) -> Option<&'a Chang
     }
 }
 
-/// The edits of a user in the changes.
+/// How many of the changes are edits of that user.
 pub fn plain_edits_by_user(changes: &[Change], uid: u32) -> usize
     ensures { result ≡ edits_by_user changes.now uid }
 {
@@ -49,7 +49,7 @@ pub fn plain_edits_by_user(changes: &[Change], uid: u32) -> usize
     count
 }
 
-/// The edits of a changeset in the changes.
+/// How many of the changes are edits of that changeset.
 pub fn plain_edits_by_changeset(changes: &[Change], id: u32) -> usize
     ensures { result ≡ edits_by_changeset changes.now id }
 {

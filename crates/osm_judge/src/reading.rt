@@ -1,5 +1,5 @@
-//! Reads reply texts, and promises nothing: a caller that needs a promise writes what was read and
-//! compares.
+//! Reads reply texts, and promises nothing: a caller that needs a promise writes the replies again
+//! and compares the texts.
 
 use osm_follow::view::View;
 use osm_model::memory::WantOfMemory;
@@ -9,7 +9,7 @@ use osm_reading::lines::split_line;
 use osm_world::event::Reply;
 use std::alloc::{AllocError, AllocFailed, Global};
 
-/// Why a text isn't read.
+/// Why a text can't be read.
 #[derive(Clone, Copy, Debug, PartialEq, Eq)]
 pub enum Unread {
     WantOfMemory,
@@ -43,7 +43,7 @@ impl From<LineError> for Unread {
     }
 }
 
-/// A reply and the text after it.
+/// Reads a reply, and gives the text after it.
 pub fn read_reply(alloc: Global, text: &[u8]) -> Result<(Reply, &[u8]), Unread> {
     let (line, rest) = next_line(text)?;
     let reply = match line {

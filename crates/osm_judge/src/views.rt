@@ -1,4 +1,4 @@
-//! Whether a view is the one that a history asks for.
+//! Whether a view is the one that a history calls for.
 
 ghost use Rattle.std.specs.Prelude.{◌≡◌, ℕ, ◌<◌, ◌↔◌, true, map, Contains, IfOk, IsTrue};
 ghost use Rattle.std.specs.Prelude.{option_copied};
@@ -54,7 +54,7 @@ fn is_mirror_of(alloc: Global, view: &View, changes: &[Change]) -> Result<bool, 
     Ok(are_objects(alloc, view.objects(), changes)? && is_orderly && is_counted)
 }
 
-// Whether the held numbers rise, and are those above the number that were accepted.
+// Whether the held numbers rise, and are exactly the accepted numbers above `number`.
 fn is_held(history: &[Pair], number: u32, held: &[u32]) -> bool
     ensures { IsTrue result ↔ (IsStrictlySortedBy nat_cmp held.now
         × ((j : ℕ) → Contains held.now j ↔ ((number < j) × (accepted_of history.now j ≡ true)))) }
@@ -69,7 +69,7 @@ fn are_exactly_held(history: &[Pair], number: u32, held: &[u32]) -> bool
     are_accepted(history, number, held) && are_all_held(history, number, held)
 }
 
-// Whether each of the numbers is above that number, and was accepted.
+// Whether each of the held numbers is above `number` and was accepted.
 fn are_accepted(history: &[Pair], number: u32, held: &[u32]) -> bool
     ensures { IsTrue result
         ↔ AllByRecursion (λ j. (number < j) × (accepted_of history.now j ≡ true)) held.now }
@@ -84,7 +84,7 @@ fn are_accepted(history: &[Pair], number: u32, held: &[u32]) -> bool
     }
 }
 
-// Whether each number above that number that was accepted is held.
+// Whether each accepted number above `number` is held.
 fn are_all_held(history: &[Pair], number: u32, held: &[u32]) -> bool
     ensures { IsTrue result
         ↔ ((j : ℕ) → number < j → accepted_of history.now j ≡ true → Contains held.now j) }
@@ -179,7 +179,7 @@ fn are_above_zero(counts: &[(u32, u64)]) -> bool
     }
 }
 
-// Whether the objects are what the changes leave, at each key.
+// Whether the objects are those that the changes leave, at each key.
 fn are_objects(alloc: Global, objects: &[Change], changes: &[Change]) -> Result<bool, WantOfMemory>
     ensures { IfOk result (λ b. IsTrue b
         ↔ ((k : Key) → object_at objects.now k ≡ content_of changes.now k)) }
@@ -189,7 +189,7 @@ fn are_objects(alloc: Global, objects: &[Change], changes: &[Change]) -> Result<
     Ok(is_first && is_second)
 }
 
-// Whether they are at the keys of those changes.
+// The same, only at the keys of the changes in `list`.
 fn are_objects_at(
     alloc: Global,
     objects: &[Change],
@@ -239,7 +239,7 @@ fn object_with<'a>(objects: &'a [Change], key: Key) -> Option<&'a Change>
     }
 }
 
-// Whether two changes are equal: their lines are equal exactly if they are.
+// Whether two changes are equal, which they are exactly if their lines are.
 fn is_same(alloc: Global, change: &Change, other: &Change) -> Result<bool, WantOfMemory>
     ensures { IfOk result (λ b. IsTrue b ↔ (change.now ≡ other.now)) }
 {
@@ -266,7 +266,7 @@ fn count_of(counts: &[(u32, u64)], number: u32) -> u64
     }
 }
 
-// Whether the users' counts are their edits in the changes, for each user.
+// Whether the count of each user is that of the user's edits in the changes.
 fn are_users(users: &[(u32, u64)], changes: &[Change]) -> bool
     ensures { IsTrue result ↔ ((uid : ℕ) → count_at users.now uid ≡ edits_by_user changes.now uid) }
 {
@@ -279,7 +279,7 @@ fn is_user(users: &[(u32, u64)], changes: &[Change], uid: u32) -> bool
     count_of(users, uid) == plain_edits_by_user(changes, uid) as u64
 }
 
-// Whether they are for the users of that list.
+// The same, only for the users in `list`.
 fn are_users_listed(users: &[(u32, u64)], changes: &[Change], list: &[(u32, u64)]) -> bool
     ensures { IsTrue result
         ↔ AllByRecursion (λ e. count_at users.now e.0 ≡ edits_by_user changes.now e.0) list.now }
@@ -292,7 +292,7 @@ fn are_users_listed(users: &[(u32, u64)], changes: &[Change], list: &[(u32, u64)
     }
 }
 
-// Whether they are for the users of those changes.
+// The same, only for the users of the changes in `list`.
 fn are_users_of(users: &[(u32, u64)], changes: &[Change], list: &[Change]) -> bool
     ensures { IsTrue result ↔ AllByRecursion
         (λ c. count_at users.now c.meta.uid ≡ edits_by_user changes.now c.meta.uid) list.now }
@@ -306,7 +306,7 @@ fn are_users_of(users: &[(u32, u64)], changes: &[Change], list: &[Change]) -> bo
     }
 }
 
-// Whether the changesets' counts are their edits in the changes, for each changeset.
+// Whether the count of each changeset is that of its edits in the changes.
 fn are_changesets(changesets: &[(u32, u64)], changes: &[Change]) -> bool
     ensures { IsTrue result
         ↔ ((id : ℕ) → count_at changesets.now id ≡ edits_by_changeset changes.now id) }
@@ -321,7 +321,7 @@ fn is_changeset(changesets: &[(u32, u64)], changes: &[Change], id: u32) -> bool
     count_of(changesets, id) == plain_edits_by_changeset(changes, id) as u64
 }
 
-// Whether they are for the changesets of that list.
+// The same, only for the changesets in `list`.
 fn are_changesets_listed(changesets: &[(u32, u64)], changes: &[Change], list: &[(u32, u64)]) -> bool
     ensures { IsTrue result ↔ AllByRecursion
         (λ e. count_at changesets.now e.0 ≡ edits_by_changeset changes.now e.0) list.now }
@@ -335,7 +335,7 @@ fn are_changesets_listed(changesets: &[(u32, u64)], changes: &[Change], list: &[
     }
 }
 
-// Whether they are for the changesets of those changes.
+// The same, only for the changesets of the changes in `list`.
 fn are_changesets_of(changesets: &[(u32, u64)], changes: &[Change], list: &[Change]) -> bool
     ensures { IsTrue result ↔ AllByRecursion (λ c. count_at changesets.now c.meta.changeset
         ≡ edits_by_changeset changes.now c.meta.changeset) list.now }

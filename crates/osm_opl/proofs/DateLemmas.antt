@@ -1,4 +1,4 @@
--- What is read as a time is what has its text.
+-- Bytes are read as a time exactly if they are its text.
 use Rattle.std.proofs.Common.{◌≡◌, ℕ, ◌^◌, ◌<◌, ◌≤◌, true, leb, ltb, ◌&&◌, List, Option, Some, None, refl, arith}
 use Rattle.std.specs.Prelude.{unsigned_abs, IfSome}
 use Rattle.std.proofs.lemmas.Bool.Decides.{nat_tests}
@@ -19,7 +19,7 @@ use Rattle.osm_reading.proofs.StepLemmas.{both_held, guard_some}
 shows_at : (bytes : List ℕ) (t : ℕ) → t < 2 ^ 32 → bytes ≡ time_text t → Shows bytes t
 shows_at bytes t h e = rw e (time_text_shows t h)
 
--- what is read as a time is what has its text
+-- bytes that are read as a time are its text
 pub time_takes : (bytes : List ℕ) (t : ℕ) → time_at bytes ≡ Some t → TimeText bytes t
 unfolding time_at
 time_takes bytes t e =

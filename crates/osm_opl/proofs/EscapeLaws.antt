@@ -42,7 +42,7 @@ free_after : (xs ys : List ℕ) → list_all is_free (xs ++ ys) ≡ true → lis
 free_after [] ys e = e
 free_after (x ∷ xs) ys e = free_after xs ys (both_held (is_free x) (list_all is_free (xs ++ ys)) e).1
 
--- a run of bare characters before what spells a text
+-- a run of bare characters before a spelling of a text
 run_before : (cs bytes text : List ℕ) → scalars cs ≡ true → list_all is_free (encodes cs) ≡ true → SpellsText bytes text → SpellsText (encodes cs ++ bytes) (encodes cs ++ text)
 run_before [] bytes text s free h = h
 run_before (c ∷ cs) bytes text s free h =
@@ -151,7 +151,7 @@ text_again bytes text h is =
     let t : leb (length text) 1020 ≡ true = grind (arith, nat_tests) in
     rw (runs_again bytes text h, t) refl
 
--- a byte that can't stand bare, other than `%`, stands nowhere in what spells a text
+-- a byte that can't be bare, other than `%`, occurs nowhere in a spelling of a text
 pub text_lacks : (s : ℕ) (bytes text : List ℕ) → is_reserved s ≡ true → s ≢ 37 → 16 ≤ digit_value s → SpellsText bytes text → Lacks s bytes
 text_lacks s _ _ r other far end = tt
 text_lacks s _ _ r other far (bare c bytes text h rest) =

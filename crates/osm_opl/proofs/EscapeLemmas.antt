@@ -38,7 +38,7 @@ pub ruleset text_runs = (is_text_run, isnt_text_run)
 
 -- ---- which bytes a character has
 
--- a byte of ASCII stands in no other character
+-- an ASCII byte occurs in no other character
 pub encode_lacks : (s c : ℕ) → s < 128 → c ≢ s → Lacks s (encode_utf8 c)
 unfolding encode_utf8
 encode_lacks s c small other = by_tests (ltb c 128) (ltb c 2048) (ltb c 65536)
@@ -139,7 +139,7 @@ text_refused bytes text TooLong is nul long memory =
     absurd (omega arith)
 text_refused bytes text WantOfMemory is nul long memory = absurd (memory refl)
 
--- ---- texts without an escape
+-- ---- texts without escapes
 
 bare_is : (bytes : List ℕ) → list_all is_free bytes ≡ true → text_at bytes ≡ and_then (run_at bytes) (λ t. cond (leb (length t) 1020) (Some t) None)
 unfolding text_at

@@ -1,5 +1,5 @@
--- A field that is read stands first, with its letter, and what stands so is read; the field of the kind
--- and the id among them.
+-- A field is read exactly if it comes first and has its letter; the same holds for the field of the kind
+-- and the id.
 use Rattle.std.proofs.Common.{◌≡◌, ℕ, true, List, [], ◌∷◌, Some, None, refl, ap, subst, ◌∙◌, arith}
 use Rattle.std.specs.Prelude.{◌==◌, ℤ}
 use Rattle.std.proofs.lemmas.Bool.Decides.{nat_tests}
@@ -51,7 +51,7 @@ pub last_field_again : (letter : ℕ) (content : List ℕ) → last_field_at let
 unfolding last_field_at
 last_field_again letter content = rw (field_again letter content []) refl
 
--- so a field that something follows isn't the last
+-- so a field that is followed by another isn't the last
 pub not_alone : (s : ℕ) (content rest : List ℕ) → alone (content, pieces s rest) ≡ None
 not_alone s content rest = let r = pieces_some s rest in rw r.2 refl
 

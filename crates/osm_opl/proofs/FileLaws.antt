@@ -47,7 +47,7 @@ lines_append _ ys _ b none q = q
 lines_append _ ys _ b (skipped line lines a s p) q = skipped line (lines ++ ys) (a ++ b) s (lines_append lines ys a b p q)
 lines_append _ ys _ b (change line lines c a s h p) q = change line (lines ++ ys) c (a ++ b) s h (lines_append lines ys a b p q)
 
--- lines spell what those in prefix spell, and then what the others spell
+-- lines spell what the first of them spell, and then what the others spell
 pub record SplitLines (xs ys : List (List ℕ)) (changes : List ChangeValue) : Type 0 where
   pub first : List ChangeValue
   pub second : List ChangeValue
@@ -77,7 +77,7 @@ first_line line lines _ n (change _ _ c changes s h p) = record { change = c; re
 
 -- ---- faults
 
--- a fault where a batch is spelled
+-- bytes that spell a batch have no fault
 pub apart : (bytes : List ℕ) (batch : List ChangeValue) (place : ℕ) → SpellsOpl bytes batch → FaultLine bytes place → ⊥
 apart bytes batch place s f =
     let h : SpellsLines (f.before ++ f.line ∷ f.after) batch = rw f.parts at s.lines in
@@ -90,7 +90,7 @@ apart bytes batch place s f =
     let k : length split.first ≡ length f.changes = ap length same in
     f.fault line.change line.spells (omega (arith, n, m, k, few))
 
--- the lines before a fault, seen from the prefix
+-- a line is a fault after `n` changes and these further ones
 pub record StopsAt (n : ℕ) (line : List ℕ) (changes : List ChangeValue) : Type 0 where
   pub few : n + length changes ≤ max_changes
   pub counts : is_skipped line ≡ false
@@ -155,7 +155,7 @@ one_place bytes a b f g =
     let y : b ≡ length g.before + 1 = g.number in
     omega arith
 
--- ---- how far a reading has come
+-- ---- how far the reading of a file has come
 
 pub record LinesRead (bytes : List ℕ) (left : List (List ℕ)) (changes : List ChangeValue) (place : ℕ) : Type 0 where
   pub before : List (List ℕ)
@@ -211,7 +211,7 @@ not_empty bytes more line changes place h counts s =
     let m : length split.second ≡ suc (length first.rest) = ap length first.whole in
     omega (arith, n, m)
 
--- a reading that stops is refused as the form says
+-- reading that stops at a line is refused as the form says
 pub line_stops : (bytes : List ℕ) (left more : List (List ℕ)) (line : List ℕ) (changes : List ChangeValue) (place : ℕ) (error : FormError) → length bytes ≤ max_file → LinesRead bytes left changes place → left ≡ line ∷ more → LineStops line (place + 1) changes error → ReadRefused SpellsOpl FaultLine bytes error
 line_stops bytes left more line changes place WantOfMemory small read e stop =
     (small, not_empty bytes more line changes place (rw e at read) stop)

@@ -32,7 +32,7 @@ pub record IsBlank (s : ℕ) : Type 0 where
   pub low : s < 37
   pub far : 16 ≤ digit_value s
 
--- what a reader of items is to tell
+-- what has to hold for a reader of items
 pub record ReadsItems {X : Type 0} (read : List ℕ → Option X) (Spells : List ℕ → X → Type 0) (Limits : X → Type 0) : Type 0 where
   pub takes : (p : List ℕ) (x : X) → read p ≡ Some x → Spells p x
   pub limits : (p : List ℕ) (x : X) → read p ≡ Some x → Limits x
@@ -239,7 +239,7 @@ members_read = record {
   no_blank = λ s b p m h. member_lacks s p m b.reserved (λ e. omega (arith, e, b.low)) (λ e. omega (arith, e, b.low)) (λ e. omega (arith, e, b.low)) (λ e. omega (arith, e, b.low)) (omega (arith, b.low)) b.far h;
 }
 
--- members within the limits, in the model's two lists of facts
+-- members within the limits, as the two lists of facts that the model has
 pub members_split : (ms : List Member) → AllByRecursion IsMember ms → AllByRecursion HasMemberId ms × AllByRecursion IsRole ms
 members_split [] h = (tt, tt)
 members_split (m ∷ ms) h = let r = members_split ms h.1 in ((h.0.id, r.0), (h.0.role, r.1))

@@ -13,7 +13,7 @@ use Rattle.osm_reading.specs.declared.refusal.Refusal.TheVariants.{WantOfMemory,
 use Rattle.osm_opl.specs.Steps.Plain.{first_at}
 use Rattle.osm_reading.proofs.StepLemmas.{none_then, some_then}
 
--- what was read before, before what is read from the rest
+-- what was read so far, followed by what is read from the rest
 abbrev pub put_before : {X : Type 0} → List X → Option (List X) → Option (List X)
 put_before xs None = None
 put_before xs (Some ys) = Some (xs ++ ys)
@@ -92,7 +92,7 @@ pub item_fails : {X : Type 0} (read : List ℕ → Option X) (most : ℕ) (bytes
 item_fails read most bytes WantOfMemory left ps items p before is e = tt
 item_fails read most bytes (Fault why) left ps items p before is e = item_unread read most bytes left ps items p before is e
 
--- an item too many
+-- one item too many
 pub item_too_many : {X : Type 0} (read : List ℕ → Option X) (most : ℕ) (bytes : List ℕ) (left : List (List ℕ)) (items : List X) → ListRead read (list_pieces bytes) left items → 1 ≤ length left → most ≤ length items → list_at read most bytes ≡ None
 unfolding list_at
 item_too_many {X} read most bytes left items h more long = by_option (each_at read (list_pieces bytes)) (λ xs e. let n : length xs ≡ length (list_pieces bytes) = each_length read (list_pieces bytes) xs e in let m : length (list_pieces bytes) ≡ length items + length left = h.count in omega arith)
@@ -107,7 +107,7 @@ run_bound : (xs run : List ℕ) (r : Option (List ℕ)) → put_before xs (and_t
 run_bound xs run None = refl
 run_bound xs run (Some t) = ap (λ (l : List ℕ). Some l) (sym (append_assoc xs run t))
 
--- a run and an escape more
+-- one more run and escape
 pub run_read : (before run after text next : List ℕ) (left more : List (List ℕ)) (digits : List ℕ) (c : ℕ) (whole : Option (List ℕ)) → whole ≡ put_before before (runs_at left) → left ≡ run ∷ digits ∷ more → run_at run ≡ Some after → escape_at digits ≡ Some c → text ≡ before ++ after → next ≡ text ++ encode_utf8 c → whole ≡ put_before next (runs_at more)
 run_read before run after text next left more digits c whole e is r d t n =
     let step : runs_at (run ∷ digits ∷ more) ≡ and_then (runs_at more) (λ t. Some (after ++ encode_utf8 c ++ t)) = rw (r, d) refl in
@@ -137,7 +137,7 @@ run_first run r (digits ∷ more) e =
     by_parts (Some c) None = (None, refl)
     by_parts (Some c) (Some t) = (Some (encode_utf8 c ++ t), ap (λ (l : List ℕ). Some l) (append_assoc r (encode_utf8 c) t))
 
--- a text that begins with more than 1,020 bytes is none
+-- nothing that begins with more than 1,020 bytes is a text
 pub text_long : (bytes start : List ℕ) (rest : Option (List ℕ)) → runs_at (pieces 37 bytes) ≡ put_before start rest → 1020 < length start → text_at bytes ≡ None
 unfolding text_at
 text_long bytes start None e l = rw e refl

@@ -18,7 +18,7 @@ use Rattle.osm_reading.specs.Pieces.{Lacks}
 use Rattle.osm_reading.proofs.PieceLemmas.{cut_takes, cut_again, uncut_again, lacks_append}
 use Rattle.osm_opl.proofs.NumberLemmas.{IsNumeralOf, digits_take, digits_again, each_digit, all_from_each}
 
--- what is no digit stands nowhere in digits
+-- a byte that isn't a digit occurs nowhere in digits
 pub digits_lack : (radix s : ℕ) (bytes : List ℕ) → radix ≤ digit_value s → AllDigits radix bytes → Lacks s bytes
 digits_lack radix s [] far h = tt
 digits_lack radix s (b ∷ bs) far h =
@@ -81,7 +81,7 @@ positive_again bytes n h limits =
 
 -- ---- with a sign
 
--- what the digits without a sign tell of a reader
+-- what has to hold for a reader of digits without a sign
 pub record ReadsDigits (read : List ℕ → Option ℕ) (Spells : List ℕ → ℕ → Type 0) (most : ℕ) : Type 0 where
   pub takes : (bytes : List ℕ) (n : ℕ) → read bytes ≡ Some n → Spells bytes n
   pub limit : (bytes : List ℕ) (n : ℕ) → read bytes ≡ Some n → n ≤ most

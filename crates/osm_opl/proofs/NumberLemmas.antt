@@ -15,7 +15,7 @@ use Rattle.osm_model.specs.declared.form.Why.{Why}
 use Rattle.osm_reading.specs.Steps.Answers.{Finds}
 use Rattle.osm_opl.specs.Steps.Reading.{all_digits, is_numeral, digits_at, number_at, positive_at}
 
--- the digits before a place, and the number that they write
+-- the digits before an index, and their value, capped at `most`
 pub record Digits (radix : ℕ) (bytes : List ℕ) (most : ℕ) (i : ℕ) (so_far : ℕ) : Type 0 where
   pub all : all_digits radix (take i bytes) ≡ true
   pub value : so_far ≡ min most (digits_value radix (take i bytes))
@@ -58,7 +58,7 @@ digits_many radix most bytes e =
 pub no_digits_yet : (radix most : ℕ) (bytes : List ℕ) → Digits radix bytes most 0 0
 no_digits_yet radix most bytes = record { all = refl; value = omega arith }
 
--- one digit more
+-- one more digit
 pub one_digit : (bytes : List ℕ) (most i so_far d : ℕ) → i < length bytes → Digits 10 bytes most i so_far → is_ascii_digit (get_or bytes i 0) ≡ true → d ≡ get_or bytes i 0 - 48 → Digits 10 bytes most (i + 1) (min (min (so_far * 10) most + d) most)
 one_digit bytes most i so_far d lt h digit e =
     let b : ℕ = get_or bytes i 0 in
@@ -106,7 +106,7 @@ each_digit radix (b ∷ bs) all =
     let first : nat_lt (digit_value b) radix ≡ true = parts.0 in
     (grind (arith, nat_tests), each_digit radix bs parts.1)
 
--- no more than so many decimal digits write a number below that power of ten
+-- the value of at most `most` decimal digits is below that power of ten
 pub few_digits : (most : ℕ) (bytes : List ℕ) → length bytes ≤ most → all_digits 10 bytes ≡ true → digits_value 10 bytes < 10 ^ most
 few_digits most bytes short all = digits_value_short (numerals_by_value (AllDigits 10) tells_digits) bytes most (each_digit 10 bytes all) short
 
@@ -116,14 +116,14 @@ scale_limit k = pow-le-pow_right {n = 10} (lit< tt) {i = 7 - k} {j = 7} (omega a
 pub below_scale : (k : ℕ) → k ≤ 7 → 10 ^ k ≤ 10 ^ 7
 below_scale k h = pow-le-pow_right {n = 10} (lit< tt) {i = k} {j = 7} h
 
--- up to eighteen digits write a number that has room for one digit more in 64 bits
+-- the value of up to eighteen digits leaves room for one more digit in 64 bits
 pub room_for_digit : (bytes : List ℕ) (i so_far : ℕ) → i ≤ 18 → Digits 10 bytes 18446744073709551615 i so_far → so_far < 1000000000000000000
 room_for_digit bytes i so_far few h =
     let short : length (take i bytes) ≤ 18 = let n : length (take i bytes) ≡ min i (length bytes) = length-take i bytes in omega arith in
     let small : digits_value 10 (take i bytes) < 10 ^ 18 = few_digits 18 (take i bytes) short h.all in
     omega (arith, small, h.value)
 
--- one digit more, if there is room
+-- one more digit, if there is room
 pub one_digit_fits : (bytes : List ℕ) (i so_far : ℕ) → i < length bytes → i ≤ 18 → Digits 10 bytes 18446744073709551615 i so_far → is_ascii_digit (get_or bytes i 0) ≡ true → Digits 10 bytes 18446744073709551615 (i + 1) (10 * so_far + (get_or bytes i 0 - 48))
 one_digit_fits bytes i so_far lt few h digit =
     let room : so_far < 1000000000000000000 = room_for_digit bytes i so_far few h in
@@ -132,7 +132,7 @@ one_digit_fits bytes i so_far lt few h digit =
     let same : min (min (so_far * 10) 18446744073709551615 + (get_or bytes i 0 - 48)) 18446744073709551615 ≡ 10 * so_far + (get_or bytes i 0 - 48) = omega arith in
     rw same at next
 
--- a limit on the number of digits says nothing of fewer
+-- a limit on the number of digits makes no difference to fewer
 pub digits_within : (radix most : ℕ) (bytes : List ℕ) → length bytes ≤ most → digits_at radix most bytes ≡ digits_at radix (length bytes) bytes
 unfolding digits_at
 digits_within radix most bytes h =
@@ -140,7 +140,7 @@ digits_within radix most bytes h =
     let b : nat_le (length bytes) (length bytes) ≡ true = grind (arith, nat_tests) in
     rw (a, b) refl
 
--- what 1 digit to so many write
+-- the value of at least one digit and at most `most`
 pub record IsNumeralOf (radix most : ℕ) (bytes : List ℕ) (n : ℕ) : Type 0 where
   pub all : all_digits radix bytes ≡ true
   pub some : 1 ≤ length bytes
@@ -175,7 +175,7 @@ small_limit most n bytes h e =
     let is : n ≡ digits_value 10 bytes = t.value in
     (omega arith, t.short)
 
--- the number of at most seven digits is itself
+-- the greatest number of 64 bits is no limit for at most seven digits
 pub small_number : (most : ℕ) (bytes : List ℕ) → most ≤ 7 → option_map (min 18446744073709551615) (digits_at 10 most bytes) ≡ digits_at 10 most bytes
 small_number most bytes h = by_option (digits_at 10 most bytes) (λ n e. let l = small_limit most n bytes h e in let lt : n < 10 ^ 7 = l.0 in omega arith)
   where
@@ -183,7 +183,7 @@ small_number most bytes h = by_option (digits_at 10 most bytes) (λ n e. let l =
     by_option None h = refl
     by_option (Some n) h = ap (λ (m : ℕ). Some m) (h n refl)
 
--- the same of what a function found
+-- the same for what a function found
 pub small_found : (most : ℕ) (bytes : List ℕ) (r : Result ℕ Why) → most ≤ 7 → Finds (λ n. n) r (option_map (min 18446744073709551615) (digits_at 10 most bytes)) → Finds (λ n. n) r (digits_at 10 most bytes)
 small_found most bytes r h f = rw (small_number most bytes h) at f
 
@@ -195,7 +195,7 @@ pub not_positive : (bytes : List ℕ) → length bytes ≡ 0 → positive_at byt
 unfolding positive_at number_at
 not_positive bytes e = rw (digits_none 10 20 bytes e) refl
 
--- one hexadecimal digit more
+-- one more hexadecimal digit
 pub one_hex_digit : (bytes : List ℕ) (most i so_far d : ℕ) → i < length bytes → Digits 16 bytes most i so_far → d < 16 → d ≡ digit_value (get_or bytes i 0) → Digits 16 bytes most (i + 1) (min (min (so_far * 16) most + d) most)
 one_hex_digit bytes most i so_far d lt h small is =
     let test : nat_lt (digit_value (get_or bytes i 0)) 16 ≡ true = grind (arith, nat_tests) in

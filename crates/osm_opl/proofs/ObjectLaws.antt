@@ -1,4 +1,4 @@
--- What a line says of its object, a node, a way, a relation or a deletion: what is read is spelled, and
+-- What a line says about its object, a node, a way, a relation or a deletion: what is read is spelled, and
 -- what is spelled is read.
 use Rattle.std.proofs.Common.{◌≡◌, ℕ, Bool, true, false, cond, List, [], ◌∷◌, Option, Some, None, refl, sym, ap, subst, ◌∙◌}
 use Rattle.std.specs.Prelude.{ℤ}

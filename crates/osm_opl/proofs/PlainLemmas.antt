@@ -14,7 +14,7 @@ use Rattle.osm_reading.proofs.PieceLemmas.{pieces-more, pieces-one}
 use Rattle.osm_opl.proofs.NumberLemmas.{Digits, IsNumeralOf, digits_again, digits_take, each_digit, few_digits}
 use Rattle.osm_opl.proofs.NumberLaws.{digits_lack}
 
--- up to 19 digits write the number that was summed up
+-- the number that was summed up is the value of up to 19 digits
 pub exact_number : (bytes : List ℕ) (i so_far : ℕ) → i ≤ 19 → Digits 10 bytes 18446744073709551615 i so_far → so_far ≡ digits_value 10 (take i bytes)
 exact_number bytes i so_far few h =
     let short : length (take i bytes) ≤ 19 = let n : length (take i bytes) ≡ min i (length bytes) = length-take i bytes in omega arith in
@@ -76,7 +76,7 @@ id_first s bytes n more h limit = record {
   is = unsigned_id h.digits n h.number (number_is 4611686018427387903 n h.digits h.number limit);
 }
 
--- a letter stands before the first piece
+-- a letter comes before the first piece
 lettered : (s letter : ℕ) (content digits : List ℕ) (more : List (List ℕ)) → letter ≢ s → pieces s content ≡ digits ∷ more → pieces s (letter ∷ content) ≡ (letter ∷ digits) ∷ more
 unfolding pieces
 lettered s letter content digits more other e = let t : (letter == s) ≡ false = grind (arith, nat_tests) in rw (t, e) refl

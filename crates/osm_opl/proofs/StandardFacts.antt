@@ -7,12 +7,12 @@ use Rattle.osm_opl.specs.Escape.{is_reserved}
 use Rattle.osm_opl.specs.Steps.Reading.{digits_at, escape_at}
 use Rattle.osm_opl.specs.Written.{char_text, coordinate_text, decimals, hex_digits, is_written_bare}
 
--- so many numbers from the first on
+-- that many numbers, from the first on
 numbers_from : ℕ → ℕ → List ℕ
 numbers_from first zero = []
 numbers_from first (suc k) = first ∷ numbers_from (first + 1) k
 
--- of the bytes, nine can't be bare: neither a quote nor any other blank is among them
+-- nine of the bytes can't be bare; no quote and no other blank is among them
 reserved_bytes : filter is_reserved (numbers_from 0 256) ≡ 0 ∷ 9 ∷ 10 ∷ 13 ∷ 32 ∷ 37 ∷ 44 ∷ 61 ∷ 64 ∷ []
 unfolding numbers_from
 reserved_bytes = refl
@@ -22,7 +22,7 @@ escaped_of_printable : filter (λ c. not (is_written_bare c)) (numbers_from 33 9
 unfolding numbers_from
 escaped_of_printable = refl
 
--- and so is all that is below or above them
+-- and so is everything below or above them
 below_printable : filter is_written_bare (numbers_from 0 33) ≡ []
 unfolding numbers_from
 below_printable = refl
@@ -31,7 +31,7 @@ above_printable : filter is_written_bare (numbers_from 127 129) ≡ []
 unfolding numbers_from
 above_printable = refl
 
--- the digits of an escape: at least two, and else the fewest
+-- the digits of an escape: at least two, otherwise as few as possible
 two_digits : char_text 0x0a ≡ codes "%0a%"
 unfolding char_text hex_digits
 two_digits = refl

@@ -1,4 +1,4 @@
--- The fields of a line that is written: a line is its fields with spaces between them, and those of its
+-- The fields of a written line: the line is its fields with spaces between them, and the fields of the
 -- object spell it.
 use Rattle.std.proofs.Common.{◌≡◌, ℕ, List, [], ◌∷◌, ◌++◌, refl, sym, ap, subst, ◌∙◌, append_assoc, arith}
 use Rattle.std.specs.Prelude.{decimal}

@@ -16,7 +16,7 @@ use Rattle.osm_reading.proofs.StepLemmas.{both_held}
 use Rattle.osm_opl.specs.Escape.{is_reserved}
 use Rattle.osm_opl.specs.Written.{hex_count, is_written_bare, line_text, opl_text, char_text, chars_text, escaped_text, decimals, hex_digits, more_items, items_text}
 
--- what was appended stands behind what was there
+-- what was appended comes after what was there
 pub starts_append : (old prefix : List ℕ) → StartsWith (old ++ prefix) old
 starts_append old prefix = take_at old prefix (length old) refl
 
@@ -51,7 +51,7 @@ starts_more old new next p q =
 
 -- ---- decimals
 
--- the digits that are left of a fraction, moved to the left of seven
+-- the digits of a fraction that are left, shifted to the left of seven
 pub record FractionWritten (old new : List ℕ) (part rest left : ℕ) : Type 0 where
   pub number : ℕ
   pub few : left ≤ 7
@@ -80,7 +80,7 @@ moved_digit (suc (suc (suc (suc (suc zero))))) number rest lt moved some = recor
 moved_digit (suc (suc (suc (suc (suc (suc zero)))))) number rest lt moved some = record { some = omega arith; digit = omega arith; next = omega arith; below = omega arith }
 moved_digit (suc (suc (suc (suc (suc (suc (suc k))))))) number rest lt moved some = absurd (omega arith)
 
--- while something is left, so is a digit
+-- as long as something is left, a digit is left
 pub digit_left : (left number rest : ℕ) → number < 10 ^ left → rest ≡ number * 10 ^ (7 - left) → 0 < rest → 0 < left
 digit_left zero number rest below moved some = absurd (let one : number < 1 = below in let m : rest ≡ number * 10000000 = moved in omega arith)
 digit_left (suc k) number rest below moved some = omega arith
@@ -206,7 +206,7 @@ on_err (Err e) P p = p
 
 -- ---- texts
 
--- so many bytes of a text are left
+-- the rest of a text is left to write
 pub record TextWritten (old new text rest : List ℕ) : Type 0 where
   pub utf8 : IsUtf8 rest
   pub writes : Writes old new (escaped_text rest) (escaped_text text)
@@ -242,7 +242,7 @@ bare_chars (b ∷ bs) e =
     let p = both_held (is_written_bare b) (list_all is_written_bare bs) e in
     rw (p.0, bare_chars bs p.1) refl
 
--- a text without an escape is written as it is
+-- a text that needs no escape is written as it is
 pub written_as_it_is : (bytes : List ℕ) → list_all is_written_bare bytes ≡ true → escaped_text bytes ≡ bytes
 unfolding escaped_text
 written_as_it_is bytes e = ap chars_text (chars-IsAscii bytes (ascii_if_bare bytes e)) ∙ bare_chars bytes e
@@ -250,7 +250,7 @@ written_as_it_is bytes e = ap chars_text (chars-IsAscii bytes (ascii_if_bare byt
 pub text_start : (old new text rest : List ℕ) → TextWritten old new text rest → StartsWith new old
 text_start old new text rest h = writes_start old new (escaped_text rest) (escaped_text text) h.writes
 
--- what was there before an append is kept with what was there after it
+-- whatever keeps the result of an append also keeps what was there before the append
 pub starts_back : (old mid new part : List ℕ) → mid ≡ old ++ part → StartsWith new mid → StartsWith new old
 starts_back old mid new part e h = starts_more old mid new (rw e (starts_append old part)) h
 

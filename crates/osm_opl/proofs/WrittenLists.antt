@@ -1,4 +1,4 @@
--- A list of tags, of refs or of members that is written spells what was written.
+-- A list of tags, references or members that is written spells what was written.
 use Rattle.std.proofs.Common.{◌≡◌, ℕ, List, [], ◌∷◌, ◌++◌, refl, sym, ap, subst}
 use Rattle.std.specs.Prelude.{ℤ, map}
 use Rattle.std.specs.Fmt.{signed_decimal}

@@ -33,7 +33,7 @@ record IsHex (k c : ℕ) (ds : List ℕ) : Type 0 where
   count : length ds ≡ k
   value : digits_value 16 ds ≡ c % 16 ^ k
 
--- the last digits of a number, one digit more
+-- one more of the last digits of a number
 hex_step : (p c d : ℕ) → 0 < p → d ≡ c / p % 16 → d * p + c % p ≡ c % (p * 16)
 hex_step p c d above is =
     let e : ℕ = c / p / 16 in

@@ -1,4 +1,4 @@
--- Coordinates of a line, in units of 10^-7 degree.
+-- Coordinates in a line, in units of 10^-7 degree.
 use Rattle.std.specs.Prelude.{ℕ, ◌+◌, ◌-◌, ◌*◌, ◌^◌, ◌≤◌, List, ◌∷◌, ◌++◌, length, ℤ}
 use Rattle.std.specs.Str.Parse.{IsNumeral, digits_value}
 use Rattle.osm_opl.specs.Number.{Signed}
@@ -12,6 +12,6 @@ pub data SpellsUnits : List ℕ → ℕ → Type 0 where
       → SpellsUnits (degrees ++ 46 ∷ decimals)
       (digits_value 10 degrees * 10 ^ 7 + digits_value 10 decimals * 10 ^ (7 - length decimals))
 
--- a coordinate: such digits, with a leading `-` if it is negative (or 0)
+-- a coordinate: such digits, with a leading `-` if it is negative; 0 may have one too
 abbrev pub SpellsCoordinate : List ℕ → ℤ → Type 0
 SpellsCoordinate = Signed SpellsUnits

@@ -1,4 +1,4 @@
--- Texts of a line: user names, keys and values of tags, roles of members (Osmium manual, OPL File
+-- Texts in a line: user names, keys and values of tags, roles of members (Osmium manual, OPL File
 -- Format; which characters may be bare is our choice).
 use Rattle.std.specs.Prelude.{◌≡◌, ◌≢◌, ℕ, ◌==◌, ◌≤◌, Bool, false, ◌||◌}
 use Rattle.std.specs.Prelude.{List, [], ◌∷◌, ◌++◌, length}
@@ -23,7 +23,7 @@ pub record NamesChar (digits : List ℕ) (c : ℕ) : Type 0 where
   pub scalar : IsScalar c
   pub other : c ≢ 0
 
--- a row of characters in UTF-8, each bare or as an escape `%DIGITS%`
+-- characters in UTF-8, one after the other, each bare or as an escape `%DIGITS%`
 pub data SpellsText : List ℕ → List ℕ → Type 0 where
   end : SpellsText [] []
   bare : (c : ℕ) (bytes text : List ℕ) → IsBare c → SpellsText bytes text

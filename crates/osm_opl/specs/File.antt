@@ -1,4 +1,4 @@
--- An OPL file: the changes of a batch, a line each.
+-- An OPL file: the changes of a batch, one line each.
 use Rattle.std.specs.Prelude.{◌≡◌, ℕ, ◌+◌, ◌<◌, ◌≤◌, true, false, List, [], ◌∷◌, ◌++◌, length}
 use Rattle.osm_model.specs.Batch.{IsBatch}
 use Rattle.osm_model.specs.Change.{ChangeValue}
@@ -20,9 +20,9 @@ pub record SpellsOpl (bytes : List ℕ) (batch : List ChangeValue) : Type 0 wher
   pub lines : SpellsLines (lines_of bytes) batch
   pub limits : IsBatch batch
 
--- the number, counted from 1, of the first line that is neither skipped nor spells a change, or
--- that would be a change too many: those before it are skipped or spell changes, at most as many as
--- a batch may have
+-- the number, counted from 1, of the first line that isn't skipped and either spells no change or
+-- would be one change too many: the lines before it are skipped or spell changes, at most as many
+-- as a batch may have
 pub record FaultLine (bytes : List ℕ) (place : ℕ) : Type 0 where
   pub before : List (List ℕ)
   pub line : List ℕ

@@ -29,7 +29,7 @@ pub data MayBeCoordinate (Limits : ℤ → Type 0) : List ℕ → Type 0 where
       → MayBeCoordinate Limits bytes
 
 -- the fields after the user: `T.. x.. y..` of a node, `T.. N..` of a way, `T.. M..` of a relation.
--- Those of a deletion are in the grammar and the limits, and say nothing.
+-- Those of a deletion have to meet the grammar and the limits too, but say nothing.
 pub data SpellsWhat : Kind → List (List ℕ) → What → Type 0 where
   node : (t x y : List ℕ) (tags : List Tag) (lon lat : ℤ)
       → SpellsList SpellsTag t tags → SpellsCoordinate x lon → SpellsCoordinate y lat
@@ -75,7 +75,7 @@ pub record SpellsLine (line : List ℕ) (change : ChangeValue) : Type 0 where
   pub what : SpellsWhat change.key.kind fields change.what
   pub limits : IsChange change
 
--- a fault is answered only if the line spells no change
+-- a line is refused with a fault only if it spells no change
 abbrev pub LineRefused : List ℕ → Refusal → Type 0
 LineRefused line WantOfMemory = Unit {0}
 LineRefused line (Fault why) = (change : ChangeValue) → SpellsLine line change → ⊥

@@ -1,4 +1,4 @@
--- Lists of a line: items joined by commas (Osmium manual, OPL File Format).
+-- Lists in a line: items joined by commas (Osmium manual, OPL File Format).
 use Rattle.std.specs.Prelude.{◌≡◌, ℕ, List, [], ◌∷◌, ◌++◌, ℤ}
 use Rattle.osm_model.specs.declared.kind.Kind.{Kind}
 use Rattle.osm_model.specs.declared.kind.Kind.TheVariants.{Node, Way, Relation}
@@ -14,7 +14,7 @@ pub data Each {X : Type 0} (Spells : List ℕ → X → Type 0) : List (List ℕ
   item : (p : List ℕ) (ps : List (List ℕ)) (x : X) (xs : List X) → Spells p x → Each Spells ps xs
       → Each Spells (p ∷ ps) (x ∷ xs)
 
--- nothing for the empty list, else the items joined by commas
+-- nothing for the empty list, otherwise the items joined by commas
 pub data SpellsList {X : Type 0} (Spells : List ℕ → X → Type 0) : List ℕ → List X → Type 0 where
   empty : SpellsList Spells [] []
   items : (p : List ℕ) (ps : List (List ℕ)) (xs : List X) → Each Spells (p ∷ ps) xs

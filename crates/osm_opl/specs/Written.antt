@@ -1,4 +1,4 @@
--- What is written: of the many spellings of a change, one.
+-- What is written: one of the many spellings of a change.
 use Rattle.std.specs.Prelude.{ℕ, zero, suc, ◌+◌, ◌/◌, ◌%◌, ◌^◌, ◌==◌, ◌&&◌, nat_lt, nat_le, not}
 use Rattle.std.specs.Prelude.{Bool, List, [], ◌∷◌, ◌++◌, ℤ, codes, decimal, unsigned_abs}
 use Rattle.std.specs.Prelude.{if◌then◌else◌}
@@ -20,7 +20,7 @@ use Rattle.osm_opl.specs.Escape.{is_reserved}
 use Rattle.osm_opl.specs.Line.{status_text}
 use Rattle.osm_opl.specs.Lists.{letter_of}
 
--- the last so many hexadecimal digits of a number
+-- the last hexadecimal digits of a number, as many as are asked for
 unfoldable pub hex_digits : ℕ → ℕ → List ℕ
 hex_digits zero c = []
 hex_digits (suc k) c = digit_char (c / 16 ^ k % 16) ∷ hex_digits k c
@@ -64,12 +64,12 @@ coordinate_text units =
     sign_text (is_negative units) ++ decimal (unsigned_abs units / 10 ^ 7)
     ++ fraction_text (unsigned_abs units % 10 ^ 7)
 
--- items after the first: a comma before each
+-- the items after the first, with a comma before each
 abbrev pub more_items : {X : Type 0} → (X → List ℕ) → List X → List ℕ
 more_items text [] = []
 more_items text (x ∷ xs) = 44 ∷ text x ++ more_items text xs
 
--- items with a comma between each two
+-- items separated by commas
 abbrev pub items_text : {X : Type 0} → (X → List ℕ) → List X → List ℕ
 items_text text [] = []
 items_text text (x ∷ xs) = text x ++ more_items text xs
@@ -82,11 +82,11 @@ tag_text t = escaped_text t.key ++ 61 ∷ escaped_text t.value
 abbrev pub ref_text : ℤ → List ℕ
 ref_text id = 110 ∷ signed_decimal id
 
--- `wID`
+-- `nID`, `wID` or `rID`
 abbrev pub key_text : Key → List ℕ
 key_text key = letter_of key.kind ∷ signed_decimal key.id
 
--- `wID@ROLE`
+-- `nID@ROLE`, `wID@ROLE` or `rID@ROLE`
 abbrev pub member_text : Member → List ℕ
 member_text m = key_text m.key ++ 64 ∷ escaped_text m.role
 
@@ -110,7 +110,7 @@ refs_field refs = codes " N" ++ items_text ref_text refs
 abbrev pub members_field : List Member → List ℕ
 members_field members = codes " M" ++ items_text member_text members
 
--- the fields after the user, a space before each; those of a deletion are empty
+-- the fields after the user, each after a space; those of a deletion are empty
 abbrev pub what_text : Kind → What → List ℕ
 what_text kind (whats.Node lon lat tags) =
     tags_field tags ++ coordinate_field (codes " x") lon ++ coordinate_field (codes " y") lat
@@ -145,7 +145,7 @@ unfoldable pub line_text : ChangeValue → List ℕ
 line_text c =
     key_text c.key ++ meta_text (status_text c.what) c.meta ++ what_text c.key.kind c.what
 
--- a file: the line of each change, and LF after it
+-- a file: the lines of the changes, each followed by LF
 unfoldable pub opl_text : List ChangeValue → List ℕ
 opl_text [] = []
 opl_text (c ∷ cs) = line_text c ++ 10 ∷ opl_text cs

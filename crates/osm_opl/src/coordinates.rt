@@ -14,12 +14,13 @@ use osm_model::form::Why;
 use osm_model::memory::WantOfMemory;
 use osm_reading::pieces::cut;
 
+// Units in a degree.
 const UNITS: u32 = 10_000_000;
 
-// The units of the first decimal.
+// Units in a tenth of a degree.
 const FIRST_DECIMAL: u32 = 1_000_000;
 
-/// A coordinate in degrees, as `-0.1`, or nothing.
+/// Reads a coordinate in degrees, such as `-0.1`; gives None if the field is empty.
 #[tactic(auto, unfolding(crate::specs::Steps::Reading::maybe_coordinate_at))]
 pub(crate) fn read_maybe_coordinate(bytes: &[u8], most: i32) -> Result<Option<i32>, Why>
     requires { pos 0 ≤ℤ most }
@@ -47,7 +48,7 @@ fn read_coordinate(bytes: &[u8], most: i32) -> Result<i32, Why>
     Ok(units as i32)
 }
 
-// Degrees without a sign, as `0.1`.
+// Reads degrees without a sign, such as `0.1`.
 #[tactic(auto, unfolding(crate::specs::Steps::Reading::units_at))]
 fn read_units(bytes: &[u8], most: u64) -> Result<u64, Why>
     ensures value { Finds (λ n. n) result (units_at most bytes.now) }
@@ -66,7 +67,7 @@ fn read_units(bytes: &[u8], most: u64) -> Result<u64, Why>
     Ok(units)
 }
 
-// The number that 1 to `most` digits write.
+// The value of 1 to `most` digits.
 fn read_few_digits(bytes: &[u8], most: usize) -> Result<u64, Why>
     requires { most ≤ 7 }
     ensures value { Finds (λ n. n) result (digits_at 10 most bytes.now) }
@@ -75,7 +76,7 @@ fn read_few_digits(bytes: &[u8], most: usize) -> Result<u64, Why>
     read_digits(bytes, most)
 }
 
-// The units of the last of so many decimals.
+// How many units the last of that many decimals counts.
 fn scale(decimals: usize) -> u64
     requires { decimals ≤ 7 }
     ensures value { result ≡ 10 ^ (7 - decimals) }
@@ -107,7 +108,7 @@ pub(crate) fn write_coordinate(units: i32, out: &mut Vec<u8>) -> Result<(), Want
     Ok(())
 }
 
-// A point and the seven digits of `part`, without zeros at the end; nothing if all are 0.
+// Writes a point and the seven digits of `part` without trailing zeros; nothing if all are 0.
 fn write_fraction(part: u32, out: &mut Vec<u8>) -> Result<(), WantOfMemory>
     requires { part < 10 ^ 7 }
     ensures ok { OnOk result (out.new.items ≡ out.old.items ++ fraction_text part) }
@@ -121,8 +122,8 @@ fn write_fraction(part: u32, out: &mut Vec<u8>) -> Result<(), WantOfMemory>
     Ok(())
 }
 
-// What is left is moved up by one digit each time, so the next digit is the first of seven, and
-// each division is by the same constant. `left` is how many digits may follow.
+// The rest is shifted left by one digit each time, so that the next digit is always the first of
+// seven and every division is by the same constant. `left` is how many digits may still follow.
 fn write_decimals(part: u32, out: &mut Vec<u8>) -> Result<(), WantOfMemory>
     requires { part < 10 ^ 7 }
     ensures ok { OnOk result (out.new.items ≡ out.old.items ++ decimals 7 part) }

@@ -1,5 +1,5 @@
-//! Texts: user names, keys and values of tags, and roles. A character is bare or an escape
-//! `%DIGITS%` with the hexadecimal digits of its code.
+//! Texts: user names, keys and values of tags, and roles. A character is written bare or as an
+//! escape `%DIGITS%` with the hexadecimal digits of its code.
 
 ghost use Rattle.std.specs.Prelude.{◌≡◌, ◌-◌, ◌^◌, ◌<◌, ◌≤◌, ◌++◌, length, min, option_map};
 ghost use Rattle.std.specs.Prelude.{true, string_bytes, if◌then◌else◌, Some, None, ◌∷◌, []};
@@ -23,7 +23,7 @@ use osm_reading::pieces::cut;
 use osm_reading::refusal::Refusal;
 use std::alloc::Global;
 
-/// A text of at most 1,020 bytes, its escapes resolved.
+/// Reads a text of at most 1,020 bytes and resolves its escapes.
 #[tactic(auto, unfolding(crate::specs::Steps::Reading::text_at))]
 pub(crate) fn read_text(alloc: Global, bytes: &[u8]) -> Result<Text, Refusal>
     ensures { Gives (λ t. t) result (text_at bytes.now) }
@@ -38,7 +38,7 @@ pub(crate) fn read_text(alloc: Global, bytes: &[u8]) -> Result<Text, Refusal>
     }
 }
 
-// A text without an escape.
+// Reads a text that has no escapes.
 fn read_bare(alloc: Global, bytes: &[u8]) -> Result<Text, Refusal>
     requires { list_all is_free bytes.now ≡ true }
     ensures { Gives (λ t. t) result (text_at bytes.now) }
@@ -54,7 +54,7 @@ fn read_bare(alloc: Global, bytes: &[u8]) -> Result<Text, Refusal>
     }
 }
 
-// Runs of bare characters with escapes between them. The text never grows past the limit.
+// Reads runs of bare characters with escapes between them. The text never grows past the limit.
 fn unescape(alloc: Global, bytes: &[u8]) -> Result<String, Refusal>
     ensures { Gives string_bytes result (text_at bytes.now) }
 {
@@ -101,7 +101,7 @@ fn append_char(character: char, text: &mut String) -> Result<(), Refusal>
     Ok(())
 }
 
-// Bare characters.
+// A run of bare characters.
 #[tactic(auto, using(crate::proofs::EscapeLemmas::text_runs))]
 fn read_run(run: &[u8]) -> Result<&str, Why>
     ensures { Finds (λ s. s.now) result (run_at run.now) }
@@ -125,7 +125,7 @@ fn is_free_run(run: &[u8]) -> bool
     run.iter().all(|byte| !is_reserved(*byte))
 }
 
-// Which bytes can't be bare.
+// Whether a byte can't be bare.
 #[inline(always)]
 fn is_reserved(byte: u8) -> bool
     ensures { result ≡ is_reserved byte }
@@ -136,7 +136,7 @@ fn is_reserved(byte: u8) -> bool
     )
 }
 
-// The character whose code is given by one to eight hexadecimal digits; U+0000 is none.
+// The character whose code is one to eight hexadecimal digits. U+0000 is refused.
 #[tactic(auto, unfolding(crate::specs::Steps::Reading::escape_at))]
 fn read_escape(digits: &[u8]) -> Result<char, Why>
     ensures { Finds (λ c. c) result (escape_at digits.now) }
@@ -148,7 +148,7 @@ fn read_escape(digits: &[u8]) -> Result<char, Why>
     }
 }
 
-// The number that one to eight hexadecimal digits write.
+// The value of one to eight hexadecimal digits.
 fn read_hex(digits: &[u8]) -> Result<u32, Why>
     ensures { Finds (λ n. n) result (option_map (min (2 ^ 32 - 1)) (digits_at 16 8 digits.now)) }
 {
@@ -165,7 +165,7 @@ fn read_hex(digits: &[u8]) -> Result<u32, Why>
     Ok(number)
 }
 
-/// The text with all but printable ASCII escaped, and `%`, `,`, `=` and `@` too.
+/// Writes a text. All characters outside `!` to `~` are escaped, and so are `%`, `,`, `=` and `@`.
 pub(crate) fn write_text(text: &str, out: &mut Vec<u8>) -> Result<(), WantOfMemory>
     ensures ok { OnOk result (out.new.items ≡ out.old.items ++ escaped_text text.now) }
     ensures err { OnErr result (StartsWith out.new.items out.old.items) }
@@ -219,7 +219,7 @@ fn write_char(character: char, out: &mut Vec<u8>) -> Result<(), WantOfMemory>
     Ok(())
 }
 
-// An escape of two digits.
+// Writes an escape with two digits.
 fn write_short_escape(code: u32, out: &mut Vec<u8>) -> Result<(), WantOfMemory>
     requires { code < 0x100 }
     ensures ok { OnOk result (out.new.items
@@ -244,7 +244,7 @@ fn digit_count(code: u32) -> u32
     }
 }
 
-// The last `count` hexadecimal digits.
+// Writes the last `count` hexadecimal digits of a code.
 fn write_hex(code: u32, count: u32, out: &mut Vec<u8>) -> Result<(), WantOfMemory>
     requires { count ≤ 6 }
     ensures ok { OnOk result (out.new.items ≡ out.old.items ++ hex_digits count code) }

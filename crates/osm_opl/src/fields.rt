@@ -1,4 +1,4 @@
-//! The fields of a line, a space between each two.
+//! The fields of a line, separated by single spaces.
 
 ghost use Rattle.std.specs.Prelude.{◌≡◌};
 ghost use Rattle.osm_opl.specs.Steps.Reading.{field_at, last_field_at};
@@ -8,7 +8,7 @@ ghost use Rattle.osm_reading.specs.Steps.Answers.{Finds};
 use osm_model::form::Why;
 use osm_reading::pieces::cut;
 
-/// The content of the next field, which has that letter, and what follows the field.
+/// The content of the next field, which must begin with that letter, and what follows the field.
 #[tactic(auto, unfolding(crate::specs::Steps::Reading::field_at))]
 pub(crate) fn next_field<'a>(
     rest: Option<&'a [u8]>,
@@ -27,7 +27,7 @@ pub(crate) fn next_field<'a>(
     }
 }
 
-/// The content of the last field, which has that letter.
+/// The content of the last field, which must begin with that letter.
 #[tactic(auto, unfolding(crate::specs::Steps::Reading::last_field_at))]
 pub(crate) fn last_field<'a>(rest: Option<&'a [u8]>, letter: u8) -> Result<&'a [u8], Why>
     ensures { Finds (λ r. r.now) result (last_field_at letter (pieces_after 32 rest.entry)) }

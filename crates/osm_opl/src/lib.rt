@@ -1,4 +1,4 @@
-//! OPL, the line format for OpenStreetMap changes: lines, files, and texts of lines.
+//! OPL, the line format for OpenStreetMap changes: files, their lines, and the texts in a line.
 #![tactic(auto)]
 
 mod coordinates;

@@ -1,4 +1,4 @@
-//! Lines of an OPL file: one change of one object each, as
+//! Lines of an OPL file, each of them one change of one object, such as
 //! `n1 v1 dV c7 t2024-01-01T00:00:00Z i5 uann T x1 y2` (Osmium manual, OPL File Format).
 
 ghost use Rattle.std.specs.Prelude.{◌≡◌, ◌++◌, IfOk, IfErr, OnOk, OnErr, MatchResult};
@@ -25,10 +25,10 @@ use osm_model::memory::WantOfMemory;
 use osm_reading::pieces::cut;
 use std::alloc::Global;
 
-/// Why a line isn't read.
+/// Why a line can't be read.
 pub use osm_reading::refusal::Refusal as LineError;
 
-/// Appends the line of a change, without a line end. A refusal leaves the vector as it was.
+/// Appends the line of a change, without a line end. On an error the vector is left as it was.
 pub fn write_line(change: &Change, out: &mut Vec<u8>) -> Result<(), WantOfMemory>
     ensures ok { OnOk result (out.new.items ≡ out.old.items ++ line_text change.now) }
     ensures err { OnErr result (out.new.items ≡ out.old.items) }
@@ -53,7 +53,7 @@ fn append_line(change: &Change, out: &mut Vec<u8>) -> Result<(), WantOfMemory>
     Ok(())
 }
 
-/// The change that a line, without its end, spells.
+/// Reads the change that a line spells. The line is given without its line end.
 pub fn read_line(alloc: Global, line: &[u8]) -> Result<Change, LineError>
     ensures spelled { IfOk result (λ c. SpellsLine line.now c) }
     ensures refused { IfErr result (LineRefused line.now) }
@@ -73,7 +73,7 @@ fn read_change(alloc: Global, line: &[u8]) -> Result<Change, LineError>
     Ok(Change::within_limits(key, head.meta, what))
 }
 
-// The kind and the id, and the fields after them.
+// Reads the kind and the id, and gives the fields that follow them.
 fn read_key(line: &[u8]) -> Result<(Key, Option<&[u8]>), Why>
     ensures value { Finds (λ r. (r.0, pieces_after 32 r.1)) result (key_at (pieces 32 line.now)) }
     ensures limit { IfOk result (λ r. IsId r.0.id) }
@@ -84,7 +84,7 @@ fn read_key(line: &[u8]) -> Result<(Key, Option<&[u8]>), Why>
     }
 }
 
-// The same, if the id is 1 to 19 digits.
+// The fast path of `read_key`: the id is 1 to 19 digits, without a sign.
 fn plain_key(line: &[u8]) -> Option<(Key, Option<&[u8]>)>
     ensures value { IfSome result (λ r.
         key_at (pieces 32 line.now) ≡ Some (r.0, pieces_after 32 r.1)) }

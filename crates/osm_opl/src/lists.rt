@@ -1,4 +1,4 @@
-//! Lists: tags, the nodes of a way and the members of a relation, with commas between the items.
+//! Lists: tags, the nodes of a way and the members of a relation, separated by commas.
 
 ghost use Rattle.std.specs.Prelude.{◌≡◌, ◌<◌, ◌≤◌, ◌++◌, ◌∷◌, [], length, if◌then◌else◌, Some};
 ghost use Rattle.std.specs.Prelude.{IfOk, IfSome, OnOk, OnErr};
@@ -23,14 +23,14 @@ use osm_reading::pieces::cut;
 use osm_reading::refusal::Refusal;
 use std::alloc::Global;
 
-// What a list begins with: nothing for the empty list.
+// What there is to read of a list: nothing if the list is empty.
 fn first_item(bytes: &[u8]) -> Option<&[u8]>
     ensures { pieces_after 44 result ≡ list_pieces bytes.now }
 {
     if bytes.is_empty() { None } else { Some(bytes) }
 }
 
-// How many items to make room for: as many as there are pieces, but no more than are read.
+// How many items to make room for: one for each piece, but no more than may be read.
 fn room_for(bytes: &[u8], most: usize) -> usize
     ensures { result ≤ most }
 {
@@ -50,7 +50,7 @@ fn commas(bytes: &[u8]) -> usize
     count
 }
 
-/// At most 5,000 tags.
+/// Reads at most 5,000 tags.
 pub(crate) fn read_tags(alloc: Global, bytes: &[u8]) -> Result<Tags, Refusal>
     ensures { Gives (λ t. t) result (list_at tag_at 5000 bytes.now) }
 {
@@ -85,7 +85,7 @@ fn read_tag(alloc: Global, bytes: &[u8]) -> Result<Tag, Refusal>
     })
 }
 
-/// At most 32,000 nodes of a way.
+/// Reads at most 32,000 nodes of a way.
 pub(crate) fn read_refs(alloc: Global, bytes: &[u8]) -> Result<Refs, Refusal>
     ensures { Gives (λ r. r) result (list_at ref_at 32000 bytes.now) }
 {
@@ -152,7 +152,7 @@ fn read_ref(bytes: &[u8]) -> Result<i64, Why>
     }
 }
 
-/// At most 32,000 members of a relation.
+/// Reads at most 32,000 members of a relation.
 pub(crate) fn read_members(alloc: Global, bytes: &[u8]) -> Result<Members, Refusal>
     ensures { Gives (λ m. m) result (list_at member_at 32000 bytes.now) }
 {
@@ -299,7 +299,7 @@ pub(crate) fn write_key(key: Key, out: &mut Vec<u8>) -> Result<(), WantOfMemory>
     Ok(())
 }
 
-// A comma before each item except the first.
+// Writes a comma before each item except the first.
 fn write_comma(is_first: bool, out: &mut Vec<u8>) -> Result<(), WantOfMemory>
     ensures ok { OnOk result (out.new.items ≡ out.old.items ++ (if is_first then [] else 44 ∷ [])) }
     ensures err { OnErr result (StartsWith out.new.items out.old.items) }

@@ -1,4 +1,4 @@
-//! The fields that all objects have after their id: version, status, changeset, time, user.
+//! The fields that follow the id of every object: version, status, changeset, time and user.
 
 ghost use Rattle.std.specs.Prelude.{◌≡◌, ◌≢◌, ◌<◌, ◌++◌, IfOk, IfSome, Some, codes};
 ghost use Rattle.std.specs.Prelude.{OnOk, OnErr};
@@ -24,14 +24,14 @@ use osm_model::time::{time_read, time_write};
 use osm_reading::refusal::Refusal;
 use std::alloc::Global;
 
-/// Whether the object is visible, and who made the change.
+/// Whether the object is visible, and the metadata of the change.
 #[derive(Drop)]
 pub(crate) struct Head {
     pub(crate) is_visible: bool,
     pub(crate) meta: Meta,
 }
 
-/// The fields `vVERSION dV cCHANGESET tTIME iUID uUSER`, and what follows them.
+/// Reads the fields `vVERSION dV cCHANGESET tTIME iUID uUSER`, and gives what follows them.
 #[tactic(auto, unfolding(crate::specs::Steps::Reading::head_at))]
 pub(crate) fn read_head<'a>(
     alloc: Global,
@@ -65,7 +65,7 @@ fn positive_field<'a>(rest: Option<&'a [u8]>, letter: u8) -> Result<(u32, Option
     }
 }
 
-// The same, if the field is 1 to 19 digits.
+// The fast path of `positive_field`: the number is 1 to 19 digits.
 fn plain_field<'a>(rest: Option<&'a [u8]>, letter: u8) -> Option<(u32, Option<&'a [u8]>)>
     requires { letter ≢ 32 }
     ensures value { IfSome result (λ r. positive_field_at letter (pieces_after 32 rest.entry)
@@ -154,7 +154,7 @@ fn read_time(bytes: &[u8]) -> Result<u32, Why>
     }
 }
 
-/// The same fields, a space before each.
+/// Writes the same fields, each after a space.
 #[tactic(auto, using(crate::proofs::WrittenLemmas::starts_back))]
 pub(crate) fn write_head(
     is_visible: bool,
@@ -195,7 +195,7 @@ fn write_user(meta: &Meta, out: &mut Vec<u8>) -> Result<(), WantOfMemory>
     Ok(())
 }
 
-// A mark and a number.
+// A number after its mark, which is a space and the letter of the field.
 #[inline(always)]
 #[tactic(auto, using(crate::proofs::WrittenLemmas::starts_back))]
 fn write_number_field(mark: &[u8], number: u32, out: &mut Vec<u8>) -> Result<(), WantOfMemory>

@@ -13,13 +13,13 @@ use osm_model::form::Why;
 use osm_model::limits::MAX_ID;
 use osm_model::memory::WantOfMemory;
 
-// The most digits of a number.
+// The most digits that a number may have.
 const MOST_DIGITS: usize = 20;
 
-// A number of so many digits fits into 64 bits.
+// Every number of this many digits fits in 64 bits.
 const FITTING_DIGITS: usize = 19;
 
-/// The number that 1 to `most` decimal digits write, or `u64::MAX` if it is greater.
+/// The value of 1 to `most` decimal digits, or `u64::MAX` if it is greater than that.
 pub(crate) fn read_digits(bytes: &[u8], most: usize) -> Result<u64, Why>
     ensures { Finds (λ n. n) result (option_map (min (2 ^ 64 - 1)) (digits_at 10 most bytes.now)) }
 {
@@ -33,7 +33,7 @@ pub(crate) fn read_digits(bytes: &[u8], most: usize) -> Result<u64, Why>
     }
 }
 
-// So few digits that their number fits into 64 bits.
+// Few enough digits that their value fits in 64 bits.
 fn read_few_digits(bytes: &[u8]) -> Result<u64, Why>
     requires { (1 ≤ length bytes.now) × (length bytes.now ≤ 19) }
     ensures { Finds (λ n. n) result

@@ -1,4 +1,4 @@
-//! The fields after the user: what the object is.
+//! The fields after the user, which say what the object is.
 
 ghost use Rattle.std.specs.Prelude.{◌≡◌, ◌++◌, IfOk, OnOk, OnErr};
 ghost use Rattle.std.specs.Io.{StartsWith};
@@ -21,7 +21,7 @@ use osm_model::memory::WantOfMemory;
 use osm_reading::refusal::Refusal;
 use std::alloc::Global;
 
-/// What an object of that kind is. The fields of a deletion are read and dropped.
+/// Reads what an object of that kind is. The fields of a deletion are checked, and then dropped.
 pub(crate) fn read_what(
     alloc: Global,
     kind: Kind,
@@ -52,7 +52,7 @@ fn read_node(alloc: Global, is_visible: bool, rest: Option<&[u8]>) -> Result<Wha
     Ok(node_of(is_visible, lon, lat, tags)?)
 }
 
-// A visible node has a location.
+// A visible node must have a location.
 fn node_of(is_visible: bool, lon: Option<i32>, lat: Option<i32>, tags: Tags) -> Result<What, Why>
     ensures { Finds (λ w. w) result (node_of is_visible lon lat tags) }
 {
@@ -97,7 +97,7 @@ fn read_relation(alloc: Global, is_visible: bool, rest: Option<&[u8]>) -> Result
     })
 }
 
-/// The fields, a space before each; those of a deletion are empty.
+/// Writes the fields, each after a space; those of a deletion are empty.
 #[tactic(auto, using(crate::proofs::WrittenLemmas::starts_back))]
 pub(crate) fn write_what(kind: Kind, what: &What, out: &mut Vec<u8>) -> Result<(), WantOfMemory>
     ensures ok { OnOk result (out.new.items ≡ out.old.items ++ what_text kind what.now) }
@@ -142,7 +142,7 @@ fn write_tags_field(tags: &[Tag], out: &mut Vec<u8>) -> Result<(), WantOfMemory>
     Ok(())
 }
 
-// A mark and a coordinate.
+// ` xLONGITUDE` or ` yLATITUDE`: the mark is the space and the letter.
 #[inline(always)]
 #[tactic(auto, using(crate::proofs::WrittenLemmas::starts_back))]
 fn write_coordinate_field(mark: &[u8], units: i32, out: &mut Vec<u8>) -> Result<(), WantOfMemory>

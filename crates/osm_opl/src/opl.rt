@@ -1,4 +1,4 @@
-//! OPL files: a line for each change of a batch, in order (Osmium manual, OPL File Format).
+//! OPL files: one line for each change of a batch, in order (Osmium manual, OPL File Format).
 
 ghost use Rattle.std.specs.Prelude.{◌≡◌, ℕ, List, ◌∷◌, [], ◌++◌, ◌≤◌, ◌<◌, length};
 ghost use Rattle.std.specs.Prelude.{IfOk, OnOk, IfErr};
@@ -21,7 +21,8 @@ use osm_reading::lines::{is_skipped_line, split_line};
 use osm_reading::refusal::Refusal;
 use std::alloc::Global;
 
-/// The form of OPL files. The place of a fault is a line's number, counted from 1 over all lines.
+/// The form of OPL files. The place of a fault is the number of its line, counted from 1 over all
+/// lines.
 #[derive(Clone, Copy, Debug, PartialEq, Eq)]
 pub struct Opl;
 
@@ -35,12 +36,12 @@ impl ChangeForm for Opl {
 
     ghost fault_place = { FaultLine };
 
-    /// A line for each change, and a line feed after it. The empty batch is the empty file.
+    /// Writes a line for each change, each ended by a line feed. The empty batch gives no bytes.
     fn write(alloc: Global, batch: &Batch) -> Result<Vec<u8>, FormError> {
         write_batch(alloc, batch)
     }
 
-    /// The changes of the lines that are neither empty nor begin with `#`.
+    /// Reads one change from each line that isn't empty and doesn't begin with `#`.
     fn read(alloc: Global, bytes: &[u8]) -> Result<Batch, FormError> {
         if bytes.len() > MAX_FILE {
             return Err(FormError::TooLarge);
@@ -51,7 +52,7 @@ impl ChangeForm for Opl {
     fn laws() {}
 }
 
-// Stops soon after the text has passed 64 MiB.
+// Stops soon after the text exceeds 64 MiB.
 fn write_batch(alloc: Global, batch: &Batch) -> Result<Vec<u8>, FormError>
     ensures text { IfOk result (λ v. v.items ≡ opl_text batch.now) }
     ensures small { IfOk result (λ v. length v.items ≤ max_file) }
@@ -99,7 +100,7 @@ fn read_batch(alloc: Global, bytes: &[u8]) -> Result<Batch, FormError>
     Ok(batch)
 }
 
-// One line more. A batch that is full takes no change.
+// Adds the change of one more line, unless the line is skipped. A full batch takes no change.
 fn add_line(alloc: Global, line: &[u8], place: u64, batch: &mut Batch) -> Result<(), FormError>
     requires { length batch.old ≤ max_changes }
     ensures ok { OnOk result (AddsLine line.now batch.old batch.new) }
@@ -124,8 +125,9 @@ fn add_line(alloc: Global, line: &[u8], place: u64, batch: &mut Batch) -> Result
     }
 }
 
-/// The laws of the form: bytes spell at most one batch, a line at most one change; a fault has one
-/// place, and has one exactly if no batch is spelled; what is written spells what was written.
+/// Tells the prover the laws of the form: bytes spell at most one batch, and a line at most one
+/// change; bytes have at most one place of a fault, and have one exactly if they spell no batch;
+/// the written text of a batch spells that batch. Does nothing at run time.
 pub fn laws_of_opl()
     ensures one_batch { (bytes : List ℕ) (a b : List ChangeValue)
         → SpellsOpl bytes a → SpellsOpl bytes b → a ≡ b }

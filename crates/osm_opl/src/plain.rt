@@ -1,5 +1,5 @@
-//! Numbers as nearly all lines have them: 1 to 19 digits, and then a separator or the end. They are
-//! read in one pass. A number of another spelling is left to the readers of whole fields.
+//! Numbers as nearly all lines spell them: 1 to 19 digits, and then a separator or the end. These
+//! are read in one pass; any other spelling is left to the readers of whole fields.
 
 ghost use Rattle.std.specs.Prelude.{◌≡◌, ◌≤◌, ◌<◌, length, take, true, IfSome};
 ghost use Rattle.std.specs.Char.{digit_value};
@@ -11,11 +11,11 @@ ghost use Rattle.osm_reading.specs.Pieces.{pieces_after};
 
 use osm_model::limits::MAX_ID;
 
-// A number of so many digits fits into 64 bits.
+// Every number of this many digits fits in 64 bits.
 const FITTING_DIGITS: usize = 19;
 
-/// The number that the digits before the first separator write, and what follows the separator.
-/// None if there are no digits or more than 19, or another byte is among them.
+/// The value of the digits before the first separator, and what follows the separator. None if
+/// there are no digits, more than 19 of them, or another byte among them.
 pub(crate) fn leading_number(bytes: &[u8], separator: u8) -> Option<(u64, Option<&[u8]>)>
     requires { 10 ≤ digit_value separator }
     ensures value { IfSome result (λ r.
@@ -36,7 +36,7 @@ pub(crate) fn leading_number(bytes: &[u8], separator: u8) -> Option<(u64, Option
     Some((number, Some(&bytes[count + 1..])))
 }
 
-// The number of the first digits, at most 19, and how many they are.
+// The value of the leading digits, at most 19 of them, and how many there are.
 #[inline(always)]
 fn leading_digits(bytes: &[u8]) -> (u64, usize)
     ensures digits { all_digits 10 (take result.1 bytes.now) ≡ true }
@@ -57,7 +57,7 @@ fn leading_digits(bytes: &[u8]) -> (u64, usize)
     (number, count)
 }
 
-/// The same of an id that isn't negative.
+/// The same for an id without a sign.
 pub(crate) fn leading_id(bytes: &[u8], separator: u8) -> Option<(i64, Option<&[u8]>)>
     requires { 10 ≤ digit_value separator }
     ensures value { IfSome result (λ r.

@@ -1,4 +1,4 @@
--- Where a text is cut, and that pieces that are joined are cut again.
+-- Where a text is cut, and that joined pieces are cut apart again.
 use Rattle.std.proofs.Common.{◌≡◌, ℕ, zero, suc, ◌+◌, ◌<◌, ◌≤◌, true, false, cond, List, [], ◌∷◌, ◌++◌, length, get_or, take, drop, Option, Some, None, refl, sym, ap, subst, ◌∙◌, arith}
 use Rattle.std.specs.Prelude.{◌≢◌, ◌==◌, IfSome, MatchOption}
 use Rattle.std.specs.Borrow.{Bor}
@@ -11,7 +11,7 @@ use Rattle.osm_reading.specs.Pieces.{Lacks, cut_at, joined, pieces, with_before,
 use Rattle.osm_reading.specs.Lines.{BeginsWithLine, without_cr}
 use Rattle.osm_reading.proofs.StepLemmas.{chosen}
 
--- what was before a cut, if a byte was put before it
+-- the first part of a cut, if a byte was put before it
 some_before : (b : ℕ) (r : Option (List ℕ × List ℕ)) (c : List ℕ × List ℕ) → with_before b r ≡ Some c → (x : List ℕ × List ℕ) × (r ≡ Some x) × (Some (b ∷ x.0, x.1) ≡ Some c)
 some_before b (Some x) c e = (x, refl, e)
 some_before b None c e = absurd cc
@@ -39,7 +39,7 @@ cut_none s (b ∷ bs) none =
     let other : (b == s) ≡ false = grind (arith, nat_tests) in
     rw (other, cut_none s bs (λ k lt. none (suc k) (omega arith))) refl
 
--- the pieces of a text are what stands before the cut, and the pieces of what stands after it
+-- the pieces of a text are what comes before the cut, and the pieces of what comes after it
 pub pieces_cut : (s : ℕ) (bytes before rest : List ℕ) → cut_at s bytes ≡ Some (before, rest) → pieces s bytes ≡ before ∷ pieces s rest
 unfolding cut_at pieces
 pieces_cut s [] before rest e = absurd cc
@@ -69,7 +69,7 @@ pieces_whole s (b ∷ bs) e =
     let uncut : cut_at s bs ≡ None = no_before b (cut_at s bs) is in
     rw (f, pieces_whole s bs uncut) refl)
 
--- what a search of the separator says
+-- what a search for the separator says
 pub record IsCut (s : ℕ) (bytes : List ℕ) (i : ℕ) : Type 0 where
   pub within : i < length bytes
   pub first : cut_at s bytes ≡ Some (take i bytes, drop (i + 1) bytes)
@@ -80,7 +80,7 @@ is_cut s bytes i lt here none =
     let cut : cut_at s bytes ≡ Some (take i bytes, drop (i + 1) bytes) = cut_found s bytes i lt here none in
     record { within = lt; first = cut; pieces = pieces_cut s bytes (take i bytes) (drop (i + 1) bytes) cut }
 
--- the same of the place that a search for the separator finds
+-- the same for the index that a search for the separator finds
 pub found_cut : (s : ℕ) (bytes : List ℕ) (i : ℕ) → NoneBefore (Passes (is_byte s) bytes) 0 (length bytes) i → Passes (is_byte s) bytes i → IsCut s bytes i
 found_cut s bytes i h here =
     is_cut s bytes i h.high (grind (arith, nat_tests)) (λ k lt e. h.before k (omega arith) lt (grind (arith, nat_tests)))
@@ -161,7 +161,7 @@ pieces-one s (x ∷ xs) h =
     let t : (x == s) ≡ false = grind (arith, nat_tests) in
     rw (t, pieces-one s xs h.1) refl
 
--- bytes without the separator and then the separator
+-- bytes without the separator, followed by the separator
 pub pieces-more : (s : ℕ) (xs ys : List ℕ) → Lacks s xs → pieces s (xs ++ s ∷ ys) ≡ xs ∷ pieces s ys
 unfolding pieces
 pieces-more s [] ys h = let t : (s == s) ≡ true = grind (arith, nat_tests) in rw t refl
@@ -234,7 +234,7 @@ uncut_again s (x ∷ xs) h =
 pub cut_absent : (s : ℕ) (bytes : List ℕ) → cut_at s bytes ≡ None → pieces s bytes ≡ bytes ∷ []
 cut_absent s bytes e = pieces_whole s bytes e
 
--- what follows a piece is shorter than what began with it
+-- what follows a piece is shorter than the text that begins with it
 pub less_left : (after : Option (Bor (List ℕ))) (n : ℕ) → IfSome after (λ rest. length rest.now < n) → bytes_left after ≤ n
 less_left None n h = omega arith
 less_left (Some rest) n h = omega arith

@@ -1,13 +1,13 @@
--- Steps of a reading that did not fail.
+-- Steps of a reading that didn't fail.
 use Rattle.std.proofs.Common.{◌≡◌, ◌&&◌, Bool, true, false, cond, Option, Some, None, refl}
 use Rattle.osm_reading.specs.Steps.Answers.{and_then, when}
 
--- the step before gave something
+-- the step before it gave something
 pub some_then : {A B : Type 0} (r : Option A) (f : A → Option B) (y : B) → and_then r f ≡ Some y → (x : A) × (r ≡ Some x) × (f x ≡ Some y)
 some_then (Some x) f y e = (x, refl, e)
 some_then None f y e = absurd cc
 
--- the step before gave nothing, since the one after it can't fail
+-- the step before it gave nothing, since the step after can't fail
 pub none_then : {A B : Type 0} (r : Option A) (f : A → B) → and_then {A = A} {B = B} r (λ x. Some (f x)) ≡ None → r ≡ None
 none_then None f e = refl
 none_then (Some x) f e = absurd cc

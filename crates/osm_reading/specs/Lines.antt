@@ -1,4 +1,4 @@
--- The lines of a text, as of an OPL file, a script or a state file.
+-- The lines of a text, such as an OPL file, a script or a state file.
 use Rattle.std.specs.Prelude.{◌≡◌, ℕ, ◌==◌, Bool, true, List, [], ◌∷◌, ◌++◌, map}
 use Rattle.std.specs.Prelude.{Option, None, Some, if◌then◌else◌}
 use Rattle.std.specs.Borrow.{Bor}
@@ -19,7 +19,7 @@ abbrev pub lines_after : Option (Bor (List ℕ)) → List (List ℕ)
 lines_after None = []
 lines_after (Some rest) = lines_of rest.now
 
--- the bytes are a line, a CR if it ends with one, LF, and the rest
+-- the bytes are a line, perhaps a CR, then LF and the rest
 pub record BeginsWithLine (bytes line rest : List ℕ) : Type 0 where
   pub piece : List ℕ
   pub parts : bytes ≡ piece ++ 10 ∷ rest

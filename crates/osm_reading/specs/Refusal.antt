@@ -2,7 +2,7 @@
 use Rattle.osm_reading.specs.declared.refusal.Refusal.{Refusal}
 use Rattle.osm_reading.specs.declared.refusal.Refusal.TheVariants.{WantOfMemory, Fault}
 
--- memory was refused
+-- out of memory
 abbrev pub IsWant : Refusal → Type 0
 IsWant WantOfMemory = Unit {0}
 IsWant (Fault why) = ⊥

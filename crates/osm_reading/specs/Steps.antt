@@ -1,2 +1,2 @@
--- Steps of readers: no clause of a function that a format offers cites them.
+-- Steps of readers: no public clause of a format cites them.
 pub mod Answers

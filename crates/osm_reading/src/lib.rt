@@ -1,5 +1,5 @@
-//! What the readers of the formats share: pieces and lines of a text, sequence numbers, and why a
-//! reader refuses.
+//! What the readers of all formats share: the pieces and lines of a text, sequence numbers, and why
+//! a reader refuses its input.
 #![tactic(auto)]
 
 pub mod lines;

@@ -1,4 +1,4 @@
-//! The lines of a text: an OPL file, a script, a state file.
+//! The lines of a text, such as an OPL file, a script or a state file.
 
 ghost use Rattle.std.specs.Prelude.{◌≡◌, ◌∷◌, ◌<◌, length, IfSome};
 ghost use Rattle.osm_reading.specs.Lines.{BeginsWithLine, is_skipped, lines_after, lines_of};
@@ -6,8 +6,8 @@ ghost use Rattle.osm_reading.specs.Lines.{without_cr};
 
 use crate::pieces::cut;
 
-/// The first line, without its end, and what follows the LF that ends it, if there is one. A line
-/// ends with LF or CR LF.
+/// The first line, without its line end, and what follows its LF, if it has one. A line ends with
+/// LF or CR LF.
 pub fn split_line(bytes: &[u8]) -> (&[u8], Option<&[u8]>)
     ensures lines { lines_of bytes.now ≡ result.0.now ∷ lines_after result.1 }
     ensures rest { IfSome result.1 (λ rest. BeginsWithLine bytes.now result.0.now rest.now) }

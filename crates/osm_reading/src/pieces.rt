@@ -1,12 +1,12 @@
-//! Texts in pieces: lines, fields and items are cut at one byte.
+//! Cuts a text into pieces at a separator byte, as for lines, fields and items.
 
 ghost use Rattle.std.specs.Prelude.{◌≡◌, ◌∷◌, ◌<◌, length, IfSome, MatchOption, Some, None};
 ghost use Rattle.osm_reading.specs.Pieces.{cut_at, pieces, pieces_after};
 
 use memchr::memchr;
 
-/// The bytes before the first separator, and those after it. A text without the separator is all
-/// before it, and nothing follows.
+/// The bytes before the first separator, and those after it. Without a separator the first part is
+/// the whole text, and there is no second.
 pub fn cut(bytes: &[u8], separator: u8) -> (&[u8], Option<&[u8]>)
     ensures first { MatchOption result.1
         ((cut_at separator bytes.now ≡ None) × (result.0.now ≡ bytes.now))

@@ -1,17 +1,17 @@
-//! Why a reader refuses.
+//! Why a reader refuses its input.
 
 use osm_model::form::Why;
 use osm_model::memory::WantOfMemory;
 use std::alloc::{AllocError, AllocFailed};
 use thiserror::Error;
 
-/// Why a line or a part of a file isn't read.
+/// Why a line or a part of a file can't be read.
 #[derive(Clone, Copy, Debug, PartialEq, Eq, Error)]
 pub enum Refusal {
-    /// Memory was refused.
+    /// Out of memory.
     #[error("WantOfMemory")]
     WantOfMemory,
-    /// The bytes aren't in the grammar.
+    /// The bytes don't match the grammar.
     #[error("Fault")]
     Fault(Why),
 }

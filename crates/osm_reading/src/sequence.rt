@@ -4,7 +4,7 @@ ghost use Rattle.std.specs.Prelude.{◌≡◌, ℕ, ◌≤◌, IfSome, Some};
 ghost use Rattle.osm_model.specs.Limits.{max_sequence};
 ghost use Rattle.osm_reading.specs.Sequence.{SpellsSequence};
 
-/// The number of 1 to 9 decimal digits, leading zeros accepted; none of every other text.
+/// The value of 1 to 9 decimal digits, with or without leading zeros; None for any other text.
 pub fn sequence_read(digits: &[u8]) -> Option<u32>
     ensures found { IfSome result (λ n. SpellsSequence digits.now n) }
     ensures limit { IfSome result (λ n. n ≤ max_sequence) }

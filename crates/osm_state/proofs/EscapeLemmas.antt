@@ -6,7 +6,7 @@ use Rattle.std.proofs.lemmas.Bool.{cases_lt}
 use Rattle.osm_state.specs.Properties.{unescaped}
 use Rattle.osm_state.specs.Steps.Values.{IsPlainPrefix}
 
--- what is read so far, and what the first bytes of it are
+-- what was read so far, and its first bytes
 pub record IsUnescaping (value rest prefix : List ℕ) : Type 0 where
   pub done : List ℕ
   pub so_far : unescaped value ≡ option_map (λ plain. done ++ plain) (unescaped rest)
@@ -55,7 +55,7 @@ kept done b =
           ∙ (take_all 21 (take 21 done) (rw length-take (omega arith)) ∙ sym (take-append-le 21 done (b ∷ []) ge))
     ]
 
--- one more byte or escape is read
+-- one more byte or escape was read
 pub step : (value rest after prefix next : List ℕ) (first b : ℕ) → IsUnescaping value rest prefix → rest ≡ first ∷ after → next ≡ take 21 (prefix ++ b ∷ []) → (more : List ℕ) → unescaped (first ∷ after) ≡ option_map (λ plain. b ∷ plain) (unescaped more) → IsUnescaping value more next
 step value rest after prefix next first b h e n more u = record {
   done = h.done ++ b ∷ [];
@@ -63,7 +63,7 @@ step value rest after prefix next first b h e n more u = record {
   cut = n ∙ (ap (λ l. take 21 (l ++ b ∷ [])) h.cut ∙ kept h.done b);
 }
 
--- an escape that is cut
+-- an escape that is cut off
 pub cut_short : (value rest prefix : List ℕ) → IsUnescaping value rest prefix → unescaped rest ≡ None → unescaped value ≡ None
 cut_short value rest prefix h u = h.so_far ∙ ap (λ o. option_map (λ plain. h.done ++ plain) o) u
 

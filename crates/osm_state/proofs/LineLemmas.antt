@@ -1,4 +1,4 @@
--- Trimming from the end, and the last value of a key, a line at a time.
+-- Trimming from the end, and the last value of a key, one line at a time.
 use Rattle.std.proofs.Common.{◌≡◌, ℕ, List, [], ◌∷◌, ◌++◌, true, false, refl, sym, ap, ◌∙◌, reverse, ◌+◌, take, drop}
 use Rattle.std.specs.Prelude.{Option, Some, None, ◌==◌}
 use Rattle.std.specs.Borrow.{Bor}

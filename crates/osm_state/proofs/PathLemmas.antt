@@ -120,7 +120,7 @@ same_suffix Opl State e = apart 111 115 (ap (λ l. get_or l 1 0) e) refl
 same_suffix State O5c e = apart 115 111 (ap (λ l. get_or l 1 0) e) refl
 same_suffix State Opl e = apart 115 111 (ap (λ l. get_or l 1 0) e) refl
 
--- a path is of one number and one suffix
+-- a path belongs to one number and one suffix
 pub one_path : (m n : ℕ) (s t : Suffix) → m ≤ max_sequence → n ≤ max_sequence → path_text m s ≡ path_text n t → (m ≡ n) × (s ≡ t)
 one_path m n s t p q e =
     let start = sym (path_folders m s) ∙ (ap (λ l. take 11 l) e ∙ path_folders n t) in

@@ -46,7 +46,7 @@ two_returns : value_of (codes "sequenceNumber=7\r\r\n") sequence_key ≡ Some (c
 unfolding entry_of last_value trimmed pieces
 two_returns = refl
 
--- a carriage return alone ends no line
+-- a lone carriage return ends no line
 lone_return : value_of (codes "a=1\rsequenceNumber=7") sequence_key ≡ None
 unfolding entry_of last_value trimmed pieces
 lone_return = refl

@@ -1,4 +1,4 @@
--- What the first bytes of an unescaped value tell of the number in it.
+-- What the first bytes of an unescaped value tell about the number in it.
 use Rattle.std.proofs.Common.{◌≡◌, ℕ, ◌≤◌, List, length, refl, sym, ap, ◌∙◌, arith, subst}
 use Rattle.std.specs.Prelude.{Option, Some, None, IfSome, MatchResult, min}
 use Rattle.std.specs.Option.{ok_or}
@@ -18,7 +18,7 @@ use Rattle.osm_state.specs.StateFault.{StandsForNone}
 use Rattle.osm_state.specs.Steps.Faults.{SequenceFault, TimeFault}
 use Rattle.osm_state.specs.declared.state_text.StateError.TheVariants.{BadSequence, BadTime}
 
--- a text of a sequence and a text of a time have at most 20 bytes
+-- the text of a sequence number and the text of a time have at most 20 bytes
 short_sequence : (bytes : List ℕ) (n : ℕ) → SpellsSequence bytes n → length bytes ≤ 20
 short_sequence bytes n h = omega (arith, h.short)
 
@@ -44,19 +44,19 @@ module _ (IsText : List ℕ → ℕ → Type 0) (short : (bytes : List ℕ) (n :
         none n (subst (λ bytes. IsText bytes n) (sym all) t);
   }
 
--- what is answered of a sequence's value
+-- what is answered for the value of a sequence number
 pub sequence_judged : (value prefix : List ℕ) (o : Option ℕ) → IsPlainPrefix value prefix → IfSome o (λ n. SpellsSequence prefix n) → ((n : ℕ) → SpellsSequence prefix n → o ≡ Some n) → MatchResult (ok_or o BadSequence) (StandsForNumber SpellsSequence value) (SequenceFault value)
 sequence_judged value prefix (Some n) h sound complete = stands_for_number SpellsSequence short_sequence value prefix n h sound
 sequence_judged value prefix None h sound complete =
     stands_for_none SpellsSequence short_sequence value prefix h (λ n t. let e = complete n t in cc)
 
--- what is answered of a time's value
+-- what is answered for the value of a time
 pub time_judged : (value prefix : List ℕ) (o : Option ℕ) → IsPlainPrefix value prefix → IfSome o (λ t. TimeText prefix t) → ((t : ℕ) → TimeText prefix t → o ≡ Some t) → MatchResult (ok_or o BadTime) (StandsForNumber TimeText value) (TimeFault value)
 time_judged value prefix (Some n) h sound complete = stands_for_number TimeText short_time value prefix n h sound
 time_judged value prefix None h sound complete =
     stands_for_none TimeText short_time value prefix h (λ n t. let e = complete n t in cc)
 
--- what is named by a text is within the limits
+-- what a text names is within the limits
 pub state_limits : (value time_value : List ℕ) (sequence time : ℕ) → StandsForNumber SpellsSequence value sequence → StandsForNumber TimeText time_value time → IsState (record { sequence = sequence; time = time })
 state_limits value time_value sequence time s t =
     let small = nine_digits s.plain s.number.numeral.1 s.number.short in
@@ -82,7 +82,7 @@ one_time_number value t u p q =
 same_parts : (m t n u : ℕ) → m ≡ n → t ≡ u → (let a : StateValue = record { sequence = m; time = t } in a) ≡ (let b : StateValue = record { sequence = n; time = u } in b)
 same_parts m t n u p q = rw (p, q) refl
 
--- a text has one state at most
+-- a text has at most one state
 pub one_state : (text : List ℕ) (s t : StateValue) → StateOf text s → StateOf text t → s ≡ t
 one_state text s t p q =
     let a : p.sequence.value ≡ q.sequence.value = same_Some _ _ (sym p.sequence.found ∙ q.sequence.found) in

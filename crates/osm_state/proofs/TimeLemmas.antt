@@ -1,4 +1,4 @@
--- The written time: counting years and months on gives the date, and colons are escaped one by one.
+-- The written time: counting years and months on gives the date, and each colon is escaped.
 use Rattle.std.proofs.Common.{arith, ◌≡◌, ℕ, ◌+◌, ◌<◌, List, [], ◌∷◌, ◌++◌, length, take, get_or, true, false, refl, ap, ◌∙◌, append_assoc}
 use Rattle.std.specs.Prelude.{◌==◌, if◌then◌else◌}
 use Rattle.std.proofs.lemmas.Bool.Decides.{nat_tests}
@@ -21,7 +21,7 @@ escaped_colons-push (c ∷ bs) b =
 pub escaped_colons_more : (bs : List ℕ) (i : ℕ) → i < length bs → escaped_colons (take (i + 1) bs) ≡ escaped_colons (take i bs) ++ escaped_colons (get_or bs i 0 ∷ [])
 escaped_colons_more bs i h = rw (take_more bs i 0 h) (escaped_colons-push (take i bs) (get_or bs i 0))
 
--- so it is the text that shows the time
+-- so the text shows the time
 pub time_text_is : (t : ℕ) (bytes : List ℕ) → IsPositive t → ((other : List ℕ) → Shows other t → other ≡ bytes) → time_text t ≡ bytes
 time_text_is t bytes h only = only (time_text t) (time_text_shows t h.high)
 
@@ -32,7 +32,7 @@ colon_pushed start before middle after bs i h test b m a =
     rw (a, m, b, escaped_colons_more bs i h, colon)
     (append_assoc (start ++ escaped_colons (take i bs)) (92 ∷ []) (58 ∷ []) ∙ append_assoc start (escaped_colons (take i bs)) (92 ∷ 58 ∷ []))
 
--- every other byte alone
+-- every other byte is appended as it is
 pub other_pushed : (start before after bs : List ℕ) (i : ℕ) → i < length bs → (get_or bs i 0 == 58) ≡ false → before ≡ start ++ escaped_colons (take i bs) → after ≡ before ++ get_or bs i 0 ∷ [] → after ≡ start ++ escaped_colons (take (i + 1) bs)
 other_pushed start before after bs i h other b a =
     rw (a, b, escaped_colons_more bs i h, other)

@@ -1,4 +1,5 @@
--- A written text has two lines, and their values are the sequence's digits and the time's text.
+-- A written text has two lines, and their values are the digits of the sequence number and the text of
+-- the time.
 use Rattle.std.proofs.Common.{◌≡◌, ℕ, zero, suc, ◌+◌, ◌/◌, ◌<◌, ◌≤◌, ◌^◌, List, [], ◌∷◌, ◌++◌, length, take, drop, get_or, reverse, true, false, nat_lt, refl, sym, ap, ◌∙◌, arith, append_assoc, lit<, inl, inr}
 use Rattle.std.specs.Prelude.{Some, None, codes, decimal, ◌==◌, if◌then◌else◌}
 use Rattle.std.specs.List.{position, position_or_len}
@@ -24,7 +25,7 @@ use Rattle.osm_state.proofs.EscapeLemmas.{unescaped_empty, unescaped_byte, unesc
 use Rattle.osm_state.proofs.LineLemmas.{entry_of_some}
 use Rattle.osm_model.proofs.CivilTimeLemmas.{time_text_shows}
 
--- no byte is a blank, a line feed or a carriage return
+-- every byte is dark, above the space: none is a blank, a line feed or a carriage return
 abbrev AllDark : List ℕ → Type 0
 AllDark [] = Unit {0}
 AllDark (b ∷ bs) = (32 < b) × AllDark bs
@@ -63,7 +64,7 @@ dark_line [] p = refl
 dark_line (b ∷ []) p = let test : (b == 13) ≡ false = grind (arith, nat_tests, p.0) in rw test refl
 dark_line (b ∷ c ∷ bs) p = ap (λ l. b ∷ l) (dark_line (c ∷ bs) p.1)
 
--- the lines of two dark lines with their line feeds
+-- the lines of two dark lines, each ended by a line feed
 two_lines : (a b : List ℕ) → AllDark a → AllDark b → lines_of (a ++ 10 ∷ (b ++ 10 ∷ [])) ≡ a ∷ b ∷ [] ∷ []
 two_lines a b p q =
     let first = pieces-more 10 a (b ++ 10 ∷ []) (no_feed a p) in
@@ -301,14 +302,14 @@ time_value : (v w : List ℕ) → AllDark v → AllDark w → value_of (codes "s
 unfolding last_value
 time_value v w p q = ap (last_value time_key) (two_line_lines v w p q) ∙ rw (sequence_entry v p, time_entry w q, no_entry) refl
 
--- the digits of a sequence are a text of it
+-- the digits of a sequence number are a text of it
 decimal_text : (n : ℕ) → n ≤ max_sequence → SpellsSequence (decimal n) n
 decimal_text n h =
     let fits : n < 2 ^ 64 = omega arith in
     let numeral = decimal_is_IsNumeral n fits in
     record { numeral = numeral.0; short = length-decimal-le 9 n (lit< tt) (omega arith) fits; value = sym numeral.1 }
 
--- the written text of a state has that state
+-- the text that is written for a state has that state
 pub written_is_read : (s : StateValue) → IsState s → StateOf (state_text s) s
 unfolding state_text
 written_is_read s h =

@@ -1,5 +1,5 @@
--- Texts of keys and values, one pair on each line: the part of Java's properties that state files
--- use.
+-- Texts of keys and values, one pair on each line: the part of Java's properties format that state
+-- files use.
 use Rattle.std.specs.Prelude.{ℕ, ◌+◌, ◌==◌, ◌||◌, Bool, false, List, [], ◌∷◌, take, drop}
 use Rattle.std.specs.Prelude.{reverse, Option, Some, None, option_map, if◌then◌else◌}
 use Rattle.std.specs.List.{position}
@@ -11,7 +11,7 @@ use Rattle.osm_reading.specs.Lines.{lines_of}
 abbrev pub is_blank : ℕ → Bool
 is_blank b = (b == 32) || (b == 9)
 
--- the bytes from the first that isn't a blank
+-- the bytes from the first that isn't a blank on
 abbrev pub trimmed_start : List ℕ → List ℕ
 trimmed_start [] = []
 trimmed_start (b ∷ bs) = if is_blank b then trimmed_start bs else b ∷ bs
@@ -57,7 +57,7 @@ last_value key (line ∷ lines) = option_or (last_value key lines) (value_at key
 abbrev pub value_of : List ℕ → List ℕ → Option (List ℕ)
 value_of text key = last_value key (lines_of text)
 
--- a value without its escapes: `\c` stands for the byte c, and a backslash at the end for nothing
+-- a value without its escapes: `\c` stands for the byte c; none if a lone backslash ends the value
 unfoldable pub unescaped : List ℕ → Option (List ℕ)
 unescaped [] = Some []
 unescaped (b ∷ []) = if b == 92 then None else Some (b ∷ [])

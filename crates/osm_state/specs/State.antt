@@ -2,7 +2,7 @@
 use Rattle.std.specs.Prelude.{ℕ, ◌≤◌}
 use Rattle.osm_model.specs.Limits.{IsPositive, max_sequence}
 
--- a sequence number, and the time up to which its changes reach, in seconds since 1970
+-- a sequence number, and the time up to which its changes reach, in seconds since 1970 began
 pub record StateValue : Type 0 where
   pub sequence : ℕ
   pub time : ℕ

@@ -1,4 +1,5 @@
--- Why a text has no state: the first that applies, the sequence before the time.
+-- Why a text has no state: the first fault that applies, those of the sequence number before those
+-- of the time.
 use Rattle.std.specs.Prelude.{◌≡◌, ℕ, ◌⊎◌, List, Some, None}
 use Rattle.osm_model.specs.Time.{TimeText}
 use Rattle.osm_reading.specs.Sequence.{SpellsSequence}
@@ -13,13 +14,13 @@ use Rattle.osm_state.specs.declared.state_text.StateError.TheVariants.{BadTime}
 abbrev pub EndsInEscape : List ℕ → Type 0
 EndsInEscape value = unescaped value ≡ None
 
--- without its escapes the value isn't the text of any number
+-- without its escapes the value is the text of no number
 pub record StandsForNone (IsText : List ℕ → ℕ → Type 0) (value : List ℕ) : Type 0 where
   pub plain : List ℕ
   pub stands_for : unescaped value ≡ Some plain
   pub none : (n : ℕ) → IsText plain n → ⊥
 
--- the text names a sequence, so no fault of the sequence applies
+-- the text names a sequence number, so it has no fault of one
 abbrev pub HasSequence : List ℕ → Type 0
 HasSequence text = (n : ℕ) × SequenceOf text n
 

@@ -1,4 +1,4 @@
--- What holds of state texts and paths whatever the code does.
+-- What holds for state texts and paths, whatever the code does.
 use Rattle.std.specs.Prelude.{◌≡◌, ℕ, ◌≤◌, List}
 use Rattle.osm_model.specs.Limits.{IsPositive, max_sequence}
 use Rattle.osm_model.specs.Time.{TimeText}
@@ -10,11 +10,11 @@ use Rattle.osm_state.specs.Path.{path_text}
 use Rattle.osm_state.specs.declared.state_text.StateError.{StateError}
 use Rattle.osm_state.specs.declared.paths.Suffix.{Suffix}
 
--- the written text of a state has that state
+-- the text that is written for a state has that state
 abbrev pub WrittenIsRead : Type 0
 WrittenIsRead = (s : StateValue) → IsState s → StateOf (state_text s) s
 
--- the text of a time that is made by counting on is the text of that time
+-- the text of a time that is found by counting years and months on is the text of that time
 abbrev pub CountedTimeIsText : Type 0
 CountedTimeIsText = (time : ℕ) → IsPositive time → TimeText (time_text time) time
 

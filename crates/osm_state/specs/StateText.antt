@@ -27,7 +27,7 @@ pub record HasValue (text key : List ℕ) (IsTrueOf : List ℕ → Type 0) : Typ
   pub found : value_of text key ≡ Some value
   pub is_true : IsTrueOf value
 
--- the text names the sequence
+-- the text names the sequence number
 abbrev pub SequenceOf : List ℕ → ℕ → Type 0
 SequenceOf text n = HasValue text sequence_key (λ value. StandsForNumber SpellsSequence value n)
 
@@ -35,7 +35,7 @@ SequenceOf text n = HasValue text sequence_key (λ value. StandsForNumber Spells
 abbrev pub TimeOf : List ℕ → ℕ → Type 0
 TimeOf text t = HasValue text time_key (λ value. StandsForNumber TimeText value t)
 
--- the text names the sequence and the time of the state
+-- the text names the sequence number and the time of the state
 pub record StateOf (text : List ℕ) (s : StateValue) : Type 0 where
   pub sequence : SequenceOf text s.sequence
   pub time : TimeOf text s.time

@@ -1,4 +1,4 @@
-//! What holds of state texts and of paths, whatever the code does.
+//! What holds for state texts and paths, whatever the code does.
 
 ghost use Rattle.osm_state.specs.StateLaws.{WrittenIsRead, CountedTimeIsText, OneState};
 ghost use Rattle.osm_state.specs.StateLaws.{NoFaultBesideState, OneFault, OnePath};

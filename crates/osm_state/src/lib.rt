@@ -1,5 +1,5 @@
-//! States of published sequences: reading and writing `state.txt`, and the paths of a sequence's
-//! files.
+//! States of published sequences: reading and writing `state.txt`, and the paths of the files of a
+//! sequence.
 #![tactic(auto)]
 
 pub mod laws;

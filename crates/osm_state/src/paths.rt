@@ -8,7 +8,7 @@ ghost use Rattle.osm_state.specs.Path.{path_text, suffix_text, three_digits, fol
 use osm_model::memory::WantOfMemory;
 use std::alloc::Global;
 
-/// What a file of a sequence holds: its changes as o5c or as OPL, or its state.
+/// The end of a path, which says what the file holds: changes as o5c or as OPL, or a state.
 #[derive(Clone, Copy, Debug, PartialEq, Eq)]
 pub enum Suffix {
     /// `.o5c`
@@ -20,7 +20,7 @@ pub enum Suffix {
 }
 
 impl Suffix {
-    // The end of a path.
+    // The end of the path.
     fn text(self) -> &'static str
         ensures { result.now ≡ suffix_text self }
     {
@@ -32,7 +32,7 @@ impl Suffix {
     }
 }
 
-/// `AAA/BBB/CCC` and the suffix: the number in nine digits with leading zeros (OSM wiki,
+/// The path `AAA/BBB/CCC` and the suffix: the number in nine digits, with leading zeros (OSM wiki,
 /// Planet.osm/diffs).
 pub fn path(alloc: Global, number: u32, suffix: Suffix) -> Result<String, WantOfMemory>
     requires { number ≤ max_sequence }
@@ -43,8 +43,8 @@ pub fn path(alloc: Global, number: u32, suffix: Suffix) -> Result<String, WantOf
     Ok(format!(in alloc; "{millions:03}/{thousands:03}/{ones:03}{end}")?)
 }
 
-/// The number and the suffix of a path in the form that `path` gives; None for every other text. It
-/// takes no memory.
+/// The number and the suffix of a path as `path` gives it; None for any other text. It takes no
+/// memory.
 pub fn path_number(text: &str) -> Option<(u32, Suffix)>
     ensures found { IfSome result (λ r. (r.0 ≤ max_sequence) × (text.now ≡ path_text r.0 r.1)) }
     ensures only { (n : ℕ) (s : Suffix) →
@@ -54,7 +54,7 @@ pub fn path_number(text: &str) -> Option<(u32, Suffix)>
     Some((number_of(folders)?, suffix_of(end)?))
 }
 
-// The number of `AAA/BBB/CCC`.
+// The number in `AAA/BBB/CCC`.
 fn number_of(folders: &[u8; 11]) -> Option<u32>
     ensures found { IfSome result (λ n. (n ≤ max_sequence) × (folders.now ≡ folders_text n)) }
     ensures only { (n : ℕ) → n ≤ max_sequence → folders.now ≡ folders_text n → result ≡ Some n }
@@ -68,7 +68,7 @@ fn number_of(folders: &[u8; 11]) -> Option<u32>
     Some(1_000_000 * millions + 1000 * thousands + ones)
 }
 
-// The number of three digits.
+// The value of three digits.
 fn three(digits: [u8; 3]) -> Option<u32>
     ensures found { IfSome result (λ n. (n < 1000) × (digits ≡ three_digits n)) }
     ensures only { (n : ℕ) → n < 1000 → digits ≡ three_digits n → result ≡ Some n }

@@ -1,5 +1,5 @@
-//! Texts of keys and values, one pair on each line: the part of Java's properties that state files
-//! use.
+//! Texts of keys and values, one pair on each line: the part of Java's properties format that state
+//! files use.
 
 ghost use Rattle.std.specs.Prelude.{◌≡◌, ◌<◌, ◌≤◌, ◌==◌, [], ◌∷◌, ◌++◌, take, length};
 ghost use Rattle.std.specs.Prelude.{Some, None, option_map, MatchOption, IfSome, IsNone};
@@ -13,14 +13,14 @@ ghost use Rattle.osm_state.specs.Steps.Values.{seen_entry, IsPlainPrefix};
 use arrayvec::ArrayVec;
 use osm_reading::lines::split_line;
 
-/// The values that a text gives to the two keys of a state; None if no line has the key.
+/// The values that a text gives to the two keys of a state. None if no line has the key.
 #[derive(Clone, Copy)]
 pub(crate) struct Values<'a> {
     pub sequence: Option<&'a [u8]>,
     pub time: Option<&'a [u8]>,
 }
 
-/// The values of the last line with each key.
+/// The value of each key in the last line that has the key.
 pub(crate) fn values_of(text: &[u8]) -> Values<'_>
     ensures sequence { option_copied result.sequence ≡ value_of text.now sequence_key }
     ensures time { option_copied result.time ≡ value_of text.now time_key }
@@ -47,7 +47,7 @@ fn value_at<'a>(entry: Option<(&'a [u8], &'a [u8])>, key: &[u8]) -> Option<&'a [
     }
 }
 
-// The key and the value of a line; None for a line that is skipped.
+// The key and the value of a line; None if the line is skipped.
 #[tactic(auto, using(crate::proofs::LineLemmas::entries))]
 fn entry(line: &[u8]) -> Option<(&[u8], &[u8])>
     ensures { seen_entry result ≡ entry_of line.now }
@@ -101,7 +101,7 @@ fn trim_end(bytes: &[u8]) -> &[u8]
     rest
 }
 
-// Without the blanks at both ends.
+// Drops the blanks at both ends.
 #[tactic(auto, unfolding(crate::specs::Properties::trimmed))]
 fn trim(bytes: &[u8]) -> &[u8]
     ensures { result.now ≡ trimmed bytes.now }
@@ -109,8 +109,8 @@ fn trim(bytes: &[u8]) -> &[u8]
     trim_end(trim_start(bytes))
 }
 
-/// The first 21 bytes of a value without its escapes: a longer one is no number and no time.
-/// None if the value ends inside an escape.
+/// The first 21 bytes of a value without its escapes: any longer value is neither a number nor a
+/// time. None if the value ends inside an escape.
 #[tactic(auto, using(crate::proofs::EscapeLemmas::values))]
 pub(crate) fn unescape(value: &[u8]) -> Option<ArrayVec<u8, 21>>
     ensures { MatchOption result
@@ -127,7 +127,8 @@ pub(crate) fn unescape(value: &[u8]) -> Option<ArrayVec<u8, 21>>
     Some(plain)
 }
 
-// What the first byte or escape stands for, and the bytes after it; None for an escape that is cut.
+// The byte that the first byte or escape stands for, and the bytes after it. None if the escape is
+// cut off.
 #[tactic(auto, using(crate::proofs::EscapeLemmas::plain_bytes))]
 fn plain_byte(first: u8, after: &[u8]) -> Option<(u8, &[u8])>
     ensures some { IfSome result (λ r.

@@ -7,8 +7,8 @@ ghost use Rattle.osm_state.specs.State.{IsState};
 use osm_model::limits::MAX_SEQUENCE;
 use std::marker::Model;
 
-/// A sequence number from 0 to 999,999,999 and a time, in seconds since 1970-01-01T00:00:00Z, from
-/// 1 to 4,294,967,295 (limits: our choice).
+/// A sequence number from 0 to 999,999,999, and a time from 1 to 4,294,967,295 in seconds since
+/// 1970-01-01T00:00:00Z (the limits are our choice).
 #[derive(Clone, Copy, Debug, PartialEq, Eq)]
 pub struct State {
     sequence: u32,
@@ -28,7 +28,7 @@ impl Model for State {
 }
 
 impl State {
-    /// None if the sequence is above 999,999,999 or the time is 0.
+    /// None if the sequence number is above 999,999,999 or the time is 0.
     pub fn new(sequence: u32, time: u32) -> Option<State>
         ensures refused { IsNone result ↔ ((max_sequence < sequence) ⊎ (time ≡ 0)) }
         ensures value { IfSome result (λ s. s ≡ record { sequence = sequence; time = time }) }
@@ -40,7 +40,7 @@ impl State {
         Some(State { sequence, time })
     }
 
-    /// The state of parts that are known to be within the limits.
+    /// A state whose parts are known to be within the limits.
     pub(crate) fn within_limits(sequence: u32, time: u32) -> State
         requires { IsState (record { sequence = sequence; time = time }) }
         ensures { result ≡ record { sequence = sequence; time = time } }

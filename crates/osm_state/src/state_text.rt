@@ -19,13 +19,14 @@ use osm_reading::sequence::sequence_read;
 use std::alloc::Global;
 use thiserror::Error;
 
-/// Why a text has no state: the first fault that applies, the sequence before the time.
+/// Why a text has no state: the first fault that applies, those of the sequence number before those
+/// of the time.
 #[derive(Clone, Copy, Debug, PartialEq, Eq, Error)]
 pub enum StateError {
     /// No line has the key `sequenceNumber`.
     #[error("MissingSequence")]
     MissingSequence,
-    /// The value of the sequence or of the time ends with a backslash that escapes nothing.
+    /// The value of the sequence number or of the time ends with a backslash that escapes nothing.
     #[error("BadEscape")]
     BadEscape,
     /// The value of `sequenceNumber` isn't 1 to 9 digits.
@@ -39,12 +40,14 @@ pub enum StateError {
     BadTime,
 }
 
-/// The state of a text with the lines `sequenceNumber=N` and `timestamp=YYYY-MM-DDTHH:MM:SSZ`.
+/// Reads the state from a text with the lines `sequenceNumber=N` and
+/// `timestamp=YYYY-MM-DDTHH:MM:SSZ`.
 ///
-/// The two lines come in either order, among other lines. Lines end with LF or CR LF; lines that
-/// begin with `#` or `!`, lines without `=` and lines with other keys are skipped; blanks around a
-/// key or a value are dropped; the last of several lines with the same key counts. `\c` stands for
-/// the byte c (OSM wiki, Planet.osm/diffs; what it leaves open is our choice). It takes no memory.
+/// The two lines may come in either order, among other lines. Lines end with LF or CR LF. Lines
+/// that begin with `#` or `!`, lines without `=` and lines with other keys are skipped. Blanks
+/// around a key or a value are dropped. If several lines have the same key, the last one counts. In
+/// a value `\c` stands for the byte c (OSM wiki, Planet.osm/diffs; what it leaves open is our
+/// choice). It takes no memory.
 pub fn state_read(bytes: &[u8]) -> Result<State, StateError>
     ensures found { IfOk result (λ s. StateOf bytes.now s) }
     ensures only { (s : StateValue) → StateOf bytes.now s → result ≡ Ok s }
@@ -73,8 +76,8 @@ fn time_in(value: &[u8]) -> Result<u32, StateError>
     time_read(&plain).ok_or(StateError::BadTime)
 }
 
-/// The lines `sequenceNumber=N` and `timestamp=YYYY-MM-DDTHH\:MM\:SSZ`, each ended by LF, and no
-/// others (OSM wiki, Planet.osm/diffs).
+/// Writes the lines `sequenceNumber=N` and `timestamp=YYYY-MM-DDTHH\:MM\:SSZ`, each ended by LF,
+/// and no others (OSM wiki, Planet.osm/diffs).
 pub fn state_write(alloc: Global, state: &State) -> Result<Vec<u8>, WantOfMemory>
     ensures { IfOk result (λ text. text.items ≡ state_text state.now) }
 {

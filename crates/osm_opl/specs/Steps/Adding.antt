@@ -15,8 +15,8 @@ pub data AddsLine : List ℕ → List ChangeValue → List ChangeValue → Type 
   change : (line : List ℕ) (changes : List ChangeValue) (c : ChangeValue) → is_skipped line ≡ false
       → SpellsLine line c → AddsLine line changes (changes ++ c ∷ [])
 
--- a line isn't taken: it isn't skipped and, unless memory was refused, it spells no change or there
--- are as many changes as there may be
+-- a line is refused: it isn't skipped and, unless out of memory, it spells no change or there are
+-- already as many changes as there may be
 abbrev pub LineStops : List ℕ → ℕ → List ChangeValue → FormError → Type 0
 LineStops line place changes forms.WantOfMemory = is_skipped line ≡ false
 LineStops line place changes forms.TooLarge = ⊥

@@ -11,7 +11,7 @@ pub record NumberFirst (separator : ℕ) (bytes : List ℕ) (n : ℕ) (more : Li
   pub parts : pieces separator bytes ≡ digits ∷ more
   pub number : digits_at 10 20 digits ≡ Some n
 
--- the same of an id
+-- the same for an id
 pub record IdFirst (separator : ℕ) (bytes : List ℕ) (id : ℤ) (more : List (List ℕ)) : Type 0 where
   pub digits : List ℕ
   pub parts : pieces separator bytes ≡ digits ∷ more

@@ -31,17 +31,17 @@ abbrev pub all_digits : ℕ → List ℕ → Bool
 all_digits radix [] = true
 all_digits radix (c ∷ cs) = nat_lt (digit_value c) radix && all_digits radix cs
 
--- 1 digit to so many
+-- at least one digit, and at most `most`
 abbrev pub is_numeral : ℕ → ℕ → List ℕ → Bool
 is_numeral radix most bytes =
     all_digits radix bytes && nat_le 1 (length bytes) && nat_le (length bytes) most
 
--- the number that such digits write
+-- the value of such digits
 unfoldable pub digits_at : ℕ → ℕ → List ℕ → Option ℕ
 digits_at radix most bytes =
     if is_numeral radix most bytes then Some (digits_value radix bytes) else None
 
--- a number of 1 to 20 digits, at most so great
+-- a number of 1 to 20 digits, no greater than `most`
 unfoldable pub number_at : ℕ → List ℕ → Option ℕ
 number_at most bytes =
     and_then (digits_at 10 20 bytes) (λ n. if nat_le n most then Some n else None)
@@ -61,7 +61,7 @@ signed_at read (b ∷ bs) =
 unfoldable pub id_at : List ℕ → Option ℤ
 id_at bytes = signed_at (number_at 4611686018427387903) bytes
 
--- degrees as units of 10^-7 degree, at most so many
+-- degrees in units of 10^-7 degree, no more than `most`
 abbrev pub within : ℕ → ℕ → Option ℕ
 within most units = if nat_le units most then Some units else None
 
@@ -120,7 +120,7 @@ abbrev pub PassesLimit : List ℕ → Refusal → Type 0
 PassesLimit text WantOfMemory = Unit {0}
 PassesLimit text (Fault why) = 1020 < length text
 
--- each of the pieces
+-- what each of the pieces spells
 abbrev pub each_at : {X : Type 0} → (List ℕ → Option X) → List (List ℕ) → Option (List X)
 each_at read [] = Some []
 each_at read (p ∷ ps) = and_then (read p) (λ x. and_then (each_at read ps) (λ xs. Some (x ∷ xs)))
@@ -129,7 +129,7 @@ abbrev pub list_pieces : List ℕ → List (List ℕ)
 list_pieces [] = []
 list_pieces (b ∷ bs) = pieces 44 (b ∷ bs)
 
--- a list of at most so many items
+-- a list of at most `most` items
 unfoldable pub list_at : {X : Type 0} → (List ℕ → Option X) → ℕ → List ℕ → Option (List X)
 list_at read most bytes =
     and_then (each_at read (list_pieces bytes)) (λ xs.
@@ -163,17 +163,18 @@ unfoldable pub member_at : List ℕ → Option Member
 member_at [] = None
 member_at (b ∷ bs) = and_then (kind_at b) (member_after bs)
 
--- the content of the next field, which has that letter, and the fields after it
+-- the content of the next field, which begins with that letter, and the fields after it
 unfoldable pub field_at : ℕ → List (List ℕ) → Option (List ℕ × List (List ℕ))
 field_at letter [] = None
 field_at letter ([] ∷ more) = None
 field_at letter ((b ∷ bs) ∷ more) = if b == letter then Some (bs, more) else None
 
--- the same of the last field
+-- the content, if no field follows
 abbrev pub alone : List ℕ × List (List ℕ) → Option (List ℕ)
 alone (content, []) = Some content
 alone (content, p ∷ ps) = None
 
+-- the content of the last field, which begins with that letter
 unfoldable pub last_field_at : ℕ → List (List ℕ) → Option (List ℕ)
 last_field_at letter fields = and_then (field_at letter fields) alone
 
@@ -191,7 +192,7 @@ status_at [] = None
 status_at (b ∷ []) = if b == 86 then Some true else (if b == 68 then Some false else None)
 status_at (b ∷ c ∷ bs) = None
 
--- the number of the next field, which has that letter
+-- the number in the next field, which begins with that letter
 unfoldable pub positive_field_at : ℕ → List (List ℕ) → Option (ℕ × List (List ℕ))
 positive_field_at letter fields =
     and_then (field_at letter fields) (λ f. and_then (positive_at f.0) (λ n. Some (n, f.1)))

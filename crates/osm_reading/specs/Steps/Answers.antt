@@ -1,11 +1,11 @@
--- Readings that may fail, one step after another, and what an answer of the code says of them.
+-- Readings that may fail, one step after another, and what an answer of the code says about them.
 -- Only clauses of private functions cite these definitions.
 use Rattle.std.specs.Prelude.{◌≡◌, Bool, true, false, Option, Some, None, Result, Ok, Err}
 use Rattle.osm_model.specs.declared.form.Why.{Why}
 use Rattle.osm_reading.specs.declared.refusal.Refusal.{Refusal}
 use Rattle.osm_reading.specs.declared.refusal.Refusal.TheVariants.{WantOfMemory, Fault}
 
--- the next step, if the one before gave something
+-- the next step, if the one before it gave something
 abbrev pub and_then : {A B : Type 0} → Option A → (A → Option B) → Option B
 and_then (Some x) f = f x
 and_then None f = None
@@ -20,7 +20,7 @@ abbrev pub Finds : {A B : Type 0} → (A → B) → Result A Why → Option B �
 Finds view (Ok x) reading = reading ≡ Some (view x)
 Finds view (Err why) reading = reading ≡ None
 
--- nothing was read, or memory was refused
+-- nothing can be read, or memory was refused
 abbrev pub Fails : {A : Type 0} → Refusal → Option A → Type 0
 Fails WantOfMemory reading = Unit {0}
 Fails (Fault why) reading = reading ≡ None

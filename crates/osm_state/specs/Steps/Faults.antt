@@ -1,4 +1,4 @@
--- Steps of the proofs, which no public clause cites: the fault of one value by itself.
+-- Steps of the proofs, which no public clause cites: the fault of a single value.
 use Rattle.std.specs.Prelude.{ℕ, List}
 use Rattle.osm_model.specs.Time.{TimeText}
 use Rattle.osm_reading.specs.Sequence.{SpellsSequence}
@@ -8,7 +8,7 @@ use Rattle.osm_state.specs.declared.state_text.StateError.TheVariants.{MissingSe
 use Rattle.osm_state.specs.declared.state_text.StateError.TheVariants.{BadSequence, MissingTime}
 use Rattle.osm_state.specs.declared.state_text.StateError.TheVariants.{BadTime}
 
--- the fault of a sequence's value
+-- the fault of the value of a sequence number
 abbrev pub SequenceFault : List ℕ → StateError → Type 0
 SequenceFault value BadEscape = EndsInEscape value
 SequenceFault value BadSequence = StandsForNone SpellsSequence value
@@ -16,7 +16,7 @@ SequenceFault value MissingSequence = ⊥
 SequenceFault value MissingTime = ⊥
 SequenceFault value BadTime = ⊥
 
--- the fault of a time's value
+-- the fault of the value of a time
 abbrev pub TimeFault : List ℕ → StateError → Type 0
 TimeFault value BadEscape = EndsInEscape value
 TimeFault value BadTime = StandsForNone TimeText value

@@ -3,7 +3,7 @@ use Rattle.std.specs.List.{zip}
 use Rattle.osm_judge.proofs.LegalLemmas.{no_first, no_second}
 use Rattle.osm_judge.proofs.judge.pair_up.Goals as goal
 
--- one of the two has nothing left, and so nothing is left to pair
+-- one of the two lists has nothing left, so nothing is left to pair
 pub returns : goal.returns
 returns c =
     let events = c.loop-pair.pair-iterator.a.rest in

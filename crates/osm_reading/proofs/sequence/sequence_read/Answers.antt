@@ -8,7 +8,7 @@ use Rattle.std.specs.Char.{digit_value}
 use Rattle.osm_reading.proofs.SequenceLemmas.{eight_digits, nine_digits, digit_is}
 use Rattle.osm_reading.proofs.sequence.sequence_read.Goals as goal
 
--- a byte that is no digit stands in no number
+-- a byte that isn't a digit occurs in no number
 pub returns-then-not-is_ascii_digit-clause-only : goal.returns-then-not-is_ascii_digit-clause-only
 returns-then-not-is_ascii_digit-clause-only c = λ n h.
     let digit : IsInRange 48 57 (get_or c.args.digits.now c.loop-byte.byte-index 0) = digit_at c.args.digits.now c.loop-byte.byte-index h.numeral.1 c.loop-byte-test.true in

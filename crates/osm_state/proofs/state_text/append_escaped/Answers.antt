@@ -3,7 +3,7 @@ use Rattle.osm_state.proofs.TimeLemmas.{colon_pushed, other_pushed}
 use Rattle.osm_state.proofs.state_text.append_escaped.Goals.{then-needs_backslash+in_ok-push, else-needs_backslash}
 use Rattle.osm_state.proofs.state_text.append_escaped.Goals as goal
 
--- a colon adds two bytes, every other byte itself
+-- a colon adds two bytes, every other byte only itself
 pub loop-byte-preserved : goal.loop-byte-preserved
 loop-byte-preserved c =
     elim c.if-needs_backslash.branch [
