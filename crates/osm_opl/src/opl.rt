@@ -52,13 +52,19 @@ impl ChangeForm for Opl {
     fn laws() {}
 }
 
+// The bytes of the shortest line, with its line feed: that of a deleted way or relation.
+const SHORTEST_LINE: usize = 43;
+
 // Stops soon after the text exceeds 64 MiB.
 fn write_batch(alloc: Global, batch: &Batch) -> Result<Vec<u8>, FormError>
     ensures text { IfOk result (λ v. v.items ≡ opl_text batch.now) }
     ensures small { IfOk result (λ v. length v.items ≤ max_file) }
     ensures refused { IfErr result (WriteRefused (opl_text batch.now)) }
 {
-    let mut text = Vec::new(alloc);
+    let room = batch.changes().len().saturating_mul(SHORTEST_LINE);
+    let Ok(mut text) = Vec::with_capacity(alloc, room) else {
+        return Err(FormError::WantOfMemory);
+    };
     for change in batch.changes() {
         match add_change(change, &mut text) {
             Ok(()) => {}
