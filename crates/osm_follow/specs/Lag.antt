@@ -26,8 +26,8 @@ Lags f s (Ok lag) =
     (f.is_broken ≡ false) × (f.number + lag.behind ≡ s.sequence)
     × AreSeconds f.time s.time lag.seconds
 
--- why there are no missing numbers: up to a state that isn't after the follower none is missing, and
--- no memory is taken
+-- why there is no list of missing numbers: up to a state that isn't after the follower the list is
+-- empty, and no memory is taken
 abbrev pub MissingRefused : FollowerValue → StateValue → ViewError → Type 0
 MissingRefused f s views.Broken = f.is_broken ≡ true
 MissingRefused f s views.WantOfMemory = (f.is_broken ≡ false) × (f.number < s.sequence)

@@ -28,8 +28,8 @@ abbrev pub SavingRefused : FollowerValue → ViewError → Type 0
 SavingRefused f views.Broken = f.is_broken ≡ true
 SavingRefused f views.WantOfMemory = f.is_broken ≡ false
 
--- the follower was to restart from a text, or from none: whatever it was, it now continues from what
--- the text saves, or from sequence 0; after a refusal it is broken
+-- the follower was to restart from a text, or from none: whatever it was, it now continues from
+-- what the text saves, or from sequence 0; after a refusal it is broken
 abbrev pub Restarts :
     FollowerValue → Option (List ℕ) → Result (Unit {0}) RestartError → FollowerValue → Type 0
 Restarts f None (Ok done) g = g ≡ new_follower

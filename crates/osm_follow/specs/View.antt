@@ -33,8 +33,8 @@ ViewRefused f WantOfMemory =
     (f.is_broken ≡ false) × (HoldsSome f.mirror ⊎ (0 < length (numbers_of f.holding)))
 
 -- the view of a follower that started at `start` and accepted those of the published numbers: the
--- objects in the order of their keys; users and changesets rising, with counts above 0; held numbers
--- rising
+-- objects are in the order of their keys, users and changesets rise and have counts above 0, and
+-- the held numbers rise
 pub record IsView (published : List PublishedValue) (start : ℕ) (is_accepted : ℕ → Bool)
     (v : ViewValue) : Type 0 where
   pub reach : Reaches is_accepted start v.number

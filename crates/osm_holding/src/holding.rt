@@ -27,7 +27,8 @@ pub struct Held {
 pub const WINDOW: u32 = 64;
 
 /// Room for the 64 sequences after a number, its base. `new` allocates all of it; afterwards only
-/// `numbers` takes memory. Except for `new`, `reset` and `numbers` a call looks at one slot at most.
+/// `numbers` takes memory. Except for `new`, `reset` and `numbers`, no call looks at more than one
+/// slot.
 #[derive(Debug, Drop)]
 pub struct HoldingArea {
     base: u32,

@@ -86,7 +86,7 @@ pub record Applies (old : MirrorValue) (changes : List ChangeValue) (new : Mirro
   pub changesets : (id : ℕ) →
       count_at new.changesets id ≡ count_at old.changesets id + edits_by_changeset changes id
 
--- the change, after those before it, needs a new entry for its user, its changeset or its key
+-- the change needs a new entry for its user, its changeset or its key
 abbrev pub NeedsNewEntry : MirrorValue → List ChangeValue → ChangeValue → Type 0
 NeedsNewEntry m before c =
     (count_at m.users c.meta.uid ≡ 0)
