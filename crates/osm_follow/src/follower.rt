@@ -42,7 +42,7 @@ use thiserror::Error;
 /// The mirror of sequences 1 to the follower's number, and those of the next 64 that came early.
 ///
 /// A follower is broken after an application ran out of memory part-way, or a restart was refused.
-/// Until it is restarted, it then shows nothing of its mirror.
+/// A broken follower shows nothing of its mirror until it is restarted.
 #[derive(Debug, Drop)]
 pub struct Follower {
     number: u32,

@@ -31,7 +31,7 @@ pub record AreReadable (p : PublishedTexts) : Type 0 where
   pub in_opl : IsReadable SpellsOpl p.state p.opl
   pub in_o5c : IsReadable SpellsO5c p.state p.o5c
 
--- an archive of so many texts, all of them readable
+-- an archive of the texts of that many sequences, all of them readable
 pub record IsArchive (number : ℕ) (archive : List PublishedTexts) : Type 0 where
   pub count : length archive ≡ number
   pub each : (k : ℕ) → 0 < k → k ≤ length archive → AreReadable (texts_at archive k)
