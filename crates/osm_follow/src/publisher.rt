@@ -49,10 +49,10 @@ pub enum EditError {
 /// Why the pending edits aren't published; they stay pending.
 #[derive(Clone, Copy, Debug, PartialEq, Eq, Error)]
 pub enum CloseError {
-    /// The last sequence, 999,999,999, was published before.
+    /// The last sequence, 999,999,999, is already published.
     #[error("SequenceFull")]
     SequenceFull,
-    /// The time is before that of the last sequence.
+    /// The time is before that of the last sequence, or is 0.
     #[error("TimeBack")]
     TimeBack,
     /// The o5c file or the OPL file would pass 64 MiB.

@@ -125,7 +125,7 @@ impl HoldingArea {
         self.slots.push_back(None);
     }
 
-    /// Drops all that is held, and moves to any base. Takes no memory.
+    /// Drops all that is held, and starts again at the given base. Takes no memory.
     pub fn reset(&mut self, base: u32)
         requires { base ≤ max_sequence }
         ensures { self.new ≡ record { base = base; entries = [] } }

@@ -16,7 +16,7 @@ use std::collections::BTreeMap;
 use std::collections::btree_map::Iter;
 use std::marker::Model;
 
-/// Numbers of users or of changesets with their counts of edits, none of them 0.
+/// The ids of users or of changesets, with their counts of edits; no count is 0.
 #[derive(Debug, Drop)]
 pub struct Counts {
     counts: BTreeMap<u32, u64>,

@@ -43,9 +43,9 @@ pub enum Reply {
     WantOfMemory,
     /// The pending edits were published as the sequence with that number.
     Closed(u32),
-    /// The last sequence, 999,999,999, was published before.
+    /// The last sequence, 999,999,999, is already published.
     SequenceFull,
-    /// The time is before that of the last sequence.
+    /// The time is before that of the last sequence, or is 0.
     TimeBack,
     /// The o5c file or the OPL file of the pending edits would pass 64 MiB.
     TooLarge,

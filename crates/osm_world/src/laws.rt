@@ -25,8 +25,8 @@ use osm_opl::opl::Opl;
 use osm_save::save::laws_of_saves;
 use osm_state::laws::laws_of_state;
 
-/// No events leave the new world, and a run with one more step is a run. So a caller may step a
-/// world itself, and keep only the replies that it needs. Does nothing at run time.
+/// A run of no events gives the new world, and a run with one more step is a run. So a caller may
+/// step a world itself, and keep only the replies that it needs. Does nothing at run time.
 pub fn laws_of_runs()
     ensures first { IsRun [] [] new_world }
     ensures next { (events : List Event) (replies : List Reply) (w : WorldValue) (e : Event)

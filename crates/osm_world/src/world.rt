@@ -78,7 +78,7 @@ impl World {
         })
     }
 
-    /// Takes all the events in order, in a new world. If memory is refused, none of them was taken.
+    /// Takes all the events in order, in a new world. After an error none of them was taken.
     pub fn run(alloc: Global, events: Vec<Event>) -> Result<Run, WantOfMemory>
         ensures run { IfOk result (λ r. IsRun events.items r.replies.items r.world) }
     {
