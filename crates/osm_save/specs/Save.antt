@@ -46,7 +46,7 @@ abbrev pub IsTimeOf : ℕ → Option ℕ → Type 0
 IsTimeOf number None = number ≡ 0
 IsTimeOf number (Some time) = (0 < number) × IsPositive time
 
--- what a follower can have at a number: no more of anything than that many sequences have edits
+-- what a follower can have at a number: no more of anything than that many sequences can have edits
 pub record IsSavable (v : Saved) : Type 0 where
   pub number : v.number ≤ max_sequence
   pub time : IsTimeOf v.number v.time

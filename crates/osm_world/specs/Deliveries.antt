@@ -15,7 +15,7 @@ delivered_by (Deliver k form) WantOfMemory = []
 delivered_by (Deliver k form) r = k ∷ []
 delivered_by e r = []
 
--- the numbers delivered so since the last restart, in order
+-- the numbers that the pairs since the last restart deliver, in order
 abbrev pub delivered_of : History → List ℕ
 delivered_of [] = []
 delivered_of (p ∷ h) = if restarts p.0 p.1 then [] else (delivered_of h ++ delivered_by p.0 p.1)

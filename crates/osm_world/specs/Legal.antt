@@ -31,7 +31,7 @@ pub record IsOpen (h : History) (k n : ℕ) : Type 0 where
   pub whole : is_broken h ≡ false
   pub number : IsNumber h n
 
--- the same, and k is above n and within the window, and wasn't accepted
+-- IsOpen, and k is above n and within the window, and wasn't accepted
 pub record IsWanted (h : History) (k n : ℕ) : Type 0 where
   pub is_open : IsOpen h k n
   pub above : n < k
