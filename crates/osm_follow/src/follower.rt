@@ -373,7 +373,7 @@ impl Follower {
                 self.go_on(0, None, Mirror::new(alloc));
                 Ok(())
             }
-            Some(text) => self.restart_from(alloc, text),
+            Some(text) => self.read(alloc, text),
         }
     }
 
@@ -390,7 +390,7 @@ impl Follower {
         self.holding.reset(0);
     }
 
-    fn restart_from(&mut self, alloc: Global, text: &[u8]) -> Result<(), RestartError>
+    fn read(&mut self, alloc: Global, text: &[u8]) -> Result<(), RestartError>
         requires { self.old.is_broken ≡ true }
         ensures { Restarts self.old (Some text.now) result self.new }
     {
