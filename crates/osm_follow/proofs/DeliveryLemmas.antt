@@ -1,4 +1,4 @@
--- A delivery of texts that are those of a sequence, read as the delivery of that sequence.
+-- The delivery of a sequence's texts as the delivery of that sequence.
 use Rattle.std.proofs.Common.{◌≡◌, ℕ, ◌+◌, ◌<◌, ◌≤◌, List, [], ◌∷◌, length, refl, ap, sym, ◌∙◌, true, false, arith, subst, None}
 use Rattle.std.specs.Prelude.{Result, Ok, Err, IsSome}
 use Rattle.osm_model.specs.Change.{ChangeValue}

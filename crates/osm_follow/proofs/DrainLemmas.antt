@@ -1,4 +1,4 @@
--- One held sequence more, and what the application of the held ones leaves.
+-- One more held sequence, and what is left when held ones are applied.
 use Rattle.std.proofs.Common.{◌≡◌, ℕ, ◌+◌, ◌-◌, ◌*◌, ◌<◌, ◌≤◌, List, [], ◌∷◌, ◌++◌, refl, ap, sym, ◌∙◌, true, false, arith, None, Some, Option, append-nil, append_assoc, inl, inr}
 use Rattle.std.specs.Map.{lookup}
 use Rattle.std.specs.Option.{option_map, option_map_or}
@@ -55,7 +55,7 @@ drained_first m n holding left first free applied moved within =
       rest = λ j above. ap (λ (h : HoldingValue). sequence_in h j) moved;
     }
 
--- what comes next was held from the first
+-- the next sequence was held from the start
 next_held : (m n : MirrorValue) (holding left : HoldingValue) (first held : Held) (last : ℕ) → IsDrained m holding first n left last → area.held_at left (left.base + 1) ≡ Some held → sequence_in holding (left.base + 1) ≡ Some (numbered (left.base + 1) held)
 next_held m n holding left first held last i value =
     sym (i.rest (left.base + 1) (omega arith)) ∙ ap (option_map (numbered (left.base + 1))) value
@@ -66,7 +66,7 @@ changes_more holding count k first held is there =
     ap (λ (cs : List ChangeValue). first.batch ++ cs) (between-suc (changes_in holding) (holding.base + 1) count k is ∙ ap (λ (cs : List ChangeValue). between (changes_in holding) (holding.base + 1) count ++ cs) here)
     ∙ sym (append_assoc first.batch (between (changes_in holding) (holding.base + 1) count) held.batch)
 
--- one held sequence more was applied
+-- one more held sequence was applied
 pub drained_more : (m n o : MirrorValue) (holding left mid next : HoldingValue) (first held : Held) (last : ℕ) → IsDrained m holding first n left last → area.held_at left (left.base + 1) ≡ Some held → ChangesAt left mid (left.base + 1) None → Applies n held.batch o → next ≡ record mid { base = mid.base + 1 } → IsWithin (max_changes * next.base) o → IsDrained m holding first o next held.time
 drained_more m n o holding left mid next first held last i value taken applied moved within =
     let k : ℕ = left.base + 1 in
@@ -83,7 +83,7 @@ drained_more m n o holding left mid next first held last i value taken applied m
       rest = λ j above. ap (λ (h : HoldingValue). sequence_in h j) moved ∙ (ap (option_map (numbered j)) (taken.others j (λ e. omega arith)) ∙ i.rest j (omega arith));
     }
 
--- nothing more is held without a gap
+-- no more sequences are held without a gap
 pub drained_all : (m n : MirrorValue) (holding left mid : HoldingValue) (first : Held) (last : ℕ) → IsDrained m holding first n left last → area.held_at left (left.base + 1) ≡ None → ChangesAt left mid (left.base + 1) None → Drains m holding first n mid last
 drained_all m n holding left mid first last i value taken =
     let base : mid.base ≡ left.base = taken.base in
@@ -102,7 +102,7 @@ drained_all m n holding left mid first last i value taken =
       ];
     }
 
--- the application was stopped at the first sequence, or at a held one
+-- the application stopped at the first sequence, or at a held one
 pub stopped_first : (m : MirrorValue) (holding : HoldingValue) (first : Held) → NeedsMemory m first.batch → Stops m holding first
 stopped_first m holding first needs = record {
   count = 0;
@@ -126,7 +126,7 @@ highest : (entries : List (ℕ × Held)) → (most : ℕ) × ((j : ℕ) → most
 highest [] = (0, λ j above. refl)
 highest (e ∷ entries) = let rest = highest entries in (rest.0 + e.0, λ j above. let other : (j == e.0) ≡ false = ne_eqb j e.0 (λ is. omega arith) in rw other (rest.1 j (omega arith)))
 
--- what stops among some of the held sequences stops among all that are reached without a gap
+-- what stops within some of the held sequences stops within all that are reached without a gap
 pub breaks : (f g : FollowerValue) (p : PublishedValue) (time : ℕ) → p.number ≡ f.holding.base + 1 → Stops f.mirror f.holding (record { batch = p.changes; time = time }) → g ≡ record f { mirror = g.mirror; holding = g.holding; is_broken = true } → Breaks f p g
 breaks f g p time number stops rest =
     let most = highest f.holding.entries in
@@ -170,7 +170,7 @@ takes f g p time last number d is at timed whole = record {
   rest = d.rest;
 }
 
--- what is held still is timed, and so is the last that was applied
+-- the time of a held sequence, or else the given one, is within the limits
 timed_one : (o : Option PublishedValue) (other : ℕ) → IfSome o (λ p. IsPositive p.time) → IsPositive other → IsPositive (option_map_or (λ p. p.time) o other)
 timed_one None other one positive = positive
 timed_one (Some p) other one positive = one

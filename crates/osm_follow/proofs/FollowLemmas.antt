@@ -26,7 +26,7 @@ held_accepted ps start acc f s j past = ap is_some (s.held j past) ∙ by_test (
     by_test true = refl
     by_test false = refl
 
--- so that the held numbers reach as far as the accepted ones
+-- so the held numbers reach as far as the accepted ones
 pub reaches_accepted : (ps : List PublishedValue) (start : ℕ) (acc : ℕ → Bool) (f : FollowerValue) (k high : ℕ) → IsState ps start acc f → f.number < k → Reaches (is_held f) k high → Reaches acc k high
 reaches_accepted ps start acc f k high s above r = reaches_same (is_held f) acc k high (λ j past. held_accepted ps start acc f s j (omega arith)) r
 
@@ -118,7 +118,7 @@ follows_taken ps k high f g s next there number t =
       ];
     }
 
--- what a follower is after it has accepted one number more
+-- what a follower is after it has accepted one more number
 state_parts : (ps : List PublishedValue) (start : ℕ) (acc more : ℕ → Bool) (k : ℕ) (f g : FollowerValue) → IsState ps start acc f → ((j : ℕ) → more j ≡ ((k == j) || acc j)) → f.number < k → Follows ps g → f.number ≤ g.number → ((j : ℕ) → f.number < j → j ≤ g.number → more j ≡ true) → more (g.number + 1) ≡ false → ((j : ℕ) → g.number < j → held_at g j ≡ (if more j then Some (sequence_at ps j) else None)) → IsState ps start more g
 state_parts ps start acc more k f g s is above follows onward all next held =
     let from = s.reach.from in

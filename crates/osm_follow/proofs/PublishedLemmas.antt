@@ -1,4 +1,4 @@
--- Published sequences with more after them, and one sequence after another.
+-- Published sequences, extended by more and taken one by one.
 use Rattle.std.proofs.Common.{◌≡◌, ℕ, zero, suc, ◌+◌, ◌-◌, ◌<◌, ◌≤◌, List, [], ◌∷◌, ◌++◌, length, take, get_or, refl, ap, sym, ◌∙◌, Some, arith, append-nil, append_assoc, map, inl, inr, length-append}
 use Rattle.std.specs.List.{flat_map}
 use Rattle.std.proofs.lemmas.Grind.{flat_map-append}
@@ -20,7 +20,7 @@ texts_at-written ps k above within = get_or-map written_of ps (k - 1) unpublishe
 pub sequence_within : (ps more : List PublishedValue) (k : ℕ) → 0 < k → k ≤ length ps → sequence_at (ps ++ more) k ≡ sequence_at ps k
 sequence_within ps more k above within = get_or_append_left ps more unpublished (k - 1) (omega arith)
 
--- one sequence more
+-- one more sequence
 pub sequences-snoc : (ps : List PublishedValue) (p : PublishedValue) → AreSequences ps → IsSequence (length ps + 1) p → AreSequences (ps ++ p ∷ [])
 sequences-snoc ps p each last k above within =
     let all : length (ps ++ p ∷ []) ≡ length ps + 1 = length-append ps (p ∷ []) in
@@ -53,7 +53,7 @@ pub time_next : (ps : List PublishedValue) (n k : ℕ) → k ≡ n + 1 → time_
 time_next ps n zero e = absurd (omega arith)
 time_next ps n (suc k) e = refl
 
--- the changes of so many sequences more
+-- the changes of the next sequences
 pub changes_run : (ps : List PublishedValue) (n count : ℕ) → n + count ≤ length ps → changes_up_to ps (n + count) ≡ changes_up_to ps n ++ between (changes_at ps) n count
 changes_run ps n zero within = ap (changes_up_to ps) (let same : n + 0 ≡ n = omega arith in same) ∙ sym (append-nil (changes_up_to ps n))
 changes_run ps n (suc count) within =

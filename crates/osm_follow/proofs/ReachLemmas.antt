@@ -22,7 +22,7 @@ pub between_same : {A : Type 0} (f g : ℕ → List A) (n c : ℕ) → ((j : ℕ
 between_same f g n zero same = refl
 between_same f g n (suc c) same = ap (λ xs. xs ++ f (n + suc c)) (between_same f g n c (λ j above below. same j above (omega arith))) ∙ ap (λ ys. between g n c ++ ys) (same (n + suc c) (omega arith) (omega arith))
 
--- one number more
+-- one more number
 pub all_more : (is_in : ℕ → Bool) (low high : ℕ) → ((j : ℕ) → low < j → j ≤ high → is_in j ≡ true) → is_in (high + 1) ≡ true → (j : ℕ) → low < j → j ≤ high + 1 → is_in j ≡ true
 all_more is_in low high all next j above below = elim (cases_lt high j) [
   | inl past ↦ (let same : j ≡ high + 1 = omega arith in rw same next)
@@ -54,7 +54,7 @@ reaches_same is_in are_in n m same r =
       next = sym (same (m + 1) (omega arith)) ∙ r.next;
     }
 
--- the numbers that aren't in, among so many after n
+-- of the numbers n + 1 to n + count, those that aren't in
 abbrev pub missing_among : (ℕ → Bool) → ℕ → ℕ → List ℕ
 missing_among is_in n count = filter (λ j. not (is_in j)) (numbers n count)
 

@@ -1,5 +1,5 @@
--- What a delivery answers, and the follower after it, by the state text and the bytes that are
--- delivered: in what form the bytes are is a parameter.
+-- What a delivery answers, and the follower after it, given the state text and the bytes that are
+-- delivered. The form of the bytes is a parameter.
 use Rattle.std.specs.Prelude.{◌≡◌, ◌≢◌, ℕ, ◌+◌, ◌<◌, ◌≤◌, List, [], ◌++◌, length, None, Some}
 use Rattle.std.specs.Prelude.{IsSome, true, false, Result, Ok, Err}
 use Rattle.osm_model.specs.Change.{ChangeValue}
@@ -53,7 +53,7 @@ pub record Takes (f : FollowerValue) (p : PublishedValue) (high : ℕ) (g : Foll
   pub gone : (j : ℕ) → j ≤ high → held_at g j ≡ None
   pub rest : (j : ℕ) → high < j → held_at g j ≡ held_at f j
 
--- that application was stopped part of the way, at a change that needs a new entry
+-- that application stopped part-way, at a change that needs a new entry
 pub record Breaks (f : FollowerValue) (p : PublishedValue) (g : FollowerValue) : Type 0 where
   pub high : ℕ
   pub count : ℕ
@@ -94,7 +94,7 @@ pub record IsDue (f : FollowerValue) (state : List ℕ) (s : StateValue) : Type 
 abbrev pub sequence_of : StateValue → List ChangeValue → PublishedValue
 sequence_of s changes = record { number = s.sequence; changes = changes; time = s.time }
 
--- why bytes that are read are refused, memory aside
+-- why bytes that are read are refused, apart from memory
 abbrev pub BytesRefused : Spelling → FaultPlaces → List ℕ → FormError → Type 0
 BytesRefused spells fault_place bytes faults.TooLarge = max_file < length bytes
 BytesRefused spells fault_place bytes (faults.Fault place why) =
@@ -102,7 +102,7 @@ BytesRefused spells fault_place bytes (faults.Fault place why) =
 BytesRefused spells fault_place bytes faults.WantOfMemory = ⊥
 
 -- the state text and the bytes were delivered to the follower: each answer with all its conditions,
--- so that no two apply, except that memory may be refused in place of an application
+-- so that no two apply, except that memory may be refused instead of an application
 abbrev pub Delivers :
     Spelling → FaultPlaces → FollowerValue → List ℕ → List ℕ
     → Result Delivered DeliverError → FollowerValue → Type 0

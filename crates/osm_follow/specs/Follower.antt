@@ -43,7 +43,7 @@ held_at f number = sequence_in f.holding number
 abbrev pub is_held : FollowerValue → ℕ → Bool
 is_held f number = is_in f.holding number
 
--- the changes that it holds for that number
+-- the changes that the follower holds for that number
 abbrev pub changes_held : FollowerValue → ℕ → List ChangeValue
 changes_held f number = changes_in f.holding number
 
@@ -57,9 +57,9 @@ new_follower = record {
   is_broken = false;
 }
 
--- a follower that isn't broken: no count, and no number of its objects, users or changesets, is
--- above 100,000 times its number; it has a time except at 0; it holds sequences after its number,
--- the next one not among them; all times are within the limits
+-- a follower that isn't broken: each count, and the number of its objects, users and changesets, is
+-- at most 100,000 times its number; it has a time except at 0; it holds sequences after its number,
+-- but not the next one; all times are within the limits
 pub record IsWhole (f : FollowerValue) : Type 0 where
   pub counts : IsWithin (max_changes * f.number) f.mirror
   pub timed : (f.time ≡ None) ↔ (f.number ≡ 0)
@@ -83,8 +83,9 @@ pub record Follows (published : List PublishedValue) (f : FollowerValue) : Type 
       (f.number + 1 < j) × (j ≤ f.number + window) × (j ≤ length published)
       × (p ≡ sequence_at published j)
 
--- what a follower is, by what was published, where it started and which numbers it accepted: it is
--- at the greatest number reached without a gap, and holds each accepted number above it
+-- what a follower is, given what was published, the number that it started at and which numbers it
+-- accepted: it is at the greatest number reached without a gap, and holds each accepted number
+-- above it
 pub record IsState (published : List PublishedValue) (start : ℕ) (is_accepted : ℕ → Bool)
     (f : FollowerValue) : Type 0 where
   pub reach : Reaches is_accepted start f.number

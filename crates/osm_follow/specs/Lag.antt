@@ -14,7 +14,7 @@ abbrev pub AreSeconds : Option ℕ → ℕ → Option ℕ → Type 0
 AreSeconds None top seconds = seconds ≡ None
 AreSeconds (Some time) top seconds = (time ≤ top) × (seconds ≡ Some (top - time))
 
--- how far the follower is behind the state, or why that isn't told: each answer with all its
+-- how far the follower is behind the state, or why there is no lag: each answer with all its
 -- conditions, so that exactly one applies
 abbrev pub Lags : FollowerValue → StateValue → Result Lag LagError → Type 0
 Lags f s (Err Broken) = f.is_broken ≡ true
@@ -26,8 +26,8 @@ Lags f s (Ok lag) =
     (f.is_broken ≡ false) × (f.number + lag.behind ≡ s.sequence)
     × AreSeconds f.time s.time lag.seconds
 
--- why the missing numbers aren't told: up to a state that isn't after the follower there are none,
--- which takes no memory
+-- why there is no list of missing numbers: up to a state that isn't after the follower the list is
+-- empty, and no memory is taken
 abbrev pub MissingRefused : FollowerValue → StateValue → ViewError → Type 0
 MissingRefused f s views.Broken = f.is_broken ≡ true
 MissingRefused f s views.WantOfMemory = (f.is_broken ≡ false) × (f.number < s.sequence)

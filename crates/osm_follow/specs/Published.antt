@@ -16,7 +16,7 @@ pub record PublishedValue : Type 0 where
   pub changes : List ChangeValue
   pub time : ℕ
 
--- what a publisher gives out of a sequence: its number, the text of its state, and its changes as
+-- what a publisher gives out for a sequence: its number, the text of its state, and its changes as
 -- an o5c file and as an OPL file
 pub record PublishedTexts : Type 0 where
   pub number : ℕ
@@ -24,7 +24,7 @@ pub record PublishedTexts : Type 0 where
   pub o5c : List ℕ
   pub opl : List ℕ
 
--- the texts of a sequence, as they are written
+-- the texts that are written for a sequence
 abbrev pub written_of : PublishedValue → PublishedTexts
 written_of p = record {
   number = p.number;
@@ -33,19 +33,19 @@ written_of p = record {
   opl = opl_text p.changes;
 }
 
--- in place of a sequence that wasn't published
+-- stands in for a sequence that wasn't published
 abbrev pub unpublished : PublishedValue
 unpublished = record { number = 0; changes = []; time = 0 }
 
--- the published sequence of that number
+-- the published sequence with that number
 abbrev pub sequence_at : List PublishedValue → ℕ → PublishedValue
 sequence_at published number = get_or published (number - 1) unpublished
 
--- in place of the texts of a sequence that wasn't published
+-- stands in for the texts of a sequence that wasn't published
 abbrev pub no_texts : PublishedTexts
 no_texts = record { number = 0; state = []; o5c = []; opl = [] }
 
--- the archived texts of the sequence of that number
+-- the archived texts of the sequence with that number
 abbrev pub texts_at : List PublishedTexts → ℕ → PublishedTexts
 texts_at archive number = get_or archive (number - 1) no_texts
 
@@ -74,7 +74,7 @@ time_at published (suc n) = Some (sequence_at published (suc n)).time
 abbrev pub changes_up_to : List PublishedValue → ℕ → List ChangeValue
 changes_up_to published number = flat_map (λ p. p.changes) (take number published)
 
--- the time that the next close may not fall below: the last one's, or 1 before the first
+-- the least time that the next close may have: that of the last sequence, or 1 before the first
 abbrev pub last_time : List PublishedValue → ℕ
 last_time [] = 1
 last_time (p ∷ []) = p.time

@@ -16,7 +16,7 @@ pub record PublisherValue : Type 0 where
   pub time : ℕ
   pub pending : List ChangeValue
 
--- before the first sequence; its close may have any time from 1 on
+-- before the first sequence, which may have any time from 1 on
 abbrev pub new_publisher : PublisherValue
 new_publisher = record { number = 0; time = 1; pending = [] }
 
@@ -28,7 +28,7 @@ closing p time = record { number = p.number + 1; changes = p.pending; time = tim
 abbrev pub closed : PublisherValue → ℕ → PublisherValue
 closed p time = record { number = p.number + 1; time = time; pending = [] }
 
--- a number is left, and the time isn't below the last one
+-- a number is left, and the time isn't before the last one
 pub record CanClose (p : PublisherValue) (time : ℕ) : Type 0 where
   pub room : p.number < max_sequence
   pub onward : p.time ≤ time
@@ -53,8 +53,8 @@ CloseBarred p time SequenceFull = p.number ≡ max_sequence
 CloseBarred p time TimeBack = (p.number < max_sequence) × (time < p.time)
 CloseBarred p time error = ⊥
 
--- what a close answers, and the publisher after it: nothing changes but by a sequence that is
--- published, and a refusal names the first cause of its list that applies
+-- what a close answers, and the publisher after it: nothing changes unless a sequence is published,
+-- and a refusal names the first cause that applies
 abbrev pub Closes :
     PublisherValue → ℕ → Result PublishedTexts CloseError → PublisherValue → Type 0
 Closes a time (Ok p) b =

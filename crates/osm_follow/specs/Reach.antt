@@ -3,7 +3,8 @@ use Rattle.std.specs.Prelude.{◌≡◌, ℕ, zero, suc, ◌+◌, ◌-◌, ◌<�
 use Rattle.std.specs.Prelude.{Bool, true, false, not, min}
 use Rattle.osm_holding.specs.Holding.{window}
 
--- after n all up to m are in, and m + 1 isn't: m is the greatest number reached without a gap
+-- all numbers after n up to m are in, and m + 1 isn't: m is the greatest number reached without a
+-- gap
 pub record Reaches (is_in : ℕ → Bool) (n m : ℕ) : Type 0 where
   pub from : n ≤ m
   pub all : (j : ℕ) → n < j → j ≤ m → is_in j ≡ true

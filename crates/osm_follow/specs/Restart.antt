@@ -1,4 +1,4 @@
--- What a follower saves, and how it begins again from that.
+-- What a follower saves, and how it restarts from that.
 use Rattle.std.specs.Prelude.{◌≡◌, ℕ, List, [], true, false, Option, Some, None, Result}
 use Rattle.std.specs.Prelude.{Ok, Err}
 use Rattle.osm_save.specs.Save.{SpellsSave}
@@ -13,7 +13,7 @@ use Rattle.osm_follow.specs.declared.view.ViewError.TheVariants as views
 abbrev pub saved_of : FollowerValue → Saved
 saved_of f = record { number = f.number; time = f.time; mirror = f.mirror }
 
--- the follower that goes on from what was saved: it holds nothing
+-- the follower that continues from what was saved: it holds nothing
 abbrev pub follower_of : Saved → FollowerValue
 follower_of v = record {
   number = v.number;
@@ -28,7 +28,7 @@ abbrev pub SavingRefused : FollowerValue → ViewError → Type 0
 SavingRefused f views.Broken = f.is_broken ≡ true
 SavingRefused f views.WantOfMemory = f.is_broken ≡ false
 
--- the follower was to begin again from a text, or from none: whatever it was, it now goes on from
+-- the follower was to restart from a text, or from none: whatever it was, it now continues from
 -- what the text saves, or from sequence 0; after a refusal it is broken
 abbrev pub Restarts :
     FollowerValue → Option (List ℕ) → Result (Unit {0}) RestartError → FollowerValue → Type 0

@@ -26,15 +26,15 @@ view_of f = record {
   held = numbers_of f.holding;
 }
 
--- why a follower shows nothing: if its mirror is empty and nothing is held, it takes no memory
+-- why a follower shows nothing: if its mirror is empty and nothing is held, no memory is taken
 abbrev pub ViewRefused : FollowerValue → ViewError → Type 0
 ViewRefused f Broken = f.is_broken ≡ true
 ViewRefused f WantOfMemory =
     (f.is_broken ≡ false) × (HoldsSome f.mirror ⊎ (0 < length (numbers_of f.holding)))
 
--- the view of a follower that started there, and accepted those numbers of what was published: the
--- objects in the order of their keys, users and changesets with counts above 0 rising, held numbers
--- rising
+-- the view of a follower that started at `start` and accepted those of the published numbers: the
+-- objects are in the order of their keys, users and changesets rise and have counts above 0, and
+-- the held numbers rise
 pub record IsView (published : List PublishedValue) (start : ℕ) (is_accepted : ℕ → Bool)
     (v : ViewValue) : Type 0 where
   pub reach : Reaches is_accepted start v.number

@@ -26,20 +26,19 @@ pub enum DeliverError {
     /// The state text can't be read.
     #[error("BadState")]
     BadState(StateError),
-    /// The state text names sequence 0, which has no change file.
+    /// The state text names sequence 0, the empty start, which has no change file.
     #[error("BadSequence")]
     BadSequence,
     /// The number is more than 64 above the follower's.
     #[error("TooEarly")]
     TooEarly,
-    /// The bytes spell no batch, or are more than 64 MiB.
+    /// The bytes are more than 64 MiB, or spell no batch.
     #[error("BadChange")]
     BadChange(FormError),
     /// Memory was refused while the bytes were read.
     #[error("WantOfMemory")]
     WantOfMemory,
-    /// Memory was refused part of the way through the application: the follower is broken from now
-    /// on.
+    /// Memory was refused part-way through the application: the follower is now broken.
     #[error("Broke")]
     Broke,
 }

@@ -1,4 +1,4 @@
-//! The application of sequences that follow one another.
+//! Applies consecutive sequences.
 
 ghost use Rattle.std.specs.Prelude.{◌≡◌, ◌+◌, ◌*◌, ◌<◌, None, OnOk, OnErr, IfOk};
 ghost use Rattle.osm_follow.specs.Follower.{sequence_in};
@@ -12,7 +12,7 @@ use osm_model::batch::Batch;
 use osm_model::memory::WantOfMemory;
 
 /// Applies the sequence after the area's base, and then those that the area holds, up to the first
-/// gap. Gives the time of the last one, in seconds since 1970-01-01T00:00:00Z.
+/// gap. Gives the time of the last one applied, in seconds since 1970-01-01T00:00:00Z.
 pub(crate) fn drain(
     mirror: &mut Mirror,
     holding: &mut HoldingArea,
@@ -34,7 +34,7 @@ pub(crate) fn drain(
     Ok(time)
 }
 
-// Applies the sequence after the area's base, which the area doesn't hold, and advances its base.
+// Applies the sequence after the area's base, which the area doesn't hold, and advances the base.
 fn apply_next(
     mirror: &mut Mirror,
     holding: &mut HoldingArea,

@@ -39,11 +39,10 @@ use std::alloc::Global;
 use std::marker::Model;
 use thiserror::Error;
 
-/// The mirror of sequences 1 to the follower's number, and those of the 64 after it that came
-/// early.
+/// The mirror of sequences 1 to the follower's number, and those of the next 64 that came early.
 ///
-/// The follower is broken once an application ran out of memory part of the way, or a restart was
-/// refused. It then says nothing of its mirror, until it is restarted.
+/// A follower is broken after an application ran out of memory part-way, or a restart was refused.
+/// A broken follower shows nothing of its mirror until it is restarted.
 #[derive(Debug, Drop)]
 pub struct Follower {
     number: u32,
@@ -81,8 +80,8 @@ impl Model for Follower {
 pub struct Broken;
 
 impl Follower {
-    /// At sequence 0, with nothing in its mirror and nothing held. Makes all the room for sequences
-    /// that come early.
+    /// A follower at sequence 0, with an empty mirror and nothing held. Takes all the memory that
+    /// its holding area ever needs.
     pub fn new(alloc: Global) -> Result<Follower, WantOfMemory>
         ensures new { IfOk result (λ f. f ≡ new_follower) }
     {
@@ -96,9 +95,9 @@ impl Follower {
         })
     }
 
-    /// Takes the sequence of that state text, whose changes the bytes spell in the form `F`. If it
-    /// is the next one, it is applied, and after it those that are held, up to the first gap; if it
-    /// is one of the 63 after that, it is held. The bytes are read only if it is one of these 64,
+    /// Takes the sequence that the state text names, whose changes the bytes spell in the form `F`.
+    /// The next sequence is applied, and after it those that are held, up to the first gap; one of
+    /// the 63 after the next is held. The bytes are read only if the sequence is one of these 64
     /// and isn't held already.
     pub fn deliver<F: ChangeForm>(
         &mut self,
@@ -109,7 +108,7 @@ impl Follower {
         ensures answer { Delivers F.spells F.fault_place self.old
             state.now bytes.now result self.new }
 
-        // If an answer is due before the bytes are read, it is given, whatever the bytes.
+        // If an answer is due before the bytes are read, it is given whatever they are.
         ensures unread { (answer : Result Delivered DeliverError) →
             AnswersUnread self.old state.now answer → (result ≡ answer) × (self.new ≡ self.old) }
     {
@@ -129,7 +128,7 @@ impl Follower {
         self.take(&state, batch)
     }
 
-    // The state of a sequence whose bytes are to be read, or the answer that is due before that.
+    // The state of a sequence whose bytes have to be read, or the answer that is due before that.
     fn due(&self, state: &[u8]) -> Result<State, Result<Delivered, DeliverError>>
         ensures due { IfOk result (λ s. IsDue self.now state.now s) }
         ensures most { IfOk result (λ s. s.sequence ≤ max_sequence) }
@@ -173,7 +172,7 @@ impl Follower {
         self.holding.hold(state.sequence(), Held { batch, time });
     }
 
-    // Applies the next sequence, and those that are held after it up to the first gap.
+    // Applies the next sequence, and those held after it up to the first gap.
     fn take(&mut self, state: &State, batch: Batch) -> Result<Delivered, DeliverError>
         requires whole { self.old.is_broken ≡ false }
         requires next { state.now.sequence ≡ self.old.number + 1 }
@@ -192,16 +191,16 @@ impl Follower {
         Ok(Delivered::Applied { low, high })
     }
 
-    /// Whether an application stopped part of the way, or a restart was refused, since the last
-    /// restart.
+    /// Whether an application stopped part-way, or a restart was refused, since the last restart
+    /// that was made.
     pub fn is_broken(&self) -> bool
         ensures { result ≡ self.now.is_broken }
     {
         self.is_broken
     }
 
-    /// The number of the last sequence that was applied; 0 before the first. No count, and no
-    /// number of objects, users or changesets, is above 100,000 times it.
+    /// The number of the last sequence that was applied; 0 before the first. Each count, and the
+    /// number of objects, of users and of changesets, is at most 100,000 times it.
     pub fn number(&self) -> Result<u32, Broken>
         ensures broken { IsErr result ↔ (self.now.is_broken ≡ true) }
         ensures number { IfOk result (λ n. n ≡ self.now.number) }
@@ -220,7 +219,7 @@ impl Follower {
         Ok(self.time)
     }
 
-    /// The object of that key, if the mirror has it.
+    /// The object with that key; none if the mirror has none.
     pub fn get(&self, key: Key) -> Result<Option<&Change>, Broken>
         ensures broken { IsErr result ↔ (self.now.is_broken ≡ true) }
         ensures object { IfOk result (λ o. MatchOption o
@@ -231,7 +230,7 @@ impl Follower {
         Ok(self.mirror.get(key))
     }
 
-    /// The edits of a user in the sequences that were applied; 0 if there are none.
+    /// How many edits the user has in the sequences that were applied.
     pub fn user_count(&self, uid: u32) -> Result<u64, Broken>
         ensures broken { IsErr result ↔ (self.now.is_broken ≡ true) }
         ensures count { IfOk result (λ n. n ≡ count_at self.now.mirror.users uid) }
@@ -241,7 +240,7 @@ impl Follower {
         Ok(self.mirror.user_count(uid))
     }
 
-    /// The edits in a changeset, among the sequences that were applied; 0 if there are none.
+    /// How many edits the changeset has in the sequences that were applied.
     pub fn changeset_count(&self, id: u32) -> Result<u64, Broken>
         ensures broken { IsErr result ↔ (self.now.is_broken ≡ true) }
         ensures count { IfOk result (λ n. n ≡ count_at self.now.mirror.changesets id) }
@@ -251,7 +250,7 @@ impl Follower {
         Ok(self.mirror.changeset_count(id))
     }
 
-    /// Whether a sequence of that number is held.
+    /// Whether the sequence with that number is held.
     pub fn is_held(&self, number: u32) -> Result<bool, Broken>
         ensures broken { IsErr result ↔ (self.now.is_broken ≡ true) }
         ensures held { IfOk result (λ b. IsTrue b ↔ IsSome (held_at self.now number)) }
@@ -281,9 +280,9 @@ impl Follower {
         })
     }
 
-    /// The numbers to fetch: of the 64 after the follower's, those up to the state's sequence that
-    /// aren't held, rising. There are none if the state isn't after the follower, which takes no
-    /// memory.
+    /// The numbers to fetch, rising: of the 64 after the follower's, those up to the state's
+    /// sequence that aren't held. If the state isn't after the follower there are none, and no
+    /// memory is taken.
     pub fn missing(&self, alloc: Global, state: &State) -> Result<Vec<u32>, ViewError>
         ensures whole { OnOk result (self.now.is_broken ≡ false) }
         ensures numbers { IfOk result (λ ns. ns.items
@@ -299,7 +298,7 @@ impl Follower {
         }
     }
 
-    // The missing numbers, up to that one.
+    // The missing numbers up to `top`.
     fn missing_until(&self, alloc: Global, top: u32) -> Result<Vec<u32>, WantOfMemory>
         requires whole { self.now.is_broken ≡ false }
         ensures numbers { IfOk result (λ ns. ns.items
@@ -327,7 +326,7 @@ impl Follower {
         Ok(())
     }
 
-    /// A copy of all that the follower holds.
+    /// A copy of the follower's number, time, mirror and counts, and of the numbers held.
     pub fn view(&self, alloc: Global) -> Result<View, ViewError>
         ensures whole { OnOk result (self.now.is_broken ≡ false) }
         ensures copies { IfOk result (λ v. v ≡ view_of self.now) }
@@ -346,8 +345,8 @@ impl Follower {
         }
     }
 
-    /// The save text of the follower's number, time, mirror and counts. Sequences that are held
-    /// aren't saved.
+    /// The save text of the follower's number, time, mirror and counts. Held sequences aren't
+    /// saved.
     pub fn save(&self, alloc: Global) -> Result<Vec<u8>, ViewError>
         ensures whole { OnOk result (self.now.is_broken ≡ false) }
         ensures text { IfOk result (λ text. SpellsSave text.items (saved_of self.now)) }
@@ -362,9 +361,9 @@ impl Follower {
         }
     }
 
-    /// Begins again from a save text, or from sequence 0 if there is none, which takes no memory
-    /// and always succeeds. The old mirror and all that is held are dropped before the text is
-    /// read. A broken follower can begin again too.
+    /// Restarts from a save text, or, if there is none, from sequence 0, which takes no memory and
+    /// always succeeds. The old mirror and all that is held are dropped before the text is read.
+    /// A broken follower can be restarted too.
     pub fn restart(&mut self, alloc: Global, saved: Option<&[u8]>) -> Result<(), RestartError>
         ensures { Restarts self.old (option_map (λ text. text.now) saved.entry) result self.new }
     {
@@ -378,7 +377,7 @@ impl Follower {
         }
     }
 
-    // The follower is broken from then on.
+    // Drops the mirror and all that is held, and leaves the follower broken.
     fn drop_all(&mut self, alloc: Global)
         ensures { self.new ≡ record self.old {
           mirror = no_mirror;
@@ -405,7 +404,7 @@ impl Follower {
         }
     }
 
-    // At that sequence, whole, and with nothing held.
+    // Continues at that sequence, not broken, and with nothing held.
     fn go_on(&mut self, number: u32, time: Option<u32>, mirror: Mirror)
         requires most { number ≤ max_sequence }
         requires time { IsTimeOf number time }

@@ -5,13 +5,13 @@ use thiserror::Error;
 /// What a follower still has to apply to reach a state.
 #[derive(Clone, Copy, Debug, PartialEq, Eq)]
 pub struct Lag {
-    /// The number of sequences, those that are held among them.
+    /// How many sequences, including those that are held.
     pub behind: u32,
-    /// From the follower's time to the state's; none if the follower has no time.
+    /// The seconds from the follower's time to the state's; none if the follower has no time.
     pub seconds: Option<u32>,
 }
 
-/// Why a lag isn't told.
+/// Why there is no lag.
 #[derive(Clone, Copy, Debug, PartialEq, Eq, Error)]
 pub enum LagError {
     /// The follower is broken.
@@ -20,7 +20,7 @@ pub enum LagError {
     /// The state's sequence is below the follower's number.
     #[error("TopBehind")]
     TopBehind,
-    /// The state's time is below the follower's.
+    /// The state's time is before the follower's.
     #[error("TimeBehind")]
     TimeBehind,
 }

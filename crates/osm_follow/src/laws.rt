@@ -1,4 +1,4 @@
-//! What holds of deliveries and of restarts, whatever the code does.
+//! Laws of deliveries and of restarts, which hold whatever the code does.
 
 ghost use Rattle.std.specs.Prelude.{◌≡◌, ◌⊎◌, ℕ, ◌<◌, ◌≤◌, List, length, Some, Result, Ok, Err};
 ghost use Rattle.osm_state.specs.StateText.{StateOf};
@@ -31,8 +31,8 @@ pub fn laws_of_deliveries<F: ChangeForm>()
     laws_of_state();
 }
 
-/// A follower that is restarted from the text that one saved is at that one's number and time, with
-/// its mirror and nothing held, unless memory was refused. Does nothing at run time.
+/// A follower that is restarted from the text that another saved has the other's number, time and
+/// mirror, and holds nothing, unless memory was refused. Does nothing at run time.
 pub fn laws_of_restarts()
     ensures as_saved { (saved f g : FollowerValue) (text : List ℕ)
         (answer : Result (Unit {0}) RestartError)

@@ -39,7 +39,7 @@ impl Model for Published {
 }
 
 impl Published {
-    /// The files of the sequence with that state and those changes.
+    /// Makes the files of the sequence with that state and those changes.
     pub(crate) fn write(
         alloc: Global,
         state: &State,
@@ -95,7 +95,7 @@ impl Published {
     }
 }
 
-// The written text of a batch, in a form. A write is never a fault.
+// The text of a batch in a form. Writing never meets a fault.
 fn write_text<F: ChangeForm>(alloc: Global, batch: &Batch) -> Result<Vec<u8>, CloseError>
     ensures text { IfOk result (λ v. v.items ≡ F.text batch.now) }
     ensures small { OnOk result (length (F.text batch.now) ≤ max_file) }

@@ -49,10 +49,10 @@ pub enum EditError {
 /// Why the pending edits aren't published; they stay pending.
 #[derive(Clone, Copy, Debug, PartialEq, Eq, Error)]
 pub enum CloseError {
-    /// The last sequence, 999,999,999, is published.
+    /// The last sequence, 999,999,999, is already published.
     #[error("SequenceFull")]
     SequenceFull,
-    /// The time is below the last one.
+    /// The time is before that of the last sequence, or is 0.
     #[error("TimeBack")]
     TimeBack,
     /// The o5c file or the OPL file would pass 64 MiB.
@@ -64,7 +64,7 @@ pub enum CloseError {
 }
 
 impl Publisher {
-    /// Before the first sequence.
+    /// A publisher that has published nothing.
     pub fn new(alloc: Global) -> Publisher
         ensures { result ≡ new_publisher }
     {
@@ -75,7 +75,7 @@ impl Publisher {
         }
     }
 
-    /// After the sequence of that state, with nothing pending.
+    /// A publisher whose last sequence is that of the state, with nothing pending.
     pub fn resume(alloc: Global, state: &State) -> Publisher
         ensures { result ≡ record {
           number = state.now.sequence;
@@ -105,7 +105,7 @@ impl Publisher {
         &self.pending
     }
 
-    /// Takes an edit, as the last of the pending ones.
+    /// Adds an edit to the pending ones, as the last of them.
     pub fn edit(&mut self, change: Change) -> Result<(), EditError>
         ensures taken { OnOk result (self.new
             ≡ record self.old { pending = self.old.pending ++ change ∷ [] }) }
@@ -130,7 +130,7 @@ impl Publisher {
         }
     }
 
-    /// Refused if no close at that time can succeed, whatever is pending.
+    /// Whether a close at that time may succeed: an error if it can't, whatever is pending.
     pub fn check_close(&self, time: u32) -> Result<(), CloseError>
         ensures open { OnOk result (CanClose self.now time) }
         ensures time { OnOk result (IsPositive time) }

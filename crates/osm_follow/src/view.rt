@@ -13,7 +13,7 @@ use std::alloc::Global;
 use std::marker::Model;
 use thiserror::Error;
 
-/// Why a follower shows nothing of itself.
+/// Why a follower gives no view, save text or list of missing numbers.
 #[derive(Clone, Copy, Debug, PartialEq, Eq, Error)]
 pub enum ViewError {
     /// The follower is broken.
@@ -24,8 +24,8 @@ pub enum ViewError {
     WantOfMemory,
 }
 
-/// A copy of all that a follower holds: the objects in the order of their keys, the users and the
-/// changesets with their counts of edits, rising, and the numbers that are held, rising.
+/// A copy of what a follower has: its number and time, the objects in the order of their keys, the
+/// users and the changesets with their counts of edits, rising, and the numbers held, rising.
 #[derive(Debug, Drop)]
 pub struct View {
     number: u32,
@@ -54,7 +54,7 @@ impl Model for View {
 }
 
 impl View {
-    /// A view of these parts.
+    /// The view with these parts.
     pub fn new(
         number: u32,
         time: Option<u32>,
@@ -120,7 +120,7 @@ impl View {
         self.number
     }
 
-    /// The time of the sequence of that number, in seconds since 1970-01-01T00:00:00Z; none at 0.
+    /// The time of the sequence with that number, in seconds since 1970-01-01T00:00:00Z; none at 0.
     pub fn time(&self) -> Option<u32>
         ensures { result ≡ self.now.time }
     {

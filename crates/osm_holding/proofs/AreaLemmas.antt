@@ -16,7 +16,7 @@ use Rattle.osm_holding.specs.Holding.{ChangesAt, HoldingValue, IsHolding, held_a
 use Rattle.osm_holding.specs.Steps.Slots.{entries_from, area_of, AreSlots}
 use Rattle.osm_holding.proofs.SlotLemmas.{found, in_window, moved, moved_length, slot_changes}
 
--- the numbers of the entries rise, from a least one on
+-- the numbers of the entries rise, and none is below the least
 abbrev pub RisesFrom : ℕ → List (ℕ × Held) → Type 0
 RisesFrom least [] = Unit {0}
 RisesFrom least (e ∷ es) = (least ≤ e.0) × RisesFrom (e.0 + 1) es
@@ -75,7 +75,7 @@ same_pair e f numbers held =
     let same : e.1 ≡ f.1 = cc in
     ap (λ (n : ℕ). (n, e.1)) numbers ∙ ap (λ (h : Held). (f.0, h)) same
 
--- entries that rise are those that they show at each number
+-- rising entries are determined by what they show at each number
 same_entries : (least low : ℕ) (es fs : List (ℕ × Held)) → RisesFrom least es → RisesFrom low fs → ((number : ℕ) → found es number ≡ found fs number) → es ≡ fs
 same_entries least low [] [] up over same = refl
 same_entries least low [] (f ∷ fs) up over same =
@@ -145,7 +145,7 @@ are_written base slots i number now are is within limit = record {
     changes : ChangesAt (area_of base slots.items) (area_of base (slice_set slots.items i now)) number now
     changes = slot_changes base slots.items i number now is within
 
--- a ring that moves on shows the same after the next number
+-- a ring that has moved on shows the same after the next number
 pub moved_slots : (base : ℕ) (old new : Buffer (Option Held)) → AreSlots base old → new ≡ buffer (keep_last old.capacity (old.items ++ None ∷ [])) old.capacity → held_at (area_of base old.items) (base + 1) ≡ None → entries_from (base + 1 + 1) new.items ≡ entries_from (base + 1) old.items
 moved_slots base old new are is free =
     let items : new.items ≡ keep_last 64 (old.items ++ None ∷ []) = ap (λ (b : Buffer (Option Held)). b.items) is ∙ ap (λ n. keep_last n (old.items ++ None ∷ [])) are.room in

@@ -1,4 +1,4 @@
--- What an area holds, by the slots of its ring.
+-- What an area holds, seen from the slots of its ring.
 use Rattle.std.proofs.Common.{◌≡◌, ℕ, zero, suc, ◌+◌, ◌-◌, ◌<◌, ◌≤◌, ◌≢◌, List, [], ◌∷◌, ◌++◌, length, take, refl, ap, sym, ◌∙◌, true, false, arith, None, Some, Option, inl, inr, length-append, length-drop, add-one, subst, Bool}
 use Rattle.std.specs.Prelude.{slice_get, slice_set, ◌==◌, ◌↔◌, IsSome, IsTrue, OnSome, is_some}
 use Rattle.std.specs.Map.{lookup, keys_of}
@@ -37,7 +37,7 @@ found_at first (Some held ∷ slots) number (suc i) is =
     let other : (number == first) ≡ false = ne_eqb number first (λ e. omega arith) in
     rw other (found_at (first + 1) slots number i (omega arith))
 
--- a slot that is written holds what was written, and the others hold what they held
+-- a slot that is written holds what was written, and the others hold what they held before
 slice_get-set_same : (slots : List (Option Held)) (i : ℕ) (now : Option Held) → i < length slots → slice_get (slice_set slots i now) i ≡ Some now
 slice_get-set_same [] i now within = absurd (omega arith)
 slice_get-set_same (s ∷ slots) zero now within = refl
@@ -129,7 +129,7 @@ number_in-none number None free = refl
 number_in-none number (Some None) free = refl
 number_in-none number (Some (Some held)) free = absurd (free refl)
 
--- one slot more, which holds something or doesn't
+-- one more slot, which holds something or doesn't
 pub numbers_before_held : (first : ℕ) (slots : List (Option Held)) (i number : ℕ) → number ≡ first + i → IsSome (found (entries_from first slots) number) → numbers_before first slots (i + 1) ≡ numbers_before first slots i ++ number ∷ []
 numbers_before_held first slots i number is some =
     let there : IsSome (option_flatten (slice_get slots i)) = subst (λ (o : Option Held). IsSome o) (found_at first slots number i is) some in
@@ -165,13 +165,13 @@ none_tells o is = slot_tells o None false refl is
 pub none_is_free : (o : Option Held) → o ≡ None → OnFalse false (o ≡ None)
 none_is_free o is = OnFalse_from false (o ≡ None) (λ no. is)
 
--- a slot in the ring is there
+-- each index below the number of slots has a slot
 pub slot_there : (slots : List (Option Held)) (i : ℕ) → i < length slots → slice_get slots i ≡ None → ⊥
 slot_there [] i within is = omega arith
 slot_there (s ∷ slots) zero within is = cc
 slot_there (s ∷ slots) (suc i) within is = slot_there slots i (omega arith) is
 
--- what follows from something that is held
+-- what follows if something is held
 pub OnSome_from : (o p : Option Held) (P : Type 0) → o ≡ p → (IsSome p → P) → OnSome o P
 OnSome_from None p P is follows = tt
 OnSome_from (Some held) p P is follows = follows (sym (ap is_some is))

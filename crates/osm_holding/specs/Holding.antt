@@ -18,16 +18,16 @@ held_at area number = lookup (λ key. number == key) area.entries
 abbrev pub numbers_of : HoldingValue → List ℕ
 numbers_of area = map (λ e. e.0) area.entries
 
--- how many numbers after its own a follower takes
+-- how many numbers after its own a follower accepts
 abbrev pub window : ℕ
 window = 64
 
--- one of the numbers after the base within the window
+-- the number is after the base and within the window
 pub record IsInWindow (base number : ℕ) : Type 0 where
   pub above : base < number
   pub within : number ≤ base + window
 
--- a holding area: its base is a sequence number, what it holds is in the order of the numbers, and
+-- a holding area: its base is a sequence number, what it holds is in the order of its numbers, and
 -- each number at which it holds something is a sequence number within the window
 pub record IsHolding (area : HoldingValue) : Type 0 where
   pub base : area.base ≤ max_sequence
@@ -35,7 +35,7 @@ pub record IsHolding (area : HoldingValue) : Type 0 where
   pub within : (number : ℕ) → IsSome (held_at area number) → IsInWindow area.base number
   pub limit : (number : ℕ) → IsSome (held_at area number) → number ≤ max_sequence
 
--- the new area holds this at the number, and is as the old one in all else
+-- the new area holds `now` at the number, and is like the old one everywhere else
 pub record ChangesAt (old new : HoldingValue) (number : ℕ) (now : Option Held) : Type 0 where
   pub base : new.base ≡ old.base
   pub changed : held_at new number ≡ now

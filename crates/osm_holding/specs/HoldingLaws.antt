@@ -1,8 +1,8 @@
--- What holds of holding areas whatever the code does.
+-- Laws of holding areas, which hold whatever the code does.
 use Rattle.std.specs.Prelude.{◌≡◌, ℕ}
 use Rattle.osm_holding.specs.Holding.{HoldingValue, IsHolding, held_at}
 
--- areas with one base that hold the same at each number are one
+-- two areas with the same base that hold the same at each number are equal
 abbrev pub OneArea : Type 0
 OneArea =
     (a b : HoldingValue) → IsHolding a → IsHolding b → a.base ≡ b.base →

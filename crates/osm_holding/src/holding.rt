@@ -23,15 +23,16 @@ pub struct Held {
     pub time: u32,
 }
 
-/// How many numbers after its base an area has room for: `window` of the definitions.
+/// For how many numbers after its base an area has room: `window` of the definitions.
 pub const WINDOW: u32 = 64;
 
-/// Room for the 64 sequences after a number, its base. `new` makes all of it; afterwards only
-/// `numbers` takes memory. No call except `reset` and `numbers` looks at more than one slot.
+/// Room for the 64 sequences after a number, its base. `new` allocates all of it; afterwards only
+/// `numbers` takes memory. Except for `new`, `reset` and `numbers`, no call looks at more than one
+/// slot.
 #[derive(Debug, Drop)]
 pub struct HoldingArea {
     base: u32,
-    // The slot at index i is that of the number base + 1 + i.
+    // The slot at index i is for the number base + 1 + i.
     slots: HeapCircularBuffer<Option<Held>>,
 }
 
@@ -48,7 +49,7 @@ impl Model for HoldingArea {
 }
 
 impl HoldingArea {
-    /// Holds nothing.
+    /// An area that holds nothing.
     pub fn new(alloc: Global, base: u32) -> Result<HoldingArea, WantOfMemory>
         requires { base ≤ max_sequence }
         ensures { IfOk result (λ area. area ≡ record { base = base; entries = [] }) }
@@ -66,7 +67,7 @@ impl HoldingArea {
         self.base
     }
 
-    /// Whether a sequence of that number is held.
+    /// Whether a sequence with that number is held.
     pub fn is_held(&self, number: u32) -> bool
         ensures held { IsTrue result ↔ IsSome (held_at self.now number) }
         ensures free { OnFalse result (held_at self.now number ≡ None) }
@@ -91,7 +92,7 @@ impl HoldingArea {
         let _free = self.replace(number, Some(held));
     }
 
-    /// Takes out what is held of the sequence after the base.
+    /// Takes out the sequence after the base, if it is held.
     pub fn take_next(&mut self) -> Option<Held>
         ensures value { result ≡ held_at self.old (self.old.base + 1) }
         ensures taken { ChangesAt self.old self.new (self.old.base + 1) None }
@@ -101,7 +102,7 @@ impl HoldingArea {
         self.replace(next, None)
     }
 
-    // Writes the slot of a number, and gives what it held.
+    // Writes the slot of a number, and gives what the slot held before.
     fn replace(&mut self, number: u32, now: Option<Held>) -> Option<Held>
         requires window { IsInWindow self.old.base number }
         requires limit { IsSome now → number ≤ max_sequence }
@@ -114,7 +115,7 @@ impl HoldingArea {
         }
     }
 
-    /// Moves the base to the next number, and the window with it.
+    /// Moves the base, and with it the window, to the next number.
     pub fn advance(&mut self)
         requires room { self.old.base < max_sequence }
         requires free { held_at self.old (self.old.base + 1) ≡ None }
@@ -124,7 +125,7 @@ impl HoldingArea {
         self.slots.push_back(None);
     }
 
-    /// Drops all that is held, and begins again at another base. Takes no memory.
+    /// Drops all that is held, and starts again at the given base. Takes no memory.
     pub fn reset(&mut self, base: u32)
         requires { base ≤ max_sequence }
         ensures { self.new ≡ record { base = base; entries = [] } }
@@ -165,7 +166,7 @@ impl HoldingArea {
     }
 }
 
-// Puts the empty slots of the window into an empty ring that has room for them.
+// Puts the empty slots of the window into an empty ring with room for them.
 fn fill(slots: &mut HeapCircularBuffer<Option<Held>>)
     requires { slots.old ≡ buffer [] window }
     ensures { slots.new ≡ buffer (replicate window None) window }

@@ -1,8 +1,9 @@
-//! What holds of holding areas, whatever the code does.
+//! Laws of holding areas, which hold whatever the code does.
 
 ghost use Rattle.osm_holding.specs.HoldingLaws.{OneArea};
 
-/// Tells the prover the laws that the layers above use; does nothing at run time.
+/// Two areas with the same base that hold the same at each number are equal. Does nothing at run
+/// time.
 pub fn laws_of_holding()
     ensures { OneArea }
 {}

@@ -1,4 +1,4 @@
--- A map whose objects stand under their own keys, read as a list of objects.
+-- A map whose objects are under their own keys, read as a list of objects.
 use Rattle.std.proofs.Common.{◌≡◌, ℕ, ◌<◌, List, [], ◌∷◌, ◌++◌, map, refl, ap, sym, ◌∙◌, true, false, Bool, Option, Some, None, cond, Bor}
 use Rattle.std.specs.Prelude.{if◌then◌else◌, MatchOption, Result, Ok, Err, OnOk, OnErr}
 use Rattle.std.specs.Option.{option_copied}
@@ -56,12 +56,12 @@ above-insert_entry (e ∷ es) n count above all = by_order (nat_cmp n e.0) (abov
     by_order Equal rest = (above, all.1)
     by_order Greater rest = (all.0, rest)
 
--- what a look-up of a map gives, behind a reference
+-- what a look-up in a map gives, through a reference
 pub found_is : (r : Option (Bor ChangeValue)) (o : Option ChangeValue) → option_copied r ≡ o → MatchOption r (o ≡ None) (λ c. o ≡ Some c.now)
 found_is None o e = sym e
 found_is (Some c) o e = sym e
 
--- the same of what holds of each object of a map
+-- the same for what holds of each object of a map
 each-insert_entry : (P : ChangeValue → Type 0) (es : List (Key × ChangeValue)) (k : Key) (c : ChangeValue) → P c → AllByRecursion P (objects_of es) → AllByRecursion P (objects_of (insert_entry key_cmp es k c))
 each-insert_entry P [] k c is all = (is, tt)
 each-insert_entry P (e ∷ es) k c is all = by_order (key_cmp k e.0) (each-insert_entry P es k c is all.1)

@@ -1,4 +1,4 @@
--- What needs memory among some changes, after others and before others.
+-- Which changes need memory, after some changes and before others.
 use Rattle.std.proofs.Common.{List, ◌∷◌, ◌++◌, ap, sym, ◌∙◌, Option, arith, inl, inr, append_assoc}
 use Rattle.osm_model.proofs.ContentLemmas.{over-append}
 use Rattle.osm_model.specs.Change.{ChangeValue}

@@ -41,7 +41,7 @@ last_contained (c ∷ cs) k d e = by_rest (λ x f. last_contained cs k x f) (las
 none_is_none : IsSome {T = ChangeValue} None → ⊥
 none_is_none some = let bad : false ≡ true = some in cc
 
--- an object that the mirror has and that no change deletes is still there
+-- an object that the mirror has and no change deletes is still there
 still_there : (before : Option ChangeValue) (o : Option ChangeValue) → IsSome before → ((d : ChangeValue) → o ≡ Some d → standing_of d ≡ Some d) → over_at before o ≡ None → ⊥
 still_there (Some b) None some each e = let bad : None ≡ Some b = sym e in cc
 still_there None None some each e = absurd (none_is_none some)

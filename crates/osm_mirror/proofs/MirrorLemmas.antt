@@ -1,4 +1,4 @@
--- A mirror after one list of changes and another.
+-- A mirror after one list of changes and then another.
 use Rattle.std.proofs.Common.{◌≡◌, ℕ, ◌+◌, ◌*◌, ◌≤◌, List, [], ◌∷◌, ◌++◌, length, refl, ap, sym, ◌∙◌, None, Option, arith, inl, inr, length-append}
 use Rattle.std.proofs.lemmas.List.Sums.{count_by-le-length}
 use Rattle.std.specs.List.Sorted.{IsStrictlySortedBy}
@@ -16,7 +16,7 @@ pub rising-nil : {K : Type 0} (cmp : K → K → Ordering) → IsStrictlySortedB
 unfolding IsStrictlySortedBy
 rising-nil cmp = tt
 
--- the empty mirror is that of no change
+-- the empty mirror is that of no changes
 pub mirror_of-nil : IsMirrorOf [] no_mirror
 mirror_of-nil = record {
   orderly = record {
@@ -60,7 +60,7 @@ room_left a b before after c room f =
       changesets = λ id. (let r = room.changesets id in let p = f.changesets id in let q = edits_by_changeset-most before id in omega arith);
     }
 
--- what needs a place after some changes needs one among them all
+-- what needs an entry after some changes needs one among them all
 pub needs_memory : (a b : MirrorValue) (before after : List ChangeValue) (c : ChangeValue) → Applies a before b → NeedsNewEntry b [] c → NeedsMemory a (before ++ c ∷ after)
 needs_memory a b before after c f entry = record { before = before; change = c; after = after; is = refl; entry = by_entry entry }
   where
@@ -69,7 +69,7 @@ needs_memory a b before after c f entry = record { before = before; change = c; 
     by_entry (inr (inl changeset)) = inr (inl (let p = f.changesets c.meta.changeset in omega arith))
     by_entry (inr (inr object)) = inr (inr (object.0, sym (f.objects c.key) ∙ object.1))
 
--- a mirror of some changes with more applied is the mirror of them all
+-- the mirror of some changes, with more applied, is the mirror of them all
 pub mirror_grown : (a b : MirrorValue) (xs ys : List ChangeValue) → IsMirrorOf xs a → Applies a ys b → IsMirrorOf (xs ++ ys) b
 mirror_grown a b xs ys m f = record {
   orderly = f.orderly;
@@ -78,7 +78,7 @@ mirror_grown a b xs ys m f = record {
   changesets = λ id. (let p = f.changesets id in let q = m.changesets id in let r = edits_by_changeset-append xs ys id in omega arith);
 }
 
--- the bound of a number, one number on
+-- the bounds of a number, for the next number
 pub within_more : (a b : MirrorValue) (ys : List ChangeValue) (n most : ℕ) → IsWithin (100000 * n) a → Applies a ys b → GrowsBy (length ys) a b → length ys ≤ 100000 → most ≡ 100000 * (n + 1) → IsWithin most b
 within_more a b ys n most w f g few is =
     let o = w.objects in

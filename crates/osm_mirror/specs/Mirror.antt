@@ -1,5 +1,5 @@
--- A mirror: the objects that aren't deleted, and the edits by user and by changeset, as sorted
--- lists.
+-- A mirror: the objects that aren't deleted, and the edits counted by user and by changeset, as
+-- sorted lists.
 use Rattle.std.specs.Prelude.{◌≡◌, ℕ, ◌+◌, ◌<◌, ◌≤◌, ◌⊎◌, List, [], ◌∷◌, ◌++◌, length, map}
 use Rattle.std.specs.Prelude.{Option, Some, None, IsSome, if◌then◌else◌, unwrap_or}
 use Rattle.std.specs.BTreeMap.{is_at}
@@ -24,12 +24,12 @@ pub record MirrorValue : Type 0 where
   pub users : List Counted
   pub changesets : List Counted
 
--- the object of a list with that key
+-- the object with that key in a list
 abbrev pub object_at : List ChangeValue → Key → Option ChangeValue
 object_at [] k = None
 object_at (c ∷ cs) k = if same_key k c.key then Some c else object_at cs k
 
--- the count of a list at that number: 0 if it has none
+-- the count of that number in a list: 0 if it has none
 abbrev pub count_at : List Counted → ℕ → ℕ
 count_at counts n = unwrap_or (lookup (is_at (nat_cmp n)) counts) 0
 
@@ -61,22 +61,22 @@ pub record IsObject (c : ChangeValue) : Type 0 where
 abbrev pub HasNumber : Counted → Type 0
 HasNumber e = IsPositive e.0
 
--- what every mirror is, whatever changes were applied: its lists are in order, its objects stand,
--- and its objects, users and changesets are within the limits
+-- what holds of every mirror, whatever changes were applied: its lists are in order, no object is a
+-- deletion, and its objects, users and changesets are within the limits
 pub record IsMirror (m : MirrorValue) : Type 0 where
   pub orderly : IsOrderly m
   pub objects : AllByRecursion IsObject m.objects
   pub users : AllByRecursion HasNumber m.users
   pub changesets : AllByRecursion HasNumber m.changesets
 
--- these are exactly the objects that the changes leave, and exactly their edits
+-- the mirror has exactly the objects that the changes leave, and counts exactly their edits
 pub record IsMirrorOf (changes : List ChangeValue) (m : MirrorValue) : Type 0 where
   pub orderly : IsOrderly m
   pub objects : (k : Key) → object_at m.objects k ≡ content_of changes k
   pub users : (uid : ℕ) → count_at m.users uid ≡ edits_by_user changes uid
   pub changesets : (id : ℕ) → count_at m.changesets id ≡ edits_by_changeset changes id
 
--- the mirror with the changes applied in their order, each counted once
+-- the new mirror is the old one with the changes applied in order, each counted once
 pub record Applies (old : MirrorValue) (changes : List ChangeValue) (new : MirrorValue)
     : Type 0 where
   pub orderly : IsOrderly new
@@ -101,17 +101,17 @@ pub record NeedsMemory (m : MirrorValue) (changes : List ChangeValue) : Type 0 w
   pub is : changes ≡ before ++ change ∷ after
   pub entry : NeedsNewEntry m before change
 
--- the user and the changeset of the change have edits already
+-- the user and the changeset of the change already have edits
 pub record IsByKnown (m : MirrorValue) (c : ChangeValue) : Type 0 where
   pub user : 0 < count_at m.users c.meta.uid
   pub changeset : 0 < count_at m.changesets c.meta.changeset
 
--- such a change that deletes needs no new entry
+-- such a change that is a deletion: it needs no new entry
 pub record IsKnownDeletion (m : MirrorValue) (c : ChangeValue) : Type 0 where
   pub known : IsByKnown m c
   pub deletes : c.what ≡ Deleted
 
--- nor does one that changes an object of the mirror and doesn't delete it
+-- such a change that edits an object of the mirror and doesn't delete it: it needs none either
 pub record IsKnownEdit (m : MirrorValue) (c : ChangeValue) : Type 0 where
   pub known : IsByKnown m c
   pub edits : standing_of c ≡ Some c
@@ -125,7 +125,7 @@ no_mirror = record { objects = []; users = []; changesets = [] }
 abbrev pub HoldsSome : MirrorValue → Type 0
 HoldsSome m = 0 < length m.objects + length m.users + length m.changesets
 
--- every count, and the number of objects, users and changesets, is at most so much
+-- every count, and the number of objects, of users and of changesets, is at most `most`
 pub record IsWithin (most : ℕ) (m : MirrorValue) : Type 0 where
   pub objects : length m.objects ≤ most
   pub users : length m.users ≤ most

@@ -1,2 +1,2 @@
--- Steps of the proofs: only private clauses and the view cite them, no public clause does.
+-- Steps of the proofs: the view and clauses of private functions cite them, no public clause does.
 pub mod Entries

@@ -16,7 +16,7 @@ use std::collections::BTreeMap;
 use std::collections::btree_map::Iter;
 use std::marker::Model;
 
-/// Numbers with their counts, none of them 0.
+/// The ids of users or of changesets, with their counts of edits; no count is 0.
 #[derive(Debug, Drop)]
 pub struct Counts {
     counts: BTreeMap<u32, u64>,
@@ -44,14 +44,14 @@ impl Counts {
         }
     }
 
-    /// The count of that number; 0 if there is none.
+    /// The count of that number; 0 if it has none.
     pub fn get(&self, number: u32) -> u64
         ensures { result ≡ count_at self.now number }
     {
         self.counts.get(&number).copied().unwrap_or(0)
     }
 
-    /// Counts one edit more. After a refusal nothing has changed.
+    /// Counts one more edit of the number. After a refusal nothing has changed.
     pub fn add_one(&mut self, number: u32) -> Result<(), WantOfMemory>
         requires room { count_at self.old number + 1 < 2 ^ 64 }
         requires number { 0 < number }
@@ -64,7 +64,7 @@ impl Counts {
         count_one(&mut self.counts, number)
     }
 
-    /// Adds a number above all others, with its count. After a refusal nothing has changed.
+    /// Adds a number that is above all others, with its count. After a refusal nothing has changed.
     pub fn push(&mut self, number: u32, count: u64) -> Result<(), WantOfMemory>
         requires rising { IsStrictlySortedBy nat_cmp (map (λ e. e.0) self.old ++ number ∷ []) }
         requires number { 0 < number }
@@ -99,7 +99,7 @@ impl Counts {
         let _many = self.counts.len();
     }
 
-    /// All numbers with their counts, the numbers rising.
+    /// A copy of the numbers with their counts, the numbers rising.
     pub fn to_vec(&self, alloc: Global) -> Result<Vec<(u32, u64)>, WantOfMemory>
         ensures copies { IfOk result (λ v. v.items ≡ self.now) }
         ensures refused { OnErr result (0 < length self.now) }
@@ -112,7 +112,7 @@ impl Counts {
     }
 }
 
-// One edit more under the number, with one look-up.
+// Counts one more edit of the number, with one look-up.
 fn count_one(counts: &mut BTreeMap<u32, u64>, number: u32) -> Result<(), WantOfMemory>
     requires { count_at counts.old.entries number + 1 < 2 ^ 64 }
     ensures entries { OnOk result (counts.new.entries ≡ insert_entry nat_cmp

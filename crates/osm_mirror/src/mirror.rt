@@ -1,4 +1,4 @@
-//! A mirror of all objects, with the edits by user and by changeset.
+//! The mirror: all objects, with the edits counted by user and by changeset.
 
 ghost use Rattle.std.specs.Prelude.{◌≡◌, ◌<◌, [], ◌∷◌, length, OnOk, OnErr, IfOk, None, Some};
 ghost use Rattle.std.specs.Prelude.{MatchOption};
@@ -46,8 +46,8 @@ impl Mirror {
         }
     }
 
-    /// Applies the changes in their order, and counts each of them. Refused only for memory, and
-    /// then some of them may have been applied.
+    /// Applies the changes in order, and counts each of them. After a refusal some of them may have
+    /// been applied.
     pub fn apply(&mut self, changes: Vec<Change>) -> Result<(), WantOfMemory>
         requires { HasRoom (length changes.items) self.old }
         ensures applied { OnOk result (Applies self.old changes.items self.new) }
@@ -83,7 +83,7 @@ impl Mirror {
         Ok(())
     }
 
-    /// Tells the prover what every mirror is; does nothing at run time.
+    /// Tells the prover what holds of every mirror; does nothing at run time.
     pub fn lists_rise(&self)
         ensures { IsMirror self.now }
     {
@@ -92,7 +92,7 @@ impl Mirror {
         self.changesets.counts_rise();
     }
 
-    /// A mirror of those parts.
+    /// The mirror with these parts.
     pub fn from_parts(objects: Objects, users: Counts, changesets: Counts) -> Mirror
         ensures { result ≡ record { objects = objects; users = users; changesets = changesets } }
     {
@@ -110,21 +110,21 @@ impl Mirror {
         &self.objects
     }
 
-    /// The edits of all users.
+    /// The counts of edits of all users.
     pub fn user_counts(&self) -> &Counts
         ensures { result.now ≡ self.now.users }
     {
         &self.users
     }
 
-    /// The edits in all changesets.
+    /// The counts of edits in all changesets.
     pub fn changeset_counts(&self) -> &Counts
         ensures { result.now ≡ self.now.changesets }
     {
         &self.changesets
     }
 
-    /// The object of that key.
+    /// The object with that key; none if there is none.
     pub fn get(&self, key: Key) -> Option<&Change>
         ensures { MatchOption result
             (object_at self.now.objects key ≡ None)
@@ -133,14 +133,14 @@ impl Mirror {
         self.objects.get(key)
     }
 
-    /// The edits of a user.
+    /// How many edits the user has.
     pub fn user_count(&self, uid: u32) -> u64
         ensures { result ≡ count_at self.now.users uid }
     {
         self.users.get(uid)
     }
 
-    /// The edits in a changeset.
+    /// How many edits the changeset has.
     pub fn changeset_count(&self, id: u32) -> u64
         ensures { result ≡ count_at self.now.changesets id }
     {

@@ -49,7 +49,7 @@ impl Objects {
         }
     }
 
-    /// The object of that key.
+    /// The object with that key; none if there is none.
     pub fn get(&self, key: Key) -> Option<&Change>
         ensures { MatchOption result
             (object_at self.now key ≡ None)
@@ -58,7 +58,7 @@ impl Objects {
         self.objects.get(&key)
     }
 
-    /// Applies one change: a deletion takes its object out, any other becomes its key's object.
+    /// Applies one change: a deletion removes its object, any other becomes the object of its key.
     /// After a refusal nothing has changed.
     pub fn put(&mut self, change: Change) -> Result<(), WantOfMemory>
         ensures put { OnOk result ((k : Key) → object_at self.new k
@@ -102,7 +102,8 @@ impl Objects {
         self.objects.values()
     }
 
-    /// Tells the prover that the keys rise and all objects stand; does nothing at run time.
+    /// Tells the prover that the keys rise and that no object is a deletion; does nothing at run
+    /// time.
     pub fn keys_rise(&self)
         ensures keys { AreRising self.now }
         ensures objects { AllByRecursion IsObject self.now }

@@ -1,4 +1,4 @@
--- A line of a number and its count.
+-- The line of a number and its count.
 use Rattle.std.proofs.Common.{◌≡◌, ℕ, ◌<◌, ◌≤◌, ◌^◌, List, ◌∷◌, ◌++◌, refl, ◌∙◌, Bool, true, ◌&&◌, Option, Some, None, subst, arith}
 use Rattle.std.specs.Prelude.{nat_le, nat_lt, if◌then◌else◌, decimal}
 use Rattle.std.specs.Ordering.{nat_cmp}

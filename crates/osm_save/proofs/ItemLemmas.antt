@@ -14,13 +14,13 @@ use Rattle.osm_save.specs.Steps.Reading.{is_above, items_at}
 use Rattle.osm_save.specs.declared.stop.Stop.{Stop}
 use Rattle.osm_save.specs.declared.stop.Stop.TheVariants.{WantOfMemory, Wrong}
 
--- values before those that are read
-abbrev pub with_front : {X : Type 0} → List X → Option (List X × List ℕ) → Option (List X × List ℕ)
-with_front front reading = and_then reading (λ r. Some (front ++ r.0, r.1))
+-- earlier values, and then those that are read
+abbrev pub with_earlier : {X : Type 0} → List X → Option (List X × List ℕ) → Option (List X × List ℕ)
+with_earlier earlier reading = and_then reading (λ r. Some (earlier ++ r.0, r.1))
 
--- the values so far and those of what is left are those of all
+-- the values read so far, and then those of the rest, are those of the whole list
 pub record Items {X K : Type 0} (key : X → K) (item : Option K → List ℕ → Option X) (many : ℕ) (bytes : List ℕ) (i : ℕ) (xs : List X) (last : Option K) (rest : List ℕ) : Type 0 where
-  pub same : items_at key item many None bytes ≡ with_front xs (items_at key item (many - i) last rest)
+  pub same : items_at key item many None bytes ≡ with_earlier xs (items_at key item (many - i) last rest)
 
 module _ {X K : Type 0} (key : X → K) (item : Option K → List ℕ → Option X) where
   pub items_begun : (many : ℕ) (bytes : List ℕ) → Items key item many bytes 0 [] None bytes
@@ -28,7 +28,7 @@ module _ {X K : Type 0} (key : X → K) (item : Option K → List ℕ → Option
       let left : many - 0 ≡ many = omega arith in
       record { same = rw left (alone (items_at key item many None bytes)) }
     where
-      alone : (r : Option (List X × List ℕ)) → r ≡ with_front [] r
+      alone : (r : Option (List X × List ℕ)) → r ≡ with_earlier [] r
       alone None = refl
       alone (Some r) = refl
 
@@ -37,7 +37,7 @@ module _ {X K : Type 0} (key : X → K) (item : Option K → List ℕ → Option
       let left : many - i ≡ suc (many - (i + 1)) = omega arith in
       record { same = h.same ∙ rw (left, cut, is) (joined (items_at key item (many - (i + 1)) (Some (key x)) after)) }
     where
-      joined : (r : Option (List X × List ℕ)) → with_front xs (and_then r (λ p. Some (x ∷ p.0, p.1))) ≡ with_front (xs ++ x ∷ []) r
+      joined : (r : Option (List X × List ℕ)) → with_earlier xs (and_then r (λ p. Some (x ∷ p.0, p.1))) ≡ with_earlier (xs ++ x ∷ []) r
       joined None = refl
       joined (Some r) = ap (λ (l : List X). Some (l, r.1)) (sym (append_assoc xs (x ∷ []) r.0))
 
@@ -56,14 +56,14 @@ module _ {X K : Type 0} (key : X → K) (item : Option K → List ℕ → Option
       let left : many - i ≡ 0 = omega arith in
       h.same ∙ rw (left, append-nil xs) refl
 
--- what a line's refusal says of the whole list
+-- what the refusal of a line says of the whole list
 pub stops : {A B : Type 0} (s : Stop) (r : Option A) (t : Option B) → Stops s r → (r ≡ None → t ≡ None) → Stops s t
 stops WantOfMemory r t h f = tt
 stops (Wrong left) r t h f = f h
 
 -- ---- rising
 
--- every key above the last one is above all
+-- every key above the last one is above all keys
 abbrev pub IsBelow : {K : Type 0} → (K → K → Ordering) → List K → Option K → Type 0
 IsBelow {K} cmp ks last = (k : K) → is_above cmp last k ≡ true → IsStrictlySortedBy cmp (ks ++ k ∷ [])
 
@@ -76,7 +76,7 @@ module _ {K : Type 0} (cmp : K → K → Ordering) (total : IsTotalOrder cmp) wh
   below_all [] q k lt all = (lt, tt)
   below_all (p ∷ ks) q k lt all = (all.0, below_all ks q k lt all.1)
 
-  -- what is below the last of a list that rises is below one above it
+  -- a key below all keys of a list is also below a key above the list's last
   all_more : (p : K) (ks : List K) (q k : K) → cmp q k ≡ Less → AllByRecursion (λ y. cmp p y ≡ Less) (ks ++ q ∷ []) → AllByRecursion (λ y. cmp p y ≡ Less) ((ks ++ q ∷ []) ++ k ∷ [])
   all_more p [] q k lt all = (all.0, (total.trans p q k all.0 lt, tt))
   all_more p (r ∷ ks) q k lt all = (all.0, all_more p ks q k lt all.1)

@@ -1,4 +1,4 @@
--- Lines of a save text: what is read is written so, and what is written so is read.
+-- Lines of a save text: what is read is written that way, and what is written that way is read.
 use Rattle.std.proofs.Common.{◌≡◌, ℕ, ◌<◌, ◌≤◌, ◌/◌, ◌^◌, List, ◌∷◌, ◌++◌, length, take, drop, refl, ap, sym, ◌∙◌, true, false, Some, None, Option, subst, arith}
 use Rattle.std.specs.Prelude.{◌≢◌, ◌==◌, nat_le, if◌then◌else◌, codes, decimal}
 use Rattle.std.specs.Str.{bytes_eq}
@@ -52,10 +52,10 @@ word_takes word bytes rest e =
 
 word_again : (word rest : List ℕ) → after_word word (word ++ rest) ≡ Some rest
 word_again word rest =
-    let front : take (length word) (word ++ rest) ≡ word = take-append_seam word rest in
+    let start : take (length word) (word ++ rest) ≡ word = take-append_seam word rest in
     let back : drop (length word) (word ++ rest) ≡ rest = drop-append_seam word rest in
     let same : bytes_eq word word ≡ true = (bytes_eq-Decides word word).1 refl in
-    rw (front, back, same) refl
+    rw (start, back, same) refl
 
 pub record TakesNumbered (word : List ℕ) (most : ℕ) (bytes : List ℕ) (n : ℕ) (rest : List ℕ) : Type 0 where
   pub text : bytes ≡ (word ++ decimal n) ++ 10 ∷ rest

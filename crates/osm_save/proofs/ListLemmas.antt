@@ -1,4 +1,4 @@
--- Lists of a save text: what is read is written so, and what is written so is read.
+-- Lists of a save text: what is read is written that way, and what is written that way is read.
 use Rattle.std.proofs.Common.{◌≡◌, ℕ, zero, suc, ◌<◌, ◌≤◌, List, [], ◌∷◌, ◌++◌, length, map, refl, ap, sym, ◌∙◌, true, Some, None, Option, subst, arith}
 use Rattle.std.specs.Cmp.{IsTotalOrder}
 use Rattle.std.specs.List.{AllByRecursion}
@@ -55,7 +55,7 @@ module _ {K : Type 0} (cmp : K → K → Ordering) (total : IsTotalOrder cmp) wh
   climbs_from [] rising = tt
   climbs_from (k ∷ ks) rising = (refl, climbs_after k ks rising.0 rising.1)
 
--- what a line's reader is: it reads the texts of good values above the one before, and no others
+-- the reader of a line: it reads the texts of good values above the one before, and no others
 pub record IsItem {X K : Type 0} (cmp : K → K → Ordering) (key : X → K) (text : X → List ℕ) (Good : X → Type 0) (item : Option K → List ℕ → Option X) : Type 0 where
   pub takes : (last : Option K) (line : List ℕ) (x : X) → item last line ≡ Some x → (line ≡ text x) × Good x × (is_above cmp last (key x) ≡ true)
   pub again : (last : Option K) (x : X) → Good x → is_above cmp last (key x) ≡ true → item last (text x) ≡ Some x

@@ -1,4 +1,4 @@
--- The lists of a mirror, as they are read and written.
+-- The lists of a mirror, read and written.
 use Rattle.std.proofs.Common.{◌≡◌, ℕ, ◌<◌, ◌≤◌, ◌^◌, List, [], ◌∷◌, ◌++◌, length, map, refl, ap, ◌∙◌, Bool, true, false, cond, Some, None, arith}
 use Rattle.std.specs.Prelude.{codes, decimal, unwrap_or}
 use Rattle.std.specs.BTreeMap.{is_at}
@@ -53,7 +53,7 @@ objects_again most cs rest few small good rising = list_again key_cmp keys_total
 
 -- ---- counts
 
--- a number within the limits, and a count from 1 to so many
+-- a number within the limits, and a count from 1 to `most`
 pub record IsCountWithin (most : ℕ) (e : Counted) : Type 0 where
   pub number : IsPositive e.0
   pub some : 1 ≤ e.1
@@ -116,7 +116,7 @@ all_at : (n q : ℕ) (ks : List ℕ) → nat_cmp n q ≡ Equal → AllByRecursio
 all_at n q [] same all = tt
 all_at n q (k ∷ ks) same all = (nat_cmp_total.congr n q k same ∙ all.0, all_at n q ks same all.1)
 
--- a count that a number has in the rest of the list it has in the list
+-- no number has a greater count in the rest of a list than in the list
 tail_most : (most : ℕ) (e : Counted) (es : List Counted) → IsStrictlySortedBy nat_cmp (map (λ (d : Counted). d.0) (e ∷ es)) → ((n : ℕ) → mirror.count_at (e ∷ es) n ≤ most) → (n : ℕ) → mirror.count_at es n ≤ most
 unfolding IsStrictlySortedBy
 tail_most most e es rising each n = by_test (is_at (nat_cmp n) e.0) refl (each n)
@@ -127,7 +127,7 @@ tail_most most e es rising each n = by_test (is_at (nat_cmp n) e.0) refl (each n
         rw none (omega arith)
     by_test false at most_here = most_here
 
--- each count of a list whose counts are at most so great
+-- each entry of a list whose counts are at most `most`
 pub each_within : (most : ℕ) (es : List Counted) → IsStrictlySortedBy nat_cmp (map (λ (d : Counted). d.0) es) → AllByRecursion HasNumber es → AllByRecursion IsAboveZero es → ((n : ℕ) → mirror.count_at es n ≤ most) → AllByRecursion (IsCountWithin most) es
 unfolding IsStrictlySortedBy
 each_within most [] rising numbers above each = tt

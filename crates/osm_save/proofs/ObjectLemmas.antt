@@ -1,4 +1,4 @@
--- A line of an object.
+-- The line of an object.
 use Rattle.std.proofs.Common.{◌≡◌, ℕ, List, refl, ap, sym, Bool, true, ◌&&◌, Option, Some, None, subst}
 use Rattle.std.specs.Prelude.{is_some, if◌then◌else◌}
 use Rattle.std.specs.Str.{bytes_eq}

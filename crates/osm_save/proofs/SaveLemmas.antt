@@ -140,7 +140,7 @@ save_again v is =
 pub save_found : (bytes : List ℕ) (v : Saved) → SpellsSave bytes v → save_at bytes ≡ Some v
 save_found bytes v s = ap save_at s.text ∙ save_again v s.savable
 
--- bytes save one thing at most
+-- bytes save at most one thing
 pub one_save : (bytes : List ℕ) (a b : Saved) → SpellsSave bytes a → SpellsSave bytes b → a ≡ b
 one_save bytes a b p q = same_Some a b (sym (save_found bytes a p) ∙ save_found bytes b q)
 

@@ -1,4 +1,4 @@
--- The definition at saves that a person can read off.
+-- The definition at saves that a person can check by eye.
 use Rattle.std.proofs.Common.{◌≡◌, ℕ, [], ◌∷◌, ◌++◌, Some, None, refl}
 use Rattle.std.specs.Prelude.{codes}
 use Rattle.std.specs.Fmt.{digits}

@@ -1,4 +1,4 @@
--- Lines in a row.
+-- Consecutive lines.
 use Rattle.std.proofs.Common.{◌≡◌, ℕ, List, [], ◌∷◌, ◌++◌, map, refl, ap, sym, ◌∙◌}
 use Rattle.std.proofs.lemmas.List.{append_assoc, map-append}
 use Rattle.std.specs.Prelude.{codes, decimal}
@@ -11,7 +11,7 @@ pub ended-append : (a b : List (List ℕ)) → ended (a ++ b) ≡ ended a ++ end
 ended-append [] b = refl
 ended-append (l ∷ a) b = rw (ended-append a b) (sym (append_assoc l (10 ∷ ended a) (ended b)))
 
--- one line more
+-- one more line
 pub ended_more : {X : Type 0} (text : X → List ℕ) (old next : List ℕ) (xs : List X) (x : X) → next ≡ (old ++ ended (map text xs)) ++ ended (text x ∷ []) → next ≡ old ++ ended (map text (xs ++ x ∷ []))
 ended_more text old next xs x e = e ∙ (append_assoc old (ended (map text xs)) (ended (text x ∷ [])) ∙ ap (λ (l : List ℕ). old ++ l) (sym (ended-append (map text xs) (text x ∷ [])) ∙ ap ended (sym (map-append text xs (x ∷ [])))))
 
@@ -39,7 +39,7 @@ save_text_is v =
     ap (λ (l : List ℕ). codes "osmrepl-save 1" ++ 10 ∷ ((codes "sequence " ++ decimal v.number) ++ 10 ∷ ((codes "time " ++ maybe_time_text v.time) ++ 10 ∷ l)))
     (lists_joined (list_lines (codes "objects ") line_text v.mirror.objects) (list_lines (codes "users ") count_text v.mirror.users) (list_lines (codes "changesets ") count_text v.mirror.changesets) (codes "end" ∷ []))
 
--- what is written in turn is the save text
+-- what is written, part after part, is the save text
 pub save_written : (v : Saved) (s o u c e : List ℕ) → s ≡ ended (codes "osmrepl-save 1" ∷ (codes "sequence " ++ decimal v.number) ∷ (codes "time " ++ maybe_time_text v.time) ∷ []) → o ≡ s ++ ended (list_lines (codes "objects ") line_text v.mirror.objects) → u ≡ o ++ ended (list_lines (codes "users ") count_text v.mirror.users) → c ≡ u ++ ended (list_lines (codes "changesets ") count_text v.mirror.changesets) → e ≡ c ++ codes "end\n" → e ≡ save_text v
 unfolding save_text save_lines
 save_written v s o u c e p q r t w =

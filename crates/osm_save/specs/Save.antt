@@ -11,7 +11,7 @@ use Rattle.osm_save.specs.declared.save.Saved.{Saved}
 abbrev pub count_text : Counted → List ℕ
 count_text e = decimal e.0 ++ 32 ∷ decimal e.1
 
--- a word and how many values there are, and then a line for each value
+-- a word with the number of values, and then a line for each value
 abbrev pub list_lines : {X : Type 0} → List ℕ → (X → List ℕ) → List X → List (List ℕ)
 list_lines word text xs = (word ++ decimal (length xs)) ∷ map text xs
 
@@ -41,19 +41,19 @@ ended (line ∷ lines) = line ++ 10 ∷ ended lines
 unfoldable pub save_text : Saved → List ℕ
 save_text v = ended (save_lines v)
 
--- number 0 has no time, and every other has one
+-- number 0 has no time, and every other number has one
 abbrev pub IsTimeOf : ℕ → Option ℕ → Type 0
 IsTimeOf number None = number ≡ 0
 IsTimeOf number (Some time) = (0 < number) × IsPositive time
 
--- what a follower can be at a number: no more of anything than the edits of so many sequences
+-- what a follower can have at a number: no more of anything than that many sequences can have edits
 pub record IsSavable (v : Saved) : Type 0 where
   pub number : v.number ≤ max_sequence
   pub time : IsTimeOf v.number v.time
   pub mirror : IsMirror v.mirror
   pub within : IsWithin (100000 * v.number) v.mirror
 
--- the bytes are the save text of what a follower can be
+-- the bytes are the save text of something that a follower can have
 pub record SpellsSave (bytes : List ℕ) (v : Saved) : Type 0 where
   pub savable : IsSavable v
   pub text : bytes ≡ save_text v

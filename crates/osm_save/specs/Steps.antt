@@ -1,3 +1,3 @@
--- Steps of the reader: only private clauses cite them, no public one does.
+-- Steps of the reader: only clauses of private functions cite them.
 pub mod Answers
 pub mod Reading

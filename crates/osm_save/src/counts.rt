@@ -14,7 +14,7 @@ use osm_model::memory::WantOfMemory;
 use osm_reading::pieces::cut;
 use std::alloc::Global;
 
-/// The list of all counts, after its word.
+/// Appends the list of all counts, beginning with its word.
 pub(crate) fn write_counts(
     word: &[u8],
     counts: &Counts,
@@ -41,7 +41,8 @@ fn write_count(number: u32, count: u64, out: &mut Vec<u8>) -> Result<(), WantOfM
     Ok(())
 }
 
-/// The counts of the list after that word, each of them at most `most`, and the bytes after it.
+/// Reads the list that begins with that word: its counts, each at most `most`, and the bytes after
+/// the list.
 #[tactic(auto, unfolding(crate::specs::Steps::Reading::counts_at))]
 pub(crate) fn read_counts<'a>(
     alloc: Global,
@@ -55,7 +56,7 @@ pub(crate) fn read_counts<'a>(
     read_count_lines(alloc, many, most, rest)
 }
 
-// So many lines. Memory is taken only for lines that are there.
+// Reads `many` lines. Memory is taken only for lines that are there.
 fn read_count_lines(
     alloc: Global,
     many: u64,
@@ -83,7 +84,7 @@ fn read_count_lines(
     Ok((counts, rest))
 }
 
-// A number above the last one, and its count.
+// The line's number, which has to be above the last one, and its count.
 #[tactic(auto, unfolding(crate::specs::Steps::Reading::count_at))]
 fn read_count(last: Option<u32>, most: u64, line: &[u8]) -> Option<(u32, u64)>
     ensures { result ≡ count_at most last line.now }

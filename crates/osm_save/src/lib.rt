@@ -1,4 +1,4 @@
-//! The save text: a follower's number, time and mirror as a text with one spelling.
+//! The save text: a follower's number, time and mirror, as a text with only one spelling.
 #![tactic(auto)]
 
 mod counts;

@@ -11,7 +11,7 @@ use crate::stop::Stop;
 use osm_model::memory::WantOfMemory;
 use osm_reading::pieces::cut;
 
-/// The next line, without its end, and the bytes after it.
+/// The next line without its LF, and the bytes after it.
 pub(crate) fn next_line(rest: &[u8]) -> Result<(&[u8], &[u8]), Stop>
     ensures { Gives (λ r. (r.0.now, r.1.now)) result (cut_at 10 rest.now) }
 {
@@ -21,7 +21,7 @@ pub(crate) fn next_line(rest: &[u8]) -> Result<(&[u8], &[u8]), Stop>
     }
 }
 
-/// The bytes after the next line, which has this text.
+/// The bytes after the next line, which must have this text.
 #[tactic(auto, unfolding(crate::specs::Steps::Reading::fixed_at))]
 pub(crate) fn fixed_line<'a>(text: &[u8], rest: &'a [u8]) -> Result<&'a [u8], Stop>
     ensures { Gives (λ after. after.now) result (fixed_at text.now rest.now) }
@@ -33,7 +33,8 @@ pub(crate) fn fixed_line<'a>(text: &[u8], rest: &'a [u8]) -> Result<&'a [u8], St
     Ok(after)
 }
 
-/// The number after the word of the next line, and the bytes after the line.
+/// The number after the word that the next line begins with, at most `most`, and the bytes after
+/// that line.
 #[tactic(auto, unfolding(crate::specs::Steps::Reading::numbered_at))]
 pub(crate) fn numbered_line<'a>(
     word: &[u8],
@@ -56,7 +57,7 @@ pub(crate) fn numbered_line<'a>(
     Ok((number, after))
 }
 
-/// A line of a word and a number.
+/// Appends a line with a word and a number.
 pub(crate) fn write_numbered(
     word: &[u8],
     number: u64,

@@ -1,4 +1,4 @@
-//! Numbers in plain decimal: no sign, and no zeros in front.
+//! Numbers in plain decimal: no sign, and no leading zeros.
 
 ghost use Rattle.std.specs.Prelude.{◌≡◌, ◌<◌, ◌^◌, ◌++◌, decimal, IfSome, OnOk};
 ghost use Rattle.osm_opl.specs.Steps.Reading.{digits_at};
@@ -21,7 +21,7 @@ pub(crate) fn read_number(text: &[u8]) -> Option<u64>
     Some(number)
 }
 
-// The number of 1 to 15 digits, zeros in front accepted.
+// The number with these 1 to 15 digits. Accepts leading zeros.
 fn read_digits(digits: &[u8]) -> Option<u64>
     ensures { result ≡ digits_at 10 15 digits.now }
 {

@@ -1,4 +1,4 @@
-//! The objects of a save text: a line each, as `write_line` of OPL writes it.
+//! The objects of a save text, one a line, as `write_line` of OPL writes it.
 
 ghost use Rattle.std.specs.Prelude.{◌≡◌, ◌++◌, ◌∷◌, ◌&&◌, [], None, codes};
 ghost use Rattle.std.specs.Prelude.{is_some, IfOk, OnOk};
@@ -22,7 +22,7 @@ use osm_model::memory::WantOfMemory;
 use osm_opl::lines::{LineError, read_line, write_line};
 use std::alloc::Global;
 
-/// The list of all objects.
+/// Appends the list of all objects.
 pub(crate) fn write_objects(objects: &Objects, out: &mut Vec<u8>) -> Result<(), WantOfMemory>
     ensures { OnOk result (out.new.items ≡ out.old.items
         ++ ended (list_lines (codes "objects ") line_text objects.now)) }
@@ -42,7 +42,7 @@ fn write_object(change: &Change, out: &mut Vec<u8>) -> Result<(), WantOfMemory>
     Ok(())
 }
 
-/// The objects of the list, and the bytes after it.
+/// Reads the list of objects, and gives the bytes after it. There are at most `most`.
 #[tactic(auto, unfolding(crate::specs::Steps::Reading::objects_at))]
 pub(crate) fn read_objects(alloc: Global, most: u64, rest: &[u8]) -> Result<(Objects, &[u8]), Stop>
     ensures { Gives (λ r. (r.0, r.1.now)) result (objects_at most rest.now) }
@@ -51,7 +51,7 @@ pub(crate) fn read_objects(alloc: Global, most: u64, rest: &[u8]) -> Result<(Obj
     read_object_lines(alloc, many, rest)
 }
 
-// So many lines. Memory is taken only for lines that are there.
+// Reads `many` lines. Memory is taken only for lines that are there.
 fn read_object_lines(alloc: Global, many: u64, rest: &[u8]) -> Result<(Objects, &[u8]), Stop>
     ensures { Gives (λ r. (r.0, r.1.now)) result
         (items_at (λ c. c.key) object_at many None rest.now) }
@@ -77,8 +77,8 @@ fn read_object_lines(alloc: Global, many: u64, rest: &[u8]) -> Result<(Objects, 
     Ok((objects, rest))
 }
 
-// The object that is written as this line, if its key comes after the last one. What was in
-// `written` is lost: it is there so that each line can use the memory of the one before it.
+// The object that is written as this line, if its key comes after the last one. `written` is a
+// buffer that all lines share; its contents are overwritten.
 #[tactic(auto, unfolding(crate::specs::Steps::Reading::object_at))]
 fn read_object(
     alloc: Global,
@@ -109,7 +109,7 @@ fn change_of(alloc: Global, line: &[u8]) -> Result<Option<Change>, WantOfMemory>
     }
 }
 
-// Whether the change is an object whose key comes after the last one, and is written as this line.
+// Whether the change is written as this line, isn't a deletion, and has a key after the last one.
 fn is_next(
     change: &Change,
     last: Option<Key>,
@@ -121,11 +121,11 @@ fn is_next(
 {
     written.clear();
     write_line(change, written)?;
-    Ok(written.as_slice() == line && stands(change) && is_key_above(last, change.key()))
+    Ok(written.as_slice() == line && leaves_object(change) && is_key_above(last, change.key()))
 }
 
-// Whether the change leaves an object.
-fn stands(change: &Change) -> bool
+// Whether the change leaves an object: it isn't a deletion.
+fn leaves_object(change: &Change) -> bool
     ensures { result ≡ is_some (standing_of change.now) }
 {
     !change.is_deletion()

@@ -1,4 +1,4 @@
-//! Whether what is read rises.
+//! The order of what is read: keys and numbers must rise.
 
 ghost use Rattle.std.specs.Prelude.{◌≡◌, ℕ};
 ghost use Rattle.std.specs.Ordering.{nat_cmp};

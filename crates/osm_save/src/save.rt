@@ -1,4 +1,4 @@
-//! What a follower saves, and the one text of it (our choice).
+//! What a follower saves, and its one text (our choice).
 //!
 //! ```text
 //! osmrepl-save 1
@@ -38,19 +38,19 @@ use thiserror::Error;
 /// What a follower saves.
 #[derive(Debug, Drop)]
 pub struct Saved {
-    /// The sequence up to which all is applied; 0 at the start.
+    /// The number of the last sequence that was applied; 0 at the start.
     pub number: u32,
-    /// The time of that sequence, in seconds since 1970-01-01T00:00:00Z; none of number 0.
+    /// The time of that sequence, in seconds since 1970-01-01T00:00:00Z; none at number 0.
     pub time: Option<u32>,
-    /// The objects, and the edits by user and by changeset.
+    /// The objects, and the edits counted by user and by changeset.
     pub mirror: Mirror,
 }
 
-/// Why nothing is read from a text.
+/// Why a text isn't read.
 #[derive(Clone, Copy, Debug, PartialEq, Eq, Error)]
 pub enum SaveError {
-    /// It is no save text. The line, counted from 1, is the first that is wrong after those before
-    /// it: one past the last line if the text ends too early.
+    /// It is no save text. The line, counted from 1, is the first that can't follow those before
+    /// it, or one past the last line if the text ends too early.
     #[error("BadSave")]
     BadSave { line: u64 },
     /// Memory was refused.
@@ -58,7 +58,7 @@ pub enum SaveError {
     WantOfMemory,
 }
 
-/// The save text of a number, its time and a mirror.
+/// Writes the save text of a number, its time and a mirror.
 pub fn save_write(
     alloc: Global,
     number: u32,
@@ -88,8 +88,8 @@ pub fn save_write(
     Ok(text)
 }
 
-// So many bytes the text has at least: no line of an object has fewer than 48, and none of a count
-// fewer than 4.
+// A lower bound on the length of the text, in bytes: an object's line has at least 48, a count's at
+// least 4.
 fn least_length(mirror: &Mirror) -> usize {
     let objects = mirror.objects_by_key().len().saturating_mul(48);
     let users = mirror.user_counts().len().saturating_mul(4);
@@ -97,7 +97,7 @@ fn least_length(mirror: &Mirror) -> usize {
     objects.saturating_add(users).saturating_add(changesets)
 }
 
-// The lines before the lists.
+// Appends the lines before the lists.
 fn write_start(number: u32, time: Option<u32>, out: &mut Vec<u8>) -> Result<(), WantOfMemory>
     ensures { OnOk result (out.new.items ≡ out.old.items ++ ended (codes "osmrepl-save 1"
         ∷ (codes "sequence " ++ decimal number) ∷ (codes "time " ++ maybe_time_text time) ∷ [])) }
@@ -126,7 +126,7 @@ fn write_time_line(time: Option<u32>, out: &mut Vec<u8>) -> Result<(), WantOfMem
     }
 }
 
-/// What a save text saves.
+/// Reads what a save text saves.
 pub fn save_read(alloc: Global, bytes: &[u8]) -> Result<Saved, SaveError>
     ensures spelled { IfOk result (λ saved. SpellsSave bytes.now saved) }
     ensures refused { IfErr result (SaveRefused bytes.now) }
@@ -140,7 +140,7 @@ pub fn save_read(alloc: Global, bytes: &[u8]) -> Result<Saved, SaveError>
     }
 }
 
-// The number of the line at whose start so many bytes are left.
+// The number, counted from 1, of the line at whose start `left` bytes are left.
 fn line_number(bytes: &[u8], left: usize) -> u64 {
     let mut number: u64 = 1;
     for byte in bytes.iter().take(bytes.len().saturating_sub(left)) {
@@ -161,7 +161,7 @@ fn read_save(alloc: Global, bytes: &[u8]) -> Result<Saved, Stop>
     read_mirror(alloc, number, time, rest)
 }
 
-// The time of a number.
+// Reads the line with the time of a number.
 #[tactic(auto, unfolding(crate::specs::Steps::Reading::time_line_at))]
 fn time_line(number: u64, rest: &[u8]) -> Result<(Option<u32>, &[u8]), Stop>
     ensures { Gives (λ r. (r.0, r.1.now)) result (time_line_at number rest.now) }
@@ -187,7 +187,7 @@ fn read_time(text: &[u8]) -> Option<u32>
     time_read(text)
 }
 
-// The lists, and `end`.
+// Reads the lists and the line `end`.
 #[tactic(auto, unfolding(crate::specs::Steps::Reading::mirror_at))]
 fn read_mirror(alloc: Global, number: u64, time: Option<u32>, rest: &[u8]) -> Result<Saved, Stop>
     requires { number ≤ max_sequence }
@@ -208,8 +208,8 @@ fn read_mirror(alloc: Global, number: u64, time: Option<u32>, rest: &[u8]) -> Re
     })
 }
 
-/// The laws of save texts: bytes are the text of at most one thing saved, and what is within the
-/// limits is spelled by its text.
+/// Laws of save texts: bytes save at most one thing, and what is within the limits is spelled by
+/// its text. Does nothing at run time.
 pub fn laws_of_saves()
     ensures one_save { (bytes : List ℕ) (a b : Saved)
         → SpellsSave bytes a → SpellsSave bytes b → a ≡ b }

@@ -1,4 +1,4 @@
-//! Why the reader stops.
+//! Why the reader of save texts stops.
 
 use osm_model::memory::WantOfMemory;
 use std::alloc::{AllocError, AllocFailed};
@@ -6,7 +6,7 @@ use std::alloc::{AllocError, AllocFailed};
 /// Why reading stops.
 #[derive(Clone, Copy, Debug, PartialEq, Eq)]
 pub(crate) enum Stop {
-    /// A line is wrong: so many bytes are left from its first on.
+    /// A line is wrong. The number is how many bytes are left, from that line on.
     Wrong(usize),
     /// Memory was refused.
     WantOfMemory,

@@ -1,4 +1,4 @@
--- Lines with numbers, each ended by LF.
+-- Lines with numbers. Each ends with LF.
 use Rattle.std.specs.Prelude.{ℕ, List, [], ◌∷◌, ◌++◌, codes, decimal}
 use Rattle.osm_mirror.specs.Mirror.{Counted}
 

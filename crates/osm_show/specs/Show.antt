@@ -17,16 +17,16 @@ time_line (Some time) = codes "time " ++ time_text time ++ 10 ∷ []
 abbrev pub object_line : ChangeValue → List ℕ
 object_line change = line_text change ++ 10 ∷ []
 
--- how many objects there are, and their lines
+-- the number of objects, and their lines
 unfoldable pub objects_text : List ChangeValue → List ℕ
 objects_text objects =
     numbered_line (codes "objects ") (length objects) ++ flat_map object_line objects
 
--- how many counts there are, and their lines
+-- the number of counts, and their lines
 unfoldable pub counts_text : List ℕ → List Counted → List ℕ
 counts_text name counts = numbered_line name (length counts) ++ flat_map count_line counts
 
--- how many numbers are held, and their lines
+-- the number of held numbers, and their lines
 unfoldable pub held_text : List ℕ → List ℕ
 held_text numbers = numbered_line (codes "held ") (length numbers) ++ flat_map number_line numbers
 

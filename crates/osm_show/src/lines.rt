@@ -1,4 +1,4 @@
-//! Lines with numbers, each ended by LF. A refusal may leave a part of what was to be appended.
+//! Lines with numbers, each ended by LF. A call that is refused may have appended a part.
 
 ghost use Rattle.std.specs.Prelude.{◌≡◌, ◌++◌, OnOk, decimal};
 ghost use Rattle.std.specs.List.{flat_map};
@@ -7,7 +7,7 @@ ghost use Rattle.osm_show.specs.Lines.{applied_line, count_line, numbered_line};
 use itoa::Buffer;
 use osm_model::memory::WantOfMemory;
 
-/// Appends `NAME N`; the name ends with the blank.
+/// Appends `NAME N`; the blank is the last byte of `name`.
 pub fn write_numbered(name: &[u8], number: u64, text: &mut Vec<u8>) -> Result<(), WantOfMemory>
     ensures { OnOk result (text.new.items ≡ text.old.items ++ numbered_line name.now number) }
 {
@@ -16,7 +16,7 @@ pub fn write_numbered(name: &[u8], number: u64, text: &mut Vec<u8>) -> Result<()
     write_bytes(b"\n", text)
 }
 
-/// Appends `NAME N` for each of the numbers.
+/// Appends a line `NAME N` for each number.
 pub fn write_numbered_lines(
     name: &[u8],
     numbers: &[u32],

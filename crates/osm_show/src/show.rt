@@ -13,7 +13,7 @@ use osm_model::time::time_write;
 use osm_opl::lines::write_line;
 
 /// Appends the show text: number, time, objects, users and changesets with their counts of edits,
-/// and the numbers that are held. A refusal may leave a part of it.
+/// and the numbers that are held. If memory is refused, a part may have been appended.
 #[tactic(auto, unfolding(crate::specs::Show::view_text))]
 pub fn write_view(view: &View, text: &mut Vec<u8>) -> Result<(), WantOfMemory>
     ensures { OnOk result (text.new.items ≡ text.old.items ++ view_text view.now) }

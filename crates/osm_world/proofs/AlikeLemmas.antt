@@ -1,4 +1,4 @@
--- A state decides what it is the state of: its mirror, what is held, and its view.
+-- A state determines its mirror, what is held, and its view.
 use Rattle.std.proofs.Common.{◌≡◌, ℕ, ◌<◌, ◌≤◌, List, [], ◌∷◌, map, refl, ap, sym, ◌∙◌, Bool, true, false, arith, Some, None, Option, inl, inr, cond, unwrap_or}
 use Rattle.std.specs.Prelude.{if◌then◌else◌, ◌&&◌, IsSome, Contains, ◌↔◌, T}
 use Rattle.std.specs.BTreeMap.{is_at}
@@ -27,7 +27,7 @@ use Rattle.osm_world.specs.Alike.{AreAlike}
 use Rattle.osm_follow.proofs.ReachLemmas.{reaches_same}
 use Rattle.osm_world.proofs.ReachLemmas.{one_reach}
 
--- ---- entries whose keys rise are those that are found
+-- ---- entries with rising keys are determined by what is found at each key
 
 sorted_entries : {K X : Type 0} (R : K → K → Ordering) (es : List (K × X)) → IsStrictlySortedBy R (keys_of es) → T (is_sorted R es)
 unfolding IsStrictlySortedBy
@@ -104,7 +104,7 @@ one_objects a b p q same =
 made : List ChangeValue → List Counted → List Counted → MirrorValue
 made objects users changesets = record { objects = objects; users = users; changesets = changesets }
 
--- changes have one mirror
+-- a list of changes has only one mirror
 pub one_mirror : (cs : List ChangeValue) (a b : MirrorValue) → IsMirrorOf cs a → IsMirrorOf cs b → a ≡ b
 unfolding made
 one_mirror cs a b p q =

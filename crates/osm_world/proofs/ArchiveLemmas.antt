@@ -1,4 +1,4 @@
--- The texts of a sequence can be read, and an archive of such texts with one more.
+-- The texts of a sequence can be read; an archive of such texts with one more.
 use Rattle.std.proofs.Common.{◌≡◌, ℕ, ◌+◌, ◌-◌, ◌<◌, ◌≤◌, List, [], ◌∷◌, ◌++◌, length, get_or, ap, sym, ◌∙◌, arith, inl, inr, length-append}
 use Rattle.std.proofs.lemmas.Bool.{cases_lt}
 use Rattle.std.proofs.lemmas.List.{get_or_append_left, get_or-append-add, get_or_default}
@@ -35,7 +35,7 @@ written_readable laws p above is small = record {
   in_o5c = readable_in laws O5c p above is small.o5c;
 }
 
--- what was read from an archive can be delivered
+-- the texts at a number of the archive can be delivered
 pub readable_at : (n : ℕ) (archive : List PublishedTexts) (i : ℕ) (p : PublishedTexts) → IsArchive n archive → i < length archive → p ≡ get_or archive i p → AreReadable p
 readable_at n archive i p a below is =
     let index : i + 1 - 1 ≡ i = omega arith in
@@ -61,7 +61,7 @@ archive_grown n archive p a readable =
               rw here readable)
         ]
 
--- a delivery of what was read from an archive, as a step
+-- a delivery of such texts, as a step
 pub delivered_step : (a b : WorldValue) (k i : ℕ) (form : Form) (r : Reply) (p : PublishedTexts) → i < length a.archive → p ≡ get_or a.archive i p → i ≡ k - 1 → 0 < k → k ≤ a.publisher.number → Replies (spells_in form) (fault_in form) a.follower p.state (bytes_in form p) r b.follower → b ≡ record a { follower = b.follower } → DeliverStep a k form r b
 delivered_step a b k i form r p below is index above there replies rest =
     let here : texts_at a.archive k ≡ p = ap (λ (j : ℕ). get_or a.archive j no_texts) (sym index) ∙ (get_or_default a.archive i no_texts p below ∙ sym is) in

@@ -14,8 +14,8 @@ use Rattle.osm_world.specs.declared.event.Reply.TheVariants.{Edited, BatchFull, 
 use Rattle.osm_world.proofs.ReachLemmas.{reaches_more}
 use Rattle.osm_world.proofs.ReportLemmas.{legal_before}
 
--- with so many sequences published: what was saved, started at and accepted was published, and
--- what was accepted is among the 64 after the number
+-- if count sequences were published: the number saved last, the start and the accepted numbers were
+-- published, and the accepted ones are among the 64 after the number
 record IsBounded (count saved start : ℕ) (acc : ℕ → Bool) : Type 0 where
   saved_in : saved ≤ count
   start_in : start ≤ count
@@ -31,7 +31,7 @@ number_in count saved start n acc b reach = elim (cases_lt start n) [
   | inr none ↦ (let first = b.start_in in omega arith)
 ]
 
--- one sequence more was published
+-- one more sequence was published
 more_published : (published : List PublishedValue) (p : PublishedValue) (saved start : ℕ) (acc : ℕ → Bool) → IsBounded (length published) saved start acc → IsBounded (length (published ++ p ∷ [])) saved start acc
 more_published published p saved start acc b =
     let many : length (published ++ p ∷ []) ≡ length published + length (p ∷ []) = length-append published (p ∷ []) in

@@ -1,4 +1,4 @@
--- Nothing is held back: what a legal history has accepted, and how far its deliveries reach.
+-- No number is lost: what a legal history has accepted, and how far its deliveries reach.
 use Rattle.std.proofs.Common.{◌≡◌, ℕ, zero, suc, ◌+◌, ◌<◌, ◌≤◌, List, [], ◌∷◌, ◌++◌, refl, sym, ◌∙◌, Bool, true, false, arith, inl, inr, append-nil}
 use Rattle.std.specs.Prelude.{◌==◌, ◌||◌, ◌⊎◌, ◌↔◌}
 use Rattle.std.proofs.lemmas.Bool.{cases_lt, eq-eqb, eqb-true, or_cases, or_left, or_right}
@@ -41,7 +41,7 @@ subsequence-snoc (w ∷ xs) (z ∷ ys) x y (inr later) = elim (subsequence-snoc 
 abbrev Reached : hist.History → ℕ → ℕ → Type 0
 Reached h start n = (count : ℕ) → IsSubsequence (numbers start count) (delivered_of h) → start + count ≤ n
 
--- one delivery more that the follower has, or is beyond the next number
+-- one more delivery, of a number that the follower has or that is beyond the next
 step_up : (start n k count : ℕ) (ds : List ℕ) → start ≤ n → ((c : ℕ) → IsSubsequence (numbers start c) ds → start + c ≤ n) → (k ≤ n + 1 → k ≤ n) → IsSubsequence (numbers start count) (ds ++ k ∷ []) → start + count ≤ n
 step_up start n k zero ds from before near is = omega arith
 step_up start n k (suc count) ds from before near is = elim (subsequence-snoc (numbers start count) ds (start + suc count) k is) [
@@ -138,7 +138,7 @@ catches_up (p ∷ h) n legal whole number count is = by_pair p.0 p.1 (legal_last
 abbrev Known : hist.History → ℕ → Type 0
 Known h j = (hist.accepted_of h j ≡ true) ↔ ((hist.start_of h < j) × (is_confirmed h j ≡ true))
 
--- a delivery that says that its number was accepted before, if it is above the start
+-- a delivery whose reply says that its number was accepted before, if it is above the start
 told_pair : (h : hist.History) (k j : ℕ) → (hist.start_of h < k → hist.accepted_of h k ≡ true) → Known h j → (hist.accepted_of h j ≡ true) ↔ ((hist.start_of h < j) × (((k == j) || is_confirmed h j) ≡ true))
 told_pair h k j was before = (
   λ has. (let both = before.0 has in (both.0, or_right (k == j) (is_confirmed h j) both.1)),

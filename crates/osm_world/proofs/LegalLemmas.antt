@@ -67,7 +67,7 @@ wanted_of h a k s above there t =
 some_of : (cs before after : List ChangeValue) (c : ChangeValue) → cs ≡ before ++ c ∷ after → 0 < length cs
 some_of cs before after c e = let many : length (before ++ c ∷ after) ≡ length before + length (c ∷ after) = length-append before (c ∷ after) in omega (arith, ap length e)
 
--- an application that was stopped had a change to apply
+-- an application that stopped part-way had a change to apply
 work_of : (h : hist.History) (a b : WorldValue) (k : ℕ) → IsInStep h a → a.follower.is_broken ≡ false → a.follower.number < k → (sequence_at (hist.published_of h) k).number ≡ k → Breaks a.follower (sequence_at (hist.published_of h) k) b.follower → HasChanges h k
 work_of h a b k s whole past number_is t =
     let ps : List PublishedValue = hist.published_of h in

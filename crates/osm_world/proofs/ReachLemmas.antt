@@ -4,7 +4,7 @@ use Rattle.std.specs.Prelude.{◌==◌, ◌||◌}
 use Rattle.std.proofs.lemmas.Bool.{cases_eq, cases_lt, eq-eqb, ne_eqb, or_left, or_right, or_from}
 use Rattle.osm_follow.specs.Reach.{Reaches}
 
--- a number is reached without a gap only once
+-- only one number is the greatest that is reached without a gap
 pub one_reach : (is_in : ℕ → Bool) (n a b : ℕ) → Reaches is_in n a → Reaches is_in n b → a ≡ b
 one_reach is_in n a b p q = elim (cases_lt a b) [
   | inl below ↦ absurd (past a b p q below)
@@ -21,7 +21,7 @@ one_reach is_in n a b p q = elim (cases_lt a b) [
         let none : is_in (x + 1) ≡ false = r.next in
         let bad : true ≡ false = sym yes ∙ none in cc
 
--- more numbers reach no less far
+-- with more numbers in, the number reached isn't lower
 pub reaches_more : (f g : ℕ → Bool) (n a b : ℕ) → Reaches f n a → Reaches g n b → ((j : ℕ) → f j ≡ true → g j ≡ true) → a ≤ b
 reaches_more f g n a b r s more = elim (cases_lt b a) [
   | inr le ↦ le
@@ -32,7 +32,7 @@ reaches_more f g n a b r s more = elim (cases_lt b a) [
       let bad : true ≡ false = sym has ∙ out in cc)
 ]
 
--- with the next number, all are reached that are reached from it
+-- if the next number comes in, all numbers are reached that are reached from it
 pub reaches_with_next : (f : ℕ → Bool) (start n k high : ℕ) → Reaches f start n → k ≡ n + 1 → Reaches f k high → Reaches (λ j. (k == j) || f j) start high
 reaches_with_next f start n k high here next on =
     let start_from = here.from in
@@ -49,7 +49,7 @@ reaches_with_next f start n k high here next on =
       next = or_from (k == (high + 1)) (f (high + 1)) (ne_eqb k (high + 1) (λ e. omega arith)) on.next;
     }
 
--- with a number beyond the next, no more are reached
+-- if a number beyond the next comes in, nothing more is reached
 pub reaches_with_later : (f : ℕ → Bool) (start n k : ℕ) → Reaches f start n → n + 1 < k → Reaches (λ j. (k == j) || f j) start n
 reaches_with_later f start n k here later = record {
   from = here.from;

@@ -1,4 +1,4 @@
--- A run of no events, and a run with one step more.
+-- A run of no events, and a run with one more step.
 use Rattle.std.proofs.Common.{List, [], ◌∷◌, ◌++◌, refl, arith, length-append}
 use Rattle.osm_model.specs.Batch.{IsBatch}
 use Rattle.osm_model.specs.Change.{ChangeValue}
@@ -19,7 +19,7 @@ use Rattle.osm_follow.proofs.DeliveryLemmas.{OneBatch, NoFaultBeside}
 use Rattle.osm_world.proofs.LegalLemmas.{legal_none, legal_more, step_allowed}
 use Rattle.osm_world.proofs.StepLemmas.{AreLawful, OneSave, history_of-snoc, step_keeps, new_in_step}
 
--- the laws, as the forms and the state texts give them
+-- the laws of the forms and of state texts, collected
 pub lawful : ((cs : List ChangeValue) → IsBatch cs → SpellsOpl (opl_text cs) cs) → OneBatch SpellsOpl → ((cs : List ChangeValue) → IsBatch cs → SpellsO5c (o5c_text cs) cs) → OneBatch SpellsO5c → NoFaultBeside → AreLawful
 lawful opl one_opl o5c one_o5c apart = record { spelled = spelled; one = one; apart = apart }
   where

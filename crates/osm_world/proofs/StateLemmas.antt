@@ -1,4 +1,4 @@
--- What the state of a follower says of what it holds.
+-- What a follower in a state holds.
 use Rattle.std.proofs.Common.{◌≡◌, ℕ, zero, suc, ◌+◌, ◌<◌, ◌≤◌, List, [], ◌∷◌, ◌++◌, refl, ap, sym, ◌∙◌, Bool, true, false, arith, Some, None, Option}
 use Rattle.std.specs.Prelude.{if◌then◌else◌, is_some, IsSome, filter, min, not, ◌-◌, ◌↔◌}
 use Rattle.std.proofs.lemmas.List.Elements.{filter-append}
@@ -18,13 +18,13 @@ held_was_accepted ps start acc f s j past has = sym (held_accepted ps start acc 
 changes_is : (ps : List PublishedValue) (start : ℕ) (acc : ℕ → Bool) (f : FollowerValue) → IsState ps start acc f → (j : ℕ) → f.number < j → acc j ≡ true → changes_held f j ≡ changes_at ps j
 changes_is ps start acc f s j past is = ap (λ (o : Option PublishedValue). option_map_or (λ p. p.changes) o []) (s.held j past ∙ ap (λ b. if b then Some (sequence_at ps j) else None) is)
 
--- what is held up to a number that is reached are the published changes
+-- the changes held up to a number that is reached are the published ones
 pub joined_is : (ps : List PublishedValue) (start : ℕ) (acc : ℕ → Bool) (f : FollowerValue) (k high count : ℕ) → IsState ps start acc f → f.number < k → high ≡ k + count → Reaches (is_held f) k high → between (changes_held f) k count ≡ between (changes_at ps) k count
 joined_is ps start acc f k high count s past is r =
     let reach : Reaches acc k high = reaches_accepted ps start acc f k high s past r in
     between_same (changes_held f) (changes_at ps) k count (λ j above below. changes_is ps start acc f s j (omega arith) (reach.all j above (omega arith)))
 
--- what is held is what the follows-clause says of it
+-- what is held is as `Follows.held` says
 held_as : (ps : List PublishedValue) (f : FollowerValue) (j : ℕ) → Follows ps f → IsSome (held_at f j) → (f.number + 1 < j) × (j ≤ f.number + 64)
 held_as ps f j s has = by_case (held_at f j) refl has
   where

@@ -37,7 +37,7 @@ use Rattle.osm_follow.proofs.ReachLemmas.{between-append}
 use Rattle.osm_mirror.proofs.MirrorLemmas.{mirror_of-nil}
 use Rattle.osm_follow.proofs.PublishedLemmas.{changes_within, sequence_within, sequences-snoc, texts_at-written, time_within, last_time-snoc}
 
--- one pair more at the end
+-- one more pair at the end
 zip-snoc : (es : List Event) (rs : List Reply) (e : Event) (r : Reply) → length rs ≡ length es → zip (es ++ e ∷ []) (rs ++ r ∷ []) ≡ zip es rs ++ (e, r) ∷ []
 zip-snoc [] [] e r h = refl
 zip-snoc [] (q ∷ rs) e r h = absurd (omega arith)
@@ -69,11 +69,11 @@ quiet_keeps h e r a b q s t = rw t (record {
   reported = λ ok. rw (q.start, q.reported, append-nil) (s.reported (sym q.broken ∙ ok));
 })
 
--- the same, where all that changes is the follower, which stays as it was
+-- the same if the only part that may change is the follower, and it stays as it was
 unmoved : (a b : WorldValue) → b ≡ record a { follower = b.follower } → b.follower ≡ a.follower → b ≡ a
 unmoved a b t u = t ∙ ap (λ (f : FollowerValue). (let w : WorldValue = record a { follower = f } in w)) u
 
--- what is held of a number, read from more sequences
+-- what is held at a number, once more sequences are published
 held_more : (b : Bool) (p q : PublishedValue) → (b ≡ true → q ≡ p) → (if b then Some p else None) ≡ (if b then Some q else None)
 held_more true p q e = ap (λ (x : PublishedValue). let o : Option PublishedValue = Some x in o) (sym (e refl))
 held_more false p q e = refl
@@ -103,7 +103,7 @@ edited_keeps h c a b s batch t =
       reported = λ ok. rw append-nil (s.reported ok);
     })
 
--- what was saved, of more sequences
+-- what was saved, once more sequences are published
 save_grown : (ps more : List PublishedValue) (number : Option ℕ) (bytes : Option (List ℕ)) → IsLastSave ps number bytes → IsLastSave (ps ++ more) number bytes
 save_grown ps more None None s = tt
 save_grown ps more None (Some bytes) s = absurd s
@@ -138,7 +138,7 @@ closed_keeps h t n a b s can positive is =
       reported = λ ok. rw append-nil (s.reported ok);
     })
 
--- the numbers from the next one up to high were reported besides
+-- the numbers from the next up to high were reported too
 reported_more : (reported : List ℕ) (start n k low high count : ℕ) → k ≡ n + 1 → low ≡ k → high ≡ k + count → IsReported reported start n → IsReported (reported ++ numbers (low - 1) (high + 1 - low)) start high
 reported_more reported start n k low high count next low_is high_is p =
     let is = p.number_is in
@@ -264,7 +264,7 @@ saved_keeps h n a b s t =
       reported = λ ok. rw append-nil (s.reported ok);
     })
 
--- a follower that begins at a number
+-- a follower that starts at a number
 pub record StartsAt (ps : List PublishedValue) (n : ℕ) (f : FollowerValue) : Type 0 where
   pub number : f.number ≡ n
   pub whole : f.is_broken ≡ false
@@ -302,7 +302,7 @@ starts_saved ps n v number within mirror time = record {
   };
 }
 
--- a restart that was made begins at the number saved last
+-- a restart that was made starts at the number saved last
 pub restarted_as : OneSave → (ps : List PublishedValue) (number : Option ℕ) (bytes : Option (List ℕ)) (f g : FollowerValue) → IsLastSave ps number bytes → Restarts f bytes (Ok tt) g → StartsAt ps (unwrap_or number 0) g
 restarted_as one ps None None f g s t = rw t (starts_new ps)
 restarted_as one ps None (Some bytes) f g s t = absurd s
@@ -326,7 +326,7 @@ restarted_keeps one h n a b s t =
       reported = λ ok. record { count = 0; number_is = omega arith; reported_is = refl };
     })
 
--- one that was refused for memory had something to restart from, and leaves the follower broken
+-- a restart that was refused for memory had something to restart from, and leaves the follower broken
 pub refused_from : (ps : List PublishedValue) (number : Option ℕ) (bytes : Option (List ℕ)) (f g : FollowerValue) → IsLastSave ps number bytes → Restarts f bytes (Err restarts.WantOfMemory) g → is_some number ≡ true
 refused_from ps None None f g s t = absurd t
 refused_from ps None (Some bytes) f g s t = absurd s

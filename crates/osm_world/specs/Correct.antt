@@ -18,7 +18,7 @@ use Rattle.osm_world.specs.World.{WorldValue}
 use Rattle.osm_world.specs.declared.event.Event.{Event}
 use Rattle.osm_world.specs.declared.event.Reply.{Reply}
 
--- the numbers reported are those from the start up to the follower's number, once each, in order
+-- the numbers reported are those after the start up to the follower's number, each once, in order
 pub record IsReported (reported : List ℕ) (start number : ℕ) : Type 0 where
   pub count : ℕ
   pub number_is : number ≡ start + count

@@ -1,4 +1,4 @@
--- What the deliveries of a history were, and what the replies to them say.
+-- What a history's deliveries were, and what the replies to them say.
 use Rattle.std.specs.Prelude.{◌≡◌, ℕ, List, [], ◌∷◌, ◌++◌, Bool, false, ◌==◌, ◌||◌}
 use Rattle.std.specs.Prelude.{◌⊎◌, if◌then◌else◌}
 use Rattle.osm_world.specs.History.{History, restarts}
@@ -15,7 +15,7 @@ delivered_by (Deliver k form) WantOfMemory = []
 delivered_by (Deliver k form) r = k ∷ []
 delivered_by e r = []
 
--- those numbers since the last restart, in their order
+-- the numbers that the pairs since the last restart deliver, in order
 abbrev pub delivered_of : History → List ℕ
 delivered_of [] = []
 delivered_of (p ∷ h) = if restarts p.0 p.1 then [] else (delivered_of h ++ delivered_by p.0 p.1)
@@ -26,8 +26,8 @@ IsSubsequence [] ys = Unit {0}
 IsSubsequence (x ∷ xs) [] = ⊥
 IsSubsequence (x ∷ xs) (y ∷ ys) = ((x ≡ y) × IsSubsequence xs ys) ⊎ IsSubsequence (x ∷ xs) ys
 
--- whether the pair is a delivery of the number, and its reply says that the follower has it: from
--- now on, or from before
+-- whether the pair is a delivery of the number whose reply says that the follower has it, from now
+-- on or from before
 abbrev pub confirms : Event → Reply → ℕ → Bool
 confirms (Deliver k form) Held j = k == j
 confirms (Deliver k form) (Applied low high) j = k == j

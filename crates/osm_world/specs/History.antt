@@ -1,5 +1,5 @@
--- What a history of events and replies says. The model reads only these, and no state. A history
--- has its newest pair first.
+-- What a history of events and replies says. The definitions read only these, and no state. A
+-- history has its newest pair first.
 use Rattle.std.specs.Prelude.{ℕ, ◌+◌, ◌-◌, length, List, [], ◌∷◌, ◌++◌, Bool, true, false, ◌||◌}
 use Rattle.std.specs.Prelude.{◌==◌, if◌then◌else◌, reverse, Option, Some, None, is_some, unwrap_or}
 use Rattle.std.specs.List.{zip}
@@ -74,8 +74,8 @@ abbrev pub pending_of : History → List ChangeValue
 pending_of [] = []
 pending_of (p ∷ h) = if closes p.0 p.1 then [] else (pending_of h ++ edit_of p.0 p.1)
 
--- the sequences that were published: each the edits taken since the one before, and the time of its
--- close
+-- the sequences that were published: each has the edits taken since the one before, and the time of
+-- its close
 abbrev pub published_of : History → List PublishedValue
 published_of [] = []
 published_of (p ∷ h) =
@@ -122,8 +122,8 @@ abbrev pub reported_of : History → List ℕ
 reported_of [] = []
 reported_of (p ∷ h) = if restarts p.0 p.1 then [] else (reported_of h ++ applied_by p.1)
 
--- whether the follower is broken: since the last restart that was made, an application was stopped
--- part of the way or a restart was refused
+-- whether the follower is broken: since the last restart that was made, an application stopped
+-- part-way or a restart was refused
 abbrev pub is_broken : History → Bool
 is_broken [] = false
 is_broken (p ∷ h) = broken_by p.0 p.1 (is_broken h)

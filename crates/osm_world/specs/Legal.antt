@@ -1,5 +1,5 @@
 -- Which reply may follow a history. The rows of an event exclude one another, so each reply is
--- given exactly if its conditions hold, except that memory may be refused in place of another.
+-- given exactly if its conditions hold, except that memory may be refused instead.
 use Rattle.std.specs.Prelude.{◌≡◌, ℕ, ◌+◌, ◌<◌, ◌≤◌, ◌∷◌, ◌++◌, length, true, false, ◌⊎◌, Bool}
 use Rattle.osm_holding.specs.Holding.{window}
 use Rattle.osm_model.specs.Limits.{max_changes, max_sequence}
@@ -31,14 +31,14 @@ pub record IsOpen (h : History) (k n : ℕ) : Type 0 where
   pub whole : is_broken h ≡ false
   pub number : IsNumber h n
 
--- and k is above n and within the window, and wasn't accepted
+-- IsOpen, and k is above n and within the window, and wasn't accepted
 pub record IsWanted (h : History) (k n : ℕ) : Type 0 where
   pub is_open : IsOpen h k n
   pub above : n < k
   pub within : k ≤ n + window
   pub fresh : accepted_of h k ≡ false
 
--- the sequences from k on up to the last that can then be applied aren't all empty
+-- the sequences from k up to the last that can then be applied aren't all empty
 pub record HasChanges (h : History) (k : ℕ) : Type 0 where
   pub count : ℕ
   pub reach : Reaches (accepted_of h) k (k + count)

@@ -75,7 +75,7 @@ CloseStep a t TooLarge b = CanClose a.publisher t × IsTooLarge a.publisher.pend
 CloseStep a t WantOfMemory b = CanClose a.publisher t × (b ≡ a)
 CloseStep a t r b = ⊥
 
--- what is replied to a delivery of that state text and those bytes
+-- the reply to a delivery of that state text and those bytes
 abbrev pub Replies :
     Spelling → FaultPlaces → FollowerValue → List ℕ → List ℕ → Reply → FollowerValue → Type 0
 Replies spells fault_place f state bytes Broken g =
@@ -118,7 +118,7 @@ ShowStep a (Shown v) b =
 ShowStep a WantOfMemory b = (a.follower.is_broken ≡ false) × (b ≡ a)
 ShowStep a r b = ⊥
 
--- a save: its text replaces the one that was saved before
+-- a save: its text replaces the one saved before
 abbrev pub SaveStep : WorldValue → Reply → WorldValue → Type 0
 SaveStep a Broken b = (a.follower.is_broken ≡ true) × (b ≡ a)
 SaveStep a (Saved n) b =

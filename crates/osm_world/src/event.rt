@@ -17,17 +17,17 @@ pub enum Form {
 pub enum Event {
     /// The publisher takes an edit.
     Edit(Change),
-    /// The publisher closes the pending edits into the next sequence, at that time in seconds since
-    /// 1970-01-01T00:00:00Z.
+    /// The publisher publishes the pending edits as the next sequence, at that time in seconds
+    /// since 1970-01-01T00:00:00Z.
     Close(u32),
     /// The archived files of a sequence are delivered to the follower: its state text, and its
     /// changes in that form.
     Deliver { number: u32, form: Form },
-    /// Asks for a view of the follower.
+    /// The follower is asked for a view.
     Show,
-    /// The follower is saved; the text replaces the one that was saved before.
+    /// The follower is saved; the text replaces the one saved before.
     Save,
-    /// The follower restarts from the text that was saved last, or from nothing if none was.
+    /// The follower restarts from the text saved last, or from nothing if none was.
     Restart,
 }
 
@@ -38,20 +38,20 @@ pub enum Reply {
     Edited,
     /// The batch has 100,000 changes; the edit is dropped.
     BatchFull,
-    /// Memory was refused, and nothing has changed, except that an edit is dropped, and that a
-    /// follower that was to restart is broken from now on.
+    /// Memory was refused. Nothing has changed, except that an edit is dropped, and that a follower
+    /// that was to restart is now broken.
     WantOfMemory,
-    /// The pending edits were published as the sequence of that number.
+    /// The pending edits were published as the sequence with that number.
     Closed(u32),
-    /// The last sequence, 999,999,999, is published.
+    /// The last sequence, 999,999,999, is already published.
     SequenceFull,
-    /// The time is below the last one.
+    /// The time is before that of the last sequence, or is 0.
     TimeBack,
     /// The o5c file or the OPL file of the pending edits would pass 64 MiB.
     TooLarge,
-    /// No sequence of that number was published.
+    /// No sequence with that number was published.
     NotPublished,
-    /// The follower is broken: an application or a restart ran out of memory part of the way.
+    /// The follower is broken: memory was refused during an application or a restart.
     Broken,
     /// The number was applied before.
     Old,
@@ -63,12 +63,12 @@ pub enum Reply {
     Held,
     /// The sequences from `low` to `high` were applied.
     Applied { low: u32, high: u32 },
-    /// An application ran out of memory part of the way: the follower is broken from now on.
+    /// Memory was refused part-way through an application: the follower is now broken.
     Broke,
     /// A copy of all that the follower holds.
     Shown(View),
     /// The follower was saved at that number.
     Saved(u32),
-    /// The follower is at that number again, and holds nothing.
+    /// The follower has restarted at that number, and holds nothing.
     Restarted(u32),
 }

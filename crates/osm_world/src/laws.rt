@@ -1,4 +1,4 @@
-//! What holds of runs and histories, whatever the code does.
+//! Laws of runs and of histories, which hold whatever the code does.
 
 ghost use Rattle.std.specs.Prelude.{◌≡◌, ℕ, ◌+◌, ◌<◌, List, [], ◌∷◌, ◌++◌, length, slice_index};
 ghost use Rattle.std.specs.Prelude.{◌≤◌, ◌↔◌, Contains, IsSome, true, false};
@@ -25,8 +25,8 @@ use osm_opl::opl::Opl;
 use osm_save::save::laws_of_saves;
 use osm_state::laws::laws_of_state;
 
-/// A run of no events leaves the new world, and one step more makes a longer run. So a caller may
-/// step a world itself and keep no more of the replies than it needs. Does nothing at run time.
+/// A run of no events gives the new world, and a run with one more step is a run. So a caller may
+/// step a world itself, and keep only the replies that it needs. Does nothing at run time.
 pub fn laws_of_runs()
     ensures first { IsRun [] [] new_world }
     ensures next { (events : List Event) (replies : List Reply) (w : WorldValue) (e : Event)
@@ -39,8 +39,8 @@ pub fn laws_of_runs()
     laws_of_saves();
 }
 
-/// After a history one reply may be given to an event, besides those that say that memory was
-/// refused: to a delivery, the first of the rows of `due_delivery` that applies. Does nothing at
+/// After a history at most one reply to an event is allowed, apart from those that say that memory
+/// was refused. For a delivery it is the first row of `due_delivery` that applies. Does nothing at
 /// run time.
 pub fn laws_of_replies()
     ensures one_reply { (h : History) (e : Event) (q r : Reply) → Allowed h e q → Allowed h e r
@@ -50,8 +50,8 @@ pub fn laws_of_replies()
         → is_want_of_memory r ≡ false → r ≡ due_delivery h k n high }
 {}
 
-/// What a legal history has reported as applied since the last restart are the numbers after its
-/// start up to its number, each once and in order, unless its follower is broken. Does nothing at
+/// Unless its follower is broken, a legal history has reported as applied since the last restart
+/// exactly the numbers after its start up to its number, each once and in order. Does nothing at
 /// run time.
 pub fn laws_of_histories()
     ensures count { (h : History) (n : ℕ) → IsLegal h → is_broken h ≡ false → IsNumber h n
@@ -61,11 +61,11 @@ pub fn laws_of_histories()
 {}
 
 /// A legal history has accepted exactly the numbers above its start that were delivered since the
-/// last restart and answered `Held`, `Applied`, `Old` or `Again`. If since then the numbers after
-/// its start were delivered in order up to some number, with anything in between, and none of them
-/// was unpublished or refused for memory, the history has reached that number, unless its follower
-/// is broken. The order doesn't matter for the first 64 numbers after its start: if each of them up
-/// to some number was delivered so, the history has reached that number. Does nothing at run time.
+/// last restart and answered `Held`, `Applied`, `Old` or `Again`. Suppose that since then the
+/// numbers after its start up to some number were delivered in order, with anything in between, and
+/// none of them was unpublished or refused for memory. Then the history has reached that number,
+/// unless its follower is broken. For the first 64 numbers after its start the order of these
+/// deliveries doesn't matter. Does nothing at run time.
 pub fn laws_of_progress()
     ensures accepted { (h : History) (j : ℕ) → IsLegal h
         → (accepted_of h j ≡ true) ↔ ((start_of h < j) × (is_confirmed h j ≡ true)) }
@@ -78,9 +78,9 @@ pub fn laws_of_progress()
         → start_of h + count ≤ n }
 {}
 
-/// A follower that isn't broken is at the number of its history, and holds exactly the numbers
-/// above it that were accepted, which all come after the next one and are among the 64 after its
-/// own. So what it names as missing is what wasn't accepted. Does nothing at run time.
+/// A follower that isn't broken is at the number of its history, and holds exactly the accepted
+/// numbers above it. These come after the next number, and are among the 64 after its own. So what
+/// it names as missing is what wasn't accepted. Does nothing at run time.
 pub fn laws_of_holding()
     ensures number { (h : History) (w : WorldValue) → IsInStep h w → is_broken h ≡ false
         → IsNumber h w.follower.number }
@@ -95,8 +95,8 @@ pub fn laws_of_holding()
         ≡ missing_numbers (accepted_of h) w.follower.number top }
 {}
 
-/// What a legal history may show is within what was published: the number, and the numbers held,
-/// which all come after the next one and are among the 64 after its own. Does nothing at run time.
+/// What a legal history may show was published: the number, and the numbers held, which come after
+/// the next number and are among the 64 after its own. Does nothing at run time.
 pub fn laws_of_views()
     ensures number { (h : History) (v : ViewValue) → IsLegal h
         → Allowed h Event.Show (Reply.Shown v) → v.number ≤ length (published_of h) }
@@ -105,9 +105,9 @@ pub fn laws_of_views()
         → (v.number + 1 < j) × (j ≤ v.number + window) × (j ≤ length (published_of h)) }
 {}
 
-/// The order of deliveries doesn't matter, nor do repeats: if the same was published and accepted
-/// from the same start, the followers are the same, and so are the views that they show. Does
-/// nothing at run time.
+/// Neither the order of deliveries nor repeats matter: if two histories published and accepted the
+/// same from the same start, their followers are the same, and so are the views that they show.
+/// Does nothing at run time.
 pub fn laws_of_order()
     ensures followers { (g h : History) (v w : WorldValue) → AcceptAlike g h → IsInStep g v
         → IsInStep h w → AreAlike v.follower w.follower }

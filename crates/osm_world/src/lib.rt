@@ -1,4 +1,4 @@
-//! A publisher, its archive and a follower of it: the world of events, and what may be said of it.
+//! A world of events: a publisher, its archive and a follower, and the laws of its histories.
 #![tactic(auto)]
 
 pub mod event;

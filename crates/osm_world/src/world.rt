@@ -1,4 +1,4 @@
-//! A publisher, its archive and a follower, which take events one by one.
+//! A world: a publisher, its archive and a follower, which take events one by one.
 
 ghost use Rattle.std.specs.Prelude.{◌≡◌, ◌<◌, ◌≤◌, ◌⊎◌, ◌↔◌, IsNone, IfOk, IfSome};
 ghost use Rattle.osm_model.specs.Batch.{IsBatch};
@@ -27,8 +27,8 @@ use osm_state::laws::laws_of_state;
 use std::alloc::Global;
 use std::marker::Model;
 
-/// A publisher, the files of what it published, a follower of them, and the follower's text as it
-/// was saved last.
+/// A publisher, the files of what it published, a follower of them, and the text that the follower
+/// saved last.
 #[derive(Debug, Drop)]
 pub struct World {
     alloc: Global,
@@ -64,8 +64,8 @@ pub struct Run {
 }
 
 impl World {
-    /// A new publisher, an empty archive, a new follower and nothing saved. Makes all the room of
-    /// the follower's holding area.
+    /// A new publisher, an empty archive, a new follower and nothing saved. Takes all the memory
+    /// that the follower's holding area ever needs.
     pub fn new(alloc: Global) -> Result<World, WantOfMemory>
         ensures new { IfOk result (λ w. w ≡ new_world) }
     {
@@ -78,7 +78,7 @@ impl World {
         })
     }
 
-    /// A new world that has taken all the events in order. After a refusal no event was taken.
+    /// Takes all the events in order, in a new world. After an error none of them was taken.
     pub fn run(alloc: Global, events: Vec<Event>) -> Result<Run, WantOfMemory>
         ensures run { IfOk result (λ r. IsRun events.items r.replies.items r.world) }
     {
@@ -120,7 +120,7 @@ impl World {
         &self.follower
     }
 
-    /// The files of that sequence; none if the number is 0 or above the publisher's.
+    /// The files of the sequence with that number; none if it is 0 or above the publisher's.
     pub fn published(&self, number: u32) -> Option<&Published>
         ensures none { IsNone result ↔ ((number ≡ 0) ⊎ (self.now.publisher.number < number)) }
         ensures texts { IfSome result (λ p. p.now ≡ texts_at self.now.archive number) }
@@ -186,7 +186,7 @@ impl World {
         Reply::Saved(number)
     }
 
-    // What was saved last is a save text, so it isn't refused as a bad one.
+    // What was saved last is a save text, so it is never refused as a bad one.
     fn restart(&mut self) -> Reply
         ensures { RestartStep self.old result self.new }
     {
@@ -198,7 +198,8 @@ impl World {
     }
 }
 
-// Makes room in the archive first, so that a refusal changes nothing.
+// Publishes the pending edits and archives their files. Makes room in the archive first, so that a
+// refusal changes nothing.
 fn close_into(
     publisher: &mut Publisher,
     archive: &mut Vec<Published>,
@@ -234,7 +235,7 @@ fn deliver_text(follower: &mut Follower, alloc: Global, published: &Published, f
     }
 }
 
-// Texts that can be read are refused neither for the state nor for the changes.
+// Texts that can be read are never refused for their state or for their changes.
 fn deliver_in<F: ChangeForm>(
     follower: &mut Follower,
     alloc: Global,

@@ -1,4 +1,4 @@
--- What the application of the next sequence answers, and what the one of the held ones leaves.
+-- What the application of the next sequence answers, and what is left when held ones are applied.
 use Rattle.std.specs.Prelude.{◌≡◌, ℕ, ◌+◌, ◌*◌, ◌<◌, ◌≤◌, ◌++◌, Result, Ok, Err, true}
 use Rattle.osm_holding.specs.Holding.{HoldingValue}
 use Rattle.osm_holding.specs.declared.holding.Held.{Held}
@@ -13,7 +13,7 @@ use Rattle.osm_follow.specs.declared.delivery.Delivered.TheVariants.{Applied}
 use Rattle.osm_follow.specs.declared.delivery.DeliverError.{DeliverError}
 use Rattle.osm_follow.specs.declared.delivery.DeliverError.TheVariants.{Broke}
 
--- the sequence was applied, or the application was stopped part of the way
+-- the sequence was applied, or the application stopped part-way
 abbrev pub TakeAnswers :
     FollowerValue → PublishedValue → Result Delivered DeliverError → FollowerValue → Type 0
 TakeAnswers f p (Ok (Applied low high)) g = (low ≡ p.number) × Takes f p high g
@@ -21,7 +21,7 @@ TakeAnswers f p (Err Broke) g = Breaks f p g
 TakeAnswers f p answer g = ⊥
 
 -- the sequence after the base of an area was applied, and after it what the area held without a
--- gap: the new base is the last one's number, and that is its time
+-- gap: the new base and `last` are the number and the time of the last sequence that was applied
 pub record Drains (m : MirrorValue) (holding : HoldingValue) (first : Held)
     (n : MirrorValue) (left : HoldingValue) (last : ℕ) : Type 0 where
   pub count : ℕ
@@ -33,7 +33,7 @@ pub record Drains (m : MirrorValue) (holding : HoldingValue) (first : Held)
   pub time : last ≡ time_in holding left.base first.time
   pub rest : (j : ℕ) → left.base < j → sequence_in left j ≡ sequence_in holding j
 
--- among the first sequence and so many after it, all of them held, some change needs a new entry
+-- a change of the first sequence, or of the next `count`, all of them held, needs a new entry
 pub record Stops (m : MirrorValue) (holding : HoldingValue) (first : Held) : Type 0 where
   pub count : ℕ
   pub all : (j : ℕ) → holding.base + 1 < j → j ≤ holding.base + 1 + count →

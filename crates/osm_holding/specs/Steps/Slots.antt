@@ -1,4 +1,4 @@
--- Steps of the proofs, which no public clause cites: how the slots of the ring show what is held.
+-- How the slots of the ring show what is held. No public clause cites this.
 use Rattle.std.specs.Prelude.{◌≡◌, ℕ, ◌+◌, ◌≤◌, List, [], ◌∷◌, length}
 use Rattle.std.specs.Prelude.{Option, Some, None, IsSome}
 use Rattle.circular_buffer.specs.Buffer.{Buffer}
@@ -6,17 +6,17 @@ use Rattle.osm_model.specs.Limits.{max_sequence}
 use Rattle.osm_holding.specs.declared.holding.Held.{Held}
 use Rattle.osm_holding.specs.Holding.{HoldingValue, held_at, window}
 
--- the entries of slots that are those of a first number and the numbers after it
+-- the entries of slots, which are for the first number and the numbers after it
 abbrev pub entries_from : ℕ → List (Option Held) → List (ℕ × Held)
 entries_from first [] = []
 entries_from first (None ∷ slots) = entries_from (first + 1) slots
 entries_from first (Some held ∷ slots) = (first, held) ∷ entries_from (first + 1) slots
 
--- the area of a base and the slots after it
+-- the area that a base and the slots after it show
 abbrev pub area_of : ℕ → List (Option Held) → HoldingValue
 area_of base slots = record { base = base; entries = entries_from (base + 1) slots }
 
--- a window of slots in a ring that has room for no more, after a base within the limits
+-- the slots of the window, in a ring with room for no more, after a base within the limits
 pub record AreSlots (base : ℕ) (slots : Buffer (Option Held)) : Type 0 where
   pub limit : base ≤ max_sequence
   pub full : length slots.items ≡ window

@@ -5,7 +5,7 @@ use Rattle.osm_model.specs.Change.{ChangeValue}
 use Rattle.osm_model.specs.declared.kind.Key.{Key}
 use Rattle.osm_mirror.specs.Mirror.{Counted, HasNumber, IsAboveZero, IsObject}
 
--- an object has its own key in the map
+-- an object is in the map under its own key
 abbrev pub HasOwnKey : Key × ChangeValue → Type 0
 HasOwnKey e = e.0 ≡ e.1.key
 
@@ -16,7 +16,7 @@ HaveOwnKeys entries = AllByRecursion HasOwnKey entries
 abbrev pub objects_of : List (Key × ChangeValue) → List ChangeValue
 objects_of entries = map (λ e. e.1) entries
 
--- each object has its own key, and is one that a mirror may have
+-- each object is under its own key, and is one that a mirror may have
 pub record AreObjects (entries : List (Key × ChangeValue)) : Type 0 where
   pub own : HaveOwnKeys entries
   pub each : AllByRecursion IsObject (objects_of entries)

@@ -1,14 +1,14 @@
--- What an answer of the reader says.
+-- What the reader's answers mean.
 use Rattle.std.specs.Prelude.{◌≡◌, Option, Some, None, Result, Ok, Err}
 use Rattle.osm_save.specs.declared.stop.Stop.{Stop}
 use Rattle.osm_save.specs.declared.stop.Stop.TheVariants.{WantOfMemory, Wrong}
 
--- nothing was read, or memory was refused
+-- nothing can be read, or memory was refused
 abbrev pub Stops : {A : Type 0} → Stop → Option A → Type 0
 Stops WantOfMemory reading = Unit {0}
 Stops (Wrong left) reading = reading ≡ None
 
--- the answer, seen by view, is what the reading gives, unless memory was refused
+-- the answer, seen through `view`, is what the reading gives, unless memory was refused
 abbrev pub Gives : {A B : Type 0} → (A → B) → Result A Stop → Option B → Type 0
 Gives view (Ok x) reading = reading ≡ Some (view x)
 Gives view (Err stop) reading = Stops stop reading

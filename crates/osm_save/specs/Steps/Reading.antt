@@ -1,4 +1,4 @@
--- How a save text is read, line by line. The lemmas that tie it to the text are in proofs/.
+-- How a save text is read, line by line. The lemmas that tie this to the text are in proofs/.
 use Rattle.std.specs.Prelude.{ℕ, zero, suc, ◌*◌, ◌^◌, ◌==◌, ◌&&◌, nat_lt, nat_le, Bool, true}
 use Rattle.std.specs.Prelude.{List, [], ◌∷◌, length, take, drop, codes, decimal}
 use Rattle.std.specs.Prelude.{Option, Some, None, is_some, if◌then◌else◌}
@@ -17,7 +17,7 @@ use Rattle.osm_reading.specs.Pieces.{cut_at}
 use Rattle.osm_reading.specs.Steps.Answers.{and_then}
 use Rattle.osm_save.specs.declared.save.Saved.{Saved}
 
--- the number that has just this text, of at most 15 digits
+-- the number with exactly this text, of at most 15 digits
 unfoldable pub number_at : List ℕ → Option ℕ
 number_at bytes =
     and_then (digits_at 10 15 bytes) (λ n.
@@ -33,13 +33,13 @@ unfoldable pub fixed_at : List ℕ → List ℕ → Option (List ℕ)
 fixed_at text bytes =
     and_then (cut_at 10 bytes) (λ l. if bytes_eq l.0 text then Some l.1 else None)
 
--- a word and a number, at most so great
+-- the number after a word, at most `most`, and the bytes after the line
 unfoldable pub numbered_at : List ℕ → ℕ → List ℕ → Option (ℕ × List ℕ)
 numbered_at word most bytes =
     and_then (cut_at 10 bytes) (λ l. and_then (after_word word l.0) (λ digits.
     and_then (number_at digits) (λ n. if nat_le n most then Some (n, l.1) else None)))
 
--- the time of a number: none of 0
+-- the time of a number, which 0 doesn't have, and the bytes after the line
 unfoldable pub time_line_at : ℕ → List ℕ → Option (Option ℕ × List ℕ)
 time_line_at number bytes =
     if number == 0 then and_then (fixed_at (codes "time none") bytes) (λ rest. Some (None, rest))
@@ -51,7 +51,7 @@ abbrev pub is_above : {K : Type 0} → (K → K → Ordering) → Option K → K
 is_above cmp None key = true
 is_above cmp (Some last) key = is_lt (cmp last key)
 
--- so many lines, each read after the key of the one before it
+-- the values of that many lines, each read knowing the key of the one before it
 abbrev pub items_at : {X K : Type 0} → (X → K) → (Option K → List ℕ → Option X) → ℕ → Option K
     → List ℕ → Option (List X × List ℕ)
 items_at key item zero last bytes = Some ([], bytes)
@@ -59,7 +59,7 @@ items_at key item (suc k) last bytes =
     and_then (cut_at 10 bytes) (λ l. and_then (item last l.0) (λ x.
     and_then (items_at key item k (Some (key x)) l.1) (λ r. Some (x ∷ r.0, r.1))))
 
--- an object, written as it is always written, with a key above the one before it
+-- the object whose written line this is, with a key above the one before it
 unfoldable pub object_at : Option Key → List ℕ → Option ChangeValue
 object_at last line =
     and_then (line_at line) (λ c.
@@ -73,13 +73,13 @@ count_at most last line =
     if nat_le 1 n && nat_lt n (2 ^ 32) && nat_le 1 k && nat_le k most && is_above nat_cmp last n
     then Some (n, k) else None)))
 
--- the objects of the list after its word
+-- the list of objects, and the bytes after it
 unfoldable pub objects_at : ℕ → List ℕ → Option (List ChangeValue × List ℕ)
 objects_at most bytes =
     and_then (numbered_at (codes "objects ") most bytes) (λ k.
     items_at (λ c. c.key) object_at k.0 None k.1)
 
--- the counts of a list after its word
+-- the list of counts that begins with the word, and the bytes after it
 unfoldable pub counts_at : List ℕ → ℕ → List ℕ → Option (List Counted × List ℕ)
 counts_at word most bytes =
     and_then (numbered_at word most bytes) (λ k.

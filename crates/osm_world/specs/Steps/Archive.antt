@@ -1,4 +1,4 @@
--- Archived texts that can be delivered, and the ways of a close into the archive.
+-- Archived texts that can be delivered, and what a close adds to the archive.
 use Rattle.std.specs.Prelude.{◌≡◌, ℕ, ◌+◌, ◌<◌, ◌≤◌, List, [], ◌∷◌, ◌++◌, length, Result, Ok, Err}
 use Rattle.std.specs.Prelude.{Option, IfSome}
 use Rattle.osm_model.specs.ChangeForm.{SpellsNothing}
@@ -26,12 +26,12 @@ pub record IsReadable (spells : Spelling) (state bytes : List ℕ) : Type 0 wher
   pub small : length bytes ≤ max_file
   pub some : SpellsNothing spells bytes → ⊥
 
--- in both forms
+-- the texts of a sequence can be read in both forms
 pub record AreReadable (p : PublishedTexts) : Type 0 where
   pub in_opl : IsReadable SpellsOpl p.state p.opl
   pub in_o5c : IsReadable SpellsO5c p.state p.o5c
 
--- an archive of so many texts, all of them readable
+-- an archive of the texts of that many sequences, all of them readable
 pub record IsArchive (number : ℕ) (archive : List PublishedTexts) : Type 0 where
   pub count : length archive ≡ number
   pub each : (k : ℕ) → 0 < k → k ≤ length archive → AreReadable (texts_at archive k)

@@ -20,7 +20,7 @@ returns-then-is_empty c =
 pub returns-then-not-is_ascii_digit : goal.returns-then-not-is_ascii_digit
 returns-then-not-is_ascii_digit c = sym (no_decimal 15 c.args.digits.now c.loop-byte.byte-index (omega arith) (search rules))
 
--- fourteen digits and one more fit
+-- fourteen digits and one more fit into 64 bits
 pub overflow_mul-number : goal.overflow_mul-number
 overflow_mul-number c =
     let short : length (take c.loop-byte.byte-index c.args.digits.now) ≤ 14 = omega (arith, length-take-le c.loop-byte.byte-index c.args.digits.now (omega arith)) in

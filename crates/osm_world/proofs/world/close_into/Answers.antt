@@ -6,7 +6,7 @@ use Rattle.osm_world.proofs.ArchiveLemmas.{written_readable, archive_grown}
 use Rattle.osm_world.proofs.RunLemmas.{lawful}
 use Rattle.osm_world.proofs.world.close_into.Goals as goal
 
--- what is archived last are the texts of a sequence
+-- the last texts of the archive are those of a sequence
 pub returns-clause-archive : goal.returns-clause-archive
 returns-clause-archive c =
     let laws = lawful c.laws.ensures.text_spells c.laws.ensures.one_batch c.laws-2.ensures.text_spells c.laws-2.ensures.one_batch c.laws_of_state.ensures.no_fault_beside_state in

@@ -1,4 +1,4 @@
--- One slot more.
+-- One more slot.
 use Rattle.std.proofs.Common.{ℕ, ◌+◌, ◌∙◌, ap, sym, refl, arith}
 use Rattle.std.proofs.lemmas.Bool.{false≢true}
 use Rattle.osm_holding.proofs.SlotLemmas.{count_before_held, count_before_free}

@@ -6,7 +6,7 @@ use Rattle.osm_model.specs.KeyOrder.{same_key}
 use Rattle.osm_mirror.specs.Mirror.{object_at}
 use Rattle.osm_mirror.proofs.mirror.Mirror.apply_one.Goals as goal
 
--- one change over what stood before it
+-- one change over what was there before
 over_one : (b : Bool) (before : Option ChangeValue) (c : ChangeValue) → (if b then standing_of c else before) ≡ over_at before (if b then Some c else None)
 over_one true before c = refl
 over_one false before c = refl
