@@ -1,4 +1,4 @@
--- A run of the follower over the folder of published sequences, some of whose files are lost.
+-- A run of the follower over the folder of published sequences, some of whose files may be lost.
 use Rattle.std.proofs.Common.{◌≡◌, ℕ, zero, suc, ◌+◌, ◌-◌, ◌<◌, ◌≤◌, List, [], ◌∷◌, length, Bool, true, false, Option, Some, None, inl, inr, arith, refl, sym, ap, subst, ◌∙◌}
 use Rattle.std.specs.Prelude.{◌⊎◌, ◌||◌, ◌&&◌, filter, is_none, min}
 use Rattle.std.proofs.lemmas.Bool.{cases_lt}

@@ -1,4 +1,4 @@
--- A file of a published sequence that is taken away or put back.
+-- A file of a published sequence that is lost or put back.
 use Rattle.std.proofs.Common.{◌≡◌, ℕ, ◌<◌, ◌≤◌, List, length, Bool, true, false, Option, Some, None, inl, inr, arith, refl, sym, subst, ◌∙◌}
 use Rattle.std.specs.Prelude.{not, ◌&&◌, ◌==◌, if◌then◌else◌}
 use Rattle.std.proofs.lemmas.Bool.{cases_Bool, eqb-true, eq-eqb}
@@ -38,14 +38,14 @@ file_one j s k t e = let h = both (j == k) (same_suffix s t) e in (eqb-true j k 
 file_same : (j : ℕ) (s : Suffix) (k : ℕ) (t : Suffix) → j ≡ k → s ≡ t → same_file j s k t ≡ true
 file_same j s k t e d = rw (← e, ← d, eq-eqb j j refl) (suffix_same s)
 
--- what a put leaves at the names of other files
+-- what a put leaves under the names of other files
 put_other : (dir : List ℕ) (j : ℕ) (s : Suffix) (w : Option (List ℕ)) (f g : Files) → j ≤ max_sequence → Puts f (file_name_of dir j s) w g → (k : ℕ) (t : Suffix) → k ≤ max_sequence → same_file j s k t ≡ false → g (file_name_of dir k t) ≡ f (file_name_of dir k t)
 put_other dir j s w f g most put k t fits differ = put.others (file_name_of dir k t) (λ e.
     (let one = one_file dir k j t s fits most e in
     let yes : same_file j s k t ≡ true = file_same j s k t (sym one.0) (sym one.1) in
     let bad : true ≡ false = sym yes ∙ differ in cc))
 
--- what a put leaves at the name of the file
+-- what a put leaves under the name of the file
 put_here : (dir : List ℕ) (j : ℕ) (s : Suffix) (w : Option (List ℕ)) (f g : Files) → Puts f (file_name_of dir j s) w g → (k : ℕ) (t : Suffix) → same_file j s k t ≡ true → g (file_name_of dir k t) ≡ w
 put_here dir j s w f g put k t same =
     let one = file_one j s k t same in
@@ -112,7 +112,7 @@ pub not_true : (b : Bool) → not b ≡ true → b ≡ false
 not_true false e = refl
 not_true true e = absurd (let h : false ≡ true = e in cc)
 
--- a file is taken away
+-- a file is lost
 pub lost_stands : (p : List PublishedValue) (lost : ℕ → Suffix → Bool) (m : ℕ) (dir save changes : List ℕ) (start f l g k : Files) (n j : ℕ) (s : Suffix) → AreApart dir save changes → 0 < j → j ≤ length p → Moves true (file_name_of dir j s) f l g k → Stands p lost m dir save changes start f l n → Stands p (λ i t. if same_file j s i t then true else lost i t) m dir save changes start g k n × (lost j s ≡ false)
 lost_stands p lost m dir save changes start f l g k n j s apart above within (bytes, there, put, gone) is =
     let was = kept_some (lost j s) (text_of s (sequence_at p j)) bytes (sym (is.each j s above within) ∙ there) in (

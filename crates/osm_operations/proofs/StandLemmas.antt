@@ -1,4 +1,4 @@
--- The folder and the save of published sequences, some of whose files are lost.
+-- The folder and the save of published sequences, some of whose files may be lost.
 use Rattle.std.proofs.Common.{◌≡◌, ℕ, zero, suc, ◌+◌, ◌-◌, ◌<◌, ◌≤◌, List, [], ◌∷◌, ◌++◌, length, take, Bool, true, false, Option, Some, inl, inr, arith, refl, sym, ap, subst, ◌∙◌, length-append}
 use Rattle.std.specs.Prelude.{IsTrue, not}
 use Rattle.std.specs.List.{AllByRecursion}
@@ -46,14 +46,14 @@ pub record Stands (p : List PublishedValue) (lost : ℕ → Suffix → Bool) (m 
   pub others : (name : List ℕ) → IsOther dir save changes name → f name ≡ start name
   pub number : n ≡ length p
 
--- a folder has no more numbers than there are
+-- a folder has no more sequences than there are numbers
 pub few : (p : List PublishedValue) → AreSequences p → length p ≤ max_sequence
 few [] s = omega arith
 few (x ∷ p) s =
     let last = s (length (x ∷ p)) (omega arith) (omega arith) in
     last.most
 
--- files that hold the same at the folder's names are the same folder
+-- stores that hold the same under the folder's names have the same folder
 pub folder_same : (p : List PublishedValue) (dir : List ℕ) (f g : Files) → g (top_name_of dir) ≡ f (top_name_of dir) → ((k : ℕ) (s : Suffix) → 0 < k → k ≤ length p → g (file_name_of dir k s) ≡ f (file_name_of dir k s)) → IsFolderOf p f dir → IsFolderOf p g dir
 folder_same p dir f g top each is = record {
   sequences = is.sequences;

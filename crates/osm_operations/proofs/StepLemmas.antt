@@ -1,4 +1,4 @@
--- Each operation keeps the files as the history says.
+-- After each operation the files are as the history says.
 use Rattle.std.proofs.Common.{◌≡◌, ℕ, zero, suc, ◌+◌, ◌≤◌, List, [], ◌∷◌, ◌++◌, length, Bool, true, false, Some, None, inl, inr, arith, refl, sym, ap, subst, ◌∙◌, append_assoc, append-nil}
 use Rattle.std.specs.Prelude.{not, if◌then◌else◌, Err}
 use Rattle.std.specs.List.{zip}
@@ -117,7 +117,7 @@ still h dir save changes start a b s files lost count =
     quiet (hist.published_of h) (hist.is_file_lost h) (hist.number_of h) dir save changes start (files_of b.store) (files_of b.lost) b.published
     (renewed (hist.published_of h) (hist.is_file_lost h) (hist.number_of h) dir save changes start (files_of a.store) (files_of a.lost) (files_of b.store) (files_of b.lost) a.published b.published files lost count s)
 
--- one operation more
+-- one more operation
 pub step_holds : (h : hist.History) (e : Operation) (r : Reply) (dir save changes : List ℕ) (start : Files) (a b : World) → AreApart dir save changes → Holds h dir save changes start a → Step dir save changes e r a b → Holds ((e, r) ∷ h) dir save changes start b
 step_holds h (Publish batch time) (Published report) dir save changes start a b apart s t =
     let done = publish_more (hist.published_of h) (hist.is_file_lost h) (hist.number_of h) dir save changes start a b batch time report apart s.stands t.0 in
