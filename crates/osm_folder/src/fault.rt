@@ -55,13 +55,16 @@ fn write_path<W: fmt::Write>(
     write!(f, "{millions:03}/{thousands:03}/{ones:03}.{end}")
 }
 
+/// Why a run of the program stops.
 #[derive(Clone, Copy, Debug, PartialEq, Eq, Error)]
 pub enum RunFault {
     /// Memory was refused.
     #[error("out of memory")]
     WantOfMemory,
+    /// The device failed while the file was read.
     #[error("{0}: read failed")]
     ReadFault(FileName),
+    /// The device failed while the file was written.
     #[error("{0}: write failed")]
     WriteFault(FileName),
     /// The file is over its limit.

@@ -47,7 +47,10 @@ fn a_file_is_read_whole_or_refused(rt: HostRuntime) -> Result<(), Fail> {
         ((folder.as_str(), 3), Err(StoreError::Device)),
         (("/dev/zero", 100_000), Err(StoreError::TooLarge)),
     ] {
-        assert!(rt; is_read(alloc, &mut store, request, expected), "{request:?}");
+        assert!(rt;
+            is_read(alloc, &mut store, request, expected),
+            "{request:?}"
+        );
     }
     Ok(())
 }
