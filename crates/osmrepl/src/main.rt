@@ -36,13 +36,13 @@ fn run(rt: &HostRuntime) -> u8 {
         return report(rt, RunFault::WantOfMemory);
     };
     match order(alloc, words.as_slice()) {
-        Ok(order) => carry_out(rt, order),
+        Ok(order) => done(rt, order),
         Err(error) => explain(rt, &error, words.as_slice()),
     }
 }
 
 // Does what the order asks for, over the files on the disk.
-fn carry_out(rt: &HostRuntime, order: Order<'_>) -> u8 {
+fn done(rt: &HostRuntime, order: Order<'_>) -> u8 {
     let mut store = DiskStore::new(rt, process::id(rt.process()));
     match execute(
         rt.alloc(),
