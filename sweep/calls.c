@@ -18,7 +18,7 @@ static int is_folder(const char *path) {
     return stat(path, &found) == 0 && S_ISDIR(found.st_mode);
 }
 
-/* Whether a name that is opened for writing is another than the last one. */
+/* Whether a name that is opened for writing differs from the last one. */
 static int is_new(const char *path) {
     static char last[4096];
     if (strcmp(path, last) == 0) return 0;
@@ -36,14 +36,14 @@ static void before(const char *path, int flags) {
     kill(getpid(), SIGKILL);
 }
 
-/* A mode is passed only if a file may be made; else this reads a value that no one uses. */
+/* A mode is passed only if a file may be made; otherwise this reads a value that no one uses. */
 #define MODE(mode) \
     va_list rest; \
     va_start(rest, flags); \
     int mode = (flags & O_CREAT) ? va_arg(rest, int) : 0; \
     va_end(rest)
 
-/* A C library has each call under a name of its own and under a private one, and a program takes either. */
+/* A C library has each call under its own name and under a private one, and a program may use either. */
 #define OPEN(name, real) \
     int name(const char *path, int flags, ...) { \
         MODE(mode); \

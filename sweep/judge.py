@@ -1,12 +1,11 @@
 #!/usr/bin/env python3
-"""A second judge of reply texts, unproved: which replies may a script be answered by, if memory may
-be refused at any growth? It shares nothing with the program and its definitions but the language of
-scripts, and does what a person does who reads the replies one by one. As a program it reads a
-script, a line `--` and a text, as the proved judge does, and says `allowed`, `forbidden` or `not
-judged`; if files are named it says so of each. It takes each spelling of a line, and leaves it to
-the program to check limits.
+"""A second, unproved judge of reply texts: which replies may answer a script, if memory may be refused at any
+growth? It shares only the language of scripts with the program and its definitions, and works as a person who
+reads the replies one by one. As a program it reads a script, a line `--` and a text, as the proved judge does,
+and says `allowed`, `forbidden` or `not judged`; if files are named it says so for each. It takes any spelling
+of a line, and leaves the limits to the program.
 
-The sizes of o5c files are those of files in which a string that a number names is that number."""
+The sizes of o5c files are those of files that write a string as a number whenever a number names it."""
 
 import datetime
 import functools
@@ -30,7 +29,7 @@ class Forbidden(Exception):
 
 
 def lines_of(text):
-    """The pieces between line feeds, less one carriage return at the end of each."""
+    """The pieces between line feeds, each without one carriage return at its end."""
     pieces = text.split(b"\n")
     if not pieces[-1]:
         pieces.pop()
@@ -66,7 +65,7 @@ def meant(text):
 
 @functools.cache
 def written(text):
-    """A text as a show writes it: what isn't bare ASCII as escapes in lower-case digits."""
+    """A text as a show writes it: characters that aren't bare ASCII as escapes in lower-case digits."""
     return "".join(c if "!" <= c <= "~" and c not in "%,=@" else f"%{ord(c):02x}%" for c in text)
 
 
@@ -86,7 +85,7 @@ def units(text):
 
 
 def degrees(value):
-    """A coordinate as a show writes it, with no zeros but those that are needed."""
+    """A coordinate as a show writes it, with no needless zeros."""
     digits = f"{abs(value) // 10**7}.{abs(value) % 10**7:07d}".rstrip("0").rstrip(".")
     return "-" + digits if value < 0 else digits
 
@@ -161,8 +160,8 @@ def events_of(script):
 
 
 class World:
-    """What the replies so far say. The method of an event gives the replies that are allowed now: a
-    dictionary from a reply's text to what the reply does, or to None if it changes nothing."""
+    """What the replies so far say. An event's method gives the replies that are allowed now: a dictionary from
+    a reply's text to what the reply does, or to None if it changes nothing."""
 
     def __init__(self):
         self.pending, self.published = [], []
@@ -312,8 +311,8 @@ class Counters(dict):
 
 
 class Strings:
-    """The strings that are entered, each with the place where it was last; one that a number up to
-    15,000 names is written as that number, and any other in line."""
+    """The strings that were entered, each with the count at its last entry; one that a number up to 15,000
+    names is written as that number, and any other in line."""
 
     def __init__(self):
         self.count, self.places = 0, {}

@@ -30,7 +30,7 @@ static void before(void) {
     if (kills()) end();
 }
 
-/* A C library has each call under a name of its own and under a private one, and a program takes either. */
+/* A C library has each call under its own name and under a private one, and a program may use either. */
 static int opens(const char *name, const char *path, int flags, int mode) {
     int (*real)(const char *, int, ...) = (int (*)(const char *, int, ...))dlsym(RTLD_NEXT, name);
     if ((flags & O_ACCMODE) != O_RDONLY) before();
@@ -44,7 +44,7 @@ static int opens_at(const char *name, int folder, const char *path, int flags, i
     return real(folder, path, flags, mode);
 }
 
-/* A mode is passed only if a file may be made; else this reads a value that no one uses. */
+/* A mode is passed only if a file may be made; otherwise this reads a value that no one uses. */
 #define MODE(mode) \
     va_list rest; \
     va_start(rest, flags); \
@@ -81,7 +81,7 @@ int openat64(int folder, const char *path, int flags, ...) {
     return opens_at("openat64", folder, path, flags, mode);
 }
 
-/* What goes to a file counts, and what is printed doesn't. */
+/* Writes to files count; what is printed doesn't. */
 static ssize_t writes(int file, const void *bytes, size_t length) {
     static ssize_t (*real)(int, const void *, size_t);
     if (!real) real = (ssize_t (*)(int, const void *, size_t))dlsym(RTLD_NEXT, "write");

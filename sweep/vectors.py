@@ -1,6 +1,6 @@
-"""Files as a person worked them out from the public documents, and the faults of others: what is read from
-OPL and o5c files and written in the other form, the limits of each, and which line of a save or of a script
-is refused."""
+"""Files worked out by hand from the public documents, and faulty ones with their faults: what is read from OPL
+and o5c files and written in the other form, the limits of each, and which line of a save or of a script is
+refused."""
 
 BEGINNING = b"\xff\xe0\x04o5c2"
 # Version 1, time, changeset 7 and user 5, `ann`, as the first after a reset.
@@ -112,7 +112,7 @@ REFUSED_FILES = [
 # The objects above, each as the first after a reset.
 NODE_SET = b"\x10\x17\x02" + META + b"\x80\xda\xc4\x09\x80\xb4\x89\x13"
 WAY_SET = b"\x11\x21\x14" + META + b"\x03\x02\x02\x06\x00highway\x00path\x00"
-# The role of its last member is named: the one of the first is the second from the end.
+# The role of its last member is a reference: that of the first member is the second entry from the end.
 RELATION_SET = (b"\x12\x1f\x06" + META
                 + b"\x0f\x02\x000\x00\x14\x001outer\x00\x06\x02")
 RELATION_IN_LINE = (b"\x12\x21\x06" + META
@@ -127,8 +127,8 @@ def moved(first, second):
     return [NODE.replace(b"x1 y2", first), NODE.replace(b"x1 y2", second).replace(b"v1", b"v2")]
 
 
-# Two locations on both sides of the date line or the equator, the bytes of the first, and the difference
-# to the second as it is written and as a sum that wraps.
+# Two locations on both sides of the date line or the equator, the bytes of the first, and the difference to the
+# second as it is written and as a sum that wraps.
 ACROSS = [
     (b"x180 y0", b"x-180 y0", b"\x80\xc8\xce\xb4\x0d\x00",
      b"\xff\x8f\x9d\xe9\x1a\x00", b"\x80\xf0\xe2\x96\x05\x00"),
@@ -145,7 +145,7 @@ def across(first, difference):
     return b"\x10\x15\x02" + META + first + b"\x10\x0b\x00\x02\x00\x00\x01" + difference
 
 
-# A change and its dataset, and another kind of change, before and after which the writer makes a reset.
+# A change and its dataset, and a change of another kind, before and after which the writer makes a reset.
 FORGOTTEN = [
     (NODE, NODE_SET, WAY, WAY_SET),
     (WAY, WAY_SET, NODE, NODE_SET),
@@ -160,7 +160,7 @@ SPELLED = [
     ([WAY], WAY_SET),
     ([RELATION], RELATION_SET),
     ([NESTED], NESTED_SET),
-    # an empty way has a byte more than a deleted one
+    # an empty way has one byte more than a deleted one
     ([EMPTY_WAY], b"\x11\x10\x14" + META + b"\x00"),
     ([DELETED_WAY], b"\x11\x0f\x14" + META),
     ([NODE, WAY, RELATION], b"\xff".join((NODE_SET, WAY_SET, RELATION_SET))),
@@ -174,7 +174,7 @@ SPELLED = [
       for line, dataset, other, other_set in FORGOTTEN),
 ]
 
-# Files of so many bytes, with the beginning and the end.
+# Files of that many bytes, with the beginning and the end.
 LENGTHS = [([], 8), ([NODE, SECOND_NODE], 42), ([NODE, WAY, RELATION], 103)]
 
 # Other datasets that are read as those lines.
@@ -185,7 +185,7 @@ READ = [
     ([NODE, SECOND_NODE], NODE_SET + b"\x10\x0d\x02\x01\x00\x00\x00\x05\x00ann\x00\x00\x00"),
     *((moved(one, two), across(first, short)) for one, two, first, _, short in ACROSS),
     *(([line, line], dataset + b"\xff" + dataset) for line, dataset, _, _ in FORGOTTEN),
-    # all kinds share a counter of ids: way 10 is nine after node 1
+    # all kinds share one counter of ids: way 10 is nine after node 1
     ([NODE, EMPTY_WAY], NODE_SET + b"\x11\x0c\x12\x01\x00\x00\x00\x05\x00ann\x00\x00"),
     # members have another counter than way nodes: relation 3 is seven before way 10, its member is node 1
     ([WAY, RELATION.replace(b"Mn1@,w10@outer,n4@", b"Mn1@")],
@@ -193,7 +193,7 @@ READ = [
     # a role of 249 bytes is entered; the digit of the member's kind counts as a byte of the string
     ([RELATION.replace(b"Mn1@,w10@outer,n4@", b"Mn1@%b,n2@%b" % (b"r" * 249, b"r" * 249))],
      b"\x12\x90\x02\x06" + META + b"\xff\x01\x02\x000" + b"r" * 249 + b"\x00\x02\x01"),
-    # what is no object is skipped, and counters and strings are kept
+    # a dataset that is no object is skipped, and counters and strings are kept
     *(([NODE, DELETED_NODE], NODE_SET + between + DELETED_SET) for between in (
         *(bytes([kind, 0]) for kind in range(0xf0) if kind not in (0x10, 0x11, 0x12)),
         *(bytes([kind]) for kind in range(0xf0, 0xfe)),

@@ -23,7 +23,8 @@ fn main(rt: HostRuntime) -> ExitCode {
     }
 }
 
-// Why there is no judgement: the input can't be read, has no separator, or has no script before it.
+// Why there is no judgement: the input can't be read, has no separator, or has no script before
+// one.
 #[derive(Clone, Copy, Debug)]
 enum Unjudged {
     Input,

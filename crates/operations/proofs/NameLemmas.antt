@@ -10,7 +10,7 @@ use Rattle.osm_operations.specs.Correct.{AreApart, IsNew, IsRun}
 use Rattle.osm_operations.specs.declared.operation.Operation.{Operation}
 use Rattle.osm_operations.specs.declared.world.Outcome.{Outcome}
 
--- another first letter than that of the folder
+-- a name with another first letter than the folder's is outside it
 outside : (name : List ℕ) → (get_or name 0 0 ≡ 100 → ⊥) → IsApart (codes "dir") name
 unfolding file_name_of top_name_of
 outside name other = record {
@@ -25,7 +25,7 @@ names_are_apart = record {
   differ = λ e. let h : 115 ≡ 99 = ap (λ (l : List ℕ). get_or l 0 0) e in omega (arith, h);
 }
 
--- what holds of a run of lists under the premises holds in a new store
+-- what holds for a run under the premises holds for one in a new store
 pub holds_in_new_store : (operations : List Operation) (result : Result Outcome WantOfMemory) (start : Files)
     → start ≡ (λ name. None)
     → IfOk result (λ r. AreApart (codes "dir") (codes "save") (codes "changes") → IsNew (codes "dir") (codes "save") start

@@ -1,4 +1,4 @@
--- What the words of a line say.
+-- What the words of a line mean.
 use Rattle.std.specs.Prelude.{◌≡◌, ℕ, List, [], ◌∷◌, ◌++◌, length, slice_index_or, codes}
 use Rattle.std.specs.Borrow.{Bor}
 use Rattle.osm_model.specs.Change.{ChangeValue}
@@ -12,7 +12,7 @@ use Rattle.osm_operations.specs.declared.operation.Operation.TheVariants.{Publis
 use Rattle.osm_operations.specs.declared.operation.Operation.TheVariants.{Follow, KilledFollow}
 use Rattle.osm_operations.specs.declared.operation.Operation.TheVariants.{Lose, PutBack}
 
--- a `&[&str]`
+-- the words of a line, a `&[&str]`
 abbrev pub Words : Type 0
 Words = List (Bor (List ℕ))
 
@@ -67,7 +67,7 @@ pub record IsPutBack (words : Words) (number : ℕ) (suffix : Suffix) : Type 0 w
   pub number_is : SpellsSequence (word words 2) number
   pub suffix_is : word words 3 ≡ suffix_word suffix
 
--- the words are the operation; a publication has the changes that were read before
+-- the words say that operation; a publication has the changes that were read before it
 abbrev pub Says : Words → List ChangeValue → Operation → Type 0
 Says words changes (Publish batch time) = IsPublish words time × (batch ≡ changes)
 Says words changes (KilledPublish batch time calls) =
@@ -83,6 +83,6 @@ changes_after (Publish batch time) changes = []
 changes_after (KilledPublish batch time calls) changes = []
 changes_after operation changes = changes
 
--- the change of a line of OPL is added
+-- the change on a line of OPL is added
 abbrev pub IsEdited : List ℕ → List ChangeValue → List ChangeValue → Type 0
 IsEdited line old new = (change : ChangeValue) × SpellsLine line change × (new ≡ old ++ change ∷ [])

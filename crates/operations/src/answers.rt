@@ -1,4 +1,4 @@
-//! What is written of a list: its replies, and the files after it.
+//! What is written for a list: its replies, and the files after it.
 
 ghost use Rattle.std.specs.Prelude.{◌≤◌};
 ghost use Rattle.osm_model.specs.Limits.{max_sequence};
@@ -25,7 +25,7 @@ pub(crate) fn write_outcome<W: Write>(alloc: Global, outcome: &Outcome, out: &mu
     Ok(())
 }
 
-// A line. That of a report, `done STATUS LENGTH`, is followed by its text.
+// A line for the reply. After `done STATUS LENGTH` comes the text of the report.
 fn write_reply<W: Write>(reply: &Reply, out: &mut W) -> io::Result<()> {
     match reply {
         Reply::Published(report) | Reply::Followed(report) => write_report(report, out),
@@ -42,7 +42,7 @@ fn write_report<W: Write>(report: &Report, out: &mut W) -> io::Result<()> {
     out.write_all(text)
 }
 
-// All files that the operations may have made: none of them adds more than one sequence.
+// All files that the operations may have made: each operation adds at most one sequence.
 fn write_files<W: Write>(alloc: Global, outcome: &Outcome, out: &mut W) -> Result<()> {
     write_file(&outcome.store, CHANGES, out)?;
     write_file(&outcome.store, SAVE, out)?;

@@ -1,4 +1,4 @@
-//! A list of operations, as its lines are read.
+//! A list of operations, read line by line.
 
 ghost use Rattle.std.specs.Prelude.{◌≡◌, [], IfSome, OnOk};
 ghost use Rattle.osm_reading.specs.Sequence.{SpellsSequence};
@@ -45,7 +45,7 @@ impl List {
         Ok(())
     }
 
-    // One change more, a line of OPL.
+    // Adds the change on a line of OPL.
     fn edit(&mut self, line: &str) -> Result<()>
         ensures { OnOk result (IsEdited line.now self.old.changes self.new.changes) }
     {
@@ -53,7 +53,7 @@ impl List {
         Ok(())
     }
 
-    // None if the words are no operation.
+    // The operation that the words say; None if they say none.
     fn operation(&mut self, words: &[&str]) -> Option<Operation>
         ensures says { IfSome result (Says words.now self.old.changes) }
         ensures left { IfSome result

@@ -16,8 +16,8 @@ pub(crate) const SAVE: &str = "save";
 
 pub(crate) const CHANGES: &str = "changes";
 
-/// Runs a list in a new store. These names meet the premises of the main statement over folders, so
-/// that it holds of each outcome.
+/// Runs a list in a new store. Its names meet the premises of the main statement over folders, so
+/// the statement holds for each outcome.
 pub(crate) fn outcome_of(alloc: Global, operations: Vec<Operation>) -> Result<Outcome, WantOfMemory>
     ensures { IfOk result (λ r. IsRun operations.items r.replies.items
         (codes "dir") (codes "save") (codes "changes") (λ name. None) (files_of r.store)) }

@@ -1,4 +1,4 @@
-//! Replies to operations, and what is there after them.
+//! Tests of the replies to operations, and of the files after them.
 
 use osm_folder::memory_store::MemoryStore;
 use osm_model::batch::Batch;
@@ -31,7 +31,7 @@ const REPLIES: [&str; 14] = [
 
 const STATE: Suffix = Suffix::State;
 
-// An empty sequence a minute after the one before.
+// Publishes an empty sequence at that minute.
 fn publish(alloc: Global, minute: u32) -> Operation {
     Operation::Publish {
         changes: Batch::new(alloc),
@@ -47,7 +47,7 @@ fn killed_publish(alloc: Global, minute: u32, calls: u64) -> Operation {
     }
 }
 
-// Three sequences, of which the second is lost for a while; then runs that are killed early, and
+// Three sequences, the second of which is lost for a while; then runs that are killed early, and
 // runs that are killed after their last write.
 fn operations(alloc: Global) -> Result<Vec<Operation>, Fail> {
     let mut list = Vec::new(alloc);

@@ -1,4 +1,4 @@
--- What a split at the last slash says, and names that are made of its parts.
+-- What a split at the last slash says, and names made from its parts.
 use Rattle.std.proofs.Common.{◌≡◌, ℕ, ◌+◌, ◌<◌, ◌≤◌, List, [], ◌∷◌, ◌++◌, length, take, drop, Option, Some, None, MatchOption, Bor, eqb, refl, ap, sym, subst, ◌∙◌, arith, take-append-drop}
 use Rattle.std.specs.Str.{NoCharPasses}
 use Rattle.std.specs.Str.Pattern.{RFindsChar}
@@ -23,7 +23,7 @@ pub folder_or_root : (folder name path r : List ℕ) → IsIn folder name path �
 folder_or_root [] name path r is root below = subst (IsFolderOf path) (sym (root refl)) (in_root [] name is refl)
 folder_or_root (b ∷ folder) name path r is root below = subst (IsFolderOf path) (sym (below (omega arith))) (in_folder (b ∷ folder) name is (omega arith))
 
--- what is said of a text is said of what was made with that text
+-- what holds of a text holds of a value made with that text
 pub made : {S E : Type 0} (text_of : S → List ℕ) (r : Result S E) (text : List ℕ) (P : List ℕ → Type 0) → IfOk r (λ s. text_of s ≡ text) → P text → IfOk r (λ s. P (text_of s))
 made text_of (Ok s) text P h p = subst P (sym h) p
 made text_of (Err e) text P h p = tt

@@ -1,9 +1,9 @@
--- What is read up to a limit.
+-- Reading up to a limit.
 use Rattle.std.proofs.Common.{◌≡◌, ℕ, ◌<◌, List, length, take, Option, Some, None, IfSome, ap, ◌∙◌, arith}
 use Rattle.std.proofs.lemmas.List.{length-take, take_all}
 use Rattle.std.specs.Option.{option_map}
 
--- fewer bytes than were asked for are all there are
+-- if fewer bytes came than were asked for, they are all there are
 pub all_read : (n : ℕ) (known : Option (List ℕ)) (bytes : List ℕ) → IfSome (option_map (take n) known) (λ xs. bytes ≡ xs) → length bytes < n → IfSome known (λ all. bytes ≡ all)
 all_read n None bytes h l = tt
 all_read n (Some all) bytes h l = h ∙ take_all n all (omega (arith, l, length-take n all, ap length h))

@@ -1,4 +1,4 @@
--- What is known of a store: its process, and how its failures are counted.
+-- What is known about a store: its process, and how its failures are counted.
 use Rattle.std.specs.Prelude.{◌≡◌, ℕ, ◌+◌, min}
 use Rattle.osm_disk.specs.declared.disk_store.DiskStore.{DiskStore}
 use Rattle.osm_folder.specs.declared.store.StoreError.{StoreError}
@@ -12,8 +12,8 @@ failures_of store = store.failures
 abbrev pub process_of : {R F D : Type 0} → DiskStore R F D → ℕ
 process_of store = store.process
 
--- a failure of the device adds one to the count, which stops at its greatest value; no other error
--- changes it
+-- a failure of the device adds one to the count, up to the greatest value; no other error changes
+-- it
 abbrev pub Counts : ℕ → ℕ → StoreError → Type 0
 Counts old new Device = new ≡ min (old + 1) 18446744073709551615
 Counts old new e = new ≡ old

@@ -11,8 +11,8 @@ pub record IsIn (folder name path : List ℕ) : Type 0 where
   pub bare : IsBare name
   pub whole : path ≡ folder ++ slash ∷ name
 
--- the folder of a path is what stands before its last slash: `.` if there is no slash, and `/` if
--- nothing stands before it
+-- the folder of a path is what comes before its last slash: `.` if there is no slash, and `/` if
+-- nothing comes before it
 pub data IsFolderOf (path : List ℕ) : List ℕ → Type 0 where
   in_no_folder : IsBare path → IsFolderOf path (codes ".")
   in_root : (folder name : List ℕ) → IsIn folder name path → length folder ≡ 0
@@ -34,8 +34,8 @@ pub data IsTemporary (path : List ℕ) (process : ℕ) : List ℕ → Type 0 whe
   hidden_below : (folder name : List ℕ) → IsIn folder name path
       → IsTemporary path process (folder ++ codes "/" ++ hidden_name name process)
 
--- a link's text that begins with a slash is the path to which the link leads; any other begins in
--- the folder of the link
+-- a link whose text begins with a slash leads to that path; any other text is a path from the
+-- folder of the link
 pub data LeadsTo (link text : List ℕ) : List ℕ → Type 0 where
   from_root : slice_index text 0 ≡ slash → LeadsTo link text text
   from_here : IsBare link → LeadsTo link text text

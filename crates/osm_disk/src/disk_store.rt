@@ -10,7 +10,7 @@ use osm_folder::store::{Store, StoreError};
 use std::alloc::Global;
 use std::fs::Files;
 
-/// The files of the disk by their paths. Each write replaces a file whole. A killed process leaves
+/// The files of the disk, by their paths. Each write replaces a whole file. A killed process leaves
 /// at most a temporary file beside it.
 #[derive(Debug, Drop)]
 pub struct DiskStore<R: Files> {
@@ -22,7 +22,7 @@ pub struct DiskStore<R: Files> {
 impl<R: Files> DiskStore<R> {
     ghost use Rattle.osm_disk.specs.Counts.{failures_of, process_of};
 
-    /// A store of the process with that id, which names its temporary files.
+    /// A store for the process with this id; the id names its temporary files.
     pub fn new(files: R, process: u32) -> DiskStore<R>
         ensures none { failures_of result ≡ 0 }
         ensures named { process_of result ≡ process }
@@ -34,7 +34,7 @@ impl<R: Files> DiskStore<R> {
         }
     }
 
-    /// How often a call failed because of the device.
+    /// How many calls failed because of the device.
     pub fn failures(&self) -> u64
         ensures { result ≡ failures_of self.now }
     {

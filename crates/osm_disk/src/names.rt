@@ -9,7 +9,7 @@ ghost use Rattle.osm_disk.specs.Names.{hidden_text};
 use itoa::Buffer;
 use std::alloc::{AllocError, Global};
 
-/// The folder that holds the file of that path: `.` for a bare name.
+/// The folder that holds the file at that path: `.` for a bare name.
 pub fn folder_of(path: &str) -> &str
     ensures { IsFolderOf path.now result.now }
 {
@@ -19,7 +19,7 @@ pub fn folder_of(path: &str) -> &str
     }
 }
 
-/// The temporary file of a process beside the file of that path: `FOLDER/.NAME.osmrepl-PROCESS`.
+/// The temporary file of a process, beside the file at that path: `FOLDER/.NAME.osmrepl-PROCESS`.
 pub fn temporary_of(alloc: Global, path: &str, process: u32) -> Result<String, AllocError>
     ensures { IfOk result (λ name. IsTemporary path.now process (string_bytes name)) }
 {
@@ -31,7 +31,7 @@ pub fn temporary_of(alloc: Global, path: &str, process: u32) -> Result<String, A
     }
 }
 
-/// The path to which a symbolic link leads, from the link's own path and its text.
+/// The path that a symbolic link leads to, from the link's own path and its text.
 pub fn led_by(alloc: Global, link: &str, text: &str) -> Result<String, AllocError>
     ensures { IfOk result (λ path. LeadsTo link.now text.now (string_bytes path)) }
 {
@@ -80,7 +80,7 @@ fn split(path: &str) -> Option<(&str, &str)>
     path.rsplit_once('/')
 }
 
-// The folder, or the root if nothing stands before the slash.
+// The folder, or the root if there is nothing before the slash.
 fn or_root(folder: &str) -> &str
     ensures root { length folder.now ≡ 0 → result.now ≡ codes "/" }
     ensures below { 0 < length folder.now → result.now ≡ folder.now }

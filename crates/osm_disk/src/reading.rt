@@ -9,7 +9,8 @@ use std::alloc::Global;
 use std::fs::{self, Files};
 use std::io::{self, ErrorKind, Read};
 
-/// All bytes of a file, at most so many; None if there is no such file.
+/// All bytes of a file, or `TooLarge` if there are more than the limit; None if there is no such
+/// file.
 pub fn read_file<R: Files>(
     alloc: Global,
     files: &R,
@@ -27,8 +28,8 @@ pub fn read_file<R: Files>(
     }
 }
 
-/// All bytes that the reader has, at most so many. It takes at most one byte more from the reader,
-/// and asks for memory as the bytes come.
+/// All bytes that the reader has, or `TooLarge` if there are more than the limit. Reads at most one
+/// byte past the limit, and asks for memory as the bytes come.
 pub fn read_limited<R: Read + Drop>(
     alloc: Global,
     reader: R,
@@ -49,7 +50,7 @@ pub fn read_limited<R: Read + Drop>(
     Ok(bytes)
 }
 
-/// Refused memory, or else the device.
+/// Why a call on files failed: refused memory, or else the device.
 pub fn cause_of(error: &io::Error) -> StoreError
     ensures { result ≡ cause error.now }
 {

@@ -8,9 +8,9 @@ use std::io::{self, ErrorKind, Write};
 // As many links as Linux follows.
 const MOST_LINKS: u32 = 40;
 
-/// Makes the bytes the whole of a file, with the folders that it needs. A symbolic link stays, and
-/// the file to which it leads is replaced. What is there and is neither a file nor a folder, as a
-/// device or a pipe, is written as it is.
+/// Writes the bytes as a whole file, and makes the folders that it needs. A symbolic link stays, and
+/// the file that it leads to is replaced. A device or a pipe is written directly. A folder is
+/// refused as `IsADirectory`.
 pub fn write_file<R: Files>(
     alloc: Global,
     files: &R,
@@ -57,13 +57,13 @@ fn led<R: Files>(alloc: Global, files: &R, path: &str) -> io::Result<String> {
     Err(ErrorKind::FilesystemLoop.into())
 }
 
-// The path to which the symbolic link leads.
+// The path that the symbolic link leads to.
 fn followed<R: Files>(alloc: Global, files: &R, link: &str) -> io::Result<String> {
     let text = files.read_link(alloc, link)?;
     Ok(led_by(alloc, link, text.as_str())?)
 }
 
-// Replaces the file, or makes it. If that fails before the renaming, the temporary file is removed.
+// Replaces the file, or makes it. If a step up to the rename fails, removes the temporary file.
 fn replace<R: Files>(
     alloc: Global,
     files: &R,
@@ -75,22 +75,29 @@ fn replace<R: Files>(
         return Err(ErrorKind::IsADirectory.into());
     }
     let temporary = temporary_of(alloc, path, process)?;
-    let placed = place(files, temporary.as_str(), path, bytes);
-    if placed.is_err() {
+    let renamed = write_and_rename(files, temporary.as_str(), path, bytes);
+    if renamed.is_err() {
         let _ = files.remove_file(temporary.as_str());
     }
-    placed?;
+    renamed?;
     sync_folder(files, folder_of(path))
 }
 
-fn place<R: Files>(files: &R, temporary: &str, path: &str, bytes: &[u8]) -> io::Result<()> {
+// Writes and syncs the temporary file, and renames it to the path.
+fn write_and_rename<R: Files>(
+    files: &R,
+    temporary: &str,
+    path: &str,
+    bytes: &[u8],
+) -> io::Result<()> {
     let mut file = create(files, temporary)?;
     file.write_all(bytes)?;
     file.sync_all()?;
     files.rename(temporary, path)
 }
 
-// A new file, with the folders that it needs. One that is there was left by a killed process.
+// Makes a new file, with the folders that it needs. One that is already there was left by a killed
+// process, and is removed.
 fn create<R: Files>(files: &R, path: &str) -> io::Result<R::File> {
     match fs::File::create_new(files, path) {
         Err(error) if error.kind() == ErrorKind::NotFound => make_folders(files, path)?,
@@ -100,7 +107,8 @@ fn create<R: Files>(files: &R, path: &str) -> io::Result<R::File> {
     fs::File::create_new(files, path)
 }
 
-// Makes the folders of a path. Each folder's entry is synced, so that none is lost with the file.
+// Makes the folders of a path, and syncs the entry of each, so that none is lost along with the
+// file.
 fn make_folders<R: Files>(files: &R, path: &str) -> io::Result<()> {
     fs::create_dir_all(files, folder_of(path))?;
     for end in 1..path.len() {
@@ -109,7 +117,7 @@ fn make_folders<R: Files>(files: &R, path: &str) -> io::Result<()> {
     Ok(())
 }
 
-// If a slash stands at `end`, syncs the folder that holds the folder before it.
+// If there is a slash at `end`, syncs the folder that holds the folder named before it.
 fn sync_entry<R: Files>(files: &R, path: &str, end: usize) -> io::Result<()> {
     match path.split_at_checked(end) {
         Some((folder, rest)) if rest.starts_with('/') => sync_folder(files, folder_of(folder)),
@@ -117,7 +125,7 @@ fn sync_entry<R: Files>(files: &R, path: &str, end: usize) -> io::Result<()> {
     }
 }
 
-// Syncs a folder, if it may be read and its file system can sync one.
+// Syncs a folder, if it may be read and its file system can sync folders.
 fn sync_folder<R: Files>(files: &R, folder: &str) -> io::Result<()> {
     match open_and_sync(files, folder) {
         Err(error) if is_unable(error.kind()) => Ok(()),

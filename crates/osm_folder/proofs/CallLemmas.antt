@@ -1,4 +1,4 @@
--- Calls that are left, and a device that is blamed for want of them.
+-- Calls that are left, and the device blamed for the lack of them.
 use Rattle.std.proofs.Common.{◌≡◌, ℕ, ◌+◌, ◌-◌, ◌*◌, ◌<◌, ◌≤◌, List, length, Option, None, Some, arith, ap, refl, subst, sym}
 use Rattle.std.specs.Prelude.{min}
 use Rattle.osm_save.specs.declared.save.Saved.{Saved}

@@ -52,7 +52,7 @@ same_changes : (o5c opl : Option (List ℕ)) (p q : PublishedValue) → AreChang
 same_changes None opl p q a b c = same_opl opl p q a c
 same_changes (Some bytes) opl p q a b c = o5c_file.one_batch bytes p.changes q.changes a.1 b.1
 
--- one number more
+-- one more number
 step_in_step : (ps : List PublishedValue) (files : Files) (dir : List ℕ) (old new : Saved) → IsFolderOf ps files dir → old.number + 1 ≤ length ps → Adds files dir old new → IsInStep ps old → IsInStep ps new
 step_in_step ps files dir old new folder within add step =
     let is = add.number_is in
@@ -68,7 +68,7 @@ step_in_step ps files dir old new folder within add step =
       time = add.time ∙ (ap (λ (n : ℕ). Some n) time ∙ rw add.number (sym (time_next ps old.number add.next.number is)));
     }
 
--- so many numbers more
+-- that many more numbers
 pub all_in_step : (ps : List PublishedValue) (files : Files) (dir : List ℕ) (count : ℕ) (old new : Saved) → IsFolderOf ps files dir → old.number + count ≤ length ps → AddsAll files dir count old new → IsInStep ps old → IsInStep ps new
 all_in_step ps files dir zero old new folder within add step = rw add step
 all_in_step ps files dir (suc count) old new folder within (between, before, last) step =

@@ -1,4 +1,4 @@
--- What a folder of published sequences refuses.
+-- What the folder of published sequences refuses.
 use Rattle.std.proofs.Common.{ℕ, ◌<◌, List, length, Option, Some, None, inl, inr, arith, sym, ap, ◌∙◌}
 use Rattle.std.proofs.lemmas.Option.{same_Some}
 use Rattle.osm_model.specs.Time.{TimeText}

@@ -12,7 +12,7 @@ use Rattle.osm_folder.specs.Following.{IsFollowReport, IsFollowing, IsStarted}
 use Rattle.osm_folder.specs.Reports.{ReportValue, follow_report_of}
 use Rattle.osm_folder.specs.Steps.Following.{IsTakenUp}
 
--- a number that is picked leaves no empty list
+-- if a number is picked, the list isn't empty
 some_picked : (p : ℕ → Bool) (n count : ℕ) → p (n + 1) ≡ true → 0 < length (filter p (numbers n (suc count)))
 some_picked p n zero picked = rw (filter-append p [] ((n + 1) ∷ []), picked) (omega arith)
 some_picked p n (suc count) picked =

@@ -24,7 +24,7 @@ shown_of ps number told report saved shown =
       report_is = shown.report_is;
     }
 
--- a text that isn't gone on from
+-- a text that no follower restarts from
 pub restart_stops : (known : Type 0) (told : Option (List ℕ)) (bytes : List ℕ) (fault : RunFault) → (known → told ≡ Some bytes) → length bytes ≤ max_save → RestartStops bytes fault → ShowStops known told fault
 restart_stops known told bytes WantOfMemory there small h = tt
 restart_stops known told bytes (BadSave line) there small h = λ sure. record { bytes = bytes; there = there sure; small = small; nothing = h }

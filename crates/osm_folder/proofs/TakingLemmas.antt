@@ -50,7 +50,7 @@ adds_has files dir (suc count) old new (between, before, last) k above within =
       | inr until ↦ adds_has files dir count old between before k above until
     ]
 
--- a range more
+-- one more range
 pub ranges_next : (n count k : ℕ) → k ≡ n + suc count → ranges n count ++ (k, k) ∷ [] ≡ ranges n (suc count)
 ranges_next n count k is = rw is (sym (map-append (λ (j : ℕ). (j, j)) (numbers n count) ((n + suc count) ∷ [])))
 
@@ -200,7 +200,7 @@ taken_more known files dir f last g h applied more (Some (Applied low high)) t x
 taken_more known files dir f last g h applied more (Some Old) t x e = absurd x
 taken_more known files dir f last g h applied more (Some Again) t x e = absurd x
 
--- two tests that agree on so many numbers pick the same of them
+-- two tests that agree on a run of numbers pick the same of them
 filter_same : (p q : ℕ → Bool) (n count : ℕ) → ((k : ℕ) → n < k → k ≤ n + count → p k ≡ q k) → filter p (numbers n count) ≡ filter q (numbers n count)
 filter_same p q n zero same = refl
 filter_same p q n (suc count) same =
@@ -256,7 +256,7 @@ taken_up known files dir f last top g applied below ends t =
         by_end (inl all) = inl (at ∙ all)
         by_end (inr full) = absurd (omega (arith, at))
 
--- the next number comes to be taken
+-- the next number is read
 pub comes_next : (known : Type 0) (files : Files) (dir : List ℕ) (f : FollowerValue) (last top : ℕ) (g : FollowerValue) (applied : List (ℕ × ℕ)) → last < top → last < g.number + 64 → IsTakenTo known files dir f last g applied → known → IsNext files dir f.number top (last + 1)
 comes_next known files dir f last top g applied below within t sure =
     let until = t.until in

@@ -51,7 +51,7 @@ pub record IsBigOutput (input output : List ℕ) (files : Files) : Type 0 where
   pub small : length bytes ≤ max_file
   pub big : IsOutputTooLarge forms.from forms.to bytes
 
--- why a conversion stops: the names before all else, then the input, then the output
+-- why a conversion stops: the names first, then the input, then the output
 abbrev pub ConvertStops : Type 0 → List ℕ → List ℕ → Files → RunFault → Type 0
 ConvertStops known input output files UnknownForm = HasNoForm input ⊎ HasNoForm output
 ConvertStops known input output files (ReadFault file) = (file ≡ Input) × HaveForms input output

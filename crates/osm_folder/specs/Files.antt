@@ -1,9 +1,9 @@
--- What a store tells of its files: by name, all as bytes.
+-- What a store tells about its files: what each name holds, as bytes.
 use Rattle.std.specs.Prelude.{◌≡◌, ℕ, ◌+◌, ◌<◌, ◌≤◌, ◌⊎◌, List, length, Option, Some, None, Vec}
 use Rattle.osm_folder.specs.declared.store.StoreError.{StoreError}
 use Rattle.osm_folder.specs.declared.store.StoreError.TheVariants.{Device, TooLarge, WantOfMemory}
 
--- what each name's file holds, none if there is no such file
+-- what the file of each name holds, none if there is no such file
 abbrev pub Files : Type 0
 Files = List ℕ → Option (List ℕ)
 
@@ -12,42 +12,42 @@ abbrev pub Tells : {Z : Type 0} → Option (Vec ℕ Z) → Option (List ℕ) →
 Tells None told = told ≡ None
 Tells (Some bytes) told = told ≡ Some bytes.items
 
--- a file that is there and was read has at most so many bytes
+-- a file that was read, if it is there, has at most that many bytes
 abbrev pub IsWithin : {Z : Type 0} → ℕ → Option (Vec ℕ Z) → Type 0
 IsWithin limit None = Unit {0}
 IsWithin limit (Some bytes) = length bytes.items ≤ limit
 
--- the file is there, with more bytes than that
+-- the file is there, with more bytes than the limit
 pub record IsOver (limit : ℕ) (told : Option (List ℕ)) : Type 0 where
   pub bytes : List ℕ
   pub there : told ≡ Some bytes
   pub over : limit < length bytes
 
--- new is old with those bytes, or with no file, at the name
+-- new is old, but the name holds those bytes, or no file
 pub record Puts (old : Files) (name : List ℕ) (bytes : Option (List ℕ)) (new : Files) : Type 0 where
   pub there : new name ≡ bytes
   pub others : (other : List ℕ) → (other ≡ name → ⊥) → new other ≡ old other
 
--- at least so many calls were left, and so many fewer are left now; none is no limit
+-- at least that many calls were left, and that many fewer are left now; none is no limit
 abbrev pub Spends : ℕ → Option ℕ → Option ℕ → Type 0
 Spends calls None left = left ≡ None
 Spends calls (Some n) left = (m : ℕ) × (left ≡ Some m) × (m + calls ≤ n)
 
--- at most so many fewer calls are left now
+-- at most that many fewer calls are left now
 abbrev pub SpendsAtMost : ℕ → Option ℕ → Option ℕ → Type 0
 SpendsAtMost calls None left = left ≡ None
 SpendsAtMost calls (Some n) left = (m : ℕ) × (left ≡ Some m) × (n ≤ m + calls)
 
--- fewer than so many calls are left
+-- fewer than that many calls are left
 abbrev pub HasFewer : ℕ → Option ℕ → Type 0
 HasFewer calls None = ⊥
 HasFewer calls (Some n) = n < calls
 
--- the count of a device's failures rose, or had stood at its greatest value
+-- the count of a device's failures rose, or was already at its greatest value
 abbrev pub HasFailed : ℕ → ℕ → Type 0
 HasFailed old new = (old < new) ⊎ (18446744073709551615 ≤ old)
 
--- why a file isn't read: its device failed, it has more bytes than asked for, or no memory
+-- why a file isn't read: its device failed, it has more bytes than asked for, or memory was refused
 abbrev pub ReadStops : ℕ → ℕ → ℕ → StoreError → Type 0
 ReadStops limit old new Device = HasFailed old new
 ReadStops limit old new e = Unit {0}
@@ -62,7 +62,7 @@ abbrev pub IsOutOnly : Option ℕ → StoreError → Type 0
 IsOutOnly left Device = left ≡ Some 0
 IsOutOnly left e = Unit {0}
 
--- why a file isn't written: its device failed, or no memory
+-- why a file isn't written: its device failed, or memory was refused
 abbrev pub WriteStops : ℕ → ℕ → StoreError → Type 0
 WriteStops old new Device = HasFailed old new
 WriteStops old new TooLarge = ⊥

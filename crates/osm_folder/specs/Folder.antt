@@ -1,4 +1,4 @@
--- A folder of published sequences (OSM wiki, Planet.osm/diffs), and what a file of it may hold.
+-- A folder of published sequences (OSM wiki, Planet.osm/diffs), and what its files may hold.
 use Rattle.std.specs.Prelude.{◌≡◌, ℕ, ◌<◌, ◌≤◌, ◌⊎◌, List, length, Option, Some, None}
 use Rattle.osm_model.specs.Limits.{max_file, max_sequence}
 use Rattle.osm_follow.specs.Published.{AreSequences, PublishedValue, sequence_at}
@@ -14,13 +14,13 @@ use Rattle.osm_folder.specs.Names.{file_name_of, top_name_of}
 abbrev pub max_state : ℕ
 max_state = 65536
 
--- the bytes name that state, and are few enough to be read
+-- the bytes are a text of that state, and within the limit
 pub record IsStateFile (number time : ℕ) (bytes : List ℕ) : Type 0 where
   pub small : length bytes ≤ max_state
   pub names : StateOf bytes (record { sequence = number; time = time })
 
--- what a file of a sequence may hold: its state, or its changes in one of the two forms, few enough
--- bytes to be read; any writer's spelling counts
+-- what a file of a sequence may hold: its state, or its changes in one of the two forms, in any
+-- writer's spelling and within the limit
 abbrev pub IsFile : Suffix → PublishedValue → List ℕ → Type 0
 IsFile State p bytes = IsStateFile p.number p.time bytes
 IsFile O5c p bytes = (length bytes ≤ max_file) × SpellsO5c bytes p.changes

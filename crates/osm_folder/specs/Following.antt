@@ -1,5 +1,5 @@
--- A follower that goes on over a folder from what it saved. `known` says that it is known what the
--- files hold.
+-- A follower that goes on from its save over a folder. `known` says that it is known what the files
+-- hold.
 use Rattle.std.specs.Prelude.{◌≡◌, ◌≢◌, ℕ, zero, suc, ◌+◌, ◌-◌, ◌*◌, ◌<◌, ◌≤◌, ◌⊎◌, ◌↔◌, List}
 use Rattle.std.specs.Prelude.{[], length, map, filter, min, Bool, true, false, ◌||◌, ◌&&◌, Option}
 use Rattle.std.specs.Prelude.{Some, None, is_none}
@@ -34,7 +34,7 @@ max_save = 1073741824
 abbrev pub no_save : Saved
 no_save = record { number = 0; time = None; mirror = no_mirror }
 
--- what a save holds; none is the start
+-- what a save holds; no save is the start
 abbrev pub IsSaved : Option (List ℕ) → Saved → Type 0
 IsSaved None v = v ≡ no_save
 IsSaved (Some bytes) v = (length bytes ≤ max_save) × SpellsSave bytes v
@@ -70,7 +70,7 @@ pub record Adds (files : Files) (dir : List ℕ) (old new : Saved) : Type 0 wher
   pub number : new.number ≡ next.number
   pub time : new.time ≡ Some next.time
 
--- those of so many numbers are applied, one after the other
+-- those of that many numbers are applied, one after the other
 abbrev pub AddsAll : Files → List ℕ → ℕ → Saved → Saved → Type 0
 AddsAll files dir zero old new = new ≡ old
 AddsAll files dir (suc count) old new =
@@ -84,9 +84,9 @@ ranges n count = map (λ k. (k, k)) (numbers n count)
 abbrev pub lost_numbers : Files → List ℕ → ℕ → ℕ → List ℕ
 lost_numbers files dir n top = filter (is_lost files dir) (numbers n (min 64 (top - n)))
 
--- what was reached from the start: the changes of so many numbers after it are applied, up to the
--- top or to a number that is lost. Those after it, up to the top and within the window, are lost
--- or right
+-- what was reached from the start: the changes of `count` numbers after it are applied, up to the
+-- top or to a lost number. The numbers after that, up to the top and within the window, are lost or
+-- right
 pub record GoesOn (files : Files) (dir : List ℕ) (start : Saved) (top count : ℕ) (reached : Saved) :
     Type 0 where
   pub added : AddsAll files dir count start reached
@@ -137,7 +137,7 @@ pub record IsFollowReport (report : ReportValue) : Type 0 where
 abbrev pub HasSave : List ℕ → Files → Type 0
 HasSave save files = (v : Saved) × IsSaved (files save) v
 
--- the save isn't the text of anything
+-- the save is no save text
 pub record IsBadSave (told : Option (List ℕ)) : Type 0 where
   pub bytes : List ℕ
   pub there : told ≡ Some bytes
@@ -151,7 +151,7 @@ pub record IsTopBehind (dir save : List ℕ) (files : Files) : Type 0 where
   pub started : IsStarted dir save files start top
   pub below : top.sequence < start.number
 
--- why the save and the top state aren't gone on from: the save before the top state
+-- why a run can't start from the save and the top state: the save is read before the top state
 abbrev pub StartStops : Type 0 → List ℕ → List ℕ → Files → RunFault → Type 0
 StartStops known dir save files WantOfMemory = Unit {0}
 StartStops known dir save files (ReadFault Save) = Unit {0}
@@ -167,8 +167,8 @@ StartStops known dir save files (BadState Top cause) =
 StartStops known dir save files TopBehind = known → IsTopBehind dir save files
 StartStops known dir save files fault = ⊥
 
--- a number comes to be read: it is after the save's and at most the top's, those between are lost
--- or right, and none is lost that is 64 or more below it
+-- a number is read: it is after the save's and at most the top's, those between are lost or right,
+-- and those 64 or more below it aren't lost
 pub record ComesTo (dir save : List ℕ) (files : Files) (number : ℕ) : Type 0 where
   pub start : Saved
   pub top : StateValue
@@ -183,8 +183,8 @@ abbrev pub HasState : Files → List ℕ → ℕ → Type 0
 HasState files dir number =
     (time : ℕ) × IsThere (files (file_name_of dir number State)) (IsStateFile number time)
 
--- what comes before a file of a number: its state is right, and its o5c file before its OPL file
--- isn't there
+-- when a file of a number is read: a change file only if the state is right, and the OPL file only
+-- if there is no o5c file
 abbrev pub IsBefore : Files → List ℕ → ℕ → Suffix → Type 0
 IsBefore files dir number State = Unit {0}
 IsBefore files dir number O5c = HasState files dir number
@@ -202,7 +202,7 @@ abbrev pub NamesOther : Option (List ℕ) → ℕ → Type 0
 NamesOther told number =
     (other time : ℕ) × (other ≢ number) × IsThere told (IsStateFile other time)
 
--- why a number isn't taken: its files in their order, each only if those before it are right
+-- why a number isn't taken: its files in their order, each only if it is read
 abbrev pub NumberStops : Type 0 → List ℕ → Files → ℕ → RunFault → Type 0
 NumberStops known dir files number WantOfMemory = Unit {0}
 NumberStops known dir files number (ReadFault (Sequence k suffix)) =
@@ -222,14 +222,14 @@ NumberStops known dir files number (BadChange (Sequence k Opl) place why) =
     × IsThere (files (file_name_of dir number Opl)) (λ bytes. IsFaulty forms.Opl bytes place))
 NumberStops known dir files number fault = ⊥
 
--- a number that comes to be read isn't taken
+-- a number that is read isn't taken
 pub record StopsAt (known : Type 0) (dir save : List ℕ) (files : Files) (fault : RunFault) :
     Type 0 where
   pub number : ℕ
   pub comes : known → ComesTo dir save files number
   pub stops : NumberStops known dir files number fault
 
--- all was read, and this is the text to save
+-- everything was read, and this holds of the text to save
 abbrev pub HasText : List ℕ → List ℕ → Files → (List ℕ → Type 0) → Type 0
 HasText dir save files holds =
     (text : List ℕ) × (report : ReportValue) × IsFollowing dir save files text report × holds text
@@ -255,7 +255,7 @@ pub record IsInStep (published : List PublishedValue) (v : Saved) : Type 0 where
   pub mirror : IsMirrorOf (changes_up_to published v.number) v.mirror
   pub time : v.time ≡ time_at published v.number
 
--- the save is that of the published sequences 1 to that number; none is that of 0
+-- the save is that of the published sequences 1 to that number; no save is that of 0
 pub record IsSaveOf (published : List PublishedValue) (number : ℕ) (told : Option (List ℕ)) :
     Type 0 where
   pub value : Saved
@@ -263,8 +263,8 @@ pub record IsSaveOf (published : List PublishedValue) (number : ℕ) (told : Opt
   pub number_is : value.number ≡ number
   pub in_step : IsInStep published value
 
--- a follower in step with what was published went on from that number: it saved as many numbers
--- more as it reports, and stopped at the last published one or before a lost one
+-- a follower in step with what was published went on from that number: it saved as many more
+-- numbers as it reports, and stopped at the last published one or before a lost one
 pub record IsInStepAfter (published : List PublishedValue) (number : ℕ) (dir save : List ℕ)
     (old new : Files) (report : ReportValue) : Type 0 where
   pub count : ℕ
@@ -288,8 +288,8 @@ HasBigSave published told =
     ⊎ ((v : Saved) × (text : List ℕ) × IsInStep published v × SpellsSave text v
     × (max_save < length text))
 
--- what a folder of published sequences and a save in step with them refuse to begin with: only that
--- nothing was published yet
+-- why a run can't start from the folder of published sequences and a save in step with them:
+-- besides memory, the device and a save above 1 GiB, only that nothing was published yet
 abbrev pub StartRefuses : List PublishedValue → Option (List ℕ) → RunFault → Type 0
 StartRefuses published told WantOfMemory = Unit {0}
 StartRefuses published told (ReadFault file) = Unit {0}
@@ -297,7 +297,7 @@ StartRefuses published told (Absent file) = (file ≡ Top) × (length published 
 StartRefuses published told (TooLarge file) = (file ≡ Save) × IsOver max_save told
 StartRefuses published told fault = ⊥
 
--- what they refuse a run of the follower: never a file of their own
+-- why a run of the follower over them is refused: never for a fault in one of their files
 abbrev pub FollowRefuses : List PublishedValue → Option (List ℕ) → RunFault → Type 0
 FollowRefuses published told (WriteFault file) = file ≡ Save
 FollowRefuses published told (TooLarge file) = (file ≡ Save) × HasBigSave published told

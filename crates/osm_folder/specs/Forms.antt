@@ -1,4 +1,4 @@
--- The two forms of change files, the names that tell them, and conversion.
+-- The two forms of change files, the names that tell the form, and conversion.
 use Rattle.std.specs.Prelude.{◌≡◌, ℕ, ◌<◌, ◌≤◌, List, ◌++◌, length, codes}
 use Rattle.osm_model.specs.Change.{ChangeValue}
 use Rattle.osm_model.specs.ChangeForm.{ReadRefused, SpellsNothing, WriteRefused}
@@ -14,7 +14,7 @@ use Rattle.osm_folder.specs.declared.fault.RunFault.TheVariants.{WantOfMemory, T
 use Rattle.osm_folder.specs.declared.form.Form.{Form}
 use Rattle.osm_folder.specs.declared.form.Form.TheVariants.{Opl, O5c}
 
--- the end of the names of files of a form
+-- how the names of files of a form end
 abbrev pub end_of : Form → List ℕ
 end_of Opl = codes ".opl"
 end_of O5c = codes ".o5c"

@@ -34,7 +34,7 @@ pub record IsTimeBehind (dir save : List ℕ) (files : Files) : Type 0 where
   pub time_is : start.time ≡ Some time
   pub below : top.time < time
 
--- why a lag isn't told
+-- why no lag is reported
 abbrev pub LagStops : Type 0 → List ℕ → List ℕ → Files → RunFault → Type 0
 LagStops known dir save files TimeBehind = known → IsTimeBehind dir save files
 LagStops known dir save files fault = StartStops known dir save files fault
@@ -49,7 +49,7 @@ pub record IsLagOf (published : List PublishedValue) (number : ℕ) (report : Re
       (sequence_at published (length published)).time seconds
   pub report_is : report ≡ lag_report_of behind seconds
 
--- what a folder of published sequences and a save in step with them refuse
+-- why a lag is refused over the folder of published sequences and a save in step with them
 abbrev pub LagRefuses : List PublishedValue → ℕ → Option (List ℕ) → RunFault → Type 0
 LagRefuses published number told TimeBehind =
     (time : ℕ) × (time_at published number ≡ Some time)

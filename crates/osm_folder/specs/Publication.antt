@@ -1,5 +1,4 @@
--- A publication of one more sequence in a folder. `known` says that it is known what the files
--- hold.
+-- Publishing one more sequence in a folder. `known` says that it is known what the files hold.
 use Rattle.std.specs.Prelude.{◌≡◌, ℕ, zero, suc, ◌+◌, ◌<◌, ◌≤◌, ◌⊎◌, List, [], ◌∷◌, ◌++◌}
 use Rattle.std.specs.Prelude.{length, take, Option, Some, None}
 use Rattle.osm_model.specs.Limits.{max_file, max_sequence}
@@ -26,8 +25,8 @@ use Rattle.osm_folder.specs.declared.fault.RunFault.TheVariants.{BadChange, Time
 use Rattle.osm_folder.specs.declared.fault.RunFault.TheVariants.{BadNow}
 use Rattle.osm_folder.specs.declared.form.Form.TheVariants as forms
 
--- the number and the time after which a publisher goes on: those of the top state; if there is
--- none, 0 and the least time
+-- the number and the time from which a publisher goes on: those of the top state; if there is none,
+-- 0 and the least time
 abbrev pub GoesOnFrom : Option (List ℕ) → ℕ → ℕ → Type 0
 GoesOnFrom None number time = (number ≡ 0) × (time ≡ 1)
 GoesOnFrom (Some bytes) number time = IsStateFile number time bytes
@@ -43,20 +42,20 @@ pub record IsRead (dir changes now : List ℕ) (files : Files) (a : PublisherVal
   pub spelled : SpellsOpl bytes a.pending
   pub now_is : TimeText now time
 
--- it can close then
+-- the publisher can close at that time
 pub record IsReady (dir changes now : List ℕ) (files : Files) (a : PublisherValue) (time : ℕ) :
     Type 0 where
   pub read : IsRead dir changes now files a time
   pub can_close : CanClose a time
   pub fits : IsSmall a.pending
 
--- the files of a sequence in the order in which they are written: the newest state is the last
+-- the files of a sequence in the order in which they are written: the newest state is last
 abbrev pub writes_of : List ℕ → PublishedTexts → List (List ℕ × List ℕ)
 writes_of dir p =
     (file_name_of dir p.number O5c, p.o5c) ∷ (file_name_of dir p.number Opl, p.opl)
     ∷ (file_name_of dir p.number State, p.state) ∷ (top_name_of dir, p.state) ∷ []
 
--- the file of the write after so many
+-- the file of the next write after that many
 abbrev pub file_after : ℕ → ℕ → FileName
 file_after number zero = Sequence number O5c
 file_after number (suc zero) = Sequence number Opl
@@ -69,7 +68,7 @@ Writes [] old new = new ≡ old
 Writes (w ∷ ws) old new =
     (between : Files) × Puts old w.0 (Some w.1) between × Writes ws between new
 
--- a sequence more: the next number's files were written, and the newest state after them
+-- one more sequence: the next number's files were written, and the newest state after them
 pub record IsPublished (dir changes now : List ℕ) (old new : Files)
     (report : ReportValue) : Type 0 where
   pub publisher : PublisherValue
@@ -78,7 +77,7 @@ pub record IsPublished (dir changes now : List ℕ) (old new : Files)
   pub written : Writes (writes_of dir (written_of (closing publisher time))) old new
   pub report_is : report ≡ publish_report_of (publisher.number + 1)
 
--- the fault of a write after so many
+-- the fault of the next write after that many
 abbrev pub CutsOff : ℕ → ℕ → RunFault → Type 0
 CutsOff number count WantOfMemory = Unit {0}
 CutsOff number count (WriteFault file) = file ≡ file_after number count
@@ -94,7 +93,7 @@ pub record IsCutOff (dir changes now : List ℕ) (old new : Files) (fault : RunF
   pub cut : CutsOff (publisher.number + 1) count fault
   pub written : Writes (take count (writes_of dir (written_of (closing publisher time)))) old new
 
--- the text of the top state has no state
+-- the text of the top state is no state
 pub record IsBadState (told : Option (List ℕ)) (cause : StateError) : Type 0 where
   pub bytes : List ℕ
   pub there : told ≡ Some bytes
@@ -115,7 +114,7 @@ HasTime now = (time : ℕ) × TimeText now time
 abbrev pub HasTop : List ℕ → Files → Type 0
 HasTop dir files = (number time : ℕ) × GoesOnFrom (files (top_name_of dir)) number time
 
--- all was read, and this holds of the publisher and of the time
+-- everything was read, and this holds of the publisher and the time
 pub record IsReadWith (dir changes now : List ℕ) (files : Files)
     (holds : PublisherValue → ℕ → Type 0) : Type 0 where
   pub publisher : PublisherValue
@@ -131,11 +130,12 @@ IsFull a time = a.number ≡ max_sequence
 abbrev pub IsBack : PublisherValue → ℕ → Type 0
 IsBack a time = (a.number < max_sequence) × (time < a.time)
 
--- the publisher can close but for the size of a file
+-- the publisher could close, but a file would be too large
 abbrev pub IsBig : PublisherValue → ℕ → Type 0
 IsBig a time = CanClose a time × IsTooLarge a.pending
 
--- why nothing is written: the first of the words, the top state, the file of changes and the close
+-- why nothing is written: of the words, the top state, the file of changes and the close, the first
+-- that fails
 abbrev pub NotReady : Type 0 → List ℕ → List ℕ → List ℕ → Files → RunFault → Type 0
 NotReady known dir changes now files BadNow = (time : ℕ) → TimeText now time → ⊥
 NotReady known dir changes now files (ReadFault file) =
@@ -167,7 +167,7 @@ PublishStops known dir changes now old new fault =
     ⊎ (((number count : ℕ) × CutsOff number count fault)
     × (known → IsCutOff dir changes now old new fault))
 
--- the folder has one sequence more: the batch that the file of changes spells, at the time of now
+-- the folder has one more sequence: the batch that the file of changes spells, at the time of `now`
 pub record IsAdded (published : List PublishedValue) (dir changes now : List ℕ) (old new : Files)
     (report : ReportValue) : Type 0 where
   pub added : PublishedValue
@@ -183,7 +183,8 @@ pub record IsBeforeLast (published : List PublishedValue) (now : List ℕ) : Typ
   pub some : 0 < length published
   pub before : time < (sequence_at published (length published)).time
 
--- what a folder of published sequences refuses: never its own state
+-- why a publication into the folder of published sequences is refused: never for a fault in its
+-- state
 abbrev pub FolderRefuses : List PublishedValue → List ℕ → RunFault → Type 0
 FolderRefuses published now BadNow = (time : ℕ) → TimeText now time → ⊥
 FolderRefuses published now WantOfMemory = Unit {0}

@@ -10,7 +10,7 @@ pub record ReportValue : Type 0 where
   pub status : ℕ
   pub text : List ℕ
 
--- nothing
+-- nothing is printed
 abbrev pub convert_report_of : ReportValue
 convert_report_of = record { status = 0; text = [] }
 

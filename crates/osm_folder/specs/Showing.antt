@@ -1,4 +1,4 @@
--- What a saved follower shows of itself. `known` says that it is known what the files hold.
+-- Showing what a save holds. `known` says that it is known what the files hold.
 use Rattle.std.specs.Prelude.{◌≡◌, ℕ, ◌≤◌, List, [], length, Option, Some, None}
 use Rattle.osm_mirror.specs.Mirror.{IsMirrorOf}
 use Rattle.osm_save.specs.Save.{SpellsSave}

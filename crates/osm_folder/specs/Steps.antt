@@ -1,5 +1,4 @@
--- Steps of proofs that clauses of private functions cite: no clause of a public function cites
--- them.
+-- Definitions that only clauses of private functions cite.
 pub mod Copying
 pub mod Following
 pub mod Lagging

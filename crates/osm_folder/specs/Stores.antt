@@ -19,7 +19,7 @@ inner_of fuse = fuse.inner
 abbrev pub calls_of : {S : Type 0} → Fuse S → ℕ
 calls_of fuse = fuse.calls
 
--- how many calls are left over a store, if a fuse passes so many on
+-- how many calls are left, if a fuse passes that many on and its store has that many left
 abbrev pub fewer_of : ℕ → Option ℕ → Option ℕ
 fewer_of calls None = Some calls
 fewer_of calls (Some n) = Some (min calls n)

@@ -14,8 +14,9 @@ use crate::store::Store;
 use osm_model::limits::MAX_FILE;
 use std::alloc::Global;
 
-/// Writes the changes of a file in the form of another's name. The ends `.opl` and `.o5c` of the
-/// names tell the forms. A refusal leaves all files as they were.
+/// Writes the changes of the input to the output, in the form of its name. A name that ends in
+/// `.opl` or `.o5c` tells the form; any other is refused as `UnknownForm`. A refusal leaves all
+/// files as they were.
 pub fn convert_run<S: Store>(
     alloc: Global,
     store: &mut S,

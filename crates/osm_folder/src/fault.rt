@@ -10,20 +10,20 @@ use osm_state::state_text::StateError;
 use std::fmt;
 use thiserror::Error;
 
-/// The file of a fault, named without memory.
+/// The file that a fault is about. Showing its name takes no memory.
 #[derive(Clone, Copy, Debug, PartialEq, Eq)]
 pub enum FileName {
     /// The newest state of a folder.
     Top,
     /// A file of a sequence, by its number.
     Sequence(u32, Suffix),
-    /// What a follower has saved.
+    /// A follower's save.
     Save,
-    /// The changes that are published.
+    /// The file of changes to publish.
     Changes,
-    /// What a conversion or a replay reads.
+    /// The input of a conversion or a replay.
     Input,
-    /// What a conversion or a replay writes.
+    /// The output of a conversion or a replay.
     Output,
 }
 
@@ -40,7 +40,7 @@ impl fmt::Display for FileName {
     }
 }
 
-// The path of a file of a sequence, without memory.
+// Writes the path of a sequence's file, without taking memory.
 fn write_path<W: fmt::Write>(
     number: u32,
     suffix: Suffix,
@@ -55,34 +55,37 @@ fn write_path<W: fmt::Write>(
     write!(f, "{millions:03}/{thousands:03}/{ones:03}.{end}")
 }
 
+/// Why a run of the program stops.
 #[derive(Clone, Copy, Debug, PartialEq, Eq, Error)]
 pub enum RunFault {
     /// Memory was refused.
     #[error("out of memory")]
     WantOfMemory,
+    /// The device failed while the file was read.
     #[error("{0}: read failed")]
     ReadFault(FileName),
+    /// The device failed while the file was written.
     #[error("{0}: write failed")]
     WriteFault(FileName),
-    /// The file has more bytes than it may.
+    /// The file is over its limit.
     #[error("{0}: too large")]
     TooLarge(FileName),
     /// There is no such file.
     #[error("{0}: not there")]
     Absent(FileName),
-    /// The text of a state file has no state.
+    /// The text of a state file is no state.
     #[error("{0}: bad state: {1}")]
     BadState(FileName, StateError),
-    /// The state file of that number names another.
+    /// The state file of that number names another number.
     #[error("sequence {0}: wrong number in state")]
     Mismatch(u32),
-    /// A change file spells no batch, at that place of its form.
+    /// A change file spells no batch; it goes wrong at that place, which its form defines.
     #[error("{0}: at {1}: {2}")]
     BadChange(FileName, u64, Why),
-    /// A line of a save, counted from 1, isn't as a save has it.
+    /// A line of a save, counted from 1, is wrong.
     #[error("save: line {0}")]
     BadSave(u64),
-    /// A line of a script, counted from 1 over all lines, is no event.
+    /// A line of a script, counted from 1 over all lines, isn't an event.
     #[error("input: line {0}")]
     BadScript(u64),
     /// The newest sequence of the folder is below the save's.
@@ -97,7 +100,7 @@ pub enum RunFault {
     /// The last sequence, 999,999,999, is published.
     #[error("close refused: SequenceFull")]
     SequenceFull,
-    /// The name of a file ends in neither form.
+    /// The name of a file ends in neither `.opl` nor `.o5c`.
     #[error("unknown form")]
     UnknownForm,
     /// The time isn't `YYYY-MM-DDTHH:MM:SSZ`.
@@ -106,7 +109,7 @@ pub enum RunFault {
 }
 
 impl RunFault {
-    /// The exit status of the program: 2 if its words are wrong, else 3.
+    /// The exit status of the program: 2 if a word of the command line is wrong, else 3.
     pub fn status(&self) -> u8
         ensures { result ≡ status_of self.now }
     {

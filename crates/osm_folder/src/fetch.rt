@@ -66,7 +66,7 @@ pub(crate) fn fetch<S: Store>(
     }))
 }
 
-// The state text of a number, which names it.
+// The state text of a number; None if it isn't there. A text that names another number is refused.
 fn read_state<S: Store>(
     alloc: Global,
     store: &mut S,
@@ -106,7 +106,7 @@ fn check_state(text: &[u8], number: u32) -> Result<(), RunFault>
     }
 }
 
-// The changes of a number, whose state is right: in o5c, or if there is no such file in OPL.
+// The changes of a number whose state is right: its o5c file, or if there is none, its OPL file.
 fn read_changes<S: Store>(
     alloc: Global,
     store: &mut S,

@@ -12,7 +12,7 @@ use std::alloc::Global;
 // The most bytes of a state file.
 pub(crate) const MAX_STATE: u64 = 65_536;
 
-// All bytes of a file, at most so many; None if there is no such file.
+// All bytes of a file, or `TooLarge` above the limit; None if there is no such file.
 pub(crate) fn read_file<S: Store>(
     alloc: Global,
     store: &mut S,
@@ -43,7 +43,7 @@ pub(crate) fn read_file<S: Store>(
     }
 }
 
-// The same of a file that has to be there.
+// The same for a file that has to be there.
 pub(crate) fn read_present<S: Store>(
     alloc: Global,
     store: &mut S,
@@ -73,7 +73,7 @@ pub(crate) fn read_present<S: Store>(
     }
 }
 
-// Makes the bytes the whole of a file.
+// Replaces the whole file with the bytes.
 pub(crate) fn write_file<S: Store>(
     alloc: Global,
     store: &mut S,

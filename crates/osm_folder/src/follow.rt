@@ -42,7 +42,7 @@ use osm_state::paths::Suffix;
 use osm_state::state::State;
 use std::alloc::Global;
 
-// The numbers after a follower's that it may hold.
+// How many numbers after its own a follower may hold.
 const WINDOW: u32 = 64;
 
 // What a run saves and prints.
@@ -52,10 +52,10 @@ struct Following {
     report: Report,
 }
 
-/// Goes on from a save, or from the start if there is none, as far as the folder's files are there,
-/// and writes the save. A number whose state isn't there, or whose changes aren't there in either
-/// form, is lost; numbers after it are read up to the end of the follower's window, but not saved.
-/// A refusal leaves all files as they were.
+/// Follows a folder from a save, or from the start if there is none, up to the folder's newest
+/// state or to the first lost number, and writes the save. A number is lost if its state isn't
+/// there, or its changes in neither form; numbers after it are read up to the end of the follower's
+/// window, but not saved. A refusal leaves all files as they were.
 pub fn follow_run<S: Store>(
     alloc: Global,
     store: &mut S,
@@ -102,7 +102,7 @@ pub fn follow_run<S: Store>(
     Ok(made.report)
 }
 
-// Reads and makes all that a run needs.
+// Reads all that a run needs, and makes the save and the report.
 fn prepare<S: Store>(
     alloc: Global,
     store: &mut S,
@@ -141,8 +141,8 @@ fn prepare<S: Store>(
     make(alloc, &start.follower, &start.top, applied.as_slice())
 }
 
-// The numbers after the follower's, up to the top or to the end of its window, and what was
-// reported of them.
+// Takes the numbers after the follower's, up to the top or to the end of its window, and gives the
+// ranges that were applied.
 fn take_up<S: Store>(
     alloc: Global,
     store: &mut S,
@@ -313,7 +313,7 @@ fn deliver<F: ChangeForm>(
     }
 }
 
-// What is saved and printed of a follower that took all it could up to the top.
+// The save and the report of a follower that took all it could up to the top.
 fn make(
     alloc: Global,
     follower: &Follower,

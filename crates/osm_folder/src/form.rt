@@ -23,7 +23,7 @@ pub enum Form {
     O5c,
 }
 
-/// The form of the files whose names end so; None for every other name.
+/// The form that the end of the name tells; None if it tells neither.
 pub fn form_of(name: &str) -> Option<Form>
     ensures found { IfSome result (HasEnd name.now) }
     ensures only { (form : Form) → HasEnd name.now form → result ≡ Some form }
@@ -39,9 +39,9 @@ pub fn form_of(name: &str) -> Option<Form>
     None
 }
 
-/// The changes of a file of one form, written in another. The file's bytes are dropped before any
-/// are written, so that they and the text are never held at once. A fault names the input, unless
-/// it is the output that passes 64 MiB.
+/// The changes of a file of one form, written in another. The file's bytes are dropped before the
+/// text is written, so that the two are never held at once. A fault names the input, unless the
+/// output passes 64 MiB.
 pub fn convert(alloc: Global, from: Form, to: Form, bytes: Vec<u8>) -> Result<Vec<u8>, RunFault>
     ensures converted { IfOk result (λ text. Converts from to bytes.items text.items) }
     ensures refused { IfErr result (ConvertRefused from to bytes.items) }

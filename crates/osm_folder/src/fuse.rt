@@ -1,4 +1,4 @@
-//! A store that stops after so many calls, as a process does that is killed.
+//! A store that stops after a number of calls, as a killed process does.
 
 ghost use Rattle.std.specs.Prelude.{◌≡◌, ◌+◌, ◌<◌, ◌≤◌, ℕ, true, Some, IsTrue, OnOk, OnErr};
 ghost use Rattle.std.specs.Prelude.{IfErr, IfOk, Option};
@@ -9,7 +9,7 @@ ghost use Rattle.osm_folder.specs.Stores.{FuseStops, fewer_of};
 use crate::store::{Store, StoreError};
 use std::alloc::Global;
 
-/// Passes so many calls on to another store, and refuses each one after them.
+/// Passes a number of calls on to another store, and refuses every call after them.
 #[derive(Debug, Drop)]
 pub struct Fuse<S: Store> {
     inner: S,
@@ -31,14 +31,14 @@ impl<S: Store> Fuse<S> {
         }
     }
 
-    /// How many calls it still passes on.
+    /// How many more calls it passes on.
     pub fn calls(&self) -> u64
         ensures { result ≡ calls_of self.now }
     {
         self.calls
     }
 
-    /// The store behind it.
+    /// The store inside.
     pub fn into_inner(self) -> S
         ensures { result ≡ inner_of self }
     {
@@ -46,7 +46,7 @@ impl<S: Store> Fuse<S> {
     }
 }
 
-// One call less, or one refusal more.
+// Counts one call less, or one refusal more.
 fn spend(calls: &mut u64, refused: &mut u64) -> Result<(), StoreError>
     ensures left { OnOk result (calls.new + 1 ≡ calls.old) }
     ensures same { OnOk result (refused.new ≡ refused.old) }

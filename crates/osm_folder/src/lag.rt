@@ -17,8 +17,8 @@ use osm_follow::lag::LagError;
 use osm_state::laws::laws_of_state;
 use std::alloc::Global;
 
-/// The numbers and the seconds from a save, or from the start if there is none, to the folder's
-/// newest state. Changes nothing.
+/// How many numbers and seconds a save, or the start if there is none, is behind the folder's
+/// newest state. Changes no file.
 pub fn lag_run<S: Store>(
     alloc: Global,
     store: &mut S,

@@ -38,7 +38,7 @@ impl Content {
     }
 }
 
-/// Files in memory. Its device never fails.
+/// Files in memory. The device never fails.
 #[derive(Debug, Drop)]
 pub struct MemoryStore {
     files: BTreeMap<String, Content>,
@@ -47,7 +47,7 @@ pub struct MemoryStore {
 impl MemoryStore {
     ghost use Rattle.osm_folder.specs.Stores.{files_of};
 
-    /// No files.
+    /// A store with no files.
     pub fn new(alloc: Global) -> MemoryStore
         ensures { files_of result ≡ (λ name. None) }
     {
@@ -68,7 +68,7 @@ impl MemoryStore {
         }
     }
 
-    /// Makes the bytes the whole of a file.
+    /// Replaces the whole file with the bytes, or makes it.
     pub fn put(&mut self, alloc: Global, name: &str, bytes: &[u8]) -> Result<(), WantOfMemory>
         ensures put { OnOk result
             (Puts (files_of self.old) name.now (Some bytes.now) (files_of self.new)) }
@@ -79,7 +79,7 @@ impl MemoryStore {
         self.insert(name, content)
     }
 
-    /// Takes a file away.
+    /// Removes a file, if it is there.
     pub fn remove(&mut self, name: &str)
         ensures { Puts (files_of self.old) name.now None (files_of self.new) }
     {
@@ -95,7 +95,7 @@ impl MemoryStore {
         Ok(())
     }
 
-    // A copy of a file of at most so many bytes.
+    // A copy of a file, or `TooLarge` above the limit; None if there is no such file.
     fn copy_of(&self, alloc: Global, name: &str, limit: u64) -> Result<Option<Vec<u8>>, StoreError>
         ensures read { IfOk result (λ o. Tells o (files_of self.now name.now)) }
         ensures within { IfOk result (λ o. IsWithin limit o) }

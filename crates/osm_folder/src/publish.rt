@@ -52,9 +52,9 @@ struct Publication {
     report: Report,
 }
 
-/// Publishes the changes of a file, in OPL, as the folder's next sequence, at a time
-/// `YYYY-MM-DDTHH:MM:SSZ`. The number's three files are written first and `state.txt` last, so what
-/// a refusal leaves is still the folder of what was published before.
+/// Publishes the changes of an OPL file as the folder's next sequence, at the time `now`, a text
+/// `YYYY-MM-DDTHH:MM:SSZ`. The number's three files are written first and `state.txt` last, so
+/// after a refusal the folder is still that of what was published before.
 pub fn publish_run<S: Store>(
     alloc: Global,
     store: &mut S,
@@ -94,7 +94,7 @@ pub fn publish_run<S: Store>(
     Ok(made.report)
 }
 
-// Reads and makes all that a publication needs.
+// Reads all that a publication needs, and makes all that it writes and prints.
 fn prepare<S: Store>(
     alloc: Global,
     store: &mut S,
@@ -169,7 +169,7 @@ fn resume(alloc: Global, text: &[u8]) -> Result<Publisher, RunFault>
     }
 }
 
-// The changes of a file, in OPL.
+// The changes of an OPL file.
 fn read_changes<S: Store>(alloc: Global, store: &mut S, name: &str) -> Result<Batch, RunFault>
     ensures read { IfOk result
         (λ batch. IsTrue (S.tells store.old) → IsChangesOf (S.told store.old name.now) batch) }
@@ -203,7 +203,7 @@ fn parse(alloc: Global, bytes: &[u8]) -> Result<Batch, RunFault>
     }
 }
 
-// The publisher takes the changes of the batch as its edits.
+// Gives the changes of the batch to the publisher as edits.
 fn edit_all(publisher: &mut Publisher, batch: Batch) -> Result<(), RunFault>
     requires { publisher.old.pending ≡ [] }
     ensures taken { OnOk result (publisher.new ≡ record publisher.old { pending = batch }) }
@@ -246,7 +246,7 @@ fn names_of(alloc: Global, dir: &str, number: u32) -> Result<FolderNames, WantOf
     })
 }
 
-// The newest state last.
+// Writes the files of the number, and the newest state last.
 fn write_files<S: Store>(
     alloc: Global,
     store: &mut S,

@@ -14,7 +14,7 @@ use osm_show::show::write_view;
 use std::alloc::Global;
 use std::marker::Model;
 
-/// The lines of a run, each ended by LF, and the exit status of the program.
+/// The lines that a run prints, each ended by LF, and the exit status of the program.
 #[derive(Debug, Drop)]
 pub struct Report {
     status: u8,
@@ -97,8 +97,8 @@ fn write_seconds(seconds: Option<u32>, text: &mut Vec<u8>) -> Result<(), WantOfM
 }
 
 #[tactic(auto, unfolding(crate::specs::Reports::follow_text))]
-/// `applied LOW..HIGH` for each applied delivery in order, `missing K` for each missing number, and
-/// last `number N`. The status is 1 exactly if a number is missing.
+/// `applied LOW..HIGH` for each applied delivery in order, `missing K` for each missing number,
+/// then `number N`. The status is 1 exactly if a number is missing.
 pub fn follow_report(
     alloc: Global,
     applied: &[(u32, u32)],

@@ -1,4 +1,4 @@
-//! What a saved follower shows of itself.
+//! Showing what a save holds.
 
 ghost use Rattle.std.specs.Prelude.{◌≡◌, ℕ, ◌≤◌, List, false, IsTrue, IfErr, IfOk, OnOk};
 ghost use Rattle.osm_follow.specs.Published.{PublishedValue};
@@ -21,7 +21,7 @@ use osm_follow::view::{View, ViewError};
 use osm_model::memory::WantOfMemory;
 use std::alloc::Global;
 
-/// The show text of a save, which has to be there. Changes nothing.
+/// The show text of a save, which has to be there. Changes no file.
 pub fn show_run<S: Store>(alloc: Global, store: &mut S, save: &str) -> Result<Report, RunFault>
     ensures shown { IfOk result (λ report. IsTrue (S.tells store.old)
         → IsShown (S.told store.old save.now) report) }

@@ -1,4 +1,4 @@
-//! What a follower's run begins with: its save and the folder's newest state.
+//! What a follower's run starts from: its save and the folder's newest state.
 
 ghost use Rattle.std.specs.Prelude.{◌≡◌, ◌≤◌, IsTrue, IfErr, IfOk, OnOk, length};
 ghost use Rattle.osm_save.specs.Save.{SpellsSave};

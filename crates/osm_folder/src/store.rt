@@ -25,23 +25,24 @@ pub enum StoreError {
 /// Files by their names.
 ///
 /// Contracts see how often the device failed, and may see what the files hold: a store in memory
-/// tells it, and nothing is known of a disk.
+/// tells them, a disk doesn't.
 pub trait Store {
     /// How often the device failed.
     ghost failures: { Self → ℕ };
 
-    /// How many calls are left before it refuses each one; none if it never stops. A run that is
-    /// killed is a run over a store that stops.
+    /// How many calls are left before the store refuses every call; none if it never stops. A
+    /// killed run is a run over a store that stops.
     ghost left: { Self → Option ℕ };
 
-    /// Whether it is known what the files hold. The device of such a store fails only by refusing
-    /// a call after the last one that was left.
+    /// Whether it is known what the files hold. The device of such a store fails only if no call is
+    /// left.
     ghost tells: { Self → Bool };
 
     /// What they hold, if that is known.
     ghost told: { Self → Files };
 
-    /// All bytes of a file, at most so many; None if there is no such file.
+    /// All bytes of a file, or `TooLarge` if there are more than the limit; None if there is no
+    /// such file.
     fn read(&mut self, alloc: Global, name: &str, limit: u64) -> Result<Option<Vec<u8>>, StoreError>
         ensures read { IfOk result
             (λ o. IsTrue (tells self.old) → Tells o (told self.old name.now)) }
@@ -58,7 +59,7 @@ pub trait Store {
             (λ e. IsTrue (tells self.old) → IsOutOnly (left self.old) e) }
         ensures kept { failures self.old ≤ failures self.new };
 
-    /// Makes the bytes the whole of a file, with the folders that it needs.
+    /// Replaces the whole file with the bytes, and makes the folders that it needs.
     fn write(&mut self, alloc: Global, name: &str, bytes: &[u8]) -> Result<(), StoreError>
         ensures written { OnOk result (IsTrue (tells self.old)
             → Puts (told self.old) name.now (Some bytes.now) (told self.new)) }

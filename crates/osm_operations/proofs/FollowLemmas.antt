@@ -1,4 +1,4 @@
--- A run of the follower over the folder of published sequences, some of whose files are lost.
+-- A run of the follower over the folder of published sequences, some of whose files may be lost.
 use Rattle.std.proofs.Common.{◌≡◌, ℕ, zero, suc, ◌+◌, ◌-◌, ◌<◌, ◌≤◌, List, [], ◌∷◌, length, Bool, true, false, Option, Some, None, inl, inr, arith, refl, sym, ap, subst, ◌∙◌}
 use Rattle.std.specs.Prelude.{◌⊎◌, ◌||◌, ◌&&◌, filter, is_none, min}
 use Rattle.std.proofs.lemmas.Bool.{cases_lt}
@@ -23,7 +23,7 @@ use Rattle.osm_operations.specs.Allowed.{FollowingRefused, KilledFollowingRefuse
 use Rattle.osm_operations.specs.Correct.{AreApart}
 use Rattle.osm_operations.specs.History.{count_from, text_of, unless_lost}
 use Rattle.osm_operations.specs.Steps.Stepping.{IsNoDevice}
-use Rattle.osm_operations.proofs.StandLemmas.{Stands, few, folder_same}
+use Rattle.osm_operations.proofs.AgreeLemmas.{Agrees, few, folder_same}
 
 -- a number is lost, by its files
 abbrev pub number_lost : (ℕ → Suffix → Bool) → ℕ → Bool
@@ -33,7 +33,7 @@ none_kept : (b : Bool) (text : List ℕ) → is_none (unless_lost b text) ≡ b
 none_kept true text = refl
 none_kept false text = refl
 
-pub lost_same : (p : List PublishedValue) (lost : ℕ → Suffix → Bool) (m : ℕ) (dir save changes : List ℕ) (start f l : Files) (n k : ℕ) → Stands p lost m dir save changes start f l n → 0 < k → k ≤ length p → is_lost f dir k ≡ (lost k State || (lost k O5c && lost k Opl))
+pub lost_same : (p : List PublishedValue) (lost : ℕ → Suffix → Bool) (m : ℕ) (dir save changes : List ℕ) (start f l : Files) (n k : ℕ) → Agrees p lost m dir save changes start f l n → 0 < k → k ≤ length p → is_lost f dir k ≡ (lost k State || (lost k O5c && lost k Opl))
 lost_same p lost m dir save changes start f l n k s above within =
     rw (is State, is O5c, is Opl) refl
   where
@@ -94,10 +94,10 @@ min_below : (a b : ℕ) → min a b ≤ b
 min_below a b = grind (arith)
 
 -- a run that is done
-pub followed : (p : List PublishedValue) (lost : ℕ → Suffix → Bool) (m : ℕ) (dir save changes : List ℕ) (start f g l : Files) (n : ℕ) (report : ReportValue) → AreApart dir save changes → Stands p lost m dir save changes start f l n → IsFollowed dir save f g report → (let c = count_from (number_lost lost) m (length p - m) in
-    Stands p lost (m + c) dir save changes start g l n × (report ≡ follow_report_of (ranges m c) (filter (number_lost lost) (numbers (m + c) (min 64 (length p - (m + c))))) (m + c)))
+pub followed : (p : List PublishedValue) (lost : ℕ → Suffix → Bool) (m : ℕ) (dir save changes : List ℕ) (start f g l : Files) (n : ℕ) (report : ReportValue) → AreApart dir save changes → Agrees p lost m dir save changes start f l n → IsFollowed dir save f g report → (let c = count_from (number_lost lost) m (length p - m) in
+    Agrees p lost (m + c) dir save changes start g l n × (report ≡ follow_report_of (ranges m c) (filter (number_lost lost) (numbers (m + c) (min 64 (length p - (m + c))))) (m + c)))
 followed p lost m dir save changes start f g l n report apart s run =
-    rw count_same (stands, after.report_is ∙ ap (λ xs. follow_report_of (ranges m count) xs (m + count)) lost_are)
+    rw count_same (agrees, after.report_is ∙ ap (λ xs. follow_report_of (ranges m count) xs (m + count)) lost_are)
   where
     after : IsInStepAfter p m dir save f g report
     after = in_step_after p m dir save f g report s.folder s.saved run
@@ -150,8 +150,8 @@ followed p lost m dir save changes start f g l n report apart s run =
     most : length p ≤ 999999999
     most = few p s.folder.sequences
 
-    stands : Stands p lost (m + count) dir save changes start g l n
-    stands = record {
+    agrees : Agrees p lost (m + count) dir save changes start g l n
+    agrees = record {
       folder = folder_same p dir f g (after.others (top_name_of dir) (λ e. apart.save_is.top (sym e)))
           (λ k t above until. after.others (file_name_of dir k t) (λ e. apart.save_is.each k t (omega (arith, most, until)) (sym e))) s.folder;
       each = λ k t above until. after.others (file_name_of dir k t) (λ e. apart.save_is.each k t (omega (arith, most, until)) (sym e)) ∙ s.each k t above until;

@@ -1,5 +1,5 @@
 pub mod RunLemmas
-pub mod StandLemmas
+pub mod AgreeLemmas
 pub mod RowLemmas
 pub mod FollowLemmas
 pub mod MoveLemmas

@@ -1,4 +1,4 @@
--- A file of a published sequence that is taken away or put back.
+-- A file of a published sequence that is lost or put back.
 use Rattle.std.proofs.Common.{◌≡◌, ℕ, ◌<◌, ◌≤◌, List, length, Bool, true, false, Option, Some, None, inl, inr, arith, refl, sym, subst, ◌∙◌}
 use Rattle.std.specs.Prelude.{not, ◌&&◌, ◌==◌, if◌then◌else◌}
 use Rattle.std.proofs.lemmas.Bool.{cases_Bool, eqb-true, eq-eqb}
@@ -15,7 +15,7 @@ use Rattle.osm_folder.proofs.NameLemmas.{one_file, top_is_no_file}
 use Rattle.osm_operations.specs.Correct.{AreApart}
 use Rattle.osm_operations.specs.History.{same_file, same_suffix, text_of, unless_lost}
 use Rattle.osm_operations.specs.Steps.Stepping.{Moves}
-use Rattle.osm_operations.proofs.StandLemmas.{Stands, few}
+use Rattle.osm_operations.proofs.AgreeLemmas.{Agrees, few}
 
 suffix_one : (s t : Suffix) → same_suffix s t ≡ true → s ≡ t
 suffix_one O5c O5c e = refl
@@ -38,14 +38,14 @@ file_one j s k t e = let h = both (j == k) (same_suffix s t) e in (eqb-true j k 
 file_same : (j : ℕ) (s : Suffix) (k : ℕ) (t : Suffix) → j ≡ k → s ≡ t → same_file j s k t ≡ true
 file_same j s k t e d = rw (← e, ← d, eq-eqb j j refl) (suffix_same s)
 
--- what a put leaves at the names of other files
+-- what a put leaves under the names of other files
 put_other : (dir : List ℕ) (j : ℕ) (s : Suffix) (w : Option (List ℕ)) (f g : Files) → j ≤ max_sequence → Puts f (file_name_of dir j s) w g → (k : ℕ) (t : Suffix) → k ≤ max_sequence → same_file j s k t ≡ false → g (file_name_of dir k t) ≡ f (file_name_of dir k t)
 put_other dir j s w f g most put k t fits differ = put.others (file_name_of dir k t) (λ e.
     (let one = one_file dir k j t s fits most e in
     let yes : same_file j s k t ≡ true = file_same j s k t (sym one.0) (sym one.1) in
     let bad : true ≡ false = sym yes ∙ differ in cc))
 
--- what a put leaves at the name of the file
+-- what a put leaves under the name of the file
 put_here : (dir : List ℕ) (j : ℕ) (s : Suffix) (w : Option (List ℕ)) (f g : Files) → Puts f (file_name_of dir j s) w g → (k : ℕ) (t : Suffix) → same_file j s k t ≡ true → g (file_name_of dir k t) ≡ w
 put_here dir j s w f g put k t same =
     let one = file_one j s k t same in
@@ -59,8 +59,8 @@ kept_right true text holds h = tt
 kept_right false text holds h = h
 
 -- the file comes or goes
-pub set_stands : (b : Bool) (p : List PublishedValue) (lost : ℕ → Suffix → Bool) (m : ℕ) (dir save changes : List ℕ) (start f l g k : Files) (n j : ℕ) (s : Suffix) → AreApart dir save changes → 0 < j → j ≤ length p → Puts f (file_name_of dir j s) (unless_lost b (text_of s (sequence_at p j))) g → Puts l (file_name_of dir j s) (unless_lost (not b) (text_of s (sequence_at p j))) k → Stands p lost m dir save changes start f l n → Stands p (λ i t. if same_file j s i t then b else lost i t) m dir save changes start g k n
-set_stands b p lost m dir save changes start f l g k n j s apart above within put taken is = record {
+pub set_agrees : (b : Bool) (p : List PublishedValue) (lost : ℕ → Suffix → Bool) (m : ℕ) (dir save changes : List ℕ) (start f l g k : Files) (n j : ℕ) (s : Suffix) → AreApart dir save changes → 0 < j → j ≤ length p → Puts f (file_name_of dir j s) (unless_lost b (text_of s (sequence_at p j))) g → Puts l (file_name_of dir j s) (unless_lost (not b) (text_of s (sequence_at p j))) k → Agrees p lost m dir save changes start f l n → Agrees p (λ i t. if same_file j s i t then b else lost i t) m dir save changes start g k n
+set_agrees b p lost m dir save changes start f l g k n j s apart above within put taken is = record {
   folder = record {
     sequences = is.folder.sequences;
     top = subst (IsTop p) (sym (put.others (top_name_of dir) (top_is_no_file dir j s))) is.folder.top;
@@ -112,21 +112,21 @@ pub not_true : (b : Bool) → not b ≡ true → b ≡ false
 not_true false e = refl
 not_true true e = absurd (let h : false ≡ true = e in cc)
 
--- a file is taken away
-pub lost_stands : (p : List PublishedValue) (lost : ℕ → Suffix → Bool) (m : ℕ) (dir save changes : List ℕ) (start f l g k : Files) (n j : ℕ) (s : Suffix) → AreApart dir save changes → 0 < j → j ≤ length p → Moves true (file_name_of dir j s) f l g k → Stands p lost m dir save changes start f l n → Stands p (λ i t. if same_file j s i t then true else lost i t) m dir save changes start g k n × (lost j s ≡ false)
-lost_stands p lost m dir save changes start f l g k n j s apart above within (bytes, there, put, gone) is =
+-- a file is lost
+pub lost_agrees : (p : List PublishedValue) (lost : ℕ → Suffix → Bool) (m : ℕ) (dir save changes : List ℕ) (start f l g k : Files) (n j : ℕ) (s : Suffix) → AreApart dir save changes → 0 < j → j ≤ length p → Moves true (file_name_of dir j s) f l g k → Agrees p lost m dir save changes start f l n → Agrees p (λ i t. if same_file j s i t then true else lost i t) m dir save changes start g k n × (lost j s ≡ false)
+lost_agrees p lost m dir save changes start f l g k n j s apart above within (bytes, there, put, gone) is =
     let was = kept_some (lost j s) (text_of s (sequence_at p j)) bytes (sym (is.each j s above within) ∙ there) in (
-      set_stands true p lost m dir save changes start f l g k n j s apart above within gone
+      set_agrees true p lost m dir save changes start f l g k n j s apart above within gone
           (subst (λ bs. Puts l (file_name_of dir j s) (Some bs) k) (sym was.1) put) is,
       was.0,
     )
 
 -- a file is put back
-pub back_stands : (p : List PublishedValue) (lost : ℕ → Suffix → Bool) (m : ℕ) (dir save changes : List ℕ) (start f l g k : Files) (n j : ℕ) (s : Suffix) → AreApart dir save changes → 0 < j → j ≤ length p → Moves true (file_name_of dir j s) l f k g → Stands p lost m dir save changes start f l n → Stands p (λ i t. if same_file j s i t then false else lost i t) m dir save changes start g k n × (lost j s ≡ true)
-back_stands p lost m dir save changes start f l g k n j s apart above within (bytes, there, put, gone) is =
+pub back_agrees : (p : List PublishedValue) (lost : ℕ → Suffix → Bool) (m : ℕ) (dir save changes : List ℕ) (start f l g k : Files) (n j : ℕ) (s : Suffix) → AreApart dir save changes → 0 < j → j ≤ length p → Moves true (file_name_of dir j s) l f k g → Agrees p lost m dir save changes start f l n → Agrees p (λ i t. if same_file j s i t then false else lost i t) m dir save changes start g k n × (lost j s ≡ true)
+back_agrees p lost m dir save changes start f l g k n j s apart above within (bytes, there, put, gone) is =
     let most = few p is.folder.sequences in
     let was = kept_some (not (lost j s)) (text_of s (sequence_at p j)) bytes (sym (is.away j s above (omega (arith, most, within))) ∙ there) in (
-      set_stands false p lost m dir save changes start f l g k n j s apart above within
+      set_agrees false p lost m dir save changes start f l g k n j s apart above within
           (subst (λ bs. Puts f (file_name_of dir j s) (Some bs) g) (sym was.1) put) gone is,
       not_false (lost j s) was.0,
     )

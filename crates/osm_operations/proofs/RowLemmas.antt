@@ -1,4 +1,4 @@
--- Why a publication stops, by what its run said.
+-- Why a publication stops, from what its run said.
 use Rattle.std.proofs.Common.{◌≡◌, ℕ, ◌<◌, ◌≤◌, List, length, true, Option, None, Some, inl, inr, arith, refl, sym, ap, subst, ◌∙◌}
 use Rattle.std.specs.Prelude.{IsTrue}
 use Rattle.std.proofs.lemmas.Bool.{cases_lt}
@@ -18,7 +18,7 @@ use Rattle.osm_folder.specs.declared.fault.FileName.TheVariants.{Changes, Top}
 use Rattle.osm_folder.specs.declared.fault.RunFault.TheVariants.{WantOfMemory, ReadFault, WriteFault, TooLarge, Absent, BadChange, TimeBack, SequenceFull, BadNow}
 use Rattle.osm_operations.specs.Allowed.{KilledPublicationRefused, PublicationRefused}
 use Rattle.osm_operations.specs.Steps.Stepping.{AreChangesPut, ChangesStop, IsNoDevice}
-use Rattle.osm_operations.proofs.StandLemmas.{one_shown, read_batch}
+use Rattle.osm_operations.proofs.AgreeLemmas.{one_shown, read_batch}
 
 -- the file of changes wasn't written
 pub unwritten_row : (p : List PublishedValue) (batch : List ChangeValue) (time calls : ℕ) (fault : RunFault) → ChangesStop batch fault → KilledPublicationRefused p batch time calls fault

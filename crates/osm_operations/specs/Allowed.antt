@@ -1,5 +1,5 @@
 -- Which reply may follow a history. The rows of an operation exclude one another, except that
--- memory may be refused in place of another, and that a run may be killed.
+-- memory may be refused instead, and that a run may be killed.
 use Rattle.std.specs.Prelude.{◌≡◌, ℕ, ◌+◌, ◌<◌, ◌≤◌, ◌⊎◌, length, List, [], ◌∷◌, true, false}
 use Rattle.osm_model.specs.Change.{ChangeValue}
 use Rattle.osm_model.specs.Limits.{max_sequence}
@@ -31,7 +31,7 @@ abbrev pub IsBelowLast : List PublishedValue → ℕ → Type 0
 IsBelowLast published time =
     (0 < length published) × (time < (sequence_at published (length published)).time)
 
--- why a publication isn't done that isn't killed: never for a file of the folder
+-- why a publication that isn't killed isn't done: never for a file of the folder
 abbrev pub PublicationRefused : List PublishedValue → List ChangeValue → ℕ → RunFault → Type 0
 PublicationRefused published changes time WantOfMemory = Unit {0}
 PublicationRefused published changes time BadNow = time ≡ 0
@@ -40,8 +40,8 @@ PublicationRefused published changes time SequenceFull = length published ≡ ma
 PublicationRefused published changes time TimeBack = IsBelowLast published time
 PublicationRefused published changes time fault = ⊥
 
--- why a publication isn't done that is killed after so many calls: a call after the last one, if
--- there are fewer than the run needs; else only what refuses a whole one
+-- why a publication that is killed after that many calls isn't done: for a call after the last one,
+-- if there were fewer than it makes; else only for what refuses a whole publication
 abbrev pub KilledPublicationRefused :
     List PublishedValue → List ChangeValue → ℕ → ℕ → RunFault → Type 0
 KilledPublicationRefused published changes time calls (ReadFault file) =
@@ -58,7 +58,7 @@ pub record HasBigSave (published : List PublishedValue) : Type 0 where
   pub spelled : SpellsSave text value
   pub over : max_save < length text
 
--- why a run of the follower isn't done that isn't killed: never for a file of the folder, nor for
+-- why a run of the follower that isn't killed isn't done: never for a file of the folder, nor for
 -- its save
 abbrev pub FollowingRefused : List PublishedValue → RunFault → Type 0
 FollowingRefused published WantOfMemory = Unit {0}
@@ -66,9 +66,9 @@ FollowingRefused published (Absent file) = (file ≡ Top) × (length published �
 FollowingRefused published (TooLarge file) = (file ≡ Save) × HasBigSave published
 FollowingRefused published fault = ⊥
 
--- why a run of the follower from that number isn't done that is killed after so many calls: a call
--- after the last one, if there are fewer than such a run may make; else only what refuses a whole
--- one
+-- why a run of the follower from that number that is killed after that many calls isn't done: for a
+-- call after the last one, if there were fewer than such a run may make; else only for what refuses
+-- a whole run
 abbrev pub KilledFollowingRefused : List PublishedValue → ℕ → ℕ → RunFault → Type 0
 KilledFollowingRefused published number calls (ReadFault file) =
     calls < follow_calls published number
@@ -110,8 +110,8 @@ AllowedFollow h (Followed report) = report ≡ following_report h
 AllowedFollow h (Refused fault) = FollowingRefused (published_of h) fault
 AllowedFollow h r = ⊥
 
--- a killed one that is done had as many calls as it makes at least; one that the device refused had
--- fewer than it may make
+-- a killed run that is done had at least as many calls as the fewest that it makes; one that the
+-- device refused had fewer than it may make
 abbrev pub AllowedKilledFollow : History → ℕ → Reply → Type 0
 AllowedKilledFollow h calls (Followed report) = (report ≡ following_report h) × (3 ≤ calls)
 AllowedKilledFollow h calls (Refused fault) =

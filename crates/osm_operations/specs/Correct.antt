@@ -16,7 +16,7 @@ use Rattle.osm_operations.specs.History.{reported_of}
 use Rattle.osm_operations.specs.declared.operation.Operation.{Operation}
 use Rattle.osm_operations.specs.declared.operation.Reply.{Reply}
 
--- the save and the file of changes are outside the folder, and two files
+-- the save and the file of changes are outside the folder, and are two files
 pub record AreApart (dir save changes : List ℕ) : Type 0 where
   pub save_is : IsApart dir save
   pub changes_are : IsApart dir changes
@@ -27,7 +27,7 @@ pub record IsNew (dir save : List ℕ) (files : Files) : Type 0 where
   pub top : files (top_name_of dir) ≡ None
   pub saved : files save ≡ None
 
--- the name is none of the files that the operations may touch
+-- the name is that of no file that the operations may touch
 pub record IsOther (dir save changes name : List ℕ) : Type 0 where
   pub folder : IsApart dir name
   pub save_is : name ≡ save → ⊥

@@ -1,5 +1,5 @@
--- What a history of operations and replies says of the folder and of the save. The model reads only
--- these, and no file. A history has its newest pair first.
+-- What a history of operations and replies says about the folder and the save. It is read from the
+-- history alone, and from no file. A history has its newest pair first.
 use Rattle.std.specs.Prelude.{ℕ, zero, suc, ◌+◌, ◌-◌, length, List, [], ◌∷◌, ◌++◌, min, filter}
 use Rattle.std.specs.Prelude.{Bool, true, false, ◌&&◌, ◌||◌, ◌==◌, if◌then◌else◌, reverse}
 use Rattle.std.specs.Prelude.{Option, Some, None}
@@ -26,7 +26,7 @@ History = List Pair
 abbrev pub history_of : List Operation → List Reply → History
 history_of operations replies = reverse (zip operations replies)
 
--- the sequence that the pair published, if its number is that
+-- the sequence that the pair published, with that number
 abbrev pub published_by : Operation → Reply → ℕ → List PublishedValue
 published_by (Publish changes time) (Published report) number =
     (record { number = number; changes = changes; time = time }) ∷ []
@@ -45,7 +45,7 @@ same_suffix Opl Opl = true
 same_suffix State State = true
 same_suffix s t = false
 
--- whether two files of sequences are one
+-- whether two files of sequences are the same
 abbrev pub same_file : ℕ → Suffix → ℕ → Suffix → Bool
 same_file n s k t = n == k && same_suffix s t
 
@@ -79,7 +79,7 @@ unless_lost false text = Some text
 abbrev pub file_of : History → ℕ → Suffix → Option (List ℕ)
 file_of h k t = unless_lost (is_file_lost h k t) (text_of t (sequence_at (published_of h) k))
 
--- how many numbers after n, of so many, come before the first that is lost
+-- of that many numbers after n, how many come before the first that is lost
 abbrev pub count_from : (ℕ → Bool) → ℕ → ℕ → ℕ
 count_from is_lost n zero = 0
 count_from is_lost n (suc most) =

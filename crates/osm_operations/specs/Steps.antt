@@ -1,3 +1,2 @@
--- Steps of proofs that clauses of private functions cite: no clause of a public function cites
--- them.
+-- Definitions that only clauses of private functions cite.
 pub mod Stepping

@@ -1,4 +1,4 @@
-//! What may happen to a folder and a save, in any order, and what holds after it.
+//! What may happen to a folder and a save, in any order, and what holds afterwards.
 #![tactic(auto)]
 
 pub mod operation;

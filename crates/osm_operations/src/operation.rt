@@ -5,8 +5,8 @@ use osm_folder::report::Report;
 use osm_model::batch::Batch;
 use osm_state::paths::Suffix;
 
-/// What is done to a folder and a save. A killed run makes at most so many calls of the store; each
-/// call after them is refused, so nothing is read or written any more.
+/// What is done to a folder and a save. A killed run makes at most `calls` calls of the store; each
+/// call after them is refused, so nothing more is read or written.
 #[derive(Debug, Drop)]
 pub enum Operation {
     /// The changes are published as the next sequence, at that time in seconds since
@@ -27,19 +27,20 @@ pub enum Operation {
     KilledFollow {
         calls: u64,
     },
-    /// A file of a published sequence is taken away.
+    /// A file of a published sequence is lost.
     Lose {
         number: u32,
         suffix: Suffix,
     },
-    /// A file that was taken away is put back with the bytes that it had.
+    /// A lost file is put back with the bytes that it had.
     PutBack {
         number: u32,
         suffix: Suffix,
     },
 }
 
-/// What an operation answers. A run that is killed after its last write answers as a whole run.
+/// The reply to an operation. A run that is killed after its last write replies as a whole run
+/// does.
 #[derive(Debug, Drop)]
 pub enum Reply {
     /// A publication is done, and this is what it prints.
@@ -48,7 +49,7 @@ pub enum Reply {
     Followed(Report),
     /// The run stopped, or the file wasn't moved.
     Refused(RunFault),
-    /// The file was taken away.
+    /// The file is lost.
     Lost,
     /// The file is there again.
     IsBack,

@@ -44,7 +44,8 @@ pub(crate) fn publish(
     publish_run(alloc, store, dir, changes, text_of(&now))
 }
 
-// The same, by a run that is killed after so many calls. The file of changes is there before.
+// The same, by a run that is killed after that many calls. The file of changes is written before
+// these.
 pub(crate) fn publish_killed(
     alloc: Global,
     store: &mut MemoryStore,
@@ -80,7 +81,7 @@ pub(crate) fn follow(
     follow_run(alloc, store, dir, save)
 }
 
-// The same, by a run that is killed after so many calls.
+// The same, by a run that is killed after that many calls.
 pub(crate) fn follow_killed(
     alloc: Global,
     store: &mut MemoryStore,
@@ -99,7 +100,7 @@ pub(crate) fn follow_killed(
     answer
 }
 
-// The store behind a fuse; an empty one is in its place until it is handed back.
+// The store, moved into a fuse; an empty one replaces it until it is moved back.
 fn fuse_over(alloc: Global, store: &mut MemoryStore, calls: u64) -> Fuse<MemoryStore>
     ensures inner { files_of (inner_of result) ≡ files_of store.old }
     ensures calls { calls_of result ≡ calls }

@@ -17,8 +17,7 @@ use osm_model::memory::WantOfMemory;
 use osm_state::paths::Suffix;
 use std::alloc::Global;
 
-// A store, the files that were taken away, each under its name, and how many sequences are
-// published.
+// A store, the files that are lost, each under its name, and how many sequences are published.
 #[derive(Drop)]
 struct World {
     alloc: Global,
@@ -27,15 +26,16 @@ struct World {
     published: u32,
 }
 
-/// A store after some operations, and what was replied to each of them.
+/// A store after some operations, and the reply to each of them.
 #[derive(Debug, Drop)]
 pub struct Outcome {
     pub store: MemoryStore,
     pub replies: Vec<Reply>,
 }
 
-/// Takes the operations in order, on a folder and a save of the store. A publication first writes
-/// its changes in OPL into the file of that name. After a refusal none was taken.
+/// Carries out the operations in order, on a folder and a save of the store. A publication first
+/// writes its changes, in OPL, to the file `changes`. If memory for the list of replies is refused,
+/// no operation was done.
 pub fn run(
     alloc: Global,
     store: MemoryStore,
@@ -192,7 +192,7 @@ impl World {
     }
 }
 
-// Whether a number is that of a published sequence, if so many are published.
+// Whether a number is that of a published sequence, if that many are published.
 fn is_number(published: u32, number: u32) -> bool
     ensures { IsNumber result published number }
 {

@@ -66,7 +66,7 @@ abbrev IsNoHelp : Option (Text × List Text) → Type 0
 IsNoHelp None = Unit {0}
 IsNoHelp (Some p) = bytes_eq p.0 (codes "help") ≡ false
 
--- once it stopped, it stays at that name
+-- once it has stopped, it stays at that name
 stays : (c : List Rule) (names : Names) (w : Walk) (p : Text × List Text) (words : List Text) → w.stopped ≡ Some p → bytes_eq p.0 (codes "help") ≡ false
     → IsNoHelp (fold (walked c names) w words).stopped
 unfolding walked
@@ -74,7 +74,7 @@ stays c names w p [] at fine = rw at fine
 stays c names w p (word ∷ rest) at fine =
     stays c names (walked c names w word) (p.0, p.1 ++ word ∷ []) rest (ap (λ (o : Option (Text × List Text)). (walked_from c names o w word).stopped) at) fine
 
--- after a word that passes, a walk goes on, or it stopped at a name that isn't `help`
+-- after a word that passes, a walk goes on, or it has stopped at a name that isn't `help`
 abbrev GoesOn : Option (Text × List Text) → Type 0
 GoesOn stopped = (stopped ≡ None) ⊎ ((name : Text) × (stopped ≡ Some (name, [])) × (bytes_eq name (codes "help") ≡ false))
 

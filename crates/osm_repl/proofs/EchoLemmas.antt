@@ -1,4 +1,4 @@
--- Whether a list has an element at a place.
+-- Whether a list has an element at an index.
 use Rattle.std.proofs.Common.{◌≡◌, ℕ, List, [], ◌∷◌, zero, suc, Option, Some, None, length, is_some, refl, ap, sym, ◌∙◌, nat_lt, arith}
 use Rattle.std.proofs.lemmas.Bool.Decides.{nat_tests}
 use Rattle.std.specs.Prelude.{option_map, slice_get}

@@ -1,4 +1,4 @@
--- What a script's bad line says of the script, and how far a script was answered.
+-- What a bad line says about its script, and how far a script was answered.
 use Rattle.std.proofs.Common.{◌≡◌, ℕ, List, [], ◌∷◌, ◌++◌, refl, ap, sym, ◌∙◌, Option, Some, None, append-nil, subst}
 use Rattle.std.proofs.lemmas.List.Elements.{filter-append}
 use Rattle.std.specs.Io.KnownBytes.{Consumes, IsAtEnd}
@@ -18,7 +18,7 @@ use Rattle.osm_world.specs.declared.event.Reply.{Reply}
 use Rattle.osm_folder.specs.declared.fault.RunFault.{RunFault}
 use Rattle.osm_folder.specs.declared.fault.RunFault.TheVariants.{WantOfMemory, WriteFault, BadScript}
 
--- each line that says something is an event
+-- each line that isn't skipped is an event
 at_line : (ls after : List (List ℕ)) (line : List ℕ) (es : List Event) → AllZip IsEventLine (ls ++ line ∷ after) es → (e : Event) × IsEventLine line e
 at_line [] after line [] h = absurd h
 at_line [] after line (e ∷ es) h = (e, h.0)
@@ -40,23 +40,23 @@ all_read (Some xs) (Some ys) bytes P c e p =
     let all : xs ≡ bytes = c ∙ (ap (λ (zs : List ℕ). bytes ++ zs) e ∙ append-nil bytes) in
     subst P (sym all) p
 
--- what a fault says of the bytes that were read is what it says of all
+-- what a fault says about the bytes that were read, it says about all of them
 pub script_fault : (old new : Option (List ℕ)) (script : List ℕ) (fault : RunFault) → Consumes old new script → IsAtEnd new → AnswerRefused script fault → ReplayFault old new fault
 script_fault old new script WantOfMemory c e h = tt
 script_fault old new script (BadScript line) c e h = all_read old new script (λ s. IsBadLine s line × ((events : List Event) → ScriptOf s events → ⊥)) c e (h, bad_line_none script line h)
 script_fault old new script fault c e h = absurd h
 
--- all but a failed write leaves nothing written
+-- every fault but a failed write leaves nothing written
 pub silent : (input old new : Option (List ℕ)) (fault : RunFault) → ReplayLeaves input old new fault → (IsWriteFault fault → ⊥) → new ≡ old
 silent input old new (WriteFault file) h not_written = absurd (not_written tt)
 silent input old new fault h not_written = h
 
--- what the laws of runs say of one step more
+-- what the laws of runs say about one more step
 abbrev pub RunsOn : Type 0
 RunsOn = (events : List Event) (replies : List Reply) (w : WorldValue) (e : Event) (r : Reply) (v : WorldValue)
     → IsRun events replies w → Step w e r v → IsRun (events ++ e ∷ []) (replies ++ r ∷ []) v
 
--- one event more is answered
+-- one more event is answered
 pub answered_more : (next : RunsOn) (events : List Event) (old : WorldValue) (text : List ℕ) (event : Event) (reply : Reply) (new : WorldValue) (more : List ℕ)
     → IsAnswered events old text → Step old event reply new → more ≡ text ++ reply_text reply → IsAnswered (events ++ event ∷ []) new more
 answered_more next events old text event reply new more a step is = record {

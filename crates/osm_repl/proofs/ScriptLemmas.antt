@@ -119,7 +119,7 @@ deliver_words words digits form Show is h = absurd h
 deliver_words words digits form Save is h = absurd h
 deliver_words words digits form Restart is h = absurd h
 
--- one line more, which says nothing or is an event
+-- one more line, which is skipped or is an event
 pub AreEvents-skipped : (lines : List (List ℕ)) (events : List Event) (line : List ℕ) → AreEvents lines events → is_skipped line ≡ true → AreEvents (lines ++ line ∷ []) events
 AreEvents-skipped lines events line h skipped = rw (filter-append (λ (l : List ℕ). not (is_skipped l)) lines (line ∷ []), skipped, append-nil) h
 
@@ -132,17 +132,17 @@ zip-push (k ∷ ls) (d ∷ es) l e h is = (h.0, zip-push ls es l e h.1 is)
 pub AreEvents-more : (lines : List (List ℕ)) (events : List Event) (line : List ℕ) (e : Event) → AreEvents lines events → is_skipped line ≡ false → IsEventLine line e → AreEvents (lines ++ line ∷ []) (events ++ e ∷ [])
 AreEvents-more lines events line e h said is = rw (filter-append (λ (l : List ℕ). not (is_skipped l)) lines (line ∷ []), said) (zip-push (said_of lines) events line e h is)
 
--- what is left to read, with one for the line that begins it
+-- the length of what is left to read, and one more for its first line
 abbrev pub left_of : Option (Bor (List ℕ)) → ℕ
 left_of None = 0
 left_of (Some rest) = length rest.now + 1
 
--- what follows a line is less than the line's text
+-- what is left after a line is less than before it
 left_after : (rest : Option (Bor (List ℕ))) (n : ℕ) → IfSome rest (λ r. length r.now < n) → left_of rest ≤ n
 left_after None n h = omega arith
 left_after (Some r) n h = omega (arith, h)
 
--- how far a script was read: the lines that were passed, how many they are, and their events
+-- how far a script was read: the lines that were passed, their number, and their events
 pub record IsReadTo (script : List ℕ) (rest : Option (Bor (List ℕ))) (number : ℕ) (events : List Event) : Type 0 where
   pub passed : List (List ℕ)
   pub lines : lines_of script ≡ passed ++ lines_after rest
@@ -164,7 +164,7 @@ pub record IsSplit (bytes line : List ℕ) (after : Option (Bor (List ℕ))) : T
   pub lines : lines_of bytes ≡ line ∷ lines_after after
   pub shorter : IfSome after (λ r. length r.now < length bytes)
 
--- a line more is passed, which says nothing
+-- one more line is passed, which is skipped
 pub read_skipped : (script : List ℕ) (bytes : Bor (List ℕ)) (line : List ℕ) (after : Option (Bor (List ℕ))) (number : ℕ) (events : List Event)
     → IsReadTo script (Some bytes) number events → IsSplit bytes.now line after → is_skipped line ≡ true → IsReadTo script after (number + 1) events
 read_skipped script bytes line after number events i split skipped =
@@ -178,7 +178,7 @@ read_skipped script bytes line after number events i split skipped =
       room = omega arith;
     }
 
--- a line more is passed, which is an event
+-- one more line is passed, which is an event
 pub read_event : (script : List ℕ) (bytes : Bor (List ℕ)) (line : List ℕ) (after : Option (Bor (List ℕ))) (number : ℕ) (events : List Event) (event : Event)
     → IsReadTo script (Some bytes) number events → IsSplit bytes.now line after → IsSaid line (Some event) → IsReadTo script after (number + 1) (events ++ event ∷ [])
 read_event script bytes line after number events event i split said =

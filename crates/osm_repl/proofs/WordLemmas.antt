@@ -1,4 +1,4 @@
--- Rows of a command whose words pass: each has a first value, which is empty for a time alone.
+-- Rows of a command whose words pass: each has a first value, and only a time's may be empty.
 use Rattle.std.proofs.Common.{◌≡◌, ◌∙◌, ◌++◌, ◌&&◌, ◌||◌, ◌⊎◌, inl, inr, ℕ, zero, suc, Bool, true, false, not, List, [], ◌∷◌, Option, Some, None, refl, ap, sym, subst, is_some, codes, length, drop}
 use Rattle.std.specs.Prelude.{cond, encode_utf8, find, fold, option_and_then, slice_get}
 use Rattle.std.specs.Option.{option_map_or}
@@ -18,7 +18,7 @@ use Rattle.clap.specs.declared.builder.action.ArgAction.TheVariants.{Help, Set}
 use Rattle.clap.specs.declared.error.kind.ErrorKind.TheVariants.{TooManyValues}
 use Rattle.clap.specs.declared.parser.matches.ValueSource.TheVariants.{CommandLine}
 
--- of two steps that pass, both do
+-- if two steps pass, the first does
 pub first_passes : (a b : Kinds) → or_else a b ≡ [] → a ≡ []
 first_passes [] b h = refl
 first_passes (k ∷ ks) b h = absurd cc
@@ -67,7 +67,7 @@ found_of_each P p (y ∷ ys) x each h = go (p y) refl (found_of_each P p ys x ea
     go true e later h = subst (λ z. P z × (p z ≡ true)) (same_Some y x h) (each.0, e)
     go false e later h = later h
 
--- the first value is there, and is empty for a time alone
+-- the first value is there, and only a time's may be empty
 abbrev HasFirst : Text → List Text → Type 0
 HasFirst id [] = ⊥
 HasFirst id (v ∷ vs) = v ≡ [] → id ≡ codes "TIME"
@@ -79,7 +79,7 @@ has_first_more id (v ∷ vs) more h = h
 abbrev IsGoodRow : Row → Type 0
 IsGoodRow r = HasFirst r.id r.values
 
--- a use gives one value at least, and none that is empty unless it is a time
+-- a use gives at least one value, and an empty one only for a time
 pub record TakesValue (a : Rule) : Type 0 where
   pub is_set : action_of a ≡ Set
   pub some : range_kinds (unwrap_or_range a.range).start_inclusive (most_values a) 0 ≡ [] → ⊥
@@ -320,7 +320,7 @@ required_given s rows h = each_given rows s.rules (go s.subcommand_negates_reqs 
     go true e = e
     go false e = e
 
--- a value, which is empty for a time alone
+-- a value, which may be empty only for a time
 abbrev pub IsGoodValue : Text → Option Text → Type 0
 IsGoodValue id None = ⊥
 IsGoodValue id (Some v) = v ≡ [] → id ≡ codes "TIME"

@@ -1,4 +1,4 @@
--- The command line: the words that are taken, and the order that they are.
+-- The command line: the words that are taken, and the order that they give.
 use Rattle.std.specs.Prelude.{◌≡◌, List, [], ◌∷◌, Option, Some, codes, true}
 use Rattle.clap.specs.Words.{App, Row, Rule, Text, first_of, new_app, new_rule, subcommand_of}
 use Rattle.clap.specs.Words.{with_rule, with_subcommand}
@@ -15,7 +15,7 @@ word_rule name = record (new_rule name) { required = true; parser = Some NonEmpt
 abbrev pub time_rule : Rule
 time_rule = record (new_rule (codes "TIME")) { long = Some (codes "now"); required = true }
 
--- the command with one word more
+-- the command with one more word
 abbrev pub with_word : App → Text → App
 with_word app name = with_rule app (word_rule name)
 
@@ -45,7 +45,7 @@ show_app = with_word (new_app (codes "show")) (codes "SAVE")
 abbrev pub convert_app : App
 convert_app = with_word (with_word (new_app (codes "convert")) (codes "IN")) (codes "OUT")
 
--- the program needs a command, and tells its version
+-- the program needs a command, and can print its version
 abbrev pub program_app : App
 program_app =
     let app = new_app (codes "osmrepl") in
@@ -70,7 +70,7 @@ pub record IsFound (found : Option (Text × List Row)) (command : Text)
   pub command_is : found ≡ Some (command, rows)
   pub values_are : AreValues rows values
 
--- the order is that of the command that was found
+-- the order is the one for the command that was found
 abbrev pub IsOrderIn : Option (Text × List Row) → Order → Type 0
 IsOrderIn found Replay = IsFound found (codes "replay") []
 IsOrderIn found (Publish dir changes now) = IsFound found (codes "publish")
@@ -83,7 +83,7 @@ IsOrderIn found (Show save) = IsFound found (codes "show") ((codes "SAVE", save.
 IsOrderIn found (Convert input output) =
     IsFound found (codes "convert") ((codes "IN", input.now) ∷ (codes "OUT", output.now) ∷ [])
 
--- the order is that of the words, as clap reads them
+-- the order is the one for the words, as clap reads them
 abbrev pub IsOrderOf : List Text → Order → Type 0
 IsOrderOf words = IsOrderIn (subcommand_of osmrepl_app words)
 

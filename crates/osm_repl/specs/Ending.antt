@@ -1,4 +1,4 @@
--- How a run ends that has no replies to write, or can't write them.
+-- How a run ends that has nothing to print, or can't print it.
 use Rattle.std.specs.Borrow.{Bor}
 use Rattle.std.specs.declared.io.ErrorKind.{ErrorKind as IoKind}
 use Rattle.std.specs.declared.io.ErrorKind.TheVariants as io_kinds
@@ -37,7 +37,8 @@ ending_by_kind kind error = refused_words (ByClap error)
 abbrev pub ending_of_error : Bor ClapError → Ending
 ending_of_error error = ending_by_kind (kind_of error.now) error
 
--- words that can't be had: memory was refused, or they aren't text, which is said on standard error
+-- words that couldn't be read: memory was refused, or they aren't text, which is said on standard
+-- error
 abbrev pub ending_of_unread : IoKind → Ending
 ending_of_unread io_kinds.OutOfMemory = ending_of_fault WantOfMemory
 ending_of_unread kind = refused_words NotText

@@ -23,12 +23,12 @@ use Rattle.osm_repl.specs.declared.orders.Order.{Order}
 use Rattle.osm_repl.specs.declared.orders.Order.TheVariants.{Replay, Publish, Follow, Lag, Show}
 use Rattle.osm_repl.specs.declared.orders.Order.TheVariants.{Convert}
 
--- the order is a run over the files: each is but a replay
+-- the order is a run over the files: each is, except a replay
 abbrev pub IsOverFiles : Order → Type 0
 IsOverFiles Replay = ⊥
 IsOverFiles order = Unit {0}
 
--- how many calls of the store a run that is done makes at least
+-- how many calls of the store a run makes at least if it is done
 abbrev pub calls_of : Order → ℕ
 calls_of (Publish dir changes now) = 6
 calls_of (Follow dir save) = 3
@@ -98,8 +98,8 @@ StopsOver (Lag dir save) old new fault =
     → LagRefuses published number (old save.now) fault
 StopsOver order old new fault = Unit {0}
 
--- what a run that stops leaves: all files as they were, or of a publication, which may be cut off,
--- the folder of what was published before
+-- what a run that stops leaves: all files as they were, or, for a publication, which may be cut
+-- off, the folder of what was published before
 abbrev pub Leaves : Type 0 → Order → Files → Files → Type 0
 Leaves known (Publish dir changes now) old new =
     known → (published : List PublishedValue) → IsFolderOf published old dir.now

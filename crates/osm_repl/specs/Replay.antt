@@ -22,14 +22,14 @@ pub record RepliesTo (script text : List ℕ) : Type 0 where
   pub is_run : IsRun events replies world
   pub text_is : text ≡ replies_text replies
 
--- if the reader's bytes are known, they are a script of at most 64 MiB, and its reply text was
--- written
+-- if the reader's bytes are known, those that were read are a script of at most 64 MiB, and its
+-- reply text was written
 abbrev pub Replays : Option (List ℕ) → Option (List ℕ) → Option (List ℕ) → Type 0
 Replays input old new = IfSome input (λ script.
     (length script ≤ max_file) × ((text : List ℕ) × RepliesTo script text × Appends old new text))
 
--- what a fault of a replay says of the reader's bytes, before and after; memory may be refused for
--- any of them, since a new world makes room for what it may hold
+-- what a fault of a replay says about the reader's bytes, before and after; memory may be refused
+-- whatever they are, since a new world makes room for what it may hold
 abbrev pub ReplayFault : Option (List ℕ) → Option (List ℕ) → RunFault → Type 0
 ReplayFault input rest WantOfMemory = Unit {0}
 ReplayFault input rest (ReadFault file) = file ≡ Input

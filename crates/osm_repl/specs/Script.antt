@@ -1,4 +1,4 @@
--- A script: a text whose lines are events. Empty lines and lines that begin with `#` say nothing.
+-- A script: a text whose lines are events. Empty lines and lines that begin with `#` are skipped.
 use Rattle.std.specs.Prelude.{◌≡◌, ℕ, ◌+◌, ◌<◌, List, ◌∷◌, ◌++◌, length, codes, false, not}
 use Rattle.std.specs.List.{AllZip, filter}
 use Rattle.osm_model.specs.Change.{ChangeValue}
@@ -46,7 +46,7 @@ IsEventLine line Show = line ≡ codes "show"
 IsEventLine line Save = line ≡ codes "save"
 IsEventLine line Restart = line ≡ codes "restart"
 
--- the lines that say something
+-- the lines that aren't skipped
 abbrev pub said_of : List (List ℕ) → List (List ℕ)
 said_of lines = filter (λ line. not (is_skipped line)) lines
 
@@ -58,7 +58,7 @@ AreEvents lines events = AllZip IsEventLine (said_of lines) events
 abbrev pub ScriptOf : List ℕ → List Event → Type 0
 ScriptOf script events = AreEvents (lines_of script) events
 
--- a text with a line that says something
+-- a text with a line that isn't skipped
 abbrev pub SaysSome : List ℕ → Type 0
 SaysSome script = 0 < length (said_of (lines_of script))
 
@@ -75,8 +75,8 @@ pub record IsBadLine (script : List ℕ) (number : ℕ) : Type 0 where
   pub said : is_skipped line ≡ false
   pub none : (e : Event) → IsEventLine line e → ⊥
 
--- a script that says something may be refused for memory, and any script at its first line that is
--- no event
+-- a script with a line that isn't skipped may be refused for memory, and any script at its first
+-- line that is no event
 abbrev pub ScriptRefused : List ℕ → RunFault → Type 0
 ScriptRefused script WantOfMemory = SaysSome script
 ScriptRefused script (BadScript line) = IsBadLine script line

@@ -9,7 +9,7 @@ use std::io::{self, Read};
 use std::marker::Model;
 
 /// How often a reader was asked: never more than 67,108,866 times. Only `ask` adds to it, and a
-/// script is read by `ask` alone.
+/// script is read only through `ask`.
 #[derive(Debug, Drop)]
 pub(crate) struct Asks {
     count: u64,
@@ -27,7 +27,7 @@ impl Model for Asks {
 }
 
 impl Asks {
-    /// No reads so far.
+    /// No asks so far.
     pub(crate) fn none() -> Asks
         ensures { result ≡ 0 }
     {

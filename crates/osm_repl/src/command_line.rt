@@ -18,8 +18,8 @@ use clap::error::ErrorKind;
 use clap::{Arg, ArgMatches, Command, Error};
 use std::alloc::{AllocError, Global};
 
-/// What the words ask for, the program's name first. No word but a time is empty. Refused if `clap`
-/// refuses the words, and if they ask for help or the version.
+/// What the words, with the program's name first, ask for. No word of the order is empty except a
+/// time. Refused if `clap` refuses the words, and if they ask for help or the version.
 pub fn order<'a>(alloc: Global, words: &'a [&'a str]) -> Result<Order<'a>, Error>
     ensures order { IfOk result (IsOrderOf (map (λ s. s.now) words.entry.now)) }
     ensures not_empty { IfOk result HasNoEmptyWord }
@@ -31,7 +31,7 @@ pub fn order<'a>(alloc: Global, words: &'a [&'a str]) -> Result<Order<'a>, Error
     Ok(order_of(&matches))
 }
 
-// The order of the command that was found, with its words.
+// The order for the command that was found, with its words.
 fn order_of<'a>(matches: &ArgMatches<'a>) -> Order<'a>
     requires { IsCommand (subcommand_rows_of matches.now) }
     ensures order { IsOrderIn (subcommand_rows_of matches.now) result }
@@ -107,7 +107,7 @@ fn convert_of<'a>(given: &ArgMatches<'a>) -> Order<'a>
     }
 }
 
-// The value of a word that has one, and that isn't empty.
+// The value of a word that has one that isn't empty.
 fn nonempty<'a>(given: &ArgMatches<'a>, name: &str) -> &'a str
     requires { HasWord (rows_of (found_of given.now)) name.now }
     ensures value { first_of name.now (rows_of (found_of given.now)) ≡ Some result.now }

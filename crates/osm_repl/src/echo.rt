@@ -9,8 +9,8 @@ use std::alloc::{AllocError, Global};
 // Longer words are cut.
 const MOST_SHOWN: usize = 64;
 
-/// The words, each cut after 64 characters, with `..` in place of the rest, and with its control
-/// characters as escapes, as `\u{1b}`: so no word can fill a screen or command a terminal.
+/// The words, each cut after 64 characters with `..` for the rest, and with control characters as
+/// escapes, as `\u{1b}`, so that no word can fill a screen or control a terminal.
 pub fn echoes(alloc: Global, words: &[&str]) -> Result<Vec<String>, AllocError>
     ensures { IfOk result (λ echoes.
         map string_bytes echoes.items ≡ map (λ word. spec.echo_of word.now) words.now) }

@@ -18,7 +18,7 @@ pub enum Stream {
 /// What is said last.
 #[derive(Clone, Copy)]
 pub enum Said<'a> {
-    /// The text that `clap` made of the words.
+    /// The text that `clap` made about the words.
     ByClap(&'a Error),
     /// One line, `osmrepl: ` and the fault.
     Fault(RunFault),
@@ -26,7 +26,7 @@ pub enum Said<'a> {
     NotText,
 }
 
-/// How a run ends that has no replies to write, or can't write them.
+/// How a run ends that has nothing to print, or can't print it.
 #[derive(Clone, Copy)]
 pub struct Ending<'a> {
     pub said: Said<'a>,
@@ -34,8 +34,8 @@ pub struct Ending<'a> {
     pub status: u8,
 }
 
-/// The ending if `clap` has no matches of the words, but that error: help and the version go to
-/// standard output with status 0, a refusal of the words to standard error with 2.
+/// The ending if `clap` answers the words with that error: help and the version go to standard
+/// output with status 0, a refusal of the words to standard error with 2.
 pub fn explained<'a>(error: &'a Error) -> Ending<'a>
     ensures { result ≡ ending_of_error error.entry }
 {
@@ -54,7 +54,7 @@ pub fn explained<'a>(error: &'a Error) -> Ending<'a>
     }
 }
 
-/// The ending if the words of the command line can't be had, for an error of that kind: unless
+/// The ending if reading the words of the command line fails with an error of that kind: unless
 /// memory was refused, one of them isn't text, which is a refusal of the words.
 pub fn unread<'a>(kind: io::ErrorKind) -> Ending<'a>
     ensures { result ≡ ending_of_unread kind }
@@ -69,7 +69,7 @@ pub fn unread<'a>(kind: io::ErrorKind) -> Ending<'a>
     }
 }
 
-/// The ending at a fault.
+/// The ending after a fault.
 pub fn reported<'a>(fault: RunFault) -> Ending<'a>
     ensures { result ≡ ending_of_fault fault }
 {

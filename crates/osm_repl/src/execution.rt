@@ -22,9 +22,9 @@ use std::alloc::Global;
 use std::io::{Read, Write};
 
 /// Does what an order asks for, and answers the exit status. A replay reads from `reader` and
-/// writes its replies to `writer`; every other order runs over the files of the store, and its
-/// report is written to `writer` afterwards. Nothing is written after any fault but
-/// `WriteFault(Output)`; after that a prefix was, and the files that a run wrote stay.
+/// writes its replies to `writer`; every other order runs over the files of the store, and then
+/// writes its report to `writer`. On a fault nothing was written to `writer`, except on
+/// `WriteFault(Output)`: then a prefix was, and the files that a run wrote stay.
 pub fn execute<S: Store, R: Read, W: Write>(
     alloc: Global,
     order: Order<'_>,

@@ -5,23 +5,23 @@
 pub enum Order<'a> {
     /// Runs the script on standard input, and writes its replies to standard output.
     Replay,
-    /// Publishes the changes of a file as a folder's next sequence, at a time.
+    /// Publishes the changes of a file as a folder's next sequence, at the time `now`.
     Publish {
         dir: &'a str,
         changes: &'a str,
         now: &'a str,
     },
-    /// Takes a saved follower as far as a folder goes.
+    /// Takes a save as far as a folder goes.
     Follow {
         dir: &'a str,
         save: &'a str,
     },
-    /// Says how far a saved follower is behind a folder.
+    /// Prints how far a save is behind a folder.
     Lag {
         dir: &'a str,
         save: &'a str,
     },
-    /// Shows a saved follower.
+    /// Shows what a save holds.
     Show {
         save: &'a str,
     },

@@ -1,4 +1,4 @@
-//! A replay: a script is read whole, run, and answered by its reply text.
+//! A replay: a whole script is read, run, and answered with its reply text.
 
 ghost use Rattle.std.specs.Prelude.{◌≡◌, ℕ, ◌≤◌, List, Option, length, IfOk, OnOk, IfErr};
 ghost use Rattle.std.specs.Io.KnownBytes.{Appends, Consumes, IsAtEnd};
@@ -22,13 +22,13 @@ use osm_world::world::World;
 use std::alloc::Global;
 use std::io::{Read, Write};
 
-// One read for each byte of the largest script, one that finds the byte too much, and one more.
+// One read for each byte of the largest script, one that finds a byte too many, and one more.
 const MOST_READS: u64 = 67_108_866;
 
 /// Reads a whole script, runs its events in a new world, and writes the reply text. The reader is
-/// asked at most 67,108,866 times. Nothing was written after any fault but `WriteFault`; after that
-/// a prefix of the reply text was. Every error of the reader or the writer is a fault, an
-/// interruption too, and so is a write that takes 0 bytes.
+/// asked at most 67,108,866 times. On a fault nothing was written, except on `WriteFault`: then a
+/// prefix of the reply text was. Every error of the reader or the writer is a fault, even an
+/// interruption, and so is a write that takes 0 bytes.
 pub fn replay_run<R: Read, W: Write>(
     alloc: Global,
     reader: &mut R,
@@ -45,14 +45,14 @@ pub fn replay_run<R: Read, W: Write>(
     write_text(writer, text.as_slice())
 }
 
-/// What the definitions of a replay say: a fault other than a failed write leaves nothing written.
+/// A law of the definitions of a replay: a fault other than a failed write leaves nothing written.
 /// Does nothing at run time.
 pub fn laws_of_replays()
     ensures silent { (input old new : Option (List ℕ)) (fault : RunFault)
         → ReplayLeaves input old new fault → (IsWriteFault fault → ⊥) → new ≡ old }
 {}
 
-// All that the reader has, up to the largest script. No other function asks a reader.
+// All that the reader has, or `TooLarge` past the largest script. No other function asks a reader.
 fn read_script<R: Read>(alloc: Global, reader: &mut R, asks: &mut Asks) -> Result<Vec<u8>, RunFault>
     requires { asks.old ≡ 0 }
     ensures asked { asks.new ≤ most_reads }
@@ -82,8 +82,8 @@ fn read_script<R: Read>(alloc: Global, reader: &mut R, asks: &mut Asks) -> Resul
 }
 
 // A world that takes the events of a script, and the text of its replies so far. Each event is
-// taken as soon as its line is read, and each reply is dropped once its lines are written: the
-// events and the views of a script are many times its size.
+// taken as soon as its line is read, and each reply is dropped once its lines are written, because
+// the events and the views of a script are many times its size.
 #[derive(Drop)]
 struct Answering {
     world: World,

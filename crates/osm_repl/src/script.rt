@@ -1,6 +1,6 @@
-//! Scripts: a line an event, as `edit n1 v1 dV c7 t2024-01-01T00:00:00Z i5 uann T x1 y2`,
-//! `close 2024-01-01T00:00:00Z`, `deliver 1 opl`, `deliver 1 o5c`, `show`, `save` and `restart`.
-//! Empty lines and lines that begin with `#` say nothing.
+//! Scripts: one event a line, as `edit n1 v1 dV c7 t2024-01-01T00:00:00Z i5 uann T x1 y2`, `close
+//! 2024-01-01T00:00:00Z`, `deliver 1 opl`, `deliver 1 o5c`, `show`, `save` and `restart`. Empty
+//! lines and lines that begin with `#` are skipped.
 
 ghost use Rattle.std.specs.Prelude.{◌≡◌, ℕ, ◌<◌, ◌++◌, ◌^◌, List, [], ◌∷◌, length};
 ghost use Rattle.std.specs.Prelude.{IfOk, IfErr, OnOk, IfSome, IfNone};
@@ -26,7 +26,7 @@ enum LineFault {
     NoEvent,
 }
 
-/// What takes the events of a script, one after another.
+/// Takes the events of a script, one after another.
 pub(crate) trait EventSink {
     /// The sink took those events, in that order.
     ghost took: { Self → List Event → Type 0 };
@@ -91,7 +91,7 @@ pub(crate) fn send_events<S: EventSink>(
     Ok(())
 }
 
-// What the line of that number says: an event, or nothing.
+// The event of the line with that number; None if it is skipped.
 fn line_event(alloc: Global, line: &[u8], number: u64) -> Result<Option<Event>, RunFault>
     ensures said { IfOk result (IsSaid line.now) }
     ensures refused { IfErr result (LineRefused line.now number) }
@@ -161,7 +161,7 @@ fn parse_deliver(words: &[u8]) -> Result<Event, LineFault>
     }
 }
 
-// The form that the words name last, and what comes before its name.
+// What comes before the name of a form at the end of the words, and that form.
 fn before_form(words: &[u8]) -> Option<(&[u8], Form)>
     ensures found { IfSome result (λ r. words.now ≡ r.0.now ++ form_text r.1) }
     ensures none { IfNone result ((digits : List ℕ) (form : Form)

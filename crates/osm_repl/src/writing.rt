@@ -7,7 +7,7 @@ ghost use Rattle.osm_repl.specs.Steps.Replaying.{WritingFault};
 use osm_folder::fault::{FileName, RunFault};
 use std::io::Write;
 
-// Writes all the text, or a prefix of it.
+// Writes the whole text. On a fault a prefix of it was written.
 pub(crate) fn write_text<W: Write>(writer: &mut W, text: &[u8]) -> Result<(), RunFault>
     ensures written { OnOk result
         (Appends (W.contents writer.old) (W.contents writer.new) text.now) }

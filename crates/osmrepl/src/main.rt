@@ -41,7 +41,7 @@ fn run(rt: &HostRuntime) -> u8 {
     }
 }
 
-// Does what the order asks for, over the files of the disk.
+// Does what the order asks for, over the files on the disk.
 fn done(rt: &HostRuntime, order: Order<'_>) -> u8 {
     let mut store = DiskStore::new(rt, process::id(rt.process()));
     match execute(
@@ -56,8 +56,8 @@ fn done(rt: &HostRuntime, order: Order<'_>) -> u8 {
     }
 }
 
-// Says why the words gave no order. The text is the one that `clap` makes of the words' echoes,
-// since it repeats a word that it refuses.
+// Says why the words gave no order. `clap` makes the text from the words' echoes, since it repeats
+// a word that it refuses.
 fn explain(rt: &HostRuntime, error: &Error, words: &[&str]) -> u8 {
     let alloc = rt.alloc();
     let Ok(echoes) = echoes(alloc, words) else {
@@ -80,8 +80,8 @@ fn report(rt: &HostRuntime, fault: RunFault) -> u8 {
     end(rt, reported(fault))
 }
 
-// Says what the ending says, and gives its status. If standard output doesn't take it, that is a
-// fault.
+// Prints the text of the ending, and gives its status. It is a fault if standard output doesn't
+// take the text.
 fn end(rt: &HostRuntime, ending: Ending) -> u8 {
     match (say(rt, ending.said, ending.stream), ending.stream) {
         (Err(_), Stream::Output) => {

@@ -1,4 +1,4 @@
-//! Mixed changes are written and read back alike in each form of change files, and copied alike.
+//! Tests that mixed changes stay the same when written and read back in each form, and when copied.
 
 use made_changes::mixed;
 use osm_model::batch::Batch;
@@ -26,7 +26,7 @@ fn is_kept(alloc: Global, batch: &Batch) -> bool {
     comes_back && is_copied(alloc, batch)
 }
 
-// Whether mixed changes are kept by each form and by a copy.
+// Whether mixed changes stay the same in each form and in a copy.
 fn are_kept(alloc: Global) -> bool {
     match mixed(alloc, 100) {
         Ok(batch) => is_kept(alloc, &batch),

@@ -9,7 +9,7 @@ use std::alloc::Global;
 
 const NODE: &[u8] = b"n1 v1 dV c7 t2024-01-01T00:00:00Z i5 uann T x1 y2";
 
-// Whether the line is read, and its change then written as the same line, after what is there.
+// Whether the line is read, and its change is then appended to `out` as the same line.
 fn is_written_again(alloc: Global, out: &mut Vec<u8>, line: &[u8]) -> bool {
     let is_written = match read_line(alloc, line) {
         Ok(change) => write_line(&change, out).is_ok(),
@@ -27,7 +27,7 @@ fn lines_are_written_one_after_the_other(rt: HostRuntime) {
     assert!(rt; is_first && is_second && length == 2 * NODE.len());
 }
 
-// Why that line isn't read.
+// Why the line isn't read.
 fn refusal(alloc: Global, line: &[u8]) -> Option<LineError> {
     read_line(alloc, line).err()
 }

@@ -26,7 +26,7 @@ fn a_node_past_the_date_line_is_refused(rt: HostRuntime) {
     assert!(rt; node_refusal(rt.alloc(), 1_800_000_000).is_none());
 }
 
-// A byte more than a text can have, and that end.
+// One byte more than a text can have, and then `end`.
 fn long_string(alloc: Global, end: &str) -> Result<String, AllocError> {
     let mut long = String::new(alloc);
     for _ in 0..1_021 {
@@ -57,7 +57,7 @@ fn texts_are_refused_by_what_is_wrong_with_them(rt: HostRuntime) {
     assert!(rt; is_long_refused(rt.alloc(), "\0", TextError::HasNul));
 }
 
-// Days and times that a calendar or a clock on the wall gives.
+// Days and times as a calendar and a clock give them.
 #[test]
 fn times_are_those_of_the_calendar(rt: HostRuntime) {
     for (text, seconds) in [

@@ -14,7 +14,7 @@ fn read(text: &[u8]) -> Result<(u32, u32), StateError> {
     Ok((state.sequence(), state.time()))
 }
 
-// In the forms that planet servers have written over the years.
+// State files as planet servers have written them over the years.
 const SERVER_TEXTS: [(&[u8], (u32, u32)); 8] = [
     (
         b"#Wed Sep 12 07:07:05 UTC 2012\r\ntxnMax=5\r\nsequenceNumber=1234567\r\n\
@@ -61,7 +61,7 @@ fn texts_of_planet_servers_are_read(rt: HostRuntime) {
     }
 }
 
-// What our rules leave no doubt about.
+// Texts on which our rules leave no doubt.
 const TEXTS: [(&[u8], Result<(u32, u32), StateError>); 29] = [
     (b"", Err(StateError::MissingSequence)),
     (
@@ -199,7 +199,7 @@ fn a_cut_text_is_refused_for_what_it_lacks(rt: HostRuntime) {
     }
 }
 
-// Whether the state of that number and time is written so.
+// Whether the state of that number and time is written as the text.
 fn is_written(alloc: Global, sequence: u32, time: u32, text: &[u8]) -> bool {
     match State::new(sequence, time) {
         Some(state) => is_text_of(alloc, &state, text),
@@ -244,7 +244,7 @@ fn a_state_is_refused_outside_its_limits(rt: HostRuntime) {
     assert_eq!(rt; State::new(1, 0), None);
 }
 
-// Whether that is the path of the number and the suffix.
+// Whether the text is the path of the number and the suffix.
 fn is_path(alloc: Global, number: u32, suffix: Suffix, text: &str) -> bool {
     if 999_999_999 < number || path_number(text) != Some((number, suffix)) {
         return false;

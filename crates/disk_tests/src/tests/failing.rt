@@ -7,14 +7,14 @@ use std::io::{self, ErrorKind, Read, Seek, SeekFrom, Write};
 use std::path::PathBuf;
 use std::rc::Rc;
 
-/// Counts calls down, and fails the one at which none is left.
+/// Counts calls down, and fails the first one after them.
 #[derive(Drop)]
 pub struct Countdown {
     left: Rc<Cell<u64>>,
 }
 
 impl Countdown {
-    /// So many calls go through before the one that fails.
+    /// Lets that many calls through, and fails the next one.
     pub fn new(alloc: Global, calls: u64) -> Result<Countdown, AllocFailed<Cell<u64>>> {
         let left = Rc::new(alloc, Cell::new(calls))?;
         Ok(Countdown { left })
@@ -35,7 +35,7 @@ impl Countdown {
     }
 }
 
-/// Files whose calls count down, those on open files too.
+/// Files whose calls count down, and so do the calls on their open files.
 #[derive(Drop)]
 pub struct Failing<R: Files> {
     files: R,
@@ -48,7 +48,7 @@ impl<R: Files> Failing<R> {
     }
 }
 
-/// An open file of those. It takes and gives at most three bytes at once.
+/// An open file of such files. It takes and gives at most three bytes at a time.
 #[derive(Drop)]
 pub struct FailingFile<F: Drop> {
     file: F,

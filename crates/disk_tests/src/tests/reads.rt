@@ -1,4 +1,4 @@
-//! Tests of reads: what is absent, too large or fails.
+//! Tests of reads: of whole files, and of what is absent, too large or failing.
 
 use super::failing::{Countdown, Failing};
 use super::scratch::scratch;
@@ -9,7 +9,8 @@ use std::fs::{self, Files};
 use std::process;
 use std::test::Fail;
 
-// Whether a file is read so, if at most so many bytes are asked for, with so many failures.
+// Whether reading the file with that limit answers as expected, and only a failing device is
+// counted.
 fn is_read<R: Files>(
     alloc: Global,
     store: &mut DiskStore<R>,
@@ -36,7 +37,7 @@ fn a_file_is_read_whole_or_refused(rt: HostRuntime) -> Result<(), Fail> {
     let absent = format!(in alloc; "{folder}absent/save")?;
     fs::write(&rt, path.as_str(), "old")?;
     let mut store = DiskStore::new(rt.clone()?, 7);
-    for (place, expected) in [
+    for (request, expected) in [
         ((path.as_str(), 3), Ok(Some(b"old".as_slice()))),
         ((path.as_str(), 2), Err(StoreError::TooLarge)),
         ((path.as_str(), 0), Err(StoreError::TooLarge)),
@@ -46,12 +47,15 @@ fn a_file_is_read_whole_or_refused(rt: HostRuntime) -> Result<(), Fail> {
         ((folder.as_str(), 3), Err(StoreError::Device)),
         (("/dev/zero", 100_000), Err(StoreError::TooLarge)),
     ] {
-        assert!(rt; is_read(alloc, &mut store, place, expected), "{place:?}");
+        assert!(rt;
+            is_read(alloc, &mut store, request, expected),
+            "{request:?}"
+        );
     }
     Ok(())
 }
 
-// Whether a read with one call failing after so many fails because of the device.
+// Whether a read whose call after that many fails is refused because of the device.
 fn fails<R: Files + Clone + Drop>(
     alloc: Global,
     files: &R,
@@ -69,7 +73,7 @@ fn a_read_with_each_call_failing_is_refused(rt: HostRuntime) -> Result<(), Fail>
     let folder = scratch(alloc, &rt, process::id(rt.process()), "read")?;
     let path = format!(in alloc; "{folder}save")?;
     fs::write(&rt, path.as_str(), "older")?;
-    // The opening, two reads of bytes, and the one that finds the end.
+    // Opening the file, two reads of bytes, and the read that finds the end.
     for calls in 0..4 {
         assert!(rt; fails(alloc, &rt, calls, path.as_str())?, "{calls}");
     }

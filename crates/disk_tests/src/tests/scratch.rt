@@ -5,7 +5,7 @@ use std::env::{self, Env};
 use std::fs::{self, Files};
 use std::test::Fail;
 
-/// A new and empty folder of that name, `osm_disk-PROCESS-NAME/`, in the folder of temporary files.
+/// Makes a new, empty folder `osm_disk-PROCESS-NAME/` in the folder of temporary files.
 pub fn scratch<R: Files + Env + AllocGlobal>(
     alloc: Global,
     files: &R,
@@ -19,7 +19,7 @@ pub fn scratch<R: Files + Env + AllocGlobal>(
     Ok(folder)
 }
 
-/// Whether a file has those bytes.
+/// Whether a file holds those bytes.
 pub fn holds<R: Files + AllocGlobal>(rt: &R, path: &str, bytes: &[u8]) -> bool {
     match fs::read(rt, path) {
         Ok(found) => found.as_slice() == bytes,
@@ -27,7 +27,7 @@ pub fn holds<R: Files + AllocGlobal>(rt: &R, path: &str, bytes: &[u8]) -> bool {
     }
 }
 
-/// Whether nothing is at that path.
+/// Whether there is nothing at that path.
 pub fn is_absent<R: Files>(files: &R, path: &str) -> bool {
     files.symlink_metadata(path).is_err()
 }

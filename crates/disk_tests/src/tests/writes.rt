@@ -12,7 +12,7 @@ use std::test::Fail;
 
 const NEW: &[u8] = b"newer";
 
-// Writes over the disk with one call failing after so many, and gives the answer and the count.
+// Writes to the disk with the call after that many failing, and gives the answer and the count.
 fn write_failing<R: Files + Clone + Drop>(
     alloc: Global,
     files: &R,
@@ -25,7 +25,8 @@ fn write_failing<R: Files + Clone + Drop>(
     Ok((answer, store.failures()))
 }
 
-// Whether such a write fails once, leaves the file old or new, and leaves no temporary file.
+// Whether such a write counts one failure, leaves the old file or the new one, and leaves no
+// temporary file.
 fn fails<R: Files + AllocGlobal + Clone + Drop>(
     rt: &R,
     (calls, path): (u64, &str),
@@ -47,8 +48,8 @@ fn a_write_with_each_call_failing_leaves_the_old_file_or_the_new_one(
     let alloc = rt.alloc();
     let folder = scratch(alloc, &rt, process::id(rt.process()), "failing")?;
     let path = format!(in alloc; "{folder}save")?;
-    // The two tests of what is there, the opening, two writes, the sync and the renaming; then the
-    // opening of the folder and its sync.
+    // Two looks at what is there, opening the temporary file, two writes, the sync and the rename;
+    // then opening the folder and its sync.
     for calls in 0..9 {
         assert!(rt; fails(&rt, (calls, path.as_str()), calls > 6)?, "{calls}");
     }
@@ -57,7 +58,7 @@ fn a_write_with_each_call_failing_leaves_the_old_file_or_the_new_one(
     Ok(())
 }
 
-// Whether a write makes that file, with no failure.
+// Whether a write makes the file, with no failure.
 fn makes<R: Files + AllocGlobal + Clone + Drop>(rt: &R, path: &str) -> Result<bool, Fail> {
     let mut store = DiskStore::new(rt.clone()?, 7);
     let answer = store.write(rt.alloc(), path, NEW);
@@ -85,7 +86,8 @@ fn what_a_killed_process_left_is_written_over(rt: HostRuntime) -> Result<(), Fai
     Ok(())
 }
 
-// Whether a write through a link of that text makes the file at the end of the link, which stays.
+// Whether a write through a link with that text makes the file that it leads to, and the link
+// stays.
 fn is_followed<R: Files + AllocGlobal + Clone + Drop>(
     rt: &R,
     folder: &str,
@@ -113,7 +115,7 @@ fn a_link_stays_and_the_file_at_its_end_is_replaced(rt: HostRuntime) -> Result<(
     Ok(())
 }
 
-// Whether a write to that path fails because of the device.
+// Whether a write to the path fails because of the device.
 fn is_refused<R: Files + AllocGlobal + Clone + Drop>(rt: &R, path: &str) -> Result<bool, Fail> {
     let mut store = DiskStore::new(rt.clone()?, 7);
     let answer = store.write(rt.alloc(), path, NEW);

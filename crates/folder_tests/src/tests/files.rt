@@ -1,4 +1,4 @@
-//! Runs over a store of a few files, and what they leave.
+//! Runs over a store with a few files, and what they leave.
 
 use osm_folder::convert::convert_run;
 use osm_folder::fault::RunFault;
@@ -12,10 +12,10 @@ use osm_folder::store::Store;
 use osm_model::memory::WantOfMemory;
 use std::alloc::Global;
 
-/// A node, as a file of the form OPL.
+/// A node, as an OPL file.
 pub const NODE: &[u8] = b"n1 v1 dV c7 t2024-01-01T00:00:00Z i5 uann T x1 y2\n";
 
-/// The same in o5c (OSM wiki, O5m).
+/// The same as an o5c file (OSM wiki, O5m).
 pub const NODE_O5C: &[u8] =
     b"\xff\xe0\x04o5c2\x10\x17\x02\x01\x80\x82\x90\xd9\x0c\x0e\x00\x05\x00ann\x00\
       \x80\xda\xc4\x09\x80\xb4\x89\x13\xfe";
@@ -52,17 +52,17 @@ pub fn are_files(store: &MemoryStore, files: &[(&str, &[u8])]) -> bool {
 pub enum Run {
     /// Publishes the changes of `changes`, at New Year.
     Publish,
-    /// Follows with the save `save`.
+    /// Follows from the save `save`.
     Follow,
-    /// Prints the lag of that save.
+    /// Prints the lag of the save.
     Lag,
-    /// Shows that save.
+    /// Shows the save.
     Show,
     /// Converts `a.opl` into `b.o5c`.
     Convert,
 }
 
-/// How the run ends over that store.
+/// What the run over the store answers.
 pub fn outcome<S: Store>(alloc: Global, store: &mut S, run: Run) -> Result<Report, RunFault> {
     match run {
         Run::Publish => publish_run(alloc, store, "dir", "changes", "2024-01-01T00:00:00Z"),
@@ -73,7 +73,7 @@ pub fn outcome<S: Store>(alloc: Global, store: &mut S, run: Run) -> Result<Repor
     }
 }
 
-/// Whether the run prints that text and ends with that status.
+/// Whether the run prints that text and has that status.
 pub fn reports<S: Store>(
     alloc: Global,
     store: &mut S,

@@ -1,4 +1,4 @@
-//! Tests of runs in memory: what each prints and writes, and what is left when each call of its
+//! Tests of runs in memory: what each prints and writes, and what it leaves when each call of its
 //! store fails in turn.
 
 use super::files::{
@@ -35,7 +35,7 @@ const SHOWN_1: &str = "number 1\ntime 2024-01-01T00:00:00Z\nobjects 1\n\
 
 const ALL_APPLIED: &str = "applied 1..1\napplied 2..2\napplied 3..3\napplied 4..4\nnumber 4\n";
 
-// The files of number 2, which get lost.
+// The files of number 2, which are lost.
 const LOST: [&str; 2] = ["dir/000/000/002.state.txt", "dir/000/000/002.o5c"];
 
 // The files that a run reads, and those that it writes, in their order.
@@ -106,7 +106,7 @@ const CONVERT: Case = Case {
     written: &[("b.o5c", NODE_O5C)],
 };
 
-// Whether the run prints that text with status 0, writes its files and keeps those that it reads.
+// Whether the run prints that text with status 0, writes its files and leaves those that it reads.
 fn is_done(alloc: Global, case: &Case, text: &str) -> bool {
     let Ok(mut store) = store_with(alloc, case.files) else {
         return false;
@@ -153,7 +153,7 @@ fn a_lost_number_is_named_and_is_taken_once_it_is_back(rt: HostRuntime) {
     assert!(rt; goes_on_after_a_loss(rt.alloc()));
 }
 
-// Whether the run over those files is refused with that fault, and leaves them.
+// Whether the run over those files is refused with that fault, and leaves them as they were.
 fn is_refused(alloc: Global, files: &[(&str, &[u8])], run: Run, fault: RunFault) -> bool {
     let Ok(mut store) = store_with(alloc, files) else {
         return false;
@@ -172,7 +172,7 @@ fn a_wrong_folder_and_an_absent_save_are_refused(rt: HostRuntime) {
     }
 }
 
-// Why a conversion into a file of another name isn't made, over a store that takes no call.
+// Why a conversion to a name of another end is refused, over a store that takes no call.
 fn refusal_of_a_name(alloc: Global) -> Option<RunFault> {
     let mut fuse = Fuse::new(MemoryStore::new(alloc), 0);
     convert_run(alloc, &mut fuse, "a.opl", "b.osc").err()
@@ -184,7 +184,7 @@ fn an_unknown_form_is_refused_before_any_call(rt: HostRuntime) {
     assert!(rt; RunFault::UnknownForm.status() == 2);
 }
 
-// Whether the store holds the first files that the run writes, so many, and none of the others.
+// Whether the store holds the first `count` files that the run writes, and none of the others.
 fn holds_the_first(store: &MemoryStore, case: &Case, count: usize) -> bool {
     for (index, (name, bytes)) in case.written.iter().enumerate() {
         let is_written = is_file(store, *name, *bytes);
@@ -195,8 +195,8 @@ fn holds_the_first(store: &MemoryStore, case: &Case, count: usize) -> bool {
     are_files(store, case.files)
 }
 
-// Whether the run over a store that stops after so many calls makes them all, ends with that fault,
-// and leaves so many of the files that it writes.
+// Whether the run over a store that stops after `calls` calls makes them all, ends with that fault,
+// and has written the first `count` of its files.
 fn is_stopped(
     alloc: Global,
     case: &Case,
@@ -279,7 +279,7 @@ fn each_store_call_of_the_other_runs_failing_in_turn(rt: HostRuntime) {
     }
 }
 
-// What a run leaves that is stopped after so many calls.
+// What a run that is stopped after that many calls leaves.
 fn left_after(alloc: Global, case: &Case, calls: u64) -> Option<MemoryStore> {
     let store = store_with(alloc, case.files).ok()?;
     let mut fuse = Fuse::new(store, calls);
@@ -287,7 +287,7 @@ fn left_after(alloc: Global, case: &Case, calls: u64) -> Option<MemoryStore> {
     Some(fuse.into_inner())
 }
 
-// Whether a publication that was cut off is made again, of other changes.
+// Whether a publication that was cut off is done again, with other changes.
 fn is_published_again(alloc: Global, store: &mut MemoryStore) -> bool {
     let had_node = is_file(store, "dir/000/000/001.opl", NODE);
     let is_put = store.put(alloc, "changes", b"").is_ok();
@@ -333,7 +333,7 @@ fn no_number_past_the_window_is_asked_for(rt: HostRuntime) {
     assert!(rt; asks_for_the_window(rt.alloc()));
 }
 
-// Why a publication at a wrong time isn't made, over a store that takes no call.
+// Why a publication at a wrong time is refused, over a store that takes no call.
 fn refusal_at_no_time(alloc: Global) -> Option<RunFault> {
     let mut fuse = Fuse::new(MemoryStore::new(alloc), 0);
     publish_run(alloc, &mut fuse, "dir", "changes", "2024").err()

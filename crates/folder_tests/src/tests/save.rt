@@ -1,4 +1,4 @@
-//! Tests of save texts: what is saved and read again.
+//! Tests of save texts: what is saved and read back.
 
 use super::shown::is_shown;
 use osm_mirror::mirror::Mirror;
@@ -19,7 +19,7 @@ const ONE_NODE: &[u8] = b"osmrepl-save 1\nsequence 1\ntime 2024-01-01T00:00:00Z\
 const NOTHING: &[u8] =
     b"osmrepl-save 1\nsequence 0\ntime none\nobjects 0\nusers 0\nchangesets 0\nend\n";
 
-// What a mirror is after the changes of a file.
+// The mirror after the changes of a file.
 fn mirror_after(alloc: Global, file: &[u8]) -> Option<Mirror> {
     let changes = Opl::read(alloc, file).ok()?.into_changes();
     let mut mirror = Mirror::new(alloc);
@@ -39,7 +39,7 @@ fn is_text_of(
     }
 }
 
-// Whether a mirror after that file is saved so.
+// Whether the mirror after that file is saved as the text.
 fn is_saved(alloc: Global, at: (u32, Option<u32>), file: &[u8], text: &[u8]) -> bool {
     match mirror_after(alloc, file) {
         Some(mirror) => is_text_of(alloc, at, &mirror, text),

@@ -14,7 +14,7 @@ use osm_state::paths::Suffix;
 use osm_state::state_text::StateError;
 use std::alloc::Global;
 
-// Whether a file is read so, if at most so many bytes are asked for.
+// Whether reading the file with that limit answers as expected.
 fn is_read<S: Store>(
     alloc: Global,
     store: &mut S,
@@ -81,7 +81,7 @@ fn a_fuse_passes_on_so_many_calls(rt: HostRuntime) {
     assert!(rt; is_a_fuse(rt.alloc()));
 }
 
-// Ranges that were applied, numbers that are missing, the number reached, and the report.
+// Ranges that were applied, numbers that are missing, the number reached, the status and the text.
 const FOLLOWED: [(&[(u32, u32)], &[u32], u32, u8, &str); 4] = [
     (&[(1, 1)], &[2], 1, 1, "applied 1..1\nmissing 2\nnumber 1\n"),
     (
@@ -95,7 +95,7 @@ const FOLLOWED: [(&[(u32, u32)], &[u32], u32, u8, &str); 4] = [
     (&[], &[8, 9], 7, 1, "missing 8\nmissing 9\nnumber 7\n"),
 ];
 
-// Whether that is reported, with that status.
+// Whether that is the report of a follower.
 fn is_follow_report(
     alloc: Global,
     (applied, missing, number): (&[(u32, u32)], &[u32], u32),
@@ -118,7 +118,7 @@ fn a_follower_reports_a_line_for_each_range_and_each_gap(rt: HostRuntime) {
     }
 }
 
-// Whether a lag is reported so.
+// Whether the lag is reported with that text.
 fn is_lag_report(alloc: Global, behind: u32, seconds: Option<u32>, text: &str) -> bool {
     match lag_report(alloc, behind, seconds) {
         Ok(report) => report.status() == 0 && report.text() == text.as_bytes(),

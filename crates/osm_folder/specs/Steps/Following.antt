@@ -99,7 +99,7 @@ pub record IsFetched (known : Type 0) (files : Files) (dir : List ℕ) (number :
   pub changes_are : known → IsFileOf form (files (file_name_of dir number suffixes.O5c))
       (files (file_name_of dir number suffixes.Opl)) changes
 
--- the files of a number were delivered, and the answer is one of the two that can come
+-- the files of a number were delivered, with one of the two answers that can come
 abbrev pub IsDelivered :
     Spelling → FaultPlaces → FollowerValue → List ℕ → List ℕ → Delivered → FollowerValue → Type 0
 IsDelivered spells fault_place f state bytes Old g = ⊥
@@ -143,7 +143,7 @@ pub record IsNoted (known : Type 0) (files : Files) (dir : List ℕ) (number : �
   pub taken : IsTaken known files dir number f answer g
   pub noted : new ≡ old ++ range_of answer
 
--- what the files say of the numbers up to one
+-- what the files say about the numbers up to `last`
 pub record AreTaken (files : Files) (dir : List ℕ) (f : FollowerValue) (last count : ℕ)
     (g : FollowerValue) : Type 0 where
   pub added : AddsAll files dir count (saved_of f) (saved_of g)
@@ -151,7 +151,7 @@ pub record AreTaken (files : Files) (dir : List ℕ) (f : FollowerValue) (last c
   pub each : (k : ℕ) → g.number < k → k ≤ last → IsReadable files dir k
   pub held : (k : ℕ) → g.number < k → k ≤ last → is_held g k ≡ not (is_lost files dir k)
 
--- the numbers after the follower's, up to one, were taken or are lost
+-- the numbers after the follower's, up to `last`, were taken or are lost
 pub record IsTakenTo (known : Type 0) (files : Files) (dir : List ℕ) (f : FollowerValue)
     (last : ℕ) (g : FollowerValue) (applied : List (ℕ × ℕ)) : Type 0 where
   pub whole : g.is_broken ≡ false
@@ -177,7 +177,7 @@ pub record IsTakenUp (known : Type 0) (files : Files) (dir : List ℕ) (f : Foll
   pub missing : known
       → missing_numbers (is_held g) g.number top ≡ lost_numbers files dir g.number top
 
--- a number comes to be taken, from the follower's on
+-- a number on the way from the start to the top is read
 pub record IsNext (files : Files) (dir : List ℕ) (start top number : ℕ) : Type 0 where
   pub above : start < number
   pub until : number ≤ top

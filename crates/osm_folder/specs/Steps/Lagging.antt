@@ -1,4 +1,4 @@
--- Steps of telling a lag.
+-- Steps of a lag.
 use Rattle.std.specs.Prelude.{◌≡◌, ℕ, ◌+◌, ◌<◌, Option, Some}
 use Rattle.osm_state.specs.State.{StateValue}
 use Rattle.osm_follow.specs.Follower.{FollowerValue}
@@ -16,7 +16,7 @@ pub record IsTold (f : FollowerValue) (top : StateValue) (report : ReportValue) 
   pub seconds_are : AreSeconds f.time top.time seconds
   pub report_is : report ≡ lag_report_of behind seconds
 
--- why they aren't
+-- why no lag is reported
 abbrev pub ToldStops : FollowerValue → StateValue → RunFault → Type 0
 ToldStops f top WantOfMemory = Unit {0}
 ToldStops f top TopBehind = top.sequence < f.number

@@ -91,7 +91,7 @@ pub record IsMade (known : Type 0) (dir changes now : List ℕ) (files : Files) 
   pub names_are : AreNames dir (publisher.number + 1) made.names
   pub report_is : made.report ≡ publish_report_of (publisher.number + 1)
 
--- a write after some of the others stops
+-- a write fails after some of the others were made
 pub record IsCut (known : Type 0) (names : FolderNames) (p : PublishedTexts) (old new : Files)
     (fault : RunFault) : Type 0 where
   pub count : ℕ

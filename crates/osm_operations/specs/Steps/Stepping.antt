@@ -103,7 +103,7 @@ Moves false name from to from_after to_after =
 abbrev pub GoesUp : ℕ → ℕ → Type 0
 GoesUp old new = old < max_sequence → new ≡ old + 1
 
--- whether a number is that of a published sequence, if so many are published
+-- whether a number is that of a published sequence, if that many are published
 abbrev pub IsNumber : Bool → ℕ → ℕ → Type 0
 IsNumber true count n = (0 < n) × (n ≤ count) × (n ≤ max_sequence)
 IsNumber false count n = (n ≡ 0) ⊎ (count < n) ⊎ (max_sequence < n)
@@ -127,26 +127,26 @@ FollowTo dir save (Refused fault) a b =
     × (b.lost ≡ a.lost) × (b.published ≡ a.published)
 FollowTo dir save r a b = ⊥
 
--- what a reply says of the calls that a killed publication had
+-- what a reply says about the calls that a killed publication had
 abbrev pub HasPublishCalls : ℕ → Reply → Type 0
 HasPublishCalls calls (Published report) = 6 ≤ calls
 HasPublishCalls calls (Refused fault) = LacksCalls 6 (Some calls) fault
 HasPublishCalls calls r = Unit {0}
 
--- why a run of the follower is refused that had so many calls
+-- why a run of the follower that had that many calls is refused
 abbrev pub LacksFollowCalls : List ℕ → List ℕ → ℕ → Files → RunFault → Type 0
 LacksFollowCalls dir save calls files fault =
     (published : List PublishedValue) (number : ℕ) → IsFolderOf published files dir
     → IsSaveOf published number (files save)
     → LacksCalls (follow_calls published number) (Some calls) fault
 
--- what a reply says of the calls that a killed run of the follower had
+-- what a reply says about the calls that a killed run of the follower had
 abbrev pub HasFollowCalls : List ℕ → List ℕ → ℕ → Reply → Files → Type 0
 HasFollowCalls dir save calls (Followed report) files = 3 ≤ calls
 HasFollowCalls dir save calls (Refused fault) files = LacksFollowCalls dir save calls files fault
 HasFollowCalls dir save calls r files = Unit {0}
 
--- what a reply says of a run that isn't killed
+-- what a reply says about a run that isn't killed
 abbrev pub IsWhole : Reply → Type 0
 IsWhole (Refused fault) = IsNoDevice fault
 IsWhole r = Unit {0}

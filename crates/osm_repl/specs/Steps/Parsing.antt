@@ -34,17 +34,17 @@ abbrev pub IsDeliverOf : List ℕ → Event → Type 0
 IsDeliverOf words (Deliver number form) = AreWords words number form
 IsDeliverOf words e = ⊥
 
--- a line is refused as no event only if it is none
+-- a line is refused as no event only if it is no event
 abbrev pub Refused : (Event → Type 0) → LineFault → Type 0
 Refused IsIt WantOfMemory = Unit {0}
 Refused IsIt NoEvent = (e : Event) → IsIt e → ⊥
 
--- a line says nothing, or that event
+-- a line is skipped, or is that event
 abbrev pub IsSaid : List ℕ → Option Event → Type 0
 IsSaid line None = is_skipped line ≡ true
 IsSaid line (Some event) = (is_skipped line ≡ false) × IsEventLine line event
 
--- a line that says something is no event, or memory was refused
+-- a line that isn't skipped is no event, or memory was refused
 abbrev pub LineRefused : List ℕ → ℕ → RunFault → Type 0
 LineRefused line number faults.WantOfMemory = is_skipped line ≡ false
 LineRefused line number (faults.BadScript n) =

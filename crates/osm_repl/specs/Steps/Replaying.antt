@@ -13,7 +13,7 @@ use Rattle.osm_folder.specs.declared.fault.RunFault.{RunFault}
 use Rattle.osm_folder.specs.declared.fault.RunFault.TheVariants.{WantOfMemory, ReadFault}
 use Rattle.osm_folder.specs.declared.fault.RunFault.TheVariants.{WriteFault, TooLarge, BadScript}
 
--- how often a reader is asked at most: for each byte of the largest script, for a byte too much,
+-- how often a reader is asked at most: for each byte of the largest script, for one byte too many,
 -- and once more
 abbrev pub most_reads : ℕ
 most_reads = 67108866

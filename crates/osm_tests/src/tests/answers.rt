@@ -1,4 +1,4 @@
-//! Calls of a follower, each with what it has to answer.
+//! Calls of a follower, each with its answer.
 
 use osm_follow::delivery::{DeliverError, Delivered};
 use osm_follow::follower::{Broken, Follower};
@@ -19,25 +19,25 @@ pub enum Call<'a> {
     O5c(&'a [u8], &'a [u8], Result<Delivered, DeliverError>),
     /// A restart from a save, or from nothing.
     Restart(Option<&'a [u8]>, Result<(), RestartError>),
-    /// The text of its save.
+    /// The follower's save.
     Save(&'a [u8]),
-    /// Its number.
+    /// The follower's number.
     Number(Result<u32, Broken>),
     /// Whether a number is held.
     IsHeld(u32, bool),
-    /// It is at sequence 1, holds node 1 alone, and counts its one edit.
+    /// The follower is at sequence 1, holds only node 1, and counts its one edit.
     HoldsTheNode,
-    /// It holds nothing, at number 0.
+    /// The follower is at number 0 and holds nothing.
     HoldsNothing,
-    /// The numbers that it misses up to the one at the top.
+    /// The numbers that are missing up to the top.
     Misses(u32, &'a [u32]),
-    /// How many numbers it misses up to the one at the top, the first and the last of them.
+    /// How many numbers are missing up to the top, with the first and the last of them.
     MissesMany(u32, usize, u32, u32),
-    /// How far it is behind the number and time at the top.
+    /// How far the follower is behind the number and time at the top.
     Lag(u32, u32, Result<Lag, LagError>),
 }
 
-/// Whether a new follower answers the calls so, one after the other.
+/// Whether a new follower gives those answers to the calls, one after the other.
 pub fn are_answered(alloc: Global, calls: &[Call]) -> bool {
     let Ok(mut follower) = Follower::new(alloc) else {
         return false;

@@ -12,7 +12,7 @@ fn has(alloc: Global, area: &HoldingArea, numbers: &[u32]) -> bool {
     }
 }
 
-// Whether that number of the window after number 1 is free, and held from then on.
+// Whether that number of the window after number 1 is free at first, and is held after `hold`.
 fn holds(alloc: Global, area: &mut HoldingArea, number: u32, time: u32) -> bool {
     if area.base() != 1 || number < 3 || 65 < number || area.is_held(number) {
         return false;

@@ -1,4 +1,4 @@
-//! Tests of osm_judge: which texts it judges, and its definitions on lists that a person wrote.
+//! Tests of osm_judge: which texts it judges, and its definitions on lists worked out by hand.
 
 use osm_folder::fault::RunFault;
 use osm_judge::judge::may_answer;
@@ -72,7 +72,7 @@ n1 v2 dV c7 t2024-01-01T00:00:00Z i5 ubea T x1 y2",
     ),
 ];
 
-// Whether the changes leave node 1 as on that line, or no node 1 if it is empty.
+// Whether the changes leave node 1 as on the line, or no node 1 if the line is empty.
 fn leave_the_node(alloc: Global, changes: &[Change], left: &str) -> bool {
     let key = Key {
         kind: Kind::Node,
@@ -90,12 +90,12 @@ fn is_line(alloc: Global, change: &Change, text: &str) -> bool {
     is_written && line.as_slice() == text.as_bytes()
 }
 
-// Whether so many of the changes are of user 5 and of changeset 7.
+// Whether that many of the changes are of user 5, and that many of changeset 7.
 fn are_counted(changes: &[Change], users: usize, changesets: usize) -> bool {
     plain_edits_by_user(changes, 5) == users && plain_edits_by_changeset(changes, 7) == changesets
 }
 
-// Whether the definitions say that of the changes of those lines.
+// Whether the definitions give that for the changes on those lines.
 fn is_said_of(alloc: Global, lines: &str, left: &str, (users, changesets): (usize, usize)) -> bool {
     match Opl::read(alloc, lines.as_bytes()) {
         Ok(batch) => {

@@ -55,7 +55,7 @@ fn close_refusal(alloc: Global, publisher: &mut Publisher, time: u32) -> Option<
 #[test]
 fn a_sequence_is_published_as_three_texts(rt: HostRuntime) {
     let mut publisher = Publisher::new(rt.alloc());
-    // A close is later than time zero.
+    // A close at time 0 is refused, since it has to be later.
     let is_back = close_refusal(rt.alloc(), &mut publisher, 0) == Some(CloseError::TimeBack);
     let is_published = publishes_the_node(rt.alloc(), &mut publisher);
     assert!(rt; is_back && is_published);

@@ -27,7 +27,7 @@ changesets 1
 held 0
 ";
 
-// A reader of some bytes that then fails.
+// A reader that gives some bytes and then fails.
 #[derive(Drop)]
 struct Cut<'a> {
     rest: &'a [u8],
@@ -44,7 +44,7 @@ impl Read for Cut<'_> {
     }
 }
 
-// A writer that has room for so many bytes, and then takes none.
+// A writer that takes `room` bytes, and then none.
 #[derive(Drop)]
 struct Full {
     room: usize,
@@ -64,7 +64,7 @@ impl Write for Full {
     }
 }
 
-// A writer that keeps what it takes back until it is flushed; the flush may fail.
+// A writer that holds back what it takes until it is flushed; the flush may fail.
 #[derive(Drop)]
 struct Buffered {
     waiting: usize,
@@ -88,7 +88,7 @@ impl Write for Buffered {
     }
 }
 
-// Whether what the reader gives ends in that fault, and nothing is written.
+// Whether a replay from the reader ends in that fault, and writes nothing.
 fn is_refused<R: Read>(alloc: Global, reader: &mut R, fault: RunFault) -> bool {
     let mut written = Vec::new(alloc);
     let refused = replay_run(alloc, reader, &mut written).err();
@@ -107,7 +107,7 @@ fn a_reader_that_fails_is_a_fault_after_each_byte(rt: HostRuntime) {
     }
 }
 
-// Whether a writer with room for so many bytes takes them, and is a fault then.
+// Whether a replay to a writer with that much room fills it, and then ends in a fault.
 fn is_full_after(alloc: Global, room: usize) -> bool {
     let mut writer = Full { room, taken: 0 };
     let refused = replay_run(alloc, &mut SCRIPT.as_bytes(), &mut writer).err();
@@ -121,7 +121,7 @@ fn a_writer_that_takes_nothing_is_a_fault_after_each_byte(rt: HostRuntime) {
     }
 }
 
-// Whether a replay ends so, and flushes so many bytes and leaves none waiting.
+// Whether a replay ends with that answer, flushes that many bytes and leaves none waiting.
 fn flushes(alloc: Global, is_failing: bool, answer: Result<(), RunFault>, count: usize) -> bool {
     let mut writer = Buffered {
         waiting: 0,

@@ -37,7 +37,7 @@ fn delivers(world: &mut World, form: Form) -> bool {
     matches!(reply, Reply::Applied { low: 1, high: 1 })
 }
 
-// Whether that is what a follower at sequence 1 shows that holds the node.
+// Whether that is the view of a follower at sequence 1 that holds the node.
 fn is_of_the_node(view: &View) -> bool {
     let is_first = view.number() == 1 && view.time() == Some(NEW_YEAR);
     let are_users = view.users() == [(5, 1)].as_slice();

@@ -4,7 +4,7 @@ use Rattle.osm_repl.specs.Steps.Parsing.{IsSaid}
 use Rattle.osm_repl.proofs.ScriptLemmas.{IsReadTo, IsSplit, read_skipped, read_event}
 use Rattle.osm_repl.proofs.script.send_events.Goals as goal
 
--- a line more is passed: it says nothing
+-- one more line is passed: it is skipped
 pub loop-rest-preserved-in-Ok-None : goal.loop-rest-preserved-in-Ok-None
 loop-rest-preserved-in-Ok-None g c =
     let events = c.loop-rest.invariant.0 in
@@ -13,7 +13,7 @@ loop-rest-preserved-in-Ok-None g c =
     let skipped : is_skipped c.split_line.result.0.now ≡ true = rw c.in-Ok-None.field-0-is at c.in-Ok-None.ensures.said in
     (events, read_skipped c.args.script.now c.in-Some.bytes c.split_line.result.0.now c.split_line.result.1 c.loop-rest.number events read split skipped, c.loop-rest.invariant.2)
 
--- a line more is passed: it is an event, and the sink takes it
+-- one more line is passed: it is an event, and the sink takes it
 pub loop-rest-preserved : goal.loop-rest-preserved
 loop-rest-preserved g c =
     let events = c.loop-rest.invariant.0 in

@@ -1,4 +1,4 @@
--- The folder and the save of published sequences, some of whose files are lost.
+-- The folder and the save of published sequences, some of whose files may be lost.
 use Rattle.std.proofs.Common.{◌≡◌, ℕ, zero, suc, ◌+◌, ◌-◌, ◌<◌, ◌≤◌, List, [], ◌∷◌, ◌++◌, length, take, Bool, true, false, Option, Some, inl, inr, arith, refl, sym, ap, subst, ◌∙◌, length-append}
 use Rattle.std.specs.Prelude.{IsTrue, not}
 use Rattle.std.specs.List.{AllByRecursion}
@@ -35,8 +35,8 @@ use Rattle.osm_operations.specs.Correct.{AreApart, IsOther}
 use Rattle.osm_operations.specs.History.{text_of, unless_lost}
 use Rattle.osm_operations.specs.Steps.Stepping.{AreChangesPut, IsPublishRun, Publishes, StopsPublishing}
 
--- the files of the folder and of the save, and those that were taken away
-pub record Stands (p : List PublishedValue) (lost : ℕ → Suffix → Bool) (m : ℕ) (dir save changes : List ℕ) (start f l : Files) (n : ℕ) : Type 0 where
+-- the files agree with what was published, lost and saved; `l` holds the lost ones
+pub record Agrees (p : List PublishedValue) (lost : ℕ → Suffix → Bool) (m : ℕ) (dir save changes : List ℕ) (start f l : Files) (n : ℕ) : Type 0 where
   pub folder : IsFolderOf p f dir
   pub each : (k : ℕ) (s : Suffix) → 0 < k → k ≤ length p → f (file_name_of dir k s) ≡ unless_lost (lost k s) (text_of s (sequence_at p k))
   pub away : (k : ℕ) (s : Suffix) → 0 < k → k ≤ max_sequence → l (file_name_of dir k s) ≡ unless_lost (not (lost k s)) (text_of s (sequence_at p k))
@@ -46,14 +46,14 @@ pub record Stands (p : List PublishedValue) (lost : ℕ → Suffix → Bool) (m 
   pub others : (name : List ℕ) → IsOther dir save changes name → f name ≡ start name
   pub number : n ≡ length p
 
--- a folder has no more numbers than there are
+-- a folder has no more sequences than there are numbers
 pub few : (p : List PublishedValue) → AreSequences p → length p ≤ max_sequence
 few [] s = omega arith
 few (x ∷ p) s =
     let last = s (length (x ∷ p)) (omega arith) (omega arith) in
     last.most
 
--- files that hold the same at the folder's names are the same folder
+-- stores that hold the same under the folder's names have the same folder
 pub folder_same : (p : List PublishedValue) (dir : List ℕ) (f g : Files) → g (top_name_of dir) ≡ f (top_name_of dir) → ((k : ℕ) (s : Suffix) → 0 < k → k ≤ length p → g (file_name_of dir k s) ≡ f (file_name_of dir k s)) → IsFolderOf p f dir → IsFolderOf p g dir
 folder_same p dir f g top each is = record {
   sequences = is.sequences;
@@ -62,7 +62,7 @@ folder_same p dir f g top each is = record {
 }
 
 -- nothing of it has changed
-pub untouched : (p : List PublishedValue) (lost : ℕ → Suffix → Bool) (m : ℕ) (dir save changes : List ℕ) (start f g l : Files) (n : ℕ) → IsFolderOf p g dir → ((k : ℕ) (s : Suffix) → 0 < k → k ≤ length p → g (file_name_of dir k s) ≡ f (file_name_of dir k s)) → g save ≡ f save → ((name : List ℕ) → IsOther dir save changes name → g name ≡ f name) → Stands p lost m dir save changes start f l n → Stands p lost m dir save changes start g l n
+pub untouched : (p : List PublishedValue) (lost : ℕ → Suffix → Bool) (m : ℕ) (dir save changes : List ℕ) (start f g l : Files) (n : ℕ) → IsFolderOf p g dir → ((k : ℕ) (s : Suffix) → 0 < k → k ≤ length p → g (file_name_of dir k s) ≡ f (file_name_of dir k s)) → g save ≡ f save → ((name : List ℕ) → IsOther dir save changes name → g name ≡ f name) → Agrees p lost m dir save changes start f l n → Agrees p lost m dir save changes start g l n
 untouched p lost m dir save changes start f g l n folder each same others s = record {
   folder = folder;
   each = λ k t above within. each k t above within ∙ s.each k t above within;
@@ -75,7 +75,7 @@ untouched p lost m dir save changes start f g l n folder each same others s = re
 }
 
 -- the file of changes is written
-pub changes_put : (p : List PublishedValue) (lost : ℕ → Suffix → Bool) (m : ℕ) (dir save changes : List ℕ) (start f g l : Files) (n : ℕ) (w : Option (List ℕ)) → AreApart dir save changes → Puts f changes w g → Stands p lost m dir save changes start f l n → Stands p lost m dir save changes start g l n
+pub changes_put : (p : List PublishedValue) (lost : ℕ → Suffix → Bool) (m : ℕ) (dir save changes : List ℕ) (start f g l : Files) (n : ℕ) (w : Option (List ℕ)) → AreApart dir save changes → Puts f changes w g → Agrees p lost m dir save changes start f l n → Agrees p lost m dir save changes start g l n
 changes_put p lost m dir save changes start f g l n w apart put s =
     let most = few p s.folder.sequences in
     untouched p lost m dir save changes start f g l n
@@ -174,8 +174,8 @@ closing_is p dir changes now batch time f m a t folder shows put ready =
     (one_shown now t time ready.read.now_is.shows shows)
 
 -- one sequence more
-stands_more : (p : List PublishedValue) (lost : ℕ → Suffix → Bool) (m : ℕ) (dir save changes : List ℕ) (start f g l : Files) (n : ℕ) (x : PublishedValue) → x.number ≡ length p + 1 → IsWritten x → Writes (writes_of dir (written_of x)) f g → ((name : List ℕ) → IsApart dir name → g name ≡ f name) → IsApart dir save → Stands p lost m dir save changes start f l n → Stands (p ++ x ∷ []) lost m dir save changes start g l (n + 1)
-stands_more p lost m dir save changes start f g l n x next is w others apart s = record {
+agrees_more : (p : List PublishedValue) (lost : ℕ → Suffix → Bool) (m : ℕ) (dir save changes : List ℕ) (start f g l : Files) (n : ℕ) (x : PublishedValue) → x.number ≡ length p + 1 → IsWritten x → Writes (writes_of dir (written_of x)) f g → ((name : List ℕ) → IsApart dir name → g name ≡ f name) → IsApart dir save → Agrees p lost m dir save changes start f l n → Agrees (p ++ x ∷ []) lost m dir save changes start g l (n + 1)
+agrees_more p lost m dir save changes start f g l n x next is w others apart s = record {
   folder = folder;
   each = each;
   away = λ k t above most. elim (cases_lt (length p) k) [
@@ -223,13 +223,13 @@ stands_more p lost m dir save changes start f g l n x next is w others apart s =
         (subst (λ o. IsAbsentOr o (IsFile t (sequence_at (p ++ x ∷ []) x.number))) (last_file t) (folder.each x.number t above at))
 
 -- a publication that is done
-pub published_stands : (p : List PublishedValue) (lost : ℕ → Suffix → Bool) (m : ℕ) (dir save changes : List ℕ) (start f g l : Files) (n : ℕ) (batch : List ChangeValue) (time : ℕ) (report : ReportValue) → AreApart dir save changes → Stands p lost m dir save changes start f l n → IsPublishRun dir changes batch time f g (Publishes dir changes report g) → Stands (p ++ (record { number = length p + 1; changes = batch; time = time }) ∷ []) lost m dir save changes start g l (n + 1) × (report ≡ publish_report_of (length p + 1))
-published_stands p lost m dir save changes start f g l n batch time report apart s run =
+pub published_agrees : (p : List PublishedValue) (lost : ℕ → Suffix → Bool) (m : ℕ) (dir save changes : List ℕ) (start f g l : Files) (n : ℕ) (batch : List ChangeValue) (time : ℕ) (report : ReportValue) → AreApart dir save changes → Agrees p lost m dir save changes start f l n → IsPublishRun dir changes batch time f g (Publishes dir changes report g) → Agrees (p ++ (record { number = length p + 1; changes = batch; time = time }) ∷ []) lost m dir save changes start g l (n + 1) × (report ≡ publish_report_of (length p + 1))
+published_agrees p lost m dir save changes start f g l n batch time report apart s run =
     let mid = changes_put p lost m dir save changes start f run.middle l n (Some (opl_text batch)) apart run.there.put s in
     let done = run.is_so.published in
     let number = goes_on_number p (run.middle (top_name_of dir)) done.publisher.number done.publisher.time mid.folder.sequences mid.folder.top done.ready.read.goes_on in
     let same = closing_is p dir changes run.now batch time f run.middle done.publisher done.time mid.folder run.shows run.there done.ready in (
-      stands_more p lost m dir save changes start run.middle g l n (record { number = length p + 1; changes = batch; time = time }) refl
+      agrees_more p lost m dir save changes start run.middle g l n (record { number = length p + 1; changes = batch; time = time }) refl
           (subst IsWritten same (ready_written dir changes run.now run.middle done.publisher done.time done.ready))
           (subst (λ x. Writes (writes_of dir (written_of x)) run.middle g) same done.written)
           run.others apart.save_is mid,
@@ -237,10 +237,10 @@ published_stands p lost m dir save changes start f g l n batch time report apart
     )
 
 -- a publication that stopped
-pub stopped_stands : (p : List PublishedValue) (lost : ℕ → Suffix → Bool) (m : ℕ) (dir save changes : List ℕ) (start f g l : Files) (n : ℕ) (batch : List ChangeValue) (time : ℕ) (fault : RunFault) → AreApart dir save changes → Stands p lost m dir save changes start f l n → IsPublishRun dir changes batch time f g (StopsPublishing dir changes fault g) → Stands p lost m dir save changes start g l n
-stopped_stands p lost m dir save changes start f g l n batch time fault apart s run = by_stop run.is_so.stops
+pub stopped_agrees : (p : List PublishedValue) (lost : ℕ → Suffix → Bool) (m : ℕ) (dir save changes : List ℕ) (start f g l : Files) (n : ℕ) (batch : List ChangeValue) (time : ℕ) (fault : RunFault) → AreApart dir save changes → Agrees p lost m dir save changes start f l n → IsPublishRun dir changes batch time f g (StopsPublishing dir changes fault g) → Agrees p lost m dir save changes start g l n
+stopped_agrees p lost m dir save changes start f g l n batch time fault apart s run = by_stop run.is_so.stops
   where
-    mid : Stands p lost m dir save changes start run.middle l n
+    mid : Agrees p lost m dir save changes start run.middle l n
     mid = changes_put p lost m dir save changes start f run.middle l n (Some (opl_text batch)) apart run.there.put s
 
     from_cut : IsCutOff dir changes run.now run.middle g fault → (k : ℕ) (t : Suffix) → k ≤ length p → g (file_name_of dir k t) ≡ run.middle (file_name_of dir k t)
@@ -249,8 +249,8 @@ stopped_stands p lost m dir save changes start f g l n batch time fault apart s 
         let room = cut.ready.can_close.room in
         writes_before dir (written_of (closing cut.publisher cut.time)) k t cut.count run.middle g (omega (arith, number, within)) (omega (arith, room)) cut.written
 
-    by_stop : PublishStops (IsTrue true) dir changes run.now run.middle g fault → Stands p lost m dir save changes start g l n
-    by_stop (inl a) = subst (λ (h : Files). Stands p lost m dir save changes start h l n) (sym a.1) mid
+    by_stop : PublishStops (IsTrue true) dir changes run.now run.middle g fault → Agrees p lost m dir save changes start g l n
+    by_stop (inl a) = subst (λ (h : Files). Agrees p lost m dir save changes start h l n) (sym a.1) mid
     by_stop (inr a) = untouched p lost m dir save changes start run.middle g l n (run.is_so.keeps p mid.folder)
         (λ k t above within. from_cut (a.1 refl) k t within)
         (run.others save apart.save_is) (λ name o. run.others name o.folder) mid
