@@ -8,8 +8,8 @@ use std::io::{self, ErrorKind, Write};
 // As many links as Linux follows.
 const MOST_LINKS: u32 = 40;
 
-/// Writes the bytes as a whole file, and makes the folders that it needs. A symbolic link stays, and
-/// the file that it leads to is replaced. A device or a pipe is written directly. A folder is
+/// Writes the bytes as a whole file, and makes the folders that it needs. A symbolic link stays,
+/// and the file that it leads to is replaced. A device or a pipe is written directly. A folder is
 /// refused as `IsADirectory`.
 pub fn write_file<R: Files>(
     alloc: Global,

@@ -12,8 +12,8 @@ use osm_reading::refusal::Refusal;
 use std::alloc::Global;
 use std::marker::Model;
 
-/// A string of the file that is read, and whether it is a text, which is tested once however often
-/// the string is named.
+/// A string of the file, and whether it is a text; that is tested once, however often the string
+/// is named.
 #[derive(Drop)]
 pub struct FileString<'a> {
     bytes: &'a [u8],

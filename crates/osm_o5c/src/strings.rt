@@ -24,8 +24,13 @@ use std::marker::Model;
 /// A string that was in line: a pair, or a single one.
 #[derive(Drop)]
 pub enum Entry<'a> {
-    Pair { first: FileString<'a>, second: FileString<'a> },
-    Single { text: FileString<'a> },
+    Pair {
+        first: FileString<'a>,
+        second: FileString<'a>,
+    },
+    Single {
+        text: FileString<'a>,
+    },
 }
 
 /// The size of the longest string that is entered, in bytes; a pair counts as both together.

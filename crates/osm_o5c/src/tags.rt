@@ -39,7 +39,8 @@ pub fn tags<'a>(
 ) -> Result<Tags, Refusal>
     ensures { Gives (λ t. (t, strings.new)) result (tags_at strings.old bytes.now) }
 {
-    // A tag has a byte or more, so a few that are all named by numbers of a byte get just their room.
+    // A tag takes a byte or more; a few that are all named by numbers of one byte get just their
+    // room.
     let mut found = Vec::with_capacity(alloc, bytes.len().min(4))?;
     let mut rest = bytes;
     while !rest.is_empty() {
