@@ -42,7 +42,7 @@ impl<R: Files> DiskStore<R> {
     }
 
     // Counts a failure of the device.
-    fn counted(&mut self, error: StoreError) -> StoreError
+    fn count_failure(&mut self, error: StoreError) -> StoreError
         ensures same { result ≡ error }
         ensures counted { Counts self.old.failures self.new.failures error }
         ensures kept { self.old.failures ≤ self.new.failures }
@@ -74,7 +74,7 @@ impl<R: Files> Store for DiskStore<R> {
     {
         match read_file(alloc, &self.files, name, limit) {
             Ok(found) => Ok(found),
-            Err(error) => Err(self.counted(error)),
+            Err(error) => Err(self.count_failure(error)),
         }
     }
 
@@ -86,7 +86,7 @@ impl<R: Files> Store for DiskStore<R> {
     {
         match write_file(alloc, &self.files, self.process, name, bytes) {
             Ok(()) => Ok(()),
-            Err(error) => Err(self.counted(cause_of(&error))),
+            Err(error) => Err(self.count_failure(cause_of(&error))),
         }
     }
 }

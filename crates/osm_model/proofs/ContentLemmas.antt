@@ -1,4 +1,4 @@
--- Keys that compare as equal are one, and what is left by one list of changes after another.
+-- Keys that compare as equal are equal, and what is left by one list of changes after another.
 use Rattle.std.proofs.Common.{◌≡◌, ℕ, ◌+◌, List, [], ◌∷◌, ◌++◌, refl, ap, sym, ◌∙◌, Bool, true, false, Some, None, Option, ℤ}
 use Rattle.std.specs.Prelude.{if◌then◌else◌, ◌==◌}
 use Rattle.std.specs.Cmp.{int_cmp_is}
@@ -32,7 +32,7 @@ same_cmp Node i = int_same i
 same_cmp Way i = int_same i
 same_cmp Relation i = int_same i
 
--- a key is one with itself, and with no other
+-- a key is equal to itself, and to no other
 pub same_key-refl : (a : Key) → same_key a a ≡ true
 same_key-refl a = ap is_eq (same_cmp a.kind a.id)
 
@@ -68,7 +68,7 @@ over-append before a b k = ap (over_at (before k)) (last_of-append a b k) ∙ ov
 pub content_of-append : (a b : List ChangeValue) (k : Key) → content_of (a ++ b) k ≡ over (content_of a) b k
 content_of-append a b k = over-append nothing a b k
 
--- one change over what stood before
+-- one change over what was there before
 pub over-one : (before : Key → Option ChangeValue) (c : ChangeValue) (k : Key) → over before (c ∷ []) k ≡ (if same_key c.key k then standing_of c else before k)
 over-one before c k = by_test (same_key c.key k)
   where

@@ -59,14 +59,14 @@ sum_of p date day total e y m d s = s ∙ rw (e, y, m, d) refl
 pub civil : (y m d : ℕ) → IsDate (pos y) (pos m) (pos d) → IsCivilDate (pos y) m d
 civil y m d h = (h.0, (omega (arith, ints, h.1.0), omega (arith, ints, h.1.1)), (omega (arith, ints, h.2.0), omega (arith, ints, h.2.1)))
 
--- no day from 1970 on is of an earlier year
+-- no day from 1970 on belongs to an earlier year
 pub year_from : (y : ℤ) (m d : ℕ) (day : ℕ) → IsCivilDate y m d → days_from_civil y m d ≡ pos day → pos 1970 ≤ℤ y
 year_from y m d day is e =
     by_lt_z y (pos 1970)
     (λ lt. absurd (omega (arith, signed_arith, day_count-lt_year y m d (pos 1970) 1 1 is (omega arith) lt, day_count-epoch, rw e at (days_from_civil-day_count y m d))))
     (λ le. le)
 
--- one day number is of one date
+-- a day number belongs to one date
 pub record SameDate (y m d y' m' d' : ℕ) : Type 0 where
   pub year : y ≡ y'
   pub month : m ≡ m'
@@ -103,7 +103,7 @@ same_date y m d y' m' d' is is' e =
     let apart : day_count (pos y) m d + d' ≡ day_count (pos y) m d' + d = day_count-day (pos y) m d d' (omega (arith, is.2.0)) (omega (arith, is'.2.0)) in
     record { year = year; month = month; day = omega arith }
 
--- a day and a time of day are told by the sum of their seconds
+-- the sum of their seconds determines a day and a time of day
 split_day : (a b : ℤ) (x y : ℕ) → x < 86400 → y < 86400 → a *ℤ pos 86400 +ℤ pos x ≡ b *ℤ pos 86400 +ℤ pos y → (a ≡ b) × (x ≡ y)
 split_day a b x y hx hy e =
     let same : a ≡ b = by_lt_z a b (λ lt. absurd (omega (arith, ints, lt, e))) (λ ge. by_lt_z b a (λ gt. absurd (omega (arith, ints, gt, e))) (λ le. omega (arith, ints, ge, le))) in
@@ -112,7 +112,7 @@ split_day a b x y hx hy e =
 clock_back : (h i s h' i' s' : ℕ) → i < 60 → s < 60 → i' < 60 → s' < 60 → h * 3600 + i * 60 + s ≡ h' * 3600 + i' * 60 + s' → (h ≡ h') × (i ≡ i') × (s ≡ s')
 clock_back h i s h' i' s' a b c d e = (omega arith, omega arith, omega arith)
 
--- one time is of one moment
+-- a time belongs to one moment
 pub one_moment : (m n : Moment) → IsMoment m → IsMoment n → seconds_of m ≡ seconds_of n → m ≡ n
 unfolding seconds_of
 one_moment m n p q e =

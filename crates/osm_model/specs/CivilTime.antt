@@ -4,20 +4,20 @@ use Rattle.std.specs.Prelude.{ℕ, zero, suc, ◌+◌, ◌-◌, ◌/◌, ◌%◌
 use Rattle.jiff_core.specs.Calendar.{days_in_year, days_in_month}
 use Rattle.osm_model.specs.Time.{Moment, moment_text}
 
--- a year or a month, and how many days lie between its first day and a day
+-- a year or a month, and the number of days from its first day to a day
 pub record DayIn : Type 0 where
   pub number : ℕ
   pub days : ℕ
 
--- the year in which the day lies that is so many days after the first of a year, looked for in so
--- many years
+-- the year of the day that is so many days after the first of a year, searched for within so many
+-- years
 unfoldable pub year_of_day : ℕ → ℕ → ℕ → DayIn
 year_of_day zero year days = record { number = year; days = days }
 year_of_day (suc k) year days =
     if nat_lt days (days_in_year (pos year)) then record { number = year; days = days }
     else year_of_day k (year + 1) (days - days_in_year (pos year))
 
--- the month in which the day lies that is so many days after the first of a month of the year
+-- the month of the day that is so many days after the first of a month of the year
 unfoldable pub month_of_day : ℕ → ℕ → ℕ → ℕ → DayIn
 month_of_day zero year month days = record { number = month; days = days }
 month_of_day (suc k) year month days =

@@ -31,7 +31,7 @@ abbrev pub over_at : Option ChangeValue → Option ChangeValue → Option Change
 over_at before None = before
 over_at before (Some c) = standing_of c
 
--- the objects after the changes, over what stood before them
+-- the objects after the changes, over what was there before them
 abbrev pub over : (Key → Option ChangeValue) → List ChangeValue → Key → Option ChangeValue
 over before changes k = over_at (before k) (last_of changes k)
 

@@ -12,7 +12,7 @@ use Rattle.osm_model.specs.declared.kind.Key.{Key}
 abbrev pub KindsAreOrdered : Type 0
 KindsAreOrdered = (a b : Kind) → kind_order.cmp a b ≡ nat_cmp (kind_rank a) (kind_rank b)
 
--- two keys are one exactly if kind and id are equal
+-- two keys are equal exactly if their kinds and ids are
 abbrev pub KeysAreTold : Type 0
 KeysAreTold = (a b : Key) → (same_key a b ≡ true) ↔ (a ≡ b)
 

@@ -17,6 +17,6 @@ kind_rank Relation = 2
 abbrev pub key_cmp : Key → Key → Ordering
 key_cmp = then_cmp (on (λ k. kind_rank k.kind) nat_cmp) (on (λ k. k.id) int_cmp)
 
--- whether two keys are one
+-- whether two keys are equal
 abbrev pub same_key : Key → Key → Bool
 same_key a b = is_at (key_cmp a) b

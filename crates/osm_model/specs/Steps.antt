@@ -1,3 +1,3 @@
--- What no clause of a public function cites.
+-- No clause of a public function cites anything here.
 pub mod Clock
 pub mod Kept

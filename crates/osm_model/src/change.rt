@@ -25,7 +25,7 @@ pub enum What {
 }
 
 impl What {
-    // The same, its lists without much unused room.
+    // The same, with little unused room in its lists.
     fn fitted(self) -> What
         ensures { result ≡ self }
     {
@@ -262,7 +262,7 @@ impl Change {
         })
     }
 
-    /// The change of those parts, which are known to be within the limits: none is tested again.
+    /// The change of parts that are known to be within the limits. They aren't tested again.
     pub fn within_limits(key: Key, meta: Meta, what: What) -> Change
         requires { IsId key.id × IsWhat key.kind what }
         ensures { result ≡ record { key = key; meta = meta; what = what } }

@@ -13,19 +13,19 @@ use thiserror::Error;
 /// Why a line or a dataset can't be read. If several causes apply, any of them may be named.
 #[derive(Clone, Copy, Debug, PartialEq, Eq, Error)]
 pub enum Why {
-    /// The first letter of a line, or the kind of a member, is none of the three.
+    /// The first letter of a line, or the kind of a member, isn't one of the three.
     #[error("BadKind")]
     BadKind,
-    /// A field is missing, out of order or of a wrong shape.
+    /// A field is missing, out of order or malformed.
     #[error("BadField")]
     BadField,
-    /// A number isn't spelled as the form wants it.
+    /// A number isn't spelled as the form requires.
     #[error("BadNumber")]
     BadNumber,
     /// A number is outside its limits.
     #[error("OutOfRange")]
     OutOfRange,
-    /// A timestamp isn't a text of a time.
+    /// A timestamp isn't the text of a time.
     #[error("BadTime")]
     BadTime,
     /// An escape names no character.
@@ -49,10 +49,10 @@ pub enum Why {
     /// An o5c file ends inside a dataset or without the end byte.
     #[error("Truncated")]
     Truncated,
-    /// A reference names no string of the table, or one of the other sort.
+    /// A reference names no string of the table, or a string of the other sort.
     #[error("BadReference")]
     BadReference,
-    /// The fields don't fill their dataset, or the references their part, exactly.
+    /// The fields don't exactly fill their dataset, or the references their part.
     #[error("BadLength")]
     BadLength,
     /// Bytes follow the end byte of an o5c file.
@@ -60,7 +60,7 @@ pub enum Why {
     TrailingBytes,
 }
 
-/// Why a change file isn't read or written.
+/// Why a change file can't be read or written.
 #[derive(Clone, Copy, Debug, PartialEq, Eq, Error)]
 pub enum FormError {
     /// Memory was refused.
@@ -106,8 +106,8 @@ pub trait ChangeForm {
             → spells bytes a → spells bytes b → a ≡ b };
 }
 
-/// What is written is read back as it was: the law that a publisher and its followers rest on,
-/// in any form.
+/// What is written is read back as it was, in any form: a publisher and its followers rely on
+/// this law.
 pub fn there_and_back<F: ChangeForm>(alloc: Global, batch: &Batch) -> Result<Batch, FormError>
     ensures same { IfOk result (λ b. b ≡ batch.now) }
     ensures refused { IfErr result (WriteRefused (F.text batch.now)) }

@@ -30,7 +30,7 @@ impl Kind {
     }
 }
 
-/// What tells one object from another: ordered by kind, and then by id.
+/// Identifies an object by its kind and id. Keys are ordered by kind, then by id.
 #[derive(Clone, Copy, Debug, PartialEq, Eq)]
 pub struct Key {
     pub kind: Kind,

@@ -94,8 +94,8 @@ impl Part for Member {
 /// The members of a relation, in order.
 pub type Members = Parts<Member>;
 
-// How many parts a list of a change may have unused room for. To fit a list moves its parts, so a
-// short one is left as it is.
+// The most unused room that a list of a change keeps, in parts. Shrinking a list moves its parts,
+// so a short one is left alone.
 const MAX_SPARE: usize = 64;
 
 /// Parts of one sort, in order.
@@ -157,7 +157,7 @@ impl<T: Part> Parts<T> {
         self.parts.as_slice()
     }
 
-    // The same parts. If growing left room for many more, it is given back.
+    // The same parts. If the list has room for many more, that room is given back.
     pub(crate) fn fitted(self) -> Parts<T>
         ensures { result ≡ self }
     {
@@ -178,7 +178,7 @@ impl<T: Part> Parts<T> {
     }
 }
 
-// Nothing of this loop is left in the program.
+// The compiled program has nothing of this loop.
 fn limits_of<T: Part>(parts: &[T])
     ensures { AllByRecursion T.within_limits parts.now }
 {

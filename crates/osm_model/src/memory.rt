@@ -3,7 +3,8 @@
 use std::alloc::{AllocError, AllocFailed};
 use thiserror::Error;
 
-/// A growth was refused, and what grew is as it was before the call, unless the call says more.
+/// Memory was refused, and what was to grow is as it was before the call, unless the call says
+/// otherwise.
 #[derive(Clone, Copy, Debug, PartialEq, Eq, Error)]
 #[error("WantOfMemory")]
 pub struct WantOfMemory;

@@ -1,4 +1,4 @@
-//! Texts of a few bytes, which lie in the value itself.
+//! Short texts, stored in the value itself.
 
 ghost use Rattle.std.specs.Prelude.{◌≡◌, ◌≤◌, ◌↔◌, length, take, IsSome, IfSome};
 ghost use Rattle.std.specs.Str.{IsUtf8};
@@ -8,7 +8,7 @@ use std::str;
 /// The most bytes of a `ShortText`.
 pub(crate) const MAX_SHORT: usize = 30;
 
-/// At most 30 bytes of UTF-8, which take no memory of the heap.
+/// At most 30 bytes of UTF-8, stored without the heap.
 #[derive(Clone, Copy)]
 pub(crate) struct ShortText {
     length: u8,

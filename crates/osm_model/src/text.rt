@@ -15,8 +15,8 @@ use std::marker::Model;
 use std::mem::size_of;
 use thiserror::Error;
 
-/// At most 1,020 bytes of UTF-8 without U+0000. The empty text is allowed. Up to 30 bytes lie in
-/// the value itself, of 32 bytes; only a longer text has a block of the heap.
+/// At most 1,020 bytes of UTF-8 without U+0000. The empty text is allowed. Up to 30 bytes are
+/// stored in the value itself, which has 32 bytes; only a longer text is on the heap.
 #[derive(Drop)]
 pub struct Text {
     kept: Kept,
@@ -77,7 +77,7 @@ impl Text {
         Ok(Text { kept })
     }
 
-    /// That text, which takes no memory.
+    /// The same text. Takes no memory.
     pub fn from_string(text: String) -> Result<Text, TextError>
         ensures ok { IfOk result (λ t. (t ≡ string_bytes text) × IsText (string_bytes text)) }
         ensures has_nul { IsErrOf result TextError.HasNul ↔ Contains (string_bytes text) 0 }
@@ -93,7 +93,7 @@ impl Text {
         Ok(Text { kept })
     }
 
-    /// The text of those characters, which are known to be within the limits: none is tested again.
+    /// The text of characters that are known to be one. They aren't tested again.
     pub fn within_limits(alloc: Global, text: &str) -> Result<Text, WantOfMemory>
         requires { IsText text.now }
         ensures ok { IfOk result (λ t. t ≡ text.now) }

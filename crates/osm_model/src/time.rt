@@ -1,5 +1,5 @@
-//! Times as texts of 20 bytes, as `2024-01-01T00:00:00Z`. To read one, its digits are taken as they
-//! come, the time that they give is written, and the two texts are compared.
+//! Times as texts of 20 bytes, such as `2024-01-01T00:00:00Z`. A text is read by taking its digits
+//! as they are, writing the time that they give, and comparing the two texts.
 
 ghost use Rattle.std.specs.Prelude.{◌≡◌, ℕ, List, ◌+◌, ◌-◌, ◌*◌, ◌/◌, ◌%◌, ◌<◌, ◌≤◌, ◌^◌, ◌↔◌};
 ghost use Rattle.std.specs.Prelude.{Some, IsTrue, IsNone, IfSome, min, pos, codes, ◌+ℤ◌, ◌*ℤ◌};

@@ -13,7 +13,7 @@ moment_of p = record {
   second = p.second;
 }
 
--- each number has as many digits as its place in the text
+-- each number has as many digits as its field in the text
 pub record HasDigits (m : Moment) : Type 0 where
   pub year : m.year < 10000
   pub month : m.month < 100

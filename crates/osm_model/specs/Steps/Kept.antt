@@ -1,14 +1,14 @@
--- Where the bytes of a text lie.
+-- Where the bytes of a text are stored.
 use Rattle.std.specs.Prelude.{ℕ, List, take, string_bytes}
 use Rattle.osm_model.specs.declared.short.ShortText.{ShortText}
 use Rattle.osm_model.specs.declared.text.Kept.{Kept}
 use Rattle.osm_model.specs.declared.text.Kept.TheVariants.{Short, Long}
 
--- the bytes of a text that lies in the value itself
+-- the bytes of a text that is stored in the value itself
 abbrev pub short_bytes : ShortText → List ℕ
 short_bytes s = take s.length s.bytes
 
--- the bytes of a text, wherever they lie
+-- the bytes of a text, wherever they are stored
 abbrev pub kept_bytes : Kept → List ℕ
 kept_bytes (Short s) = short_bytes s
 kept_bytes (Long t) = string_bytes t

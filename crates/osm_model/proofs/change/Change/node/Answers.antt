@@ -7,20 +7,20 @@ pub returns-then-as_slice-gt-MAX_TAGS-clause-too_many_tags :
     goal.returns-then-as_slice-gt-MAX_TAGS-clause-too_many_tags
 returns-then-as_slice-gt-MAX_TAGS-clause-too_many_tags c =
     let id : IsId c.args.id = search rules in
-    let place : IsLocation c.args.lon c.args.lat = search rules in
+    let location : IsLocation c.args.lon c.args.lat = search rules in
     let many : max_tags < length c.args.tags = search rules in
-    (λ refused. (id, place, many), λ holds. search rules)
+    (λ refused. (id, location, many), λ holds. search rules)
 
 pub invariant_of-result : goal.invariant_of-result
 invariant_of-result c =
-    let fid : FitsSigned w64 c.args.id = c.ranges.id in
-    let flon : FitsSigned w32 c.args.lon = c.ranges.lon in
-    let flat : FitsSigned w32 c.args.lat = c.ranges.lat in
+    let id_fits : FitsSigned w64 c.args.id = c.ranges.id in
+    let lon_fits : FitsSigned w32 c.args.lon = c.ranges.lon in
+    let lat_fits : FitsSigned w32 c.args.lat = c.ranges.lat in
     let id : IsId c.args.id = search rules in
-    let place : IsLocation c.args.lon c.args.lat = search rules in
+    let location : IsLocation c.args.lon c.args.lat = search rules in
     let few : length c.args.tags ≤ max_tags = search rules in
     simp to_z-of_z (record {
       id = id;
       meta = c.version-version.ensures.limits;
-      what = (refl, place, record { few = few; each = c.as_slice.ensures.limits });
+      what = (refl, location, record { few = few; each = c.as_slice.ensures.limits });
     })
