@@ -93,7 +93,8 @@ impl Text {
         Ok(Text { kept })
     }
 
-    /// The text of characters that are known to be one. They aren't tested again.
+    /// The text of characters that are known to be one. They aren't tested again. Memory is refused
+    /// only for more than 30 bytes.
     pub fn within_limits(alloc: Global, text: &str) -> Result<Text, WantOfMemory>
         requires { IsText text.now }
         ensures ok { IfOk result (λ t. t ≡ text.now) }
