@@ -6,23 +6,23 @@ ghost use Rattle.std.specs.Str.{IsUtf8};
 use std::str;
 
 /// The most bytes of a `ShortText`.
-pub(crate) const MAX_SHORT: usize = 30;
+pub(crate) const MAX_SHORT: usize = 22;
 
-/// At most 30 bytes of UTF-8, stored without the heap.
+/// At most 22 bytes of UTF-8, stored without the heap.
 #[derive(Clone, Copy)]
 pub(crate) struct ShortText {
     length: u8,
     bytes: [u8; MAX_SHORT],
-    ghost fits: { length ≤ 30 },
+    ghost fits: { length ≤ 22 },
     ghost utf8: { ∥ IsUtf8 (take length bytes) ∥₁ },
 }
 
 impl ShortText {
     ghost use Rattle.osm_model.specs.Steps.Kept.{short_bytes};
 
-    /// Those characters, if they are at most 30 bytes.
+    /// Those characters, if they are at most 22 bytes.
     pub(crate) fn new(text: &str) -> Option<ShortText>
-        ensures some { IsSome result ↔ (length text.now ≤ 30) }
+        ensures some { IsSome result ↔ (length text.now ≤ 22) }
         ensures value { IfSome result (λ short. short_bytes short ≡ text.now) }
     {
         if text.len() > MAX_SHORT {

@@ -15,8 +15,8 @@ use std::marker::Model;
 use std::mem::size_of;
 use thiserror::Error;
 
-/// At most 1,020 bytes of UTF-8 without U+0000. The empty text is allowed. Up to 30 bytes are
-/// stored in the value itself, which has 32 bytes; only a longer text is on the heap.
+/// At most 1,020 bytes of UTF-8 without U+0000. The empty text is allowed. Up to 22 bytes are
+/// stored in the value itself, which has 24 bytes; only a longer text is on the heap.
 #[derive(Drop)]
 pub struct Text {
     kept: Kept,
@@ -25,10 +25,10 @@ pub struct Text {
 #[derive(Drop)]
 enum Kept {
     Short(ShortText),
-    Long(String),
+    Long(Box<String>),
 }
 
-const _: () = prove!(size_of::<Text>() == 32);
+const _: () = prove!(size_of::<Text>() == 24);
 
 impl Model for Text {
     ghost use Rattle.std.specs.Prelude.{ℕ, List};
@@ -77,28 +77,12 @@ impl Text {
         Ok(Text { kept })
     }
 
-    /// The same text. Takes no memory.
-    pub fn from_string(text: String) -> Result<Text, TextError>
-        ensures ok { IfOk result (λ t. (t ≡ string_bytes text) × IsText (string_bytes text)) }
-        ensures has_nul { IsErrOf result TextError.HasNul ↔ Contains (string_bytes text) 0 }
-        ensures too_long { IsErrOf result TextError.TooLong
-            ↔ (¬ Contains (string_bytes text) 0 × (1020 < length (string_bytes text))) }
-        ensures enough { ¬ IsErrOf result TextError.WantOfMemory }
-    {
-        check(text.as_str())?;
-        let kept = match ShortText::new(text.as_str()) {
-            Some(short) => Kept::Short(short),
-            None => Kept::Long(text),
-        };
-        Ok(Text { kept })
-    }
-
     /// The text of characters that are known to be one. They aren't tested again. Memory is refused
-    /// only for more than 30 bytes.
+    /// only for more than 22 bytes.
     pub fn within_limits(alloc: Global, text: &str) -> Result<Text, WantOfMemory>
         requires { IsText text.now }
         ensures ok { IfOk result (λ t. t ≡ text.now) }
-        ensures refused { OnErr result (30 < length text.now) }
+        ensures refused { OnErr result (22 < length text.now) }
     {
         let kept = keep(alloc, text)?;
         Ok(Text { kept })
@@ -142,19 +126,19 @@ fn check(text: &str) -> Result<(), TextError>
 
 fn keep(alloc: Global, text: &str) -> Result<Kept, AllocError>
     ensures ok { IfOk result (λ kept. kept_bytes kept ≡ text.now) }
-    ensures refused { OnErr result (30 < length text.now) }
+    ensures refused { OnErr result (22 < length text.now) }
 {
     if let Some(short) = ShortText::new(text) {
         return Ok(Kept::Short(short));
     }
-    let text = String::from_str(alloc, text)?;
+    let text = Box::new(alloc, String::from_str(alloc, text)?)?;
     Ok(Kept::Long(text))
 }
 
 impl Kept {
     fn copy(&self, alloc: Global) -> Result<Kept, AllocError>
         ensures ok { IfOk result (λ kept. kept_bytes kept ≡ kept_bytes self.now) }
-        ensures refused { OnErr result (30 < length (kept_bytes self.now)) }
+        ensures refused { OnErr result (22 < length (kept_bytes self.now)) }
     {
         match self {
             Kept::Short(short) => Ok(Kept::Short(*short)),

@@ -15,8 +15,6 @@ use Rattle.osm_reading.specs.Pieces.{pieces}
 use Rattle.osm_reading.proofs.StepLemmas.{both_held, some_then, guard_some}
 use Rattle.osm_opl.proofs.NumberLemmas.{IsNumeralOf, digits_take, digits_again, each_digit, all_from_each}
 use Rattle.osm_model.specs.Text.{IsText}
-use Rattle.osm_model.specs.declared.text.TextError.{TextError}
-use Rattle.osm_model.specs.declared.text.TextError.TheVariants.{HasNul, TooLong, WantOfMemory}
 use Rattle.std.specs.Prelude.{◌==◌}
 use Rattle.std.proofs.Common.{lit<}
 use lib.Utf8.{scalar}
@@ -130,20 +128,14 @@ text_is bytes text e =
     let p = runs_plain (pieces 37 bytes) x.0 x.1 in
     rw (← same) (record { utf8 = p.0; no_nul = lacks_contains 0 x.0 p.1; short = grind (arith, nat_tests) })
 
--- a text that was read is within its limits
-pub text_refused : (bytes text : List ℕ) (e : TextError) → text_at bytes ≡ Some text → (e ≡ HasNul → Contains text 0) → (e ≡ TooLong → 1020 < length text) → (e ≡ WantOfMemory → ⊥) → text_at bytes ≡ None
-text_refused bytes text HasNul is nul long memory = absurd ((text_is bytes text is).no_nul (nul refl))
-text_refused bytes text TooLong is nul long memory =
-    let short : length text ≤ 1020 = (text_is bytes text is).short in
-    let l : 1020 < length text = long refl in
-    absurd (omega arith)
-text_refused bytes text WantOfMemory is nul long memory = absurd (memory refl)
-
 -- ---- texts without escapes
 
 bare_is : (bytes : List ℕ) → list_all is_free bytes ≡ true → text_at bytes ≡ and_then (run_at bytes) (λ t. cond (leb (length t) 1020) (Some t) None)
 unfolding text_at
 bare_is bytes free = rw (pieces-one 37 bytes (free_lacks 37 bytes refl free)) refl
+
+pub bare_text : (bytes : List ℕ) → list_all is_free bytes ≡ true → IsUtf8 bytes → ¬ (1020 < length bytes) → IsText bytes
+bare_text bytes free u h = record { utf8 = u; no_nul = lacks_contains 0 bytes (free_lacks 0 bytes refl free); short = omega (arith, h) }
 
 pub bare_read : (bytes : List ℕ) → list_all is_free bytes ≡ true → IsText bytes → text_at bytes ≡ Some bytes
 bare_read bytes free h =
@@ -158,6 +150,3 @@ pub bare_long : (bytes : List ℕ) → list_all is_free bytes ≡ true → IsUtf
 bare_long bytes free u long =
     let test : leb (length bytes) 1020 ≡ false = grind (arith, nat_tests) in
     bare_is bytes free ∙ rw (is_text_run bytes u free, test) refl
-
-pub bare_nul : (bytes : List ℕ) → list_all is_free bytes ≡ true → Contains bytes 0 → text_at bytes ≡ None
-bare_nul bytes free nul = absurd (lacks_contains 0 bytes (free_lacks 0 bytes refl free) nul)

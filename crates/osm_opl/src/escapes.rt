@@ -18,7 +18,7 @@ ghost use Rattle.osm_reading.specs.Steps.Answers.{Finds, Gives};
 use osm_model::form::Why;
 use osm_model::limits::MAX_TEXT;
 use osm_model::memory::WantOfMemory;
-use osm_model::text::{Text, TextError};
+use osm_model::text::Text;
 use osm_reading::pieces::cut;
 use osm_reading::refusal::Refusal;
 use std::alloc::Global;
@@ -32,10 +32,7 @@ pub(crate) fn read_text(alloc: Global, bytes: &[u8]) -> Result<Text, Refusal>
         return read_bare(alloc, bytes);
     }
     let text = unescape(alloc, bytes)?;
-    match Text::from_string(text) {
-        Ok(text) => Ok(text),
-        Err(_) => Err(Refusal::Fault(Why::BadText)),
-    }
+    Ok(Text::within_limits(alloc, text.as_str())?)
 }
 
 // Reads a text that has no escapes.
@@ -46,12 +43,10 @@ fn read_bare(alloc: Global, bytes: &[u8]) -> Result<Text, Refusal>
     let Ok(text) = std::str::from_utf8(bytes) else {
         return Err(Refusal::Fault(Why::BadText));
     };
-    match Text::new(alloc, text) {
-        Ok(text) => Ok(text),
-        Err(TextError::HasNul) => Err(Refusal::Fault(Why::BadText)),
-        Err(TextError::TooLong) => Err(Refusal::Fault(Why::BadText)),
-        Err(TextError::WantOfMemory) => Err(Refusal::WantOfMemory),
+    if text.len() > MAX_TEXT {
+        return Err(Refusal::Fault(Why::BadText));
     }
+    Ok(Text::within_limits(alloc, text)?)
 }
 
 // Reads runs of bare characters with escapes between them. The text never grows past the limit.

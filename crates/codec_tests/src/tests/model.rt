@@ -38,10 +38,7 @@ fn long_string(alloc: Global, end: &str) -> Result<String, AllocError> {
 
 fn is_long_refused(alloc: Global, end: &str, error: TextError) -> bool {
     match long_string(alloc, end) {
-        Ok(long) => {
-            let refused = Text::new(alloc, long.as_str()).err();
-            refused == Some(error) && Text::from_string(long).err() == Some(error)
-        }
+        Ok(long) => is_refused(alloc, long.as_str(), error),
         Err(_) => false,
     }
 }

@@ -11,4 +11,4 @@ short_bytes s = take s.length s.bytes
 -- the bytes of a text, wherever they are stored
 abbrev pub kept_bytes : Kept → List ℕ
 kept_bytes (Short s) = short_bytes s
-kept_bytes (Long t) = string_bytes t
+kept_bytes (Long t) = string_bytes t.value
