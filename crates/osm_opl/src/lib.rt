@@ -11,3 +11,4 @@ mod numbers;
 mod objects;
 pub mod opl;
 mod plain;
+mod prepend;

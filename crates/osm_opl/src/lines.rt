@@ -13,7 +13,7 @@ ghost use Rattle.osm_reading.specs.Pieces.{pieces, pieces_after};
 ghost use Rattle.osm_reading.specs.Refusal.{IsWant};
 ghost use Rattle.osm_reading.specs.Steps.Answers.{Finds, Gives};
 
-use crate::lists::{read_kind, write_key};
+use crate::lists::read_kind;
 use crate::metadata::{read_head, write_head};
 use crate::numbers::read_id;
 use crate::objects::{read_what, write_what};
@@ -47,8 +47,8 @@ fn append_line(change: &Change, out: &mut Vec<u8>) -> Result<(), WantOfMemory>
     ensures err { OnErr result (StartsWith out.new.items out.old.items) }
 {
     let key = change.key();
-    write_key(key, out)?;
-    write_head(!matches!(change.what(), What::Deleted), change.meta(), out)?;
+    let is_visible = !matches!(change.what(), What::Deleted);
+    write_head(key, is_visible, change.meta(), out)?;
     write_what(key.kind, change.what(), out)?;
     Ok(())
 }

@@ -207,7 +207,7 @@ pub(crate) fn read_kind(letter: u8) -> Result<Kind, Why>
 }
 
 /// `n`, `w` or `r`.
-fn kind_letter(kind: Kind) -> u8
+pub(crate) fn kind_letter(kind: Kind) -> u8
     ensures { result ≡ letter_of kind }
 {
     match kind {

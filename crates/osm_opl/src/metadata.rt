@@ -1,22 +1,23 @@
 //! The fields that follow the id of every object: version, status, changeset, time and user.
 
 ghost use Rattle.std.specs.Prelude.{◌≡◌, ◌≢◌, ◌<◌, ◌++◌, IfOk, IfSome, Some, codes};
-ghost use Rattle.std.specs.Prelude.{OnOk, OnErr};
+ghost use Rattle.std.specs.Prelude.{◌+◌, ◌≤◌, drop, OnOk, OnErr};
 ghost use Rattle.std.specs.Io.{StartsWith};
-ghost use Rattle.osm_model.specs.CivilTime.{time_text};
 ghost use Rattle.osm_opl.specs.Steps.Reading.{head_at, positive_field_at, status_at};
 ghost use Rattle.osm_opl.specs.Steps.Reading.{status_field_at, time_at, time_field_at};
 ghost use Rattle.osm_opl.specs.Steps.Reading.{user_field_at};
-ghost use Rattle.osm_opl.specs.Written.{escaped_text, meta_text, number_field, user_fields};
-ghost use Rattle.osm_opl.specs.Written.{version_fields, visible_text};
+ghost use Rattle.osm_opl.specs.Steps.Writing.{user_start};
+ghost use Rattle.osm_opl.specs.Written.{key_text, meta_text, version_fields, visible_text};
 ghost use Rattle.osm_reading.specs.Pieces.{pieces_after};
 ghost use Rattle.osm_reading.specs.Steps.Answers.{Finds, Gives};
 
 use crate::escapes::{read_text, write_text};
 use crate::fields::next_field;
-use crate::numbers::{read_positive, write_number};
+use crate::numbers::read_positive;
 use crate::plain::leading_number;
+use crate::prepend::{ROOM, prepend, prepend_key, prepend_number};
 use osm_model::form::Why;
+use osm_model::kind::Key;
 use osm_model::memory::WantOfMemory;
 use osm_model::meta::Meta;
 use osm_model::text::Text;
@@ -154,89 +155,46 @@ fn read_time(bytes: &[u8]) -> Result<u32, Why>
     }
 }
 
-/// Writes the same fields, each after a space.
+/// Writes the kind and the id of a change, and the same fields, each after a space.
 #[tactic(auto, using(crate::proofs::WrittenLemmas::starts_back))]
 pub(crate) fn write_head(
+    key: Key,
     is_visible: bool,
     meta: &Meta,
     out: &mut Vec<u8>,
 ) -> Result<(), WantOfMemory>
-    ensures ok { OnOk result
-        (out.new.items ≡ out.old.items ++ meta_text (visible_text is_visible) meta.now) }
+    ensures ok { OnOk result (out.new.items
+        ≡ out.old.items ++ (key_text key ++ meta_text (visible_text is_visible) meta.now)) }
     ensures err { OnErr result (StartsWith out.new.items out.old.items) }
 {
-    write_version(is_visible, meta, out)?;
-    write_user(meta, out)?;
+    let mut room = [0; ROOM];
+    let user = prepend_user(meta, &mut room);
+    let version = prepend_version(is_visible, meta, &mut room, user);
+    let start = prepend_key(key, &mut room, version);
+    out.extend_from_slice(&room[start..])?;
+    write_text(meta.user().as_str(), out)?;
     Ok(())
 }
 
 // ` vVERSION dV cCHANGESET`
-#[tactic(auto, using(crate::proofs::WrittenLemmas::starts_back))]
-fn write_version(is_visible: bool, meta: &Meta, out: &mut Vec<u8>) -> Result<(), WantOfMemory>
-    ensures ok { OnOk result
-        (out.new.items ≡ out.old.items ++ version_fields (visible_text is_visible) meta.now) }
-    ensures err { OnErr result (StartsWith out.new.items out.old.items) }
+fn prepend_version(is_visible: bool, meta: &Meta, room: &mut [u8; ROOM], end: usize) -> usize
+    requires { (27 ≤ end) × (end ≤ 96) }
+    ensures start { (end ≤ result + 27) × (result ≤ end) }
+    ensures written { drop result room.new
+        ≡ version_fields (visible_text is_visible) meta.now ++ drop end room.old }
 {
-    write_number_field(b" v", meta.version(), out)?;
-    write_status(is_visible, out)?;
-    write_number_field(b" c", meta.changeset(), out)?;
-    Ok(())
+    let changeset = prepend_number(b" c", meta.changeset(), room, end);
+    let status = prepend(if is_visible { b" dV" } else { b" dD" }, room, changeset);
+    prepend_number(b" v", meta.version(), room, status)
 }
 
-// ` tTIME iUID uUSER`
-#[tactic(auto, using(crate::proofs::WrittenLemmas::starts_back))]
-fn write_user(meta: &Meta, out: &mut Vec<u8>) -> Result<(), WantOfMemory>
-    ensures ok { OnOk result (out.new.items ≡ out.old.items ++ user_fields meta.now) }
-    ensures err { OnErr result (StartsWith out.new.items out.old.items) }
+// ` tTIME iUID u`, at the end of the room
+fn prepend_user(meta: &Meta, room: &mut [u8; ROOM]) -> usize
+    ensures start { (60 ≤ result) × (result ≤ 96) }
+    ensures written { drop result room.new ≡ user_start meta.now }
 {
-    write_time(meta.time(), out)?;
-    write_number_field(b" i", meta.uid(), out)?;
-    write_user_name(meta.user().as_str(), out)?;
-    Ok(())
-}
-
-// A number after its mark, which is a space and the letter of the field.
-#[inline(always)]
-#[tactic(auto, using(crate::proofs::WrittenLemmas::starts_back))]
-fn write_number_field(mark: &[u8], number: u32, out: &mut Vec<u8>) -> Result<(), WantOfMemory>
-    ensures ok { OnOk result (out.new.items ≡ out.old.items ++ number_field mark.now number) }
-    ensures err { OnErr result (StartsWith out.new.items out.old.items) }
-{
-    out.extend_from_slice(mark)?;
-    write_number(number, out)?;
-    Ok(())
-}
-
-// ` dV` or ` dD`
-#[tactic(auto, using(crate::proofs::WrittenLemmas::starts_back))]
-fn write_status(is_visible: bool, out: &mut Vec<u8>) -> Result<(), WantOfMemory>
-    ensures ok { OnOk result
-        (out.new.items ≡ out.old.items ++ (codes " d" ++ visible_text is_visible)) }
-    ensures err { OnErr result (StartsWith out.new.items out.old.items) }
-{
-    out.extend_from_slice(if is_visible { b" dV" } else { b" dD" })?;
-    Ok(())
-}
-
-// ` tTIME`
-#[tactic(auto, using(crate::proofs::WrittenLemmas::starts_back))]
-fn write_time(time: u32, out: &mut Vec<u8>) -> Result<(), WantOfMemory>
-    ensures ok { OnOk result (out.new.items ≡ out.old.items ++ (codes " t" ++ time_text time)) }
-    ensures err { OnErr result (StartsWith out.new.items out.old.items) }
-{
-    out.extend_from_slice(b" t")?;
-    out.extend_from_slice(&time_write(time))?;
-    Ok(())
-}
-
-// ` uUSER`
-#[tactic(auto, using(crate::proofs::WrittenLemmas::starts_back))]
-fn write_user_name(user: &str, out: &mut Vec<u8>) -> Result<(), WantOfMemory>
-    ensures ok { OnOk result
-        (out.new.items ≡ out.old.items ++ (codes " u" ++ escaped_text user.now)) }
-    ensures err { OnErr result (StartsWith out.new.items out.old.items) }
-{
-    out.extend_from_slice(b" u")?;
-    write_text(user, out)?;
-    Ok(())
+    let name = prepend(b" u", room, ROOM);
+    let uid = prepend_number(b" i", meta.uid(), room, name);
+    let time = prepend(&time_write(meta.time()), room, uid);
+    prepend(b" t", room, time)
 }

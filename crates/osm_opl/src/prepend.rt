@@ -1,0 +1,65 @@
+//! Short texts that are put together on the stack, from the last to the first, so that a line
+//! takes one append for all of them. Each function puts its text before the place `end` and gives
+//! the place where the text starts.
+
+ghost use Rattle.std.specs.Prelude.{◌≡◌, ◌+◌, ◌≤◌, ◌++◌, length, drop};
+ghost use Rattle.std.specs.Fmt.{signed_decimal};
+ghost use Rattle.osm_opl.specs.Written.{key_text, number_field};
+
+use crate::lists::kind_letter;
+use itoa::write_digits;
+use osm_model::kind::Key;
+
+/// No less than the texts of a line up to the user's name can take together.
+pub(crate) const ROOM: usize = 96;
+
+#[inline(always)]
+pub(crate) fn prepend(text: &[u8], room: &mut [u8; ROOM], end: usize) -> usize
+    requires { (length text.now ≤ end) × (end ≤ 96) }
+    ensures start { result + length text.now ≡ end }
+    ensures written { drop result room.new ≡ text.now ++ drop end room.old }
+{
+    let start = end - text.len();
+    room[start..end].copy_from_slice(text);
+    start
+}
+
+// A number after its mark, which is a space and the letter of the field.
+#[inline(always)]
+pub(crate) fn prepend_number(
+    mark: &[u8],
+    number: u32,
+    room: &mut [u8; ROOM],
+    end: usize,
+) -> usize
+    requires { (length mark.now ≤ 2) × (12 ≤ end) × (end ≤ 96) }
+    ensures start { (end ≤ result + 12) × (result ≤ end) }
+    ensures written { drop result room.new ≡ number_field mark.now number ++ drop end room.old }
+{
+    let digits = write_digits(number as u64, room, end);
+    prepend(mark, room, digits)
+}
+
+// `nID`, `wID` or `rID`
+#[inline(always)]
+pub(crate) fn prepend_key(key: Key, room: &mut [u8; ROOM], end: usize) -> usize
+    requires { (21 ≤ end) × (end ≤ 96) }
+    ensures start { (end ≤ result + 21) × (result ≤ end) }
+    ensures written { drop result room.new ≡ key_text key ++ drop end room.old }
+{
+    let id = prepend_id(key.id, room, end);
+    prepend(&[kind_letter(key.kind)], room, id)
+}
+
+#[inline(always)]
+fn prepend_id(id: i64, room: &mut [u8; ROOM], end: usize) -> usize
+    requires { (20 ≤ end) × (end ≤ 96) }
+    ensures start { (end ≤ result + 20) × (result ≤ end) }
+    ensures written { drop result room.new ≡ signed_decimal id ++ drop end room.old }
+{
+    let digits = write_digits(id.unsigned_abs(), room, end);
+    if id >= 0 {
+        return digits;
+    }
+    prepend(b"-", room, digits)
+}
