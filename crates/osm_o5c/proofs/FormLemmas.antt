@@ -1,5 +1,5 @@
 -- The refusals of the form follow from those of a file.
-use Rattle.std.proofs.Common.{◌≡◌, ℕ, ◌≤◌, List, length, Result, Ok, Err}
+use Rattle.std.proofs.Common.{ℕ, ◌≤◌, List, length, Result, Ok, Err}
 use Rattle.std.specs.Prelude.{IfErr}
 use Rattle.osm_model.specs.ChangeForm.{ReadRefused}
 use Rattle.osm_model.specs.Limits.{max_file}

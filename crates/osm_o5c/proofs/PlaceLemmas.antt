@@ -16,7 +16,7 @@ use Rattle.osm_o5c.specs.Steps.NumberReading.{part_at}
 use Rattle.osm_o5c.specs.Steps.ObjectReading.{object_at}
 use Rattle.osm_reading.specs.Steps.Answers.{and_then}
 use Rattle.osm_o5c.specs.declared.reader.Reader.{Reader}
-use Rattle.osm_reading.proofs.StepLemmas.{some_then, some_when, chosen}
+use Rattle.osm_reading.proofs.StepLemmas.{some_then, some_when}
 use Rattle.osm_o5c.proofs.FieldLemmas.{reader_of}
 use Rattle.osm_o5c.proofs.FrontLemmas.{IsReached, reached_first, reached_more, reached_longest, step_shorter, walk, Ends, EndsAt, one_end_at, same_behind, none_later, apart, longest_ends, spelled_ends, front_walks}
 
@@ -310,31 +310,6 @@ wanted_at_object bytes p s object empty =
     let ends : EndsAt bytes (position (reader_of empty.context) [] (254 ∷ [])) = spelled_ends bytes [] empty in
     let same : ends.behind ≡ here.0 = same_behind ends.behind here.0 (sym ends.begins ∙ here.1) in
     empty_later here.0 here.2.0 p (position (reader_of empty.context) [] (254 ∷ [])) here.2.1 object refl (subst (λ (l : List ℕ). Ends l (position (reader_of empty.context) [] (254 ∷ []))) same ends.ends) no_some
-
-no_found : (s : Reader) (bytes : List ℕ) (c : ChangeValue) (after : Reader) (rest : List ℕ) → ◌≡◌ {A = Option (Option ChangeValue × Reader × List ℕ)} (Some (None, s, bytes)) (Some (Some c, after, rest)) → ⊥
-no_found s bytes c after rest e =
-    let found : ◌≡◌ {A = Option ChangeValue} None (Some c) = ap (λ (q : Option ChangeValue × Reader × List ℕ). q.0) (same_Some (None, s, bytes) (Some c, after, rest) e) in cc
-
--- a change is only found in an object
-other_found : (t : ℕ) (s : Reader) (bytes : List ℕ) (c : ChangeValue) (after : Reader) (rest : List ℕ) → other_dataset_at t s bytes ≡ Some (Some c, after, rest) → ⊥
-unfolding other_dataset_at
-other_found t s bytes c after rest e =
-    chosen (ltb t 240) (and_then (part_at bytes) (λ p. Some (None, s, p.1))) (cond (ltb t 254) (Some (None, s, bytes)) (cond (eqb t 255) (Some (None, new_reader, bytes)) None)) (Some (Some c, after, rest)) e ⊥
-    (λ low is. let p = some_then (part_at bytes) (λ p. Some (None, s, p.1)) (Some c, after, rest) is in no_found s p.0.1 c after rest p.2)
-    (λ high is. chosen (ltb t 254) (Some (None, s, bytes)) (cond (eqb t 255) (Some (None, new_reader, bytes)) None) (Some (Some c, after, rest)) is ⊥
-    (λ low is. no_found s bytes c after rest is)
-    (λ end is. chosen (eqb t 255) (Some (None, new_reader, bytes)) None (Some (Some c, after, rest)) is ⊥
-    (λ yes_reset is. no_found new_reader bytes c after rest is)
-    (λ no_reset is. cc)))
-
-of_begins : (o : Option Kind) (t : ℕ) (s : Reader) (bytes : List ℕ) (c : ChangeValue) (after : Reader) (rest : List ℕ) → dataset_of o t s bytes ≡ Some (Some c, after, rest) → IsSome o
-of_begins (Some k) t s bytes c after rest e = refl
-of_begins None t s bytes c after rest e = absurd (other_found t s bytes c after rest e)
-
-pub found_begins : (s : Reader) (bytes : List ℕ) (c : ChangeValue) (after : Reader) (rest : List ℕ) → dataset_at s bytes ≡ Some (Some c, after, rest) → BeginsObject bytes
-unfolding dataset_at
-found_begins s [] c after rest e = absurd cc
-found_begins s (t ∷ bytes) c after rest e = of_begins (kind_of_byte t) t s bytes c after rest e
 
 -- ---- what the code knows of the beginning
 

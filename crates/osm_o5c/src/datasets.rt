@@ -2,14 +2,15 @@
 
 ghost use Rattle.std.specs.Prelude.{◌≡◌, ◌≤◌, ◌++◌, length, Option, OnOk, IfOk, IfErr};
 ghost use Rattle.osm_o5c.specs.Steps.FileReading.{kind_of_byte, object_dataset_at};
-ghost use Rattle.osm_o5c.specs.Steps.FileReading.{other_dataset_at, dataset_at, position, step};
+ghost use Rattle.osm_o5c.specs.Steps.FileReading.{other_dataset_at, dataset_at};
+ghost use Rattle.osm_o5c.specs.Steps.FileReading.{position, with_found};
 ghost use Rattle.osm_o5c.specs.Steps.FileReading.{FileRefused, WantsAt};
 ghost use Rattle.osm_model.specs.ChangeForm.{WriteRefused};
 ghost use Rattle.osm_model.specs.Limits.{max_file};
 ghost use Rattle.osm_o5c.specs.Written.{is_other, reset_text, state_before, dataset_text};
 ghost use Rattle.osm_o5c.specs.Written.{after_object, change_text, after_change, o5c_text};
 ghost use Rattle.osm_o5c.specs.File.{kind_byte, SpellsO5c};
-ghost use Rattle.osm_reading.specs.Steps.Answers.{Gives, Finds};
+ghost use Rattle.osm_reading.specs.Steps.Answers.{Gives, Finds, and_then};
 
 use crate::numbers::{part, write_unsigned};
 use crate::reader::Reader;
@@ -39,88 +40,69 @@ fn kind_of(byte: u8) -> Option<Kind>
 }
 
 impl<'a> Reader<'a> {
+    // Reads an object, adds its change to the batch, and returns what follows it.
     #[tactic(auto, unfolding(crate::specs::Steps::FileReading::object_dataset_at))]
     fn object_dataset(
         &mut self,
         alloc: Global,
+        batch: &mut Batch,
         kind: Kind,
         bytes: &'a [u8],
-    ) -> Result<(Option<Change>, &'a [u8]), Refusal>
-        ensures { Gives (λ r. (r.0, self.new, r.1.now)) result
-            (object_dataset_at kind self.old bytes.now) }
+    ) -> Result<&'a [u8], Refusal>
+        ensures { Gives (λ r. position self.new batch.new r.now) result
+            (and_then (object_dataset_at kind self.old bytes.now) (with_found batch.old)) }
     {
         let (content, rest) = part(bytes, Why::Truncated)?;
         let change = self.object(alloc, kind, content)?;
-        Ok((Some(change), rest))
+        match batch.push(change) {
+            Ok(()) => Ok(rest),
+            Err(PushError::Full(_)) => Err(Refusal::Fault(Why::TooMany)),
+            Err(PushError::WantOfMemory(_)) => Err(Refusal::WantOfMemory),
+        }
     }
 
-    // Skips a dataset that isn't an object; a reset also resets the reader.
+    // Skips a dataset that isn't an object; a reset also resets the reader. Returns what follows.
     #[tactic(auto, unfolding(crate::specs::Steps::FileReading::other_dataset_at))]
-    fn other_dataset(
-        &mut self,
-        first: u8,
-        bytes: &'a [u8],
-    ) -> Result<(Option<Change>, &'a [u8]), Why>
-        ensures { Finds (λ r. (r.0, self.new, r.1.now)) result
+    fn other_dataset(&mut self, first: u8, bytes: &'a [u8]) -> Result<&'a [u8], Why>
+        ensures { Finds (λ r. (Option.None, self.new, r.now)) result
             (other_dataset_at first self.old bytes.now) }
     {
         if first < 0xf0 {
             let (_content, rest) = part(bytes, Why::Truncated)?;
-            return Ok((None, rest));
+            return Ok(rest);
         }
         if first < END {
-            return Ok((None, bytes));
+            return Ok(bytes);
         }
         if first == RESET {
             self.reset();
-            return Ok((None, bytes));
+            return Ok(bytes);
         }
         Err(Why::Truncated)
     }
 
+    // Reads one dataset, adds its change to the batch if it has one, and returns what follows it.
     #[tactic(auto, unfolding(crate::specs::Steps::FileReading::dataset_at))]
-    fn dataset(
+    fn next(
         &mut self,
         alloc: Global,
+        batch: &mut Batch,
         bytes: &'a [u8],
-    ) -> Result<(Option<Change>, &'a [u8]), Refusal>
-        ensures gives { Gives (λ r. (r.0, self.new, r.1.now)) result
-            (dataset_at self.old bytes.now) }
+    ) -> Result<&'a [u8], Refusal>
+        ensures gives { Gives (λ r. position self.new batch.new r.now) result
+            (and_then (dataset_at self.old bytes.now) (with_found batch.old)) }
         ensures memory { IfErr result (WantsAt bytes.now) }
     {
         let Some((first, rest)) = bytes.split_first() else {
             return Err(Refusal::Fault(Why::Truncated));
         };
         match kind_of(*first) {
-            Some(kind) => self.object_dataset(alloc, kind, rest),
+            Some(kind) => self.object_dataset(alloc, batch, kind, rest),
             None => match self.other_dataset(*first, rest) {
-                Ok(read) => Ok(read),
+                Ok(after) => Ok(after),
                 Err(why) => Err(Refusal::Fault(why)),
             },
         }
-    }
-
-    // Reads one dataset, adds its change to the batch if it has one, and returns what follows it.
-    #[tactic(auto, unfolding(crate::specs::Steps::FileReading::step))]
-    fn next(
-        &mut self,
-        alloc: Global,
-        batch: &mut Batch,
-        rest: &'a [u8],
-    ) -> Result<&'a [u8], Refusal>
-        ensures gives { Gives (λ r. position self.new batch.new r.now) result
-            (step (position self.old batch.old rest.now)) }
-        ensures memory { IfErr result (WantsAt rest.now) }
-    {
-        let (found, after) = self.dataset(alloc, rest)?;
-        if let Some(change) = found {
-            match batch.push(change) {
-                Ok(()) => {}
-                Err(PushError::Full(_)) => return Err(Refusal::Fault(Why::TooMany)),
-                Err(PushError::WantOfMemory(_)) => return Err(Refusal::WantOfMemory),
-            }
-        }
-        Ok(after)
     }
 }
 
