@@ -105,12 +105,16 @@ item_step : {X : Type 0} (text : X → List ℕ) (is_first : Bool) (x : X) (xs :
 item_step text true x xs = refl
 item_step text false x xs = refl
 
-pub items_more : {X : Type 0} (text : X → List ℕ) (old new mid next : List ℕ) (xs : List X) (is_first : Bool) (i : ℕ) (x : X) → ItemsWritten text old new xs is_first i → i < length xs → x ≡ get_or xs i x → mid ≡ new ++ comma is_first → next ≡ mid ++ text x → ItemsWritten text old next xs false (i + 1)
-items_more text old new mid next xs is_first i x h lt is m n =
+pub items_more : {X : Type 0} (text : X → List ℕ) (old new next : List ℕ) (xs : List X) (is_first : Bool) (i : ℕ) (x : X) → ItemsWritten text old new xs is_first i → i < length xs → x ≡ get_or xs i x → next ≡ new ++ (comma is_first ++ text x) → ItemsWritten text old next xs false (i + 1)
+items_more text old new next xs is_first i x h lt is whole =
     let more : drop i xs ≡ x ∷ drop (i + 1) xs = drop_more xs i x lt ∙ ap (λ (y : _). y ∷ drop (i + 1) xs) (sym is) in
     let step : items_left text is_first (drop i xs) ≡ (comma is_first ++ text x) ++ more_items text (drop (i + 1) xs) = rw more (item_step text is_first x (drop (i + 1) xs)) in
-    let whole : next ≡ new ++ (comma is_first ++ text x) = n ∙ ap (λ (l : List ℕ). l ++ text x) m ∙ append_assoc new (comma is_first) (text x) in
     record { writes = writes_more old new (items_left text is_first (drop i xs)) (items_text text xs) (comma is_first ++ text x) (more_items text (drop (i + 1) xs)) next h.writes step whole }
+
+-- the comma and the item are two appends
+pub items_more_apart : {X : Type 0} (text : X → List ℕ) (old new mid next : List ℕ) (xs : List X) (is_first : Bool) (i : ℕ) (x : X) → ItemsWritten text old new xs is_first i → i < length xs → x ≡ get_or xs i x → mid ≡ new ++ comma is_first → next ≡ mid ++ text x → ItemsWritten text old next xs false (i + 1)
+items_more_apart text old new mid next xs is_first i x h lt is m n =
+    items_more text old new next xs is_first i x h lt is (n ∙ ap (λ (l : List ℕ). l ++ text x) m ∙ append_assoc new (comma is_first) (text x))
 
 pub items_done : {X : Type 0} (text : X → List ℕ) (old new : List ℕ) (xs : List X) (is_first : Bool) (i : ℕ) → ItemsWritten text old new xs is_first i → length xs ≤ i → new ≡ old ++ items_text text xs
 items_done text old new xs is_first i h le =
