@@ -1,8 +1,8 @@
 -- What has been written so far.
-use Rattle.std.proofs.Common.{◌≡◌, ℕ, zero, suc, ◌+◌, ◌-◌, ◌*◌, ◌/◌, ◌%◌, ◌^◌, ◌<◌, ◌≤◌, Bool, true, false, cond, List, [], ◌∷◌, ◌++◌, length, get_or, take, drop, refl, sym, ap, ◌∙◌, append_assoc, arith, lit<}
-use Rattle.std.specs.Prelude.{Result, Ok, Err, OnErr, ◌==◌, ◌&&◌, min, nat_le, nat_lt, not}
+use Rattle.std.proofs.Common.{◌≡◌, ℕ, zero, suc, ◌+◌, ◌-◌, ◌/◌, ◌%◌, ◌^◌, ◌<◌, ◌≤◌, Bool, true, false, cond, List, [], ◌∷◌, ◌++◌, length, get_or, take, drop, refl, sym, ap, ◌∙◌, append_assoc, arith, lit<}
+use Rattle.std.specs.Prelude.{Result, Ok, Err, OnErr, ◌&&◌, min, nat_le, nat_lt, not}
 use Rattle.std.specs.Io.{StartsWith}
-use Rattle.std.proofs.Math.Nat.{pow-le-pow_right, one-le-pow, suc-mul}
+use Rattle.std.proofs.Math.Nat.{pow-le-pow_right}
 use Rattle.std.proofs.lemmas.Bool.Decides.{nat_tests}
 use Rattle.std.proofs.lemmas.List.{append-nil, drop_all, drop_more, length-take, length-append, take-append-drop, take-take, take_all, take_at, take_more}
 use Rattle.std.specs.Char.{digit_char}
@@ -14,7 +14,7 @@ use Rattle.osm_model.specs.Change.{ChangeValue}
 use Rattle.osm_model.specs.Limits.{max_file}
 use Rattle.osm_reading.proofs.StepLemmas.{both_held}
 use Rattle.osm_opl.specs.Escape.{is_reserved}
-use Rattle.osm_opl.specs.Written.{hex_count, is_written_bare, line_text, opl_text, char_text, chars_text, escaped_text, decimals, hex_digits, more_items, items_text}
+use Rattle.osm_opl.specs.Written.{hex_count, is_written_bare, line_text, opl_text, char_text, chars_text, escaped_text, hex_digits, more_items, items_text}
 
 -- what was appended comes after what was there
 pub starts_append : (old prefix : List ℕ) → StartsWith (old ++ prefix) old
@@ -48,81 +48,6 @@ starts_more old new next p q =
     let n : min (length old) (length new) ≡ length old = sym (length-take (length old) new) ∙ ap length p in
     let le : length old ≤ length new = omega arith in
     sym (take-take (length old) (length new) next le) ∙ ap (λ (l : List ℕ). take (length old) l) q ∙ p
-
--- ---- decimals
-
--- the digits of a fraction that are left, shifted to the left of seven
-pub record FractionWritten (old new : List ℕ) (part rest left : ℕ) : Type 0 where
-  pub number : ℕ
-  pub few : left ≤ 7
-  pub below : number < 10 ^ left
-  pub moved : rest ≡ number * 10 ^ (7 - left)
-  pub bound : rest < 10000000
-  pub writes : Writes old new (decimals left number) (decimals 7 part)
-
-pub fraction_begun : (old : List ℕ) (part : ℕ) → part < 10 ^ 7 → FractionWritten old old part part 7
-fraction_begun old part h = record { number = part; few = omega arith; below = h; moved = omega arith; bound = h; writes = writes_nothing old (decimals 7 part) }
-
--- the next digit
-record MovedDigit (before number rest : ℕ) : Type 0 where
-  some : 0 < number
-  digit : rest / 1000000 ≡ number / 10 ^ before
-  next : rest % 1000000 * 10 ≡ number % 10 ^ before * 10 ^ (7 - before)
-  below : number % 10 ^ before < 10 ^ before
-
-moved_digit : (k number rest : ℕ) → k < 7 → rest ≡ number * 10 ^ (6 - k) → 0 < rest → MovedDigit k number rest
-moved_digit zero number rest lt moved some = record { some = omega arith; digit = omega arith; next = omega arith; below = omega arith }
-moved_digit (suc zero) number rest lt moved some = record { some = omega arith; digit = omega arith; next = omega arith; below = omega arith }
-moved_digit (suc (suc zero)) number rest lt moved some = record { some = omega arith; digit = omega arith; next = omega arith; below = omega arith }
-moved_digit (suc (suc (suc zero))) number rest lt moved some = record { some = omega arith; digit = omega arith; next = omega arith; below = omega arith }
-moved_digit (suc (suc (suc (suc zero)))) number rest lt moved some = record { some = omega arith; digit = omega arith; next = omega arith; below = omega arith }
-moved_digit (suc (suc (suc (suc (suc zero))))) number rest lt moved some = record { some = omega arith; digit = omega arith; next = omega arith; below = omega arith }
-moved_digit (suc (suc (suc (suc (suc (suc zero)))))) number rest lt moved some = record { some = omega arith; digit = omega arith; next = omega arith; below = omega arith }
-moved_digit (suc (suc (suc (suc (suc (suc (suc k))))))) number rest lt moved some = absurd (omega arith)
-
--- as long as something is left, a digit is left
-pub digit_left : (left number rest : ℕ) → number < 10 ^ left → rest ≡ number * 10 ^ (7 - left) → 0 < rest → 0 < left
-digit_left zero number rest below moved some = absurd (let one : number < 1 = below in let m : rest ≡ number * 10000000 = moved in omega arith)
-digit_left (suc k) number rest below moved some = omega arith
-
-digits_moved : (left before number rest : ℕ) → left ≡ suc before → rest / 1000000 ≡ number / 10 ^ before → decimals (suc before) number ≡ (48 + number / 10 ^ before) ∷ decimals before (number % 10 ^ before) → decimals left number ≡ (48 + rest / 1000000) ∷ decimals before (number % 10 ^ before)
-digits_moved left before number rest l s e = rw (l, s) e
-
-pub fraction_more : (old new next : List ℕ) (part rest left : ℕ) → FractionWritten old new part rest left → 0 < rest → next ≡ new ++ (48 + rest / 1000000) ∷ [] → FractionWritten old next part (rest % 1000000 * 10) (left - 1)
-unfolding decimals
-fraction_more old new next part rest left h some n =
-    let one : 0 < left = digit_left left h.number rest h.below h.moved some in
-    let few : left ≤ 7 = h.few in
-    let is : left ≡ suc (left - 1) = omega arith in
-    let back : 7 - left ≡ 6 - (left - 1) = omega arith in
-    let d : MovedDigit (left - 1) h.number rest = moved_digit (left - 1) h.number rest (omega arith) (rw back at h.moved) some in
-    let positive : 0 < h.number = d.some in
-    let test : (h.number == 0) ≡ false = grind (arith, nat_tests) in
-    let step : decimals (suc (left - 1)) h.number ≡ (48 + h.number / 10 ^ (left - 1)) ∷ decimals (left - 1) (h.number % 10 ^ (left - 1)) = rw test refl in
-    let same : decimals left h.number ≡ (48 + rest / 1000000) ∷ decimals (left - 1) (h.number % 10 ^ (left - 1)) = digits_moved left (left - 1) h.number rest is d.digit step in
-    record {
-      number = h.number % 10 ^ (left - 1);
-      few = omega arith;
-      below = d.below;
-      moved = d.next;
-      bound = omega arith;
-      writes = writes_more old new (decimals left h.number) (decimals 7 part) ((48 + rest / 1000000) ∷ []) (decimals (left - 1) (h.number % 10 ^ (left - 1))) next h.writes same n;
-    }
-
-nothing_left : (k : ℕ) → decimals k 0 ≡ []
-unfolding decimals
-nothing_left zero = refl
-nothing_left (suc k) = refl
-
-no_number : (number p : ℕ) → 1 ≤ p → number * p ≡ 0 → number ≡ 0
-no_number zero p some e = refl
-no_number (suc n) p some e = absurd (let sum : n * p + p ≡ 0 = sym (suc-mul n p) ∙ e in omega arith)
-
-pub fraction_done : (old new : List ℕ) (part rest left : ℕ) → FractionWritten old new part rest left → rest ≡ 0 → new ≡ old ++ decimals 7 part
-fraction_done old new part rest left h e =
-    let zero_number : h.number ≡ 0 = no_number h.number (10 ^ (7 - left)) (one-le-pow (7 - left) 10 (lit< tt)) (sym h.moved ∙ e) in
-    let none : decimals left h.number ≡ [] = ap (decimals left) zero_number ∙ nothing_left left in
-    writes_all old new (decimals 7 part) (rw none at h.writes)
 
 -- ---- hexadecimal digits
 
@@ -180,12 +105,16 @@ item_step : {X : Type 0} (text : X → List ℕ) (is_first : Bool) (x : X) (xs :
 item_step text true x xs = refl
 item_step text false x xs = refl
 
-pub items_more : {X : Type 0} (text : X → List ℕ) (old new mid next : List ℕ) (xs : List X) (is_first : Bool) (i : ℕ) (x : X) → ItemsWritten text old new xs is_first i → i < length xs → x ≡ get_or xs i x → mid ≡ new ++ comma is_first → next ≡ mid ++ text x → ItemsWritten text old next xs false (i + 1)
-items_more text old new mid next xs is_first i x h lt is m n =
+pub items_more : {X : Type 0} (text : X → List ℕ) (old new next : List ℕ) (xs : List X) (is_first : Bool) (i : ℕ) (x : X) → ItemsWritten text old new xs is_first i → i < length xs → x ≡ get_or xs i x → next ≡ new ++ (comma is_first ++ text x) → ItemsWritten text old next xs false (i + 1)
+items_more text old new next xs is_first i x h lt is whole =
     let more : drop i xs ≡ x ∷ drop (i + 1) xs = drop_more xs i x lt ∙ ap (λ (y : _). y ∷ drop (i + 1) xs) (sym is) in
     let step : items_left text is_first (drop i xs) ≡ (comma is_first ++ text x) ++ more_items text (drop (i + 1) xs) = rw more (item_step text is_first x (drop (i + 1) xs)) in
-    let whole : next ≡ new ++ (comma is_first ++ text x) = n ∙ ap (λ (l : List ℕ). l ++ text x) m ∙ append_assoc new (comma is_first) (text x) in
     record { writes = writes_more old new (items_left text is_first (drop i xs)) (items_text text xs) (comma is_first ++ text x) (more_items text (drop (i + 1) xs)) next h.writes step whole }
+
+-- the comma and the item are two appends
+pub items_more_apart : {X : Type 0} (text : X → List ℕ) (old new mid next : List ℕ) (xs : List X) (is_first : Bool) (i : ℕ) (x : X) → ItemsWritten text old new xs is_first i → i < length xs → x ≡ get_or xs i x → mid ≡ new ++ comma is_first → next ≡ mid ++ text x → ItemsWritten text old next xs false (i + 1)
+items_more_apart text old new mid next xs is_first i x h lt is m n =
+    items_more text old new next xs is_first i x h lt is (n ∙ ap (λ (l : List ℕ). l ++ text x) m ∙ append_assoc new (comma is_first) (text x))
 
 pub items_done : {X : Type 0} (text : X → List ℕ) (old new : List ℕ) (xs : List X) (is_first : Bool) (i : ℕ) → ItemsWritten text old new xs is_first i → length xs ≤ i → new ≡ old ++ items_text text xs
 items_done text old new xs is_first i h le =

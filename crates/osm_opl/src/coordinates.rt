@@ -1,24 +1,24 @@
 //! Longitudes and latitudes, in units of 10^-7 degree.
 
 ghost use Rattle.std.specs.Prelude.{◌≡◌, ◌-◌, ◌^◌, ◌<◌, ◌≤◌, ◌++◌, ◌≤ℤ◌, length, pos};
-ghost use Rattle.std.specs.Prelude.{unsigned_abs, option_map, IfOk, OnOk, OnErr};
+ghost use Rattle.std.specs.Prelude.{◌/◌, ◌%◌, ◌∷◌, unsigned_abs, option_map, drop};
+ghost use Rattle.std.specs.Prelude.{IfOk, OnOk, OnErr};
+ghost use Rattle.std.specs.Fmt.{decimal};
 ghost use Rattle.std.specs.Io.{StartsWith};
 ghost use Rattle.osm_opl.specs.Steps.Reading.{coordinate_at, digits_at};
 ghost use Rattle.osm_opl.specs.Steps.Reading.{maybe_coordinate_at, units_at};
-ghost use Rattle.osm_opl.specs.Written.{coordinate_text, decimals, fraction_text};
+ghost use Rattle.osm_opl.specs.Written.{coordinate_field, decimals, fraction_text};
 ghost use Rattle.osm_reading.specs.Steps.Answers.{Finds};
 
 use crate::numbers::read_digits;
-use itoa::Buffer;
+use crate::prepend::{ROOM, prepend};
+use itoa::write_digits;
 use osm_model::form::Why;
 use osm_model::memory::WantOfMemory;
 use osm_reading::pieces::cut;
 
 // Units in a degree.
 const UNITS: u32 = 10_000_000;
-
-// Units in a tenth of a degree.
-const FIRST_DECIMAL: u32 = 1_000_000;
 
 /// Reads a coordinate in degrees, such as `-0.1`; gives None if the field is empty.
 #[tactic(auto, unfolding(crate::specs::Steps::Reading::maybe_coordinate_at))]
@@ -94,47 +94,63 @@ fn scale(decimals: usize) -> u64
     }
 }
 
+/// Writes a coordinate after its mark, which is a space and the letter of the field.
 #[tactic(auto, unfolding(crate::specs::Written::coordinate_text))]
-pub(crate) fn write_coordinate(units: i32, out: &mut Vec<u8>) -> Result<(), WantOfMemory>
-    ensures ok { OnOk result (out.new.items ≡ out.old.items ++ coordinate_text units) }
+pub(crate) fn write_coordinate(
+    mark: &[u8],
+    units: i32,
+    out: &mut Vec<u8>,
+) -> Result<(), WantOfMemory>
+    requires { length mark.now ≤ 2 }
+    ensures ok { OnOk result (out.new.items ≡ out.old.items ++ coordinate_field mark.now units) }
     ensures err { OnErr result (StartsWith out.new.items out.old.items) }
 {
-    if units < 0 {
-        out.push(b'-')?;
-    }
-    let size = units.unsigned_abs();
-    out.extend_from_slice(Buffer::new().format(size / UNITS).as_bytes())?;
-    write_fraction(size % UNITS, out)?;
+    let mut room = [0; ROOM];
+    let size = prepend_size(units.unsigned_abs(), &mut room);
+    let sign = if units < 0 {
+        prepend(b"-", &mut room, size)
+    } else {
+        size
+    };
+    let start = prepend(mark, &mut room, sign);
+    out.extend_from_slice(&room[start..])?;
     Ok(())
 }
 
-// Writes a point and the seven digits of `part` without trailing zeros; nothing if all are 0.
-fn write_fraction(part: u32, out: &mut Vec<u8>) -> Result<(), WantOfMemory>
+// Degrees without a sign, at the end of the room.
+fn prepend_size(units: u32, room: &mut [u8; ROOM]) -> usize
+    ensures start { (78 ≤ result) × (result ≤ 96) }
+    ensures written { drop result room.new
+        ≡ decimal (units / 10 ^ 7) ++ fraction_text (units % 10 ^ 7) }
+{
+    let fraction = prepend_fraction(units % UNITS, room);
+    write_digits((units / UNITS) as u64, room, fraction)
+}
+
+// A point and the seven digits of `part` without trailing zeros; nothing if all are 0.
+fn prepend_fraction(part: u32, room: &mut [u8; ROOM]) -> usize
     requires { part < 10 ^ 7 }
-    ensures ok { OnOk result (out.new.items ≡ out.old.items ++ fraction_text part) }
-    ensures err { OnErr result (StartsWith out.new.items out.old.items) }
+    ensures start { (88 ≤ result) × (result ≤ 96) }
+    ensures written { drop result room.new ≡ fraction_text part }
 {
     if part == 0 {
-        return Ok(());
+        return ROOM;
     }
-    out.push(b'.')?;
-    write_decimals(part, out)?;
-    Ok(())
+    let start = write_digits(one_before(part) as u64, room, ROOM);
+    room[start] = b'.';
+    start
 }
 
-// The rest is shifted left by one digit each time, so that the next digit is always the first of
-// seven and every division is by the same constant. `left` is how many digits may still follow.
-fn write_decimals(part: u32, out: &mut Vec<u8>) -> Result<(), WantOfMemory>
-    requires { part < 10 ^ 7 }
-    ensures ok { OnOk result (out.new.items ≡ out.old.items ++ decimals 7 part) }
-    ensures err { OnErr result (StartsWith out.new.items out.old.items) }
+// The number that has a 1 before the seven digits of `part`, without the trailing zeros. The 1
+// keeps the zeros that the digits begin with.
+fn one_before(part: u32) -> u32
+    requires { (0 < part) × (part < 10 ^ 7) }
+    ensures digits { decimal result ≡ 49 ∷ decimals 7 part }
+    ensures limit { result < 10 ^ 8 }
 {
-    let mut rest = part;
-    let mut left: u32 = 7;
-    while rest > 0 {
-        left -= 1;
-        out.push(b'0' + (rest / FIRST_DECIMAL) as u8)?;
-        rest = rest % FIRST_DECIMAL * 10;
+    let mut number = UNITS + part;
+    while number % 10 == 0 {
+        number /= 10;
     }
-    Ok(())
+    number
 }

@@ -23,6 +23,17 @@ use osm_reading::pieces::cut;
 use osm_reading::refusal::Refusal;
 use std::alloc::Global;
 
+// Each byte that is written bare stands at its own place, and a comma at every other place.
+static BARE: [u8; 256] = *b"\
+    ,,,,,,,,,,,,,,,,,,,,,,,,,,,,,,,,\
+    ,!\"#$,&'()*+,-./0123456789:;<,>?\
+    ,ABCDEFGHIJKLMNOPQRSTUVWXYZ[\\]^_\
+    `abcdefghijklmnopqrstuvwxyz{|}~,\
+    ,,,,,,,,,,,,,,,,,,,,,,,,,,,,,,,,\
+    ,,,,,,,,,,,,,,,,,,,,,,,,,,,,,,,,\
+    ,,,,,,,,,,,,,,,,,,,,,,,,,,,,,,,,\
+    ,,,,,,,,,,,,,,,,,,,,,,,,,,,,,,,,";
+
 /// Reads a text of at most 1,020 bytes and resolves its escapes.
 #[tactic(auto, unfolding(crate::specs::Steps::Reading::text_at))]
 pub(crate) fn read_text(alloc: Global, bytes: &[u8]) -> Result<Text, Refusal>
@@ -175,7 +186,14 @@ pub(crate) fn write_text(text: &str, out: &mut Vec<u8>) -> Result<(), WantOfMemo
 fn is_written_as_it_is(text: &[u8]) -> bool
     ensures { result ≡ list_all is_written_bare text.now }
 {
-    text.iter().all(|byte| is_written_bare(*byte as u32))
+    text.iter().all(|byte| is_bare_byte(*byte))
+}
+
+#[inline(always)]
+fn is_bare_byte(byte: u8) -> bool
+    ensures { result ≡ is_written_bare byte }
+{
+    BARE[byte as usize] != b','
 }
 
 fn write_chars(text: &str, out: &mut Vec<u8>) -> Result<(), WantOfMemory>

@@ -7,13 +7,14 @@ ghost use Rattle.osm_opl.specs.Lists.{letter_of};
 ghost use Rattle.osm_opl.specs.Steps.Plain.{first_at};
 ghost use Rattle.osm_opl.specs.Steps.Reading.{kind_at, list_at, list_pieces, member_at};
 ghost use Rattle.osm_opl.specs.Steps.Reading.{ref_at, tag_at};
-ghost use Rattle.osm_opl.specs.Written.{items_text, key_text, member_text, ref_text, tag_text};
+ghost use Rattle.osm_opl.specs.Written.{items_text, member_text, ref_text, tag_text};
 ghost use Rattle.osm_reading.specs.Pieces.{pieces, pieces_after};
 ghost use Rattle.osm_reading.specs.Steps.Answers.{Finds, Gives};
 
 use crate::escapes::{read_text, write_text};
-use crate::numbers::{read_id, write_id};
+use crate::numbers::read_id;
 use crate::plain::leading_id;
+use crate::prepend::{ROOM, prepend, prepend_comma, prepend_id, prepend_key};
 use osm_model::form::Why;
 use osm_model::kind::{Key, Kind};
 use osm_model::limits::{MAX_REFS, MAX_TAGS};
@@ -247,20 +248,23 @@ pub(crate) fn write_refs(refs: &[i64], out: &mut Vec<u8>) -> Result<(), WantOfMe
 {
     let mut is_first = true;
     for id in refs {
-        write_comma(is_first, out)?;
-        write_ref(*id, out)?;
+        write_ref(is_first, *id, out)?;
         is_first = false;
     }
     Ok(())
 }
 
-// `nID`
-fn write_ref(id: i64, out: &mut Vec<u8>) -> Result<(), WantOfMemory>
-    ensures ok { OnOk result (out.new.items ≡ out.old.items ++ ref_text id) }
+// `nID`, after a comma unless it is the first
+fn write_ref(is_first: bool, id: i64, out: &mut Vec<u8>) -> Result<(), WantOfMemory>
+    ensures ok { OnOk result (out.new.items
+        ≡ out.old.items ++ ((if is_first then [] else 44 ∷ []) ++ ref_text id)) }
     ensures err { OnErr result (StartsWith out.new.items out.old.items) }
 {
-    out.push(b'n')?;
-    write_id(id, out)?;
+    let mut room = [0; ROOM];
+    let digits = prepend_id(id, &mut room, ROOM);
+    let letter = prepend(b"n", &mut room, digits);
+    let start = prepend_comma(is_first, &mut room, letter);
+    out.extend_from_slice(&room[start..])?;
     Ok(())
 }
 
@@ -270,32 +274,29 @@ pub(crate) fn write_members(members: &[Member], out: &mut Vec<u8>) -> Result<(),
 {
     let mut is_first = true;
     for member in members {
-        write_comma(is_first, out)?;
-        write_member(member, out)?;
+        write_member(is_first, member, out)?;
         is_first = false;
     }
     Ok(())
 }
 
-// `nID@ROLE`, `wID@ROLE` or `rID@ROLE`
+// `nID@ROLE`, `wID@ROLE` or `rID@ROLE`, after a comma unless it is the first
 #[tactic(auto, using(crate::proofs::WrittenLemmas::starts_back))]
-fn write_member(member: &Member, out: &mut Vec<u8>) -> Result<(), WantOfMemory>
-    ensures ok { OnOk result (out.new.items ≡ out.old.items ++ member_text member.now) }
+fn write_member(
+    is_first: bool,
+    member: &Member,
+    out: &mut Vec<u8>,
+) -> Result<(), WantOfMemory>
+    ensures ok { OnOk result (out.new.items
+        ≡ out.old.items ++ ((if is_first then [] else 44 ∷ []) ++ member_text member.now)) }
     ensures err { OnErr result (StartsWith out.new.items out.old.items) }
 {
-    write_key(member.key, out)?;
-    out.push(b'@')?;
+    let mut room = [0; ROOM];
+    let role = prepend(b"@", &mut room, ROOM);
+    let key = prepend_key(member.key, &mut room, role);
+    let start = prepend_comma(is_first, &mut room, key);
+    out.extend_from_slice(&room[start..])?;
     write_text(member.role.as_str(), out)?;
-    Ok(())
-}
-
-/// `nID`, `wID` or `rID`.
-pub(crate) fn write_key(key: Key, out: &mut Vec<u8>) -> Result<(), WantOfMemory>
-    ensures ok { OnOk result (out.new.items ≡ out.old.items ++ key_text key) }
-    ensures err { OnErr result (StartsWith out.new.items out.old.items) }
-{
-    out.push(kind_letter(key.kind))?;
-    write_id(key.id, out)?;
     Ok(())
 }
 

@@ -1,17 +1,13 @@
 //! Whole numbers: ids, versions, changesets and user ids.
 
-ghost use Rattle.std.specs.Prelude.{◌≡◌, ◌<◌, ◌≤◌, ◌-◌, ◌^◌, ◌++◌, min, decimal, option_map};
-ghost use Rattle.std.specs.Prelude.{length, IfOk, OnOk, OnErr};
-ghost use Rattle.std.specs.Fmt.{signed_decimal};
-ghost use Rattle.std.specs.Io.{StartsWith};
+ghost use Rattle.std.specs.Prelude.{◌≡◌, ◌<◌, ◌≤◌, ◌-◌, ◌^◌, min, option_map};
+ghost use Rattle.std.specs.Prelude.{length, IfOk};
 ghost use Rattle.osm_model.specs.Limits.{IsId};
 ghost use Rattle.osm_reading.specs.Steps.Answers.{Finds};
 ghost use Rattle.osm_opl.specs.Steps.Reading.{digits_at, id_at, number_at, positive_at};
 
-use itoa::Buffer;
 use osm_model::form::Why;
 use osm_model::limits::MAX_ID;
-use osm_model::memory::WantOfMemory;
 
 // The most digits that a number may have.
 const MOST_DIGITS: usize = 20;
@@ -110,22 +106,4 @@ pub(crate) fn read_id(bytes: &[u8]) -> Result<i64, Why>
     }
     let size = read_number(bytes, MAX_ID as u64)?;
     Ok(size as i64)
-}
-
-#[inline(always)]
-pub(crate) fn write_number(number: u32, out: &mut Vec<u8>) -> Result<(), WantOfMemory>
-    ensures ok { OnOk result (out.new.items ≡ out.old.items ++ decimal number) }
-    ensures err { OnErr result (StartsWith out.new.items out.old.items) }
-{
-    out.extend_from_slice(Buffer::new().format(number).as_bytes())?;
-    Ok(())
-}
-
-#[inline(always)]
-pub(crate) fn write_id(id: i64, out: &mut Vec<u8>) -> Result<(), WantOfMemory>
-    ensures ok { OnOk result (out.new.items ≡ out.old.items ++ signed_decimal id) }
-    ensures err { OnErr result (StartsWith out.new.items out.old.items) }
-{
-    out.extend_from_slice(Buffer::new().format(id).as_bytes())?;
-    Ok(())
 }

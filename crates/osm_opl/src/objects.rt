@@ -106,8 +106,8 @@ pub(crate) fn write_what(kind: Kind, what: &What, out: &mut Vec<u8>) -> Result<(
     match what {
         What::Node { lon, lat, tags } => {
             write_tags_field(tags.as_slice(), out)?;
-            write_coordinate_field(b" x", *lon, out)?;
-            write_coordinate_field(b" y", *lat, out)?;
+            write_coordinate(b" x", *lon, out)?;
+            write_coordinate(b" y", *lat, out)?;
             Ok(())
         }
         What::Way { refs, tags } => {
@@ -139,18 +139,6 @@ fn write_tags_field(tags: &[Tag], out: &mut Vec<u8>) -> Result<(), WantOfMemory>
 {
     out.extend_from_slice(b" T")?;
     write_tags(tags, out)?;
-    Ok(())
-}
-
-// ` xLONGITUDE` or ` yLATITUDE`: the mark is the space and the letter.
-#[inline(always)]
-#[tactic(auto, using(crate::proofs::WrittenLemmas::starts_back))]
-fn write_coordinate_field(mark: &[u8], units: i32, out: &mut Vec<u8>) -> Result<(), WantOfMemory>
-    ensures ok { OnOk result (out.new.items ≡ out.old.items ++ coordinate_field mark.now units) }
-    ensures err { OnErr result (StartsWith out.new.items out.old.items) }
-{
-    out.extend_from_slice(mark)?;
-    write_coordinate(units, out)?;
     Ok(())
 }
 

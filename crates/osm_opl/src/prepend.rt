@@ -2,7 +2,7 @@
 //! takes one append for all of them. Each function puts its text before the index `end` and gives
 //! the index where the text starts.
 
-ghost use Rattle.std.specs.Prelude.{◌≡◌, ◌+◌, ◌≤◌, ◌++◌, length, drop};
+ghost use Rattle.std.specs.Prelude.{◌≡◌, ◌+◌, ◌≤◌, ◌++◌, ◌∷◌, [], length, drop, if◌then◌else◌};
 ghost use Rattle.std.specs.Fmt.{signed_decimal};
 ghost use Rattle.osm_opl.specs.Written.{key_text, number_field};
 
@@ -52,7 +52,7 @@ pub(crate) fn prepend_key(key: Key, room: &mut [u8; ROOM], end: usize) -> usize
 }
 
 #[inline(always)]
-fn prepend_id(id: i64, room: &mut [u8; ROOM], end: usize) -> usize
+pub(crate) fn prepend_id(id: i64, room: &mut [u8; ROOM], end: usize) -> usize
     requires { (20 ≤ end) × (end ≤ 96) }
     ensures start { (end ≤ result + 20) × (result ≤ end) }
     ensures written { drop result room.new ≡ signed_decimal id ++ drop end room.old }
@@ -62,4 +62,16 @@ fn prepend_id(id: i64, room: &mut [u8; ROOM], end: usize) -> usize
         return digits;
     }
     prepend(b"-", room, digits)
+}
+
+// A comma, except before the first item. The byte is always put, and counts only if it is wanted.
+#[inline(always)]
+pub(crate) fn prepend_comma(is_first: bool, room: &mut [u8; ROOM], end: usize) -> usize
+    requires { (1 ≤ end) × (end ≤ 96) }
+    ensures start { (end ≤ result + 1) × (result ≤ end) }
+    ensures written { drop result room.new
+        ≡ (if is_first then [] else 44 ∷ []) ++ drop end room.old }
+{
+    let comma = prepend(b",", room, end);
+    if is_first { end } else { comma }
 }

@@ -1,21 +1,14 @@
 use Rattle.std.proofs.Common.{arith}
 use Rattle.std.specs.Io.{StartsWith}
 use Rattle.osm_opl.specs.Written.{member_text}
-use Rattle.osm_opl.proofs.WrittenLemmas.{comma, items_more, items_start, on_err, starts_append, starts_more}
+use Rattle.osm_opl.proofs.WrittenLemmas.{items_more, items_start, on_err, starts_more}
 use Rattle.osm_opl.proofs.lists.write_members.Goals as goal
-
-pub returns-in_err-write_comma-clause-err : goal.returns-in_err-write_comma-clause-err
-returns-in_err-write_comma-clause-err c =
-    on_err c.from_residual.result (StartsWith c.write_comma.new.out.items c.args.out.now.items)
-    (starts_more c.args.out.now.items c.loop-member.out.items c.write_comma.new.out.items (items_start member_text c.args.out.now.items c.loop-member.out.items c.args.members.now c.loop-member.is_first c.loop-member.member-index c.loop-member.invariant) c.in_err-write_comma.ensures.err)
 
 pub returns-in_err-write_member-clause-err : goal.returns-in_err-write_member-clause-err
 returns-in_err-write_member-clause-err c =
-    on_err c.from_residual-in_err-write_member.result (StartsWith c.write_member.new.out.items c.args.out.now.items)
-    (starts_more c.args.out.now.items c.write_comma.new.out.items c.write_member.new.out.items
-    (starts_more c.args.out.now.items c.loop-member.out.items c.write_comma.new.out.items (items_start member_text c.args.out.now.items c.loop-member.out.items c.args.members.now c.loop-member.is_first c.loop-member.member-index c.loop-member.invariant) (rw c.in_ok-write_comma.ensures.ok (starts_append c.loop-member.out.items (comma c.loop-member.is_first))))
-    c.in_err-write_member.ensures.err)
+    on_err c.from_residual.result (StartsWith c.write_member.new.out.items c.args.out.now.items)
+    (starts_more c.args.out.now.items c.loop-member.out.items c.write_member.new.out.items (items_start member_text c.args.out.now.items c.loop-member.out.items c.args.members.now c.loop-member.is_first c.loop-member.member-index c.loop-member.invariant) c.in_err-write_member.ensures.err)
 
 pub loop-member-preserved : goal.loop-member-preserved
 loop-member-preserved c =
-    items_more member_text c.args.out.now.items c.loop-member.out.items c.write_comma.new.out.items c.write_member.new.out.items c.args.members.now c.loop-member.is_first c.loop-member.member-index c.member-item.result c.loop-member.invariant (omega arith) c.member-item.is c.in_ok-write_comma.ensures.ok c.in_ok-write_member.ensures.ok
+    items_more member_text c.args.out.now.items c.loop-member.out.items c.write_member.new.out.items c.args.members.now c.loop-member.is_first c.loop-member.member-index c.member-item.result c.loop-member.invariant (omega arith) c.member-item.is c.in_ok-write_member.ensures.ok

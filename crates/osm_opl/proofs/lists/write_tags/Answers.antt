@@ -1,7 +1,7 @@
 use Rattle.std.proofs.Common.{arith}
 use Rattle.std.specs.Io.{StartsWith}
 use Rattle.osm_opl.specs.Written.{tag_text}
-use Rattle.osm_opl.proofs.WrittenLemmas.{comma, items_more, items_start, on_err, starts_append, starts_more}
+use Rattle.osm_opl.proofs.WrittenLemmas.{comma, items_more_apart, items_start, on_err, starts_append, starts_more}
 use Rattle.osm_opl.proofs.lists.write_tags.Goals as goal
 
 pub returns-in_err-write_comma-clause-err : goal.returns-in_err-write_comma-clause-err
@@ -18,4 +18,4 @@ returns-in_err-write_tag-clause-err c =
 
 pub loop-tag-preserved : goal.loop-tag-preserved
 loop-tag-preserved c =
-    items_more tag_text c.args.out.now.items c.loop-tag.out.items c.write_comma.new.out.items c.write_tag.new.out.items c.args.tags.now c.loop-tag.is_first c.loop-tag.tag-index c.tag-item.result c.loop-tag.invariant (omega arith) c.tag-item.is c.in_ok-write_comma.ensures.ok c.in_ok-write_tag.ensures.ok
+    items_more_apart tag_text c.args.out.now.items c.loop-tag.out.items c.write_comma.new.out.items c.write_tag.new.out.items c.args.tags.now c.loop-tag.is_first c.loop-tag.tag-index c.tag-item.result c.loop-tag.invariant (omega arith) c.tag-item.is c.in_ok-write_comma.ensures.ok c.in_ok-write_tag.ensures.ok

@@ -1,6 +1,5 @@
-use Rattle.std.proofs.Common.{◌≤◌, length, arith}
+use Rattle.std.proofs.Common.{arith}
 use Rattle.std.proofs.lemmas.Fmt.{length-decimal-le}
-use Rattle.std.specs.Fmt.{decimal}
 use Rattle.osm_opl.proofs.prepend.prepend_id.Goals as goal
 
 -- a size of 63 bits has at most 19 digits

@@ -1,0 +1,14 @@
+use Rattle.std.proofs.Common.{arith}
+use Rattle.osm_opl.proofs.FractionLemmas.{strip_begun, strip_done, strip_more}
+use Rattle.osm_opl.proofs.coordinates.one_before.Goals as goal
+
+pub loop-number-init : goal.loop-number-init
+loop-number-init c = (strip_begun c.args.part c.requires.0 c.requires.1, omega arith)
+
+pub loop-number-preserved : goal.loop-number-preserved
+loop-number-preserved c =
+    (strip_more c.args.part c.loop-number.number c.loop-number.invariant.0 (omega arith), omega arith)
+
+pub returns-clause-digits : goal.returns-clause-digits
+returns-clause-digits c =
+    strip_done c.args.part c.loop-number.number c.loop-number.invariant.0 (omega arith)
