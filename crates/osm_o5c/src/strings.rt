@@ -137,6 +137,8 @@ impl<'a> StringTable<'a> {
     }
 
     /// The pair of strings at the start, and the bytes after it.
+    // Inlined, so that the strings stay in registers.
+    #[inline(always)]
     #[tactic(auto, unfolding(crate::specs::Steps::StringReading::pair_at))]
     pub fn pair(
         &mut self,
