@@ -107,6 +107,7 @@ impl<'a> StringTable<'a> {
     }
 
     // Enters a pair, unless it is too long.
+    #[inline(always)]
     #[tactic(auto, unfolding(crate::specs::Steps::StringReading::entered))]
     fn enter_pair(
         &mut self,
