@@ -1,6 +1,6 @@
 //! Strings of the file that is read.
 
-ghost use Rattle.std.specs.Prelude.{◌≡◌, ◌↔◌, IsTrue, IfSome, IsNone};
+ghost use Rattle.std.specs.Prelude.{◌≡◌, ◌↔◌, Contains, IsTrue, IfSome, IsNone};
 ghost use Rattle.osm_model.specs.Text.{IsText};
 ghost use Rattle.osm_o5c.specs.Steps.StringReading.{text_of};
 ghost use Rattle.osm_reading.specs.Steps.Answers.{Gives};
@@ -41,6 +41,17 @@ impl<'a> FileString<'a> {
         }
     }
 
+    /// A string that is known not to hold 00, which isn't tested again.
+    pub fn without_nul(bytes: &'a [u8]) -> FileString<'a>
+        requires { ¬ Contains bytes.now 0 }
+        ensures { result ≡ bytes.now }
+    {
+        FileString {
+            bytes,
+            is_text: is_short_utf8(bytes),
+        }
+    }
+
     pub fn as_slice(&self) -> &'a [u8]
         ensures { result.now ≡ self.now }
     {
@@ -74,13 +85,15 @@ impl<'a> FileString<'a> {
 fn is_text(bytes: &[u8]) -> bool
     ensures { IsTrue result ↔ IsText bytes.now }
 {
-    if bytes.len() > MAX_TEXT {
-        return false;
-    }
-    if bytes.contains(&0) {
-        return false;
-    }
-    str::from_utf8(bytes).is_ok()
+    !bytes.contains(&0) && is_short_utf8(bytes)
+}
+
+// Whether those bytes, which don't hold 00, are a text.
+fn is_short_utf8(bytes: &[u8]) -> bool
+    requires { ¬ Contains bytes.now 0 }
+    ensures { IsTrue result ↔ IsText bytes.now }
+{
+    bytes.len() <= MAX_TEXT && str::from_utf8(bytes).is_ok()
 }
 
 /// The text of a string.

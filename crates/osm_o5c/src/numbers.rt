@@ -11,10 +11,24 @@ use osm_model::form::Why;
 use osm_model::memory::WantOfMemory;
 
 /// The unsigned number at the start, at most 10 bytes long, and the bytes after it.
+#[inline(never)]
+#[tactic(auto, unfolding(crate::specs::Steps::NumberReading::varint_at))]
 pub fn unsigned(bytes: &[u8]) -> Result<(u64, &[u8]), Why>
     ensures { Finds (λ r. (r.0, r.1.now)) result (unsigned_at bytes.now) }
 {
-    varint(bytes, 10)
+    // Most numbers have one byte or two.
+    let Some((first, rest)) = bytes.split_first() else {
+        return Err(Why::BadLength);
+    };
+    if *first < 128 {
+        return Ok((*first as u64, rest));
+    }
+    match rest.split_first() {
+        Some((second, after)) if *second < 128 => {
+            Ok(((*first % 128) as u64 + 128 * *second as u64, after))
+        }
+        _ => varint(bytes, 10),
+    }
 }
 
 // The varint at the start, at most `most` bytes long, and the bytes after it.

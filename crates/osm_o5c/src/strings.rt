@@ -1,7 +1,7 @@
 //! Strings, in line or by reference, and the table of those that references name (OSM wiki, O5m).
 
 ghost use Rattle.std.specs.Prelude.{◌≡◌, ◌≤◌, [], ◌∷◌, ◌++◌, length, take, drop, OnOk};
-ghost use Rattle.std.specs.Prelude.{IfOk};
+ghost use Rattle.std.specs.Prelude.{Contains, IfOk};
 ghost use Rattle.std.specs.Prelude.{option_copied};
 ghost use Rattle.circular_buffer.specs.Buffer.{keep_last};
 ghost use Rattle.osm_reading.specs.Steps.Answers.{Gives, Finds};
@@ -107,6 +107,7 @@ impl<'a> StringTable<'a> {
     }
 
     // Enters a pair, unless it is too long.
+    #[inline(always)]
     #[tactic(auto, unfolding(crate::specs::Steps::StringReading::entered))]
     fn enter_pair(
         &mut self,
@@ -127,16 +128,19 @@ impl<'a> StringTable<'a> {
     // Enters a single string, unless it is too long.
     #[tactic(auto, unfolding(crate::specs::Steps::StringReading::entered))]
     fn enter_single(&mut self, alloc: Global, text: &'a [u8]) -> Result<(), WantOfMemory>
+        requires { ¬ Contains text.now 0 }
         ensures { OnOk result (self.new ≡ entered self.old (Entry.Single text.now)) }
     {
         if text.len() <= MAX_SIZE {
-            let text = FileString::new(text);
+            let text = FileString::without_nul(text);
             self.push(alloc, Entry::Single { text })?;
         }
         Ok(())
     }
 
     /// The pair of strings at the start, and the bytes after it.
+    // Inlined, so that the strings stay in registers.
+    #[inline(always)]
     #[tactic(auto, unfolding(crate::specs::Steps::StringReading::pair_at))]
     pub fn pair(
         &mut self,
@@ -152,8 +156,8 @@ impl<'a> StringTable<'a> {
         if *first == 0 {
             let (first, rest) = until_nul(rest)?;
             let (second, rest) = until_nul(rest)?;
-            let first = FileString::new(first);
-            let second = FileString::new(second);
+            let first = FileString::without_nul(first);
+            let second = FileString::without_nul(second);
             self.enter_pair(alloc, &first, &second)?;
             return Ok((first, second, rest));
         }
@@ -191,7 +195,8 @@ impl<'a> StringTable<'a> {
 
 // The bytes up to the first 00, and those after it.
 fn until_nul(bytes: &[u8]) -> Result<(&[u8], &[u8]), Why>
-    ensures { Finds (λ r. (r.0.now, r.1.now)) result (until_nul_at bytes.now) }
+    ensures finds { Finds (λ r. (r.0.now, r.1.now)) result (until_nul_at bytes.now) }
+    ensures no_nul { IfOk result (λ r. ¬ Contains r.0.now 0) }
 {
     let mut at = 0;
     while at < bytes.len() {

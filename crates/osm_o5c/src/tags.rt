@@ -31,6 +31,15 @@ fn tag<'a>(
     Ok((Tag { key, value }, rest))
 }
 
+// How many tags a list first gets room for. A tag takes a byte or more, and a few that are all
+// named by numbers of one byte get just their room; a tag in line seldom takes less than 8 bytes.
+fn likely_count(bytes: &[u8]) -> usize {
+    match bytes.first() {
+        Some(0) => (bytes.len() / 8).clamp(1, 4),
+        _ => bytes.len().min(4),
+    }
+}
+
 /// The tags up to the end of the bytes, at most 5,000.
 pub fn tags<'a>(
     strings: &mut StringTable<'a>,
@@ -39,9 +48,7 @@ pub fn tags<'a>(
 ) -> Result<Tags, Refusal>
     ensures { Gives (λ t. (t, strings.new)) result (tags_at strings.old bytes.now) }
 {
-    // A tag takes a byte or more; a few that are all named by numbers of one byte get just their
-    // room.
-    let mut found = Vec::with_capacity(alloc, bytes.len().min(4))?;
+    let mut found = Vec::with_capacity(alloc, likely_count(bytes))?;
     let mut rest = bytes;
     while !rest.is_empty() {
         if found.len() >= MAX_TAGS {
