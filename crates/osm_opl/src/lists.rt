@@ -255,7 +255,7 @@ pub(crate) fn write_refs(refs: &[i64], out: &mut Vec<u8>) -> Result<(), WantOfMe
     Ok(())
 }
 
-// `nID`, after a comma unless it is the first. The room is the caller's, so that it is cleared once.
+// `nID`, after a comma unless it is the first. The caller's room is cleared once for all nodes.
 fn write_ref(
     is_first: bool,
     id: i64,
