@@ -246,24 +246,29 @@ pub(crate) fn write_refs(refs: &[i64], out: &mut Vec<u8>) -> Result<(), WantOfMe
     ensures ok { OnOk result (out.new.items ≡ out.old.items ++ items_text ref_text refs.now) }
     ensures err { OnErr result (StartsWith out.new.items out.old.items) }
 {
+    let mut room = [0; ROOM];
     let mut is_first = true;
     for id in refs {
-        write_ref(is_first, *id, out)?;
+        write_ref(is_first, *id, &mut room, out)?;
         is_first = false;
     }
     Ok(())
 }
 
-// `nID`, after a comma unless it is the first
-fn write_ref(is_first: bool, id: i64, out: &mut Vec<u8>) -> Result<(), WantOfMemory>
+// `nID`, after a comma unless it is the first. The caller's room is cleared once for all nodes.
+fn write_ref(
+    is_first: bool,
+    id: i64,
+    room: &mut [u8; ROOM],
+    out: &mut Vec<u8>,
+) -> Result<(), WantOfMemory>
     ensures ok { OnOk result (out.new.items
         ≡ out.old.items ++ ((if is_first then [] else 44 ∷ []) ++ ref_text id)) }
     ensures err { OnErr result (StartsWith out.new.items out.old.items) }
 {
-    let mut room = [0; ROOM];
-    let digits = prepend_id(id, &mut room, ROOM);
-    let letter = prepend(b"n", &mut room, digits);
-    let start = prepend_comma(is_first, &mut room, letter);
+    let digits = prepend_id(id, room, ROOM);
+    let letter = prepend(b"n", room, digits);
+    let start = prepend_comma(is_first, room, letter);
     out.extend_from_slice(&room[start..])?;
     Ok(())
 }
@@ -282,11 +287,7 @@ pub(crate) fn write_members(members: &[Member], out: &mut Vec<u8>) -> Result<(),
 
 // `nID@ROLE`, `wID@ROLE` or `rID@ROLE`, after a comma unless it is the first
 #[tactic(auto, using(crate::proofs::WrittenLemmas::starts_back))]
-fn write_member(
-    is_first: bool,
-    member: &Member,
-    out: &mut Vec<u8>,
-) -> Result<(), WantOfMemory>
+fn write_member(is_first: bool, member: &Member, out: &mut Vec<u8>) -> Result<(), WantOfMemory>
     ensures ok { OnOk result (out.new.items
         ≡ out.old.items ++ ((if is_first then [] else 44 ∷ []) ++ member_text member.now)) }
     ensures err { OnErr result (StartsWith out.new.items out.old.items) }

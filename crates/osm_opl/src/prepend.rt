@@ -26,12 +26,7 @@ pub(crate) fn prepend(text: &[u8], room: &mut [u8; ROOM], end: usize) -> usize
 
 // A number after its mark, which is a space and the letter of the field.
 #[inline(always)]
-pub(crate) fn prepend_number(
-    mark: &[u8],
-    number: u32,
-    room: &mut [u8; ROOM],
-    end: usize,
-) -> usize
+pub(crate) fn prepend_number(mark: &[u8], number: u32, room: &mut [u8; ROOM], end: usize) -> usize
     requires { (length mark.now ≤ 2) × (12 ≤ end) × (end ≤ 96) }
     ensures start { (end ≤ result + 12) × (result ≤ end) }
     ensures written { drop result room.new ≡ number_field mark.now number ++ drop end room.old }
