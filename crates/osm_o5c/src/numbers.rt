@@ -11,6 +11,7 @@ use osm_model::form::Why;
 use osm_model::memory::WantOfMemory;
 
 /// The unsigned number at the start, at most 10 bytes long, and the bytes after it.
+// Not inlined, since reading was slower with a copy of it in each of its callers.
 #[inline(never)]
 #[tactic(auto, unfolding(crate::specs::Steps::NumberReading::varint_at))]
 pub fn unsigned(bytes: &[u8]) -> Result<(u64, &[u8]), Why>

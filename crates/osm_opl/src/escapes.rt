@@ -23,7 +23,7 @@ use osm_reading::pieces::cut;
 use osm_reading::refusal::Refusal;
 use std::alloc::Global;
 
-// Each byte that is written bare stands at its own index, and a comma everywhere else.
+// Each byte that is written bare is at its own index, and a comma is everywhere else.
 static BARE: [u8; 256] = *b"\
     ,,,,,,,,,,,,,,,,,,,,,,,,,,,,,,,,\
     ,!\"#$,&'()*+,-./0123456789:;<,>?\
