@@ -1,5 +1,6 @@
 pub mod TakenLemmas
 pub mod NumberLemmas
+pub mod VarintLemmas
 pub mod WrapLemmas
 pub mod CounterLemmas
 pub mod TableLemmas

@@ -1,5 +1,5 @@
 -- A string that is read is spelled, and what is spelled is read.
-use Rattle.std.proofs.Common.{◌≡◌, ℕ, zero, suc, ◌+◌, ◌*◌, ◌%◌, ◌<◌, ◌≤◌, Bool, true, false, not, eqb, leb, ◌&&◌, ◌||◌, List, [], ◌∷◌, ◌++◌, length, get_or, take, drop, Option, Some, None, refl, sym, ap, subst, ◌∙◌, append_assoc, arith, inl, inr}
+use Rattle.std.proofs.Common.{◌≡◌, ℕ, zero, suc, ◌+◌, ◌*◌, ◌%◌, ◌<◌, ◌≤◌, Bool, true, false, not, eqb, leb, ◌&&◌, ◌||◌, List, [], ◌∷◌, ◌++◌, length, Option, Some, None, refl, sym, ap, subst, ◌∙◌, append_assoc, arith, inl, inr}
 use Rattle.std.specs.Prelude.{Contains, ◌≢◌}
 use Rattle.std.specs.Str.{is_utf8}
 use Rattle.std.proofs.lemmas.Bool.{cases_eq}
@@ -11,6 +11,7 @@ use Rattle.osm_o5c.specs.Number.{SpellsNumber}
 use Rattle.osm_o5c.specs.Entries.{SpellsPair, in_line, reference, SpellsSingle, in_line_single, reference_single, entries_of, named}
 use Rattle.osm_o5c.specs.Steps.NumberReading.{unsigned_at}
 use Rattle.osm_o5c.specs.Steps.StringReading.{until_nul_at, latest, entered, pair_of, single_of, pair_at, single_at, has_nul, is_text, text_of}
+use Rattle.osm_reading.specs.Pieces.{cut_at, with_before}
 use Rattle.osm_reading.specs.Steps.Answers.{and_then}
 use Rattle.osm_o5c.specs.declared.strings.Entry.{Entry}
 use Rattle.osm_o5c.specs.declared.strings.Entry.TheVariants.{Pair, Single}
@@ -54,23 +55,15 @@ until_again (b ∷ bs) rest none =
     let inner : until_nul_at (bs ++ 0 ∷ rest) ≡ Some (bs, rest) = until_again bs rest (λ c. none (suc c.0, omega (arith, c.1), c.2)) in
     rw (other, inner) refl
 
--- what the code finds is the first 00
-pub until_found : (bytes : List ℕ) (i : ℕ) → i < length bytes → get_or bytes i 0 ≡ 0 → ((k : ℕ) → k < i → get_or bytes k 0 ≢ 0) → until_nul_at bytes ≡ Some (take i bytes, drop (i + 1) bytes)
-unfolding until_nul_at
-until_found [] i h e none = absurd (omega arith)
-until_found (b ∷ bs) zero h e none = rw e refl
-until_found (b ∷ bs) (suc i) h e none =
-    let other : eqb b 0 ≡ false = let n : b ≢ 0 = none 0 (omega arith) in grind (arith, nat_tests) in
-    let rest : until_nul_at bs ≡ Some (take i bs, drop (i + 1) bs) = until_found bs i (omega arith) e (λ k lt. none (suc k) (omega arith)) in
-    let next : suc i + 1 ≡ suc (i + 1) = omega arith in
-    rw (other, rest, next) refl
+with_before_is : (b : ℕ) (r : Option (List ℕ × List ℕ)) → and_then r (λ t. Some (b ∷ t.0, t.1)) ≡ with_before b r
+with_before_is b None = refl
+with_before_is b (Some x) = refl
 
-pub until_none : (bytes : List ℕ) → ((k : ℕ) → k < length bytes → get_or bytes k 0 ≢ 0) → until_nul_at bytes ≡ None
-unfolding until_nul_at
-until_none [] none = refl
-until_none (b ∷ bs) none =
-    let other : eqb b 0 ≡ false = let n : b ≢ 0 = none 0 (omega arith) in grind (arith, nat_tests) in
-    rw (other, until_none bs (λ k lt. none (suc k) (omega arith))) refl
+-- it is a cut at the first 00
+pub until_nul_is : (bytes : List ℕ) → until_nul_at bytes ≡ cut_at 0 bytes
+unfolding until_nul_at cut_at
+until_nul_is [] = refl
+until_nul_is (b ∷ bs) = rw (until_nul_is bs, with_before_is b (cut_at 0 bs)) refl
 
 -- ---- references
 

@@ -1,14 +1,18 @@
 //! Numbers as varints, signed ones by zigzag (OSM wiki, O5m).
 
-ghost use Rattle.std.specs.Prelude.{◌≡◌, ◌++◌, ◌<◌, ◌≤◌, ◌^◌, ◌-ℤ◌, OnOk, IfOk, IfSome};
+ghost use Rattle.std.specs.Prelude.{◌≡◌, ◌++◌, ◌<◌, ◌≤◌, ◌^◌, ◌-ℤ◌, OnOk, IfOk, IsErr, IfSome};
+ghost use Rattle.std.specs.Prelude.{None};
 ghost use Rattle.osm_o5c.specs.Number.{zigzag};
 ghost use Rattle.osm_o5c.specs.Steps.NumberReading.{varint_at, unsigned_at, signed_at, part_at};
-ghost use Rattle.osm_o5c.specs.Steps.NumberReading.{positive_at};
+ghost use Rattle.osm_o5c.specs.Steps.NumberReading.{positive_at, EndsVarint};
 ghost use Rattle.osm_reading.specs.Steps.Answers.{Finds};
 ghost use Rattle.osm_o5c.specs.Written.{varint_text, number_text, difference_text};
 
 use osm_model::form::Why;
 use osm_model::memory::WantOfMemory;
+
+/// The bytes of the longest varint.
+const MAX_BYTES: usize = 10;
 
 /// The unsigned number at the start, at most 10 bytes long, and the bytes after it.
 // Not inlined, since reading was slower with a copy of it in each of its callers.
@@ -28,30 +32,39 @@ pub fn unsigned(bytes: &[u8]) -> Result<(u64, &[u8]), Why>
         Some((second, after)) if *second < 128 => {
             Ok(((*first % 128) as u64 + 128 * *second as u64, after))
         }
-        _ => varint(bytes, 10),
+        _ => varint(bytes),
     }
 }
 
-// The varint at the start, at most `most` bytes long, and the bytes after it.
-#[tactic(auto, unfolding(crate::specs::Steps::NumberReading::varint_at))]
-fn varint(bytes: &[u8], most: usize) -> Result<(u64, &[u8]), Why>
-    ensures { Finds (λ r. (r.0, r.1.now)) result (varint_at most bytes.now) }
+// The index of the last byte of the varint at the start, the first byte below 128.
+fn last_index(bytes: &[u8]) -> Result<usize, Why>
+    ensures last { IfOk result (EndsVarint 10 bytes.now) }
+    ensures none { IsErr result → varint_at 10 bytes.now ≡ None }
 {
-    if most == 0 {
-        return Err(Why::BadNumber);
+    for index in 0..MAX_BYTES {
+        match bytes.get(index) {
+            Some(byte) if *byte < 128 => return Ok(index),
+            Some(_) => {}
+            None => return Err(Why::BadLength),
+        }
     }
-    let Some((first, rest)) = bytes.split_first() else {
-        return Err(Why::BadLength);
-    };
-    if *first < 128 {
-        return Ok((*first as u64, rest));
+    Err(Why::BadNumber)
+}
+
+// The varint at the start, at most 10 bytes long, and the bytes after it.
+fn varint(bytes: &[u8]) -> Result<(u64, &[u8]), Why>
+    ensures { Finds (λ r. (r.0, r.1.now)) result (varint_at 10 bytes.now) }
+{
+    let last = last_index(bytes)?;
+    // The last byte holds the highest bits, so the bytes are taken backwards.
+    let mut number = bytes[last] as u64;
+    for index in (0..last).rev() {
+        let Some(shifted) = number.checked_mul(128) else {
+            return Err(Why::BadNumber);
+        };
+        number = shifted + (bytes[index] % 128) as u64;
     }
-    let (high, rest) = varint(rest, most - 1)?;
-    let low = (*first % 128) as u64;
-    let Some(shifted) = high.checked_mul(128) else {
-        return Err(Why::BadNumber);
-    };
-    Ok((low + shifted, rest))
+    Ok((number, &bytes[last + 1..]))
 }
 
 /// The signed number at the start, and the bytes after it.

@@ -17,6 +17,7 @@ use crate::string_index::{HashedString, StringIndex};
 use circular_buffer::HeapCircularBuffer;
 use osm_model::form::Why;
 use osm_model::memory::WantOfMemory;
+use osm_reading::pieces::cut;
 use osm_reading::refusal::Refusal;
 use std::alloc::Global;
 use std::marker::Model;
@@ -198,14 +199,11 @@ fn until_nul(bytes: &[u8]) -> Result<(&[u8], &[u8]), Why>
     ensures finds { Finds (λ r. (r.0.now, r.1.now)) result (until_nul_at bytes.now) }
     ensures no_nul { IfOk result (λ r. ¬ Contains r.0.now 0) }
 {
-    let mut at = 0;
-    while at < bytes.len() {
-        if bytes[at] == 0 {
-            return Ok((&bytes[..at], &bytes[at + 1..]));
-        }
-        at += 1;
-    }
-    Err(Why::BadLength)
+    let (string, rest) = cut(bytes, 0);
+    let Some(rest) = rest else {
+        return Err(Why::BadLength);
+    };
+    Ok((string, rest))
 }
 
 // Appends a pair in line: `00 first 00 second 00`.

@@ -1,7 +1,7 @@
 -- The number at the start of bytes, and the bytes after it.
 use Rattle.std.specs.Prelude.{ℕ, zero, suc, ◌+◌, ◌*◌, ◌/◌, ◌%◌, ◌^◌, ◌==◌, ◌&&◌, List, [], ◌∷◌}
 use Rattle.std.specs.Prelude.{length, take, drop, Option, Some, None, Bool, if◌then◌else◌, nat_lt}
-use Rattle.std.specs.Prelude.{nat_le, int_le, ℤ, pos, negsuc, neg_ℤ, ◌+ℤ◌, ◌-ℤ◌}
+use Rattle.std.specs.Prelude.{◌<◌, ◌≤◌, get_or, nat_le, int_le, ℤ, pos, negsuc, neg_ℤ, ◌+ℤ◌, ◌-ℤ◌}
 use Rattle.osm_reading.specs.Steps.Answers.{and_then, when}
 use Rattle.std.specs.Int.{int_rem_euclid}
 
@@ -13,6 +13,13 @@ varint_at (suc k) (b ∷ bs) =
     if nat_lt b 128 then Some (b, bs)
     else and_then (varint_at k bs) (λ h.
     when (nat_lt (b % 128 + 128 * h.0) (2 ^ 64)) (Some (b % 128 + 128 * h.0, h.1)))
+
+-- the index of the last byte of a varint of at most this many bytes
+pub record EndsVarint (most : ℕ) (bytes : List ℕ) (index : ℕ) : Type 0 where
+  pub within : index < length bytes
+  pub few : index < most
+  pub high : (k : ℕ) → k < index → 128 ≤ get_or bytes k 0
+  pub low : get_or bytes index 0 < 128
 
 abbrev pub unsigned_at : List ℕ → Option (ℕ × List ℕ)
 unsigned_at bytes = varint_at 10 bytes
