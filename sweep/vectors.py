@@ -145,6 +145,21 @@ def across(first, difference):
     return b"\x10\x15\x02" + META + first + b"\x10\x0b\x00\x02\x00\x00\x01" + difference
 
 
+# A longitude, and a difference of -2^33 or near it, which leaves the sum in 32 bits as it is or nearly.
+TURNS = [
+    (b"x180 y0", b"\xff\xff\xff\xff\x3f\x00"),
+    (b"x179.9999999 y0", b"\x81\x80\x80\x80\x40\x00"),
+    (b"x180 y0", b"\xff\xff\xff\xff\x5f\x00"),
+]
+
+# Relation 3 with node 1 in 129 roles, and then in the first three of them: the numbers 129, 128 and 127.
+ROLES = [b"%03d" % number for number in range(129)]
+MANY_ROLES = RELATION.replace(b"Mn1@,w10@outer,n4@", b"M" + b",".join(b"n1@" + role for role in ROLES + ROLES[:3]))
+ROLE_PART = (b"\x02" + b"\x00".join(b"\x000" + role + b"\x00" for role in ROLES)
+             + b"\x00\x81\x01\x00\x80\x01\x00\x7f")
+# 129 members of 7 bytes, two of 3 and one of 2: 911 bytes, in an object of 928.
+MANY_ROLES_SET = b"\x12\xa0\x07\x06" + META + b"\x8f\x07" + ROLE_PART
+
 # A change and its dataset, and a change of another kind, before and after which the writer makes a reset.
 FORGOTTEN = [
     (NODE, NODE_SET, WAY, WAY_SET),
@@ -169,6 +184,8 @@ SPELLED = [
     ([NODE, SECOND_NODE], NODE_SET + b"\x10\x07\x02\x01\x00\x00\x01\x00\x00"),
     # a tag that is the user names the user
     ([NODE.replace(b"T x1 y2", b"T%05%=ann x0 y0")], b"\x10\x12\x02" + META + b"\x00\x00\x01"),
+    # a role's number has two bytes from 128 on
+    ([MANY_ROLES], MANY_ROLES_SET),
     *((moved(one, two), across(first, whole)) for one, two, first, whole, _ in ACROSS),
     *(([line, other, line], b"\xff".join((dataset, other_set, dataset)))
       for line, dataset, other, other_set in FORGOTTEN),
@@ -185,6 +202,9 @@ READ = [
     ([NODE, SECOND_NODE], NODE_SET + b"\x10\x0d\x02\x01\x00\x00\x00\x05\x00ann\x00\x00\x00"),
     *((moved(one, two), across(first, short)) for one, two, first, _, short in ACROSS),
     *(([line, line], dataset + b"\xff" + dataset) for line, dataset, _, _ in FORGOTTEN),
+    *((moved(b"x180 y0", other), across(b"\x80\xc8\xce\xb4\x0d\x00", difference)) for other, difference in TURNS),
+    # the id as a number of 10 bytes, of which 9 add nothing
+    ([NODE], b"\x10\x20\x82" + b"\x80" * 8 + b"\x00" + NODE_SET[3:]),
     # all kinds share one counter of ids: way 10 is nine after node 1
     ([NODE, EMPTY_WAY], NODE_SET + b"\x11\x0c\x12\x01\x00\x00\x00\x05\x00ann\x00\x00"),
     # members have another counter than way nodes: relation 3 is seven before way 10, its member is node 1

@@ -1,4 +1,5 @@
 mod files;
+mod numbered;
 mod runs;
 mod save;
 mod shown;

@@ -9,6 +9,8 @@ use Rattle.osm_state.specs.declared.paths.Suffix.{Suffix}
 use Rattle.osm_state.specs.declared.paths.Suffix.TheVariants.{O5c, Opl, State}
 use Rattle.osm_operations.specs.declared.operation.Operation.{Operation}
 use Rattle.osm_operations.specs.declared.operation.Operation.TheVariants.{Publish, KilledPublish}
+use Rattle.osm_operations.specs.declared.operation.Operation.TheVariants.{PublishAs}
+use Rattle.osm_operations.specs.declared.operation.Operation.TheVariants.{KilledPublishAs}
 use Rattle.osm_operations.specs.declared.operation.Operation.TheVariants.{Follow, KilledFollow}
 use Rattle.osm_operations.specs.declared.operation.Operation.TheVariants.{Lose, PutBack}
 
@@ -39,6 +41,24 @@ pub record IsKilledPublish (words : Words) (calls time : ℕ) : Type 0 where
   pub second : word words 1 ≡ codes "publish"
   pub calls_are : SpellsSequence (word words 2) calls
   pub time_is : TimeText (word words 3) time
+
+-- `publish as NUMBER TIME`
+pub record IsPublishAs (words : Words) (number time : ℕ) : Type 0 where
+  pub many : length words ≡ 4
+  pub first : word words 0 ≡ codes "publish"
+  pub second : word words 1 ≡ codes "as"
+  pub number_is : SpellsSequence (word words 2) number
+  pub time_is : TimeText (word words 3) time
+
+-- `killed publish as NUMBER CALLS TIME`
+pub record IsKilledPublishAs (words : Words) (number calls time : ℕ) : Type 0 where
+  pub many : length words ≡ 6
+  pub first : word words 0 ≡ codes "killed"
+  pub second : word words 1 ≡ codes "publish"
+  pub third : word words 2 ≡ codes "as"
+  pub number_is : SpellsSequence (word words 3) number
+  pub calls_are : SpellsSequence (word words 4) calls
+  pub time_is : TimeText (word words 5) time
 
 -- `follow`
 pub record IsFollow (words : Words) : Type 0 where
@@ -72,6 +92,10 @@ abbrev pub Says : Words → List ChangeValue → Operation → Type 0
 Says words changes (Publish batch time) = IsPublish words time × (batch ≡ changes)
 Says words changes (KilledPublish batch time calls) =
     IsKilledPublish words calls time × (batch ≡ changes)
+Says words changes (PublishAs batch time number) =
+    IsPublishAs words number time × (batch ≡ changes)
+Says words changes (KilledPublishAs batch time number calls) =
+    IsKilledPublishAs words number calls time × (batch ≡ changes)
 Says words changes Follow = IsFollow words
 Says words changes (KilledFollow calls) = IsKilledFollow words calls
 Says words changes (Lose number suffix) = IsLose words number suffix
@@ -81,6 +105,8 @@ Says words changes (PutBack number suffix) = IsPutBack words number suffix
 abbrev pub changes_after : Operation → List ChangeValue → List ChangeValue
 changes_after (Publish batch time) changes = []
 changes_after (KilledPublish batch time calls) changes = []
+changes_after (PublishAs batch time number) changes = []
+changes_after (KilledPublishAs batch time number calls) changes = []
 changes_after operation changes = changes
 
 -- the change on a line of OPL is added

@@ -30,9 +30,20 @@ fn write_reply<W: Write>(reply: &Reply, out: &mut W) -> io::Result<()> {
     match reply {
         Reply::Published(report) | Reply::Followed(report) => write_report(report, out),
         Reply::Refused(fault) => writeln!(out, "refused {} {fault}", fault.status()),
+        Reply::CutOff { fault, back } => {
+            writeln!(out, "cut off {} {} {fault}", fault.status(), word_of(*back))
+        }
         Reply::Lost => writeln!(out, "lost"),
         Reply::IsBack => writeln!(out, "back"),
         Reply::NotThere => writeln!(out, "not there"),
+    }
+}
+
+fn word_of(suffix: Suffix) -> &'static str {
+    match suffix {
+        Suffix::O5c => "o5c",
+        Suffix::Opl => "opl",
+        Suffix::State => "state",
     }
 }
 

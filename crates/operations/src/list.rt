@@ -70,6 +70,17 @@ impl List {
                 time: time_read(time.as_bytes())?,
                 changes: self.take_changes(),
             }),
+            ["publish", "as", number, time] => Some(Operation::PublishAs {
+                number: number_of(number)?,
+                time: time_read(time.as_bytes())?,
+                changes: self.take_changes(),
+            }),
+            ["killed", "publish", "as", number, calls, time] => Some(Operation::KilledPublishAs {
+                number: number_of(number)?,
+                calls: number_of(calls)? as u64,
+                time: time_read(time.as_bytes())?,
+                changes: self.take_changes(),
+            }),
             ["follow"] => Some(Operation::Follow),
             ["killed", "follow", calls] => Some(Operation::KilledFollow {
                 calls: number_of(calls)? as u64,

@@ -85,6 +85,7 @@ fn text_of(reply: &Reply) -> &[u8] {
     match reply {
         Reply::Published(report) | Reply::Followed(report) => report.text(),
         Reply::Refused(_) => b"refused",
+        Reply::CutOff { fault: _, back: _ } => b"cut off",
         Reply::Lost => b"lost",
         Reply::IsBack => b"back",
         Reply::NotThere => b"not there",
@@ -112,5 +113,89 @@ fn losses_and_kills_leave_each_number_reported_once(rt: HostRuntime) -> Result<(
     assert!(rt; is_file(&outcome, "save", save));
     let state = b"sequenceNumber=4\ntimestamp=2024-01-01T00\\:03\\:00Z\n";
     assert!(rt; is_file(&outcome, "dir/state.txt", state));
+    Ok(())
+}
+
+// The replies to the publications by number below.
+const NUMBERED: [&str; 15] = [
+    "published 1\n",
+    "published 1\n",
+    "refused",
+    "refused",
+    "refused",
+    "published 2\n",
+    "published 2\n",
+    "published 1\n",
+    "refused",
+    "lost",
+    "cut off",
+    "lost",
+    "published 2\n",
+    "refused",
+    "applied 1..1\napplied 2..2\nnumber 2\n",
+];
+
+fn publish_as(alloc: Global, minute: u32, number: u32) -> Operation {
+    Operation::PublishAs {
+        changes: Batch::new(alloc),
+        time: TIME + minute % 60 * 60,
+        number,
+    }
+}
+
+fn killed_publish_as(alloc: Global, minute: u32, number: u32, calls: u64) -> Operation {
+    Operation::KilledPublishAs {
+        changes: Batch::new(alloc),
+        time: TIME + minute % 60 * 60,
+        number,
+        calls,
+    }
+}
+
+// Each number is asked for several times: after kills, at another time, and after its files were
+// lost.
+fn numbered(alloc: Global) -> Result<Vec<Operation>, Fail> {
+    let mut list = Vec::new(alloc);
+    for operation in [
+        publish_as(alloc, 0, 1),
+        publish_as(alloc, 0, 1),
+        publish_as(alloc, 1, 1),
+        publish_as(alloc, 1, 3),
+        killed_publish_as(alloc, 1, 2, 5),
+        killed_publish_as(alloc, 1, 2, 6),
+        killed_publish_as(alloc, 1, 2, 9),
+        killed_publish_as(alloc, 0, 1, 5),
+        killed_publish_as(alloc, 1, 2, 8),
+        Operation::Lose {
+            number: 2,
+            suffix: Suffix::O5c,
+        },
+        killed_publish_as(alloc, 1, 2, 6),
+        Operation::Lose {
+            number: 2,
+            suffix: Suffix::Opl,
+        },
+        publish_as(alloc, 1, 2),
+        publish_as(alloc, 0, 2),
+        Operation::Follow,
+    ] {
+        list.push(operation)?;
+    }
+    Ok(list)
+}
+
+#[test]
+fn each_number_is_published_once(rt: HostRuntime) -> Result<(), Fail> {
+    let alloc = rt.alloc();
+    let store = MemoryStore::new(alloc);
+    let outcome = run(alloc, store, "dir", "save", "changes", numbered(alloc)?)?;
+    assert!(rt; outcome.replies.len() == NUMBERED.len());
+    for (reply, text) in outcome.replies.iter().zip(NUMBERED) {
+        assert!(rt; text_of(reply) == text.as_bytes(), "{text}");
+    }
+    let state = b"sequenceNumber=2\ntimestamp=2024-01-01T00\\:01\\:00Z\n";
+    assert!(rt; is_file(&outcome, "dir/state.txt", state));
+    assert!(rt; outcome.store.get("dir/000/000/002.o5c").is_some());
+    assert!(rt; outcome.store.get("dir/000/000/002.opl").is_some());
     Ok(())
 }

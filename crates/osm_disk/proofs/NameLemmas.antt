@@ -1,5 +1,6 @@
 -- What a split at the last slash says, and names made from its parts.
-use Rattle.std.proofs.Common.{◌≡◌, ℕ, ◌+◌, ◌<◌, ◌≤◌, List, [], ◌∷◌, ◌++◌, length, take, drop, Option, Some, None, MatchOption, Bor, eqb, refl, ap, sym, subst, ◌∙◌, arith, take-append-drop}
+use Rattle.std.proofs.Common.{◌≡◌, ℕ, ◌+◌, ◌<◌, ◌≤◌, List, [], ◌∷◌, ◌++◌, length, take, drop, Option, Some, None}
+use Rattle.std.proofs.Common.{MatchOption, Bor, eqb, refl, ap, sym, subst, ◌∙◌, arith, take-append-drop}
 use Rattle.std.specs.Str.{NoCharPasses}
 use Rattle.std.specs.Str.Pattern.{RFindsChar}
 use Rattle.std.specs.Prelude.{Result, Ok, Err, IfOk, codes}
@@ -9,7 +10,9 @@ use Rattle.osm_disk.specs.Names.{IsBare, IsIn, IsFolderOf, in_root, in_folder}
 
 -- the clause of `rsplit_once` at a slash
 abbrev pub IsSplit : List ℕ → Option (Bor (List ℕ) × Bor (List ℕ)) → Type 0
-IsSplit path r = MatchOption r (RFindsChar slash path None) (λ x. (i : ℕ) × (j : ℕ) × RFindsChar slash path (Some (i, j)) × (x.0.now ≡ take i path) × (x.1.now ≡ drop j path) × (i ≤ j) × (length x.0.now ≡ i) × (length x.1.now + j ≡ length path))
+IsSplit path r = MatchOption r (RFindsChar slash path None) (λ x. (i : ℕ) × (j : ℕ)
+    × RFindsChar slash path (Some (i, j)) × (x.0.now ≡ take i path) × (x.1.now ≡ drop j path) × (i ≤ j)
+    × (length x.0.now ≡ i) × (length x.1.now + j ≡ length path))
 
 pub split_at_slash : (path : List ℕ) (r : Option (Bor (List ℕ) × Bor (List ℕ))) → IsSplit path r
     → MatchOption r (IsBare path) (λ x. IsIn x.0.now x.1.now path)
@@ -19,11 +22,13 @@ split_at_slash path (Some x) h = record {
   whole = sym (take-append-drop h.0 path) ∙ (λ k. sym h.3 k ++ (drop_at_char slash path h.0 h.1 h.2.1 (omega arith) ∙ ap (λ l. slash ∷ l) (sym h.4)) k);
 }
 
-pub folder_or_root : (folder name path r : List ℕ) → IsIn folder name path → (length folder ≡ 0 → r ≡ codes "/") → (0 < length folder → r ≡ folder) → IsFolderOf path r
+pub folder_or_root : (folder name path r : List ℕ) → IsIn folder name path → (length folder ≡ 0 → r ≡ codes "/")
+    → (0 < length folder → r ≡ folder) → IsFolderOf path r
 folder_or_root [] name path r is root below = subst (IsFolderOf path) (sym (root refl)) (in_root [] name is refl)
 folder_or_root (b ∷ folder) name path r is root below = subst (IsFolderOf path) (sym (below (omega arith))) (in_folder (b ∷ folder) name is (omega arith))
 
 -- what holds of a text holds of a value made with that text
-pub made : {S E : Type 0} (text_of : S → List ℕ) (r : Result S E) (text : List ℕ) (P : List ℕ → Type 0) → IfOk r (λ s. text_of s ≡ text) → P text → IfOk r (λ s. P (text_of s))
+pub made : {S E : Type 0} (text_of : S → List ℕ) (r : Result S E) (text : List ℕ) (P : List ℕ → Type 0)
+    → IfOk r (λ s. text_of s ≡ text) → P text → IfOk r (λ s. P (text_of s))
 made text_of (Ok s) text P h p = subst P (sym h) p
 made text_of (Err e) text P h p = tt

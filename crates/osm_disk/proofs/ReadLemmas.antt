@@ -4,6 +4,7 @@ use Rattle.std.proofs.lemmas.List.{length-take, take_all}
 use Rattle.std.specs.Option.{option_map}
 
 -- if fewer bytes came than were asked for, they are all there are
-pub all_read : (n : ℕ) (known : Option (List ℕ)) (bytes : List ℕ) → IfSome (option_map (take n) known) (λ xs. bytes ≡ xs) → length bytes < n → IfSome known (λ all. bytes ≡ all)
+pub all_read : (n : ℕ) (known : Option (List ℕ)) (bytes : List ℕ) → IfSome (option_map (take n) known)
+    (λ xs. bytes ≡ xs) → length bytes < n → IfSome known (λ all. bytes ≡ all)
 all_read n None bytes h l = tt
 all_read n (Some all) bytes h l = h ∙ take_all n all (omega (arith, l, length-take n all, ap length h))

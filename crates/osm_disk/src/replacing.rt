@@ -45,10 +45,10 @@ fn write_directly<R: Files>(files: &R, path: &str, bytes: &[u8]) -> io::Result<(
     file.write_all(bytes)
 }
 
-// The path after all symbolic links at its end.
+// The path after all symbolic links at its end. What the last link leads to is looked at too.
 fn led<R: Files>(alloc: Global, files: &R, path: &str) -> io::Result<String> {
     let mut path = String::from_str(alloc, path)?;
-    for _ in 0..MOST_LINKS {
+    for _ in 0..=MOST_LINKS {
         match found(files.symlink_metadata(path.as_str()))? {
             Some(there) if there.is_symlink() => path = followed(alloc, files, path.as_str())?,
             _ => return Ok(path),

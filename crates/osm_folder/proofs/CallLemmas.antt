@@ -74,7 +74,9 @@ inner_out n a Device h = rw h (ap (λ k. Some k) (omega arith))
 inner_out n a e h = tt
 
 -- the numbers from the save to the top
-way_is : (ps : List PublishedValue) (number : ℕ) (dir save : List ℕ) (files : Files) (v : Saved) (top : StateValue) (last : ℕ) → last ≡ top.sequence → IsFolderOf ps files dir → IsSaveOf ps number (files save) → IsStarted dir save files v top → last - v.number ≡ length ps - number
+way_is : (ps : List PublishedValue) (number : ℕ) (dir save : List ℕ) (files : Files) (v : Saved) (top : StateValue)
+    (last : ℕ) → last ≡ top.sequence → IsFolderOf ps files dir → IsSaveOf ps number (files save)
+    → IsStarted dir save files v top → last - v.number ≡ length ps - number
 way_is ps number dir save files v top last is folder saved started =
     let end = top_number ps (files (top_name_of dir)) top folder.sequences folder.top started.top_is in
     let from = ap (λ (s : Saved). s.number) (one_saved (files save) v saved.value started.saved saved.saved) in
@@ -82,13 +84,19 @@ way_is ps number dir save files v top last is folder saved started =
     omega (arith, end, from, at, is)
 
 -- calls of the numbers from the save to the top
-pub way_lacks : (ps : List PublishedValue) (number : ℕ) (dir save : List ℕ) (files : Files) (v : Saved) (top : StateValue) (last : ℕ) (a b : Option ℕ) (fault : RunFault) → last ≡ top.sequence → IsFolderOf ps files dir → IsSaveOf ps number (files save) → IsStarted dir save files v top → SpendsAtMost 2 a b → LacksCalls (3 * (last - v.number)) b fault → LacksCalls (2 + 3 * (length ps - number)) a fault
+pub way_lacks : (ps : List PublishedValue) (number : ℕ) (dir save : List ℕ) (files : Files) (v : Saved)
+    (top : StateValue) (last : ℕ) (a b : Option ℕ) (fault : RunFault) → last ≡ top.sequence → IsFolderOf ps files dir
+    → IsSaveOf ps number (files save) → IsStarted dir save files v top → SpendsAtMost 2 a b
+    → LacksCalls (3 * (last - v.number)) b fault → LacksCalls (2 + 3 * (length ps - number)) a fault
 way_lacks ps number dir save files v top last a b fault is folder saved started spent lacks =
     let way = way_is ps number dir save files v top last is folder saved started in
     lacks_after 2 (3 * (length ps - number)) (2 + 3 * (length ps - number)) a b fault (omega arith) spent
     (subst (λ k. LacksCalls (3 * k) b fault) way lacks)
 
-pub way_most : (ps : List PublishedValue) (number : ℕ) (dir save : List ℕ) (files : Files) (v : Saved) (top : StateValue) (last : ℕ) (a b c : Option ℕ) → last ≡ top.sequence → IsFolderOf ps files dir → IsSaveOf ps number (files save) → IsStarted dir save files v top → SpendsAtMost 2 a b → SpendsAtMost (3 * (last - v.number)) b c → SpendsAtMost (2 + 3 * (length ps - number)) a c
+pub way_most : (ps : List PublishedValue) (number : ℕ) (dir save : List ℕ) (files : Files) (v : Saved)
+    (top : StateValue) (last : ℕ) (a b c : Option ℕ) → last ≡ top.sequence → IsFolderOf ps files dir
+    → IsSaveOf ps number (files save) → IsStarted dir save files v top → SpendsAtMost 2 a b
+    → SpendsAtMost (3 * (last - v.number)) b c → SpendsAtMost (2 + 3 * (length ps - number)) a c
 way_most ps number dir save files v top last a b c is folder saved started spent most =
     let way = way_is ps number dir save files v top last is folder saved started in
     most_both 2 (3 * (length ps - number)) (2 + 3 * (length ps - number)) a b c (omega arith) spent

@@ -24,29 +24,62 @@ use Rattle.osm_folder.specs.declared.form.Form.{Form}
 use Rattle.osm_folder.specs.declared.form.Form.TheVariants as forms
 
 -- the text of a state that isn't the number's
-pub state_text_stops : (known : Type 0) (dir : List ℕ) (files : Files) (number : ℕ) (text : List ℕ) (fault : RunFault) → (known → files (file_name_of dir number State) ≡ Some text) → length text ≤ max_state → StateTextStops text number fault → NumberStops known dir files number fault
-state_text_stops known dir files number text (BadState (Sequence k State) cause) there small h = (h.0, λ yes. record { bytes = text; there = there yes; small = small; fault = h.1 })
+pub state_text_stops : (known : Type 0) (dir : List ℕ) (files : Files) (number : ℕ) (text : List ℕ) (fault : RunFault)
+    → (known → files (file_name_of dir number State) ≡ Some text) → length text ≤ max_state
+    → StateTextStops text number fault → NumberStops known dir files number fault
+state_text_stops known dir files number text (BadState (Sequence k State) cause) there small h =
+    (h.0, λ yes. record { bytes = text; there = there yes; small = small; fault = h.1 })
 state_text_stops known dir files number text (Mismatch k) there small h = (h.0, λ yes. (h.1.0, h.1.1, h.1.2, rw (there yes) h.1.3))
 state_text_stops known dir files number text fault there small h = absurd h
 
 -- the state that was read
-pub has_state : (known : Type 0) (dir : List ℕ) (files : Files) (number : ℕ) (text : List ℕ) → (known → files (file_name_of dir number State) ≡ Some text) × ((time : ℕ) × IsStateFile number time text) → known → HasState files dir number
+pub has_state : (known : Type 0) (dir : List ℕ) (files : Files) (number : ℕ) (text : List ℕ)
+    → (known → files (file_name_of dir number State) ≡ Some text) × ((time : ℕ) × IsStateFile number time text) → known
+    → HasState files dir number
 has_state known dir files number text read sure = (read.1.0, rw (read.0 sure) read.1.1)
 
 -- bytes that aren't delivered
-pub deliver_stops : (known : Type 0) (dir : List ℕ) (files : Files) (number : ℕ) (state : List ℕ) (form : Form) (changes : List ℕ) (fault : RunFault) → IsFetched known files dir number state form changes → DeliverStops (spells_of form) (place_of form) changes (Sequence number (suffix_of form)) fault → NumberStops known dir files number fault
+pub deliver_stops : (known : Type 0) (dir : List ℕ) (files : Files) (number : ℕ) (state : List ℕ) (form : Form)
+    (changes : List ℕ) (fault : RunFault) → IsFetched known files dir number state form changes
+    → DeliverStops (spells_of form) (place_of form) changes (Sequence number (suffix_of form)) fault
+    → NumberStops known dir files number fault
 deliver_stops known dir files number state form changes WantOfMemory has h = tt
 deliver_stops known dir files number state forms.O5c changes (BadChange file place why) has h =
-    rw h.0 (refl, λ yes. (has_state known dir files number state (has.state_is, (has.time, has.names)) yes, rw (has.changes_are yes) (record { small = has.small; nothing = h.1; is_place = h.2 })))
+    rw h.0 (
+      refl,
+      λ yes. (
+        has_state known dir files number state (has.state_is, (has.time, has.names)) yes,
+        rw (has.changes_are yes) (record { small = has.small; nothing = h.1; is_place = h.2 }),
+      ),
+    )
 deliver_stops known dir files number state forms.Opl changes (BadChange file place why) has h =
-    rw h.0 (refl, λ yes. ((has_state known dir files number state (has.state_is, (has.time, has.names)) yes, (has.changes_are yes).0), rw (has.changes_are yes).1 (record { small = has.small; nothing = h.1; is_place = h.2 })))
+    rw h.0 (
+      refl,
+      λ yes. (
+        (
+          has_state known dir files number state (has.state_is, (has.time, has.names)) yes,
+          (has.changes_are yes).0,
+        ),
+        rw (has.changes_are yes).1 (record {
+          small = has.small;
+          nothing = h.1;
+          is_place =
+              h.2;
+        }),
+      ),
+    )
 deliver_stops known dir files number state form changes fault has h = absurd h
 
-has_changes : (files : Files) (dir : List ℕ) (number : ℕ) (form : Form) (bytes : List ℕ) (p : PublishedValue) → length bytes ≤ max_file → spells_of form bytes p.changes → IsFileOf form (files (file_name_of dir number O5c)) (files (file_name_of dir number Opl)) bytes → AreChanges (files (file_name_of dir number O5c)) (files (file_name_of dir number Opl)) p
+has_changes : (files : Files) (dir : List ℕ) (number : ℕ) (form : Form) (bytes : List ℕ) (p : PublishedValue)
+    → length bytes ≤ max_file → spells_of form bytes p.changes → IsFileOf form (files (file_name_of dir number O5c))
+    (files (file_name_of dir number Opl)) bytes → AreChanges (files (file_name_of dir number O5c))
+    (files (file_name_of dir number Opl)) p
 has_changes files dir number forms.O5c bytes p small spelled is = rw is (small, spelled)
 has_changes files dir number forms.Opl bytes p small spelled is = rw (is.0, is.1) (small, spelled)
 
-has_files : (known : Type 0) (dir : List ℕ) (files : Files) (number : ℕ) (state : List ℕ) (form : Form) (bytes : List ℕ) (s : StateValue) (changes : List ChangeValue) → IsFetched known files dir number state form bytes → StateOf state s → s.sequence ≡ number → spells_of form bytes changes → known → HasFiles files dir (sequence_of s changes)
+has_files : (known : Type 0) (dir : List ℕ) (files : Files) (number : ℕ) (state : List ℕ) (form : Form) (bytes : List ℕ)
+    (s : StateValue) (changes : List ChangeValue) → IsFetched known files dir number state form bytes → StateOf state s
+    → s.sequence ≡ number → spells_of form bytes changes → known → HasFiles files dir (sequence_of s changes)
 has_files known dir files number state form bytes s changes has names same spelled sure =
     let small = has.names.small in
     record {
@@ -56,7 +89,10 @@ has_files known dir files number state form bytes s changes has names same spell
     }
 
 -- bytes that are delivered
-pub delivered_taken : (known : Type 0) (dir : List ℕ) (files : Files) (number : ℕ) (f g : FollowerValue) (state : List ℕ) (form : Form) (bytes : List ℕ) (answer : Delivered) → IsFetched known files dir number state form bytes → IsDelivered (spells_of form) (place_of form) f state bytes answer g → IsTaken known files dir number f (Some answer) g
+pub delivered_taken : (known : Type 0) (dir : List ℕ) (files : Files) (number : ℕ) (f g : FollowerValue)
+    (state : List ℕ) (form : Form) (bytes : List ℕ) (answer : Delivered)
+    → IsFetched known files dir number state form bytes → IsDelivered (spells_of form) (place_of form) f state bytes
+    answer g → IsTaken known files dir number f (Some answer) g
 delivered_taken known dir files number f g state form bytes Old has d = d
 delivered_taken known dir files number f g state form bytes Again has d = d
 delivered_taken known dir files number f g state form bytes Held has d =

@@ -13,7 +13,8 @@ puts_from_update f g name w h =
     let same = bytes_eq-Decides name name in
     record {
       there = h name ∙ update_same bytes_eq f name w name (same.1 refl);
-      others = λ m apart. h m ∙ update_other bytes_eq f name w m (false_from_ne_true (bytes_eq name m) (λ e. let d = bytes_eq-Decides name m in apart (sym (d.0 e))));
+      others = λ m apart. h m ∙ update_other bytes_eq f name w m (false_from_ne_true (bytes_eq name m) (λ e.
+          let d = bytes_eq-Decides name m in apart (sym (d.0 e))));
     }
 
 pub spends_none : (a : Option ℕ) → Spends 0 a a

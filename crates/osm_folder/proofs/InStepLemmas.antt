@@ -19,7 +19,8 @@ use Rattle.osm_follow.proofs.PublishedLemmas.{changes_next, time_next}
 use Rattle.osm_follow.specs.Published.{AreSequences, PublishedValue, changes_at, changes_up_to, sequence_at}
 use Rattle.osm_folder.specs.Files.{Files, IsOver}
 use Rattle.osm_folder.specs.Folder.{IsAbsentOr, IsFile, IsFolderOf, IsStateFile, IsThere, IsTop}
-use Rattle.osm_folder.specs.Following.{Adds, AddsAll, AreChanges, IsFollowed, IsFollowing, IsInStep, IsInStepAfter, IsSaveOf, IsSaved, NamesOther, is_lost, limit_of, lost_numbers, ranges}
+use Rattle.osm_folder.specs.Following.{Adds, AddsAll, AreChanges, IsFollowed, IsFollowing, IsInStep, IsInStepAfter}
+use Rattle.osm_folder.specs.Following.{IsSaveOf, IsSaved, NamesOther, is_lost, limit_of, lost_numbers, ranges}
 use Rattle.osm_folder.specs.Forms.{IsFaulty}
 use Rattle.osm_folder.specs.Names.{top_name_of}
 use Rattle.osm_folder.specs.Publication.{IsBadState}
@@ -33,14 +34,15 @@ one_saved None a b p q = p ∙ sym q
 one_saved (Some bytes) a b p q = one_save bytes a b p.1 q.1
 
 -- the top state names the last published sequence
-pub top_number : (ps : List PublishedValue) (told : Option (List ℕ)) (top : StateValue) → AreSequences ps → IsTop ps told → IsThere told (IsStateFile top.sequence top.time) → top.sequence ≡ length ps
+pub top_number : (ps : List PublishedValue) (told : Option (List ℕ)) (top : StateValue) → AreSequences ps
+    → IsTop ps told → IsThere told (IsStateFile top.sequence top.time) → top.sequence ≡ length ps
 top_number ps None top each t there = absurd there
 top_number ps (Some bytes) top each (inl a) there = absurd (let e = a.1 in cc)
 top_number ps (Some bytes) top each (inr a) there =
     ap (λ (s : StateValue). s.sequence) (one_state bytes top _ there.names a.1.names) ∙ (each (length ps) a.0 (omega arith)).number_is
 
 -- the state and the changes of a number's files are the published ones
-same_time : (told : Option (List ℕ)) (p q : PublishedValue) → IsThere told (IsFile State p) → IsAbsentOr told (IsFile State q) → p.time ≡ q.time
+pub same_time : (told : Option (List ℕ)) (p q : PublishedValue) → IsThere told (IsFile State p) → IsAbsentOr told (IsFile State q) → p.time ≡ q.time
 same_time None p q a b = absurd a
 same_time (Some bytes) p q a b = ap (λ (s : StateValue). s.time) (one_state bytes _ _ a.names b.names)
 
@@ -48,20 +50,28 @@ same_opl : (told : Option (List ℕ)) (p q : PublishedValue) → IsThere told (I
 same_opl None p q a b = absurd a
 same_opl (Some bytes) p q a b = opl_file.one_batch bytes p.changes q.changes a.1 b.1
 
-same_changes : (o5c opl : Option (List ℕ)) (p q : PublishedValue) → AreChanges o5c opl p → IsAbsentOr o5c (IsFile O5c q) → IsAbsentOr opl (IsFile Opl q) → p.changes ≡ q.changes
+same_changes : (o5c opl : Option (List ℕ)) (p q : PublishedValue) → AreChanges o5c opl p → IsAbsentOr o5c (IsFile O5c q)
+    → IsAbsentOr opl (IsFile Opl q) → p.changes ≡ q.changes
 same_changes None opl p q a b c = same_opl opl p q a c
 same_changes (Some bytes) opl p q a b c = o5c_file.one_batch bytes p.changes q.changes a.1 b.1
 
 -- one more number
-step_in_step : (ps : List PublishedValue) (files : Files) (dir : List ℕ) (old new : Saved) → IsFolderOf ps files dir → old.number + 1 ≤ length ps → Adds files dir old new → IsInStep ps old → IsInStep ps new
+step_in_step : (ps : List PublishedValue) (files : Files) (dir : List ℕ) (old new : Saved) → IsFolderOf ps files dir
+    → old.number + 1 ≤ length ps → Adds files dir old new → IsInStep ps old → IsInStep ps new
 step_in_step ps files dir old new folder within add step =
     let is = add.number_is in
     let at : add.next.number ≤ length ps = omega (arith, is) in
     let above : 0 < add.next.number = omega (arith, is) in
-    let time : add.next.time ≡ (sequence_at ps add.next.number).time = same_time _ add.next (sequence_at ps add.next.number) add.there.state (folder.each add.next.number State above at) in
-    let changes : add.next.changes ≡ changes_at ps add.next.number = same_changes _ _ add.next (sequence_at ps add.next.number) add.there.changes (folder.each add.next.number O5c above at) (folder.each add.next.number Opl above at) in
-    let grown : IsMirrorOf (changes_up_to ps old.number ++ add.next.changes) new.mirror = mirror_grown old.mirror new.mirror (changes_up_to ps old.number) add.next.changes step.mirror add.applied in
-    let joined : changes_up_to ps add.next.number ≡ changes_up_to ps old.number ++ add.next.changes = changes_next ps old.number add.next.number is at ∙ ap (λ cs. changes_up_to ps old.number ++ cs) (sym changes) in
+    let time : add.next.time ≡ (sequence_at ps add.next.number).time =
+    same_time _ add.next (sequence_at ps add.next.number) add.there.state
+    (folder.each add.next.number State above at) in
+    let changes : add.next.changes ≡ changes_at ps add.next.number =
+    same_changes _ _ add.next (sequence_at ps add.next.number) add.there.changes
+    (folder.each add.next.number O5c above at) (folder.each add.next.number Opl above at) in
+    let grown : IsMirrorOf (changes_up_to ps old.number ++ add.next.changes) new.mirror =
+    mirror_grown old.mirror new.mirror (changes_up_to ps old.number) add.next.changes step.mirror add.applied in
+    let joined : changes_up_to ps add.next.number ≡ changes_up_to ps old.number ++ add.next.changes =
+    changes_next ps old.number add.next.number is at ∙ ap (λ cs. changes_up_to ps old.number ++ cs) (sym changes) in
     record {
       within = rw add.number at;
       mirror = rw (add.number, joined) grown;
@@ -69,7 +79,9 @@ step_in_step ps files dir old new folder within add step =
     }
 
 -- that many more numbers
-pub all_in_step : (ps : List PublishedValue) (files : Files) (dir : List ℕ) (count : ℕ) (old new : Saved) → IsFolderOf ps files dir → old.number + count ≤ length ps → AddsAll files dir count old new → IsInStep ps old → IsInStep ps new
+pub all_in_step : (ps : List PublishedValue) (files : Files) (dir : List ℕ) (count : ℕ) (old new : Saved)
+    → IsFolderOf ps files dir → old.number + count ≤ length ps → AddsAll files dir count old new → IsInStep ps old
+    → IsInStep ps new
 all_in_step ps files dir zero old new folder within add step = rw add step
 all_in_step ps files dir (suc count) old new folder within (between, before, last) step =
     let number = adds_number files dir count old between before in
@@ -86,7 +98,9 @@ pub record Reached (ps : List PublishedValue) (dir save : List ℕ) (files : Fil
   pub far : (number + count ≡ length ps) ⊎ (is_lost files dir (number + count + 1) ≡ true)
   pub report_is : report ≡ follow_report_of (ranges number count) (lost_numbers files dir (number + count) (length ps)) (number + count)
 
-pub reached_of : (ps : List PublishedValue) (number : ℕ) (dir save : List ℕ) (files : Files) (text : List ℕ) (report : ReportValue) → IsFolderOf ps files dir → IsSaveOf ps number (files save) → IsFollowing dir save files text report → Reached ps dir save files number text report
+pub reached_of : (ps : List PublishedValue) (number : ℕ) (dir save : List ℕ) (files : Files) (text : List ℕ)
+    (report : ReportValue) → IsFolderOf ps files dir → IsSaveOf ps number (files save)
+    → IsFollowing dir save files text report → Reached ps dir save files number text report
 reached_of ps number dir save files text report folder saved run =
     let same : run.start ≡ saved.value = one_saved (files save) run.start saved.value run.started.saved saved.saved in
     let start_is : run.start.number ≡ number = ap (λ (v : Saved). v.number) same ∙ saved.number_is in
@@ -108,7 +122,9 @@ reached_of ps number dir save files text report folder saved run =
       report_is = rw (← value_is, ← top_is, ← start_is) run.report_is;
     }
 
-pub in_step_after : (ps : List PublishedValue) (number : ℕ) (dir save : List ℕ) (old new : Files) (report : ReportValue) → IsFolderOf ps old dir → IsSaveOf ps number (old save) → IsFollowed dir save old new report → IsInStepAfter ps number dir save old new report
+pub in_step_after : (ps : List PublishedValue) (number : ℕ) (dir save : List ℕ) (old new : Files) (report : ReportValue)
+    → IsFolderOf ps old dir → IsSaveOf ps number (old save) → IsFollowed dir save old new report
+    → IsInStepAfter ps number dir save old new report
 in_step_after ps number dir save old new report folder saved run =
     let r = reached_of ps number dir save old run.text report folder saved run.following in
     record {
@@ -125,11 +141,13 @@ in_step_after ps number dir save old new report folder saved run =
     }
 
 -- a right file is no reason to stop
-pub not_faulty : (p : PublishedValue) (told : Option (List ℕ)) (place : ℕ) → IsAbsentOr told (IsFile O5c p) → IsThere told (λ bytes. IsFaulty forms.O5c bytes place) → ⊥
+pub not_faulty : (p : PublishedValue) (told : Option (List ℕ)) (place : ℕ) → IsAbsentOr told (IsFile O5c p)
+    → IsThere told (λ bytes. IsFaulty forms.O5c bytes place) → ⊥
 not_faulty p None place a b = b
 not_faulty p (Some bytes) place a b = b.nothing p.changes a.1
 
-pub not_faulty_opl : (p : PublishedValue) (told : Option (List ℕ)) (place : ℕ) → IsAbsentOr told (IsFile Opl p) → IsThere told (λ bytes. IsFaulty forms.Opl bytes place) → ⊥
+pub not_faulty_opl : (p : PublishedValue) (told : Option (List ℕ)) (place : ℕ) → IsAbsentOr told (IsFile Opl p)
+    → IsThere told (λ bytes. IsFaulty forms.Opl bytes place) → ⊥
 not_faulty_opl p None place a b = b
 not_faulty_opl p (Some bytes) place a b = b.nothing p.changes a.1
 
@@ -151,7 +169,8 @@ not_over p Opl (Some bytes) a o =
     let small = a.0 in
     omega (arith, long, over, small)
 
-pub not_bad : NoFaultBesideState → (p : PublishedValue) (told : Option (List ℕ)) (cause : StateError) → IsAbsentOr told (IsFile State p) → IsBadState told cause → ⊥
+pub not_bad : NoFaultBesideState → (p : PublishedValue) (told : Option (List ℕ)) (cause : StateError)
+    → IsAbsentOr told (IsFile State p) → IsBadState told cause → ⊥
 not_bad law p None cause a b = (let e = b.there in cc)
 not_bad law p (Some bytes) cause a b = law bytes _ cause a.names (rw (same_Some bytes b.bytes b.there) b.fault)
 

@@ -1,18 +1,21 @@
 -- A write of a publication, under the names that were made for it.
-use Rattle.std.proofs.Common.{◌≡◌, ℕ, ◌+◌, ◌<◌, ◌≤◌, List, take, Some, arith, subst, refl, ap, ◌∙◌}
-use Rattle.std.specs.Prelude.{Result, Ok, Err, IfErr, OnErr}
+use Rattle.std.proofs.Common.{◌≡◌, ℕ, ◌+◌, ◌<◌, ◌≤◌, List, take, Option, Some, inr, arith, subst, refl, sym, ap, ◌∙◌}
+use Rattle.std.specs.Prelude.{Result, Ok, Err, IfErr, IfOk, OnErr, OnOk}
+use Rattle.osm_model.specs.Change.{ChangeValue}
 use Rattle.osm_model.specs.Limits.{max_sequence}
+use Rattle.osm_model.specs.Time.{TimeText}
 use Rattle.osm_follow.specs.Published.{PublishedTexts, PublishedValue, written_of}
-use Rattle.osm_follow.specs.Publisher.{PublisherValue, closing}
+use Rattle.osm_follow.specs.Publisher.{CanClose, PublisherValue, closing}
+use Rattle.osm_state.specs.State.{StateValue}
 use Rattle.osm_folder.specs.Files.{Files, Puts}
 use Rattle.osm_folder.specs.Folder.{IsApart, IsFolderOf}
 use Rattle.osm_folder.specs.Names.{top_name_of}
-use Rattle.osm_folder.specs.Publication.{CutsOff, IsAdded, IsReady, Writes, file_after, writes_of}
+use Rattle.osm_folder.specs.Publication.{CutsOff, GoesOnFrom, IsAdded, IsRead, IsReady, NotReady, Writes, file_after, writes_of}
 use Rattle.osm_folder.specs.Reports.{ReportValue, publish_report_of}
-use Rattle.osm_folder.specs.Steps.Publishing.{AreNames, IsMade, writes_to}
+use Rattle.osm_folder.specs.Steps.Publishing.{AreNames, CloseStops, IsChangesOf, IsMade, IsMadeOf, from_top, writes_to}
 use Rattle.osm_folder.specs.Steps.Reading.{PutStops}
 use Rattle.osm_folder.specs.declared.fault.RunFault.{RunFault}
-use Rattle.osm_folder.specs.declared.fault.RunFault.TheVariants.{WantOfMemory, WriteFault}
+use Rattle.osm_folder.specs.declared.fault.RunFault.TheVariants.{WantOfMemory, WriteFault, TooLarge, TimeBack, SequenceFull}
 use Rattle.osm_folder.specs.declared.publish.FolderNames.{FolderNames}
 use Rattle.osm_folder.specs.declared.publish.Publication.{Publication}
 use Rattle.osm_folder.proofs.FolderLemmas.{all_add, goes_on_number, ready_written, some_keep, writes_others}
@@ -36,7 +39,10 @@ err_both P R (Ok x) p q f = tt
 err_both P R (Err y) p q f = f y p q
 
 -- the writes that were made, as those of the folder
-pub made_writes : (known : Type 0) (dir changes now : List ℕ) (f h g : Files) (made : Publication) (m : IsMade known dir changes now f made) (count : ℕ) → h ≡ f → Writes (take count (writes_to made.names made.published)) h g → Writes (take count (writes_of dir (written_of (closing m.publisher m.time)))) f g
+pub made_writes : (known : Type 0) (dir changes now : List ℕ) (f h g : Files) (made : Publication)
+    (m : IsMade known dir changes now f made) (count : ℕ) → h ≡ f
+    → Writes (take count (writes_to made.names made.published)) h g
+    → Writes (take count (writes_of dir (written_of (closing m.publisher m.time)))) f g
 made_writes known dir changes now f h g made m count e w =
     let same : writes_to made.names made.published ≡ writes_of dir (written_of (closing m.publisher m.time)) =
     ap (λ p. writes_to made.names p) m.published_is ∙ writes_same dir made.names (written_of (closing m.publisher m.time)) m.names_are in
@@ -47,16 +53,22 @@ made_writes known dir changes now f h g made m count e w =
 room_of : (dir changes now : List ℕ) (f : Files) (a : PublisherValue) (time : ℕ) → IsReady dir changes now f a time → a.number + 1 ≤ max_sequence
 room_of dir changes now f a time r = let can = r.can_close in let room = can.room in omega arith
 
-pub cut_keeps : (p : List PublishedValue) (dir changes now : List ℕ) (f g : Files) (a : PublisherValue) (time count : ℕ) → IsReady dir changes now f a time → count < 4 → Writes (take count (writes_of dir (written_of (closing a time)))) f g → IsFolderOf p f dir → IsFolderOf p g dir
+pub cut_keeps : (p : List PublishedValue) (dir changes now : List ℕ) (f g : Files) (a : PublisherValue) (time count : ℕ)
+    → IsReady dir changes now f a time → count < 4 → Writes (take count (writes_of dir (written_of (closing a time)))) f
+    g → IsFolderOf p f dir → IsFolderOf p g dir
 cut_keeps p dir changes now f g a time count r few w is =
     let n = goes_on_number p (f (top_name_of dir)) a.number a.time is.sequences is.top r.read.goes_on in
     some_keep p dir (written_of (closing a time)) count f g few (omega (arith, n)) (room_of dir changes now f a time r) w is
 
-pub ready_others : (dir changes now name : List ℕ) (f g : Files) (a : PublisherValue) (time count : ℕ) → IsReady dir changes now f a time → IsApart dir name → Writes (take count (writes_of dir (written_of (closing a time)))) f g → g name ≡ f name
+pub ready_others : (dir changes now name : List ℕ) (f g : Files) (a : PublisherValue) (time count : ℕ)
+    → IsReady dir changes now f a time → IsApart dir name
+    → Writes (take count (writes_of dir (written_of (closing a time)))) f g → g name ≡ f name
 ready_others dir changes now name f g a time count r apart w =
     writes_others dir name (written_of (closing a time)) count f g (room_of dir changes now f a time r) apart w
 
-pub ready_adds : (p : List PublishedValue) (dir changes now : List ℕ) (f g : Files) (a : PublisherValue) (time : ℕ) (report : ReportValue) → IsReady dir changes now f a time → Writes (writes_of dir (written_of (closing a time))) f g → report ≡ publish_report_of (a.number + 1) → IsFolderOf p f dir → IsAdded p dir changes now f g report
+pub ready_adds : (p : List PublishedValue) (dir changes now : List ℕ) (f g : Files) (a : PublisherValue) (time : ℕ)
+    (report : ReportValue) → IsReady dir changes now f a time → Writes (writes_of dir (written_of (closing a time))) f g
+    → report ≡ publish_report_of (a.number + 1) → IsFolderOf p f dir → IsAdded p dir changes now f g report
 ready_adds p dir changes now f g a time report r w e is =
     let n = goes_on_number p (f (top_name_of dir)) a.number a.time is.sequences is.top r.read.goes_on in
     record {
@@ -65,4 +77,44 @@ ready_adds p dir changes now f g a time report r w e is =
       changes_are = rw r.read.there r.read.spelled;
       time_is = r.read.now_is;
       report_is = e ∙ ap (λ k. publish_report_of (k + 1)) n;
+    }
+
+-- what was made is what the words and the files ask for
+pub all_made : (known : Type 0) (dir changes now : List ℕ) (f : Files) (a : PublisherValue) (time : ℕ)
+    (r : Result Publication RunFault) → (known → IsRead dir changes now f a time)
+    → IfOk r (IsMadeOf dir (closing a time)) → OnOk r (CanClose a time) → IfOk r (IsMade known dir changes now f)
+all_made known dir changes now f a time (Ok made) read m can = record {
+  publisher = a;
+  time = time;
+  ready = λ yes. record { read = read yes; can_close = can; fits = m.fits };
+  published_is = m.published_is;
+  names_are = m.names_are;
+  report_is = m.report_is;
+}
+all_made known dir changes now f a time (Err fault) read m can = tt
+
+pub not_made : (known : Type 0) (dir changes now : List ℕ) (f : Files) (a : PublisherValue) (time : ℕ)
+    (fault : RunFault) → TimeText now time → (known → IsRead dir changes now f a time) → CloseStops a time fault
+    → NotReady known dir changes now f fault
+not_made known dir changes now f a time WantOfMemory now_is read h = (time, now_is)
+not_made known dir changes now f a time SequenceFull now_is read h = ((time, now_is), λ yes. record { publisher = a; time = time; read = read yes; is_so = h })
+not_made known dir changes now f a time TimeBack now_is read h = ((time, now_is), λ yes. record { publisher = a; time = time; read = read yes; is_so = h })
+not_made known dir changes now f a time (TooLarge file) now_is read h =
+    ((time, now_is), inr (inr (h.0, λ yes. record { publisher = a; time = time; read = read yes; is_so = (h.1, h.2) })))
+not_made known dir changes now f a time fault now_is read h = absurd h
+
+-- what was read is what a publisher goes on from
+pub all_read : (dir changes now : List ℕ) (f g : Files) (top : Option StateValue) (b : PublisherValue)
+    (batch : List ChangeValue) (time : ℕ) → g ≡ f → b ≡ from_top top
+    → GoesOnFrom (f (top_name_of dir)) (from_top top).number (from_top top).time → IsChangesOf (g changes) batch
+    → TimeText now time → IsRead dir changes now f (record b { pending = batch }) time
+all_read dir changes now f g top b batch time same from goes_on read now_is =
+    let there : f changes ≡ Some read.bytes = ap (λ (h : Files). h changes) (sym same) ∙ read.there in
+    record {
+      goes_on = rw from goes_on;
+      bytes = read.bytes;
+      there = there;
+      small = read.small;
+      spelled = read.spelled;
+      now_is = now_is;
     }

@@ -12,7 +12,8 @@ use Rattle.osm_folder.specs.Folder.{IsFolderOf, IsTop, max_state}
 use Rattle.osm_folder.specs.Names.{top_name_of}
 use Rattle.osm_folder.specs.Publication.{CutsOff, FolderRefuses, GoesOnFrom, IsBadState, IsBeforeLast, NotReady}
 use Rattle.osm_folder.specs.declared.fault.RunFault.{RunFault}
-use Rattle.osm_folder.specs.declared.fault.RunFault.TheVariants.{WantOfMemory, ReadFault, WriteFault, TooLarge, Absent, BadState, BadChange, TimeBack, SequenceFull, BadNow}
+use Rattle.osm_folder.specs.declared.fault.RunFault.TheVariants.{WantOfMemory, ReadFault, WriteFault, TooLarge, Absent}
+use Rattle.osm_folder.specs.declared.fault.RunFault.TheVariants.{BadState, BadChange, TimeBack, SequenceFull, BadNow}
 use Rattle.osm_folder.proofs.FolderLemmas.{goes_on_number}
 
 pub good_top : NoFaultBesideState → (p : List PublishedValue) (told : Option (List ℕ)) (cause : StateError) → IsTop p told → IsBadState told cause → ⊥
@@ -30,7 +31,8 @@ small_top p (Some bytes) (inr a) o =
     let small = a.1.small in
     omega (arith, long, over, small)
 
-before_last : (p : List PublishedValue) (told : Option (List ℕ)) (now : List ℕ) (number last time : ℕ) → IsTop p told → GoesOnFrom told number last → TimeText now time → time < last → IsBeforeLast p now
+pub before_last : (p : List PublishedValue) (told : Option (List ℕ)) (now : List ℕ) (number last time : ℕ)
+    → IsTop p told → GoesOnFrom told number last → TimeText now time → time < last → IsBeforeLast p now
 before_last p None now number last time t g is back =
     let limits = is.limits in
     let low = limits.low in
@@ -40,7 +42,8 @@ before_last p (Some bytes) now number last time (inr a) g is back =
     let same = ap (λ (s : StateValue). s.time) (one_state bytes (record { sequence = number; time = last }) _ g.names a.1.names) in
     record { time = time; now_is = is; some = a.0; before = omega (arith, same, back) }
 
-pub not_ready : NoFaultBesideState → (known : Type 0) (p : List PublishedValue) (dir changes now : List ℕ) (f : Files) (fault : RunFault) → known → IsFolderOf p f dir → NotReady known dir changes now f fault → FolderRefuses p now fault
+pub not_ready : NoFaultBesideState → (known : Type 0) (p : List PublishedValue) (dir changes now : List ℕ) (f : Files)
+    (fault : RunFault) → known → IsFolderOf p f dir → NotReady known dir changes now f fault → FolderRefuses p now fault
 not_ready law known p dir changes now f BadNow known_now is h = h
 not_ready law known p dir changes now f WantOfMemory known_now is h = tt
 not_ready law known p dir changes now f (ReadFault file) known_now is h = tt

@@ -18,13 +18,15 @@ some_picked p n zero picked = rw (filter-append p [] ((n + 1) ∷ []), picked) (
 some_picked p n (suc count) picked =
     let before = some_picked p n count picked in
     let parts : length (filter p (numbers n (suc (suc count)))) ≡ length (filter p (numbers n (suc count))) + length (filter p ((n + suc (suc count)) ∷ [])) =
-    ap length (filter-append p (numbers n (suc count)) ((n + suc (suc count)) ∷ [])) ∙ length-append (filter p (numbers n (suc count))) (filter p ((n + suc (suc count)) ∷ [])) in
+    ap length (filter-append p (numbers n (suc count)) ((n + suc (suc count)) ∷ []))
+    ∙ length-append (filter p (numbers n (suc count))) (filter p ((n + suc (suc count)) ∷ [])) in
     omega (arith, before, parts)
 
 missing_some : (is_in : ℕ → Bool) (n top count : ℕ) → is_in (n + 1) ≡ false → min 64 (top - n) ≡ suc count → missing_numbers is_in n top ≡ [] → ⊥
 missing_some is_in n top count out is none =
     let some = some_picked (λ k. not (is_in k)) n count (ap not out) in
-    let long : length (missing_numbers is_in n top) ≡ length (filter (λ k. not (is_in k)) (numbers n (suc count))) = ap (λ c. length (filter (λ k. not (is_in k)) (numbers n c))) is in
+    let long : length (missing_numbers is_in n top) ≡ length (filter (λ k. not (is_in k)) (numbers n (suc count))) =
+    ap (λ c. length (filter (λ k. not (is_in k)) (numbers n c))) is in
     let short : length (missing_numbers is_in n top) ≡ 0 = ap length none in
     omega (arith, some, long, short)
 
@@ -39,7 +41,10 @@ missing_gap is_in n top until out = (
     by_count zero is none = omega arith
     by_count (suc count) is none = absurd (missing_some is_in n top count out is none)
 
-pub follow_report_is : (known : Type 0) (files : Files) (dir : List ℕ) (f g : FollowerValue) (top last : ℕ) (applied ranges : List (ℕ × ℕ)) (report : ReportValue) → IsTakenUp known files dir f top g applied → ranges ≡ applied → last ≡ top → report ≡ follow_report_of ranges (missing_numbers (is_held g) g.number last) g.number → IsFollowReport report
+pub follow_report_is : (known : Type 0) (files : Files) (dir : List ℕ) (f g : FollowerValue) (top last : ℕ)
+    (applied ranges : List (ℕ × ℕ)) (report : ReportValue) → IsTakenUp known files dir f top g applied
+    → ranges ≡ applied → last ≡ top → report ≡ follow_report_of ranges (missing_numbers (is_held g) g.number last)
+    g.number → IsFollowReport report
 follow_report_is known files dir f g top last applied ranges report t same last_is is =
     let number = t.number in
     record {
@@ -52,7 +57,10 @@ follow_report_is known files dir f g top last applied ranges report t same last_
       gap = rw (← number) (missing_gap (is_held g) g.number top t.until t.next);
     }
 
-pub following : (known : Type 0) (dir save : List ℕ) (files : Files) (f g : FollowerValue) (top : StateValue) (last : ℕ) (applied : List (ℕ × ℕ)) (text : List ℕ) → known → IsStarted dir save files (saved_of f) top → last ≡ top.sequence → IsTakenUp known files dir f last g applied → SpellsSave text (saved_of g) → IsFollowing dir save files text (follow_report_of applied (missing_numbers (is_held g) g.number last) g.number)
+pub following : (known : Type 0) (dir save : List ℕ) (files : Files) (f g : FollowerValue) (top : StateValue) (last : ℕ)
+    (applied : List (ℕ × ℕ)) (text : List ℕ) → known → IsStarted dir save files (saved_of f) top → last ≡ top.sequence
+    → IsTakenUp known files dir f last g applied → SpellsSave text (saved_of g)
+    → IsFollowing dir save files text (follow_report_of applied (missing_numbers (is_held g) g.number last) g.number)
 following known dir save files f g top last applied text sure started same t spelled = record {
   start = saved_of f;
   top = top;

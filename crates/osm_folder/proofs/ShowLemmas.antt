@@ -10,7 +10,8 @@ use Rattle.osm_folder.specs.declared.fault.RunFault.{RunFault}
 use Rattle.osm_folder.specs.declared.fault.RunFault.TheVariants.{WantOfMemory, BadSave}
 use Rattle.osm_folder.proofs.InStepLemmas.{one_saved}
 
-pub shown_of : (ps : List PublishedValue) (number : ℕ) (told : Option (List ℕ)) (report : ReportValue) → IsSaveOf ps number told → IsShown told report → IsShownOf ps number report
+pub shown_of : (ps : List PublishedValue) (number : ℕ) (told : Option (List ℕ)) (report : ReportValue)
+    → IsSaveOf ps number told → IsShown told report → IsShownOf ps number report
 shown_of ps number told report saved shown =
     let here : IsSaved told shown.saved = rw shown.there (shown.small, shown.spelled) in
     let same : shown.saved ≡ saved.value = one_saved told shown.saved saved.value here saved.saved in
@@ -25,7 +26,8 @@ shown_of ps number told report saved shown =
     }
 
 -- a text that no follower restarts from
-pub restart_stops : (known : Type 0) (told : Option (List ℕ)) (bytes : List ℕ) (fault : RunFault) → (known → told ≡ Some bytes) → length bytes ≤ max_save → RestartStops bytes fault → ShowStops known told fault
+pub restart_stops : (known : Type 0) (told : Option (List ℕ)) (bytes : List ℕ) (fault : RunFault)
+    → (known → told ≡ Some bytes) → length bytes ≤ max_save → RestartStops bytes fault → ShowStops known told fault
 restart_stops known told bytes WantOfMemory there small h = tt
 restart_stops known told bytes (BadSave line) there small h = λ sure. record { bytes = bytes; there = there sure; small = small; nothing = h }
 restart_stops known told bytes fault there small h = absurd h

@@ -11,19 +11,23 @@ use Rattle.osm_follow.specs.Published.{PublishedValue, sequence_at}
 use Rattle.osm_follow.specs.Restart.{saved_of}
 use Rattle.osm_folder.specs.Files.{Files}
 use Rattle.osm_folder.specs.Folder.{IsFolderOf, IsTop}
-use Rattle.osm_folder.specs.Following.{FollowRefuses, FollowStops, HasText, IsBadSave, IsFollowing, IsSaveOf, IsSaved, IsStarted, NumberStops, SaveStops, StartRefuses, StartStops, max_save}
+use Rattle.osm_folder.specs.Following.{FollowRefuses, FollowStops, HasText, IsBadSave, IsFollowing, IsSaveOf, IsSaved}
+use Rattle.osm_folder.specs.Following.{IsStarted, NumberStops, SaveStops, StartRefuses, StartStops, max_save}
 use Rattle.osm_folder.specs.Names.{file_name_of, top_name_of}
 use Rattle.osm_folder.specs.Reports.{ReportValue}
 use Rattle.osm_folder.specs.Steps.Following.{MadeStops, StopsOnTheWay}
 use Rattle.osm_folder.specs.Steps.Reading.{PutStops}
 use Rattle.osm_folder.specs.declared.fault.FileName.TheVariants.{Top, Sequence, Save}
 use Rattle.osm_folder.specs.declared.fault.RunFault.{RunFault}
-use Rattle.osm_folder.specs.declared.fault.RunFault.TheVariants.{WantOfMemory, ReadFault, WriteFault, TooLarge, Absent, BadState, Mismatch, BadChange, BadSave, TopBehind}
+use Rattle.osm_folder.specs.declared.fault.RunFault.TheVariants.{WantOfMemory, ReadFault, WriteFault, TooLarge, Absent}
+use Rattle.osm_folder.specs.declared.fault.RunFault.TheVariants.{BadState, Mismatch, BadChange, BadSave, TopBehind}
 use Rattle.osm_folder.proofs.InStepLemmas.{not_bad, not_faulty, not_faulty_opl, not_other, not_over, one_saved, reached_of, top_number}
 use Rattle.osm_folder.proofs.RefusalLemmas.{good_top, small_top}
 
 -- a number on the way
-pub way_stops : (known : Type 0) (dir save : List ℕ) (files : Files) (start : Saved) (top : StateValue) (fault : RunFault) → (known → IsStarted dir save files start top) → StopsOnTheWay known dir files start.number top.sequence fault → FollowStops known dir save files fault
+pub way_stops : (known : Type 0) (dir save : List ℕ) (files : Files) (start : Saved) (top : StateValue)
+    (fault : RunFault) → (known → IsStarted dir save files start top)
+    → StopsOnTheWay known dir files start.number top.sequence fault → FollowStops known dir save files fault
 way_stops known dir save files start top fault started way = inr (inl (record {
   number = way.number;
   comes = λ yes. (let next = way.next yes in record {
@@ -39,13 +43,17 @@ way_stops known dir save files start top fault started way = inr (inl (record {
 }))
 
 -- the save that is to be written
-pub made_stops : (known : Type 0) (dir save : List ℕ) (files : Files) (f : FollowerValue) (fault : RunFault) → (known → (text : List ℕ) → SpellsSave text (saved_of f) → (report : ReportValue) × IsFollowing dir save files text report) → MadeStops f fault → FollowStops known dir save files fault
+pub made_stops : (known : Type 0) (dir save : List ℕ) (files : Files) (f : FollowerValue) (fault : RunFault)
+    → (known → (text : List ℕ) → SpellsSave text (saved_of f) → (report : ReportValue)
+    × IsFollowing dir save files text report) → MadeStops f fault → FollowStops known dir save files fault
 made_stops known dir save files f WantOfMemory run stops = inr (inr tt)
 made_stops known dir save files f (TooLarge file) run (is, big) =
     rw is (inr (inr (λ yes. (let r = run yes big.text big.spelled in (big.text, r.0, r.1, big.over)))))
 made_stops known dir save files f fault run stops = absurd stops
 
-pub put_save_stops : (known : Type 0) (dir save : List ℕ) (files : Files) (fault : RunFault) → (known → HasText dir save files (λ text. length text ≤ max_save)) → PutStops Save fault → FollowStops known dir save files fault
+pub put_save_stops : (known : Type 0) (dir save : List ℕ) (files : Files) (fault : RunFault)
+    → (known → HasText dir save files (λ text. length text ≤ max_save)) → PutStops Save fault
+    → FollowStops known dir save files fault
 put_save_stops known dir save files WantOfMemory has stops = inr (inr tt)
 put_save_stops known dir save files (WriteFault file) has stops = rw stops (inr (inr has))
 put_save_stops known dir save files fault has stops = absurd stops
@@ -59,14 +67,17 @@ none_published ps None (inl a) e = a.0
 none_published ps None (inr a) e = absurd a.1
 none_published ps (Some bytes) t e = (let bad : Some bytes ≡ None = e in cc)
 
-pub start_refuses : NoFaultBesideState → (known : Type 0) (ps : List PublishedValue) (number : ℕ) (dir save : List ℕ) (files : Files) (fault : RunFault) → known → IsFolderOf ps files dir → IsSaveOf ps number (files save) → StartStops known dir save files fault → StartRefuses ps (files save) fault
+pub start_refuses : NoFaultBesideState → (known : Type 0) (ps : List PublishedValue) (number : ℕ) (dir save : List ℕ)
+    (files : Files) (fault : RunFault) → known → IsFolderOf ps files dir → IsSaveOf ps number (files save)
+    → StartStops known dir save files fault → StartRefuses ps (files save) fault
 start_refuses law known ps number dir save files WantOfMemory sure folder saved h = tt
 start_refuses law known ps number dir save files (ReadFault file) sure folder saved h = tt
 start_refuses law known ps number dir save files (TooLarge Save) sure folder saved h = (refl, h sure)
 start_refuses law known ps number dir save files (TooLarge Top) sure folder saved h = absurd (small_top ps (files (top_name_of dir)) folder.top (h sure).1)
 start_refuses law known ps number dir save files (BadSave line) sure folder saved h = no_bad_save (files save) saved.value saved.saved (h sure)
 start_refuses law known ps number dir save files (Absent Top) sure folder saved h = (refl, none_published ps (files (top_name_of dir)) folder.top (h sure).1)
-start_refuses law known ps number dir save files (BadState Top cause) sure folder saved h = good_top law ps (files (top_name_of dir)) cause folder.top (h sure).1
+start_refuses law known ps number dir save files (BadState Top cause) sure folder saved h =
+    good_top law ps (files (top_name_of dir)) cause folder.top (h sure).1
 start_refuses law known ps number dir save files TopBehind sure folder saved h =
     let b = h sure in
     let start_is = ap (λ (v : Saved). v.number) (one_saved (files save) b.start saved.value b.started.saved saved.saved) in
@@ -82,17 +93,29 @@ follow_from_start ps told (TooLarge file) h = (h.0, inl h.1)
 follow_from_start ps told (WriteFault file) h = absurd h
 follow_from_start ps told fault h = h
 
-number_refuses : NoFaultBesideState → (known : Type 0) (ps : List PublishedValue) (dir : List ℕ) (files : Files) (told : Option (List ℕ)) (k : ℕ) (fault : RunFault) → known → IsFolderOf ps files dir → 0 < k → k ≤ length ps → NumberStops known dir files k fault → FollowRefuses ps told fault
+number_refuses : NoFaultBesideState → (known : Type 0) (ps : List PublishedValue) (dir : List ℕ) (files : Files)
+    (told : Option (List ℕ)) (k : ℕ) (fault : RunFault) → known → IsFolderOf ps files dir → 0 < k → k ≤ length ps
+    → NumberStops known dir files k fault → FollowRefuses ps told fault
 number_refuses law known ps dir files told k WantOfMemory sure folder above within h = tt
 number_refuses law known ps dir files told k (ReadFault file) sure folder above within h = tt
-number_refuses law known ps dir files told k (TooLarge (Sequence j s)) sure folder above within h = absurd (not_over (sequence_at ps k) s (files (file_name_of dir k s)) (folder.each k s above within) (h.1 sure).1)
-number_refuses law known ps dir files told k (BadState (Sequence j State) cause) sure folder above within h = not_bad law (sequence_at ps k) (files (file_name_of dir k State)) cause (folder.each k State above within) (h.1 sure)
-number_refuses law known ps dir files told k (Mismatch j) sure folder above within h = not_other (sequence_at ps k) (files (file_name_of dir k State)) k (folder.sequences k above within).number_is (folder.each k State above within) (h.1 sure)
-number_refuses law known ps dir files told k (BadChange (Sequence j O5c) place why) sure folder above within h = not_faulty (sequence_at ps k) (files (file_name_of dir k O5c)) place (folder.each k O5c above within) (h.1 sure).1
-number_refuses law known ps dir files told k (BadChange (Sequence j Opl) place why) sure folder above within h = not_faulty_opl (sequence_at ps k) (files (file_name_of dir k Opl)) place (folder.each k Opl above within) (h.1 sure).1
+number_refuses law known ps dir files told k (TooLarge (Sequence j s)) sure folder above within h =
+    absurd (not_over (sequence_at ps k) s (files (file_name_of dir k s)) (folder.each k s above within) (h.1 sure).1)
+number_refuses law known ps dir files told k (BadState (Sequence j State) cause) sure folder above within h =
+    not_bad law (sequence_at ps k) (files (file_name_of dir k State)) cause (folder.each k State above within)
+    (h.1 sure)
+number_refuses law known ps dir files told k (Mismatch j) sure folder above within h =
+    not_other (sequence_at ps k) (files (file_name_of dir k State)) k (folder.sequences k above within).number_is
+    (folder.each k State above within) (h.1 sure)
+number_refuses law known ps dir files told k (BadChange (Sequence j O5c) place why) sure folder above within h =
+    not_faulty (sequence_at ps k) (files (file_name_of dir k O5c)) place (folder.each k O5c above within) (h.1 sure).1
+number_refuses law known ps dir files told k (BadChange (Sequence j Opl) place why) sure folder above within h =
+    not_faulty_opl (sequence_at ps k) (files (file_name_of dir k Opl)) place (folder.each k Opl above within)
+    (h.1 sure).1
 number_refuses law known ps dir files told k fault sure folder above within h = absurd h
 
-save_refuses : (known : Type 0) (ps : List PublishedValue) (number : ℕ) (dir save : List ℕ) (files : Files) (fault : RunFault) → known → IsFolderOf ps files dir → IsSaveOf ps number (files save) → SaveStops known dir save files fault → FollowRefuses ps (files save) fault
+save_refuses : (known : Type 0) (ps : List PublishedValue) (number : ℕ) (dir save : List ℕ) (files : Files)
+    (fault : RunFault) → known → IsFolderOf ps files dir → IsSaveOf ps number (files save)
+    → SaveStops known dir save files fault → FollowRefuses ps (files save) fault
 save_refuses known ps number dir save files WantOfMemory sure folder saved h = tt
 save_refuses known ps number dir save files (TooLarge Save) sure folder saved h =
     let t = h sure in
@@ -101,8 +124,11 @@ save_refuses known ps number dir save files (TooLarge Save) sure folder saved h 
 save_refuses known ps number dir save files (WriteFault Save) sure folder saved h = refl
 save_refuses known ps number dir save files fault sure folder saved h = absurd h
 
-pub follow_refuses : NoFaultBesideState → (known : Type 0) (ps : List PublishedValue) (number : ℕ) (dir save : List ℕ) (files : Files) (fault : RunFault) → known → IsFolderOf ps files dir → IsSaveOf ps number (files save) → FollowStops known dir save files fault → FollowRefuses ps (files save) fault
-follow_refuses law known ps number dir save files fault sure folder saved (inl h) = follow_from_start ps (files save) fault (start_refuses law known ps number dir save files fault sure folder saved h)
+pub follow_refuses : NoFaultBesideState → (known : Type 0) (ps : List PublishedValue) (number : ℕ) (dir save : List ℕ)
+    (files : Files) (fault : RunFault) → known → IsFolderOf ps files dir → IsSaveOf ps number (files save)
+    → FollowStops known dir save files fault → FollowRefuses ps (files save) fault
+follow_refuses law known ps number dir save files fault sure folder saved (inl h) =
+    follow_from_start ps (files save) fault (start_refuses law known ps number dir save files fault sure folder saved h)
 follow_refuses law known ps number dir save files fault sure folder saved (inr (inl h)) =
     let c = h.comes sure in
     let above = c.above in

@@ -1,5 +1,6 @@
 -- The numbers that a follower takes, one after the other.
-use Rattle.std.proofs.Common.{◌≡◌, ℕ, zero, suc, ◌+◌, ◌-◌, ◌<◌, ◌≤◌, List, [], ◌∷◌, ◌++◌, filter, Option, Some, None, Bool, true, false, inl, inr, arith, refl, sym, ap, subst, ◌∙◌, append-nil}
+use Rattle.std.proofs.Common.{◌≡◌, ℕ, zero, suc, ◌+◌, ◌-◌, ◌<◌, ◌≤◌, List, [], ◌∷◌, ◌++◌, filter, Option, Some, None}
+use Rattle.std.proofs.Common.{Bool, true, false, inl, inr, arith, refl, sym, ap, subst, ◌∙◌, append-nil}
 use Rattle.std.specs.Prelude.{not, min, is_none, is_some, ◌||◌, ◌&&◌, ◌⊎◌, cond}
 use Rattle.std.specs.Option.{option_map_or}
 use Rattle.std.proofs.lemmas.List.{map-append}
@@ -23,9 +24,12 @@ use Rattle.osm_folder.specs.Steps.Following.{IsFresh, IsNext, IsTaken, IsTakenTo
 
 -- a sequence whose files are there isn't lost
 pub has_not_lost : (files : Files) (dir : List ℕ) (p : PublishedValue) → HasFiles files dir p → is_lost files dir p.number ≡ false
-has_not_lost files dir p has = by_files (files (file_name_of dir p.number suffixes.State)) (files (file_name_of dir p.number suffixes.O5c)) (files (file_name_of dir p.number suffixes.Opl)) has.state has.changes
+has_not_lost files dir p has = by_files (files (file_name_of dir p.number suffixes.State))
+    (files (file_name_of dir p.number suffixes.O5c)) (files (file_name_of dir p.number suffixes.Opl)) has.state
+    has.changes
   where
-    by_files : (state o5c opl : Option (List ℕ)) → IsThere state (IsFile suffixes.State p) → AreChanges o5c opl p → (is_none state || (is_none o5c && is_none opl)) ≡ false
+    by_files : (state o5c opl : Option (List ℕ)) → IsThere state (IsFile suffixes.State p) → AreChanges o5c opl p
+        → (is_none state || (is_none o5c && is_none opl)) ≡ false
     by_files None o5c opl s c = absurd s
     by_files (Some state) (Some bytes) opl s c = refl
     by_files (Some state) None None s c = absurd c
@@ -40,7 +44,8 @@ adds_number files dir (suc count) old new (between, before, last) =
     omega (arith, one, at, next)
 
 -- the files of each number that was added are there
-pub adds_has : (files : Files) (dir : List ℕ) (count : ℕ) (old new : Saved) → AddsAll files dir count old new → (k : ℕ) → old.number < k → k ≤ old.number + count → (p : PublishedValue) × (p.number ≡ k) × HasFiles files dir p
+pub adds_has : (files : Files) (dir : List ℕ) (count : ℕ) (old new : Saved) → AddsAll files dir count old new → (k : ℕ)
+    → old.number < k → k ≤ old.number + count → (p : PublishedValue) × (p.number ≡ k) × HasFiles files dir p
 adds_has files dir zero old new a k above within = absurd (omega arith)
 adds_has files dir (suc count) old new (between, before, last) k above within =
     let one = adds_number files dir count old between before in
@@ -82,7 +87,9 @@ taken_none known files dir f fresh = record {
 }
 
 -- a lost number
-taken_lost : (known : Type 0) (files : Files) (dir : List ℕ) (f : FollowerValue) (last : ℕ) (g : FollowerValue) (applied : List (ℕ × ℕ)) → IsTakenTo known files dir f last g applied → (known → is_lost files dir (last + 1) ≡ true) → IsTakenTo known files dir f (last + 1) g applied
+taken_lost : (known : Type 0) (files : Files) (dir : List ℕ) (f : FollowerValue) (last : ℕ) (g : FollowerValue)
+    (applied : List (ℕ × ℕ)) → IsTakenTo known files dir f last g applied
+    → (known → is_lost files dir (last + 1) ≡ true) → IsTakenTo known files dir f (last + 1) g applied
 taken_lost known files dir f last g applied t lost =
     let until = t.until in
     record {
@@ -114,7 +121,10 @@ taken_lost known files dir f last g applied t lost =
     }
 
 -- a number that is held until its turn comes
-taken_held : (known : Type 0) (files : Files) (dir : List ℕ) (f : FollowerValue) (last : ℕ) (g h : FollowerValue) (applied : List (ℕ × ℕ)) (p : PublishedValue) → IsTakenTo known files dir f last g applied → p.number ≡ last + 1 → (known → HasFiles files dir p) → g.number + 1 < last + 1 → Holds g p h → IsTakenTo known files dir f (last + 1) h applied
+taken_held : (known : Type 0) (files : Files) (dir : List ℕ) (f : FollowerValue) (last : ℕ) (g h : FollowerValue)
+    (applied : List (ℕ × ℕ)) (p : PublishedValue) → IsTakenTo known files dir f last g applied → p.number ≡ last + 1
+    → (known → HasFiles files dir p) → g.number + 1 < last + 1 → Holds g p h
+    → IsTakenTo known files dir f (last + 1) h applied
 taken_held known files dir f last g h applied p t is has early held =
     let until = t.until in
     let same : h.number ≡ g.number = ap (λ (x : FollowerValue). x.number) held.rest in
@@ -149,7 +159,10 @@ taken_held known files dir f last g h applied p t is has early held =
     }
 
 -- a number that is applied
-taken_applied : (known : Type 0) (files : Files) (dir : List ℕ) (f : FollowerValue) (last : ℕ) (g h : FollowerValue) (applied more : List (ℕ × ℕ)) (p : PublishedValue) (low high : ℕ) → IsTakenTo known files dir f last g applied → p.number ≡ last + 1 → (known → HasFiles files dir p) → last + 1 ≡ g.number + 1 → low ≡ last + 1 → Takes g p high h → more ≡ applied ++ (low, high) ∷ [] → IsTakenTo known files dir f (last + 1) h more
+taken_applied : (known : Type 0) (files : Files) (dir : List ℕ) (f : FollowerValue) (last : ℕ) (g h : FollowerValue)
+    (applied more : List (ℕ × ℕ)) (p : PublishedValue) (low high : ℕ) → IsTakenTo known files dir f last g applied
+    → p.number ≡ last + 1 → (known → HasFiles files dir p) → last + 1 ≡ g.number + 1 → low ≡ last + 1 → Takes g p high h
+    → more ≡ applied ++ (low, high) ∷ [] → IsTakenTo known files dir f (last + 1) h more
 taken_applied known files dir f last g h applied more p low high t is has next low_is takes more_is =
     let until = t.until in
     let count_is = t.number in
@@ -163,7 +176,8 @@ taken_applied known files dir f last g h applied more p low high t is has next l
     let number : h.number ≡ last + 1 = takes.number ∙ high_is in
     let sum = takes.high_is in
     let alone : takes.count ≡ 0 = omega (arith, sum, high_is, is) in
-    let changes : p.changes ++ between (changes_held g) p.number takes.count ≡ p.changes = ap (λ c. p.changes ++ between (changes_held g) p.number c) alone ∙ append-nil p.changes in
+    let changes : p.changes ++ between (changes_held g) p.number takes.count ≡ p.changes =
+    ap (λ c. p.changes ++ between (changes_held g) p.number c) alone ∙ append-nil p.changes in
     let none_at : held_at g high ≡ None = t.none high (omega (arith, high_is)) in
     let time : h.time ≡ Some p.time = takes.time ∙ ap (λ (o : Option PublishedValue). Some (option_map_or (λ (q : PublishedValue). q.time) o p.time)) none_at in
     record {
@@ -193,10 +207,14 @@ taken_applied known files dir f last g h applied more p low high t is has next l
       });
     }
 
-pub taken_more : (known : Type 0) (files : Files) (dir : List ℕ) (f : FollowerValue) (last : ℕ) (g h : FollowerValue) (applied more : List (ℕ × ℕ)) (o : Option Delivered) → IsTakenTo known files dir f last g applied → IsTaken known files dir (last + 1) g o h → more ≡ applied ++ range_of o → IsTakenTo known files dir f (last + 1) h more
+pub taken_more : (known : Type 0) (files : Files) (dir : List ℕ) (f : FollowerValue) (last : ℕ) (g h : FollowerValue)
+    (applied more : List (ℕ × ℕ)) (o : Option Delivered) → IsTakenTo known files dir f last g applied
+    → IsTaken known files dir (last + 1) g o h → more ≡ applied ++ range_of o
+    → IsTakenTo known files dir f (last + 1) h more
 taken_more known files dir f last g h applied more None t x e = rw (x.1, e, append-nil) (taken_lost known files dir f last g applied t x.0)
 taken_more known files dir f last g h applied more (Some Held) t x e = rw (e, append-nil) (taken_held known files dir f last g h applied x.0 t x.1 x.2 x.3 x.4)
-taken_more known files dir f last g h applied more (Some (Applied low high)) t x e = taken_applied known files dir f last g h applied more x.0 low high t x.1 x.2 x.3 x.4 x.5 e
+taken_more known files dir f last g h applied more (Some (Applied low high)) t x e =
+    taken_applied known files dir f last g h applied more x.0 low high t x.1 x.2 x.3 x.4 x.5 e
 taken_more known files dir f last g h applied more (Some Old) t x e = absurd x
 taken_more known files dir f last g h applied more (Some Again) t x e = absurd x
 
@@ -218,7 +236,9 @@ window_within n top last from until (inl all) = omega arith
 window_within n top last from until (inr full) = omega arith
 
 -- the last number, or the end of the window
-pub taken_up : (known : Type 0) (files : Files) (dir : List ℕ) (f : FollowerValue) (last top : ℕ) (g : FollowerValue) (applied : List (ℕ × ℕ)) → last ≤ top → (last ≡ top) ⊎ (g.number + 64 ≤ last) → IsTakenTo known files dir f last g applied → IsTakenUp known files dir f top g applied
+pub taken_up : (known : Type 0) (files : Files) (dir : List ℕ) (f : FollowerValue) (last top : ℕ) (g : FollowerValue)
+    (applied : List (ℕ × ℕ)) → last ≤ top → (last ≡ top) ⊎ (g.number + 64 ≤ last)
+    → IsTakenTo known files dir f last g applied → IsTakenUp known files dir f top g applied
 taken_up known files dir f last top g applied below ends t =
     let until = t.until in
     let within = window_within g.number top last until below ends in
@@ -257,12 +277,16 @@ taken_up known files dir f last top g applied below ends t =
         by_end (inr full) = absurd (omega (arith, at))
 
 -- the next number is read
-pub comes_next : (known : Type 0) (files : Files) (dir : List ℕ) (f : FollowerValue) (last top : ℕ) (g : FollowerValue) (applied : List (ℕ × ℕ)) → last < top → last < g.number + 64 → IsTakenTo known files dir f last g applied → known → IsNext files dir f.number top (last + 1)
+pub comes_next : (known : Type 0) (files : Files) (dir : List ℕ) (f : FollowerValue) (last top : ℕ) (g : FollowerValue)
+    (applied : List (ℕ × ℕ)) → last < top → last < g.number + 64 → IsTakenTo known files dir f last g applied → known
+    → IsNext files dir f.number top (last + 1)
 comes_next known files dir f last top g applied below within t sure =
     let until = t.until in
     let count_is = t.number in
     let a = t.taken sure in
-    let has : (k : ℕ) → f.number < k → k ≤ g.number → (p : PublishedValue) × (p.number ≡ k) × HasFiles files dir p = λ k above inside. adds_has files dir t.count (saved_of f) (saved_of g) a.added k above (omega (arith, count_is)) in
+    let has : (k : ℕ) → f.number < k → k ≤ g.number → (p : PublishedValue) × (p.number ≡ k) × HasFiles files dir p =
+    λ k above inside. adds_has files dir t.count (saved_of f) (saved_of g) a.added k above
+    (omega (arith, count_is)) in
     record {
       above = omega (arith, count_is);
       until = omega arith;

@@ -1,5 +1,5 @@
 -- How far a saved follower is behind a folder. `known` says that it is known what the files hold.
-use Rattle.std.specs.Prelude.{◌≡◌, ℕ, ◌+◌, ◌<◌, List, length, Option, Some}
+use Rattle.std.specs.Prelude.{◌≡◌, ℕ, ◌+◌, ◌<◌, ◌≤◌, List, length, Option, Some}
 use Rattle.osm_save.specs.declared.save.Saved.{Saved}
 use Rattle.osm_state.specs.State.{StateValue}
 use Rattle.osm_follow.specs.Lag.{AreSeconds}
@@ -30,6 +30,7 @@ pub record IsTimeBehind (dir save : List ℕ) (files : Files) : Type 0 where
   pub start : Saved
   pub top : StateValue
   pub started : IsStarted dir save files start top
+  pub reached : start.number ≤ top.sequence
   pub time : ℕ
   pub time_is : start.time ≡ Some time
   pub below : top.time < time

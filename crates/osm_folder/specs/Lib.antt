@@ -6,6 +6,7 @@ pub mod Following
 pub mod Forms
 pub mod Lagging
 pub mod Names
+pub mod Numbered
 pub mod Publication
 pub mod Reports
 pub mod Runs

@@ -167,6 +167,15 @@ PublishStops known dir changes now old new fault =
     ⊎ (((number count : ℕ) × CutsOff number count fault)
     × (known → IsCutOff dir changes now old new fault))
 
+-- the device failed since no call was left after so many, at the file of the next one
+abbrev pub PublishOut : List ℕ → Files → Option ℕ → RunFault → Type 0
+PublishOut dir files left (ReadFault file) =
+    ((left ≡ Some 0) × (file ≡ Top)) ⊎ ((left ≡ Some 1) × (file ≡ Changes))
+PublishOut dir files left (WriteFault file) =
+    (top time count : ℕ) × GoesOnFrom (files (top_name_of dir)) top time × (count < 4)
+    × (left ≡ Some (2 + count)) × (file ≡ file_after (top + 1) count)
+PublishOut dir files left fault = Unit {0}
+
 -- the folder has one more sequence: the batch that the file of changes spells, at the time of `now`
 pub record IsAdded (published : List PublishedValue) (dir changes now : List ℕ) (old new : Files)
     (report : ReportValue) : Type 0 where

@@ -2,5 +2,6 @@
 pub mod Copying
 pub mod Following
 pub mod Lagging
+pub mod Numbering
 pub mod Reading
 pub mod Publishing

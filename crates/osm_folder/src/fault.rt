@@ -106,6 +106,15 @@ pub enum RunFault {
     /// The time isn't `YYYY-MM-DDTHH:MM:SSZ`.
     #[error("bad time")]
     BadNow,
+    /// The number isn't 1 to 9 digits.
+    #[error("bad sequence")]
+    BadSequence,
+    /// The number is published, but with other changes, at another time, or some files are gone.
+    #[error("sequence {0}: already published, and differs")]
+    Differs(u32),
+    /// The newest state has that number, so the number asked for is neither published nor next.
+    #[error("state.txt: at {0}")]
+    TopAt(u32),
 }
 
 impl RunFault {
@@ -114,7 +123,7 @@ impl RunFault {
         ensures { result ≡ status_of self.now }
     {
         match self {
-            RunFault::UnknownForm | RunFault::BadNow => 2,
+            RunFault::UnknownForm | RunFault::BadNow | RunFault::BadSequence => 2,
             _ => 3,
         }
     }

@@ -1,6 +1,7 @@
 //! Files behind a trait, and the runs of the program over them.
 #![tactic(auto)]
 
+mod compare;
 pub mod convert;
 pub mod fault;
 mod fetch;
@@ -12,6 +13,7 @@ pub mod lag;
 pub mod memory_store;
 pub mod names;
 pub mod publish;
+pub mod publish_as;
 pub mod report;
 pub mod show;
 mod start;

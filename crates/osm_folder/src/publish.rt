@@ -10,17 +10,21 @@ ghost use Rattle.osm_folder.specs.Files.{Spends, SpendsAtMost};
 ghost use Rattle.osm_folder.specs.Folder.{IsApart, IsFolderOf, IsStateFile, max_state};
 ghost use Rattle.osm_folder.specs.Names.{top_name_of};
 ghost use Rattle.osm_folder.specs.Publication.{FolderRefuses, GoesOnFrom, IsAdded};
-ghost use Rattle.osm_folder.specs.Publication.{IsPublished, NotReady, PublishStops, Writes};
+ghost use Rattle.osm_folder.specs.Publication.{IsPublished, NotReady, PublishOut, PublishStops};
+ghost use Rattle.osm_folder.specs.Publication.{Writes};
 ghost use Rattle.osm_folder.specs.Reports.{publish_report_of};
 ghost use Rattle.osm_folder.specs.Runs.{Blames, LacksCalls};
+ghost use Rattle.osm_folder.specs.Steps.Following.{TopTextStops};
 ghost use Rattle.osm_folder.specs.Steps.Publishing.{AreNames, ChangesStop, CloseStops};
-ghost use Rattle.osm_folder.specs.Steps.Publishing.{IsChangesOf, IsCut, IsMade, ParseStops};
-ghost use Rattle.osm_folder.specs.Steps.Publishing.{ResumeStops, TopStops, writes_to};
+ghost use Rattle.osm_folder.specs.Steps.Publishing.{IsChangesOf, IsCut, IsMade, IsMadeOf};
+ghost use Rattle.osm_folder.specs.Steps.Publishing.{ParseStops, ReadsOut, TopStops, WritesOut};
+ghost use Rattle.osm_folder.specs.Steps.Publishing.{from_top, writes_to};
 
 use crate::fault::{FileName, RunFault};
 use crate::files::{MAX_STATE, read_file, read_present, write_file};
 use crate::names::{file_name, top_name};
 use crate::report::{Report, publish_report};
+use crate::start::top_state;
 use crate::store::Store;
 use osm_follow::published::Published;
 use osm_follow::publisher::{CloseError, EditError, Publisher};
@@ -32,12 +36,12 @@ use osm_model::time::time_read;
 use osm_opl::opl::Opl;
 use osm_state::laws::laws_of_state;
 use osm_state::paths::Suffix;
-use osm_state::state_text::state_read;
+use osm_state::state::State;
 use std::alloc::Global;
 
 // The names of the files of one sequence, and of the newest state.
 #[derive(Drop)]
-struct FolderNames {
+pub(crate) struct FolderNames {
     o5c: String,
     opl: String,
     state: String,
@@ -46,10 +50,10 @@ struct FolderNames {
 
 // All that a publication writes and prints.
 #[derive(Drop)]
-struct Publication {
-    published: Published,
-    names: FolderNames,
-    report: Report,
+pub(crate) struct Publication {
+    pub(crate) published: Published,
+    pub(crate) names: FolderNames,
+    pub(crate) report: Report,
 }
 
 /// Publishes the changes of an OPL file as the folder's next sequence, at the time `now`, a text
@@ -77,6 +81,8 @@ pub fn publish_run<S: Store>(
     ensures device { IfErr result (Blames (S.failures store.old) (S.failures store.new)) }
     ensures lacks { IfErr result
         (λ fault. IsTrue (S.tells store.old) → LacksCalls 6 (S.left store.old) fault) }
+    ensures out { IfErr result (λ fault. IsTrue (S.tells store.old)
+        → PublishOut dir.now (S.told store.old) (S.left store.old) fault) }
     ensures keeps { OnErr result (IsTrue (S.tells store.old)
         → (published : List PublishedValue) → IsFolderOf published (S.told store.old) dir.now
         → IsFolderOf published (S.told store.new) dir.now) }
@@ -109,6 +115,8 @@ fn prepare<S: Store>(
     ensures device { IfErr result (Blames (S.failures store.old) (S.failures store.new)) }
     ensures lacks { IfErr result
         (λ fault. IsTrue (S.tells store.old) → LacksCalls 2 (S.left store.old) fault) }
+    ensures out { IfErr result
+        (λ fault. IsTrue (S.tells store.old) → ReadsOut (S.left store.old) fault) }
     ensures unchanged { S.told store.new ≡ S.told store.old }
     ensures tells { S.tells store.new ≡ S.tells store.old }
     ensures left { OnOk result (Spends 2 (S.left store.old) (S.left store.new)) }
@@ -119,8 +127,25 @@ fn prepare<S: Store>(
     let Some(time) = time_read(now.as_bytes()) else {
         return Err(RunFault::BadNow);
     };
-    let mut publisher = publisher_of(alloc, store, dir)?;
+    let top = newest(alloc, store, dir)?;
     let batch = read_changes(alloc, store, changes)?;
+    make(alloc, dir, publisher_from(alloc, top), batch, time)
+}
+
+// Makes the files of the publisher's next sequence, which has those changes and that time.
+pub(crate) fn make(
+    alloc: Global,
+    dir: &str,
+    mut publisher: Publisher,
+    batch: Batch,
+    time: u32,
+) -> Result<Publication, RunFault>
+    requires { publisher.pending ≡ [] }
+    ensures made { IfOk result
+        (IsMadeOf dir.now (closing (record publisher { pending = batch }) time)) }
+    ensures can_close { OnOk result (CanClose (record publisher { pending = batch }) time) }
+    ensures stops { IfErr result (CloseStops (record publisher { pending = batch }) time) }
+{
     edit_all(&mut publisher, batch)?;
     let published = close(alloc, &mut publisher, time)?;
     let names = names_of(alloc, dir, published.number())?;
@@ -133,10 +158,24 @@ fn prepare<S: Store>(
 }
 
 // The publisher that goes on from the newest state.
-fn publisher_of<S: Store>(alloc: Global, store: &mut S, dir: &str) -> Result<Publisher, RunFault>
-    ensures goes_on { IfOk result (λ a. IsTrue (S.tells store.old)
-        → GoesOnFrom (S.told store.old (top_name_of dir.now)) a.number a.time) }
-    ensures empty { IfOk result (λ a. a.pending ≡ []) }
+pub(crate) fn publisher_from(alloc: Global, top: Option<State>) -> Publisher
+    ensures { result ≡ from_top top }
+{
+    match top {
+        Some(state) => Publisher::resume(alloc, &state),
+        None => Publisher::new(alloc),
+    }
+}
+
+// The newest state, if there is one.
+pub(crate) fn newest<S: Store>(
+    alloc: Global,
+    store: &mut S,
+    dir: &str,
+) -> Result<Option<State>, RunFault>
+    ensures goes_on { IfOk result (λ top. IsTrue (S.tells store.old)
+        → GoesOnFrom (S.told store.old (top_name_of dir.now))
+        (from_top top).number (from_top top).time) }
     ensures stops { IfErr result
         (TopStops (IsTrue (S.tells store.old)) (S.told store.old (top_name_of dir.now))) }
     ensures device { IfErr result (Blames (S.failures store.old) (S.failures store.new)) }
@@ -151,26 +190,27 @@ fn publisher_of<S: Store>(alloc: Global, store: &mut S, dir: &str) -> Result<Pub
 {
     let name = top_name(alloc, dir)?;
     match read_file(alloc, store, FileName::Top, name.as_str(), MAX_STATE) {
-        Ok(Some(text)) => resume(alloc, text.as_slice()),
-        Ok(None) => Ok(Publisher::new(alloc)),
+        Ok(Some(text)) => some_state(text.as_slice()),
+        Ok(None) => Ok(None),
         Err(fault) => Err(fault),
     }
 }
 
-fn resume(alloc: Global, text: &[u8]) -> Result<Publisher, RunFault>
+fn some_state(text: &[u8]) -> Result<Option<State>, RunFault>
     requires { length text.now ≤ max_state }
-    ensures goes_on { IfOk result (λ a. IsStateFile a.number a.time text.now) }
-    ensures empty { IfOk result (λ a. a.pending ≡ []) }
-    ensures stops { IfErr result (ResumeStops text.now) }
+    ensures goes_on { IfOk result
+        (λ top. IsStateFile (from_top top).number (from_top top).time text.now) }
+    ensures stops { IfErr result (TopTextStops text.now) }
 {
-    match state_read(text) {
-        Ok(state) => Ok(Publisher::resume(alloc, &state)),
-        Err(cause) => Err(RunFault::BadState(FileName::Top, cause)),
-    }
+    Ok(Some(top_state(text)?))
 }
 
 // The changes of an OPL file.
-fn read_changes<S: Store>(alloc: Global, store: &mut S, name: &str) -> Result<Batch, RunFault>
+pub(crate) fn read_changes<S: Store>(
+    alloc: Global,
+    store: &mut S,
+    name: &str,
+) -> Result<Batch, RunFault>
     ensures read { IfOk result
         (λ batch. IsTrue (S.tells store.old) → IsChangesOf (S.told store.old name.now) batch) }
     ensures stops { IfErr result
@@ -247,7 +287,7 @@ fn names_of(alloc: Global, dir: &str, number: u32) -> Result<FolderNames, WantOf
 }
 
 // Writes the files of the number, and the newest state last.
-fn write_files<S: Store>(
+pub(crate) fn write_files<S: Store>(
     alloc: Global,
     store: &mut S,
     names: &FolderNames,
@@ -260,6 +300,8 @@ fn write_files<S: Store>(
     ensures device { IfErr result (Blames (S.failures store.old) (S.failures store.new)) }
     ensures lacks { IfErr result
         (λ fault. IsTrue (S.tells store.old) → LacksCalls 4 (S.left store.old) fault) }
+    ensures out { IfErr result (λ fault. IsTrue (S.tells store.old)
+        → WritesOut published.now.number (S.left store.old) fault) }
     ensures tells { S.tells store.new ≡ S.tells store.old }
     ensures left { OnOk result (Spends 4 (S.left store.old) (S.left store.new)) }
     ensures most { OnOk result (SpendsAtMost 4 (S.left store.old) (S.left store.new)) }

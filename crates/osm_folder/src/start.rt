@@ -125,7 +125,7 @@ fn read_top<S: Store>(alloc: Global, store: &mut S, dir: &str) -> Result<State, 
     }
 }
 
-fn top_state(text: &[u8]) -> Result<State, RunFault>
+pub(crate) fn top_state(text: &[u8]) -> Result<State, RunFault>
     requires { length text.now ≤ max_state }
     ensures named { IfOk result (λ s. IsStateFile s.sequence s.time text.now) }
     ensures stops { IfErr result (TopTextStops text.now) }

@@ -63,7 +63,10 @@ wanted f state s p e t =
     let number : s.sequence ≡ p.number = same_number s p e in
     record { whole = t.whole; above = rw number at t.above; within = rw number at t.within; fresh = rw number at t.fresh }
 
-pub read_as : (spells : table.Spelling) (fault_place : table.FaultPlaces) → OneBatch spells → NoFaultBeside → (f g : FollowerValue) (state bytes : List ℕ) (p : PublishedValue) → 0 < p.number → StateOf state (state_of p) → spells bytes p.changes → (answer : Result Delivered DeliverError) → table.Delivers spells fault_place f state bytes answer g → FollowerStep f p answer g
+pub read_as : (spells : table.Spelling) (fault_place : table.FaultPlaces) → OneBatch spells → NoFaultBeside
+    → (f g : FollowerValue) (state bytes : List ℕ) (p : PublishedValue) → 0 < p.number → StateOf state (state_of p)
+    → spells bytes p.changes → (answer : Result Delivered DeliverError)
+    → table.Delivers spells fault_place f state bytes answer g → FollowerStep f p answer g
 read_as spells fp one apart f g state bytes p above names spelled (Err Broken) d = (d.0, d.1)
 read_as spells fp one apart f g state bytes p above names spelled (Err (BadState e)) d = absurd (apart state (state_of p) e names d.0.1)
 read_as spells fp one apart f g state bytes p above names spelled (Err BadSequence) d =
@@ -84,8 +87,12 @@ read_as spells fp one apart f g state bytes p above names spelled (Err (BadChang
 read_as spells fp one apart f g state bytes p above names spelled (Err WantOfMemory) d =
     (wanted f state d.0 p (one_state state d.0 (state_of p) d.1.names names) d.1, some_changes spells bytes p.changes spelled d.3, d.4)
 read_as spells fp one apart f g state bytes p above names spelled (Ok Held) d =
-    let same : d.0 ≡ state_of p = one_state state d.0 (state_of p) d.2.names names in
-    (wanted f state d.0 p same d.2, rw (same_number d.0 p same) at d.3, subst (λ (q : PublishedValue). table.Holds f q g) (same_sequence d.0 d.1 p same (one bytes d.1 p.changes d.5 spelled)) d.6)
+    let same : d.0 ≡ state_of p = one_state state d.0 (state_of p) d.2.names names in (
+      wanted f state d.0 p same d.2,
+      rw (same_number d.0 p same) at d.3,
+      subst (λ (q : PublishedValue). table.Holds f q g)
+          (same_sequence d.0 d.1 p same (one bytes d.1 p.changes d.5 spelled)) d.6,
+    )
 read_as spells fp one apart f g state bytes p above names spelled (Ok (Applied low high)) d =
     let same : d.0 ≡ state_of p = one_state state d.0 (state_of p) d.2.names names in
     let number : d.0.sequence ≡ p.number = same_number d.0 p same in (
@@ -95,5 +102,10 @@ read_as spells fp one apart f g state bytes p above names spelled (Ok (Applied l
       subst (λ (q : PublishedValue). table.Takes f q high g) (same_sequence d.0 d.1 p same (one bytes d.1 p.changes d.5 spelled)) d.7,
     )
 read_as spells fp one apart f g state bytes p above names spelled (Err Broke) d =
-    let same : d.0 ≡ state_of p = one_state state d.0 (state_of p) d.2.names names in
-    (wanted f state d.0 p same d.2, sym (same_number d.0 p same) ∙ d.3, subst (λ (q : PublishedValue). table.Breaks f q g) (same_sequence d.0 d.1 p same (one bytes d.1 p.changes d.5 spelled)) d.6)
+    let same : d.0 ≡ state_of p = one_state state d.0 (state_of p) d.2.names names in (
+      wanted f state d.0 p same d.2,
+      sym (same_number d.0 p same)
+          ∙ d.3,
+      subst (λ (q : PublishedValue). table.Breaks f q g)
+          (same_sequence d.0 d.1 p same (one bytes d.1 p.changes d.5 spelled)) d.6,
+    )

@@ -1,5 +1,6 @@
 -- One more held sequence, and what is left when held ones are applied.
-use Rattle.std.proofs.Common.{◌≡◌, ℕ, ◌+◌, ◌-◌, ◌*◌, ◌<◌, ◌≤◌, List, [], ◌∷◌, ◌++◌, refl, ap, sym, ◌∙◌, true, false, arith, None, Some, Option, append-nil, append_assoc, inl, inr}
+use Rattle.std.proofs.Common.{◌≡◌, ℕ, ◌+◌, ◌-◌, ◌*◌, ◌<◌, ◌≤◌, List, [], ◌∷◌, ◌++◌, refl, ap, sym, ◌∙◌, true, false}
+use Rattle.std.proofs.Common.{arith, None, Some, Option, append-nil, append_assoc, inl, inr}
 use Rattle.std.specs.Map.{lookup}
 use Rattle.std.specs.Option.{option_map, option_map_or}
 use Rattle.std.specs.Prelude.{◌==◌, IfSome, is_some, IsTrue}
@@ -42,7 +43,10 @@ pub record IsDrained (m : MirrorValue) (holding : HoldingValue) (first : Held) (
   pub rest : (j : ℕ) → left.base < j → sequence_in left j ≡ sequence_in holding j
 
 -- the first sequence was applied
-pub drained_first : (m n : MirrorValue) (holding left : HoldingValue) (first : Held) → sequence_in holding (holding.base + 1) ≡ None → Applies m first.batch n → left ≡ record holding { base = holding.base + 1 } → IsWithin (max_changes * left.base) n → IsDrained m holding first n left first.time
+pub drained_first : (m n : MirrorValue) (holding left : HoldingValue) (first : Held)
+    → sequence_in holding (holding.base + 1) ≡ None → Applies m first.batch n
+    → left ≡ record holding { base = holding.base + 1 } → IsWithin (max_changes * left.base) n
+    → IsDrained m holding first n left first.time
 drained_first m n holding left first free applied moved within =
     let base : left.base ≡ holding.base + 1 = ap (λ (h : HoldingValue). h.base) moved in
     record {
@@ -56,18 +60,26 @@ drained_first m n holding left first free applied moved within =
     }
 
 -- the next sequence was held from the start
-next_held : (m n : MirrorValue) (holding left : HoldingValue) (first held : Held) (last : ℕ) → IsDrained m holding first n left last → area.held_at left (left.base + 1) ≡ Some held → sequence_in holding (left.base + 1) ≡ Some (numbered (left.base + 1) held)
+next_held : (m n : MirrorValue) (holding left : HoldingValue) (first held : Held) (last : ℕ)
+    → IsDrained m holding first n left last → area.held_at left (left.base + 1) ≡ Some held
+    → sequence_in holding (left.base + 1) ≡ Some (numbered (left.base + 1) held)
 next_held m n holding left first held last i value =
     sym (i.rest (left.base + 1) (omega arith)) ∙ ap (option_map (numbered (left.base + 1))) value
 
-changes_more : (holding : HoldingValue) (count : ℕ) (k : ℕ) (first held : Held) → k ≡ holding.base + 1 + count + 1 → sequence_in holding k ≡ Some (numbered k held) → first.batch ++ between (changes_in holding) (holding.base + 1) (count + 1) ≡ (first.batch ++ between (changes_in holding) (holding.base + 1) count) ++ held.batch
+changes_more : (holding : HoldingValue) (count : ℕ) (k : ℕ) (first held : Held) → k ≡ holding.base + 1 + count + 1
+    → sequence_in holding k ≡ Some (numbered k held) → first.batch ++ between (changes_in holding) (holding.base + 1)
+    (count + 1) ≡ (first.batch ++ between (changes_in holding) (holding.base + 1) count) ++ held.batch
 changes_more holding count k first held is there =
     let here : changes_in holding k ≡ held.batch = ap (λ (o : Option PublishedValue). option_map_or (λ (p : PublishedValue). p.changes) o []) there in
-    ap (λ (cs : List ChangeValue). first.batch ++ cs) (between-suc (changes_in holding) (holding.base + 1) count k is ∙ ap (λ (cs : List ChangeValue). between (changes_in holding) (holding.base + 1) count ++ cs) here)
+    ap (λ (cs : List ChangeValue). first.batch ++ cs) (between-suc (changes_in holding) (holding.base + 1) count k is
+    ∙ ap (λ (cs : List ChangeValue). between (changes_in holding) (holding.base + 1) count ++ cs) here)
     ∙ sym (append_assoc first.batch (between (changes_in holding) (holding.base + 1) count) held.batch)
 
 -- one more held sequence was applied
-pub drained_more : (m n o : MirrorValue) (holding left mid next : HoldingValue) (first held : Held) (last : ℕ) → IsDrained m holding first n left last → area.held_at left (left.base + 1) ≡ Some held → ChangesAt left mid (left.base + 1) None → Applies n held.batch o → next ≡ record mid { base = mid.base + 1 } → IsWithin (max_changes * next.base) o → IsDrained m holding first o next held.time
+pub drained_more : (m n o : MirrorValue) (holding left mid next : HoldingValue) (first held : Held) (last : ℕ)
+    → IsDrained m holding first n left last → area.held_at left (left.base + 1) ≡ Some held
+    → ChangesAt left mid (left.base + 1) None → Applies n held.batch o → next ≡ record mid { base = mid.base + 1 }
+    → IsWithin (max_changes * next.base) o → IsDrained m holding first o next held.time
 drained_more m n o holding left mid next first held last i value taken applied moved within =
     let k : ℕ = left.base + 1 in
     let there : sequence_in holding k ≡ Some (numbered k held) = next_held m n holding left first held last i value in
@@ -77,14 +89,19 @@ drained_more m n o holding left mid next first held last i value taken applied m
       count = i.count + 1;
       base = omega arith;
       all = λ j above below. all_more (is_in holding) (holding.base + 1) left.base i.all (ap is_some there) j above (omega arith);
-      applied = rw (changes_more holding i.count k first held (omega arith) there) (Applies-append m n o (first.batch ++ between (changes_in holding) (holding.base + 1) i.count) held.batch i.applied applied);
+      applied = rw (changes_more holding i.count k first held (omega arith) there)
+          (Applies-append m n o (first.batch ++ between (changes_in holding) (holding.base + 1) i.count) held.batch
+          i.applied applied);
       within = within;
       time = rw (base, there) refl;
-      rest = λ j above. ap (λ (h : HoldingValue). sequence_in h j) moved ∙ (ap (option_map (numbered j)) (taken.others j (λ e. omega arith)) ∙ i.rest j (omega arith));
+      rest = λ j above. ap (λ (h : HoldingValue). sequence_in h j) moved
+          ∙ (ap (option_map (numbered j)) (taken.others j (λ e. omega arith)) ∙ i.rest j (omega arith));
     }
 
 -- no more sequences are held without a gap
-pub drained_all : (m n : MirrorValue) (holding left mid : HoldingValue) (first : Held) (last : ℕ) → IsDrained m holding first n left last → area.held_at left (left.base + 1) ≡ None → ChangesAt left mid (left.base + 1) None → Drains m holding first n mid last
+pub drained_all : (m n : MirrorValue) (holding left mid : HoldingValue) (first : Held) (last : ℕ)
+    → IsDrained m holding first n left last → area.held_at left (left.base + 1) ≡ None
+    → ChangesAt left mid (left.base + 1) None → Drains m holding first n mid last
 drained_all m n holding left mid first last i value taken =
     let base : mid.base ≡ left.base = taken.base in
     let at : left.base ≡ holding.base + 1 + i.count = i.base in
@@ -110,7 +127,9 @@ stopped_first m holding first needs = record {
   needs = rw (append-nil first.batch) needs;
 }
 
-pub stopped_later : (m n : MirrorValue) (holding left : HoldingValue) (first held : Held) (last : ℕ) → IsDrained m holding first n left last → area.held_at left (left.base + 1) ≡ Some held → NeedsMemory n held.batch → Stops m holding first
+pub stopped_later : (m n : MirrorValue) (holding left : HoldingValue) (first held : Held) (last : ℕ)
+    → IsDrained m holding first n left last → area.held_at left (left.base + 1) ≡ Some held → NeedsMemory n held.batch
+    → Stops m holding first
 stopped_later m n holding left first held last i value needs =
     let k : ℕ = left.base + 1 in
     let at : left.base ≡ holding.base + 1 + i.count = i.base in
@@ -118,19 +137,32 @@ stopped_later m n holding left first held last i value needs =
     record {
       count = i.count + 1;
       all = λ j above below. all_more (is_in holding) (holding.base + 1) left.base i.all (ap is_some there) j above (omega arith);
-      needs = rw (changes_more holding i.count k first held (omega arith) there) (NeedsMemory-after m n (first.batch ++ between (changes_in holding) (holding.base + 1) i.count) held.batch i.applied needs);
+      needs = rw (changes_more holding i.count k first held (omega arith) there)
+          (NeedsMemory-after m n (first.batch ++ between (changes_in holding) (holding.base + 1) i.count) held.batch
+          i.applied needs);
     }
 
 -- some number is above all that are held
 highest : (entries : List (ℕ × Held)) → (most : ℕ) × ((j : ℕ) → most < j → lookup (λ key. j == key) entries ≡ None)
 highest [] = (0, λ j above. refl)
-highest (e ∷ entries) = let rest = highest entries in (rest.0 + e.0, λ j above. let other : (j == e.0) ≡ false = ne_eqb j e.0 (λ is. omega arith) in rw other (rest.1 j (omega arith)))
+highest (e ∷ entries) = let rest = highest entries in (
+  rest.0 + e.0,
+  λ j above. let other : (j == e.0) ≡ false = ne_eqb j e.0 (λ is. omega arith) in
+      rw other (rest.1 j (omega arith)),
+)
 
 -- what stops within some of the held sequences stops within all that are reached without a gap
-pub breaks : (f g : FollowerValue) (p : PublishedValue) (time : ℕ) → p.number ≡ f.holding.base + 1 → Stops f.mirror f.holding (record { batch = p.changes; time = time }) → g ≡ record f { mirror = g.mirror; holding = g.holding; is_broken = true } → Breaks f p g
+pub breaks : (f g : FollowerValue) (p : PublishedValue) (time : ℕ) → p.number ≡ f.holding.base + 1
+    → Stops f.mirror f.holding (record { batch = p.changes; time = time }) → g ≡ record f {
+      mirror = g.mirror;
+      holding =
+          g.holding;
+      is_broken = true;
+    } → Breaks f p g
 breaks f g p time number stops rest =
     let most = highest f.holding.entries in
-    let none : (j : ℕ) → p.number + most.0 < j → is_in f.holding j ≡ false = λ j above. ap (λ (o : Option Held). is_some (option_map (numbered j) o)) (most.1 j (omega arith)) in
+    let none : (j : ℕ) → p.number + most.0 < j → is_in f.holding j ≡ false =
+    λ j above. ap (λ (o : Option Held). is_some (option_map (numbered j) o)) (most.1 j (omega arith)) in
     let reached : (m : ℕ) × Reaches (is_in f.holding) p.number m = reaches_some (is_in f.holding) p.number most.0 none in
     let far : p.number + stops.count ≤ reached.0 = elim (cases_lt reached.0 (p.number + stops.count)) [
       | inr within ↦ within
@@ -145,7 +177,14 @@ breaks f g p time number stops rest =
       count = stops.count + more;
       high_is = omega arith;
       reach = reached.1;
-      needs = rw (← between-append (changes_in f.holding) p.number stops.count more, ← append_assoc p.changes (between (changes_in f.holding) p.number stops.count) (between (changes_in f.holding) (p.number + stops.count) more)) (NeedsMemory-before f.mirror (p.changes ++ between (changes_in f.holding) p.number stops.count) (between (changes_in f.holding) (p.number + stops.count) more) needs);
+      needs = rw (
+        ← between-append (changes_in f.holding) p.number stops.count more,
+        ← append_assoc p.changes
+            (between (changes_in f.holding) p.number stops.count)
+            (between (changes_in f.holding) (p.number + stops.count) more),
+      )
+          (NeedsMemory-before f.mirror (p.changes ++ between (changes_in f.holding) p.number stops.count)
+          (between (changes_in f.holding) (p.number + stops.count) more) needs);
       rest = rest;
     }
 
@@ -155,9 +194,13 @@ none_below holding j is below = by_slot (area.held_at holding j) refl
   where
     by_slot : (o : Option Held) → area.held_at holding j ≡ o → option_map (numbered j) o ≡ None
     by_slot None e = refl
-    by_slot (Some h) e = absurd (let there : IsTrue (is_some (area.held_at holding j)) = ap is_some e in let window = is.within j there in let above = window.above in omega arith)
+    by_slot (Some h) e = absurd (let there : IsTrue (is_some (area.held_at holding j)) = ap is_some e in
+        let window = is.within j there in let above = window.above in omega arith)
 
-pub takes : (f g : FollowerValue) (p : PublishedValue) (time last : ℕ) → p.number ≡ f.holding.base + 1 → Drains f.mirror f.holding (record { batch = p.changes; time = p.time }) g.mirror g.holding last → IsHolding g.holding → g.number ≡ g.holding.base → g.time ≡ Some last → g.is_broken ≡ false → Takes f p g.holding.base g
+pub takes : (f g : FollowerValue) (p : PublishedValue) (time last : ℕ) → p.number ≡ f.holding.base + 1
+    → Drains f.mirror f.holding (record { batch = p.changes; time = p.time }) g.mirror g.holding last
+    → IsHolding g.holding → g.number ≡ g.holding.base → g.time ≡ Some last → g.is_broken ≡ false
+    → Takes f p g.holding.base g
 takes f g p time last number d is at timed whole = record {
   count = d.count;
   high_is = (let base = d.base in omega arith);
@@ -176,7 +219,9 @@ timed_one None other one positive = positive
 timed_one (Some p) other one positive = one
 
 -- a follower is whole after the application
-pub still_whole : (f g : FollowerValue) (first : Held) (last : ℕ) → IsWhole f → IsPositive first.time → Drains f.mirror f.holding first g.mirror g.holding last → IsHolding g.holding → g.number ≡ g.holding.base → g.time ≡ Some last → IsWhole g
+pub still_whole : (f g : FollowerValue) (first : Held) (last : ℕ) → IsWhole f → IsPositive first.time
+    → Drains f.mirror f.holding first g.mirror g.holding last → IsHolding g.holding → g.number ≡ g.holding.base
+    → g.time ≡ Some last → IsWhole g
 still_whole f g first last w positive d is at timed =
     let base = d.base in
     record {

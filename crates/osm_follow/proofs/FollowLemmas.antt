@@ -1,5 +1,6 @@
 -- A follower that follows what was published, after more was published and after a delivery.
-use Rattle.std.proofs.Common.{◌≡◌, ℕ, ◌+◌, ◌-◌, ◌<◌, ◌≤◌, List, [], ◌++◌, length, refl, ap, sym, ◌∙◌, Bool, true, false, arith, Some, None, Option, append_assoc, length-append, inl, inr}
+use Rattle.std.proofs.Common.{◌≡◌, ℕ, ◌+◌, ◌-◌, ◌<◌, ◌≤◌, List, [], ◌++◌, length, refl, ap, sym, ◌∙◌, Bool, true, false}
+use Rattle.std.proofs.Common.{arith, Some, None, Option, append_assoc, length-append, inl, inr}
 use Rattle.std.proofs.lemmas.Bool.{cases_eq, cases_lt, eq-eqb, ne_eqb, or_left, or_right}
 use Rattle.std.specs.Option.{option_map_or}
 use Rattle.std.specs.Prelude.{◌==◌, ◌||◌, if◌then◌else◌, Result, Ok, Err, is_some}
@@ -19,7 +20,8 @@ use Rattle.osm_mirror.proofs.MirrorLemmas.{mirror_grown}
 use Rattle.osm_follow.proofs.PublishedLemmas.{changes_within, changes_next, changes_run, sequence_within, time_within, time_next}
 
 -- above its number a follower holds exactly what was accepted
-pub held_accepted : (ps : List PublishedValue) (start : ℕ) (acc : ℕ → Bool) (f : FollowerValue) → IsState ps start acc f → (j : ℕ) → f.number < j → is_held f j ≡ acc j
+pub held_accepted : (ps : List PublishedValue) (start : ℕ) (acc : ℕ → Bool) (f : FollowerValue) → IsState ps start acc f
+    → (j : ℕ) → f.number < j → is_held f j ≡ acc j
 held_accepted ps start acc f s j past = ap is_some (s.held j past) ∙ by_test (acc j)
   where
     by_test : (b : Bool) → is_some (if b then Some (sequence_at ps j) else None) ≡ b
@@ -27,10 +29,12 @@ held_accepted ps start acc f s j past = ap is_some (s.held j past) ∙ by_test (
     by_test false = refl
 
 -- so the held numbers reach as far as the accepted ones
-pub reaches_accepted : (ps : List PublishedValue) (start : ℕ) (acc : ℕ → Bool) (f : FollowerValue) (k high : ℕ) → IsState ps start acc f → f.number < k → Reaches (is_held f) k high → Reaches acc k high
+pub reaches_accepted : (ps : List PublishedValue) (start : ℕ) (acc : ℕ → Bool) (f : FollowerValue) (k high : ℕ)
+    → IsState ps start acc f → f.number < k → Reaches (is_held f) k high → Reaches acc k high
 reaches_accepted ps start acc f k high s above r = reaches_same (is_held f) acc k high (λ j past. held_accepted ps start acc f s j (omega arith)) r
 
-pub reaches_held : (ps : List PublishedValue) (start : ℕ) (acc : ℕ → Bool) (f : FollowerValue) (k high : ℕ) → IsState ps start acc f → f.number < k → Reaches acc k high → Reaches (is_held f) k high
+pub reaches_held : (ps : List PublishedValue) (start : ℕ) (acc : ℕ → Bool) (f : FollowerValue) (k high : ℕ)
+    → IsState ps start acc f → f.number < k → Reaches acc k high → Reaches (is_held f) k high
 reaches_held ps start acc f k high s above r = reaches_same acc (is_held f) k high (λ j past. sym (held_accepted ps start acc f s j (omega arith))) r
 
 -- a number for which nothing is held
@@ -64,7 +68,9 @@ follows_grown ps more f s = record {
       (h.0, h.1, rw length-append (omega arith), h.3 ∙ sym (sequence_within ps more j (omega arith) there)));
 }
 
-pub follows_held : (ps : List PublishedValue) (k : ℕ) (f g : FollowerValue) → Follows ps f → f.number + 1 < k → k ≤ f.number + 64 → k ≤ length ps → (sequence_at ps k).number ≡ k → table.Holds f (sequence_at ps k) g → Follows ps g
+pub follows_held : (ps : List PublishedValue) (k : ℕ) (f g : FollowerValue) → Follows ps f → f.number + 1 < k
+    → k ≤ f.number + 64 → k ≤ length ps → (sequence_at ps k).number ≡ k → table.Holds f (sequence_at ps k) g
+    → Follows ps g
 follows_held ps k f g s early within there number h =
     let same : g.number ≡ f.number = ap (λ (x : FollowerValue). x.number) h.rest in
     let mirror : g.mirror ≡ f.mirror = ap (λ (x : FollowerValue). x.mirror) h.rest in
@@ -82,7 +88,8 @@ follows_held ps k f g s early within there number h =
       ];
     }
 
-pub follows_taken : (ps : List PublishedValue) (k high : ℕ) (f g : FollowerValue) → Follows ps f → k ≡ f.number + 1 → k ≤ length ps → (sequence_at ps k).number ≡ k → table.Takes f (sequence_at ps k) high g → Follows ps g
+pub follows_taken : (ps : List PublishedValue) (k high : ℕ) (f g : FollowerValue) → Follows ps f → k ≡ f.number + 1
+    → k ≤ length ps → (sequence_at ps k).number ≡ k → table.Takes f (sequence_at ps k) high g → Follows ps g
 follows_taken ps k high f g s next there number t =
     let from : k ≤ high = rw number at t.reach.from in
     let high_is : high ≡ k + t.count = rw number at t.high_is in
@@ -91,7 +98,10 @@ follows_taken ps k high f g s next there number t =
       | inl past ↦ (let last = each high past (omega arith) in last.there)
       | inr same ↦ omega arith
     ] in
-    let changes : between (changes_held f) k t.count ≡ between (changes_at ps) k t.count = between_same (changes_held f) (changes_at ps) k t.count (λ j above below. ap (λ (o : Option PublishedValue). option_map_or (λ (p : PublishedValue). p.changes) o []) (each j above (omega arith)).is) in
+    let changes : between (changes_held f) k t.count ≡ between (changes_at ps) k t.count =
+    between_same (changes_held f) (changes_at ps) k t.count
+    (λ j above below. ap (λ (o : Option PublishedValue). option_map_or (λ (p : PublishedValue). p.changes) o [])
+    (each j above (omega arith)).is) in
     let joined : changes_up_to ps high ≡ changes_up_to ps f.number ++ (changes_at ps k ++ between (changes_held f) k t.count) =
     ap (changes_up_to ps) high_is
     ∙ (changes_run ps k t.count (omega arith)
@@ -99,13 +109,16 @@ follows_taken ps k high f g s next there number t =
     ∙ (append_assoc (changes_up_to ps f.number) (changes_at ps k) (between (changes_at ps) k t.count)
     ∙ ap (λ (cs : List ChangeValue). changes_up_to ps f.number ++ (changes_at ps k ++ cs)) (sym changes)))) in
     let time : (option_map_or (λ (p : PublishedValue). p.time) (held_at f high) (sequence_at ps k).time) ≡ (sequence_at ps high).time = elim (cases_lt k high) [
-      | inl past ↦ ap (λ (o : Option PublishedValue). option_map_or (λ (p : PublishedValue). p.time) o (sequence_at ps k).time) (each high past (omega arith)).is
+      | inl past ↦ ap (λ (o : Option PublishedValue). option_map_or (λ (p : PublishedValue). p.time) o
+          (sequence_at ps k).time) (each high past (omega arith)).is
       | inr until ↦ (let same : high ≡ k = omega arith in
-          rw same (ap (λ (o : Option PublishedValue). option_map_or (λ (p : PublishedValue). p.time) o (sequence_at ps k).time) (none_held f k (λ p e. (let past = (s.held k p e).0 in omega arith)))))
+          rw same (ap (λ (o : Option PublishedValue). option_map_or (λ (p : PublishedValue). p.time) o
+          (sequence_at ps k).time) (none_held f k (λ p e. (let past = (s.held k p e).0 in omega arith)))))
     ] in
     record {
       within = rw t.number within;
-      mirror = rw (t.number, joined) (mirror_grown f.mirror g.mirror (changes_up_to ps f.number) (changes_at ps k ++ between (changes_held f) k t.count) s.mirror (rw number at t.applied));
+      mirror = rw (t.number, joined) (mirror_grown f.mirror g.mirror (changes_up_to ps f.number) (changes_at ps k
+          ++ between (changes_held f) k t.count) s.mirror (rw number at t.applied));
       time = t.time ∙ (ap (λ (n : ℕ). Some n) time ∙ rw t.number (sym (time_next ps (high - 1) high (omega arith))));
       held = λ j p e. elim (cases_lt high j) [
         | inr below ↦ absurd (let bad : Some p ≡ None = sym e ∙ t.gone j below in cc)
@@ -119,7 +132,11 @@ follows_taken ps k high f g s next there number t =
     }
 
 -- what a follower is after it has accepted one more number
-state_parts : (ps : List PublishedValue) (start : ℕ) (acc more : ℕ → Bool) (k : ℕ) (f g : FollowerValue) → IsState ps start acc f → ((j : ℕ) → more j ≡ ((k == j) || acc j)) → f.number < k → Follows ps g → f.number ≤ g.number → ((j : ℕ) → f.number < j → j ≤ g.number → more j ≡ true) → more (g.number + 1) ≡ false → ((j : ℕ) → g.number < j → held_at g j ≡ (if more j then Some (sequence_at ps j) else None)) → IsState ps start more g
+state_parts : (ps : List PublishedValue) (start : ℕ) (acc more : ℕ → Bool) (k : ℕ) (f g : FollowerValue)
+    → IsState ps start acc f → ((j : ℕ) → more j ≡ ((k == j) || acc j)) → f.number < k → Follows ps g
+    → f.number ≤ g.number → ((j : ℕ) → f.number < j → j ≤ g.number → more j ≡ true) → more (g.number + 1) ≡ false
+    → ((j : ℕ) → g.number < j → held_at g j ≡ (if more j then Some (sequence_at ps j) else None))
+    → IsState ps start more g
 state_parts ps start acc more k f g s is above follows onward all next held =
     let from = s.reach.from in
     record {
@@ -142,7 +159,9 @@ more_here acc more k j is same = is j ∙ or_left (k == j) (acc j) (eq-eqb k j s
 more_other : (acc more : ℕ → Bool) (k j : ℕ) → ((i : ℕ) → more i ≡ ((k == i) || acc i)) → (k ≡ j → ⊥) → more j ≡ acc j
 more_other acc more k j is apart = is j ∙ ap (λ (b : Bool). b || acc j) (ne_eqb k j apart)
 
-pub state_held : (ps : List PublishedValue) (start : ℕ) (acc more : ℕ → Bool) (k : ℕ) (f g : FollowerValue) → IsState ps start acc f → ((j : ℕ) → more j ≡ ((k == j) || acc j)) → f.number + 1 < k → k ≤ f.number + 64 → k ≤ length ps → (sequence_at ps k).number ≡ k → table.Holds f (sequence_at ps k) g → IsState ps start more g
+pub state_held : (ps : List PublishedValue) (start : ℕ) (acc more : ℕ → Bool) (k : ℕ) (f g : FollowerValue)
+    → IsState ps start acc f → ((j : ℕ) → more j ≡ ((k == j) || acc j)) → f.number + 1 < k → k ≤ f.number + 64
+    → k ≤ length ps → (sequence_at ps k).number ≡ k → table.Holds f (sequence_at ps k) g → IsState ps start more g
 state_held ps start acc more k f g s is early within there number h =
     let same : g.number ≡ f.number = ap (λ (x : FollowerValue). x.number) h.rest in
     state_parts ps start acc more k f g s is (omega arith) (follows_held ps k f g s.follows early within there number h) (omega arith)
@@ -156,7 +175,9 @@ state_held ps start acc more k f g s is early within there number h =
           rw was (h.others j (λ d. apart (sym (d ∙ number))) ∙ s.held j (omega arith)))
     ])
 
-pub state_taken : (ps : List PublishedValue) (start : ℕ) (acc more : ℕ → Bool) (k high : ℕ) (f g : FollowerValue) → IsState ps start acc f → ((j : ℕ) → more j ≡ ((k == j) || acc j)) → k ≡ f.number + 1 → k ≤ length ps → (sequence_at ps k).number ≡ k → table.Takes f (sequence_at ps k) high g → IsState ps start more g
+pub state_taken : (ps : List PublishedValue) (start : ℕ) (acc more : ℕ → Bool) (k high : ℕ) (f g : FollowerValue)
+    → IsState ps start acc f → ((j : ℕ) → more j ≡ ((k == j) || acc j)) → k ≡ f.number + 1 → k ≤ length ps
+    → (sequence_at ps k).number ≡ k → table.Takes f (sequence_at ps k) high g → IsState ps start more g
 state_taken ps start acc more k high f g s is next there number t =
     let reach : Reaches acc k high = reaches_accepted ps start acc f k high s (omega arith) (rw number at t.reach) in
     let from = reach.from in
@@ -171,7 +192,11 @@ state_taken ps start acc more k high f g s is next there number t =
     rw was (t.rest j (omega arith) ∙ s.held j (omega arith))))
 
 -- a follower stays in step, unless the answer is that it broke
-pub follows_kept : (spells : table.Spelling) (fault_place : table.FaultPlaces) → OneBatch spells → NoFaultBeside → (ps : List PublishedValue) (f g : FollowerValue) (k : ℕ) (state bytes : List ℕ) (answer : Result Delivered DeliverError) → AreSequences ps → Follows ps f → 0 < k → k ≤ length ps → StateOf state (record { sequence = k; time = (sequence_at ps k).time }) → spells bytes (changes_at ps k) → table.Delivers spells fault_place f state bytes answer g → (answer ≡ Err Broke → ⊥) → Follows ps g
+pub follows_kept : (spells : table.Spelling) (fault_place : table.FaultPlaces) → OneBatch spells → NoFaultBeside
+    → (ps : List PublishedValue) (f g : FollowerValue) (k : ℕ) (state bytes : List ℕ)
+    (answer : Result Delivered DeliverError) → AreSequences ps → Follows ps f → 0 < k → k ≤ length ps
+    → StateOf state (record { sequence = k; time = (sequence_at ps k).time }) → spells bytes (changes_at ps k)
+    → table.Delivers spells fault_place f state bytes answer g → (answer ≡ Err Broke → ⊥) → Follows ps g
 follows_kept spells fp one apart ps f g k state bytes answer each s above there names spelled d whole =
     let above_it : 0 < (sequence_at ps k).number = rw number above in
     let named : StateOf state (state_of (sequence_at ps k)) = rw number names in

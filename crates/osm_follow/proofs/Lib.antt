@@ -4,3 +4,4 @@ pub mod DrainLemmas
 pub mod DeliveryLemmas
 pub mod FollowLemmas
 pub mod RestartLemmas
+pub mod StandardFacts

@@ -1,12 +1,14 @@
 -- Published sequences, extended by more and taken one by one.
-use Rattle.std.proofs.Common.{◌≡◌, ℕ, zero, suc, ◌+◌, ◌-◌, ◌<◌, ◌≤◌, List, [], ◌∷◌, ◌++◌, length, take, get_or, refl, ap, sym, ◌∙◌, Some, arith, append-nil, append_assoc, map, inl, inr, length-append}
+use Rattle.std.proofs.Common.{◌≡◌, ℕ, zero, suc, ◌+◌, ◌-◌, ◌<◌, ◌≤◌, List, [], ◌∷◌, ◌++◌, length, take, get_or, refl}
+use Rattle.std.proofs.Common.{ap, sym, ◌∙◌, Some, arith, append-nil, append_assoc, map, inl, inr, length-append}
 use Rattle.std.specs.List.{flat_map}
 use Rattle.std.proofs.lemmas.Grind.{flat_map-append}
 use Rattle.std.proofs.lemmas.List.{take_more, take-append-le, get_or_append_left, get_or-append-add, get_or-map}
 use Rattle.std.proofs.lemmas.Bool.{cases_lt}
 use Rattle.osm_model.specs.Change.{ChangeValue}
 use Rattle.osm_follow.specs.Reach.{between}
-use Rattle.osm_follow.specs.Published.{PublishedValue, unpublished, no_texts, texts_at, written_of, IsSequence, AreSequences, sequence_at, changes_at, time_at, changes_up_to, last_time}
+use Rattle.osm_follow.specs.Published.{PublishedValue, unpublished, no_texts, texts_at, written_of, IsSequence}
+use Rattle.osm_follow.specs.Published.{AreSequences, sequence_at, changes_at, time_at, changes_up_to, last_time}
 
 pub last_time-snoc : (ps : List PublishedValue) (p : PublishedValue) → last_time (ps ++ p ∷ []) ≡ p.time
 last_time-snoc [] p = refl
@@ -54,7 +56,8 @@ time_next ps n zero e = absurd (omega arith)
 time_next ps n (suc k) e = refl
 
 -- the changes of the next sequences
-pub changes_run : (ps : List PublishedValue) (n count : ℕ) → n + count ≤ length ps → changes_up_to ps (n + count) ≡ changes_up_to ps n ++ between (changes_at ps) n count
+pub changes_run : (ps : List PublishedValue) (n count : ℕ) → n + count ≤ length ps → changes_up_to ps (n + count) ≡
+    changes_up_to ps n ++ between (changes_at ps) n count
 changes_run ps n zero within = ap (changes_up_to ps) (let same : n + 0 ≡ n = omega arith in same) ∙ sym (append-nil (changes_up_to ps n))
 changes_run ps n (suc count) within =
     changes_next ps (n + count) (n + suc count) (omega arith) within

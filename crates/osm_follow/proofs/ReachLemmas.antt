@@ -1,5 +1,6 @@
 -- Numbers without a gap, and what is joined between them.
-use Rattle.std.proofs.Common.{◌≡◌, ℕ, zero, suc, ◌+◌, ◌<◌, ◌≤◌, List, [], ◌∷◌, ◌++◌, refl, ap, sym, ◌∙◌, Bool, true, false, arith, append-nil, append_assoc, inl, inr}
+use Rattle.std.proofs.Common.{◌≡◌, ℕ, zero, suc, ◌+◌, ◌<◌, ◌≤◌, List, [], ◌∷◌, ◌++◌, refl, ap, sym, ◌∙◌, Bool, true}
+use Rattle.std.proofs.Common.{false, arith, append-nil, append_assoc, inl, inr}
 use Rattle.std.proofs.lemmas.Bool.{cases_lt, cases_Bool}
 use Rattle.std.specs.Prelude.{filter, not, cond, min, ◌-◌}
 use Rattle.std.proofs.lemmas.List.Elements.{filter-append}
@@ -10,7 +11,8 @@ between-append f n c zero = let same : c + 0 ≡ c = omega arith in rw (append-n
 between-append f n c (suc d) =
     let more : c + suc d ≡ suc (c + d) = omega arith in
     let last : n + c + suc d ≡ n + suc (c + d) = omega arith in
-    rw (more, last) (sym (append_assoc (between f n c) (between f (n + c) d) (f (n + suc (c + d)))) ∙ ap (λ xs. xs ++ f (n + suc (c + d))) (between-append f n c d))
+    rw (more, last) (sym (append_assoc (between f n c) (between f (n + c) d) (f (n + suc (c + d))))
+    ∙ ap (λ xs. xs ++ f (n + suc (c + d))) (between-append f n c d))
 
 pub between-suc : {A : Type 0} (f : ℕ → List A) (n c k : ℕ) → k ≡ n + c + 1 → between f n (c + 1) ≡ between f n c ++ f k
 between-suc f n c k is =
@@ -20,10 +22,13 @@ between-suc f n c k is =
 
 pub between_same : {A : Type 0} (f g : ℕ → List A) (n c : ℕ) → ((j : ℕ) → n < j → j ≤ n + c → f j ≡ g j) → between f n c ≡ between g n c
 between_same f g n zero same = refl
-between_same f g n (suc c) same = ap (λ xs. xs ++ f (n + suc c)) (between_same f g n c (λ j above below. same j above (omega arith))) ∙ ap (λ ys. between g n c ++ ys) (same (n + suc c) (omega arith) (omega arith))
+between_same f g n (suc c) same =
+    ap (λ xs. xs ++ f (n + suc c)) (between_same f g n c (λ j above below. same j above (omega arith)))
+    ∙ ap (λ ys. between g n c ++ ys) (same (n + suc c) (omega arith) (omega arith))
 
 -- one more number
-pub all_more : (is_in : ℕ → Bool) (low high : ℕ) → ((j : ℕ) → low < j → j ≤ high → is_in j ≡ true) → is_in (high + 1) ≡ true → (j : ℕ) → low < j → j ≤ high + 1 → is_in j ≡ true
+pub all_more : (is_in : ℕ → Bool) (low high : ℕ) → ((j : ℕ) → low < j → j ≤ high → is_in j ≡ true)
+    → is_in (high + 1) ≡ true → (j : ℕ) → low < j → j ≤ high + 1 → is_in j ≡ true
 all_more is_in low high all next j above below = elim (cases_lt high j) [
   | inl past ↦ (let same : j ≡ high + 1 = omega arith in rw same next)
   | inr within ↦ all j above within
@@ -65,8 +70,12 @@ missing_among-same : (is_in are_in : ℕ → Bool) (n c : ℕ) → ((j : ℕ) �
 missing_among-same is_in are_in n zero same = refl
 missing_among-same is_in are_in n (suc c) same =
     let k : ℕ = n + suc c in
-    let before : missing_among is_in n c ++ cond (not (is_in k)) (k ∷ []) [] ≡ missing_among are_in n c ++ cond (not (is_in k)) (k ∷ []) [] = ap (λ js. js ++ cond (not (is_in k)) (k ∷ []) []) (missing_among-same is_in are_in n c same) in
-    let last : missing_among are_in n c ++ cond (not (is_in k)) (k ∷ []) [] ≡ missing_among are_in n c ++ cond (not (are_in k)) (k ∷ []) [] = ap (λ (b : Bool). missing_among are_in n c ++ cond (not b) (k ∷ []) []) (same k (omega arith)) in
+    let before : missing_among is_in n c ++ cond (not (is_in k)) (k ∷ []) [] ≡ missing_among are_in n c
+    ++ cond (not (is_in k)) (k ∷ []) [] = ap (λ js. js ++ cond (not (is_in k)) (k ∷ []) [])
+    (missing_among-same is_in are_in n c same) in
+    let last : missing_among are_in n c ++ cond (not (is_in k)) (k ∷ []) [] ≡ missing_among are_in n c
+    ++ cond (not (are_in k)) (k ∷ []) [] = ap (λ (b : Bool). missing_among are_in n c ++ cond (not b) (k ∷ []) [])
+    (same k (omega arith)) in
     missing_last is_in n c ∙ (before ∙ (last ∙ sym (missing_last are_in n c)))
 
 -- two tests that agree after n miss the same numbers

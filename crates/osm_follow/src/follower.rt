@@ -2,7 +2,7 @@
 
 ghost use Rattle.std.specs.Prelude.{◌≡◌, ◌+◌, ◌*◌, ◌<◌, ◌≤◌, ℕ, Result, Err, None, Some, IfOk};
 ghost use Rattle.std.specs.Prelude.{IfErr, IsErr, IsSome, IsTrue, MatchOption, ◌↔◌, true, false};
-ghost use Rattle.std.specs.Prelude.{OnOk, OnErr, [], length, Contains};
+ghost use Rattle.std.specs.Prelude.{OnOk, OnErr, [], length, Contains, ◌-◌, min, vec_capacity};
 ghost use Rattle.std.specs.Option.{option_map};
 ghost use Rattle.std.specs.List.Sorted.{IsStrictlySortedBy};
 ghost use Rattle.std.specs.Ordering.{nat_cmp};
@@ -35,7 +35,7 @@ use osm_model::memory::WantOfMemory;
 use osm_save::save::{SaveError, save_read, save_write};
 use osm_state::state::State;
 use osm_state::state_text::state_read;
-use std::alloc::Global;
+use std::alloc::{AllocError, Global};
 use std::marker::Model;
 use thiserror::Error;
 
@@ -305,15 +305,31 @@ impl Follower {
             ≡ missing_numbers (is_held self.now) self.now.number top) }
         ensures refused { OnErr result (self.now.number < top) }
     {
-        let count = WINDOW.min(top.saturating_sub(self.number));
-        let mut missing = Vec::with_capacity(alloc, count as usize)?;
-        for index in 0..count {
+        let mut missing = self.room_up_to(alloc, top)?;
+        for index in 0..self.count_up_to(top) {
             let number = self.number + 1 + index;
             if !self.holding.is_held(number) {
                 missing.push(number)?;
             }
         }
         Ok(missing)
+    }
+
+    // An empty list with room for the numbers of the window up to `top`.
+    fn room_up_to(&self, alloc: Global, top: u32) -> Result<Vec<u32>, AllocError>
+        ensures none { IfOk result (λ ns. ns.items ≡ []) }
+        ensures room { IfOk result (λ ns. (vec_capacity ns ≤ window)
+            × (vec_capacity ns ≤ top - self.now.number)) }
+        ensures refused { OnErr result (self.now.number < top) }
+    {
+        Vec::with_capacity(alloc, self.count_up_to(top) as usize)
+    }
+
+    // How many numbers of the window there are up to `top`.
+    fn count_up_to(&self, top: u32) -> u32
+        ensures { result ≡ min window (top - self.now.number) }
+    {
+        WINDOW.min(top.saturating_sub(self.number))
     }
 
     fn check_whole(&self) -> Result<(), Broken>

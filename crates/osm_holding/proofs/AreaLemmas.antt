@@ -1,5 +1,6 @@
 -- The order of what is held, and areas that hold the same.
-use Rattle.std.proofs.Common.{◌≡◌, ℕ, zero, suc, ◌+◌, ◌<◌, ◌≤◌, List, [], ◌∷◌, ◌++◌, length, refl, ap, subst, sym, ◌∙◌, true, false, arith, None, Some, Option, inl, inr}
+use Rattle.std.proofs.Common.{◌≡◌, ℕ, zero, suc, ◌+◌, ◌<◌, ◌≤◌, List, [], ◌∷◌, ◌++◌, length, refl, ap, subst, sym, ◌∙◌}
+use Rattle.std.proofs.Common.{true, false, arith, None, Some, Option, inl, inr}
 use Rattle.std.specs.Prelude.{slice_set, ◌==◌, slice_index, IsSome, Contains, ◌↔◌}
 use Rattle.std.specs.Cmp.{nat_eq_equiv}
 use Rattle.std.specs.List.Sorted.{IsStrictlyIncreasing, IsStrictlySortedBy}
@@ -29,11 +30,13 @@ RisesFrom-lower least more (e ∷ es) le rises =
 
 RisesFrom-entries_from : (first : ℕ) (slots : List (Option Held)) → RisesFrom first (entries_from first slots)
 RisesFrom-entries_from first [] = tt
-RisesFrom-entries_from first (None ∷ slots) = RisesFrom-lower first (first + 1) (entries_from (first + 1) slots) (omega arith) (RisesFrom-entries_from (first + 1) slots)
+RisesFrom-entries_from first (None ∷ slots) = RisesFrom-lower first (first + 1) (entries_from (first + 1) slots)
+    (omega arith) (RisesFrom-entries_from (first + 1) slots)
 RisesFrom-entries_from first (Some held ∷ slots) = (omega arith, RisesFrom-entries_from (first + 1) slots)
 
 -- numbers that rise are each below the next
-increasing : (least : ℕ) (es : List (ℕ × Held)) → RisesFrom least es → (k j : ℕ) → j ≡ k + 1 → j < length (keys_of es) → slice_index (keys_of es) k < slice_index (keys_of es) j
+increasing : (least : ℕ) (es : List (ℕ × Held)) → RisesFrom least es → (k j : ℕ) → j ≡ k + 1 → j < length (keys_of es)
+    → slice_index (keys_of es) k < slice_index (keys_of es) j
 increasing least [] rises k j next within = absurd (omega arith)
 increasing least (e ∷ []) rises k j next within = absurd (omega arith)
 increasing least (e ∷ f ∷ es) rises k zero next within = absurd (omega arith)
@@ -52,7 +55,7 @@ rises_after e (f ∷ es) sorted =
     let above : e.0 < f.0 = below_from_sorted (keys_of (e ∷ f ∷ es)) 0 1 0 sorted (omega arith) (omega arith) in
     (omega arith, rises_after f es (sorted_tail nat_cmp e.0 (keys_of (f ∷ es)) sorted))
 
-rises : (es : List (ℕ × Held)) → IsStrictlySortedBy nat_cmp (keys_of es) → RisesFrom 0 es
+pub rises : (es : List (ℕ × Held)) → IsStrictlySortedBy nat_cmp (keys_of es) → RisesFrom 0 es
 rises [] sorted = tt
 rises (e ∷ es) sorted = (omega arith, rises_after e es sorted)
 
@@ -64,10 +67,10 @@ found_below_least least (e ∷ es) number up below =
     let other : (number == e.0) ≡ false = ne_eqb number e.0 (λ is. omega arith) in
     rw other (found_below_least (e.0 + 1) es number up.1 (omega arith))
 
-found_first : (e : ℕ × Held) (es : List (ℕ × Held)) (number : ℕ) → number ≡ e.0 → found (e ∷ es) number ≡ Some e.1
+pub found_first : (e : ℕ × Held) (es : List (ℕ × Held)) (number : ℕ) → number ≡ e.0 → found (e ∷ es) number ≡ Some e.1
 found_first e es number is = let same : (number == e.0) ≡ true = eq-eqb number e.0 is in rw same refl
 
-found_later : (e : ℕ × Held) (es : List (ℕ × Held)) (number : ℕ) → e.0 < number → found (e ∷ es) number ≡ found es number
+pub found_later : (e : ℕ × Held) (es : List (ℕ × Held)) (number : ℕ) → e.0 < number → found (e ∷ es) number ≡ found es number
 found_later e es number above = let other : (number == e.0) ≡ false = ne_eqb number e.0 (λ is. omega arith) in rw other refl
 
 same_pair : (e f : ℕ × Held) → e.0 ≡ f.0 → Some e.1 ≡ Some f.1 → e ≡ f
@@ -110,7 +113,10 @@ made base entries = record { base = base; entries = entries }
 pub one_area : (a b : HoldingValue) → IsHolding a → IsHolding b → a.base ≡ b.base → ((number : ℕ) → held_at a number ≡ held_at b number) → a ≡ b
 unfolding made
 one_area a b holds_a holds_b base same =
-    let entries : a.entries ≡ b.entries = same_entries 0 0 a.entries b.entries (rises a.entries (sorted_from_strictly_increasing (keys_of a.entries) holds_a.rising)) (rises b.entries (sorted_from_strictly_increasing (keys_of b.entries) holds_b.rising)) same in
+    let entries : a.entries ≡ b.entries =
+    same_entries 0 0 a.entries b.entries
+    (rises a.entries (sorted_from_strictly_increasing (keys_of a.entries) holds_a.rising))
+    (rises b.entries (sorted_from_strictly_increasing (keys_of b.entries) holds_b.rising)) same in
     ap (λ (n : ℕ). made n a.entries) base ∙ ap (λ (es : List (ℕ × Held)). made b.base es) entries
 
 -- the numbers of an area are those at which it holds something
@@ -130,13 +136,16 @@ is_holding base slots are = record {
 }
 
 -- the slots after a write
-pub are_written : (base : ℕ) (slots : Buffer (Option Held)) (i number : ℕ) (now : Option Held) → AreSlots base slots → number ≡ base + 1 + i → i < length slots.items → (IsSome now → number ≤ max_sequence) → AreSlots base (buffer (slice_set slots.items i now) slots.capacity)
+pub are_written : (base : ℕ) (slots : Buffer (Option Held)) (i number : ℕ) (now : Option Held) → AreSlots base slots
+    → number ≡ base + 1 + i → i < length slots.items → (IsSome now → number ≤ max_sequence)
+    → AreSlots base (buffer (slice_set slots.items i now) slots.capacity)
 are_written base slots i number now are is within limit = record {
   limit = are.limit;
   full = length-set slots.items i now ∙ are.full;
   room = are.room;
   sequences = λ other some. elim (cases_eq other number) [
-    | inl same ↦ (let there : IsSome now = subst (λ (o : Option Held). IsSome o) changes.changed (subst (λ (n : ℕ). IsSome (found (entries_from (base + 1) (slice_set slots.items i now)) n)) same some) in
+    | inl same ↦ (let there : IsSome now = subst (λ (o : Option Held). IsSome o) changes.changed
+        (subst (λ (n : ℕ). IsSome (found (entries_from (base + 1) (slice_set slots.items i now)) n)) same some) in
         omega (arith, limit there, same))
     | inr apart ↦ are.sequences other (subst (λ (o : Option Held). IsSome o) (changes.others other apart) some)
   ];
@@ -146,14 +155,21 @@ are_written base slots i number now are is within limit = record {
     changes = slot_changes base slots.items i number now is within
 
 -- a ring that has moved on shows the same after the next number
-pub moved_slots : (base : ℕ) (old new : Buffer (Option Held)) → AreSlots base old → new ≡ buffer (keep_last old.capacity (old.items ++ None ∷ [])) old.capacity → held_at (area_of base old.items) (base + 1) ≡ None → entries_from (base + 1 + 1) new.items ≡ entries_from (base + 1) old.items
+pub moved_slots : (base : ℕ) (old new : Buffer (Option Held)) → AreSlots base old
+    → new ≡ buffer (keep_last old.capacity (old.items ++ None ∷ [])) old.capacity
+    → held_at (area_of base old.items) (base + 1) ≡ None → entries_from (base + 1 + 1) new.items ≡ entries_from
+    (base + 1) old.items
 moved_slots base old new are is free =
-    let items : new.items ≡ keep_last 64 (old.items ++ None ∷ []) = ap (λ (b : Buffer (Option Held)). b.items) is ∙ ap (λ n. keep_last n (old.items ++ None ∷ [])) are.room in
+    let items : new.items ≡ keep_last 64 (old.items ++ None ∷ []) = ap (λ (b : Buffer (Option Held)). b.items) is
+    ∙ ap (λ n. keep_last n (old.items ++ None ∷ [])) are.room in
     ap (λ s. entries_from (base + 1 + 1) s) items ∙ moved (base + 1) old.items are.full free
 
-pub are_moved : (base : ℕ) (old new : Buffer (Option Held)) → AreSlots base old → base < max_sequence → new ≡ buffer (keep_last old.capacity (old.items ++ None ∷ [])) old.capacity → held_at (area_of base old.items) (base + 1) ≡ None → AreSlots (base + 1) new
+pub are_moved : (base : ℕ) (old new : Buffer (Option Held)) → AreSlots base old → base < max_sequence
+    → new ≡ buffer (keep_last old.capacity (old.items ++ None ∷ [])) old.capacity
+    → held_at (area_of base old.items) (base + 1) ≡ None → AreSlots (base + 1) new
 are_moved base old new are room is free =
-    let items : new.items ≡ keep_last 64 (old.items ++ None ∷ []) = ap (λ (b : Buffer (Option Held)). b.items) is ∙ ap (λ n. keep_last n (old.items ++ None ∷ [])) are.room in
+    let items : new.items ≡ keep_last 64 (old.items ++ None ∷ []) = ap (λ (b : Buffer (Option Held)). b.items) is
+    ∙ ap (λ n. keep_last n (old.items ++ None ∷ [])) are.room in
     record {
       limit = omega arith;
       full = ap (λ (s : List (Option Held)). length s) items ∙ moved_length old.items are.full;
@@ -161,7 +177,12 @@ are_moved base old new are room is free =
       sequences = λ number some. are.sequences number (subst (λ (es : List (ℕ × Held)). IsSome (found es number)) (moved_slots base old new are is free) some);
     }
 
-pub moved_area : (base : ℕ) (old new : Buffer (Option Held)) → AreSlots base old → new ≡ buffer (keep_last old.capacity (old.items ++ None ∷ [])) old.capacity → held_at (area_of base old.items) (base + 1) ≡ None → area_of (base + 1) new.items ≡ record { base = base + 1; entries = entries_from (base + 1) old.items }
+pub moved_area : (base : ℕ) (old new : Buffer (Option Held)) → AreSlots base old
+    → new ≡ buffer (keep_last old.capacity (old.items ++ None ∷ [])) old.capacity
+    → held_at (area_of base old.items) (base + 1) ≡ None → area_of (base + 1) new.items ≡ record {
+      base = base + 1;
+      entries = entries_from (base + 1) old.items;
+    }
 unfolding made
 moved_area base old new are is free =
     ap (λ es. made (base + 1) es) (moved_slots base old new are is free)

@@ -1,5 +1,7 @@
 -- What an area holds, seen from the slots of its ring.
-use Rattle.std.proofs.Common.{◌≡◌, ℕ, zero, suc, ◌+◌, ◌-◌, ◌<◌, ◌≤◌, ◌≢◌, List, [], ◌∷◌, ◌++◌, length, take, refl, ap, sym, ◌∙◌, true, false, arith, None, Some, Option, inl, inr, length-append, length-drop, add-one, subst, Bool}
+use Rattle.std.proofs.Common.{◌≡◌, ℕ, zero, suc, ◌+◌, ◌-◌, ◌<◌, ◌≤◌, ◌≢◌, List, [], ◌∷◌, ◌++◌, length, take, refl, ap}
+use Rattle.std.proofs.Common.{sym, ◌∙◌, true, false, arith, None, Some, Option, inl, inr, length-append, length-drop}
+use Rattle.std.proofs.Common.{add-one, subst, Bool}
 use Rattle.std.specs.Prelude.{slice_get, slice_set, ◌==◌, ◌↔◌, IsSome, IsTrue, OnSome, is_some}
 use Rattle.std.specs.Map.{lookup, keys_of}
 use Rattle.std.specs.Option.{option_flatten}
@@ -25,7 +27,8 @@ found_below first (Some held ∷ slots) number below =
     rw other (found_below (first + 1) slots number (omega arith))
 
 -- what is held at a number is what its slot holds
-pub found_at : (first : ℕ) (slots : List (Option Held)) (number i : ℕ) → number ≡ first + i → found (entries_from first slots) number ≡ option_flatten (slice_get slots i)
+pub found_at : (first : ℕ) (slots : List (Option Held)) (number i : ℕ) → number ≡ first + i
+    → found (entries_from first slots) number ≡ option_flatten (slice_get slots i)
 found_at first [] number zero is = refl
 found_at first [] number (suc i) is = refl
 found_at first (None ∷ slots) number zero is = found_below (first + 1) slots number (omega arith)
@@ -51,14 +54,17 @@ slice_get-set_other (s ∷ slots) (suc i) zero now apart = refl
 slice_get-set_other (s ∷ slots) (suc i) (suc j) now apart = slice_get-set_other slots i j now (λ e. apart (ap suc e))
 
 -- a write to a slot changes what is held at its number, and nothing else
-pub slot_changes : (base : ℕ) (slots : List (Option Held)) (i number : ℕ) (now : Option Held) → number ≡ base + 1 + i → i < length slots → ChangesAt (area_of base slots) (area_of base (slice_set slots i now)) number now
+pub slot_changes : (base : ℕ) (slots : List (Option Held)) (i number : ℕ) (now : Option Held) → number ≡ base + 1 + i
+    → i < length slots → ChangesAt (area_of base slots) (area_of base (slice_set slots i now)) number now
 slot_changes base slots i number now is within = record {
   base = refl;
   changed = found_at (base + 1) (slice_set slots i now) number i is ∙ ap option_flatten (slice_get-set_same slots i now within);
   others = λ other apart. elim (cases_lt base other) [
     | inl above ↦ (let j : ℕ = other - base - 1 in
         let apart_too : j ≢ i = λ e. apart (omega arith) in
-        found_at (base + 1) (slice_set slots i now) other j (omega arith) ∙ (ap option_flatten (slice_get-set_other slots i j now apart_too) ∙ sym (found_at (base + 1) slots other j (omega arith))))
+        found_at (base + 1) (slice_set slots i now) other j (omega arith)
+        ∙ (ap option_flatten (slice_get-set_other slots i j now apart_too)
+        ∙ sym (found_at (base + 1) slots other j (omega arith))))
     | inr below ↦ found_below (base + 1) (slice_set slots i now) other (omega arith) ∙ sym (found_below (base + 1) slots other (omega arith))
   ];
 }
@@ -70,7 +76,8 @@ entries_from-none first (None ∷ slots) = entries_from-none (first + 1) slots
 entries_from-none first (Some held ∷ slots) = ap (λ es. (first, held) ∷ es) (entries_from-none (first + 1) slots)
 
 -- a ring whose first slot is empty shows the same after it has moved on
-pub moved : (first : ℕ) (slots : List (Option Held)) → length slots ≡ 64 → found (entries_from first slots) first ≡ None → entries_from (first + 1) (keep_last 64 (slots ++ None ∷ [])) ≡ entries_from first slots
+pub moved : (first : ℕ) (slots : List (Option Held)) → length slots ≡ 64 → found (entries_from first slots) first ≡ None
+    → entries_from (first + 1) (keep_last 64 (slots ++ None ∷ [])) ≡ entries_from first slots
 moved first [] full free = absurd (omega arith)
 moved first (None ∷ slots) full free =
     let one : length (None ∷ (slots ++ None ∷ [])) - 64 ≡ suc 0 = omega (arith, length-append slots (None ∷ [])) in
@@ -89,7 +96,8 @@ none_is_not_some : (o : Option Held) → o ≡ None → IsSome o → ⊥
 none_is_not_some None is some = cc
 none_is_not_some (Some held) is some = cc
 
-pub in_window : (base : ℕ) (slots : List (Option Held)) (number : ℕ) → length slots ≡ 64 → IsSome (found (entries_from (base + 1) slots) number) → IsInWindow base number
+pub in_window : (base : ℕ) (slots : List (Option Held)) (number : ℕ) → length slots ≡ 64
+    → IsSome (found (entries_from (base + 1) slots) number) → IsInWindow base number
 in_window base slots number full some = elim (cases_lt base number) [
   | inl above ↦ elim (cases_lt (base + 64) number) [
     | inl past ↦ (let i : ℕ = number - base - 1 in
@@ -109,7 +117,8 @@ number_in number (Some (Some held)) = number ∷ []
 abbrev pub numbers_before : ℕ → List (Option Held) → ℕ → List ℕ
 numbers_before first slots i = keys_of (entries_from first (take i slots))
 
-pub numbers_before-suc : (first : ℕ) (slots : List (Option Held)) (i number : ℕ) → number ≡ first + i → numbers_before first slots (suc i) ≡ numbers_before first slots i ++ number_in number (slice_get slots i)
+pub numbers_before-suc : (first : ℕ) (slots : List (Option Held)) (i number : ℕ) → number ≡ first + i
+    → numbers_before first slots (suc i) ≡ numbers_before first slots i ++ number_in number (slice_get slots i)
 numbers_before-suc first [] zero number is = refl
 numbers_before-suc first [] (suc i) number is = refl
 numbers_before-suc first (None ∷ slots) zero number is = refl
@@ -130,20 +139,33 @@ number_in-none number (Some None) free = refl
 number_in-none number (Some (Some held)) free = absurd (free refl)
 
 -- one more slot, which holds something or doesn't
-pub numbers_before_held : (first : ℕ) (slots : List (Option Held)) (i number : ℕ) → number ≡ first + i → IsSome (found (entries_from first slots) number) → numbers_before first slots (i + 1) ≡ numbers_before first slots i ++ number ∷ []
+pub numbers_before_held : (first : ℕ) (slots : List (Option Held)) (i number : ℕ) → number ≡ first + i
+    → IsSome (found (entries_from first slots) number) → numbers_before first slots (i + 1) ≡
+    numbers_before first slots i ++ number ∷ []
 numbers_before_held first slots i number is some =
     let there : IsSome (option_flatten (slice_get slots i)) = subst (λ (o : Option Held). IsSome o) (found_at first slots number i is) some in
     rw add-one (numbers_before-suc first slots i number is ∙ ap (λ ns. numbers_before first slots i ++ ns) (number_in-some number (slice_get slots i) there))
 
-pub numbers_before_free : (first : ℕ) (slots : List (Option Held)) (i number : ℕ) → number ≡ first + i → (IsSome (found (entries_from first slots) number) → ⊥) → numbers_before first slots (i + 1) ≡ numbers_before first slots i
+pub numbers_before_free : (first : ℕ) (slots : List (Option Held)) (i number : ℕ) → number ≡ first + i
+    → (IsSome (found (entries_from first slots) number) → ⊥) → numbers_before first slots (i + 1) ≡
+    numbers_before first slots i
 numbers_before_free first slots i number is free =
-    let none : IsSome (option_flatten (slice_get slots i)) → ⊥ = λ some. free (subst (λ (o : Option Held). IsSome o) (sym (found_at first slots number i is)) some) in
-    rw add-one (numbers_before-suc first slots i number is ∙ (ap (λ ns. numbers_before first slots i ++ ns) (number_in-none number (slice_get slots i) none) ∙ append-nil (numbers_before first slots i)))
+    let none : IsSome (option_flatten (slice_get slots i)) → ⊥ =
+    λ some. free (subst (λ (o : Option Held). IsSome o) (sym (found_at first slots number i is)) some) in
+    rw add-one (numbers_before-suc first slots i number is
+    ∙ (ap (λ ns. numbers_before first slots i ++ ns) (number_in-none number (slice_get slots i) none)
+    ∙ append-nil (numbers_before first slots i)))
 
-pub count_before_held : (first : ℕ) (slots : List (Option Held)) (i number : ℕ) → number ≡ first + i → IsSome (found (entries_from first slots) number) → length (numbers_before first slots (i + 1)) ≡ length (numbers_before first slots i) + 1
-count_before_held first slots i number is some = ap (λ (ns : List ℕ). length ns) (numbers_before_held first slots i number is some) ∙ length-append (numbers_before first slots i) (number ∷ [])
+pub count_before_held : (first : ℕ) (slots : List (Option Held)) (i number : ℕ) → number ≡ first + i
+    → IsSome (found (entries_from first slots) number) → length (numbers_before first slots (i + 1)) ≡
+    length (numbers_before first slots i) + 1
+count_before_held first slots i number is some =
+    ap (λ (ns : List ℕ). length ns) (numbers_before_held first slots i number is some)
+    ∙ length-append (numbers_before first slots i) (number ∷ [])
 
-pub count_before_free : (first : ℕ) (slots : List (Option Held)) (i number : ℕ) → number ≡ first + i → (IsSome (found (entries_from first slots) number) → ⊥) → length (numbers_before first slots (i + 1)) ≡ length (numbers_before first slots i)
+pub count_before_free : (first : ℕ) (slots : List (Option Held)) (i number : ℕ) → number ≡ first + i
+    → (IsSome (found (entries_from first slots) number) → ⊥) → length (numbers_before first slots (i + 1)) ≡
+    length (numbers_before first slots i)
 count_before_free first slots i number is free = ap (λ (ns : List ℕ). length ns) (numbers_before_free first slots i number is free)
 
 -- all slots show all numbers

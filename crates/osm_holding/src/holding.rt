@@ -1,7 +1,7 @@
 //! The holding area of a follower.
 
 ghost use Rattle.std.specs.Prelude.{◌≡◌, ℕ, ◌+◌, ◌<◌, ◌≤◌, ◌↔◌, [], length, replicate};
-ghost use Rattle.std.specs.Prelude.{IfOk, OnErr, OnSome, IsTrue, IsSome, Contains};
+ghost use Rattle.std.specs.Prelude.{IfOk, OnErr, OnSome, IsTrue, IsSome, Contains, vec_capacity};
 ghost use Rattle.std.specs.Bool.{OnFalse};
 ghost use Rattle.std.specs.List.Sorted.{IsStrictlyIncreasing};
 ghost use Rattle.circular_buffer.specs.Buffer.{buffer};
@@ -141,9 +141,10 @@ impl HoldingArea {
         ensures rising { IfOk result (λ ns. IsStrictlyIncreasing ns.items) }
         ensures exact { IfOk result (λ ns. (number : ℕ) →
             Contains ns.items number ↔ IsSome (held_at self.now number)) }
+        ensures few { IfOk result (λ ns. length ns.items ≤ window) }
         ensures refused { OnErr result (0 < length (numbers_of self.now)) }
     {
-        let mut numbers = Vec::with_capacity(alloc, self.count())?;
+        let mut numbers = self.room_for_numbers(alloc)?;
         for index in 0..WINDOW {
             let number = self.base + 1 + index;
             if self.is_held(number) {
@@ -151,6 +152,15 @@ impl HoldingArea {
             }
         }
         Ok(numbers)
+    }
+
+    // An empty list with room for the numbers of what is held, and for no more.
+    fn room_for_numbers(&self, alloc: Global) -> Result<Vec<u32>, WantOfMemory>
+        ensures empty { IfOk result (λ ns. ns.items ≡ []) }
+        ensures room { IfOk result (λ ns. vec_capacity ns ≡ length (numbers_of self.now)) }
+        ensures refused { OnErr result (0 < length (numbers_of self.now)) }
+    {
+        Ok(Vec::with_capacity(alloc, self.count())?)
     }
 
     fn count(&self) -> usize

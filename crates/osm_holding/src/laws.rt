@@ -1,9 +1,11 @@
 //! Laws of holding areas, which hold whatever the code does.
 
-ghost use Rattle.osm_holding.specs.HoldingLaws.{OneArea};
+ghost use Rattle.osm_holding.specs.HoldingLaws.{AtMostWindow, FewerThanWindow, OneArea};
 
-/// Two areas with the same base that hold the same at each number are equal. Does nothing at run
-/// time.
+/// Two areas with the same base that hold the same at each number are equal. An area holds at most
+/// 64 sequences, and at most 63 if it doesn't hold the next one. Does nothing at run time.
 pub fn laws_of_holding()
-    ensures { OneArea }
+    ensures one_area { OneArea }
+    ensures few { AtMostWindow }
+    ensures fewer { FewerThanWindow }
 {}

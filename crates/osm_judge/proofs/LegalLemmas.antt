@@ -1,5 +1,6 @@
 -- Only one number is reached: by a history, and by the sequences that can be applied from one on.
-use Rattle.std.proofs.Common.{◌≡◌, ℕ, zero, suc, ◌+◌, ◌-◌, ◌<◌, ◌≤◌, List, [], ◌∷◌, ◌++◌, length, refl, ap, sym, ◌∙◌, Bool, true, false, arith, length-append, inl, inr, subst, take, get_or, append-nil}
+use Rattle.std.proofs.Common.{◌≡◌, ℕ, zero, suc, ◌+◌, ◌-◌, ◌<◌, ◌≤◌, List, [], ◌∷◌, ◌++◌, length, refl, ap, sym, ◌∙◌}
+use Rattle.std.proofs.Common.{Bool, true, false, arith, length-append, inl, inr, subst, take, get_or, append-nil}
 use Rattle.std.proofs.lemmas.Grind.{flat_map-append}
 use Rattle.std.proofs.lemmas.List.{take_more, take_all, get_or_past}
 use Rattle.std.proofs.lemmas.Bool.{cases_lt}
@@ -33,11 +34,22 @@ one_reach f s n m a b = elim (cases_lt n m) [
 ]
 
 -- a row that some number of the history meets is met by its one number
-pub open_row : (h : History) (k reached : ℕ) (Q : ℕ → Type 0) (r : Bool) → IsNumber h reached → IsTrue r ↔ (IsOpen h k reached × Q reached) → IsTrue r ↔ ((n : ℕ) × IsOpen h k n × Q n)
-open_row h k reached Q r number told = (λ t. (let both = told.0 t in (reached, both.0, both.1)), λ row. told.1 (subst (λ (m : ℕ). IsOpen h k m × Q m) (one_reach (accepted_of h) (start_of h) row.0 reached row.1.number number) (row.1, row.2)))
+pub open_row : (h : History) (k reached : ℕ) (Q : ℕ → Type 0) (r : Bool) → IsNumber h reached
+    → IsTrue r ↔ (IsOpen h k reached × Q reached) → IsTrue r ↔ ((n : ℕ) × IsOpen h k n × Q n)
+open_row h k reached Q r number told = (
+  λ t. (let both = told.0 t in (reached, both.0, both.1)),
+  λ row. told.1
+      (subst (λ (m : ℕ). IsOpen h k m × Q m) (one_reach (accepted_of h) (start_of h) row.0 reached row.1.number number)
+      (row.1, row.2)),
+)
 
-pub wanted_row : (h : History) (k reached : ℕ) (Q : ℕ → Type 0) (r : Bool) → IsNumber h reached → IsTrue r ↔ (IsWanted h k reached × Q reached) → IsTrue r ↔ ((n : ℕ) × IsWanted h k n × Q n)
-wanted_row h k reached Q r number told = (λ t. (let both = told.0 t in (reached, both.0, both.1)), λ row. told.1 (subst (λ (m : ℕ). IsWanted h k m × Q m) (one_reach (accepted_of h) (start_of h) row.0 reached row.1.is_open.number number) (row.1, row.2)))
+pub wanted_row : (h : History) (k reached : ℕ) (Q : ℕ → Type 0) (r : Bool) → IsNumber h reached
+    → IsTrue r ↔ (IsWanted h k reached × Q reached) → IsTrue r ↔ ((n : ℕ) × IsWanted h k n × Q n)
+wanted_row h k reached Q r number told = (
+  λ t. (let both = told.0 t in (reached, both.0, both.1)),
+  λ row. told.1 (subst (λ (m : ℕ). IsWanted h k m × Q m)
+      (one_reach (accepted_of h) (start_of h) row.0 reached row.1.is_open.number number) (row.1, row.2)),
+)
 
 -- one more sequence, even after the last, where there is no change
 changes_up_to_more : (ps : List PublishedValue) (n : ℕ) → changes_up_to ps (n + 1) ≡ changes_up_to ps n ++ changes_at ps (n + 1)
@@ -62,15 +74,22 @@ changes_up_to_more ps n = elim (cases_lt n (length ps)) [
     past_more past =
         let whole : take (n + 1) ps ≡ take n ps = take_all (n + 1) ps (omega arith) ∙ sym (take_all n ps (omega arith)) in
         let none : changes_at ps (n + 1) ≡ [] = here ∙ ap (λ (p : PublishedValue). p.changes) (get_or_past ps n unpublished (omega arith)) in
-        ap (flat_map (λ (p : PublishedValue). p.changes)) whole ∙ sym (ap (λ (cs : List ChangeValue). changes_up_to ps n ++ cs) none ∙ append-nil (changes_up_to ps n))
+        ap (flat_map (λ (p : PublishedValue). p.changes)) whole
+        ∙ sym (ap (λ (cs : List ChangeValue). changes_up_to ps n ++ cs) none ∙ append-nil (changes_up_to ps n))
 
-changes_up_to_between : (ps : List PublishedValue) (n count : ℕ) → length (changes_up_to ps (n + count)) ≡ length (changes_up_to ps n) + length (between (changes_at ps) n count)
+changes_up_to_between : (ps : List PublishedValue) (n count : ℕ) → length (changes_up_to ps (n + count)) ≡
+    length (changes_up_to ps n) + length (between (changes_at ps) n count)
 changes_up_to_between ps n zero = let same : n + 0 ≡ n = omega arith in rw same (omega arith)
 changes_up_to_between ps n (suc count) =
     let next : n + suc count ≡ n + count + 1 = omega arith in
-    let more : length (changes_up_to ps (n + count + 1)) ≡ length (changes_up_to ps (n + count)) + length (changes_at ps (n + count + 1)) = ap length (changes_up_to_more ps (n + count)) ∙ length-append (changes_up_to ps (n + count)) (changes_at ps (n + count + 1)) in
-    let rest : length (changes_up_to ps (n + count)) ≡ length (changes_up_to ps n) + length (between (changes_at ps) n count) = changes_up_to_between ps n count in
-    let both : length (between (changes_at ps) n (suc count)) ≡ length (between (changes_at ps) n count) + length (changes_at ps (n + suc count)) = length-append (between (changes_at ps) n count) (changes_at ps (n + suc count)) in
+    let more : length (changes_up_to ps (n + count + 1)) ≡ length (changes_up_to ps (n + count))
+    + length (changes_at ps (n + count + 1)) = ap length (changes_up_to_more ps (n + count))
+    ∙ length-append (changes_up_to ps (n + count)) (changes_at ps (n + count + 1)) in
+    let rest : length (changes_up_to ps (n + count)) ≡ length (changes_up_to ps n)
+    + length (between (changes_at ps) n count) = changes_up_to_between ps n count in
+    let both : length (between (changes_at ps) n (suc count)) ≡ length (between (changes_at ps) n count)
+    + length (changes_at ps (n + suc count)) = length-append (between (changes_at ps) n count)
+    (changes_at ps (n + suc count)) in
     let here : length (changes_up_to ps (n + suc count)) ≡ length (changes_up_to ps (n + count + 1)) = ap (λ (j : ℕ). length (changes_up_to ps j)) next in
     let last : length (changes_at ps (n + suc count)) ≡ length (changes_at ps (n + count + 1)) = ap (λ (j : ℕ). length (changes_at ps j)) next in
     omega arith
@@ -86,21 +105,33 @@ has_change ps k above = (λ less. omega (arith, longer), λ some. omega (arith, 
     longer = rw next at (ap length (changes_up_to_more ps (k - 1)) ∙ length-append (changes_up_to ps (k - 1)) (changes_at ps (k - 1 + 1)))
 
 -- the same for those from k up to high
-pub have_changes : (ps : List PublishedValue) (k count : ℕ) → 0 < k → length (changes_up_to ps (k + count)) ≡ length (changes_up_to ps (k - 1)) + length (changes_at ps k ++ between (changes_at ps) k count)
+pub have_changes : (ps : List PublishedValue) (k count : ℕ) → 0 < k → length (changes_up_to ps (k + count)) ≡
+    length (changes_up_to ps (k - 1)) + length (changes_at ps k ++ between (changes_at ps) k count)
 have_changes ps k count above =
     let next : k - 1 + 1 ≡ k = omega arith in
-    let one : length (changes_up_to ps k) ≡ length (changes_up_to ps (k - 1)) + length (changes_at ps k) = rw next at (ap length (changes_up_to_more ps (k - 1)) ∙ length-append (changes_up_to ps (k - 1)) (changes_at ps (k - 1 + 1))) in
-    let rest : length (changes_up_to ps (k + count)) ≡ length (changes_up_to ps k) + length (between (changes_at ps) k count) = changes_up_to_between ps k count in
-    let both : length (changes_at ps k ++ between (changes_at ps) k count) ≡ length (changes_at ps k) + length (between (changes_at ps) k count) = length-append (changes_at ps k) (between (changes_at ps) k count) in
+    let one : length (changes_up_to ps k) ≡ length (changes_up_to ps (k - 1)) + length (changes_at ps k) =
+    rw next at (ap length (changes_up_to_more ps (k - 1)) ∙ length-append (changes_up_to ps (k - 1))
+    (changes_at ps (k - 1 + 1))) in
+    let rest : length (changes_up_to ps (k + count)) ≡ length (changes_up_to ps k)
+    + length (between (changes_at ps) k count) = changes_up_to_between ps k count in
+    let both : length (changes_at ps k ++ between (changes_at ps) k count) ≡ length (changes_at ps k)
+    + length (between (changes_at ps) k count) =
+    length-append (changes_at ps k) (between (changes_at ps) k count) in
     omega arith
 
-pub want_row : (h : History) (k reached : ℕ) (r : Bool) → IsNumber h reached → IsTrue r ↔ (IsWanted h k reached × (length (changes_up_to (published_of h) (k - 1)) < length (changes_up_to (published_of h) k))) → IsTrue r ↔ ((n : ℕ) × IsWanted h k n × (0 < length (changes_at (published_of h) k)))
+pub want_row : (h : History) (k reached : ℕ) (r : Bool) → IsNumber h reached
+    → IsTrue r ↔ (IsWanted h k reached
+    × (length (changes_up_to (published_of h) (k - 1)) < length (changes_up_to (published_of h) k)))
+    → IsTrue r ↔ ((n : ℕ) × IsWanted h k n × (0 < length (changes_at (published_of h) k)))
 want_row h k reached r number told = wanted_row h k reached (λ n. 0 < length (changes_at (published_of h) k)) r number (
   λ t. (let both = told.0 t in (both.0, (has_change (published_of h) k both.0.is_open.above).0 both.1)),
   λ both. told.1 (both.0, (has_change (published_of h) k both.0.is_open.above).1 both.1),
 )
 
-pub broke_row : (h : History) (k reached high : ℕ) (r : Bool) → IsNumber h reached → Reaches (accepted_of h) k high → IsTrue r ↔ (IsWanted h k reached × (k ≡ reached + 1) × (length (changes_up_to (published_of h) (k - 1)) < length (changes_up_to (published_of h) high))) → IsTrue r ↔ ((n : ℕ) × IsWanted h k n × (k ≡ n + 1) × HasChanges h k)
+pub broke_row : (h : History) (k reached high : ℕ) (r : Bool) → IsNumber h reached → Reaches (accepted_of h) k high
+    → IsTrue r ↔ (IsWanted h k reached × (k ≡ reached + 1)
+    × (length (changes_up_to (published_of h) (k - 1)) < length (changes_up_to (published_of h) high)))
+    → IsTrue r ↔ ((n : ℕ) × IsWanted h k n × (k ≡ n + 1) × HasChanges h k)
 broke_row h k reached high r number reach told = (
   λ t. (let all = told.0 t in (reached, all.0, all.1, work all.0.is_open.above all.2)),
   λ row.
@@ -117,14 +148,19 @@ broke_row h k reached high r number reach told = (
         record {
           count = high - k;
           reach = rw is at reach;
-          some = (let many = have_changes (published_of h) k (high - k) above in let here : length (changes_up_to (published_of h) high) ≡ length (changes_up_to (published_of h) (k + (high - k))) = ap (λ (n : ℕ). length (changes_up_to (published_of h) n)) is in omega arith);
+          some = (let many = have_changes (published_of h) k (high - k) above in
+              let here : length (changes_up_to (published_of h) high) ≡
+              length (changes_up_to (published_of h) (k + (high - k))) =
+              ap (λ (n : ℕ). length (changes_up_to (published_of h) n)) is in omega arith);
         }
 
     less : 0 < k → HasChanges h k → length (changes_up_to (published_of h) (k - 1)) < length (changes_up_to (published_of h) high)
     less above work =
         let same : k + work.count ≡ high = one_reach (accepted_of h) k (k + work.count) high work.reach reach in
         let many = have_changes (published_of h) k work.count above in
-        let here : length (changes_up_to (published_of h) high) ≡ length (changes_up_to (published_of h) (k + work.count)) = ap (λ (n : ℕ). length (changes_up_to (published_of h) n)) (sym same) in
+        let here : length (changes_up_to (published_of h) high) ≡
+        length (changes_up_to (published_of h) (k + work.count)) =
+        ap (λ (n : ℕ). length (changes_up_to (published_of h) n)) (sym same) in
         let some = work.some in
         omega arith
 
@@ -139,11 +175,16 @@ pub legal-cons : (h : History) (e : Event) (r : Reply) (b : Bool) → IsLegal h 
 legal-cons h e r b before told = (λ t. legal_more h e r before (told.0 t), λ legal. told.1 (legal.each [] h e r refl))
 
 pub not_legal : (h : History) (e : Event) (r : Reply) (a b : Bool) → a ≡ false → b ≡ false → IsTrue a ↔ IsLegal h → IsTrue b ↔ IsLegal ((e, r) ∷ h)
-not_legal h e r a b is out told = (λ t. absurd (let bad : false ≡ true = sym out ∙ t in cc), λ legal. absurd (let bad : false ≡ true = sym is ∙ told.1 (legal_before h e r legal) in cc))
+not_legal h e r a b is out told = (
+  λ t. absurd (let bad : false ≡ true = sym out ∙ t in cc),
+  λ legal. absurd (let bad : false ≡ true =
+      sym is ∙ told.1 (legal_before h e r legal) in cc),
+)
 
 -- after a legal history at most as many edits are pending as a batch can have
 few_more : (h : History) (e : Event) (r : Reply) → Allowed h e r → length (pending_of h) ≤ max_changes → length (pending_of ((e, r) ∷ h)) ≤ max_changes
-few_more h (Edit c) Edited allowed few = let grown : length (pending_of h ++ c ∷ []) ≡ length (pending_of h) + 1 = length-append (pending_of h) (c ∷ []) in omega (arith, grown, allowed)
+few_more h (Edit c) Edited allowed few = let grown : length (pending_of h ++ c ∷ []) ≡ length (pending_of h) + 1 =
+    length-append (pending_of h) (c ∷ []) in omega (arith, grown, allowed)
 few_more h (Edit c) BatchFull allowed few = rw (append-nil (pending_of h)) few
 few_more h (Edit c) WantOfMemory allowed few = rw (append-nil (pending_of h)) few
 few_more h (Edit c) r allowed few = absurd allowed

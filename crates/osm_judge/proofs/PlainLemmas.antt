@@ -8,7 +8,8 @@ use Rattle.osm_model.specs.KeyOrder.{same_key}
 use Rattle.osm_model.specs.declared.kind.Key.{Key}
 use Rattle.osm_model.proofs.ContentLemmas.{last_of-append}
 
-pub last_more : (cs : List ChangeValue) (i : ℕ) (c : ChangeValue) (k : Key) → i < length cs → get_or cs i c ≡ c → last_of (take (i + 1) cs) k ≡ (if same_key c.key k then Some c else last_of (take i cs) k)
+pub last_more : (cs : List ChangeValue) (i : ℕ) (c : ChangeValue) (k : Key) → i < length cs → get_or cs i c ≡ c
+    → last_of (take (i + 1) cs) k ≡ (if same_key c.key k then Some c else last_of (take i cs) k)
 last_more cs i c k lt is =
     ap (λ (xs : List ChangeValue). last_of xs k) (take_more cs i c lt ∙ ap (λ (x : ChangeValue). take i cs ++ x ∷ []) is)
     ∙ (last_of-append (take i cs) (c ∷ []) k ∙ by_test (same_key c.key k))

@@ -1,5 +1,6 @@
 -- What holds at the keys and numbers that two lists name holds at all keys and numbers.
-use Rattle.std.proofs.Common.{◌≡◌, ℕ, zero, suc, ◌+◌, ◌<◌, List, [], ◌∷◌, length, refl, sym, ◌∙◌, Bool, true, false, Option, Some, None, arith, cond, subst, slice_index_or}
+use Rattle.std.proofs.Common.{◌≡◌, ℕ, zero, suc, ◌+◌, ◌<◌, List, [], ◌∷◌, length, refl, sym, ◌∙◌, Bool, true, false}
+use Rattle.std.proofs.Common.{Option, Some, None, arith, cond, subst, slice_index_or}
 use Rattle.std.proofs.lemmas.Bool.{eqb-true}
 use Rattle.std.specs.BTreeMap.{is_at}
 use Rattle.std.specs.Cmp.{Equal-is}
@@ -48,12 +49,14 @@ at_change P (c ∷ cs) k o is all = by_last (last_of cs k) refl is (λ p there. 
     by_test true same is = rw (← same_key-only c.key k same) all.0
     by_test false same is = absurd (cc)
 
-    by_last : (l : Option ChangeValue) → last_of cs k ≡ l → later_of (if same_key c.key k then Some c else None) l ≡ Some o → ((p : ChangeValue) → last_of cs k ≡ Some p → P k) → P k
+    by_last : (l : Option ChangeValue) → last_of cs k ≡ l → later_of (if same_key c.key k then Some c else None) l ≡
+        Some o → ((p : ChangeValue) → last_of cs k ≡ Some p → P k) → P k
     by_last None there is rest = by_test (same_key c.key k) refl is
     by_last (Some p) there is rest = rest p there
 
 -- objects that are right at the keys of both lists are right everywhere, since elsewhere neither has one
-pub right_everywhere : (os cs : List ChangeValue) → AllByRecursion (λ c. object_at os c.key ≡ content_of cs c.key) os → AllByRecursion (λ c. object_at os c.key ≡ content_of cs c.key) cs → (k : Key) → object_at os k ≡ content_of cs k
+pub right_everywhere : (os cs : List ChangeValue) → AllByRecursion (λ c. object_at os c.key ≡ content_of cs c.key) os
+    → AllByRecursion (λ c. object_at os c.key ≡ content_of cs c.key) cs → (k : Key) → object_at os k ≡ content_of cs k
 right_everywhere os cs here there k = by_object (object_at os k) refl (last_of cs k) refl
   where
     by_object : (o : Option ChangeValue) → object_at os k ≡ o → (l : Option ChangeValue) → last_of cs k ≡ l → object_at os k ≡ content_of cs k
@@ -69,32 +72,46 @@ at_count : (P : ℕ → Type 0) (es : List Counted) (n c : ℕ) → lookup (is_a
 at_count P [] n c is all = absurd (cc)
 at_count P (e ∷ es) n c is all = by_test (is_at (nat_cmp n) e.0) refl is (λ there. at_count P es n c there all.1)
   where
-    by_test : (b : Bool) → is_at (nat_cmp n) e.0 ≡ b → cond b (Some e.1) (lookup (is_at (nat_cmp n)) es) ≡ Some c → (lookup (is_at (nat_cmp n)) es ≡ Some c → P n) → P n
+    by_test : (b : Bool) → is_at (nat_cmp n) e.0 ≡ b → cond b (Some e.1) (lookup (is_at (nat_cmp n)) es) ≡ Some c
+        → (lookup (is_at (nat_cmp n)) es ≡ Some c → P n) → P n
     by_test true same is rest = rw (same_number n e.0 same) all.0
     by_test false same is rest = rest is
 
-at_edit : (P : ℕ → Type 0) (number : ChangeValue → ℕ) (cs : List ChangeValue) (n : ℕ) → 0 < count_by (λ c. number c == n) cs → AllByRecursion (λ c. P (number c)) cs → P n
+at_edit : (P : ℕ → Type 0) (number : ChangeValue → ℕ) (cs : List ChangeValue) (n : ℕ)
+    → 0 < count_by (λ c. number c == n) cs → AllByRecursion (λ c. P (number c)) cs → P n
 at_edit P number [] n some all = absurd (omega arith)
 at_edit P number (c ∷ cs) n some all =
-    let split : count_by (λ d. number d == n) (c ∷ cs) ≡ count_by (λ d. number d == n) (c ∷ []) + count_by (λ d. number d == n) cs = sum_by-append (λ d. if number d == n then 1 else 0) (c ∷ []) cs in
+    let split : count_by (λ d. number d == n) (c ∷ cs) ≡ count_by (λ d. number d == n) (c ∷ [])
+    + count_by (λ d. number d == n) cs = sum_by-append (λ d. if number d == n then 1 else 0) (c ∷ []) cs in
     by_test (number c == n) refl (rw split at some) (λ there. at_edit P number cs n there all.1)
   where
-    by_test : (b : Bool) → (number c == n) ≡ b → 0 < 0 + (if b then 1 else 0) + count_by (λ d. number d == n) cs → (0 < count_by (λ d. number d == n) cs → P n) → P n
+    by_test : (b : Bool) → (number c == n) ≡ b → 0 < 0 + (if b then 1 else 0) + count_by (λ d. number d == n) cs
+        → (0 < count_by (λ d. number d == n) cs → P n) → P n
     by_test true same is rest = rw (← eqb-true (number c) n same) all.0
     by_test false same is rest = rest (omega arith)
 
-counted_everywhere : (number : ChangeValue → ℕ) (es : List Counted) (cs : List ChangeValue) → AllByRecursion (λ e. count_at es e.0 ≡ count_by (λ c. number c == e.0) cs) es → AllByRecursion (λ d. count_at es (number d) ≡ count_by (λ c. number c == number d) cs) cs → (n : ℕ) → count_at es n ≡ count_by (λ c. number c == n) cs
+counted_everywhere : (number : ChangeValue → ℕ) (es : List Counted) (cs : List ChangeValue)
+    → AllByRecursion (λ e. count_at es e.0 ≡ count_by (λ c. number c == e.0) cs) es
+    → AllByRecursion (λ d. count_at es (number d) ≡ count_by (λ c. number c == number d) cs) cs → (n : ℕ)
+    → count_at es n ≡ count_by (λ c. number c == n) cs
 counted_everywhere number es cs here there n = by_count (lookup (is_at (nat_cmp n)) es) refl (count_by (λ c. number c == n) cs) refl
   where
-    by_count : (o : Option ℕ) → lookup (is_at (nat_cmp n)) es ≡ o → (m : ℕ) → count_by (λ c. number c == n) cs ≡ m → count_at es n ≡ count_by (λ c. number c == n) cs
+    by_count : (o : Option ℕ) → lookup (is_at (nat_cmp n)) es ≡ o → (m : ℕ) → count_by (λ c. number c == n) cs ≡ m
+        → count_at es n ≡ count_by (λ c. number c == n) cs
     by_count (Some x) is m many = at_count (λ j. count_at es j ≡ count_by (λ c. number c == j) cs) es n x is here
     by_count None is zero many = rw (is, many) refl
     by_count None is (suc m) many = at_edit (λ j. count_at es j ≡ count_by (λ c. number c == j) cs) number cs n (rw many (omega arith)) there
 
-pub users_everywhere : (es : List Counted) (cs : List ChangeValue) → AllByRecursion (λ e. count_at es e.0 ≡ edits_by_user cs e.0) es → AllByRecursion (λ c. count_at es c.meta.uid ≡ edits_by_user cs c.meta.uid) cs → (n : ℕ) → count_at es n ≡ edits_by_user cs n
+pub users_everywhere : (es : List Counted) (cs : List ChangeValue)
+    → AllByRecursion (λ e. count_at es e.0 ≡ edits_by_user cs e.0) es
+    → AllByRecursion (λ c. count_at es c.meta.uid ≡ edits_by_user cs c.meta.uid) cs → (n : ℕ)
+    → count_at es n ≡ edits_by_user cs n
 users_everywhere es cs here there = counted_everywhere (λ c. c.meta.uid) es cs here there
 
-pub changesets_everywhere : (es : List Counted) (cs : List ChangeValue) → AllByRecursion (λ e. count_at es e.0 ≡ edits_by_changeset cs e.0) es → AllByRecursion (λ c. count_at es c.meta.changeset ≡ edits_by_changeset cs c.meta.changeset) cs → (n : ℕ) → count_at es n ≡ edits_by_changeset cs n
+pub changesets_everywhere : (es : List Counted) (cs : List ChangeValue)
+    → AllByRecursion (λ e. count_at es e.0 ≡ edits_by_changeset cs e.0) es
+    → AllByRecursion (λ c. count_at es c.meta.changeset ≡ edits_by_changeset cs c.meta.changeset) cs → (n : ℕ)
+    → count_at es n ≡ edits_by_changeset cs n
 changesets_everywhere es cs here there = counted_everywhere (λ c. c.meta.changeset) es cs here there
 
 -- what holds everywhere holds for the items of a list
@@ -115,11 +132,14 @@ pub rising-nil : {K : Type 0} (c : K → K → Ordering) → IsTrue true ↔ IsS
 unfolding IsStrictlySortedBy
 rising-nil c = (λ t. tt, λ s. refl)
 
-pub rising-cons : {K : Type 0} (c : K → K → Ordering) (k : K) (ks : List K) (a r : Bool) → IsTrue a ↔ AllByRecursion (λ l. c k l ≡ Less) ks → a ≡ true → IsTrue r ↔ IsStrictlySortedBy c ks → IsTrue r ↔ IsStrictlySortedBy c (k ∷ ks)
+pub rising-cons : {K : Type 0} (c : K → K → Ordering) (k : K) (ks : List K) (a r : Bool)
+    → IsTrue a ↔ AllByRecursion (λ l. c k l ≡ Less) ks → a ≡ true → IsTrue r ↔ IsStrictlySortedBy c ks
+    → IsTrue r ↔ IsStrictlySortedBy c (k ∷ ks)
 unfolding IsStrictlySortedBy
 rising-cons c k ks a r first is rest = (λ t. (first.0 is, rest.0 t), λ s. rest.1 s.1)
 
-pub not_rising : {K : Type 0} (c : K → K → Ordering) (k : K) (ks : List K) (a : Bool) → IsTrue a ↔ AllByRecursion (λ l. c k l ≡ Less) ks → a ≡ false → IsTrue a ↔ IsStrictlySortedBy c (k ∷ ks)
+pub not_rising : {K : Type 0} (c : K → K → Ordering) (k : K) (ks : List K) (a : Bool)
+    → IsTrue a ↔ AllByRecursion (λ l. c k l ≡ Less) ks → a ≡ false → IsTrue a ↔ IsStrictlySortedBy c (k ∷ ks)
 unfolding IsStrictlySortedBy
 not_rising c k ks a first is = (λ t. absurd (let bad : false ≡ true = sym is ∙ t in cc), λ s. first.1 s.0)
 
@@ -145,7 +165,11 @@ pub all_held : (Q : ℕ → Type 0) (held : List ℕ) → ((j : ℕ) → Contain
 all_held Q held exact = recursion_from_All Q held (λ k d within. (exact (slice_index_or held k d)).0 (All-contains_itself held k d within))
 
 -- number, time and mirror are those that the history asks for, so that the held numbers decide
-pub view_row : (h : History) (v : ViewValue) (n : ℕ) (r : Bool) → Reaches (accepted_of h) (start_of h) n → v.number ≡ n → v.time ≡ time_at (published_of h) n → IsMirrorOf (changes_up_to (published_of h) n) v.mirror → IsTrue r ↔ (IsStrictlySortedBy nat_cmp v.held × ((j : ℕ) → Contains v.held j ↔ ((n < j) × (accepted_of h j ≡ true)))) → IsTrue r ↔ IsView (published_of h) (start_of h) (accepted_of h) v
+pub view_row : (h : History) (v : ViewValue) (n : ℕ) (r : Bool) → Reaches (accepted_of h) (start_of h) n → v.number ≡ n
+    → v.time ≡ time_at (published_of h) n → IsMirrorOf (changes_up_to (published_of h) n) v.mirror
+    → IsTrue r ↔ (IsStrictlySortedBy nat_cmp v.held
+    × ((j : ℕ) → Contains v.held j ↔ ((n < j) × (accepted_of h j ≡ true)))) → IsTrue r ↔ IsView (published_of h)
+    (start_of h) (accepted_of h) v
 view_row h v n r reach number time mirror told = (
   λ t. (let both = told.0 t in record {
     reach = rw number reach;

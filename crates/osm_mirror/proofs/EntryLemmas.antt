@@ -41,17 +41,21 @@ pub own-insert_entry : (es : List (Key × ChangeValue)) (k : Key) (c : ChangeVal
 own-insert_entry [] k c is own = (is, tt)
 own-insert_entry (e ∷ es) k c is own = by_order (key_cmp k e.0) refl (own-insert_entry es k c is own.1)
   where
-    by_order : (o : Ordering) → key_cmp k e.0 ≡ o → HaveOwnKeys (insert_entry key_cmp es k c) → HaveOwnKeys (match_ordering o ((k, c) ∷ e ∷ es) ((e.0, c) ∷ es) (e ∷ insert_entry key_cmp es k c))
+    by_order : (o : Ordering) → key_cmp k e.0 ≡ o → HaveOwnKeys (insert_entry key_cmp es k c)
+        → HaveOwnKeys (match_ordering o ((k, c) ∷ e ∷ es) ((e.0, c) ∷ es) (e ∷ insert_entry key_cmp es k c))
     by_order Less o rest = (is, own)
     by_order Equal o rest = (sym (one_key k e.0 o) ∙ is, own.1)
     by_order Greater o rest = (own.0, rest)
 
 -- the same of counts: none is 0
-pub above-insert_entry : (es : List Counted) (n count : ℕ) → 0 < count → AllByRecursion IsAboveZero es → AllByRecursion IsAboveZero (insert_entry nat_cmp es n count)
+pub above-insert_entry : (es : List Counted) (n count : ℕ) → 0 < count → AllByRecursion IsAboveZero es
+    → AllByRecursion IsAboveZero (insert_entry nat_cmp es n count)
 above-insert_entry [] n count above all = (above, tt)
 above-insert_entry (e ∷ es) n count above all = by_order (nat_cmp n e.0) (above-insert_entry es n count above all.1)
   where
-    by_order : (o : Ordering) → AllByRecursion IsAboveZero (insert_entry nat_cmp es n count) → AllByRecursion IsAboveZero (match_ordering o ((n, count) ∷ e ∷ es) ((e.0, count) ∷ es) (e ∷ insert_entry nat_cmp es n count))
+    by_order : (o : Ordering) → AllByRecursion IsAboveZero (insert_entry nat_cmp es n count)
+        → AllByRecursion IsAboveZero (match_ordering o ((n, count) ∷ e ∷ es) ((e.0, count) ∷ es)
+        (e ∷ insert_entry nat_cmp es n count))
     by_order Less rest = (above, all)
     by_order Equal rest = (above, all.1)
     by_order Greater rest = (all.0, rest)
@@ -62,16 +66,20 @@ found_is None o e = sym e
 found_is (Some c) o e = sym e
 
 -- the same for what holds of each object of a map
-each-insert_entry : (P : ChangeValue → Type 0) (es : List (Key × ChangeValue)) (k : Key) (c : ChangeValue) → P c → AllByRecursion P (objects_of es) → AllByRecursion P (objects_of (insert_entry key_cmp es k c))
+each-insert_entry : (P : ChangeValue → Type 0) (es : List (Key × ChangeValue)) (k : Key) (c : ChangeValue) → P c
+    → AllByRecursion P (objects_of es) → AllByRecursion P (objects_of (insert_entry key_cmp es k c))
 each-insert_entry P [] k c is all = (is, tt)
 each-insert_entry P (e ∷ es) k c is all = by_order (key_cmp k e.0) (each-insert_entry P es k c is all.1)
   where
-    by_order : (o : Ordering) → AllByRecursion P (objects_of (insert_entry key_cmp es k c)) → AllByRecursion P (objects_of (match_ordering o ((k, c) ∷ e ∷ es) ((e.0, c) ∷ es) (e ∷ insert_entry key_cmp es k c)))
+    by_order : (o : Ordering) → AllByRecursion P (objects_of (insert_entry key_cmp es k c))
+        → AllByRecursion P
+        (objects_of (match_ordering o ((k, c) ∷ e ∷ es) ((e.0, c) ∷ es) (e ∷ insert_entry key_cmp es k c)))
     by_order Less rest = (is, all)
     by_order Equal rest = (is, all.1)
     by_order Greater rest = (all.0, rest)
 
-each-remove_entry : (P : ChangeValue → Type 0) (t : Key → Bool) (es : List (Key × ChangeValue)) → AllByRecursion P (objects_of es) → AllByRecursion P (objects_of (remove_entry t es))
+each-remove_entry : (P : ChangeValue → Type 0) (t : Key → Bool) (es : List (Key × ChangeValue))
+    → AllByRecursion P (objects_of es) → AllByRecursion P (objects_of (remove_entry t es))
 each-remove_entry P t [] all = all
 each-remove_entry P t (e ∷ es) all = by_test (t e.0) (each-remove_entry P t es all.1)
   where
@@ -79,16 +87,20 @@ each-remove_entry P t (e ∷ es) all = by_test (t e.0) (each-remove_entry P t es
     by_test true rest = all.1
     by_test false rest = (all.0, rest)
 
-numbers-insert_entry : (es : List Counted) (n count : ℕ) → IsPositive n → AllByRecursion HasNumber es → AllByRecursion HasNumber (insert_entry nat_cmp es n count)
+numbers-insert_entry : (es : List Counted) (n count : ℕ) → IsPositive n → AllByRecursion HasNumber es
+    → AllByRecursion HasNumber (insert_entry nat_cmp es n count)
 numbers-insert_entry [] n count is all = (is, tt)
 numbers-insert_entry (e ∷ es) n count is all = by_order (nat_cmp n e.0) (numbers-insert_entry es n count is all.1)
   where
-    by_order : (o : Ordering) → AllByRecursion HasNumber (insert_entry nat_cmp es n count) → AllByRecursion HasNumber (match_ordering o ((n, count) ∷ e ∷ es) ((e.0, count) ∷ es) (e ∷ insert_entry nat_cmp es n count))
+    by_order : (o : Ordering) → AllByRecursion HasNumber (insert_entry nat_cmp es n count)
+        → AllByRecursion HasNumber (match_ordering o ((n, count) ∷ e ∷ es) ((e.0, count) ∷ es)
+        (e ∷ insert_entry nat_cmp es n count))
     by_order Less rest = (is, all)
     by_order Equal rest = all
     by_order Greater rest = (all.0, rest)
 
-pub objects-insert_entry : (es : List (Key × ChangeValue)) (k : Key) (c : ChangeValue) → k ≡ c.key → IsObject c → AreObjects es → AreObjects (insert_entry key_cmp es k c)
+pub objects-insert_entry : (es : List (Key × ChangeValue)) (k : Key) (c : ChangeValue) → k ≡ c.key → IsObject c
+    → AreObjects es → AreObjects (insert_entry key_cmp es k c)
 objects-insert_entry es k c is object all = record {
   own = own-insert_entry es k c is all.own;
   each = each-insert_entry IsObject es k c object all.each;
@@ -106,7 +118,8 @@ counts-insert_entry es n count is above all = record {
   above = above-insert_entry es n count above all.above;
 }
 
-pub counts_kept : {E : Type 0} (r : Result (Unit {0}) E) (es new : List Counted) (n count : ℕ) → IsPositive n → 0 < count → AreCounts es → OnOk r (new ≡ insert_entry nat_cmp es n count) → OnErr r (new ≡ es) → AreCounts new
+pub counts_kept : {E : Type 0} (r : Result (Unit {0}) E) (es new : List Counted) (n count : ℕ) → IsPositive n
+    → 0 < count → AreCounts es → OnOk r (new ≡ insert_entry nat_cmp es n count) → OnErr r (new ≡ es) → AreCounts new
 counts_kept (Ok done) es new n count is above all entries unchanged = rw entries (counts-insert_entry es n count is above all)
 counts_kept (Err e) es new n count is above all entries unchanged = rw unchanged all
 
@@ -130,7 +143,8 @@ module _ {K X : Type 0} (cmp : K → K → Ordering) (total : IsTotalOrder cmp) 
       let above : cmp k e.0 ≡ Greater = total.antisymm k e.0 ∙ ap ordering_reverse below in
       rw (above, insert_last es k x rising.1) refl
 
-keys-append : (es : List (Key × ChangeValue)) (c : ChangeValue) → HaveOwnKeys es → map (λ (d : ChangeValue). d.key) (objects_of es ++ c ∷ []) ≡ keys_of es ++ c.key ∷ []
+keys-append : (es : List (Key × ChangeValue)) (c : ChangeValue) → HaveOwnKeys es
+    → map (λ (d : ChangeValue). d.key) (objects_of es ++ c ∷ []) ≡ keys_of es ++ c.key ∷ []
 keys-append [] c own = refl
 keys-append (e ∷ es) c own = rw (← own.0) (ap (λ (ks : List Key). e.0 ∷ ks) (keys-append es c own.1))
 
@@ -139,7 +153,8 @@ objects-append [] k c = refl
 objects-append (e ∷ es) k c = ap (λ (cs : List ChangeValue). e.1 ∷ cs) (objects-append es k c)
 
 -- an object above all others comes last
-pub object_last : (es : List (Key × ChangeValue)) (c : ChangeValue) → AreObjects es → AreRising (objects_of es ++ c ∷ []) → objects_of (insert_entry key_cmp es c.key c) ≡ objects_of es ++ c ∷ []
+pub object_last : (es : List (Key × ChangeValue)) (c : ChangeValue) → AreObjects es
+    → AreRising (objects_of es ++ c ∷ []) → objects_of (insert_entry key_cmp es c.key c) ≡ objects_of es ++ c ∷ []
 object_last es c all rising =
     let keys : IsStrictlySortedBy key_cmp (keys_of es ++ c.key ∷ []) = rw (← keys-append es c all.own) rising in
     rw (insert_last key_cmp keys_total es c.key c keys) (objects-append es c.key c)
@@ -149,5 +164,6 @@ keys_are [] = refl
 keys_are (e ∷ es) = ap (λ (ks : List ℕ). e.0 ∷ ks) (keys_are es)
 
 -- a count above all others comes last
-pub count_last : (es : List Counted) (n count : ℕ) → IsStrictlySortedBy nat_cmp (map (λ (e : Counted). e.0) es ++ n ∷ []) → insert_entry nat_cmp es n count ≡ es ++ (n, count) ∷ []
+pub count_last : (es : List Counted) (n count : ℕ) → IsStrictlySortedBy nat_cmp (map (λ (e : Counted). e.0) es
+    ++ n ∷ []) → insert_entry nat_cmp es n count ≡ es ++ (n, count) ∷ []
 count_last es n count rising = insert_last nat_cmp nat_cmp_total es n count (rw (← keys_are es) rising)

@@ -26,4 +26,10 @@ NeedsMemory-after a b xs ys f needs = record {
     by_entry : NeedsNewEntry b needs.before needs.change → NeedsNewEntry a (xs ++ needs.before) needs.change
     by_entry (inl user) = inl (let p = f.users needs.change.meta.uid in omega arith)
     by_entry (inr (inl changeset)) = inr (inl (let p = f.changesets needs.change.meta.changeset in omega arith))
-    by_entry (inr (inr object)) = inr (inr (object.0, over-append (object_at a.objects) xs needs.before needs.change.key ∙ (ap (λ (o : Option ChangeValue). over_at o (last_of needs.before needs.change.key)) (sym (f.objects needs.change.key)) ∙ object.1)))
+    by_entry (inr (inr object)) =
+        inr (inr (
+          object.0,
+          over-append (object_at a.objects) xs needs.before needs.change.key
+              ∙ (ap (λ (o : Option ChangeValue). over_at o (last_of needs.before needs.change.key))
+              (sym (f.objects needs.change.key)) ∙ object.1),
+        ))

@@ -14,7 +14,8 @@ needing m changes needs =
     let at : Contains (needs.change ∷ needs.after) needs.change = (0, omega arith, refl) in
     rw needs.is (Contains-append_right needs.before (needs.change ∷ needs.after) needs.change at)
 
-pub deletions_need_none : (m : MirrorValue) (changes : List ChangeValue) → ((c : ChangeValue) → Contains changes c → IsKnownDeletion m c) → NeedsMemory m changes → ⊥
+pub deletions_need_none : (m : MirrorValue) (changes : List ChangeValue) → ((c : ChangeValue) → Contains changes c
+    → IsKnownDeletion m c) → NeedsMemory m changes → ⊥
 deletions_need_none m changes each needs =
     by_entry (each needs.change (needing m changes needs)) needs.entry
   where
@@ -34,7 +35,8 @@ last_contained (c ∷ cs) k d e = by_rest (λ x f. last_contained cs k x f) (las
     by_first true f = (let same : c ≡ d = cc in (0, omega arith, same))
     by_first false f = absurd (let bad : None ≡ Some d = f in cc)
 
-    by_rest : ((x : ChangeValue) → last_of cs k ≡ Some x → Contains cs x) → (o : Option ChangeValue) → last_of cs k ≡ o → later_of (if same_key c.key k then Some c else None) o ≡ Some d → Contains (c ∷ cs) d
+    by_rest : ((x : ChangeValue) → last_of cs k ≡ Some x → Contains cs x) → (o : Option ChangeValue) → last_of cs k ≡ o
+        → later_of (if same_key c.key k then Some c else None) o ≡ Some d → Contains (c ∷ cs) d
     by_rest rest (Some x) is f = Contains-append_right (c ∷ []) cs d (rest d (is ∙ f))
     by_rest rest None is f = by_first (same_key c.key k) f
 
@@ -42,7 +44,8 @@ none_is_none : IsSome {T = ChangeValue} None → ⊥
 none_is_none some = let bad : false ≡ true = some in cc
 
 -- an object that the mirror has and no change deletes is still there
-still_there : (before : Option ChangeValue) (o : Option ChangeValue) → IsSome before → ((d : ChangeValue) → o ≡ Some d → standing_of d ≡ Some d) → over_at before o ≡ None → ⊥
+still_there : (before : Option ChangeValue) (o : Option ChangeValue) → IsSome before
+    → ((d : ChangeValue) → o ≡ Some d → standing_of d ≡ Some d) → over_at before o ≡ None → ⊥
 still_there (Some b) None some each e = let bad : None ≡ Some b = sym e in cc
 still_there None None some each e = absurd (none_is_none some)
 still_there before (Some d) some each e = let bad : None ≡ Some d = sym e ∙ each d refl in cc
@@ -53,7 +56,9 @@ edits_need_none m changes each needs =
   where
     of_before : (d : ChangeValue) → last_of needs.before needs.change.key ≡ Some d → standing_of d ≡ Some d
     of_before d e =
-        let there : Contains changes d = rw needs.is (Contains-append_left needs.before (needs.change ∷ needs.after) d (last_contained needs.before needs.change.key d e)) in
+        let there : Contains changes d =
+        rw needs.is (Contains-append_left needs.before (needs.change ∷ needs.after) d
+        (last_contained needs.before needs.change.key d e)) in
         let edit : IsKnownEdit m d = each d there in
         edit.edits
 

@@ -52,7 +52,8 @@ pub edits_by_changeset-most : (cs : List ChangeValue) (id : ℕ) → edits_by_ch
 edits_by_changeset-most cs id = count_by-le-length (λ (c : ChangeValue). c.meta.changeset == id) cs
 
 -- room for all is room for one after those before it
-pub room_left : (a b : MirrorValue) (before after : List ChangeValue) (c : ChangeValue) → HasRoom (length (before ++ c ∷ after)) a → Applies a before b → HasRoom 1 b
+pub room_left : (a b : MirrorValue) (before after : List ChangeValue) (c : ChangeValue)
+    → HasRoom (length (before ++ c ∷ after)) a → Applies a before b → HasRoom 1 b
 room_left a b before after c room f =
     let all : length (before ++ c ∷ after) ≡ length before + length (c ∷ after) = length-append before (c ∷ after) in
     record {
@@ -61,7 +62,8 @@ room_left a b before after c room f =
     }
 
 -- what needs an entry after some changes needs one among them all
-pub needs_memory : (a b : MirrorValue) (before after : List ChangeValue) (c : ChangeValue) → Applies a before b → NeedsNewEntry b [] c → NeedsMemory a (before ++ c ∷ after)
+pub needs_memory : (a b : MirrorValue) (before after : List ChangeValue) (c : ChangeValue) → Applies a before b
+    → NeedsNewEntry b [] c → NeedsMemory a (before ++ c ∷ after)
 needs_memory a b before after c f entry = record { before = before; change = c; after = after; is = refl; entry = by_entry entry }
   where
     by_entry : NeedsNewEntry b [] c → NeedsNewEntry a before c
@@ -79,7 +81,8 @@ mirror_grown a b xs ys m f = record {
 }
 
 -- the bounds of a number, for the next number
-pub within_more : (a b : MirrorValue) (ys : List ChangeValue) (n most : ℕ) → IsWithin (100000 * n) a → Applies a ys b → GrowsBy (length ys) a b → length ys ≤ 100000 → most ≡ 100000 * (n + 1) → IsWithin most b
+pub within_more : (a b : MirrorValue) (ys : List ChangeValue) (n most : ℕ) → IsWithin (100000 * n) a → Applies a ys b
+    → GrowsBy (length ys) a b → length ys ≤ 100000 → most ≡ 100000 * (n + 1) → IsWithin most b
 within_more a b ys n most w f g few is =
     let o = w.objects in
     let u = w.users in

@@ -1,7 +1,7 @@
 //! Edits counted by a number: a user's or a changeset's.
 
 ghost use Rattle.std.specs.Prelude.{◌≡◌, ℕ, ◌+◌, ◌<◌, ◌≤◌, ◌==◌, ◌^◌, [], ◌∷◌, ◌++◌, length};
-ghost use Rattle.std.specs.Prelude.{IfOk, OnOk, OnErr, if◌then◌else◌, map};
+ghost use Rattle.std.specs.Prelude.{IfOk, OnOk, OnErr, if◌then◌else◌, map, vec_capacity};
 ghost use Rattle.std.specs.BTreeMap.{insert_entry};
 ghost use Rattle.std.specs.List.{AllByRecursion};
 ghost use Rattle.std.specs.List.Sorted.{IsStrictlySortedBy};
@@ -11,7 +11,7 @@ ghost use Rattle.osm_model.specs.Limits.{IsPositive};
 ghost use Rattle.osm_mirror.specs.Mirror.{AreCountsAboveZero, HasNumber, count_at};
 
 use osm_model::memory::WantOfMemory;
-use std::alloc::Global;
+use std::alloc::{AllocError, Global};
 use std::collections::BTreeMap;
 use std::collections::btree_map::Iter;
 use std::marker::Model;
@@ -104,11 +104,19 @@ impl Counts {
         ensures copies { IfOk result (λ v. v.items ≡ self.now) }
         ensures refused { OnErr result (0 < length self.now) }
     {
-        let mut copies = Vec::with_capacity(alloc, self.counts.len())?;
+        let mut copies = self.room_for_copies(alloc)?;
         for (number, count) in self.counts.iter() {
             copies.push((*number, *count))?;
         }
         Ok(copies)
+    }
+
+    fn room_for_copies(&self, alloc: Global) -> Result<Vec<(u32, u64)>, AllocError>
+        ensures none { IfOk result (λ v. v.items ≡ []) }
+        ensures room { IfOk result (λ v. vec_capacity v ≡ length self.now) }
+        ensures refused { OnErr result (0 < length self.now) }
+    {
+        Vec::with_capacity(alloc, self.counts.len())
     }
 }
 

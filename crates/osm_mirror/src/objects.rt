@@ -1,7 +1,7 @@
 //! The objects of a mirror, each under its key.
 
 ghost use Rattle.std.specs.Prelude.{◌≡◌, ℕ, ◌+◌, ◌<◌, ◌≤◌, [], ◌∷◌, ◌++◌, length, Some, None};
-ghost use Rattle.std.specs.Prelude.{IfOk, OnOk, OnErr, MatchOption, if◌then◌else◌};
+ghost use Rattle.std.specs.Prelude.{IfOk, OnOk, OnErr, MatchOption, if◌then◌else◌, vec_capacity};
 ghost use Rattle.std.specs.BTreeMap.{insert_entry};
 ghost use Rattle.std.specs.List.{AllByRecursion};
 ghost use Rattle.std.specs.Map.Iter.{ShowsInOrder, deref};
@@ -15,7 +15,7 @@ ghost use Rattle.osm_mirror.specs.Mirror.{AreRising, IsObject, object_at};
 use osm_model::change::Change;
 use osm_model::kind::Key;
 use osm_model::memory::WantOfMemory;
-use std::alloc::Global;
+use std::alloc::{AllocError, Global};
 use std::collections::BTreeMap;
 use std::collections::btree_map::Values;
 use std::marker::Model;
@@ -116,11 +116,19 @@ impl Objects {
         ensures copies { IfOk result (λ v. v.items ≡ self.now) }
         ensures refused { OnErr result (0 < length self.now) }
     {
-        let mut copies = Vec::with_capacity(alloc, self.objects.len())?;
+        let mut copies = self.room_for_copies(alloc)?;
         for change in self.objects.values() {
             copies.push(change.copy(alloc)?)?;
         }
         Ok(copies)
+    }
+
+    fn room_for_copies(&self, alloc: Global) -> Result<Vec<Change>, AllocError>
+        ensures none { IfOk result (λ v. v.items ≡ []) }
+        ensures room { IfOk result (λ v. vec_capacity v ≡ length self.now) }
+        ensures refused { OnErr result (0 < length self.now) }
+    {
+        Vec::with_capacity(alloc, self.objects.len())
     }
 }
 

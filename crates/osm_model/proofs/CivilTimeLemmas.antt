@@ -6,7 +6,9 @@ use Rattle.std.proofs.lemmas.Int.{ints}
 use Rattle.jiff_core.specs.Calendar.{IsCivilDate, days_in_year, days_in_month, days_from_civil, day_count}
 use Rattle.jiff_core.proofs.SignedLemmas.{signed_arith}
 use Rattle.jiff_core.proofs.MarchLemmas.{day_count-early}
-use Rattle.jiff_core.proofs.CalendarLemmas.{day_count-epoch, day_count-next_year, day_count-next_month, day_count-last_of_year, day_count-day, days_from_civil-day_count, days_in_year_bounds}
+use Rattle.jiff_core.proofs.CalendarLemmas.{day_count-epoch, day_count-next_year, day_count-next_month}
+use Rattle.jiff_core.proofs.CalendarLemmas.{day_count-last_of_year, day_count-day, days_from_civil-day_count}
+use Rattle.jiff_core.proofs.CalendarLemmas.{days_in_year_bounds}
 use Rattle.osm_model.specs.Time.{Shows, moment_text, seconds_of}
 use Rattle.osm_model.specs.CivilTime.{DayIn, time_text, moment_on, year_of_day, month_of_day}
 
@@ -20,7 +22,8 @@ record IsYearOf (year days k : ℕ) (found : DayIn) : Type 0 where
   to : found.number ≤ year + k
   inside : (found.number ≡ year + k) ⊎ (found.days < days_in_year (pos found.number))
 
-year_after : (year days k : ℕ) (found : DayIn) → days_in_year (pos year) ≤ days → IsYearOf (year + 1) (days - days_in_year (pos year)) k found → IsYearOf year days (suc k) found
+year_after : (year days k : ℕ) (found : DayIn) → days_in_year (pos year) ≤ days
+    → IsYearOf (year + 1) (days - days_in_year (pos year)) k found → IsYearOf year days (suc k) found
 year_after year days k found h r =
     let next = day_count-next_year (pos year) (pos (year + 1)) (omega (arith, signed_arith)) (omega (arith, ints)) in
     let from : year + 1 ≤ found.number = r.from in
@@ -52,7 +55,9 @@ record IsMonthOf (year month days k : ℕ) (found : DayIn) : Type 0 where
   to : found.number ≤ month + k
   inside : (found.number ≡ month + k) ⊎ (found.days < days_in_month (pos year) found.number)
 
-month_after : (year month days k : ℕ) (found : DayIn) → 1 ≤ month → days_in_month (pos year) month ≤ days → IsMonthOf year (month + 1) (days - days_in_month (pos year) month) k found → IsMonthOf year month days (suc k) found
+month_after : (year month days k : ℕ) (found : DayIn) → 1 ≤ month → days_in_month (pos year) month ≤ days
+    → IsMonthOf year (month + 1) (days - days_in_month (pos year) month) k found
+    → IsMonthOf year month days (suc k) found
 month_after year month days k found first h r =
     let next = day_count-next_month (pos year) month first in
     let from : month + 1 ≤ found.number = r.from in
@@ -95,7 +100,8 @@ year_within day found h r =
       | inr inside ↦ inside
     ]
 
-month_within : (year days : ℕ) (found : DayIn) → days < days_in_year (pos year) → IsMonthOf year 1 days 11 found → found.days < days_in_month (pos year) found.number
+month_within : (year days : ℕ) (found : DayIn) → days < days_in_year (pos year) → IsMonthOf year 1 days 11 found
+    → found.days < days_in_month (pos year) found.number
 month_within year days found h r =
     elim r.inside [
       | inl last ↦
@@ -106,7 +112,8 @@ month_within year days found h r =
       | inr inside ↦ inside
     ]
 
-date_of_day : (day : ℕ) (year : DayIn) (month : DayIn) → day < 49711 → IsYearOf 1970 day 136 year → IsMonthOf year.number 1 year.days 11 month → IsDateOf day year.number month
+date_of_day : (day : ℕ) (year : DayIn) (month : DayIn) → day < 49711 → IsYearOf 1970 day 136 year
+    → IsMonthOf year.number 1 year.days 11 month → IsDateOf day year.number month
 date_of_day day year month h y m =
     let in_year = year_within day year h y in
     let in_month = month_within year.number year.days month in_year m in
@@ -118,7 +125,14 @@ date_of_day day year month h y m =
       low = low;
       high = high;
       date = ((omega (arith, signed_arith), omega (arith, signed_arith)), (first, last), (omega arith, omega arith));
-      count = omega (arith, m.same_day, y.same_day, day_count-epoch, day_count-day (pos year.number) month.number 1 (month.days + 1) (omega arith) (omega arith));
+      count = omega (
+        arith,
+        m.same_day,
+        y.same_day,
+        day_count-epoch,
+        day_count-day (pos year.number) month.number 1
+            (month.days + 1) (omega arith) (omega arith),
+      );
     }
 
 -- so the moment shows the time

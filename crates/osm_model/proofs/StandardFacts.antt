@@ -1,9 +1,61 @@
--- The definitions at values that a person knows: the order of keys.
+-- The definitions at values that a person knows: the limits, and the order of keys.
 use Rattle.std.proofs.Common.{◌≡◌, refl}
-use Rattle.std.specs.Prelude.{pos, negsuc}
+use Rattle.std.specs.Prelude.{ℕ, ◌-◌, ◌*◌, ◌^◌, ◌≤◌, ℤ, pos, negsuc, neg_ℤ, ◌≤ℤ◌, List, length, Contains, ◌↔◌}
+use Rattle.std.specs.List.{AllByRecursion}
+use Rattle.std.specs.Str.{IsUtf8}
 use Rattle.std.specs.declared.cmp.Ordering.TheVariants.{Less}
+use Rattle.osm_model.specs.Batch.{IsBatch}
+use Rattle.osm_model.specs.Change.{AreMembers, AreRefs, AreTags, ChangeValue, HasMemberId, IsChange}
 use Rattle.osm_model.specs.KeyOrder.{key_cmp}
+use Rattle.osm_model.specs.Limits.{IsId, IsLatitude, IsLongitude, max_file, max_sequence}
+use Rattle.osm_model.specs.Lists.{IsRole, IsTag}
+use Rattle.osm_model.specs.Text.{IsText}
+use Rattle.osm_model.specs.declared.lists.Member.{Member}
+use Rattle.osm_model.specs.declared.lists.Tag.{Tag}
 use Rattle.osm_model.specs.declared.kind.Kind.TheVariants.{Node, Way, Relation}
+
+-- a latitude is from -90 to 90 degrees, in units of 10^-7 degree
+latitudes : (lat : ℤ) → IsLatitude lat ↔ ((neg_ℤ (pos (90 * 10 ^ 7)) ≤ℤ lat) × (lat ≤ℤ pos (90 * 10 ^ 7)))
+latitudes lat = ((λ l. (l.low, l.high)), (λ p. record { low = p.0; high = p.1 }))
+
+-- a longitude is from -180 to 180 degrees, in the same units
+longitudes : (lon : ℤ) → IsLongitude lon ↔ ((neg_ℤ (pos (180 * 10 ^ 7)) ≤ℤ lon) × (lon ≤ℤ pos (180 * 10 ^ 7)))
+longitudes lon = ((λ l. (l.low, l.high)), (λ p. record { low = p.0; high = p.1 }))
+
+-- an id has up to 62 bits and a sign
+ids : (id : ℤ) → IsId id ↔ ((neg_ℤ (pos (2 ^ 62 - 1)) ≤ℤ id) × (id ≤ℤ pos (2 ^ 62 - 1)))
+ids id = ((λ i. (i.low, i.high)), (λ p. record { low = p.0; high = p.1 }))
+
+-- a text has up to 1,020 bytes: 255 characters of four
+texts : (bytes : List ℕ) → IsText bytes ↔ (IsUtf8 bytes × (¬ Contains bytes 0) × (length bytes ≤ 1020))
+texts bytes = ((λ t. (t.utf8, t.no_nul, t.short)), (λ p. record { utf8 = p.0; no_nul = p.1; short = p.2 }))
+
+-- an object has up to 5,000 tags
+tags_of_objects : (tags : List Tag) → AreTags tags ↔ ((length tags ≤ 5000) × AllByRecursion IsTag tags)
+tags_of_objects tags = ((λ t. (t.few, t.each)), (λ p. record { few = p.0; each = p.1 }))
+
+-- a way has up to 32,000 nodes
+nodes_of_ways : (refs : List ℤ) → AreRefs refs ↔ ((length refs ≤ 32000) × AllByRecursion IsId refs)
+nodes_of_ways refs = ((λ r. (r.few, r.each)), (λ p. record { few = p.0; each = p.1 }))
+
+-- a relation has up to 32,000 members
+members_of_relations : (members : List Member) → AreMembers members
+    ↔ ((length members ≤ 32000) × AllByRecursion HasMemberId members × AllByRecursion IsRole members)
+members_of_relations members =
+    ((λ m. (m.few, m.ids, m.roles)), (λ p. record { few = p.0; ids = p.1; roles = p.2 }))
+
+-- a batch has up to 100,000 changes
+changes_of_batches : (changes : List ChangeValue) → IsBatch changes
+    ↔ ((length changes ≤ 100000) × AllByRecursion IsChange changes)
+changes_of_batches changes = ((λ b. (b.few, b.each)), (λ p. record { few = p.0; each = p.1 }))
+
+-- a change file has up to 64 MiB
+mebibytes_of_files : max_file ≡ 64 * 1024 * 1024
+mebibytes_of_files = refl
+
+-- the last sequence number is the greatest one of nine digits
+last_sequence : max_sequence ≡ 10 ^ 9 - 1
+last_sequence = refl
 
 -- a node comes before a way, whatever their ids
 node_before_way : key_cmp (record { kind = Node; id = pos 9 }) (record { kind = Way; id = pos 1 }) ≡ Less

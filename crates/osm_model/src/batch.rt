@@ -7,7 +7,7 @@ ghost use Rattle.osm_model.specs.Push.{PushRefused};
 
 use crate::change::Change;
 use crate::limits::MAX_CHANGES;
-use crate::memory::WantOfMemory;
+use crate::memory::{WantOfMemory, room_for_copies};
 use std::alloc::Global;
 use std::marker::Model;
 use thiserror::Error;
@@ -97,9 +97,10 @@ impl Batch {
 }
 
 fn copy_changes(alloc: Global, changes: &[Change]) -> Result<Vec<Change>, WantOfMemory>
-    ensures { IfOk result (λ t. t.items ≡ changes.now) }
+    ensures ok { IfOk result (λ t. t.items ≡ changes.now) }
+    ensures refused { OnErr result (0 < length changes.now) }
 {
-    let mut copies = Vec::with_capacity(alloc, changes.len())?;
+    let mut copies = room_for_copies(alloc, changes)?;
     for change in changes {
         copies.push(change.copy(alloc)?)?;
     }

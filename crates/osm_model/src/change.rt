@@ -1,10 +1,12 @@
 //! One change of one object.
 
-ghost use Rattle.std.specs.Prelude.{◌≡◌, ◌<◌, ◌↔◌, length, IfOk, IsErrOf, IsTrue, Some, None};
+ghost use Rattle.std.specs.Prelude.{◌≡◌, ◌<◌, ◌↔◌, length, IfOk, IsErrOf, IsTrue, OnErr, Some};
+ghost use Rattle.std.specs.Prelude.{None};
 ghost use Rattle.std.specs.List.{AllByRecursion};
 ghost use Rattle.osm_model.specs.Limits.{IsId, IsLocation, max_tags, max_refs};
 ghost use Rattle.osm_model.specs.Change.{IsChange, IsWhat, HasMemberId};
 ghost use Rattle.osm_model.specs.Content.{standing_of};
+ghost use Rattle.osm_model.specs.Steps.Parts.{HasParts};
 
 use crate::kind::{Key, Kind};
 use crate::limits::{MAX_ID, MAX_LAT, MAX_LON, MAX_REFS, MAX_TAGS};
@@ -48,7 +50,8 @@ impl What {
     }
 
     fn copy(&self, alloc: Global) -> Result<What, WantOfMemory>
-        ensures { IfOk result (λ w. w ≡ self.now) }
+        ensures ok { IfOk result (λ w. w ≡ self.now) }
+        ensures refused { OnErr result (HasParts self.now) }
     {
         match self {
             What::Node { lon, lat, tags } => Ok(What::Node {

@@ -1,11 +1,11 @@
 //! The parts of an object that are lists: tags, the nodes of a way, the members of a relation.
 //! Order and repeats are kept.
 
-ghost use Rattle.std.specs.Prelude.{◌≡◌, ◌<◌, ◌++◌, ◌∷◌, [], length, IfOk, OnOk, OnErr};
+ghost use Rattle.std.specs.Prelude.{◌≡◌, ◌<◌, ◌++◌, ◌∷◌, [], length, IfOk, IsOk, OnOk, OnErr};
 ghost use Rattle.std.specs.List.{AllByRecursion};
 
 use crate::kind::Key;
-use crate::memory::WantOfMemory;
+use crate::memory::{WantOfMemory, room_for_copies};
 use crate::text::Text;
 use std::alloc::Global;
 use std::marker::Model;
@@ -59,7 +59,10 @@ impl Part for i64 {
 
     fn limits(&self) {}
 
-    fn copy(&self, _alloc: Global) -> Result<i64, WantOfMemory> {
+    fn copy(&self, _alloc: Global) -> Result<i64, WantOfMemory>
+        ensures ok { IfOk result (λ id. id ≡ self.now) }
+        ensures never_refused { IsOk result }
+    {
         Ok(*self)
     }
 }
@@ -192,7 +195,7 @@ fn copy_parts<T: Part>(alloc: Global, parts: &[T]) -> Result<Vec<T>, WantOfMemor
     ensures ok { IfOk result (λ copies. copies.items ≡ parts.now) }
     ensures refused { OnErr result (0 < length parts.now) }
 {
-    let mut copies = Vec::with_capacity(alloc, parts.len())?;
+    let mut copies = room_for_copies(alloc, parts)?;
     for part in parts {
         copies.push(part.copy(alloc)?)?;
     }

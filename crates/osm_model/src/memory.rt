@@ -1,6 +1,8 @@
-//! Memory was refused.
+//! Memory: why it is refused, and room for copies.
 
-use std::alloc::{AllocError, AllocFailed};
+ghost use Rattle.std.specs.Prelude.{◌≡◌, ◌<◌, [], length, vec_capacity, IfOk, OnErr};
+
+use std::alloc::{AllocError, AllocFailed, Global};
 use thiserror::Error;
 
 /// Memory was refused, and what was to grow is as it was before the call, unless the call says
@@ -19,4 +21,13 @@ impl<T: Drop> From<AllocFailed<T>> for WantOfMemory {
     fn from(_error: AllocFailed<T>) -> WantOfMemory {
         WantOfMemory
     }
+}
+
+// An empty vector with room for copies of those items, and for no more.
+pub(crate) fn room_for_copies<T>(alloc: Global, items: &[T]) -> Result<Vec<T>, AllocError>
+    ensures none { IfOk result (λ v. v.items ≡ []) }
+    ensures room { IfOk result (λ v. vec_capacity v ≡ length items.now) }
+    ensures refused { OnErr result (0 < length items.now) }
+{
+    Vec::with_capacity(alloc, items.len())
 }

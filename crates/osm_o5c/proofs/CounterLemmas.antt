@@ -6,7 +6,8 @@ use Rattle.std.proofs.lemmas.Option.{same_Some}
 use Rattle.osm_model.specs.Limits.{IsId, IsLongitude, IsLatitude, IsPositive}
 use Rattle.osm_o5c.specs.Number.{SpellsSigned}
 use Rattle.osm_o5c.specs.Context.{total, SpellsSum, SpellsWrapped}
-use Rattle.osm_o5c.specs.Steps.NumberReading.{wrapped_of, signed_at, id_at, positive_sum_at, longitude_at, latitude_at, is_id, is_positive, is_longitude, is_latitude, natural}
+use Rattle.osm_o5c.specs.Steps.NumberReading.{wrapped_of, signed_at, id_at, positive_sum_at, longitude_at, latitude_at}
+use Rattle.osm_o5c.specs.Steps.NumberReading.{is_id, is_positive, is_longitude, is_latitude, natural}
 use Rattle.osm_reading.specs.Steps.Answers.{when}
 use Rattle.osm_reading.proofs.StepLemmas.{some_then, some_when}
 use Rattle.osm_o5c.proofs.TakenLemmas.{TakenTo}
@@ -70,7 +71,8 @@ id_takes before bytes x e =
 pub sum_of : (before : List ℤ) (prefix : List ℕ) (sum : ℤ) (after : List ℤ) (s : SpellsSum before prefix sum after) → total before +ℤ s.difference ≡ sum
 sum_of before prefix sum after s = sym (total-push before s.difference) ∙ ap total (sym s.added) ∙ sym s.sum_is
 
-pub id_again : (before : List ℤ) (prefix : List ℕ) (id : ℤ) (after : List ℤ) (rest : List ℕ) → SpellsSum before prefix id after → IsId id → id_at (total before) (prefix ++ rest) ≡ Some (id, rest)
+pub id_again : (before : List ℤ) (prefix : List ℕ) (id : ℤ) (after : List ℤ) (rest : List ℕ)
+    → SpellsSum before prefix id after → IsId id → id_at (total before) (prefix ++ rest) ≡ Some (id, rest)
 unfolding id_at
 id_again before prefix id after rest s limits =
     let read : signed_at (prefix ++ rest) ≡ Some (s.difference, rest) = signed_again prefix s.difference rest s.signed in
@@ -85,7 +87,8 @@ pub record CountSpelled (before : List ℤ) (n : ℕ) (prefix : List ℕ) (after
   pub spells : SpellsSum before prefix (pos n) after
   pub limits : IsPositive n
 
-pub positive_sum_takes : (before : List ℤ) (bytes : List ℕ) (x : ℕ × List ℕ) → positive_sum_at (total before) bytes ≡ Some x → TakenTo total (CountSpelled before x.0) bytes (pos x.0) x.1
+pub positive_sum_takes : (before : List ℤ) (bytes : List ℕ) (x : ℕ × List ℕ) → positive_sum_at (total before) bytes ≡
+    Some x → TakenTo total (CountSpelled before x.0) bytes (pos x.0) x.1
 unfolding positive_sum_at
 positive_sum_takes before bytes x e =
     let d = some_then (signed_at bytes) (λ d. when (is_positive (natural (total before +ℤ d.0))) (Some (natural (total before +ℤ d.0), d.1))) x e in
@@ -104,7 +107,9 @@ positive_sum_takes before bytes x e =
       same = value;
     })
 
-pub positive_sum_again : (before : List ℤ) (prefix : List ℕ) (n : ℕ) (after : List ℤ) (rest : List ℕ) → SpellsSum before prefix (pos n) after → IsPositive n → positive_sum_at (total before) (prefix ++ rest) ≡ Some (n, rest)
+pub positive_sum_again : (before : List ℤ) (prefix : List ℕ) (n : ℕ) (after : List ℤ) (rest : List ℕ)
+    → SpellsSum before prefix (pos n) after → IsPositive n → positive_sum_at (total before) (prefix ++ rest) ≡
+    Some (n, rest)
 unfolding positive_sum_at
 positive_sum_again before prefix n after rest s limits =
     let read : signed_at (prefix ++ rest) ≡ Some (s.difference, rest) = signed_again prefix s.difference rest s.signed in
@@ -120,13 +125,15 @@ wrapped-push : (before : List ℤ) (d : ℤ) → wrapped_of (wrapped_total befor
 wrapped-push before d = wrapped_more (total before) d ∙ ap wrapped_of (sym (total-push before d))
 
 -- the number to which the difference of a spelling leads
-wrapped_value : (before : List ℤ) (prefix : List ℕ) (v : ℤ) (after : List ℤ) (s : SpellsWrapped before prefix v after) → wrapped_of (wrapped_total before +ℤ s.difference) ≡ v
+wrapped_value : (before : List ℤ) (prefix : List ℕ) (v : ℤ) (after : List ℤ) (s : SpellsWrapped before prefix v after)
+    → wrapped_of (wrapped_total before +ℤ s.difference) ≡ v
 wrapped_value before prefix v after s = wrapped-push before s.difference ∙ ap wrapped_total (sym s.added) ∙ wrapped_same v (total after) s.wrapped
 
 pub wrapped_state : (before : List ℤ) (prefix : List ℕ) (v : ℤ) (after : List ℤ) → SpellsWrapped before prefix v after → wrapped_total after ≡ v
 wrapped_state before prefix v after s = wrapped_same v (total after) s.wrapped
 
-spelled_wrapped : (before : List ℤ) (prefix : List ℕ) (d : ℤ) → SpellsSigned prefix d → SpellsWrapped before prefix (wrapped_of (wrapped_total before +ℤ d)) (before ++ d ∷ [])
+spelled_wrapped : (before : List ℤ) (prefix : List ℕ) (d : ℤ) → SpellsSigned prefix d
+    → SpellsWrapped before prefix (wrapped_of (wrapped_total before +ℤ d)) (before ++ d ∷ [])
 spelled_wrapped before prefix d s = record {
   difference = d;
   signed = s;
@@ -138,13 +145,16 @@ pub record LongitudeSpelled (before : List ℤ) (lon : ℤ) (prefix : List ℕ) 
   pub spells : SpellsWrapped before prefix lon after
   pub limits : IsLongitude lon
 
-pub longitude_takes : (before : List ℤ) (bytes : List ℕ) (x : ℤ × List ℕ) → longitude_at (wrapped_total before) bytes ≡ Some x → TakenTo wrapped_total (LongitudeSpelled before x.0) bytes x.0 x.1
+pub longitude_takes : (before : List ℤ) (bytes : List ℕ) (x : ℤ × List ℕ) → longitude_at (wrapped_total before) bytes ≡
+    Some x → TakenTo wrapped_total (LongitudeSpelled before x.0) bytes x.0 x.1
 unfolding longitude_at
 longitude_takes before bytes x e =
-    let d = some_then (signed_at bytes) (λ d. when (is_longitude (wrapped_of (wrapped_total before +ℤ d.0))) (Some (wrapped_of (wrapped_total before +ℤ d.0), d.1))) x e in
+    let d = some_then (signed_at bytes) (λ d. when (is_longitude (wrapped_of (wrapped_total before +ℤ d.0)))
+    (Some (wrapped_of (wrapped_total before +ℤ d.0), d.1))) x e in
     let g = some_when (is_longitude (wrapped_of (wrapped_total before +ℤ d.0.0))) (Some (wrapped_of (wrapped_total before +ℤ d.0.0), d.0.1)) x d.2 in
     let t = signed_takes bytes d.0 d.1 in
-    subst (λ (p : ℤ × List ℕ). TakenTo wrapped_total (LongitudeSpelled before p.0) bytes p.0 p.1) (same_Some (wrapped_of (wrapped_total before +ℤ d.0.0), d.0.1) x g.1)
+    subst (λ (p : ℤ × List ℕ). TakenTo wrapped_total (LongitudeSpelled before p.0) bytes p.0 p.1)
+    (same_Some (wrapped_of (wrapped_total before +ℤ d.0.0), d.0.1) x g.1)
     (record {
       prefix = t.prefix;
       after = before ++ d.0.0 ∷ [];
@@ -153,7 +163,9 @@ longitude_takes before bytes x e =
       same = wrapped-push before d.0.0;
     })
 
-pub longitude_again : (before : List ℤ) (prefix : List ℕ) (v : ℤ) (after : List ℤ) (rest : List ℕ) → SpellsWrapped before prefix v after → IsLongitude v → longitude_at (wrapped_total before) (prefix ++ rest) ≡ Some (v, rest)
+pub longitude_again : (before : List ℤ) (prefix : List ℕ) (v : ℤ) (after : List ℤ) (rest : List ℕ)
+    → SpellsWrapped before prefix v after → IsLongitude v → longitude_at (wrapped_total before) (prefix ++ rest) ≡
+    Some (v, rest)
 unfolding longitude_at
 longitude_again before prefix v after rest s limits =
     let read : signed_at (prefix ++ rest) ≡ Some (s.difference, rest) = signed_again prefix s.difference rest s.signed in
@@ -163,13 +175,16 @@ pub record LatitudeSpelled (before : List ℤ) (lat : ℤ) (prefix : List ℕ) (
   pub spells : SpellsWrapped before prefix lat after
   pub limits : IsLatitude lat
 
-pub latitude_takes : (before : List ℤ) (bytes : List ℕ) (x : ℤ × List ℕ) → latitude_at (wrapped_total before) bytes ≡ Some x → TakenTo wrapped_total (LatitudeSpelled before x.0) bytes x.0 x.1
+pub latitude_takes : (before : List ℤ) (bytes : List ℕ) (x : ℤ × List ℕ) → latitude_at (wrapped_total before) bytes ≡
+    Some x → TakenTo wrapped_total (LatitudeSpelled before x.0) bytes x.0 x.1
 unfolding latitude_at
 latitude_takes before bytes x e =
-    let d = some_then (signed_at bytes) (λ d. when (is_latitude (wrapped_of (wrapped_total before +ℤ d.0))) (Some (wrapped_of (wrapped_total before +ℤ d.0), d.1))) x e in
+    let d = some_then (signed_at bytes) (λ d. when (is_latitude (wrapped_of (wrapped_total before +ℤ d.0)))
+    (Some (wrapped_of (wrapped_total before +ℤ d.0), d.1))) x e in
     let g = some_when (is_latitude (wrapped_of (wrapped_total before +ℤ d.0.0))) (Some (wrapped_of (wrapped_total before +ℤ d.0.0), d.0.1)) x d.2 in
     let t = signed_takes bytes d.0 d.1 in
-    subst (λ (p : ℤ × List ℕ). TakenTo wrapped_total (LatitudeSpelled before p.0) bytes p.0 p.1) (same_Some (wrapped_of (wrapped_total before +ℤ d.0.0), d.0.1) x g.1)
+    subst (λ (p : ℤ × List ℕ). TakenTo wrapped_total (LatitudeSpelled before p.0) bytes p.0 p.1)
+    (same_Some (wrapped_of (wrapped_total before +ℤ d.0.0), d.0.1) x g.1)
     (record {
       prefix = t.prefix;
       after = before ++ d.0.0 ∷ [];
@@ -178,7 +193,9 @@ latitude_takes before bytes x e =
       same = wrapped-push before d.0.0;
     })
 
-pub latitude_again : (before : List ℤ) (prefix : List ℕ) (v : ℤ) (after : List ℤ) (rest : List ℕ) → SpellsWrapped before prefix v after → IsLatitude v → latitude_at (wrapped_total before) (prefix ++ rest) ≡ Some (v, rest)
+pub latitude_again : (before : List ℤ) (prefix : List ℕ) (v : ℤ) (after : List ℤ) (rest : List ℕ)
+    → SpellsWrapped before prefix v after → IsLatitude v → latitude_at (wrapped_total before) (prefix ++ rest) ≡
+    Some (v, rest)
 unfolding latitude_at
 latitude_again before prefix v after rest s limits =
     let read : signed_at (prefix ++ rest) ≡ Some (s.difference, rest) = signed_again prefix s.difference rest s.signed in

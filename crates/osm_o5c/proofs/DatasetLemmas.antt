@@ -10,7 +10,8 @@ use Rattle.osm_o5c.specs.Context.{Context, fresh}
 use Rattle.osm_o5c.specs.Steps.NumberReading.{wrapped_of, part_at}
 use Rattle.osm_o5c.specs.File.{kind_byte, Dataset, object, skipped, lone, reset, changes_with}
 use Rattle.osm_o5c.specs.Steps.ObjectReading.{object_at}
-use Rattle.osm_o5c.specs.Steps.FileReading.{new_reader, kind_of_byte, object_dataset_at, other_dataset_at, dataset_of, dataset_at, Position, position, with_found, step}
+use Rattle.osm_o5c.specs.Steps.FileReading.{new_reader, kind_of_byte, object_dataset_at, other_dataset_at, dataset_of}
+use Rattle.osm_o5c.specs.Steps.FileReading.{dataset_at, Position, position, with_found, step}
 use Rattle.osm_reading.specs.Steps.Answers.{and_then}
 use Rattle.osm_o5c.specs.declared.reader.Reader.{Reader}
 use Rattle.osm_reading.proofs.StepLemmas.{some_then, some_when, chosen}
@@ -64,17 +65,21 @@ pub record TakesDataset (C : Context) (bytes : List ℕ) (found : Option ChangeV
   pub spelled : Dataset C prefix found after
   pub same : s ≡ reader_of after
 
-behind_type : (t : ℕ) (bytes length_bytes part prefix rest : List ℕ) → bytes ≡ prefix ++ rest → prefix ≡ length_bytes ++ part → t ∷ bytes ≡ (t ∷ length_bytes ++ part) ++ rest
+behind_type : (t : ℕ) (bytes length_bytes part prefix rest : List ℕ) → bytes ≡ prefix ++ rest → prefix ≡ length_bytes
+    ++ part → t ∷ bytes ≡ (t ∷ length_bytes ++ part) ++ rest
 behind_type t bytes length_bytes part prefix rest p q = ap (λ (l : List ℕ). t ∷ l) (p ∙ ap (λ (l : List ℕ). l ++ rest) q)
 
-object_data_takes : (k : Kind) (C : Context) (bytes : List ℕ) (x : Option ChangeValue × Reader × List ℕ) → object_dataset_at k (reader_of C) bytes ≡ Some x → TakesDataset C (kind_byte k ∷ bytes) x.0 x.1 x.2
+object_data_takes : (k : Kind) (C : Context) (bytes : List ℕ) (x : Option ChangeValue × Reader × List ℕ)
+    → object_dataset_at k (reader_of C) bytes ≡ Some x → TakesDataset C (kind_byte k ∷ bytes) x.0 x.1 x.2
 unfolding object_dataset_at
 object_data_takes k C bytes x e =
     let p = some_then (part_at bytes) (λ p. and_then (object_at k (reader_of C) p.0) (λ o. Some (Some o.0, o.1, p.1))) x e in
     let o = some_then (object_at k (reader_of C) p.0.0) (λ o. Some (Some o.0, o.1, p.0.1)) x p.2 in
     let part = part_takes bytes p.0 p.1 in
     let t = object_takes k C p.0.0 o.0 o.1 in
-    let spelled : Dataset C (kind_byte k ∷ part.spelled.length_bytes ++ p.0.0) (Some o.0.0) t.after = subst (λ (q : Kind). Dataset C (kind_byte q ∷ part.spelled.length_bytes ++ p.0.0) (Some o.0.0) t.after) t.kind_is (object C part.spelled.length_bytes p.0.0 o.0.0 t.after part.spelled.spells t.spells) in
+    let spelled : Dataset C (kind_byte k ∷ part.spelled.length_bytes ++ p.0.0) (Some o.0.0) t.after =
+    subst (λ (q : Kind). Dataset C (kind_byte q ∷ part.spelled.length_bytes ++ p.0.0) (Some o.0.0) t.after)
+    t.kind_is (object C part.spelled.length_bytes p.0.0 o.0.0 t.after part.spelled.spells t.spells) in
     subst (λ (q : Option ChangeValue × Reader × List ℕ). TakesDataset C (kind_byte k ∷ bytes) q.0 q.1 q.2) (same_Some (Some o.0.0, o.0.1, p.0.1) x o.2)
     (record {
       prefix = kind_byte k ∷ part.spelled.length_bytes ++ p.0.0;
@@ -84,10 +89,14 @@ object_data_takes k C bytes x e =
       same = t.same;
     })
 
-other_data_takes : (t : ℕ) (C : Context) (bytes : List ℕ) (x : Option ChangeValue × Reader × List ℕ) → ((k : Kind) → t ≡ kind_byte k → ⊥) → other_dataset_at t (reader_of C) bytes ≡ Some x → TakesDataset C (t ∷ bytes) x.0 x.1 x.2
+other_data_takes : (t : ℕ) (C : Context) (bytes : List ℕ) (x : Option ChangeValue × Reader × List ℕ)
+    → ((k : Kind) → t ≡ kind_byte k → ⊥) → other_dataset_at t (reader_of C) bytes ≡ Some x
+    → TakesDataset C (t ∷ bytes) x.0 x.1 x.2
 unfolding other_dataset_at
 other_data_takes t C bytes x other e =
-    chosen (ltb t 240) (and_then (part_at bytes) (λ p. Some (None, reader_of C, p.1))) (cond (ltb t 254) (Some (None, reader_of C, bytes)) (cond (eqb t 255) (Some (None, new_reader, bytes)) None)) (Some x) e (TakesDataset C (t ∷ bytes) x.0 x.1 x.2)
+    chosen (ltb t 240) (and_then (part_at bytes) (λ p. Some (None, reader_of C, p.1)))
+    (cond (ltb t 254) (Some (None, reader_of C, bytes)) (cond (eqb t 255) (Some (None, new_reader, bytes)) None))
+    (Some x) e (TakesDataset C (t ∷ bytes) x.0 x.1 x.2)
     (λ low is.
     let small : t < 240 = grind (arith, nat_tests) in
     let p = some_then (part_at bytes) (λ p. Some (None, reader_of C, p.1)) x is in
@@ -102,7 +111,8 @@ other_data_takes t C bytes x other e =
     }))
     (λ high is.
     let big : 240 ≤ t = grind (arith, nat_tests) in
-    chosen (ltb t 254) (Some (None, reader_of C, bytes)) (cond (eqb t 255) (Some (None, new_reader, bytes)) None) (Some x) is (TakesDataset C (t ∷ bytes) x.0 x.1 x.2)
+    chosen (ltb t 254) (Some (None, reader_of C, bytes)) (cond (eqb t 255) (Some (None, new_reader, bytes)) None)
+    (Some x) is (TakesDataset C (t ∷ bytes) x.0 x.1 x.2)
     (λ low is.
     let small : t < 254 = grind (arith, nat_tests) in
     subst (λ (q : Option ChangeValue × Reader × List ℕ). TakesDataset C (t ∷ bytes) q.0 q.1 q.2) (same_Some (None, reader_of C, bytes) x is)
@@ -115,20 +125,27 @@ other_data_takes t C bytes x other e =
     (record { prefix = 255 ∷ []; after = fresh; parts = ap (λ (i : ℕ). i ∷ bytes) z; spelled = reset C; same = fresh_reader }))
     (λ no_reset is. absurd cc)))
 
-of_takes : (o : Option Kind) (t : ℕ) (C : Context) (bytes : List ℕ) (x : Option ChangeValue × Reader × List ℕ) → kind_of_byte t ≡ o → dataset_of o t (reader_of C) bytes ≡ Some x → TakesDataset C (t ∷ bytes) x.0 x.1 x.2
+of_takes : (o : Option Kind) (t : ℕ) (C : Context) (bytes : List ℕ) (x : Option ChangeValue × Reader × List ℕ)
+    → kind_of_byte t ≡ o → dataset_of o t (reader_of C) bytes ≡ Some x → TakesDataset C (t ∷ bytes) x.0 x.1 x.2
 of_takes (Some k) t C bytes x is e = subst (λ (i : ℕ). TakesDataset C (i ∷ bytes) x.0 x.1 x.2) (sym (kind_of_byte_is t k is)) (object_data_takes k C bytes x e)
 of_takes None t C bytes x is e = other_data_takes t C bytes x (is_no_kind t is) e
 
-pub dataset_takes : (C : Context) (bytes : List ℕ) (x : Option ChangeValue × Reader × List ℕ) → dataset_at (reader_of C) bytes ≡ Some x → TakesDataset C bytes x.0 x.1 x.2
+pub dataset_takes : (C : Context) (bytes : List ℕ) (x : Option ChangeValue × Reader × List ℕ)
+    → dataset_at (reader_of C) bytes ≡ Some x → TakesDataset C bytes x.0 x.1 x.2
 unfolding dataset_at
 dataset_takes C [] x e = absurd cc
 dataset_takes C (t ∷ bytes) x e = of_takes (kind_of_byte t) t C bytes x refl e
 
-object_data_again : (C : Context) (length_bytes content : List ℕ) (c : ChangeValue) (after : Context) (rest : List ℕ) → part_at (length_bytes ++ content ++ rest) ≡ Some (content, rest) → object_at c.key.kind (reader_of C) content ≡ Some (c, reader_of after) → object_dataset_at c.key.kind (reader_of C) (length_bytes ++ content ++ rest) ≡ Some (Some c, reader_of after, rest)
+object_data_again : (C : Context) (length_bytes content : List ℕ) (c : ChangeValue) (after : Context) (rest : List ℕ)
+    → part_at (length_bytes ++ content ++ rest) ≡ Some (content, rest) → object_at c.key.kind (reader_of C) content ≡
+    Some (c, reader_of after) → object_dataset_at c.key.kind (reader_of C) (length_bytes ++ content ++ rest) ≡
+    Some (Some c, reader_of after, rest)
 unfolding object_dataset_at
 object_data_again C length_bytes content c after rest p o = rw (p, o) refl
 
-skipped_again : (C : Context) (t : ℕ) (length_bytes content rest : List ℕ) → t < 240 → part_at (length_bytes ++ content ++ rest) ≡ Some (content, rest) → other_dataset_at t (reader_of C) (length_bytes ++ content ++ rest) ≡ Some (None, reader_of C, rest)
+skipped_again : (C : Context) (t : ℕ) (length_bytes content rest : List ℕ) → t < 240
+    → part_at (length_bytes ++ content ++ rest) ≡ Some (content, rest)
+    → other_dataset_at t (reader_of C) (length_bytes ++ content ++ rest) ≡ Some (None, reader_of C, rest)
 unfolding other_dataset_at
 skipped_again C t length_bytes content rest low p = let l : ltb t 240 ≡ true = grind (arith, nat_tests) in rw (l, p) refl
 
@@ -151,11 +168,15 @@ of_kind : (k : Kind) (s : Reader) (rest : List ℕ) → dataset_at s (kind_byte 
 unfolding dataset_at
 of_kind k s rest = rw (kind_of_kind_byte k) refl
 
-pub dataset_again : (C : Context) (dataset : List ℕ) (found : Option ChangeValue) (after : Context) (rest : List ℕ) → Dataset C dataset found after → dataset_at (reader_of C) (dataset ++ rest) ≡ Some (found, reader_of after, rest)
+pub dataset_again : (C : Context) (dataset : List ℕ) (found : Option ChangeValue) (after : Context) (rest : List ℕ)
+    → Dataset C dataset found after → dataset_at (reader_of C) (dataset ++ rest) ≡ Some (found, reader_of after, rest)
 dataset_again _ _ _ _ rest (object C length_bytes content c after n s) =
-    of_kind c.key.kind (reader_of C) (length_bytes ++ content ++ rest) ∙ object_data_again C length_bytes content c after rest (part_again length_bytes content rest n) (object_again C content c after s)
+    of_kind c.key.kind (reader_of C) (length_bytes ++ content ++ rest)
+    ∙ object_data_again C length_bytes content c after rest (part_again length_bytes content rest n)
+    (object_again C content c after s)
 dataset_again _ _ _ _ rest (skipped C t length_bytes content low other n) =
-    of_none t (reader_of C) (length_bytes ++ content ++ rest) (no_kind t other) ∙ skipped_again C t length_bytes content rest low (part_again length_bytes content rest n)
+    of_none t (reader_of C) (length_bytes ++ content ++ rest) (no_kind t other)
+    ∙ skipped_again C t length_bytes content rest low (part_again length_bytes content rest n)
 dataset_again _ _ _ _ rest (lone C t big small) =
     of_none t (reader_of C) rest (no_kind t (λ k e. big_no_kind t k big e)) ∙ lone_again C t rest big small
 dataset_again _ _ _ _ rest (reset C) =
@@ -179,7 +200,9 @@ pub record TakesStep (C : Context) (p q : Position) : Type 0 where
   pub changes : q.changes ≡ changes_with p.changes found
   pub same : q.reader ≡ reader_of after
 
-found_takes : (C : Context) (xs : List ChangeValue) (rest : List ℕ) (x : Option ChangeValue × Reader × List ℕ) (q : Position) → TakesDataset C rest x.0 x.1 x.2 → with_found xs x ≡ Some q → TakesStep C (position (reader_of C) xs rest) q
+found_takes : (C : Context) (xs : List ChangeValue) (rest : List ℕ) (x : Option ChangeValue × Reader × List ℕ)
+    (q : Position) → TakesDataset C rest x.0 x.1 x.2 → with_found xs x ≡ Some q
+    → TakesStep C (position (reader_of C) xs rest) q
 found_takes C xs rest (None, s, more) q t e =
     subst (λ (q : Position). TakesStep C (position (reader_of C) xs rest) q) (same_Some (position s xs more) q e)
     (record { prefix = t.prefix; found = None; after = t.after; parts = t.parts; spelled = t.spelled; few = λ h. h; changes = refl; same = t.same })
@@ -187,21 +210,37 @@ found_takes C xs rest (Some c, s, more) q t e =
     let g = some_when (ltb (length xs) 100000) (Some (position s (xs ++ c ∷ []) more)) q e in
     let room : length xs < 100000 = let w : ltb (length xs) 100000 ≡ true = g.0 in grind (arith, nat_tests) in
     subst (λ (q : Position). TakesStep C (position (reader_of C) xs rest) q) (same_Some (position s (xs ++ c ∷ []) more) q g.1)
-    (record { prefix = t.prefix; found = Some c; after = t.after; parts = t.parts; spelled = t.spelled; few = λ h. omega (arith, length-append xs (c ∷ [])); changes = refl; same = t.same })
+    (record {
+      prefix = t.prefix;
+      found = Some c;
+      after = t.after;
+      parts = t.parts;
+      spelled = t.spelled;
+      few =
+          λ h. omega (arith, length-append xs (c ∷ []));
+      changes = refl;
+      same = t.same;
+    })
 
-pub step_takes : (C : Context) (xs : List ChangeValue) (rest : List ℕ) (q : Position) → step (position (reader_of C) xs rest) ≡ Some q → TakesStep C (position (reader_of C) xs rest) q
+pub step_takes : (C : Context) (xs : List ChangeValue) (rest : List ℕ) (q : Position)
+    → step (position (reader_of C) xs rest) ≡ Some q → TakesStep C (position (reader_of C) xs rest) q
 unfolding step
 step_takes C xs rest q e =
     let x = some_then (dataset_at (reader_of C) rest) (with_found xs) q e in
     found_takes C xs rest x.0 q (dataset_takes C rest x.0 x.1) x.2
 
-found_again : (s : Reader) (xs : List ChangeValue) (found : Option ChangeValue) (more : List ℕ) → length (changes_with xs found) ≤ 100000 → with_found xs (found, s, more) ≡ Some (position s (changes_with xs found) more)
+found_again : (s : Reader) (xs : List ChangeValue) (found : Option ChangeValue) (more : List ℕ)
+    → length (changes_with xs found) ≤ 100000 → with_found xs (found, s, more) ≡
+    Some (position s (changes_with xs found) more)
 found_again s xs None more few = refl
 found_again s xs (Some c) more few =
     let room : ltb (length xs) 100000 ≡ true = let o : length xs < 100000 = omega (arith, length-append xs (c ∷ [])) in grind (arith, nat_tests) in
     rw room refl
 
-pub step_again : (C : Context) (xs : List ChangeValue) (dataset : List ℕ) (found : Option ChangeValue) (after : Context) (more : List ℕ) → Dataset C dataset found after → length (changes_with xs found) ≤ 100000 → step (position (reader_of C) xs (dataset ++ more)) ≡ Some (position (reader_of after) (changes_with xs found) more)
+pub step_again : (C : Context) (xs : List ChangeValue) (dataset : List ℕ) (found : Option ChangeValue) (after : Context)
+    (more : List ℕ) → Dataset C dataset found after → length (changes_with xs found) ≤ 100000
+    → step (position (reader_of C) xs (dataset ++ more)) ≡
+    Some (position (reader_of after) (changes_with xs found) more)
 unfolding step
 step_again C xs dataset found after more s few =
     rw (dataset_again C dataset found after more s) (found_again (reader_of after) xs found more few)

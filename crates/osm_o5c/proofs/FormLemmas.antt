@@ -9,7 +9,8 @@ use Rattle.osm_o5c.specs.File.{SpellsO5c, FaultPlace}
 use Rattle.osm_o5c.specs.Steps.FileReading.{FileRefused}
 use Rattle.osm_o5c.proofs.PlaceLemmas.{spelled_or_wrong}
 
-pub read_refused : {X : Type 0} (bytes : List ℕ) (r : Result X FormError) → length bytes ≤ max_file → IfErr r (FileRefused bytes) → IfErr r (ReadRefused SpellsO5c FaultPlace bytes)
+pub read_refused : {X : Type 0} (bytes : List ℕ) (r : Result X FormError) → length bytes ≤ max_file
+    → IfErr r (FileRefused bytes) → IfErr r (ReadRefused SpellsO5c FaultPlace bytes)
 read_refused bytes (Ok v) small refused = tt
 read_refused bytes (Err WantOfMemory) small refused = (small, refused)
 read_refused bytes (Err TooLarge) small refused = absurd refused

@@ -1,5 +1,6 @@
 -- A valid prefix is read step by step, so there is one longest valid prefix, with one list of changes.
-use Rattle.std.proofs.Common.{◌≡◌, ℕ, zero, suc, ◌<◌, ◌≤◌, List, [], ◌∷◌, ◌++◌, length, get_or, take, drop, Option, Some, None, refl, sym, ap, subst, ◌∙◌, append_assoc, arith, inl, inr}
+use Rattle.std.proofs.Common.{◌≡◌, ℕ, zero, suc, ◌<◌, ◌≤◌, List, [], ◌∷◌, ◌++◌, length, get_or, take, drop, Option}
+use Rattle.std.proofs.Common.{Some, None, refl, sym, ap, subst, ◌∙◌, append_assoc, arith, inl, inr}
 use Rattle.std.specs.List.{AllByRecursion}
 use Rattle.std.proofs.lemmas.Bool.{cases_lt, cases_eq}
 use Rattle.std.proofs.lemmas.Option.{same_Some}
@@ -30,7 +31,8 @@ pub record Walked (prefix : List ℕ) (rest : List ℕ) (p : Position) : Type 0 
   pub count : ℕ
   pub leads : walk count (behind ++ rest) ≡ Some p
 
-pub front_walks : (prefix : List ℕ) (C : Context) (xs : List ChangeValue) (rest : List ℕ) → Front prefix C xs → Walked prefix rest (position (reader_of C) xs rest)
+pub front_walks : (prefix : List ℕ) (C : Context) (xs : List ChangeValue) (rest : List ℕ) → Front prefix C xs
+    → Walked prefix rest (position (reader_of C) xs rest)
 front_walks _ _ _ rest begin = record { behind = []; begins = refl; count = 0; leads = ap (λ (r : Reader). Some (position r [] rest)) fresh_reader }
 front_walks _ _ _ rest (next prefix C xs d found after f s few) =
     let before : Walked prefix (d ++ rest) (position (reader_of C) xs (d ++ rest)) = front_walks prefix C xs (d ++ rest) f in
@@ -49,7 +51,8 @@ each_push : (xs : List ChangeValue) (c : ChangeValue) → AllByRecursion IsChang
 each_push [] c h i = (i, tt)
 each_push (x ∷ xs) c h i = (h.0, each_push xs c h.1 i)
 
-found_each : (C : Context) (d : List ℕ) (found : Option ChangeValue) (after : Context) (xs : List ChangeValue) → Dataset C d found after → AllByRecursion IsChange xs → AllByRecursion IsChange (changes_with xs found)
+found_each : (C : Context) (d : List ℕ) (found : Option ChangeValue) (after : Context) (xs : List ChangeValue)
+    → Dataset C d found after → AllByRecursion IsChange xs → AllByRecursion IsChange (changes_with xs found)
 found_each _ _ _ _ xs (object C length_bytes content c after n s) h = each_push xs c h s.limits
 found_each _ _ _ _ xs (skipped C t length_bytes content low other n) h = h
 found_each _ _ _ _ xs (lone C t big small) h = h
@@ -137,13 +140,16 @@ kind_low Relation e = omega arith
 
 -- no dataset begins with the end byte
 end_last : (C : Context) (d : List ℕ) (found : Option ChangeValue) (after : Context) (rest more : List ℕ) → Dataset C d found after → 254 ∷ rest ≡ d ++ more → ⊥
-end_last _ _ _ _ rest more (object C length_bytes content c after n s) e = kind_low c.key.kind (heads 254 (kind_byte c.key.kind) rest (length_bytes ++ content ++ more) e)
-end_last _ _ _ _ rest more (skipped C t length_bytes content low other n) e = let q : 254 ≡ t = heads 254 t rest (length_bytes ++ content ++ more) e in omega arith
+end_last _ _ _ _ rest more (object C length_bytes content c after n s) e =
+    kind_low c.key.kind (heads 254 (kind_byte c.key.kind) rest (length_bytes ++ content ++ more) e)
+end_last _ _ _ _ rest more (skipped C t length_bytes content low other n) e =
+    let q : 254 ≡ t = heads 254 t rest (length_bytes ++ content ++ more) e in omega arith
 end_last _ _ _ _ rest more (lone C t big small) e = let q : 254 ≡ t = heads 254 t rest more e in omega arith
 end_last _ _ _ _ rest more (reset C) e = let q : ◌≡◌ {A = ℕ} 254 255 = heads 254 255 rest more e in omega arith
 
 -- a valid prefix before the end byte is the longest one
-pub ended_longest : (bytes prefix rest : List ℕ) (C : Context) (xs : List ChangeValue) → Front prefix C xs → bytes ≡ prefix ++ 254 ∷ rest → Longest bytes prefix (254 ∷ rest)
+pub ended_longest : (bytes prefix rest : List ℕ) (C : Context) (xs : List ChangeValue) → Front prefix C xs
+    → bytes ≡ prefix ++ 254 ∷ rest → Longest bytes prefix (254 ∷ rest)
 ended_longest bytes prefix rest C xs f whole = record {
   context = C;
   changes = xs;
@@ -152,7 +158,8 @@ ended_longest bytes prefix rest C xs f whole = record {
   last = λ d found after more spelled few is. end_last C d found after rest more spelled is;
 }
 
-ended_ends : (bytes prefix rest : List ℕ) (C : Context) (xs : List ChangeValue) → Front prefix C xs → bytes ≡ prefix ++ 254 ∷ rest → EndsAt bytes (position (reader_of C) xs (254 ∷ rest))
+ended_ends : (bytes prefix rest : List ℕ) (C : Context) (xs : List ChangeValue) → Front prefix C xs → bytes ≡ prefix
+    ++ 254 ∷ rest → EndsAt bytes (position (reader_of C) xs (254 ∷ rest))
 unfolding ended_longest
 ended_ends bytes prefix rest C xs f whole = longest_ends bytes prefix (254 ∷ rest) (ended_longest bytes prefix rest C xs f whole)
 
@@ -161,13 +168,18 @@ spelled_ends bytes batch s = ended_ends bytes s.prefix [] s.context batch s.is_f
 
 -- bytes spell at most one batch
 pub one_batch : (bytes : List ℕ) (a b : List ChangeValue) → SpellsO5c bytes a → SpellsO5c bytes b → a ≡ b
-one_batch bytes a b s t = ap (λ (p : Position). p.changes) (one_end_at bytes (position (reader_of s.context) a (254 ∷ [])) (position (reader_of t.context) b (254 ∷ [])) (spelled_ends bytes a s) (spelled_ends bytes b t))
+one_batch bytes a b s t =
+    ap (λ (p : Position). p.changes) (one_end_at bytes (position (reader_of s.context) a (254 ∷ []))
+    (position (reader_of t.context) b (254 ∷ [])) (spelled_ends bytes a s) (spelled_ends bytes b t))
 
 -- no spelling of a batch is a prefix of another one
 pub no_longer : (bytes more : List ℕ) (a b : List ChangeValue) → SpellsO5c bytes a → SpellsO5c (bytes ++ more) b → more ≡ []
 no_longer bytes more a b s t =
     let whole : bytes ++ more ≡ s.prefix ++ 254 ∷ more = ap (λ (l : List ℕ). l ++ more) s.whole ∙ append_assoc s.prefix (254 ∷ []) more in
-    let same : position (reader_of s.context) a (254 ∷ more) ≡ position (reader_of t.context) b (254 ∷ []) = one_end_at (bytes ++ more) (position (reader_of s.context) a (254 ∷ more)) (position (reader_of t.context) b (254 ∷ [])) (ended_ends (bytes ++ more) s.prefix more s.context a s.is_front whole) (spelled_ends (bytes ++ more) b t) in
+    let same : position (reader_of s.context) a (254 ∷ more) ≡ position (reader_of t.context) b (254 ∷ []) =
+    one_end_at (bytes ++ more) (position (reader_of s.context) a (254 ∷ more))
+    (position (reader_of t.context) b (254 ∷ [])) (ended_ends (bytes ++ more) s.prefix more s.context a s.is_front
+    whole) (spelled_ends (bytes ++ more) b t) in
     ap (λ (p : Position). drop 1 p.rest) same
 
 -- ---- how far a reader has come
@@ -183,7 +195,8 @@ pub reached_first : (bytes rest : List ℕ) → bytes ≡ beginning ++ rest → 
 reached_first bytes rest e = record { prefix = beginning; context = fresh; is_front = begin; whole = e; same = fresh_reader }
 
 pub step_from : (C : Context) (p q : Position) → p.reader ≡ reader_of C → step p ≡ Some q → TakesStep C p q
-step_from C p q same e = subst (λ (r : Reader). step (position r p.changes p.rest) ≡ Some q → TakesStep C (position r p.changes p.rest) q) (sym same) (step_takes C p.changes p.rest q) e
+step_from C p q same e = subst (λ (r : Reader). step (position r p.changes p.rest) ≡ Some q
+    → TakesStep C (position r p.changes p.rest) q) (sym same) (step_takes C p.changes p.rest q) e
 
 pub reached_more : (bytes : List ℕ) (p q : Position) → IsReached bytes p → step p ≡ Some q → IsReached bytes q
 reached_more bytes p q s e =
@@ -191,7 +204,9 @@ reached_more bytes p q s e =
     record {
       prefix = s.prefix ++ t.prefix;
       context = t.after;
-      is_front = subst (λ (xs : List ChangeValue). Front (s.prefix ++ t.prefix) t.after xs) (sym t.changes) (next s.prefix s.context p.changes t.prefix t.found t.after s.is_front t.spelled (t.few (front_few s.prefix s.context p.changes s.is_front)));
+      is_front = subst (λ (xs : List ChangeValue). Front (s.prefix ++ t.prefix) t.after xs) (sym t.changes)
+          (next s.prefix s.context p.changes t.prefix t.found t.after s.is_front t.spelled
+          (t.few (front_few s.prefix s.context p.changes s.is_front)));
       whole = s.whole ∙ ap (λ (l : List ℕ). s.prefix ++ l) t.parts ∙ sym (append_assoc s.prefix t.prefix q.rest);
       same = t.same;
     }
@@ -211,9 +226,14 @@ reached_longest bytes p s e = record {
   is_front = s.is_front;
   whole = s.whole;
   last = λ d found after more spelled few is.
-      let again : step (position (reader_of s.context) p.changes (d ++ more)) ≡ Some (position (reader_of after) (changes_with p.changes found) more) = step_again s.context p.changes d found after more spelled few in
+      let again : step (position (reader_of s.context) p.changes (d ++ more)) ≡
+      Some (position (reader_of after) (changes_with p.changes found) more) =
+      step_again s.context p.changes d found after more spelled few in
       let same : step (position (reader_of s.context) p.changes p.rest) ≡ None = subst (λ (r : Reader). step (position r p.changes p.rest) ≡ None) s.same e in
-      some_never (step (position (reader_of s.context) p.changes p.rest)) (position (reader_of after) (changes_with p.changes found) more) same (subst (λ (l : List ℕ). step (position (reader_of s.context) p.changes l) ≡ Some (position (reader_of after) (changes_with p.changes found) more)) (sym is) again);
+      some_never (step (position (reader_of s.context) p.changes p.rest))
+      (position (reader_of after) (changes_with p.changes found) more) same
+      (subst (λ (l : List ℕ). step (position (reader_of s.context) p.changes l) ≡
+      Some (position (reader_of after) (changes_with p.changes found) more)) (sym is) again);
 }
 
 pub same_front : (prefix rest other more : List ℕ) → rest ≡ more → prefix ++ rest ≡ other ++ more → prefix ≡ other
@@ -225,5 +245,7 @@ same_front prefix rest other more e w =
 -- there is one longest valid prefix
 pub one_front : (bytes prefix rest other more : List ℕ) → Longest bytes prefix rest → Longest bytes other more → prefix ≡ other
 one_front bytes prefix rest other more l k =
-    let same : position (reader_of l.context) l.changes rest ≡ position (reader_of k.context) k.changes more = one_end_at bytes (position (reader_of l.context) l.changes rest) (position (reader_of k.context) k.changes more) (longest_ends bytes prefix rest l) (longest_ends bytes other more k) in
+    let same : position (reader_of l.context) l.changes rest ≡ position (reader_of k.context) k.changes more =
+    one_end_at bytes (position (reader_of l.context) l.changes rest) (position (reader_of k.context) k.changes more)
+    (longest_ends bytes prefix rest l) (longest_ends bytes other more k) in
     same_front prefix rest other more (ap (λ (p : Position). p.rest) same) (sym l.whole ∙ k.whole)

@@ -1,5 +1,7 @@
 -- The strings that a writer has entered are the entries of the context, each as its in-line bytes.
-use Rattle.std.proofs.Common.{◌≡◌, ℕ, zero, suc, ◌+◌, ◌-◌, ◌^◌, ◌<◌, ◌≤◌, Bool, true, false, cond, leb, ◌&&◌, List, [], ◌∷◌, ◌++◌, length, Option, Some, None, refl, sym, ap, subst, ◌∙◌, append_assoc, arith, inl, inr}
+use Rattle.std.proofs.Common.{◌≡◌, ℕ, zero, suc, ◌+◌, ◌-◌, ◌^◌, ◌<◌, ◌≤◌, Bool, true, false, cond, leb, ◌&&◌, List, []}
+use Rattle.std.proofs.Common.{◌∷◌, ◌++◌, length, Option, Some, None, refl, sym, ap, subst, ◌∙◌, append_assoc, arith}
+use Rattle.std.proofs.Common.{inl, inr}
 use Rattle.std.specs.Prelude.{Contains, slice_get}
 use Rattle.std.specs.List.{AllByRecursion}
 use Rattle.std.proofs.lemmas.Bool.{cases_lt}
@@ -7,7 +9,8 @@ use Rattle.std.proofs.lemmas.Bool.Decides.{nat_tests}
 use Rattle.std.proofs.lemmas.List.{length-append}
 use Rattle.std.proofs.lemmas.Option.{same_Some}
 use Rattle.osm_o5c.specs.Entries.{SpellsPair, in_line, reference, SpellsSingle, in_line_single, reference_single, size_of, entries_of, named}
-use Rattle.osm_o5c.specs.Written.{number_text, pair_in_line, single_in_line, reference_of, by_reference, entered_by, pair_text, after_pair, single_text, after_single}
+use Rattle.osm_o5c.specs.Written.{number_text, pair_in_line, single_in_line, reference_of, by_reference, entered_by}
+use Rattle.osm_o5c.specs.Written.{pair_text, after_pair, single_text, after_single}
 use Rattle.osm_o5c.specs.Shortest.{IsShortestPair, IsShortestSingle, HasNoName, IsLeastName}
 use Rattle.osm_o5c.specs.Steps.Index.{string_named, IsLeast}
 use Rattle.osm_o5c.specs.Steps.StringReading.{until_nul_at}
@@ -106,17 +109,20 @@ put [] i x e = absurd cc
 put (y ∷ ys) zero x e = ap (λ (z : Entry). Some (entry_in_line z)) (same_Some y x e)
 put (y ∷ ys) (suc i) x e = put ys i x e
 
-by_test : (b : Bool) (es : List Entry) (i : ℕ) (e : Entry) → AllByRecursion IsClean es → IsClean e → cond b (slice_get (entries_in_line es) i) None ≡ Some (entry_in_line e) → cond b (slice_get es i) None ≡ Some e
+by_test : (b : Bool) (es : List Entry) (i : ℕ) (e : Entry) → AllByRecursion IsClean es → IsClean e
+    → cond b (slice_get (entries_in_line es) i) None ≡ Some (entry_in_line e) → cond b (slice_get es i) None ≡ Some e
 by_test true es i e all c h =
     let g : Got es i (entry_in_line e) = got es i (entry_in_line e) all h in
     g.is ∙ ap (λ (x : Entry). Some x) (same_entry g.entry e g.clean c g.spelled)
 by_test false es i e all c h = absurd cc
 
-to_test : (b : Bool) (es : List Entry) (i : ℕ) (e : Entry) → cond b (slice_get es i) None ≡ Some e → cond b (slice_get (entries_in_line es) i) None ≡ Some (entry_in_line e)
+to_test : (b : Bool) (es : List Entry) (i : ℕ) (e : Entry) → cond b (slice_get es i) None ≡ Some e
+    → cond b (slice_get (entries_in_line es) i) None ≡ Some (entry_in_line e)
 to_test true es i e h = put es i e h
 to_test false es i e h = absurd cc
 
-named_from : (es : List Entry) (e : Entry) (k : ℕ) → AllByRecursion IsClean es → IsClean e → string_named (entries_in_line es) k ≡ Some (entry_in_line e) → named es k ≡ Some e
+named_from : (es : List Entry) (e : Entry) (k : ℕ) → AllByRecursion IsClean es → IsClean e
+    → string_named (entries_in_line es) k ≡ Some (entry_in_line e) → named es k ≡ Some e
 named_from es e k all c h =
     by_test (leb 1 k && leb k 15000 && leb k (length es)) es (length es - k) e all c (rw (in_line-length es) at h)
 
@@ -127,7 +133,8 @@ named_to es e k h =
 -- ---- a string by reference or in line
 
 -- the strings entered after a string in line
-known_after : (ss : List Entry) (strings : List (List ℕ)) (e : Entry) → IsKnown ss strings → IsClean e → IsKnown (ss ++ e ∷ []) (entered_by None strings (entry_in_line e) (size_of e))
+known_after : (ss : List Entry) (strings : List (List ℕ)) (e : Entry) → IsKnown ss strings → IsClean e
+    → IsKnown (ss ++ e ∷ []) (entered_by None strings (entry_in_line e) (size_of e))
 known_after ss strings e k c =
     elim (cases_lt 250 (size_of e)) [
       | inl long ↦
@@ -148,11 +155,13 @@ record Named (ss : List Entry) (e : Entry) (k : ℕ) : Type 0 where
   least : IsLeastName ss k e
   small : k < 2 ^ 64
 
-named_least : (ss : List Entry) (strings : List (List ℕ)) (e : Entry) (k : ℕ) → IsKnown ss strings → IsClean e → IsLeast strings (entry_in_line e) (Some k) → Named ss e k
+named_least : (ss : List Entry) (strings : List (List ℕ)) (e : Entry) (k : ℕ) → IsKnown ss strings → IsClean e
+    → IsLeast strings (entry_in_line e) (Some k) → Named ss e k
 named_least ss strings e k known c l =
     let n : Names strings (entry_in_line e) k = names strings (entry_in_line e) k l.0 in
     let high : k ≤ 15000 = n.high in
-    let here : IsLeast (entries_in_line (entries_of ss)) (entry_in_line e) (Some k) = subst (λ (s : List (List ℕ)). IsLeast s (entry_in_line e) (Some k)) known.are l in
+    let here : IsLeast (entries_in_line (entries_of ss)) (entry_in_line e) (Some k) =
+    subst (λ (s : List (List ℕ)). IsLeast s (entry_in_line e) (Some k)) known.are l in
     record {
       is = named_from (entries_of ss) e k known.clean c here.0;
       least = λ j less h. here.1 j less (named_to (entries_of ss) e j h);
@@ -172,7 +181,8 @@ record PairBy (ss : List Entry) (strings : List (List ℕ)) (first second : List
   known : IsKnown after (entered_by r strings (pair_in_line first second) (length first + length second))
   shortest : IsShortestPair spells
 
-pair_by : (ss : List Entry) (strings : List (List ℕ)) (first second : List ℕ) (r : Option ℕ) → IsKnown ss strings → IsClean (Pair first second) → IsLeast strings (pair_in_line first second) r → PairBy ss strings first second r
+pair_by : (ss : List Entry) (strings : List (List ℕ)) (first second : List ℕ) (r : Option ℕ) → IsKnown ss strings
+    → IsClean (Pair first second) → IsLeast strings (pair_in_line first second) r → PairBy ss strings first second r
 pair_by ss strings first second (Some k) known c l =
     let n : Named ss (Pair first second) k = named_least ss strings (Pair first second) k known c l in
     record {
@@ -195,9 +205,12 @@ pub record PairWritten (ss : List Entry) (strings : List (List ℕ)) (first seco
   pub known : IsKnown after (after_pair strings first second)
   pub shortest : IsShortestPair spells
 
-pub pair_written : (ss : List Entry) (strings : List (List ℕ)) (first second : List ℕ) → IsKnown ss strings → ¬ Contains first 0 → ¬ Contains second 0 → PairWritten ss strings first second
+pub pair_written : (ss : List Entry) (strings : List (List ℕ)) (first second : List ℕ) → IsKnown ss strings
+    → ¬ Contains first 0 → ¬ Contains second 0 → PairWritten ss strings first second
 pair_written ss strings first second known f s =
-    let w : PairBy ss strings first second (reference_of strings (pair_in_line first second)) = pair_by ss strings first second (reference_of strings (pair_in_line first second)) known (f, s) (reference_least strings (pair_in_line first second)) in
+    let w : PairBy ss strings first second (reference_of strings (pair_in_line first second)) =
+    pair_by ss strings first second (reference_of strings (pair_in_line first second)) known (f, s)
+    (reference_least strings (pair_in_line first second)) in
     record { after = w.after; spells = w.spells; known = w.known; shortest = w.shortest }
 
 by_reference-length : (r : Option ℕ) (text : List ℕ) → length (by_reference r text) ≤ 10 + length text
@@ -205,7 +218,12 @@ by_reference-length (Some k) text = omega (arith, number_short k)
 by_reference-length None text = omega arith
 
 pub pair_short : (strings : List (List ℕ)) (first second : List ℕ) → length (pair_text strings first second) ≤ length first + length second + 13
-pair_short strings first second = omega (arith, by_reference-length (reference_of strings (pair_in_line first second)) (pair_in_line first second), pair_length first second)
+pair_short strings first second = omega (
+  arith,
+  by_reference-length (reference_of strings (pair_in_line first second))
+      (pair_in_line first second),
+  pair_length first second,
+)
 
 -- ---- single strings
 
@@ -215,7 +233,8 @@ record SingleBy (ss : List Entry) (strings : List (List ℕ)) (text : List ℕ) 
   known : IsKnown after (entered_by r strings (single_in_line text) (length text))
   shortest : IsShortestSingle spells
 
-single_by : (ss : List Entry) (strings : List (List ℕ)) (text : List ℕ) (r : Option ℕ) → IsKnown ss strings → IsClean (Single text) → IsLeast strings (single_in_line text) r → SingleBy ss strings text r
+single_by : (ss : List Entry) (strings : List (List ℕ)) (text : List ℕ) (r : Option ℕ) → IsKnown ss strings
+    → IsClean (Single text) → IsLeast strings (single_in_line text) r → SingleBy ss strings text r
 single_by ss strings text (Some k) known c l =
     let n : Named ss (Single text) k = named_least ss strings (Single text) k known c l in
     record {
@@ -239,7 +258,9 @@ pub record SingleWritten (ss : List Entry) (strings : List (List ℕ)) (text : L
 
 pub single_written : (ss : List Entry) (strings : List (List ℕ)) (text : List ℕ) → IsKnown ss strings → ¬ Contains text 0 → SingleWritten ss strings text
 single_written ss strings text known c =
-    let w : SingleBy ss strings text (reference_of strings (single_in_line text)) = single_by ss strings text (reference_of strings (single_in_line text)) known c (reference_least strings (single_in_line text)) in
+    let w : SingleBy ss strings text (reference_of strings (single_in_line text)) =
+    single_by ss strings text (reference_of strings (single_in_line text)) known c
+    (reference_least strings (single_in_line text)) in
     record { after = w.after; spells = w.spells; known = w.known; shortest = w.shortest }
 
 pub single_short : (strings : List (List ℕ)) (text : List ℕ) → length (single_text strings text) ≤ length text + 12

@@ -23,3 +23,4 @@ pub mod WrittenFile
 pub mod WriteLemmas
 pub mod StandardFacts
 pub mod IndexLemmas
+pub mod LatestLemmas

@@ -16,7 +16,8 @@ use Rattle.osm_model.specs.declared.lists.Tag.{Tag}
 use Rattle.osm_o5c.specs.Written.{member_counter}
 use Rattle.osm_o5c.specs.Steps.NumberReading.{wrapped_of, signed_at, part_at, id_at, longitude_at, latitude_at, is_id, is_longitude, is_latitude}
 use Rattle.osm_o5c.specs.Steps.StringReading.{pair_at, single_at, text_of, tag_at}
-use Rattle.osm_o5c.specs.Steps.ObjectReading.{many_at, ref_at, kind_of_digit, role_of, member_at, tags_at, refs_at, members_at, node_at, way_at, relation_at, what_at}
+use Rattle.osm_o5c.specs.Steps.ObjectReading.{many_at, ref_at, kind_of_digit, role_of, member_at, tags_at, refs_at}
+use Rattle.osm_o5c.specs.Steps.ObjectReading.{members_at, node_at, way_at, relation_at, what_at}
 use Rattle.osm_reading.specs.Steps.Answers.{and_then, when}
 use Rattle.osm_o5c.specs.declared.reader.Reader.{Reader}
 use Rattle.osm_o5c.specs.declared.strings.Entry.{Entry}
@@ -30,22 +31,29 @@ record Listed {A : Type 0} (limits : A → Type 0) (most : ℕ) (xs : List A) : 
   few : length xs ≤ most
   each : AllByRecursion limits xs
 
-many_limits : {S A : Type 0} (limits : A → Type 0) (one : S → List ℕ → Option (A × S × List ℕ)) → ((s : S) (bytes : List ℕ) (x : A × S × List ℕ) → one s bytes ≡ Some x → limits x.0) → (most : ℕ) (s : S) (bytes : List ℕ) (m : List A × S) → many_at one most s bytes ≡ Some m → Listed limits most m.0
+many_limits : {S A : Type 0} (limits : A → Type 0) (one : S → List ℕ → Option (A × S × List ℕ))
+    → ((s : S) (bytes : List ℕ) (x : A × S × List ℕ) → one s bytes ≡ Some x → limits x.0)
+    → (most : ℕ) (s : S) (bytes : List ℕ) (m : List A × S) → many_at one most s bytes ≡ Some m → Listed limits most m.0
 unfolding many_at
-many_limits {S} {A} limits one law zero s [] m e = subst (λ (p : List A × S). Listed limits zero p.0) (same_Some ([], s) m e) (record { few = omega arith; each = tt })
-many_limits {S} {A} limits one law (suc k) s [] m e = subst (λ (p : List A × S). Listed limits (suc k) p.0) (same_Some ([], s) m e) (record { few = omega arith; each = tt })
+many_limits {S} {A} limits one law zero s [] m e = subst (λ (p : List A × S). Listed limits zero p.0)
+    (same_Some ([], s) m e) (record { few = omega arith; each = tt })
+many_limits {S} {A} limits one law (suc k) s [] m e = subst (λ (p : List A × S). Listed limits (suc k) p.0)
+    (same_Some ([], s) m e) (record { few = omega arith; each = tt })
 many_limits limits one law zero s (b ∷ bs) m e = absurd cc
 many_limits {S} {A} limits one law (suc k) s (b ∷ bs) m e =
     let y = some_then (one s (b ∷ bs)) (λ x. and_then (many_at one k x.1 x.2) (λ m. Some (x.0 ∷ m.0, m.1))) m e in
     let n = some_then (many_at one k y.0.1 y.0.2) (λ m. Some (y.0.0 ∷ m.0, m.1)) m y.2 in
     let tail : Listed limits k n.0.0 = many_limits limits one law k y.0.1 y.0.2 n.0 n.1 in
     let few : length n.0.0 ≤ k = tail.few in
-    subst (λ (p : List A × S). Listed limits (suc k) p.0) (same_Some (y.0.0 ∷ n.0.0, n.0.1) m n.2) (record { few = omega arith; each = (law s (b ∷ bs) y.0 y.1, tail.each) })
+    subst (λ (p : List A × S). Listed limits (suc k) p.0) (same_Some (y.0.0 ∷ n.0.0, n.0.1) m n.2)
+    (record { few = omega arith; each = (law s (b ∷ bs) y.0 y.1, tail.each) })
 
 tag_limits : (table : List Entry) (bytes : List ℕ) (x : Tag × List Entry × List ℕ) → tag_at table bytes ≡ Some x → IsTag x.0
 unfolding tag_at
 tag_limits table bytes x e =
-    let p = some_then (pair_at table bytes) (λ p. and_then (text_of p.0.0) (λ key. and_then (text_of p.0.1) (λ value. Some (record { key = key; value = value }, p.1, p.2)))) x e in
+    let p = some_then (pair_at table bytes)
+    (λ p. and_then (text_of p.0.0)
+    (λ key. and_then (text_of p.0.1) (λ value. Some (record { key = key; value = value }, p.1, p.2)))) x e in
     let k = some_then (text_of p.0.0.0) (λ key. and_then (text_of p.0.0.1) (λ value. Some (record { key = key; value = value }, p.0.1, p.0.2))) x p.2 in
     let v = some_then (text_of p.0.0.1) (λ value. Some (record { key = k.0; value = value }, p.0.1, p.0.2)) x k.2 in
     subst (λ (q : Tag × List Entry × List ℕ). IsTag q.0) (same_Some (record { key = k.0; value = v.0 }, p.0.1, p.0.2) x v.2)
@@ -75,8 +83,12 @@ role_limits (b ∷ bs) x e =
 member_limits : (s : Reader) (bytes : List ℕ) (x : Member × Reader × List ℕ) → member_at s bytes ≡ Some x → IsMember x.0
 unfolding member_at
 member_limits s bytes x e =
-    let d = some_then (signed_at bytes) (λ d. and_then (single_at s.strings d.1) (λ t. and_then (role_of t.0) (λ r. when (is_id (member_counter r.0 s.counters +ℤ d.0)) (Some (made_member s d.0 t r))))) x e in
-    let t = some_then (single_at s.strings d.0.1) (λ t. and_then (role_of t.0) (λ r. when (is_id (member_counter r.0 s.counters +ℤ d.0.0)) (Some (made_member s d.0.0 t r)))) x d.2 in
+    let d = some_then (signed_at bytes) (λ d. and_then (single_at s.strings d.1)
+    (λ t. and_then (role_of t.0) (λ r. when (is_id (member_counter r.0 s.counters +ℤ d.0))
+    (Some (made_member s d.0 t r))))) x e in
+    let t = some_then (single_at s.strings d.0.1)
+    (λ t. and_then (role_of t.0) (λ r. when (is_id (member_counter r.0 s.counters +ℤ d.0.0))
+    (Some (made_member s d.0.0 t r)))) x d.2 in
     let r = some_then (role_of t.0.0) (λ r. when (is_id (member_counter r.0 s.counters +ℤ d.0.0)) (Some (made_member s d.0.0 t.0 r))) x t.2 in
     let g = some_when (is_id (member_counter r.0.0 s.counters +ℤ d.0.0)) (Some (made_member s d.0.0 t.0 r.0)) x r.2 in
     subst (λ (q : Member × Reader × List ℕ). IsMember q.0) (same_Some (made_member s d.0.0 t.0 r.0) x g.1)
@@ -88,22 +100,30 @@ are_tags table bytes t e = let l = many_limits IsTag tag_at tag_limits 5000 tabl
 node_limits : (s : Reader) (bytes : List ℕ) (x : What × Reader) → node_at s bytes ≡ Some x → IsWhat kinds.Node x.0
 unfolding node_at longitude_at latitude_at
 node_limits s bytes x e =
-    let a = some_then (longitude_at s.counters.lon bytes) (λ a. and_then (latitude_at s.counters.lat a.1) (λ y. and_then (tags_at s.strings y.1) (λ t. Some (made_node s a y t)))) x e in
+    let a = some_then (longitude_at s.counters.lon bytes) (λ a. and_then (latitude_at s.counters.lat a.1)
+    (λ y. and_then (tags_at s.strings y.1) (λ t. Some (made_node s a y t)))) x e in
     let b = some_then (latitude_at s.counters.lat a.0.1) (λ y. and_then (tags_at s.strings y.1) (λ t. Some (made_node s a.0 y t))) x a.2 in
     let t = some_then (tags_at s.strings b.0.1) (λ t. Some (made_node s a.0 b.0 t)) x b.2 in
-    let d = some_then (signed_at bytes) (λ d. when (is_longitude (wrapped_of (s.counters.lon +ℤ d.0))) (Some (wrapped_of (s.counters.lon +ℤ d.0), d.1))) a.0 a.1 in
+    let d = some_then (signed_at bytes) (λ d. when (is_longitude (wrapped_of (s.counters.lon +ℤ d.0)))
+    (Some (wrapped_of (s.counters.lon +ℤ d.0), d.1))) a.0 a.1 in
     let g = some_when (is_longitude (wrapped_of (s.counters.lon +ℤ d.0.0))) (Some (wrapped_of (s.counters.lon +ℤ d.0.0), d.0.1)) a.0 d.2 in
-    let lon : IsLongitude a.0.0 = subst (λ (q : ℤ × List ℕ). IsLongitude q.0) (same_Some (wrapped_of (s.counters.lon +ℤ d.0.0), d.0.1) a.0 g.1) (is_longitude_is (wrapped_of (s.counters.lon +ℤ d.0.0)) g.0) in
-    let f = some_then (signed_at a.0.1) (λ d. when (is_latitude (wrapped_of (s.counters.lat +ℤ d.0))) (Some (wrapped_of (s.counters.lat +ℤ d.0), d.1))) b.0 b.1 in
+    let lon : IsLongitude a.0.0 = subst (λ (q : ℤ × List ℕ). IsLongitude q.0)
+    (same_Some (wrapped_of (s.counters.lon +ℤ d.0.0), d.0.1) a.0 g.1)
+    (is_longitude_is (wrapped_of (s.counters.lon +ℤ d.0.0)) g.0) in
+    let f = some_then (signed_at a.0.1) (λ d. when (is_latitude (wrapped_of (s.counters.lat +ℤ d.0)))
+    (Some (wrapped_of (s.counters.lat +ℤ d.0), d.1))) b.0 b.1 in
     let h = some_when (is_latitude (wrapped_of (s.counters.lat +ℤ f.0.0))) (Some (wrapped_of (s.counters.lat +ℤ f.0.0), f.0.1)) b.0 f.2 in
-    let lat : IsLatitude b.0.0 = subst (λ (q : ℤ × List ℕ). IsLatitude q.0) (same_Some (wrapped_of (s.counters.lat +ℤ f.0.0), f.0.1) b.0 h.1) (is_latitude_is (wrapped_of (s.counters.lat +ℤ f.0.0)) h.0) in
+    let lat : IsLatitude b.0.0 = subst (λ (q : ℤ × List ℕ). IsLatitude q.0)
+    (same_Some (wrapped_of (s.counters.lat +ℤ f.0.0), f.0.1) b.0 h.1)
+    (is_latitude_is (wrapped_of (s.counters.lat +ℤ f.0.0)) h.0) in
     subst (λ (p : What × Reader). IsWhat kinds.Node p.0) (same_Some (made_node s a.0 b.0 t.0) x t.2)
     (refl, record { longitude = lon; latitude = lat }, are_tags s.strings b.0.1 t.0 t.1)
 
 way_limits : (s : Reader) (bytes : List ℕ) (x : What × Reader) → way_at s bytes ≡ Some x → IsWhat kinds.Way x.0
 unfolding way_at
 way_limits s bytes x e =
-    let p = some_then (part_at bytes) (λ p. and_then (refs_at s.counters.way_node p.0) (λ r. and_then (tags_at s.strings p.1) (λ t. Some (made_way s r t)))) x e in
+    let p = some_then (part_at bytes) (λ p. and_then (refs_at s.counters.way_node p.0)
+    (λ r. and_then (tags_at s.strings p.1) (λ t. Some (made_way s r t)))) x e in
     let r = some_then (refs_at s.counters.way_node p.0.0) (λ r. and_then (tags_at s.strings p.0.1) (λ t. Some (made_way s r t))) x p.2 in
     let t = some_then (tags_at s.strings p.0.1) (λ t. Some (made_way s r.0 t)) x r.2 in
     let refs = many_limits IsId ref_at ref_limits 32000 s.counters.way_node p.0.0 r.0 r.1 in

@@ -1,5 +1,6 @@
 -- A valid prefix that no dataset extends is the longest of all; no spelling of a number is a prefix of another.
-use Rattle.std.proofs.Common.{◌≡◌, ℕ, zero, suc, ◌+◌, ◌-◌, ◌≤◌, cond, eqb, ltb, List, [], ◌∷◌, ◌++◌, length, Option, Some, None, sym, ap, subst, ◌∙◌, arith, inl, inr}
+use Rattle.std.proofs.Common.{◌≡◌, ℕ, zero, suc, ◌+◌, ◌-◌, ◌≤◌, cond, eqb, ltb, List, [], ◌∷◌, ◌++◌, length, Option}
+use Rattle.std.proofs.Common.{Some, None, sym, ap, subst, ◌∙◌, arith, inl, inr}
 use Rattle.std.proofs.lemmas.Bool.{cases_lt}
 use Rattle.std.proofs.lemmas.Option.{same_Some, some_pair_parts}
 use Rattle.std.proofs.lemmas.List.{length-append}
@@ -7,7 +8,8 @@ use Rattle.osm_model.specs.Change.{ChangeValue}
 use Rattle.osm_model.specs.declared.kind.Kind.{Kind}
 use Rattle.osm_o5c.specs.Context.{Context}
 use Rattle.osm_o5c.specs.File.{Front, Longest}
-use Rattle.osm_o5c.specs.Steps.FileReading.{new_reader, Position, position, step, dataset_at, dataset_of, object_dataset_at, other_dataset_at, with_found, kind_of_byte}
+use Rattle.osm_o5c.specs.Steps.FileReading.{new_reader, Position, position, step, dataset_at, dataset_of}
+use Rattle.osm_o5c.specs.Steps.FileReading.{object_dataset_at, other_dataset_at, with_found, kind_of_byte}
 use Rattle.osm_o5c.proofs.FieldLemmas.{reader_of}
 use Rattle.osm_o5c.proofs.FrontLemmas.{walk, Ends, apart, front_walks, longest_ends, none_later, same_behind, same_front}
 use Rattle.osm_o5c.proofs.NumberLemmas.{part_takes, unsigned_again}
@@ -21,17 +23,20 @@ use Rattle.osm_o5c.specs.declared.reader.Reader.{Reader}
 part_shrinks : (bytes : List ℕ) (x : List ℕ × List ℕ) → part_at bytes ≡ Some x → length x.1 ≤ length bytes
 part_shrinks bytes x e = let t = part_takes bytes x e in omega (arith, ap length t.parts, length-append t.prefix x.1)
 
-object_shrinks : (k : Kind) (s : Reader) (bytes : List ℕ) (x : Option ChangeValue × Reader × List ℕ) → object_dataset_at k s bytes ≡ Some x → length x.2 ≤ length bytes
+object_shrinks : (k : Kind) (s : Reader) (bytes : List ℕ) (x : Option ChangeValue × Reader × List ℕ)
+    → object_dataset_at k s bytes ≡ Some x → length x.2 ≤ length bytes
 unfolding object_dataset_at
 object_shrinks k s bytes x e =
     let p = some_then (part_at bytes) (λ p. and_then (object_at k s p.0) (λ o. Some (Some o.0, o.1, p.1))) x e in
     let o = some_then (object_at k s p.0.0) (λ o. Some (Some o.0, o.1, p.0.1)) x p.2 in
     subst (λ (q : Option ChangeValue × Reader × List ℕ). length q.2 ≤ length bytes) (same_Some (Some o.0.0, o.0.1, p.0.1) x o.2) (part_shrinks bytes p.0 p.1)
 
-other_shrinks : (t : ℕ) (s : Reader) (bytes : List ℕ) (x : Option ChangeValue × Reader × List ℕ) → other_dataset_at t s bytes ≡ Some x → length x.2 ≤ length bytes
+other_shrinks : (t : ℕ) (s : Reader) (bytes : List ℕ) (x : Option ChangeValue × Reader × List ℕ)
+    → other_dataset_at t s bytes ≡ Some x → length x.2 ≤ length bytes
 unfolding other_dataset_at
 other_shrinks t s bytes x e =
-    chosen (ltb t 240) (and_then (part_at bytes) (λ p. Some (None, s, p.1))) (cond (ltb t 254) (Some (None, s, bytes)) (cond (eqb t 255) (Some (None, new_reader, bytes)) None)) (Some x) e (length x.2 ≤ length bytes)
+    chosen (ltb t 240) (and_then (part_at bytes) (λ p. Some (None, s, p.1))) (cond (ltb t 254) (Some (None, s, bytes))
+    (cond (eqb t 255) (Some (None, new_reader, bytes)) None)) (Some x) e (length x.2 ≤ length bytes)
     (λ low is.
     let p = some_then (part_at bytes) (λ p. Some (None, s, p.1)) x is in
     subst (λ (q : Option ChangeValue × Reader × List ℕ). length q.2 ≤ length bytes) (same_Some (None, s, p.0.1) x p.2) (part_shrinks bytes p.0 p.1))
@@ -43,7 +48,8 @@ other_shrinks t s bytes x e =
     (λ yes_reset is. subst (λ (q : Option ChangeValue × Reader × List ℕ). length q.2 ≤ length bytes) (same_Some (None, new_reader, bytes) x is) (omega arith))
     (λ no_reset is. absurd cc)))
 
-of_shrinks : (o : Option Kind) (t : ℕ) (s : Reader) (bytes : List ℕ) (x : Option ChangeValue × Reader × List ℕ) → dataset_of o t s bytes ≡ Some x → length x.2 ≤ length bytes
+of_shrinks : (o : Option Kind) (t : ℕ) (s : Reader) (bytes : List ℕ) (x : Option ChangeValue × Reader × List ℕ)
+    → dataset_of o t s bytes ≡ Some x → length x.2 ≤ length bytes
 of_shrinks (Some k) t s bytes x e = object_shrinks k s bytes x e
 of_shrinks None t s bytes x e = other_shrinks t s bytes x e
 
@@ -77,20 +83,25 @@ walked_back : (bytes : List ℕ) (k : ℕ) (p q : Position) → walk k bytes ≡
 walked_back bytes k p q here ends =
     elim (cases_lt ends.count k) [
       | inl less ↦ apart (walk k bytes) p (none_later bytes k ends.count q less ends.leads ends.stuck) here
-      | inr most ↦ walk_shrinks bytes k (ends.count - k) p q here (subst (λ (i : ℕ). walk i bytes ≡ Some q) (let z : ends.count ≡ k + (ends.count - k) = omega arith in z) ends.leads)
+      | inr most ↦ walk_shrinks bytes k (ends.count - k) p q here (subst (λ (i : ℕ). walk i bytes ≡ Some q)
+          (let z : ends.count ≡ k + (ends.count - k) = omega arith in z) ends.leads)
     ]
 
 -- every valid prefix of the bytes is at most as long
-pub longest_of_all : (bytes prefix rest other more : List ℕ) (C : Context) (xs : List ChangeValue) → Longest bytes prefix rest → Front other C xs → bytes ≡ other ++ more → length other ≤ length prefix
+pub longest_of_all : (bytes prefix rest other more : List ℕ) (C : Context) (xs : List ChangeValue)
+    → Longest bytes prefix rest → Front other C xs → bytes ≡ other ++ more → length other ≤ length prefix
 longest_of_all bytes prefix rest other more C xs l f whole =
     let w = front_walks other C xs more f in
     let end = longest_ends bytes prefix rest l in
     let same : end.behind ≡ w.behind ++ more = same_behind end.behind (w.behind ++ more) (sym end.begins ∙ whole ∙ ap (λ (b : List ℕ). b ++ more) w.begins) in
-    let back : length rest ≤ length more = walked_back (w.behind ++ more) w.count (position (reader_of C) xs more) (position (reader_of l.context) l.changes rest) w.leads (subst (λ (b : List ℕ). Ends b (position (reader_of l.context) l.changes rest)) same end.ends) in
+    let back : length rest ≤ length more = walked_back (w.behind ++ more) w.count (position (reader_of C) xs more)
+    (position (reader_of l.context) l.changes rest) w.leads
+    (subst (λ (b : List ℕ). Ends b (position (reader_of l.context) l.changes rest)) same end.ends) in
     omega (arith, ap length whole, ap length l.whole, length-append prefix rest, length-append other more)
 
 -- two spellings at the start of the same bytes are the same, of the same number
-pub one_number : (prefix rest other more : List ℕ) (n m : ℕ) → SpellsNumber prefix n → SpellsNumber other m → prefix ++ rest ≡ other ++ more → (n ≡ m) × (prefix ≡ other)
+pub one_number : (prefix rest other more : List ℕ) (n m : ℕ) → SpellsNumber prefix n → SpellsNumber other m
+    → prefix ++ rest ≡ other ++ more → (n ≡ m) × (prefix ≡ other)
 one_number prefix rest other more n m a b e =
     let first : unsigned_at (prefix ++ rest) ≡ Some (n, rest) = unsigned_again prefix n rest a in
     let second : unsigned_at (prefix ++ rest) ≡ Some (m, more) = rw e (unsigned_again other m more b) in

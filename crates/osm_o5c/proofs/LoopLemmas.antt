@@ -37,12 +37,17 @@ pair_shorter : (table : List Entry) (bytes : List ℕ) (x : (List ℕ × List �
 unfolding pair_at
 pair_shorter table [] x e = absurd cc
 pair_shorter table (b ∷ bs) x e =
-    chosen (eqb b 0) (and_then (until_nul_at bs) (λ f. and_then (until_nul_at f.1) (λ s. Some ((f.0, s.0), entered table (Pair f.0 s.0), s.1)))) (and_then (unsigned_at (b ∷ bs)) (λ k. and_then (pair_of (latest table k.0)) (λ p. Some (p, table, k.1)))) (Some x) e
+    chosen (eqb b 0)
+    (and_then (until_nul_at bs)
+    (λ f. and_then (until_nul_at f.1) (λ s. Some ((f.0, s.0), entered table (Pair f.0 s.0), s.1))))
+    (and_then (unsigned_at (b ∷ bs)) (λ k. and_then (pair_of (latest table k.0)) (λ p. Some (p, table, k.1))))
+    (Some x) e
     (length x.2 < length (b ∷ bs))
     (λ nul is.
     let f = some_then (until_nul_at bs) (λ f. and_then (until_nul_at f.1) (λ s. Some ((f.0, s.0), entered table (Pair f.0 s.0), s.1))) x is in
     let s = some_then (until_nul_at f.0.1) (λ s. Some ((f.0.0, s.0), entered table (Pair f.0.0 s.0), s.1)) x f.2 in
-    subst (λ (q : (List ℕ × List ℕ) × List Entry × List ℕ). length q.2 < length (b ∷ bs)) (same_Some ((f.0.0, s.0.0), entered table (Pair f.0.0 s.0.0), s.0.1) x s.2)
+    subst (λ (q : (List ℕ × List ℕ) × List Entry × List ℕ). length q.2 < length (b ∷ bs))
+    (same_Some ((f.0.0, s.0.0), entered table (Pair f.0.0 s.0.0), s.0.1) x s.2)
     (omega (arith, until_shorter bs f.0 f.1, until_shorter f.0.1 s.0 s.1)))
     (λ other is.
     let k = some_then (unsigned_at (b ∷ bs)) (λ k. and_then (pair_of (latest table k.0)) (λ p. Some (p, table, k.1))) x is in
@@ -54,7 +59,9 @@ single_shorter : (table : List Entry) (bytes : List ℕ) (x : List ℕ × List E
 unfolding single_at
 single_shorter table [] x e = absurd cc
 single_shorter table (b ∷ bs) x e =
-    chosen (eqb b 0) (and_then (until_nul_at bs) (λ t. Some (t.0, entered table (Single t.0), t.1))) (and_then (unsigned_at (b ∷ bs)) (λ k. and_then (single_of (latest table k.0)) (λ t. Some (t, table, k.1)))) (Some x) e
+    chosen (eqb b 0) (and_then (until_nul_at bs) (λ t. Some (t.0, entered table (Single t.0), t.1)))
+    (and_then (unsigned_at (b ∷ bs)) (λ k. and_then (single_of (latest table k.0)) (λ t. Some (t, table, k.1))))
+    (Some x) e
     (length x.2 < length (b ∷ bs))
     (λ nul is.
     let f = some_then (until_nul_at bs) (λ t. Some (t.0, entered table (Single t.0), t.1)) x is in
@@ -66,11 +73,17 @@ single_shorter table (b ∷ bs) x e =
     subst (λ (q : List ℕ × List Entry × List ℕ). length q.2 < length (b ∷ bs)) (same_Some (p.0, table, k.0.1) x p.2)
     (unsigned_shorter (b ∷ bs) k.0 k.1))
 
-pub tag_shorter : (table : List Entry) (bytes : List ℕ) (t : Tag) (after : List Entry) (rest : List ℕ) → tag_at table bytes ≡ Some (t, after, rest) → length rest < length bytes
+pub tag_shorter : (table : List Entry) (bytes : List ℕ) (t : Tag) (after : List Entry) (rest : List ℕ)
+    → tag_at table bytes ≡ Some (t, after, rest) → length rest < length bytes
 unfolding tag_at
 tag_shorter table bytes t after rest e =
-    let p = some_then (pair_at table bytes) (λ p. and_then (text_of p.0.0) (λ key. and_then (text_of p.0.1) (λ value. Some (record { key = key; value = value }, p.1, p.2)))) (t, after, rest) e in
-    let k = some_then (text_of p.0.0.0) (λ key. and_then (text_of p.0.0.1) (λ value. Some (record { key = key; value = value }, p.0.1, p.0.2))) (t, after, rest) p.2 in
+    let p = some_then (pair_at table bytes)
+    (λ p. and_then (text_of p.0.0)
+    (λ key. and_then (text_of p.0.1) (λ value. Some (record { key = key; value = value }, p.1, p.2))))
+    (t, after, rest) e in
+    let k = some_then (text_of p.0.0.0)
+    (λ key. and_then (text_of p.0.0.1) (λ value. Some (record { key = key; value = value }, p.0.1, p.0.2)))
+    (t, after, rest) p.2 in
     let v = some_then (text_of p.0.0.1) (λ value. Some (record { key = k.0; value = value }, p.0.1, p.0.2)) (t, after, rest) k.2 in
     subst (λ (q : Tag × List Entry × List ℕ). length q.2 < length bytes) (same_Some (record { key = k.0; value = v.0 }, p.0.1, p.0.2) (t, after, rest) v.2)
     (pair_shorter table bytes p.0 p.1)
@@ -81,14 +94,20 @@ ref_shorter before bytes id after rest e =
     let r = some_then (id_at before bytes) (λ r. Some (r.0, r.0, r.1)) (id, after, rest) e in
     let d = some_then (signed_at bytes) (λ d. when (is_id (before +ℤ d.0)) (Some (before +ℤ d.0, d.1))) r.0 r.1 in
     let g = some_when (is_id (before +ℤ d.0.0)) (Some (before +ℤ d.0.0, d.0.1)) r.0 d.2 in
-    let inner : length r.0.1 < length bytes = subst (λ (q : ℤ × List ℕ). length q.1 < length bytes) (same_Some (before +ℤ d.0.0, d.0.1) r.0 g.1) (signed_shorter bytes d.0 d.1) in
+    let inner : length r.0.1 < length bytes = subst (λ (q : ℤ × List ℕ). length q.1 < length bytes)
+    (same_Some (before +ℤ d.0.0, d.0.1) r.0 g.1) (signed_shorter bytes d.0 d.1) in
     subst (λ (q : ℤ × ℤ × List ℕ). length q.2 < length bytes) (same_Some (r.0.0, r.0.0, r.0.1) (id, after, rest) r.2) inner
 
-pub member_shorter : (s : Reader) (bytes : List ℕ) (m : Member) (after : Reader) (rest : List ℕ) → member_at s bytes ≡ Some (m, after, rest) → length rest < length bytes
+pub member_shorter : (s : Reader) (bytes : List ℕ) (m : Member) (after : Reader) (rest : List ℕ)
+    → member_at s bytes ≡ Some (m, after, rest) → length rest < length bytes
 unfolding member_at
 member_shorter s bytes m after rest e =
-    let d = some_then (signed_at bytes) (λ d. and_then (single_at s.strings d.1) (λ t. and_then (role_of t.0) (λ r. when (is_id (member_counter r.0 s.counters +ℤ d.0)) (Some (made_member s d.0 t r))))) (m, after, rest) e in
-    let t = some_then (single_at s.strings d.0.1) (λ t. and_then (role_of t.0) (λ r. when (is_id (member_counter r.0 s.counters +ℤ d.0.0)) (Some (made_member s d.0.0 t r)))) (m, after, rest) d.2 in
+    let d = some_then (signed_at bytes) (λ d. and_then (single_at s.strings d.1)
+    (λ t. and_then (role_of t.0) (λ r. when (is_id (member_counter r.0 s.counters +ℤ d.0))
+    (Some (made_member s d.0 t r))))) (m, after, rest) e in
+    let t = some_then (single_at s.strings d.0.1)
+    (λ t. and_then (role_of t.0) (λ r. when (is_id (member_counter r.0 s.counters +ℤ d.0.0))
+    (Some (made_member s d.0.0 t r)))) (m, after, rest) d.2 in
     let r = some_then (role_of t.0.0) (λ r. when (is_id (member_counter r.0 s.counters +ℤ d.0.0)) (Some (made_member s d.0.0 t.0 r))) (m, after, rest) t.2 in
     let g = some_when (is_id (member_counter r.0.0 s.counters +ℤ d.0.0)) (Some (made_member s d.0.0 t.0 r.0)) (m, after, rest) r.2 in
     subst (λ (q : Member × Reader × List ℕ). length q.2 < length bytes) (same_Some (made_member s d.0.0 t.0 r.0) (m, after, rest) g.1)

@@ -1,5 +1,6 @@
 -- A number that is read is spelled, and what is spelled is read.
-use Rattle.std.proofs.Common.{◌≡◌, ℕ, zero, suc, ◌+◌, ◌*◌, ◌/◌, ◌%◌, ◌^◌, ◌<◌, ◌≤◌, true, false, eqb, ltb, leb, List, [], ◌∷◌, ◌++◌, length, take, drop, Some, refl, sym, ap, subst, ◌∙◌, append_assoc, arith}
+use Rattle.std.proofs.Common.{◌≡◌, ℕ, zero, suc, ◌+◌, ◌*◌, ◌/◌, ◌%◌, ◌^◌, ◌<◌, ◌≤◌, true, false, eqb, ltb, leb, List}
+use Rattle.std.proofs.Common.{[], ◌∷◌, ◌++◌, length, take, drop, Some, refl, sym, ap, subst, ◌∙◌, append_assoc, arith}
 use Rattle.std.specs.Prelude.{ℤ, pos, negsuc}
 use Rattle.std.proofs.lemmas.Bool.Decides.{nat_tests}
 use Rattle.std.proofs.lemmas.Option.{same_Some}
@@ -20,7 +21,8 @@ record TakesVarint (most n : ℕ) (prefix : List ℕ) : Type 0 where
   short : length prefix ≤ most
   small : n < 2 ^ 64
 
-one_more : (most b n high : ℕ) (prefix : List ℕ) → 128 ≤ b → n ≡ b % 128 + 128 * high → n < 2 ^ 64 → TakesVarint most high prefix → TakesVarint (suc most) n (b ∷ prefix)
+one_more : (most b n high : ℕ) (prefix : List ℕ) → 128 ≤ b → n ≡ b % 128 + 128 * high → n < 2 ^ 64
+    → TakesVarint most high prefix → TakesVarint (suc most) n (b ∷ prefix)
 one_more most b n high [] big e small g = absurd g.varint
 one_more most b n high (c ∷ cs) big e small g = record {
   varint = (big, g.varint);
@@ -46,7 +48,12 @@ varint_take (suc k) (b ∷ bs) x e =
     let t : Taken (TakesVarint k h.0.0) bs h.0.1 = varint_take k bs h.0 h.1 in
     let fits : b % 128 + 128 * h.0.0 < 2 ^ 64 = let q : ltb (b % 128 + 128 * h.0.0) (2 ^ 64) ≡ true = g.0 in grind (arith, nat_tests) in
     subst (λ (p : ℕ × List ℕ). Taken (TakesVarint (suc k) p.0) (b ∷ bs) p.1) (same_Some (b % 128 + 128 * h.0.0, h.0.1) x g.1)
-    (record { prefix = b ∷ t.prefix; parts = ap (λ (l : List ℕ). b ∷ l) t.parts; spelled = one_more k b (b % 128 + 128 * h.0.0) h.0.0 t.prefix big refl fits t.spelled }))
+    (record {
+      prefix = b ∷ t.prefix;
+      parts = ap (λ (l : List ℕ). b ∷ l) t.parts;
+      spelled =
+          one_more k b (b % 128 + 128 * h.0.0) h.0.0 t.prefix big refl fits t.spelled;
+    }))
 
 varint_again : (most : ℕ) (prefix : List ℕ) (n : ℕ) (rest : List ℕ) → TakesVarint most n prefix → varint_at most (prefix ++ rest) ≡ Some (n, rest)
 unfolding varint_at
@@ -64,14 +71,30 @@ varint_again (suc k) (b ∷ c ∷ bs) n rest g =
     let s : length (b ∷ c ∷ bs) ≤ suc k = g.short in
     let small : n < 2 ^ 64 = g.small in
     let high : ltb b 128 ≡ false = grind (arith, nat_tests) in
-    let inner : varint_at k (c ∷ bs ++ rest) ≡ Some (varint_value (c ∷ bs), rest) = varint_again k (c ∷ bs) (varint_value (c ∷ bs)) rest (record { varint = g.varint.1; value = refl; short = omega arith; small = omega arith }) in
+    let inner : varint_at k (c ∷ bs ++ rest) ≡ Some (varint_value (c ∷ bs), rest) =
+    varint_again k (c ∷ bs) (varint_value (c ∷ bs)) rest (record {
+      varint = g.varint.1;
+      value = refl;
+      short =
+          omega arith;
+      small = omega arith;
+    }) in
     let fits : ltb (b % 128 + 128 * varint_value (c ∷ bs)) (2 ^ 64) ≡ true = rw (← value) (grind (arith, nat_tests)) in
     rw (high, inner, fits, ← value) refl
 
 pub unsigned_takes : (bytes : List ℕ) (x : ℕ × List ℕ) → unsigned_at bytes ≡ Some x → Taken (λ f. SpellsNumber f x.0) bytes x.1
 unsigned_takes bytes x e =
     let t = varint_take 10 bytes x e in
-    record { prefix = t.prefix; parts = t.parts; spelled = record { varint = t.spelled.varint; value = t.spelled.value; short = t.spelled.short; small = t.spelled.small } }
+    record {
+      prefix = t.prefix;
+      parts = t.parts;
+      spelled = record {
+        varint = t.spelled.varint;
+        value = t.spelled.value;
+        short = t.spelled.short;
+        small = t.spelled.small;
+      };
+    }
 
 -- no spelling of a number is a prefix of another: the number and the bytes after it are the only ones
 pub unsigned_again : (prefix : List ℕ) (n : ℕ) (rest : List ℕ) → SpellsNumber prefix n → unsigned_at (prefix ++ rest) ≡ Some (n, rest)
@@ -171,5 +194,6 @@ pub part_again : (length_bytes part rest : List ℕ) → SpellsNumber length_byt
 unfolding part_at
 part_again length_bytes part rest s =
     let number : unsigned_at (length_bytes ++ (part ++ rest)) ≡ Some (length part, part ++ rest) = unsigned_again length_bytes (length part) (part ++ rest) s in
-    let fits : leb (length part) (length (part ++ rest)) ≡ true = let o : length part ≤ length (part ++ rest) = omega (arith, length-append part rest) in grind (arith, nat_tests) in
+    let fits : leb (length part) (length (part ++ rest)) ≡ true = let o : length part ≤ length (part ++ rest) =
+    omega (arith, length-append part rest) in grind (arith, nat_tests) in
     rw (append_assoc length_bytes part rest, number, fits, take_at part rest (length part) refl, drop_at part rest (length part) refl) refl

@@ -15,10 +15,12 @@ use Rattle.osm_model.specs.declared.change.What.TheVariants.{Node, Way, Relation
 use Rattle.osm_model.specs.declared.lists.Member.{Member}
 use Rattle.osm_model.specs.declared.lists.Tag.{Tag}
 use Rattle.osm_o5c.specs.Context.{Context, total, SpellsSum, SpellsWrapped, with_strings}
-use Rattle.osm_o5c.specs.Object.{SpellsTag, SpellsTags, SpellsRefs, SpellsMember, SpellsMembers, SpellsNode, SpellsWay, SpellsRelation, SpellsWhat, SpellsObject}
+use Rattle.osm_o5c.specs.Object.{SpellsTag, SpellsTags, SpellsRefs, SpellsMember, SpellsMembers, SpellsNode, SpellsWay}
+use Rattle.osm_o5c.specs.Object.{SpellsRelation, SpellsWhat, SpellsObject}
 use Rattle.osm_o5c.specs.Steps.NumberReading.{part_at, id_at, longitude_at, latitude_at}
 use Rattle.osm_o5c.specs.Steps.StringReading.{tag_at}
-use Rattle.osm_o5c.specs.Steps.ObjectReading.{ref_at, member_at, tags_at, refs_at, members_at, meta_at, node_at, way_at, relation_at, shape_at, what_at, object_at}
+use Rattle.osm_o5c.specs.Steps.ObjectReading.{ref_at, member_at, tags_at, refs_at, members_at, meta_at, node_at, way_at}
+use Rattle.osm_o5c.specs.Steps.ObjectReading.{relation_at, shape_at, what_at, object_at}
 use Rattle.osm_reading.specs.Steps.Answers.{and_then}
 use Rattle.osm_o5c.specs.declared.reader.Reader.{Reader}
 use Rattle.osm_o5c.specs.declared.strings.Entry.{Entry}
@@ -32,19 +34,24 @@ use Rattle.osm_o5c.proofs.FieldLemmas.{counters_of, reader_of, tag_exact, ref_ex
 
 -- ---- lists
 
-tags_take : (ss : List Entry) (bytes : List ℕ) (x : List Tag × List Entry) → tags_at (table_of ss) bytes ≡ Some x → TakesMany table_of SpellsTag IsTag 5000 ss bytes x.0 x.1
+tags_take : (ss : List Entry) (bytes : List ℕ) (x : List Tag × List Entry) → tags_at (table_of ss) bytes ≡ Some x
+    → TakesMany table_of SpellsTag IsTag 5000 ss bytes x.0 x.1
 tags_take ss bytes x e = many_takes table_of tag_at SpellsTag IsTag tag_exact 5000 ss bytes x e
 
-tags_again : (ss : List Entry) (bytes : List ℕ) (tags : List Tag) (after : List Entry) → SpellsTags ss bytes tags after → AreTags tags → tags_at (table_of ss) bytes ≡ Some (tags, table_of after)
+tags_again : (ss : List Entry) (bytes : List ℕ) (tags : List Tag) (after : List Entry) → SpellsTags ss bytes tags after
+    → AreTags tags → tags_at (table_of ss) bytes ≡ Some (tags, table_of after)
 tags_again ss bytes tags after s l = many_again table_of tag_at SpellsTag IsTag tag_exact 5000 ss bytes tags after s l.few l.each
 
-refs_take : (before : List ℤ) (bytes : List ℕ) (x : List ℤ × ℤ) → refs_at (total before) bytes ≡ Some x → TakesMany total SpellsSum IsId 32000 before bytes x.0 x.1
+refs_take : (before : List ℤ) (bytes : List ℕ) (x : List ℤ × ℤ) → refs_at (total before) bytes ≡ Some x
+    → TakesMany total SpellsSum IsId 32000 before bytes x.0 x.1
 refs_take before bytes x e = many_takes total ref_at SpellsSum IsId ref_exact 32000 before bytes x e
 
-refs_again : (before : List ℤ) (bytes : List ℕ) (refs : List ℤ) (after : List ℤ) → SpellsRefs before bytes refs after → AreRefs refs → refs_at (total before) bytes ≡ Some (refs, total after)
+refs_again : (before : List ℤ) (bytes : List ℕ) (refs : List ℤ) (after : List ℤ) → SpellsRefs before bytes refs after
+    → AreRefs refs → refs_at (total before) bytes ≡ Some (refs, total after)
 refs_again before bytes refs after s l = many_again total ref_at SpellsSum IsId ref_exact 32000 before bytes refs after s l.few l.each
 
-members_take : (C : Context) (bytes : List ℕ) (x : List Member × Reader) → members_at (reader_of C) bytes ≡ Some x → TakesMany reader_of SpellsMember IsMember 32000 C bytes x.0 x.1
+members_take : (C : Context) (bytes : List ℕ) (x : List Member × Reader) → members_at (reader_of C) bytes ≡ Some x
+    → TakesMany reader_of SpellsMember IsMember 32000 C bytes x.0 x.1
 members_take C bytes x e = many_takes reader_of member_at SpellsMember IsMember member_exact 32000 C bytes x e
 
 pub are_ids : (ms : List Member) → AllByRecursion IsMember ms → AllByRecursion HasMemberId ms
@@ -59,8 +66,11 @@ are_members : (ms : List Member) → AllByRecursion HasMemberId ms → AllByRecu
 are_members [] i r = tt
 are_members (m ∷ ms) i r = (record { id = i.0; role = r.0 }, are_members ms i.1 r.1)
 
-members_again : (C : Context) (bytes : List ℕ) (members : List Member) (after : Context) → SpellsMembers C bytes members after → AreMembers members → members_at (reader_of C) bytes ≡ Some (members, reader_of after)
-members_again C bytes members after s l = many_again reader_of member_at SpellsMember IsMember member_exact 32000 C bytes members after s l.few (are_members members l.ids l.roles)
+members_again : (C : Context) (bytes : List ℕ) (members : List Member) (after : Context)
+    → SpellsMembers C bytes members after → AreMembers members → members_at (reader_of C) bytes ≡
+    Some (members, reader_of after)
+members_again C bytes members after s l = many_again reader_of member_at SpellsMember IsMember member_exact 32000 C
+    bytes members after s l.few (are_members members l.ids l.roles)
 
 -- ---- what an object is
 
@@ -71,7 +81,10 @@ pub record WhatSpelled (kind : Kind) (C : Context) (bytes : List ℕ) (what : Wh
   pub limits : IsWhat kind what
   pub same : s ≡ reader_of after
 
-node_state : (C : Context) (lons lats : List ℤ) (ss : List Entry) (lon lat : ℤ) (table : List Entry) → lon ≡ wrapped_total lons → lat ≡ wrapped_total lats → table ≡ table_of ss → record { counters = record (counters_of C) { lon = lon; lat = lat }; strings = table } ≡ reader_of (record C { lons = lons; lats = lats; strings = ss })
+node_state : (C : Context) (lons lats : List ℤ) (ss : List Entry) (lon lat : ℤ) (table : List Entry)
+    → lon ≡ wrapped_total lons → lat ≡ wrapped_total lats → table ≡ table_of ss
+    → record { counters = record (counters_of C) { lon = lon; lat = lat }; strings = table } ≡ reader_of
+    (record C { lons = lons; lats = lats; strings = ss })
 node_state C lons lats ss lon lat table x y t = rw (x, y, t) refl
 
 abbrev pub made_node : Reader → ℤ × List ℕ → ℤ × List ℕ → List Tag × List Entry → What × Reader
@@ -80,8 +93,11 @@ made_node s x y t = (Node x.0 y.0 t.0, record { counters = record s.counters { l
 node_takes : (C : Context) (bytes : List ℕ) (x : What × Reader) → node_at (reader_of C) bytes ≡ Some x → WhatSpelled kinds.Node C bytes x.0 x.1
 unfolding node_at
 node_takes C bytes x e =
-    let a = some_then (longitude_at (wrapped_total C.lons) bytes) (λ a. and_then (latitude_at (wrapped_total C.lats) a.1) (λ y. and_then (tags_at (table_of C.strings) y.1) (λ t. Some (made_node (reader_of C) a y t)))) x e in
-    let b = some_then (latitude_at (wrapped_total C.lats) a.0.1) (λ y. and_then (tags_at (table_of C.strings) y.1) (λ t. Some (made_node (reader_of C) a.0 y t))) x a.2 in
+    let a = some_then (longitude_at (wrapped_total C.lons) bytes)
+    (λ a. and_then (latitude_at (wrapped_total C.lats) a.1) (λ y. and_then (tags_at (table_of C.strings) y.1)
+    (λ t. Some (made_node (reader_of C) a y t)))) x e in
+    let b = some_then (latitude_at (wrapped_total C.lats) a.0.1) (λ y. and_then (tags_at (table_of C.strings) y.1)
+    (λ t. Some (made_node (reader_of C) a.0 y t))) x a.2 in
     let t = some_then (tags_at (table_of C.strings) b.0.1) (λ t. Some (made_node (reader_of C) a.0 b.0 t)) x b.2 in
     let lon = longitude_takes C.lons bytes a.0 a.1 in
     let lat = latitude_takes C.lats a.0.1 b.0 b.1 in
@@ -109,16 +125,23 @@ node_takes C bytes x e =
       same = node_state C lon.after lat.after tags.after a.0.0 b.0.0 t.0.1 lon.same lat.same tags.same;
     })
 
-node_again : (C : Context) (bytes : List ℕ) (lon lat : ℤ) (tags : List Tag) (after : Context) → SpellsNode C bytes lon lat tags after → IsLocation lon lat → AreTags tags → node_at (reader_of C) bytes ≡ Some (Node lon lat tags, reader_of after)
+node_again : (C : Context) (bytes : List ℕ) (lon lat : ℤ) (tags : List Tag) (after : Context)
+    → SpellsNode C bytes lon lat tags after → IsLocation lon lat → AreTags tags → node_at (reader_of C) bytes ≡
+    Some (Node lon lat tags, reader_of after)
 unfolding node_at
 node_again C bytes lon lat tags after s location l =
-    let x : longitude_at (wrapped_total C.lons) (s.lon_bytes ++ (s.lat_bytes ++ s.tag_bytes)) ≡ Some (lon, s.lat_bytes ++ s.tag_bytes) = longitude_again C.lons s.lon_bytes lon s.lons (s.lat_bytes ++ s.tag_bytes) s.longitude location.longitude in
-    let y : latitude_at (wrapped_total C.lats) (s.lat_bytes ++ s.tag_bytes) ≡ Some (lat, s.tag_bytes) = latitude_again C.lats s.lat_bytes lat s.lats s.tag_bytes s.latitude location.latitude in
+    let x : longitude_at (wrapped_total C.lons) (s.lon_bytes ++ (s.lat_bytes ++ s.tag_bytes)) ≡
+    Some (lon, s.lat_bytes ++ s.tag_bytes) = longitude_again C.lons s.lon_bytes lon s.lons
+    (s.lat_bytes ++ s.tag_bytes) s.longitude location.longitude in
+    let y : latitude_at (wrapped_total C.lats) (s.lat_bytes ++ s.tag_bytes) ≡ Some (lat, s.tag_bytes) =
+    latitude_again C.lats s.lat_bytes lat s.lats s.tag_bytes s.latitude location.latitude in
     let t : tags_at (table_of C.strings) s.tag_bytes ≡ Some (tags, table_of s.strings) = tags_again C.strings s.tag_bytes tags s.strings s.tags_are l in
     let whole : bytes ≡ s.lon_bytes ++ (s.lat_bytes ++ s.tag_bytes) = s.whole ∙ append_assoc s.lon_bytes s.lat_bytes s.tag_bytes in
     rw (whole, x, y, t, s.context, wrapped_state C.lons s.lon_bytes lon s.lons s.longitude, wrapped_state C.lats s.lat_bytes lat s.lats s.latitude) refl
 
-way_state : (C : Context) (nodes : List ℤ) (ss : List Entry) (last : ℤ) (table : List Entry) → last ≡ total nodes → table ≡ table_of ss → record { counters = record (counters_of C) { way_node = last }; strings = table } ≡ reader_of (record C { way_nodes = nodes; strings = ss })
+way_state : (C : Context) (nodes : List ℤ) (ss : List Entry) (last : ℤ) (table : List Entry) → last ≡ total nodes
+    → table ≡ table_of ss → record { counters = record (counters_of C) { way_node = last }; strings = table } ≡
+    reader_of (record C { way_nodes = nodes; strings = ss })
 way_state C nodes ss last table r t = rw (r, t) refl
 
 abbrev pub made_way : Reader → List ℤ × ℤ → List Tag × List Entry → What × Reader
@@ -127,7 +150,8 @@ made_way s r t = (Way r.0 t.0, record { counters = record s.counters { way_node 
 way_takes : (C : Context) (bytes : List ℕ) (x : What × Reader) → way_at (reader_of C) bytes ≡ Some x → WhatSpelled kinds.Way C bytes x.0 x.1
 unfolding way_at
 way_takes C bytes x e =
-    let p = some_then (part_at bytes) (λ p. and_then (refs_at (total C.way_nodes) p.0) (λ r. and_then (tags_at (table_of C.strings) p.1) (λ t. Some (made_way (reader_of C) r t)))) x e in
+    let p = some_then (part_at bytes) (λ p. and_then (refs_at (total C.way_nodes) p.0)
+    (λ r. and_then (tags_at (table_of C.strings) p.1) (λ t. Some (made_way (reader_of C) r t)))) x e in
     let r = some_then (refs_at (total C.way_nodes) p.0.0) (λ r. and_then (tags_at (table_of C.strings) p.0.1) (λ t. Some (made_way (reader_of C) r t))) x p.2 in
     let t = some_then (tags_at (table_of C.strings) p.0.1) (λ t. Some (made_way (reader_of C) r.0 t)) x r.2 in
     let part = part_takes bytes p.0 p.1 in
@@ -155,7 +179,9 @@ way_takes C bytes x e =
       same = way_state C refs.after tags.after r.0.1 t.0.1 refs.same tags.same;
     })
 
-way_again : (C : Context) (bytes : List ℕ) (refs : List ℤ) (tags : List Tag) (after : Context) → SpellsWay C bytes refs tags after → AreRefs refs → AreTags tags → way_at (reader_of C) bytes ≡ Some (Way refs tags, reader_of after)
+way_again : (C : Context) (bytes : List ℕ) (refs : List ℤ) (tags : List Tag) (after : Context)
+    → SpellsWay C bytes refs tags after → AreRefs refs → AreTags tags → way_at (reader_of C) bytes ≡
+    Some (Way refs tags, reader_of after)
 unfolding way_at
 way_again C bytes refs tags after s r l =
     let p : part_at (s.length_bytes ++ s.part ++ s.tag_bytes) ≡ Some (s.part, s.tag_bytes) = part_again s.length_bytes s.part s.tag_bytes s.part_length in
@@ -163,7 +189,8 @@ way_again C bytes refs tags after s r l =
     let t : tags_at (table_of C.strings) s.tag_bytes ≡ Some (tags, table_of s.strings) = tags_again C.strings s.tag_bytes tags s.strings s.tags_are l in
     rw (s.whole, p, read, t, s.context) refl
 
-relation_state : (D : Context) (ss : List Entry) (s : Reader) (table : List Entry) → s ≡ reader_of D → table ≡ table_of ss → record { counters = s.counters; strings = table } ≡ reader_of (with_strings D ss)
+relation_state : (D : Context) (ss : List Entry) (s : Reader) (table : List Entry) → s ≡ reader_of D
+    → table ≡ table_of ss → record { counters = s.counters; strings = table } ≡ reader_of (with_strings D ss)
 relation_state D ss s table m t = rw (m, t) refl
 
 abbrev pub made_relation : List Member × Reader → List Tag × List Entry → What × Reader
@@ -172,7 +199,8 @@ made_relation m t = (Relation m.0 t.0, record { counters = m.1.counters; strings
 relation_takes : (C : Context) (bytes : List ℕ) (x : What × Reader) → relation_at (reader_of C) bytes ≡ Some x → WhatSpelled kinds.Relation C bytes x.0 x.1
 unfolding relation_at
 relation_takes C bytes x e =
-    let p = some_then (part_at bytes) (λ p. and_then (members_at (reader_of C) p.0) (λ m. and_then (tags_at m.1.strings p.1) (λ t. Some (made_relation m t)))) x e in
+    let p = some_then (part_at bytes) (λ p. and_then (members_at (reader_of C) p.0)
+    (λ m. and_then (tags_at m.1.strings p.1) (λ t. Some (made_relation m t)))) x e in
     let m = some_then (members_at (reader_of C) p.0.0) (λ m. and_then (tags_at m.1.strings p.0.1) (λ t. Some (made_relation m t))) x p.2 in
     let t = some_then (tags_at m.0.1.strings p.0.1) (λ t. Some (made_relation m.0 t)) x m.2 in
     let part = part_takes bytes p.0 p.1 in
@@ -196,16 +224,28 @@ relation_takes C bytes x e =
           context = refl;
         },
       );
-      limits = (refl, record { few = members.few; ids = are_ids m.0.0 members.each; roles = are_roles m.0.0 members.each }, record { few = tags.few; each = tags.each });
+      limits = (
+        refl,
+        record {
+          few = members.few;
+          ids = are_ids m.0.0 members.each;
+          roles =
+              are_roles m.0.0 members.each;
+        },
+        record { few = tags.few; each = tags.each },
+      );
       same = relation_state members.after tags.after m.0.1 t.0.1 members.same tags.same;
     })
 
-relation_again : (C : Context) (bytes : List ℕ) (members : List Member) (tags : List Tag) (after : Context) → SpellsRelation C bytes members tags after → AreMembers members → AreTags tags → relation_at (reader_of C) bytes ≡ Some (Relation members tags, reader_of after)
+relation_again : (C : Context) (bytes : List ℕ) (members : List Member) (tags : List Tag) (after : Context)
+    → SpellsRelation C bytes members tags after → AreMembers members → AreTags tags → relation_at (reader_of C) bytes ≡
+    Some (Relation members tags, reader_of after)
 unfolding relation_at
 relation_again C bytes members tags after s r l =
     let p : part_at (s.length_bytes ++ s.part ++ s.tag_bytes) ≡ Some (s.part, s.tag_bytes) = part_again s.length_bytes s.part s.tag_bytes s.part_length in
     let read : members_at (reader_of C) s.part ≡ Some (members, reader_of s.then) = members_again C s.part members s.then s.members_are r in
-    let t : tags_at (table_of s.then.strings) s.tag_bytes ≡ Some (tags, table_of s.strings) = tags_again s.then.strings s.tag_bytes tags s.strings s.tags_are l in
+    let t : tags_at (table_of s.then.strings) s.tag_bytes ≡ Some (tags, table_of s.strings) =
+    tags_again s.then.strings s.tag_bytes tags s.strings s.tags_are l in
     rw (s.whole, p, read, t, s.context) refl
 
 shape_takes : (kind : Kind) (C : Context) (bytes : List ℕ) (x : What × Reader) → shape_at kind (reader_of C) bytes ≡ Some x → WhatSpelled kind C bytes x.0 x.1
@@ -235,7 +275,9 @@ some_first bytes a b c e h = omega (arith, ap length e, length-append (a ++ b) c
 wrapped_some : (before : List ℤ) (prefix : List ℕ) (v : ℤ) (after : List ℤ) → SpellsWrapped before prefix v after → 0 < length prefix
 wrapped_some before prefix v after s = number_some prefix _ s.signed.unsigned
 
-pub what_again : (kind : Kind) (C : Context) (bytes : List ℕ) (what : What) (after : Context) → SpellsWhat kind C bytes what after → IsWhat kind what → what_at kind (reader_of C) bytes ≡ Some (what, reader_of after)
+pub what_again : (kind : Kind) (C : Context) (bytes : List ℕ) (what : What) (after : Context)
+    → SpellsWhat kind C bytes what after → IsWhat kind what → what_at kind (reader_of C) bytes ≡
+    Some (what, reader_of after)
 what_again kind C bytes Deleted after s l = rw (s.0, s.1) (what_none kind (reader_of C))
 what_again kind C bytes (Node lon lat tags) after s l =
     let n : SpellsNode C bytes lon lat tags after = s.1 in
@@ -252,7 +294,9 @@ what_again kind C bytes (Relation members tags) after s l =
 
 -- ---- objects
 
-id_state : (C : Context) (ids : List ℤ) (id : ℤ) → id ≡ total ids → record { counters = record (counters_of C) { id = id }; strings = table_of C.strings } ≡ reader_of (record C { ids = ids })
+id_state : (C : Context) (ids : List ℤ) (id : ℤ) → id ≡ total ids
+    → record { counters = record (counters_of C) { id = id }; strings = table_of C.strings } ≡ reader_of
+    (record C { ids = ids })
 id_state C ids id e = rw e refl
 
 abbrev with_id : Reader → ℤ → Reader
@@ -267,14 +311,17 @@ pub record TakesObject (kind : Kind) (C : Context) (bytes : List ℕ) (c : Chang
   pub kind_is : c.key.kind ≡ kind
   pub same : s ≡ reader_of after
 
-pub object_takes : (kind : Kind) (C : Context) (bytes : List ℕ) (x : ChangeValue × Reader) → object_at kind (reader_of C) bytes ≡ Some x → TakesObject kind C bytes x.0 x.1
+pub object_takes : (kind : Kind) (C : Context) (bytes : List ℕ) (x : ChangeValue × Reader)
+    → object_at kind (reader_of C) bytes ≡ Some x → TakesObject kind C bytes x.0 x.1
 unfolding object_at
 object_takes kind C bytes x e =
-    let i = some_then (id_at (total C.ids) bytes) (λ i. and_then (meta_at (with_id (reader_of C) i.0) i.1) (λ m. and_then (what_at kind m.1 m.2) (λ w. Some (made_object kind i.0 m.0 w)))) x e in
+    let i = some_then (id_at (total C.ids) bytes) (λ i. and_then (meta_at (with_id (reader_of C) i.0) i.1)
+    (λ m. and_then (what_at kind m.1 m.2) (λ w. Some (made_object kind i.0 m.0 w)))) x e in
     let m = some_then (meta_at (with_id (reader_of C) i.0.0) i.0.1) (λ m. and_then (what_at kind m.1 m.2) (λ w. Some (made_object kind i.0.0 m.0 w))) x i.2 in
     let w = some_then (what_at kind m.0.1 m.0.2) (λ w. Some (made_object kind i.0.0 m.0.0 w)) x m.2 in
     let id = id_takes C.ids bytes i.0 i.1 in
-    let meta = meta_takes (record C { ids = id.after }) i.0.1 m.0 (subst (λ (u : Reader). meta_at u i.0.1 ≡ Some m.0) (id_state C id.after i.0.0 id.same) m.1) in
+    let meta = meta_takes (record C { ids = id.after }) i.0.1 m.0 (subst (λ (u : Reader). meta_at u i.0.1 ≡ Some m.0)
+    (id_state C id.after i.0.0 id.same) m.1) in
     let what = what_takes kind meta.after m.0.2 w.0 (subst (λ (u : Reader). what_at kind u m.0.2 ≡ Some w.0) meta.same w.1) in
     subst (λ (p : ChangeValue × Reader). TakesObject kind C bytes p.0 p.1) (same_Some (made_object kind i.0.0 m.0.0 w.0) x w.2)
     (record {
@@ -295,11 +342,19 @@ object_takes kind C bytes x e =
       same = what.same;
     })
 
-pub object_again : (C : Context) (bytes : List ℕ) (c : ChangeValue) (after : Context) → SpellsObject C bytes c after → object_at c.key.kind (reader_of C) bytes ≡ Some (c, reader_of after)
+pub object_again : (C : Context) (bytes : List ℕ) (c : ChangeValue) (after : Context) → SpellsObject C bytes c after
+    → object_at c.key.kind (reader_of C) bytes ≡ Some (c, reader_of after)
 unfolding object_at
 object_again C bytes c after s =
-    let id : id_at (total C.ids) (s.id_bytes ++ (s.meta_bytes ++ s.what_bytes)) ≡ Some (c.key.id, s.meta_bytes ++ s.what_bytes) = id_again C.ids s.id_bytes c.key.id s.ids (s.meta_bytes ++ s.what_bytes) s.id s.limits.id in
-    let meta : meta_at (reader_of (record C { ids = s.ids })) (s.meta_bytes ++ s.what_bytes) ≡ Some (c.meta, reader_of s.then, s.what_bytes) = meta_again (record C { ids = s.ids }) s.meta_bytes c.meta s.then s.what_bytes s.meta s.limits.meta in
-    let what : what_at c.key.kind (reader_of s.then) s.what_bytes ≡ Some (c.what, reader_of after) = what_again c.key.kind s.then s.what_bytes c.what after s.what s.limits.what in
+    let id : id_at (total C.ids) (s.id_bytes ++ (s.meta_bytes ++ s.what_bytes)) ≡ Some (
+      c.key.id,
+      s.meta_bytes
+          ++ s.what_bytes,
+    ) = id_again C.ids s.id_bytes c.key.id s.ids (s.meta_bytes ++ s.what_bytes) s.id s.limits.id in
+    let meta : meta_at (reader_of (record C { ids = s.ids })) (s.meta_bytes ++ s.what_bytes) ≡
+    Some (c.meta, reader_of s.then, s.what_bytes) = meta_again (record C { ids = s.ids }) s.meta_bytes c.meta s.then
+    s.what_bytes s.meta s.limits.meta in
+    let what : what_at c.key.kind (reader_of s.then) s.what_bytes ≡ Some (c.what, reader_of after) =
+    what_again c.key.kind s.then s.what_bytes c.what after s.what s.limits.what in
     let whole : bytes ≡ s.id_bytes ++ (s.meta_bytes ++ s.what_bytes) = s.whole ∙ append_assoc s.id_bytes s.meta_bytes s.what_bytes in
     rw (whole, id, id_state C s.ids c.key.id s.id.sum_is, meta, what) refl

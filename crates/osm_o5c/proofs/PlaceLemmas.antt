@@ -1,5 +1,7 @@
 -- Bytes go wrong at one place, and only if they spell nothing.
-use Rattle.std.proofs.Common.{◌≡◌, ℕ, zero, suc, ◌+◌, ◌-◌, ◌<◌, ◌≤◌, Bool, true, false, cond, eqb, ltb, List, [], ◌∷◌, ◌++◌, length, get_or, take, drop, Option, Some, None, refl, sym, ap, subst, ◌∙◌, arith, inl, inr, ◌⊎◌}
+use Rattle.std.proofs.Common.{◌≡◌, ℕ, zero, suc, ◌+◌, ◌-◌, ◌<◌, ◌≤◌, Bool, true, false, cond, eqb, ltb, List, [], ◌∷◌}
+use Rattle.std.proofs.Common.{◌++◌, length, get_or, take, drop, Option, Some, None, refl, sym, ap, subst, ◌∙◌, arith}
+use Rattle.std.proofs.Common.{inl, inr, ◌⊎◌}
 use Rattle.std.specs.Prelude.{◌≢◌, IsSome}
 use Rattle.std.proofs.lemmas.Bool.{cases_lt, cases_eq}
 use Rattle.std.proofs.lemmas.Bool.Decides.{nat_tests}
@@ -11,14 +13,17 @@ use Rattle.osm_model.specs.Change.{ChangeValue}
 use Rattle.osm_model.specs.declared.kind.Kind.{Kind}
 use Rattle.osm_o5c.specs.Context.{Context}
 use Rattle.osm_o5c.specs.File.{beginning, Front, SpellsO5c, Longest, FaultPlace, no_beginning, after_end, no_dataset}
-use Rattle.osm_o5c.specs.Steps.FileReading.{new_reader, Position, position, step, dataset_at, object_dataset_at, other_dataset_at, dataset_of, with_found, kind_of_byte, BeginsObject}
+use Rattle.osm_o5c.specs.Steps.FileReading.{new_reader, Position, position, step, dataset_at, object_dataset_at}
+use Rattle.osm_o5c.specs.Steps.FileReading.{other_dataset_at, dataset_of, with_found, kind_of_byte, BeginsObject}
 use Rattle.osm_o5c.specs.Steps.NumberReading.{part_at}
 use Rattle.osm_o5c.specs.Steps.ObjectReading.{object_at}
 use Rattle.osm_reading.specs.Steps.Answers.{and_then}
 use Rattle.osm_o5c.specs.declared.reader.Reader.{Reader}
 use Rattle.osm_reading.proofs.StepLemmas.{some_then, some_when}
 use Rattle.osm_o5c.proofs.FieldLemmas.{reader_of}
-use Rattle.osm_o5c.proofs.FrontLemmas.{IsReached, reached_first, reached_more, reached_longest, step_shorter, walk, Ends, EndsAt, one_end_at, same_behind, none_later, apart, longest_ends, spelled_ends, front_walks}
+use Rattle.osm_o5c.proofs.FrontLemmas.{IsReached, reached_first, reached_more, reached_longest, step_shorter, walk}
+use Rattle.osm_o5c.proofs.FrontLemmas.{Ends, EndsAt, one_end_at, same_behind, none_later, apart, longest_ends}
+use Rattle.osm_o5c.proofs.FrontLemmas.{spelled_ends, front_walks}
 
 -- how far after the longest valid prefix the place of the fault is, given the bytes after the prefix
 abbrev offset : List ℕ → Option ℕ
@@ -36,7 +41,8 @@ record FaultParts (bytes : List ℕ) (p : ℕ) : Type 0 where
 no_offset : (rest : List ℕ) → ((more : List ℕ) → rest ≡ 254 ∷ more → ⊥) → offset rest ≡ Some 0
 no_offset [] h = refl
 no_offset (b ∷ []) h = let n : eqb b 254 ≡ false = let o : b ≡ 254 → ⊥ = λ z. h [] (ap (λ (i : ℕ). i ∷ []) z) in grind (arith, nat_tests) in rw n refl
-no_offset (b ∷ c ∷ r) h = let n : eqb b 254 ≡ false = let o : b ≡ 254 → ⊥ = λ z. h (c ∷ r) (ap (λ (i : ℕ). i ∷ c ∷ r) z) in grind (arith, nat_tests) in rw n refl
+no_offset (b ∷ c ∷ r) h = let n : eqb b 254 ≡ false = let o : b ≡ 254 → ⊥ =
+    λ z. h (c ∷ r) (ap (λ (i : ℕ). i ∷ c ∷ r) z) in grind (arith, nat_tests) in rw n refl
 
 -- the bytes don't have the beginning
 pub record Unbegun (bytes : List ℕ) : Type 0 where
@@ -99,13 +105,16 @@ spelled_or_wrong bytes batch p s f =
     elim (fault_parts bytes p f) [
       | inl x ↦ front_begins bytes s.prefix (254 ∷ []) s.context batch s.is_front s.whole x.0
       | inr x ↦
-          let same : position (reader_of s.context) batch (254 ∷ []) ≡ x.at_end = one_end_at bytes (position (reader_of s.context) batch (254 ∷ [])) x.at_end (spelled_ends bytes batch s) x.ends in
+          let same : position (reader_of s.context) batch (254 ∷ []) ≡ x.at_end =
+          one_end_at bytes (position (reader_of s.context) batch (254 ∷ [])) x.at_end (spelled_ends bytes batch s)
+          x.ends in
           none_some (offset x.at_end.rest) x.more (ap (λ (e : Position). offset e.rest) (sym same)) x.behind
     ]
 
 -- ---- what a reader finds
 
-reached_wrong : (bytes : List ℕ) (p : Position) (n : ℕ) → IsReached bytes p → step p ≡ None → ((more : List ℕ) → p.rest ≡ 254 ∷ more → ⊥) → n + length p.rest ≡ length bytes → FaultPlace bytes n
+reached_wrong : (bytes : List ℕ) (p : Position) (n : ℕ) → IsReached bytes p → step p ≡ None
+    → ((more : List ℕ) → p.rest ≡ 254 ∷ more → ⊥) → n + length p.rest ≡ length bytes → FaultPlace bytes n
 reached_wrong bytes p n s e other at =
     let l : Longest bytes s.prefix p.rest = reached_longest bytes p s e in
     let w : length s.prefix ≡ n = omega (arith, ap length s.whole, length-append s.prefix p.rest) in
@@ -130,7 +139,8 @@ step_empty p e = rw e refl
 -- no dataset follows
 pub exit_bad : (bytes : List ℕ) (p : Position) → IsReached bytes p → step p ≡ None → get_or p.rest 0 0 ≢ 254 → FaultPlace bytes (length bytes - length p.rest)
 exit_bad bytes p s e other =
-    reached_wrong bytes p (length bytes - length p.rest) s e (λ more is. other (ap (λ (l : List ℕ). get_or l 0 0) is)) (omega (arith, ap length s.whole, length-append s.prefix p.rest))
+    reached_wrong bytes p (length bytes - length p.rest) s e (λ more is. other (ap (λ (l : List ℕ). get_or l 0 0) is))
+    (omega (arith, ap length s.whole, length-append s.prefix p.rest))
 
 -- the bytes end without the end byte
 pub exit_empty : (bytes : List ℕ) (p : Position) → IsReached bytes p → length p.rest ≡ 0 → FaultPlace bytes (length bytes)
@@ -139,10 +149,12 @@ exit_empty bytes p s none =
     reached_wrong bytes p (length bytes) s (step_empty p is) (λ more e. omega (arith, ap length e)) (omega arith)
 
 -- bytes follow the end byte
-pub exit_more : (bytes : List ℕ) (p : Position) → IsReached bytes p → 1 < length p.rest → get_or p.rest 0 0 ≡ 254 → FaultPlace bytes (length bytes - length p.rest + 1)
+pub exit_more : (bytes : List ℕ) (p : Position) → IsReached bytes p → 1 < length p.rest → get_or p.rest 0 0 ≡ 254
+    → FaultPlace bytes (length bytes - length p.rest + 1)
 exit_more bytes p s long e =
     let is : p.rest ≡ 254 ∷ drop 1 p.rest = first_is p.rest 254 (omega arith) e in
-    let more : drop 1 p.rest ≡ get_or (drop 1 p.rest) 0 0 ∷ drop 1 (drop 1 p.rest) = first_is (drop 1 p.rest) (get_or (drop 1 p.rest) 0 0) (omega (arith, length-drop 1 p.rest)) refl in
+    let more : drop 1 p.rest ≡ get_or (drop 1 p.rest) 0 0 ∷ drop 1 (drop 1 p.rest) =
+    first_is (drop 1 p.rest) (get_or (drop 1 p.rest) 0 0) (omega (arith, length-drop 1 p.rest)) refl in
     let whole : p.rest ≡ 254 ∷ get_or (drop 1 p.rest) 0 0 ∷ drop 1 (drop 1 p.rest) = is ∙ ap (λ (l : List ℕ). 254 ∷ l) more in
     let l : Longest bytes s.prefix p.rest = reached_longest bytes p s (step_end p (drop 1 p.rest) is) in
     let w : length s.prefix + 1 ≡ length bytes - length p.rest + 1 = omega (arith, ap length s.whole, length-append s.prefix p.rest) in
@@ -153,7 +165,13 @@ pub exit_ok : (bytes : List ℕ) (p : Position) → IsReached bytes p → length
 exit_ok bytes p s one e =
     let is : p.rest ≡ 254 ∷ drop 1 p.rest = first_is p.rest 254 (omega arith) e in
     let none : drop 1 p.rest ≡ [] = nothing_left (drop 1 p.rest) (omega (arith, length-drop 1 p.rest)) in
-    record { prefix = s.prefix; context = s.context; is_front = s.is_front; whole = s.whole ∙ ap (λ (l : List ℕ). s.prefix ++ l) (is ∙ ap (λ (l : List ℕ). 254 ∷ l) none) }
+    record {
+      prefix = s.prefix;
+      context = s.context;
+      is_front = s.is_front;
+      whole =
+          s.whole ∙ ap (λ (l : List ℕ). s.prefix ++ l) (is ∙ ap (λ (l : List ℕ). 254 ∷ l) none);
+    }
 
 -- ---- one of the two
 
@@ -225,7 +243,8 @@ found_grows xs (Some c, s, more) q e =
     let g = some_when (ltb (length xs) 100000) (Some (position s (xs ++ c ∷ []) more)) q e in
     subst (λ (p : Position). length xs ≤ length p.changes) (same_Some (position s (xs ++ c ∷ []) more) q g.1) (omega (arith, length-append xs (c ∷ [])))
 
-found_adds : (xs : List ChangeValue) (c : ChangeValue) (s : Reader) (more : List ℕ) (q : Position) → with_found xs (Some c, s, more) ≡ Some q → 0 < length q.changes
+found_adds : (xs : List ChangeValue) (c : ChangeValue) (s : Reader) (more : List ℕ) (q : Position)
+    → with_found xs (Some c, s, more) ≡ Some q → 0 < length q.changes
 found_adds xs c s more q e =
     let g = some_when (ltb (length xs) 100000) (Some (position s (xs ++ c ∷ []) more)) q e in
     subst (λ (p : Position). 0 < length p.changes) (same_Some (position s (xs ++ c ∷ []) more) q g.1) (omega (arith, length-append xs (c ∷ [])))
@@ -236,7 +255,8 @@ step_grows p q e =
     let x = some_then (dataset_at p.reader p.rest) (with_found p.changes) q e in
     found_grows p.changes x.0 q x.2
 
-object_found : (k : Kind) (s : Reader) (bytes : List ℕ) (x : Option ChangeValue × Reader × List ℕ) → object_dataset_at k s bytes ≡ Some x → (c : ChangeValue) × (x.0 ≡ Some c)
+object_found : (k : Kind) (s : Reader) (bytes : List ℕ) (x : Option ChangeValue × Reader × List ℕ)
+    → object_dataset_at k s bytes ≡ Some x → (c : ChangeValue) × (x.0 ≡ Some c)
 unfolding object_dataset_at
 object_found k s bytes x e =
     let p = some_then (part_at bytes) (λ p. and_then (object_at k s p.0) (λ o. Some (Some o.0, o.1, p.1))) x e in
@@ -246,11 +266,13 @@ object_found k s bytes x e =
 no_some : ◌≡◌ {A = Bool} false true → ⊥
 no_some e = cc
 
-of_found : (o : Option Kind) (t : ℕ) (s : Reader) (bytes : List ℕ) (x : Option ChangeValue × Reader × List ℕ) → IsSome o → dataset_of o t s bytes ≡ Some x → (c : ChangeValue) × (x.0 ≡ Some c)
+of_found : (o : Option Kind) (t : ℕ) (s : Reader) (bytes : List ℕ) (x : Option ChangeValue × Reader × List ℕ) → IsSome o
+    → dataset_of o t s bytes ≡ Some x → (c : ChangeValue) × (x.0 ≡ Some c)
 of_found (Some k) t s bytes x some e = object_found k s bytes x e
 of_found None t s bytes x some e = absurd (no_some some)
 
-begins_found : (s : Reader) (bytes : List ℕ) (x : Option ChangeValue × Reader × List ℕ) → BeginsObject bytes → dataset_at s bytes ≡ Some x → (c : ChangeValue) × (x.0 ≡ Some c)
+begins_found : (s : Reader) (bytes : List ℕ) (x : Option ChangeValue × Reader × List ℕ) → BeginsObject bytes
+    → dataset_at s bytes ≡ Some x → (c : ChangeValue) × (x.0 ≡ Some c)
 unfolding dataset_at
 begins_found s [] x h e = absurd h
 begins_found s (t ∷ bytes) x h e = of_found (kind_of_byte t) t s bytes x h e
@@ -283,11 +305,13 @@ reached_walked bytes p s =
 walked_one : (bytes : List ℕ) (k : ℕ) (p q : Position) → walk k bytes ≡ Some p → step p ≡ Some q → walk (suc k) bytes ≡ Some q
 walked_one bytes k p q here e = rw here e
 
-empty_later : (bytes : List ℕ) (k : ℕ) (p : Position) (q : Position) → walk k bytes ≡ Some p → BeginsObject p.rest → q.changes ≡ [] → Ends bytes q → (BeginsObject q.rest → ⊥) → ⊥
+empty_later : (bytes : List ℕ) (k : ℕ) (p : Position) (q : Position) → walk k bytes ≡ Some p → BeginsObject p.rest
+    → q.changes ≡ [] → Ends bytes q → (BeginsObject q.rest → ⊥) → ⊥
 empty_later bytes k p q here object none ends other =
     elim (cases_lt k ends.count) [
       | inl less ↦
-          let later : walk (suc k + (ends.count - suc k)) bytes ≡ Some q = subst (λ (i : ℕ). walk i bytes ≡ Some q) (let z : ends.count ≡ suc k + (ends.count - suc k) = omega arith in z) ends.leads in
+          let later : walk (suc k + (ends.count - suc k)) bytes ≡ Some q = subst (λ (i : ℕ). walk i bytes ≡ Some q)
+          (let z : ends.count ≡ suc k + (ends.count - suc k) = omega arith in z) ends.leads in
           elim (which (step p)) [
             | inl stuck ↦ apart (walk ends.count bytes) q (none_later bytes ends.count k p less here stuck) ends.leads
             | inr more ↦
@@ -309,12 +333,17 @@ wanted_at_object bytes p s object empty =
     let here = reached_walked bytes p s in
     let ends : EndsAt bytes (position (reader_of empty.context) [] (254 ∷ [])) = spelled_ends bytes [] empty in
     let same : ends.behind ≡ here.0 = same_behind ends.behind here.0 (sym ends.begins ∙ here.1) in
-    empty_later here.0 here.2.0 p (position (reader_of empty.context) [] (254 ∷ [])) here.2.1 object refl (subst (λ (l : List ℕ). Ends l (position (reader_of empty.context) [] (254 ∷ []))) same ends.ends) no_some
+    empty_later here.0 here.2.0 p (position (reader_of empty.context) [] (254 ∷ [])) here.2.1 object refl
+    (subst (λ (l : List ℕ). Ends l (position (reader_of empty.context) [] (254 ∷ []))) same ends.ends) no_some
 
 -- ---- what the code knows of the beginning
 
 pub unbegun_place : (bytes : List ℕ) → bytes_eq (take 7 bytes) beginning ≡ false → FaultPlace bytes 0
-unbegun_place bytes not_so = no_beginning bytes (λ more e. none_true (bytes_eq (take 7 bytes) beginning) not_so ((bytes_eq-Decides (take 7 bytes) beginning).1 (ap (take 7) e)))
+unbegun_place bytes not_so = no_beginning bytes (λ more e. none_true (bytes_eq (take 7 bytes) beginning) not_so
+    ((bytes_eq-Decides (take 7 bytes) beginning).1 (ap (take 7) e)))
 
-pub begun_reached : (bytes rest : List ℕ) (r : Reader) (xs : List ChangeValue) → bytes_eq (take 7 bytes) beginning ≡ true → rest ≡ drop 7 bytes → r ≡ new_reader → xs ≡ [] → IsReached bytes (position r xs rest)
-begun_reached bytes rest r xs so is same none = rw (is, same, none) (reached_first bytes (drop 7 bytes) (sym (take-append-drop 7 bytes) ∙ ap (λ (l : List ℕ). l ++ drop 7 bytes) ((bytes_eq-Decides (take 7 bytes) beginning).0 so)))
+pub begun_reached : (bytes rest : List ℕ) (r : Reader) (xs : List ChangeValue) → bytes_eq (take 7 bytes) beginning ≡
+    true → rest ≡ drop 7 bytes → r ≡ new_reader → xs ≡ [] → IsReached bytes (position r xs rest)
+begun_reached bytes rest r xs so is same none =
+    rw (is, same, none) (reached_first bytes (drop 7 bytes) (sym (take-append-drop 7 bytes)
+    ∙ ap (λ (l : List ℕ). l ++ drop 7 bytes) ((bytes_eq-Decides (take 7 bytes) beginning).0 so)))

@@ -1,5 +1,7 @@
 -- A string that is read is spelled, and what is spelled is read.
-use Rattle.std.proofs.Common.{◌≡◌, ℕ, zero, suc, ◌+◌, ◌*◌, ◌%◌, ◌<◌, ◌≤◌, Bool, true, false, not, eqb, leb, ◌&&◌, ◌||◌, List, [], ◌∷◌, ◌++◌, length, Option, Some, None, refl, sym, ap, subst, ◌∙◌, append_assoc, arith, inl, inr}
+use Rattle.std.proofs.Common.{◌≡◌, ℕ, zero, suc, ◌+◌, ◌*◌, ◌%◌, ◌<◌, ◌≤◌, Bool, true, false, not, eqb, leb, ◌&&◌, ◌||◌}
+use Rattle.std.proofs.Common.{List, [], ◌∷◌, ◌++◌, length, Option, Some, None, refl, sym, ap, subst, ◌∙◌, append_assoc}
+use Rattle.std.proofs.Common.{arith, inl, inr}
 use Rattle.std.specs.Prelude.{Contains, ◌≢◌}
 use Rattle.std.specs.Str.{is_utf8}
 use Rattle.std.proofs.lemmas.Bool.{cases_eq}
@@ -74,7 +76,8 @@ named_none es s e = absurd cc
 reference_starts : (b : ℕ) (bs : List ℕ) (k : ℕ) (es : List Entry) (s : Entry) → SpellsNumber (b ∷ bs) k → named es k ≡ Some s → eqb b 0 ≡ false
 reference_starts b [] k es s spells is =
     elim (cases_eq b 0) [
-      | inl z ↦ let v : k ≡ b % 128 + 128 * 0 = spells.value in let n : k ≡ 0 = omega arith in absurd (named_none es s (subst (λ (i : ℕ). named es i ≡ Some s) n is))
+      | inl z ↦ let v : k ≡ b % 128 + 128 * 0 = spells.value in let n : k ≡ 0 = omega arith in
+          absurd (named_none es s (subst (λ (i : ℕ). named es i ≡ Some s) n is))
       | inr o ↦ grind (arith, nat_tests)
     ]
 reference_starts b (c ∷ cs) k es s spells is = let big : 128 ≤ b = spells.varint.0 in grind (arith, nat_tests)
@@ -97,11 +100,16 @@ pair_parts bs f s more rest p q = rw (p, q) (simp append_assoc)
 single_parts : (bs f rest : List ℕ) → bs ≡ f ++ 0 ∷ rest → 0 ∷ bs ≡ (0 ∷ f ++ 0 ∷ []) ++ rest
 single_parts bs f rest p = rw p (simp append_assoc)
 
-pub pair_takes : (ss : List Entry) (bytes : List ℕ) (x : (List ℕ × List ℕ) × List Entry × List ℕ) → pair_at (table_of ss) bytes ≡ Some x → TakenTo table_of (λ f. SpellsPair ss f x.0.0 x.0.1) bytes x.1 x.2
+pub pair_takes : (ss : List Entry) (bytes : List ℕ) (x : (List ℕ × List ℕ) × List Entry × List ℕ)
+    → pair_at (table_of ss) bytes ≡ Some x → TakenTo table_of (λ f. SpellsPair ss f x.0.0 x.0.1) bytes x.1 x.2
 unfolding pair_at
 pair_takes ss [] x e = absurd cc
 pair_takes ss (b ∷ bs) x e =
-    chosen (eqb b 0) (and_then (until_nul_at bs) (λ f. and_then (until_nul_at f.1) (λ s. Some ((f.0, s.0), entered (table_of ss) (Pair f.0 s.0), s.1)))) (and_then (unsigned_at (b ∷ bs)) (λ k. and_then (pair_of (latest (table_of ss) k.0)) (λ p. Some (p, table_of ss, k.1)))) (Some x) e
+    chosen (eqb b 0)
+    (and_then (until_nul_at bs)
+    (λ f. and_then (until_nul_at f.1) (λ s. Some ((f.0, s.0), entered (table_of ss) (Pair f.0 s.0), s.1))))
+    (and_then (unsigned_at (b ∷ bs)) (λ k. and_then (pair_of (latest (table_of ss) k.0))
+    (λ p. Some (p, table_of ss, k.1)))) (Some x) e
     (TakenTo table_of (λ f. SpellsPair ss f x.0.0 x.0.1) (b ∷ bs) x.1 x.2)
     (λ nul is.
     let f = some_then (until_nul_at bs) (λ f. and_then (until_nul_at f.1) (λ s. Some ((f.0, s.0), entered (table_of ss) (Pair f.0 s.0), s.1))) x is in
@@ -110,7 +118,8 @@ pair_takes ss (b ∷ bs) x e =
     let u : Before s.0.0 f.0.1 s.0.1 = until_takes f.0.1 s.0 s.1 in
     let z : b ≡ 0 = grind (arith, nat_tests) in
     let whole : b ∷ bs ≡ (0 ∷ f.0.0 ++ 0 ∷ s.0.0 ++ 0 ∷ []) ++ s.0.1 = ap (λ (i : ℕ). i ∷ bs) z ∙ pair_parts bs f.0.0 s.0.0 f.0.1 s.0.1 t.parts u.parts in
-    subst (λ (p : (List ℕ × List ℕ) × List Entry × List ℕ). TakenTo table_of (λ f. SpellsPair ss f p.0.0 p.0.1) (b ∷ bs) p.1 p.2) (same_Some ((f.0.0, s.0.0), entered (table_of ss) (Pair f.0.0 s.0.0), s.0.1) x s.2)
+    subst (λ (p : (List ℕ × List ℕ) × List Entry × List ℕ). TakenTo table_of (λ f. SpellsPair ss f p.0.0 p.0.1)
+    (b ∷ bs) p.1 p.2) (same_Some ((f.0.0, s.0.0), entered (table_of ss) (Pair f.0.0 s.0.0), s.0.1) x s.2)
     (record {
       prefix = 0 ∷ f.0.0 ++ 0 ∷ s.0.0 ++ 0 ∷ [];
       after = ss ++ Pair f.0.0 s.0.0 ∷ [];
@@ -122,7 +131,8 @@ pair_takes ss (b ∷ bs) x e =
     let k = some_then (unsigned_at (b ∷ bs)) (λ k. and_then (pair_of (latest (table_of ss) k.0)) (λ p. Some (p, table_of ss, k.1))) x is in
     let p = some_then (pair_of (latest (table_of ss) k.0.0)) (λ p. Some (p, table_of ss, k.0.1)) x k.2 in
     let t = unsigned_takes (b ∷ bs) k.0 k.1 in
-    subst (λ (q : (List ℕ × List ℕ) × List Entry × List ℕ). TakenTo table_of (λ f. SpellsPair ss f q.0.0 q.0.1) (b ∷ bs) q.1 q.2) (same_Some (p.0, table_of ss, k.0.1) x p.2)
+    subst (λ (q : (List ℕ × List ℕ) × List Entry × List ℕ). TakenTo table_of (λ f. SpellsPair ss f q.0.0 q.0.1)
+    (b ∷ bs) q.1 q.2) (same_Some (p.0, table_of ss, k.0.1) x p.2)
     (record {
       prefix = t.prefix;
       after = ss;
@@ -131,7 +141,9 @@ pair_takes ss (b ∷ bs) x e =
       same = refl;
     }))
 
-pub pair_again : (ss : List Entry) (prefix first second : List ℕ) (after : List Entry) (rest : List ℕ) → SpellsPair ss prefix first second after → pair_at (table_of ss) (prefix ++ rest) ≡ Some ((first, second), table_of after, rest)
+pub pair_again : (ss : List Entry) (prefix first second : List ℕ) (after : List Entry) (rest : List ℕ)
+    → SpellsPair ss prefix first second after → pair_at (table_of ss) (prefix ++ rest) ≡
+    Some ((first, second), table_of after, rest)
 unfolding pair_at
 pair_again _ _ _ _ _ rest (in_line ss first second no_first no_second) =
     let one : until_nul_at (first ++ 0 ∷ (second ++ 0 ∷ rest)) ≡ Some (first, second ++ 0 ∷ rest) = until_again first (second ++ 0 ∷ rest) no_first in
@@ -151,18 +163,22 @@ pair_some _ _ _ _ _ (reference ss bytes k first second spells is) = number_some 
 
 -- ---- single strings
 
-pub single_takes : (ss : List Entry) (bytes : List ℕ) (x : List ℕ × List Entry × List ℕ) → single_at (table_of ss) bytes ≡ Some x → TakenTo table_of (λ f. SpellsSingle ss f x.0) bytes x.1 x.2
+pub single_takes : (ss : List Entry) (bytes : List ℕ) (x : List ℕ × List Entry × List ℕ)
+    → single_at (table_of ss) bytes ≡ Some x → TakenTo table_of (λ f. SpellsSingle ss f x.0) bytes x.1 x.2
 unfolding single_at
 single_takes ss [] x e = absurd cc
 single_takes ss (b ∷ bs) x e =
-    chosen (eqb b 0) (and_then (until_nul_at bs) (λ t. Some (t.0, entered (table_of ss) (Single t.0), t.1))) (and_then (unsigned_at (b ∷ bs)) (λ k. and_then (single_of (latest (table_of ss) k.0)) (λ t. Some (t, table_of ss, k.1)))) (Some x) e
+    chosen (eqb b 0) (and_then (until_nul_at bs) (λ t. Some (t.0, entered (table_of ss) (Single t.0), t.1)))
+    (and_then (unsigned_at (b ∷ bs)) (λ k. and_then (single_of (latest (table_of ss) k.0))
+    (λ t. Some (t, table_of ss, k.1)))) (Some x) e
     (TakenTo table_of (λ f. SpellsSingle ss f x.0) (b ∷ bs) x.1 x.2)
     (λ nul is.
     let f = some_then (until_nul_at bs) (λ t. Some (t.0, entered (table_of ss) (Single t.0), t.1)) x is in
     let t : Before f.0.0 bs f.0.1 = until_takes bs f.0 f.1 in
     let z : b ≡ 0 = grind (arith, nat_tests) in
     let whole : b ∷ bs ≡ (0 ∷ f.0.0 ++ 0 ∷ []) ++ f.0.1 = ap (λ (i : ℕ). i ∷ bs) z ∙ single_parts bs f.0.0 f.0.1 t.parts in
-    subst (λ (p : List ℕ × List Entry × List ℕ). TakenTo table_of (λ f. SpellsSingle ss f p.0) (b ∷ bs) p.1 p.2) (same_Some (f.0.0, entered (table_of ss) (Single f.0.0), f.0.1) x f.2)
+    subst (λ (p : List ℕ × List Entry × List ℕ). TakenTo table_of (λ f. SpellsSingle ss f p.0) (b ∷ bs) p.1 p.2)
+    (same_Some (f.0.0, entered (table_of ss) (Single f.0.0), f.0.1) x f.2)
     (record {
       prefix = 0 ∷ f.0.0 ++ 0 ∷ [];
       after = ss ++ Single f.0.0 ∷ [];
@@ -183,7 +199,8 @@ single_takes ss (b ∷ bs) x e =
       same = refl;
     }))
 
-pub single_again : (ss : List Entry) (prefix text : List ℕ) (after : List Entry) (rest : List ℕ) → SpellsSingle ss prefix text after → single_at (table_of ss) (prefix ++ rest) ≡ Some (text, table_of after, rest)
+pub single_again : (ss : List Entry) (prefix text : List ℕ) (after : List Entry) (rest : List ℕ)
+    → SpellsSingle ss prefix text after → single_at (table_of ss) (prefix ++ rest) ≡ Some (text, table_of after, rest)
 unfolding single_at
 single_again _ _ _ _ rest (in_line_single ss text no_nul) =
     let one : until_nul_at (text ++ 0 ∷ rest) ≡ Some (text, rest) = until_again text rest no_nul in

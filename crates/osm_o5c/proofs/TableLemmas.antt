@@ -28,9 +28,11 @@ entries_of-push s (x ∷ xs) =
 
 keep_last-push : (es : List Entry) (s : Entry) → keep_last 15000 (keep_last 15000 es ++ s ∷ []) ≡ keep_last 15000 (es ++ s ∷ [])
 keep_last-push es s =
-    let prefix : drop (length es - 15000) es ++ s ∷ [] ≡ drop (length es - 15000) (es ++ s ∷ []) = sym (drop-append-le (length es - 15000) es (s ∷ []) (omega arith)) in
+    let prefix : drop (length es - 15000) es ++ s ∷ [] ≡ drop (length es - 15000) (es ++ s ∷ []) =
+    sym (drop-append-le (length es - 15000) es (s ∷ []) (omega arith)) in
     let size : length (drop (length es - 15000) (es ++ s ∷ [])) ≡ length es + 1 - (length es - 15000) = simp (length-drop, length-append) refl in
-    let where_to : length es - 15000 + (length (drop (length es - 15000) (es ++ s ∷ [])) - 15000) ≡ length (es ++ s ∷ []) - 15000 = omega (arith, size, length-append es (s ∷ [])) in
+    let where_to : length es - 15000 + (length (drop (length es - 15000) (es ++ s ∷ [])) - 15000) ≡
+    length (es ++ s ∷ []) - 15000 = omega (arith, size, length-append es (s ∷ [])) in
     rw (prefix, drop-drop (length (drop (length es - 15000) (es ++ s ∷ [])) - 15000) (length es - 15000) (es ++ s ∷ []), where_to) refl
 
 pub entered_is : (ss : List Entry) (s : Entry) → entered (table_of ss) s ≡ table_of (ss ++ s ∷ [])
@@ -55,14 +57,19 @@ latest_is es k =
       | inr one ↦ let t : leb 1 k ≡ true = grind (arith, nat_tests) in
           elim (cases_lt 15000 k) [
             | inl more ↦ let u : leb k 15000 ≡ false = grind (arith, nat_tests) in
-                let w : leb k (length (drop (length es - 15000) es)) ≡ false = rw len (let o : length es - (length es - 15000) < k = omega arith in grind (arith, nat_tests)) in
+                let w : leb k (length (drop (length es - 15000) es)) ≡ false =
+                rw len (let o : length es - (length es - 15000) < k = omega arith in grind (arith, nat_tests)) in
                 rw (t, u, w) refl
             | inr few ↦ let u : leb k 15000 ≡ true = grind (arith, nat_tests) in
                 elim (cases_lt (length es) k) [
                   | inl past ↦ let v : leb k (length es) ≡ false = grind (arith, nat_tests) in
-                      let w : leb k (length (drop (length es - 15000) es)) ≡ false = rw len (let o : length es - (length es - 15000) < k = omega arith in grind (arith, nat_tests)) in rw (t, u, w, v) refl
+                      let w : leb k (length (drop (length es - 15000) es)) ≡ false =
+                      rw len (let o : length es - (length es - 15000) < k = omega arith in
+                      grind (arith, nat_tests)) in rw (t, u, w, v) refl
                   | inr within ↦ let v : leb k (length es) ≡ true = grind (arith, nat_tests) in
-                      let w : leb k (length (drop (length es - 15000) es)) ≡ true = rw len (let o : k ≤ length es - (length es - 15000) = omega arith in grind (arith, nat_tests)) in
+                      let w : leb k (length (drop (length es - 15000) es)) ≡ true =
+                      rw len (let o : k ≤ length es - (length es - 15000) = omega arith in
+                      grind (arith, nat_tests)) in
                       let at : length es - 15000 + (length (drop (length es - 15000) es) - k) ≡ length es - k = omega arith in
                       rw (t, u, w, v, get_later (length es - 15000) es (length (drop (length es - 15000) es) - k), at) refl
                 ]

@@ -1,5 +1,6 @@
 -- A varint is read from its last byte, which holds the highest bits, back to its first.
-use Rattle.std.proofs.Common.{◌≡◌, ℕ, zero, suc, ◌+◌, ◌-◌, ◌*◌, ◌%◌, ◌^◌, ◌<◌, ◌≤◌, true, false, ltb, List, [], ◌∷◌, length, get_or, take, drop, Option, Some, None, refl, arith}
+use Rattle.std.proofs.Common.{◌≡◌, ℕ, zero, suc, ◌+◌, ◌-◌, ◌*◌, ◌%◌, ◌^◌, ◌<◌, ◌≤◌, true, false, ltb, List, [], ◌∷◌}
+use Rattle.std.proofs.Common.{length, get_or, take, drop, Option, Some, None, refl, arith}
 use Rattle.std.proofs.lemmas.Bool.Decides.{nat_tests}
 use Rattle.osm_o5c.specs.Steps.NumberReading.{varint_at}
 use Rattle.osm_reading.specs.Steps.Answers.{and_then, when}
@@ -13,7 +14,9 @@ pub with_lows : List ℕ → Option (ℕ × List ℕ) → Option (ℕ × List �
 with_lows [] high = high
 with_lows (b ∷ bs) high = with_low b (with_lows bs high)
 
-pub varint_is : (most : ℕ) (bytes : List ℕ) (i : ℕ) → i < most → i < length bytes → ((k : ℕ) → k < i → 128 ≤ get_or bytes k 0) → get_or bytes i 0 < 128 → varint_at most bytes ≡ with_lows (take i bytes) (Some (get_or bytes i 0, drop (i + 1) bytes))
+pub varint_is : (most : ℕ) (bytes : List ℕ) (i : ℕ) → i < most → i < length bytes
+    → ((k : ℕ) → k < i → 128 ≤ get_or bytes k 0) → get_or bytes i 0 < 128
+    → varint_at most bytes ≡ with_lows (take i bytes) (Some (get_or bytes i 0, drop (i + 1) bytes))
 unfolding varint_at with_lows with_low
 varint_is zero bytes i few within high last = absurd (omega arith)
 varint_is (suc most) [] i few within high last = absurd (omega arith)
@@ -23,7 +26,8 @@ varint_is (suc most) (b ∷ bs) zero few within high last =
 varint_is (suc most) (b ∷ bs) (suc i) few within high last =
     let first : 128 ≤ b = high 0 (omega arith) in
     let more : ltb b 128 ≡ false = grind (arith, nat_tests) in
-    let rest : varint_at most bs ≡ with_lows (take i bs) (Some (get_or bs i 0, drop (i + 1) bs)) = varint_is most bs i (omega arith) (omega arith) (λ k lt. high (suc k) (omega arith)) last in
+    let rest : varint_at most bs ≡ with_lows (take i bs) (Some (get_or bs i 0, drop (i + 1) bs)) =
+    varint_is most bs i (omega arith) (omega arith) (λ k lt. high (suc k) (omega arith)) last in
     let next : suc i + 1 ≡ suc (i + 1) = omega arith in
     rw (more, rest, next) refl
 
@@ -37,13 +41,15 @@ varint_none (suc most) (b ∷ bs) high =
     let more : ltb b 128 ≡ false = grind (arith, nat_tests) in
     rw (more, varint_none most bs (λ k few within. high (suc k) (omega arith) (omega arith))) refl
 
-back : (bytes : List ℕ) (i : ℕ) (high : Option (ℕ × List ℕ)) → i < length bytes → with_lows (take (suc i) bytes) high ≡ with_lows (take i bytes) (with_low (get_or bytes i 0) high)
+back : (bytes : List ℕ) (i : ℕ) (high : Option (ℕ × List ℕ)) → i < length bytes → with_lows (take (suc i) bytes) high ≡
+    with_lows (take i bytes) (with_low (get_or bytes i 0) high)
 unfolding with_lows
 back [] i high within = absurd (omega arith)
 back (b ∷ bs) zero high within = refl
 back (b ∷ bs) (suc i) high within = rw (back bs i high (omega arith)) refl
 
-pub lows_back : (bytes : List ℕ) (i : ℕ) (high : Option (ℕ × List ℕ)) → 0 < i → i ≤ length bytes → with_lows (take i bytes) high ≡ with_lows (take (i - 1) bytes) (with_low (get_or bytes (i - 1) 0) high)
+pub lows_back : (bytes : List ℕ) (i : ℕ) (high : Option (ℕ × List ℕ)) → 0 < i → i ≤ length bytes
+    → with_lows (take i bytes) high ≡ with_lows (take (i - 1) bytes) (with_low (get_or bytes (i - 1) 0) high)
 lows_back bytes zero high some within = absurd (omega arith)
 lows_back bytes (suc i) high some within =
     let same : suc i - 1 ≡ i = omega arith in

@@ -22,7 +22,8 @@ rest_high (negsuc a) = omega (arith, ints)
 pub wrapped_is : (sum : ℤ) → IsWrapped (wrapped_of sum) sum
 unfolding wrapped_of
 wrapped_is sum =
-    let t : (t : ℤ) × (sum +ℤ pos 2147483648 ≡ int_rem_euclid (sum +ℤ pos 2147483648) (pos 4294967296) +ℤ pos 4294967296 *ℤ t) = multiple_of (sum +ℤ pos 2147483648) in
+    let t : (t : ℤ) × (sum +ℤ pos 2147483648 ≡ int_rem_euclid (sum +ℤ pos 2147483648) (pos 4294967296) +ℤ pos 4294967296
+    *ℤ t) = multiple_of (sum +ℤ pos 2147483648) in
     let low = rest_low (sum +ℤ pos 2147483648) in
     let high = rest_high (sum +ℤ pos 2147483648) in
     record {
@@ -52,12 +53,14 @@ wrapped_more sum d =
     }))
 
 -- what the code computes from the remainder
-pub wrapped_high : (v counter d : ℤ) → v +ℤ pos 4294967296 ≡ counter +ℤ int_rem_euclid d (pos 4294967296) → neg_ℤ (pos 2147483648) ≤ℤ v → v ≤ℤ pos 2147483647 → v ≡ wrapped_of (counter +ℤ d)
+pub wrapped_high : (v counter d : ℤ) → v +ℤ pos 4294967296 ≡ counter +ℤ int_rem_euclid d (pos 4294967296)
+    → neg_ℤ (pos 2147483648) ≤ℤ v → v ≤ℤ pos 2147483647 → v ≡ wrapped_of (counter +ℤ d)
 wrapped_high v counter d e low high =
     let t : (t : ℤ) × (d ≡ int_rem_euclid d (pos 4294967296) +ℤ pos 4294967296 *ℤ t) = multiple_of d in
     sym (wrapped_same v (counter +ℤ d) (record { multiple = t.0 +ℤ pos 1; low = low; high = high; differs = omega (arith, ints, t.1) }))
 
-pub wrapped_low : (v counter d : ℤ) → v ≡ counter +ℤ int_rem_euclid d (pos 4294967296) → neg_ℤ (pos 2147483648) ≤ℤ v → v ≤ℤ pos 2147483647 → v ≡ wrapped_of (counter +ℤ d)
+pub wrapped_low : (v counter d : ℤ) → v ≡ counter +ℤ int_rem_euclid d (pos 4294967296) → neg_ℤ (pos 2147483648) ≤ℤ v
+    → v ≤ℤ pos 2147483647 → v ≡ wrapped_of (counter +ℤ d)
 wrapped_low v counter d e low high =
     let t : (t : ℤ) × (d ≡ int_rem_euclid d (pos 4294967296) +ℤ pos 4294967296 *ℤ t) = multiple_of d in
     sym (wrapped_same v (counter +ℤ d) (record { multiple = t.0; low = low; high = high; differs = omega (arith, ints, t.1) }))

@@ -1,5 +1,7 @@
 -- What the writer appends, piece by piece.
-use Rattle.std.proofs.Common.{◌≡◌, ℕ, zero, suc, ◌+◌, ◌-◌, ◌*◌, ◌/◌, ◌%◌, ◌<◌, ◌≤◌, true, false, ltb, List, [], ◌∷◌, ◌++◌, length, get_or, drop, Option, Some, None, Result, Ok, Err, refl, sym, ap, ◌∙◌, append_assoc, arith}
+use Rattle.std.proofs.Common.{◌≡◌, ℕ, zero, suc, ◌+◌, ◌-◌, ◌*◌, ◌/◌, ◌%◌, ◌<◌, ◌≤◌, true, false, ltb, List, [], ◌∷◌}
+use Rattle.std.proofs.Common.{◌++◌, length, get_or, drop, Option, Some, None, Result, Ok, Err, refl, sym, ap, ◌∙◌}
+use Rattle.std.proofs.Common.{append_assoc, arith}
 use Rattle.std.specs.Prelude.{ℤ, pos, negsuc, ◌-ℤ◌, ◌≤ℤ◌, ◌<ℤ◌, OnOk, unsigned_abs}
 use Rattle.std.proofs.lemmas.Bool.Decides.{nat_tests}
 use Rattle.std.proofs.lemmas.Int.{ints}
@@ -38,9 +40,11 @@ more_varint (suc k) n some big =
 pub varint_last : (most n : ℕ) (old new : List ℕ) → 0 < most → n < 128 → new ≡ old ++ n ∷ [] → new ≡ old ++ varint_text most n
 varint_last most n old new some small e = e ∙ ap (λ (l : List ℕ). old ++ l) (sym (last_byte most n some small))
 
-pub varint_more : (most n : ℕ) (old mid new : List ℕ) → 0 < most → 128 ≤ n → mid ≡ old ++ (n % 128 + 128) ∷ [] → new ≡ mid ++ varint_text (most - 1) (n / 128) → new ≡ old ++ varint_text most n
+pub varint_more : (most n : ℕ) (old mid new : List ℕ) → 0 < most → 128 ≤ n → mid ≡ old ++ (n % 128 + 128) ∷ []
+    → new ≡ mid ++ varint_text (most - 1) (n / 128) → new ≡ old ++ varint_text most n
 varint_more most n old mid new some big m e =
-    e ∙ ap (λ (l : List ℕ). l ++ varint_text (most - 1) (n / 128)) m ∙ append_assoc old ((n % 128 + 128) ∷ []) (varint_text (most - 1) (n / 128)) ∙ ap (λ (l : List ℕ). old ++ l) (sym (more_varint most n some big))
+    e ∙ ap (λ (l : List ℕ). l ++ varint_text (most - 1) (n / 128)) m ∙ append_assoc old ((n % 128 + 128) ∷ [])
+    (varint_text (most - 1) (n / 128)) ∙ ap (λ (l : List ℕ). old ++ l) (sym (more_varint most n some big))
 
 zigzag_up : (z : ℤ) → pos 0 ≤ℤ z → zigzag z ≡ 2 * unsigned_abs z
 zigzag_up (pos n) h = refl
@@ -56,12 +60,14 @@ difference_up before value h = zigzag_up (value -ℤ before) (omega (arith, ints
 pub difference_down : (before value : ℤ) → value <ℤ before → zigzag (value -ℤ before) + 1 ≡ 2 * unsigned_abs (value -ℤ before)
 difference_down before value h = zigzag_down (value -ℤ before) (omega (arith, ints))
 
-pub as_difference : (n : ℕ) (before value : ℤ) (old new : List ℕ) → n ≡ zigzag (value -ℤ before) → new ≡ old ++ varint_text 10 n → new ≡ old ++ varint_text 10 (zigzag (value -ℤ before))
+pub as_difference : (n : ℕ) (before value : ℤ) (old new : List ℕ) → n ≡ zigzag (value -ℤ before)
+    → new ≡ old ++ varint_text 10 n → new ≡ old ++ varint_text 10 (zigzag (value -ℤ before))
 as_difference n before value old new is e = e ∙ ap (λ (m : ℕ). old ++ varint_text 10 m) is
 
 -- three pieces, one after another
 pub three_pieces : (old a b new x y z : List ℕ) → a ≡ old ++ x → b ≡ a ++ y → new ≡ b ++ z → new ≡ old ++ (x ++ y ++ z)
-three_pieces old a b new x y z p q r = r ∙ ap (λ (l : List ℕ). l ++ z) (q ∙ ap (λ (l : List ℕ). l ++ y) p) ∙ ap (λ (l : List ℕ). l ++ z) (append_assoc old x y) ∙ append_assoc old (x ++ y) z
+three_pieces old a b new x y z p q r = r ∙ ap (λ (l : List ℕ). l ++ z) (q ∙ ap (λ (l : List ℕ). l ++ y) p)
+    ∙ ap (λ (l : List ℕ). l ++ z) (append_assoc old x y) ∙ append_assoc old (x ++ y) z
 
 pub four_pieces : (old a b d new x y z w : List ℕ) → a ≡ old ++ x → b ≡ a ++ y → d ≡ b ++ z → new ≡ d ++ w → new ≡ old ++ (x ++ y ++ z ++ w)
 four_pieces old a b d new x y z w p q r s = rw (s, r, q, p) (simp append_assoc)
@@ -74,17 +80,25 @@ drop-cons_at (x ∷ xs) zero c h is = ap (λ (y : ChangeValue). y ∷ xs) is
 drop-cons_at (x ∷ xs) (suc i) c h is = let n : suc i + 1 ≡ suc (i + 1) = omega arith in rw n (drop-cons_at xs i c (omega arith) is)
 
 -- the text of the objects from one on is its text and that of the objects after it
-objects_from : (before : Option Kind) (s : State) (cs : List ChangeValue) (i : ℕ) (c : ChangeValue) → i < length cs → get_or cs i c ≡ c → objects_text before s (drop i cs) ≡ change_text before s c ++ objects_text (Some c.key.kind) (after_change before s c) (drop (i + 1) cs)
+objects_from : (before : Option Kind) (s : State) (cs : List ChangeValue) (i : ℕ) (c : ChangeValue) → i < length cs
+    → get_or cs i c ≡ c → objects_text before s (drop i cs) ≡ change_text before s c ++ objects_text (Some c.key.kind)
+    (after_change before s c) (drop (i + 1) cs)
 objects_from before s cs i c h is =
     let here : drop i cs ≡ c ∷ drop (i + 1) cs = drop-cons_at cs i c h is in
     rw here refl
 
 -- a step of the loop: what is written and the text of what is left stay the whole text
-pub objects_more : (before kind : Option Kind) (s t : State) (cs : List ChangeValue) (i : ℕ) (c : ChangeValue) (old new whole : List ℕ) → i < length cs → get_or cs i c ≡ c → old ++ objects_text before s (drop i cs) ≡ whole → new ≡ old ++ change_text before s c → t ≡ after_change before s c → kind ≡ Some c.key.kind → new ++ objects_text kind t (drop (i + 1) cs) ≡ whole
+pub objects_more : (before kind : Option Kind) (s t : State) (cs : List ChangeValue) (i : ℕ) (c : ChangeValue)
+    (old new whole : List ℕ) → i < length cs → get_or cs i c ≡ c → old ++ objects_text before s (drop i cs) ≡ whole
+    → new ≡ old ++ change_text before s c → t ≡ after_change before s c → kind ≡ Some c.key.kind
+    → new ++ objects_text kind t (drop (i + 1) cs) ≡ whole
 objects_more before kind s t cs i c old new whole h is w e state_is k =
-    rw (e, state_is, k) (append_assoc old (change_text before s c) (objects_text (Some c.key.kind) (after_change before s c) (drop (i + 1) cs)) ∙ ap (λ (l : List ℕ). old ++ l) (sym (objects_from before s cs i c h is)) ∙ w)
+    rw (e, state_is, k) (append_assoc old (change_text before s c)
+    (objects_text (Some c.key.kind) (after_change before s c) (drop (i + 1) cs)) ∙ ap (λ (l : List ℕ). old ++ l)
+    (sym (objects_from before s cs i c h is)) ∙ w)
 
 -- what is written is no longer than the whole text
-pub written_short : (cs : List ChangeValue) (out left : List ℕ) (most : ℕ) → out ++ left ≡ beginning ++ objects_text None new_state cs → most < length out → most < length (o5c_text cs)
+pub written_short : (cs : List ChangeValue) (out left : List ℕ) (most : ℕ) → out ++ left ≡ beginning
+    ++ objects_text None new_state cs → most < length out → most < length (o5c_text cs)
 written_short cs out left most e h =
     omega (arith, ap length e, length-append out left, length-append (beginning ++ objects_text None new_state cs) (254 ∷ []))

@@ -1,5 +1,6 @@
 -- The written text of a batch within the limits spells it.
-use Rattle.std.proofs.Common.{◌≡◌, ℕ, ◌+◌, ◌≤◌, Bool, true, false, cond, List, [], ◌∷◌, ◌++◌, length, Option, Some, None, refl, sym, ap, subst, ◌∙◌, append_assoc, arith}
+use Rattle.std.proofs.Common.{◌≡◌, ℕ, ◌+◌, ◌≤◌, Bool, true, false, cond, List, [], ◌∷◌, ◌++◌, length, Option, Some}
+use Rattle.std.proofs.Common.{None, refl, sym, ap, subst, ◌∙◌, append_assoc, arith}
 use Rattle.std.specs.Prelude.{pos}
 use Rattle.std.specs.List.{AllByRecursion}
 use Rattle.std.proofs.lemmas.Int.{ints}
@@ -9,7 +10,8 @@ use Rattle.osm_model.specs.Change.{ChangeValue, IsChange}
 use Rattle.osm_model.specs.Limits.{IsId}
 use Rattle.osm_model.specs.declared.kind.Kind.{Kind}
 use Rattle.osm_o5c.specs.Context.{Context, fresh}
-use Rattle.osm_o5c.specs.Written.{no_counters, new_state, number_text, dataset_text, object_text, after_object, is_other, reset_text, state_before, change_text, after_change, objects_text, o5c_text}
+use Rattle.osm_o5c.specs.Written.{no_counters, new_state, number_text, dataset_text, object_text, after_object}
+use Rattle.osm_o5c.specs.Written.{is_other, reset_text, state_before, change_text, after_change, objects_text, o5c_text}
 use Rattle.osm_o5c.specs.Shortest.{last_kind, ends_in_reset, IsShortestFront, IsShortest}
 use Rattle.osm_o5c.specs.Steps.NumberReading.{wrapped_of}
 use Rattle.osm_o5c.specs.File.{beginning, object, reset, Front, begin, next, SpellsO5c}
@@ -28,7 +30,19 @@ zero_id : IsId (pos 0)
 zero_id = record { low = omega (arith, ints); high = omega (arith, ints) }
 
 no_bounds : Bounds no_counters
-no_bounds = record { id = zero_id; time_low = omega (arith, ints); time_high = omega (arith, ints); changeset_low = omega (arith, ints); changeset_high = omega (arith, ints); way_node = zero_id; node_member = zero_id; way_member = zero_id; relation_member = zero_id }
+no_bounds = record {
+  id = zero_id;
+  time_low = omega (arith, ints);
+  time_high = omega (arith, ints);
+  changeset_low =
+      omega (arith, ints);
+  changeset_high = omega (arith, ints);
+  way_node = zero_id;
+  node_member = zero_id;
+  way_member =
+      zero_id;
+  relation_member = zero_id;
+}
 
 new_known : IsKnown [] []
 new_known = record { are = refl; clean = tt }
@@ -50,7 +64,8 @@ at_same : (prefix other : List ℕ) (xs : List ChangeValue) (s : State) (b : Boo
 at_same prefix other xs s b e a = subst (λ (p : List ℕ). At p xs s b) e a
 
 -- a reset, if there is one
-reset_written : (b : Bool) (prefix : List ℕ) (xs : List ChangeValue) (s : State) → At prefix xs s false → At (prefix ++ cond b (255 ∷ []) []) xs (cond b new_state s) b
+reset_written : (b : Bool) (prefix : List ℕ) (xs : List ChangeValue) (s : State) → At prefix xs s false
+    → At (prefix ++ cond b (255 ∷ []) []) xs (cond b new_state s) b
 reset_written true prefix xs s a = record {
   context = fresh;
   is_front = next prefix a.context xs (255 ∷ []) None fresh a.is_front (reset a.context) (front_few prefix a.context xs a.is_front);
@@ -61,25 +76,33 @@ reset_written true prefix xs s a = record {
 }
 reset_written false prefix xs s a = at_same prefix (prefix ++ []) xs s false (sym (append-nil prefix)) a
 
-dataset_written : (prefix : List ℕ) (xs : List ChangeValue) (s : State) (b : Bool) (c : ChangeValue) → At prefix xs s b → b ≡ is_other (last_kind xs) c.key.kind → IsChange c → length (xs ++ c ∷ []) ≤ 100000 → At (prefix ++ dataset_text s c) (xs ++ c ∷ []) (after_object s c) false
+dataset_written : (prefix : List ℕ) (xs : List ChangeValue) (s : State) (b : Bool) (c : ChangeValue) → At prefix xs s b
+    → b ≡ is_other (last_kind xs) c.key.kind → IsChange c → length (xs ++ c ∷ []) ≤ 100000
+    → At (prefix ++ dataset_text s c) (xs ++ c ∷ []) (after_object s c) false
 dataset_written prefix xs s b c a kind l few =
     let w : ObjectWritten a.context s c = object_written a.context s c a.state_is a.bounds l in
     let n = number_spells (length (object_text s c)) (object_short s c l) in
     record {
       context = w.after;
-      is_front = next prefix a.context xs (dataset_text s c) (Some c) w.after a.is_front (object a.context (number_text (length (object_text s c))) (object_text s c) c w.after n w.spells) few;
+      is_front = next prefix a.context xs (dataset_text s c) (Some c) w.after a.is_front
+          (object a.context (number_text (length (object_text s c))) (object_text s c) c w.after n w.spells) few;
       state_is = w.state_is;
       bounds = w.bounds;
       shortest = (a.shortest, ((λ other o. fewest_bytes other (length (object_text s c)) o), w.shortest, a.ends ∙ kind));
       ends = refl;
     }
 
-change_written : (before : Option Kind) (prefix : List ℕ) (xs : List ChangeValue) (s : State) (c : ChangeValue) → At prefix xs s false → last_kind xs ≡ before → IsChange c → length (xs ++ c ∷ []) ≤ 100000 → At (prefix ++ change_text before s c) (xs ++ c ∷ []) (after_change before s c) false
+change_written : (before : Option Kind) (prefix : List ℕ) (xs : List ChangeValue) (s : State) (c : ChangeValue)
+    → At prefix xs s false → last_kind xs ≡ before → IsChange c → length (xs ++ c ∷ []) ≤ 100000
+    → At (prefix ++ change_text before s c) (xs ++ c ∷ []) (after_change before s c) false
 change_written before prefix xs s c a last l few =
-    let first : At (prefix ++ reset_text before c.key.kind) xs (state_before before s c.key.kind) (is_other before c.key.kind) = reset_written (is_other before c.key.kind) prefix xs s a in
-    at_same ((prefix ++ reset_text before c.key.kind) ++ dataset_text (state_before before s c.key.kind) c) (prefix ++ change_text before s c) (xs ++ c ∷ []) (after_change before s c) false
+    let first : At (prefix ++ reset_text before c.key.kind) xs (state_before before s c.key.kind)
+    (is_other before c.key.kind) = reset_written (is_other before c.key.kind) prefix xs s a in
+    at_same ((prefix ++ reset_text before c.key.kind) ++ dataset_text (state_before before s c.key.kind) c)
+    (prefix ++ change_text before s c) (xs ++ c ∷ []) (after_change before s c) false
     (append_assoc prefix (reset_text before c.key.kind) (dataset_text (state_before before s c.key.kind) c))
-    (dataset_written (prefix ++ reset_text before c.key.kind) xs (state_before before s c.key.kind) (is_other before c.key.kind) c first (ap (λ (k : Option Kind). is_other k c.key.kind) (sym last)) l few)
+    (dataset_written (prefix ++ reset_text before c.key.kind) xs (state_before before s c.key.kind)
+    (is_other before c.key.kind) c first (ap (λ (k : Option Kind). is_other k c.key.kind) (sym last)) l few)
 
 record Behind (prefix : List ℕ) (xs : List ChangeValue) : Type 0 where
   context : Context
@@ -95,18 +118,40 @@ last_kind-push [] c = refl
 last_kind-push (x ∷ []) c = refl
 last_kind-push (x ∷ y ∷ xs) c = last_kind-push (y ∷ xs) c
 
-objects_written : (before : Option Kind) (prefix : List ℕ) (xs : List ChangeValue) (s : State) (cs : List ChangeValue) → At prefix xs s false → last_kind xs ≡ before → AllByRecursion IsChange cs → length xs + length cs ≤ 100000 → Behind (prefix ++ objects_text before s cs) (xs ++ cs)
-objects_written before prefix xs s [] a last each few = behind_same prefix (prefix ++ []) xs (xs ++ []) (sym (append-nil prefix)) (sym (append-nil xs)) (record { context = a.context; is_front = a.is_front; shortest = a.shortest; ends = a.ends })
+objects_written : (before : Option Kind) (prefix : List ℕ) (xs : List ChangeValue) (s : State) (cs : List ChangeValue)
+    → At prefix xs s false → last_kind xs ≡ before → AllByRecursion IsChange cs → length xs + length cs ≤ 100000
+    → Behind (prefix ++ objects_text before s cs) (xs ++ cs)
+objects_written before prefix xs s [] a last each few = behind_same prefix (prefix ++ []) xs (xs ++ [])
+    (sym (append-nil prefix)) (sym (append-nil xs)) (record {
+      context = a.context;
+      is_front = a.is_front;
+      shortest =
+          a.shortest;
+      ends = a.ends;
+    })
 objects_written before prefix xs s (c ∷ cs) a last each few =
-    let one : At (prefix ++ change_text before s c) (xs ++ c ∷ []) (after_change before s c) false = change_written before prefix xs s c a last each.0 (omega (arith, length-append xs (c ∷ []))) in
-    behind_same ((prefix ++ change_text before s c) ++ objects_text (Some c.key.kind) (after_change before s c) cs) (prefix ++ (change_text before s c ++ objects_text (Some c.key.kind) (after_change before s c) cs)) ((xs ++ c ∷ []) ++ cs) (xs ++ c ∷ cs)
+    let one : At (prefix ++ change_text before s c) (xs ++ c ∷ []) (after_change before s c) false =
+    change_written before prefix xs s c a last each.0 (omega (arith, length-append xs (c ∷ []))) in
+    behind_same ((prefix ++ change_text before s c) ++ objects_text (Some c.key.kind) (after_change before s c) cs)
+    (prefix ++ (change_text before s c ++ objects_text (Some c.key.kind) (after_change before s c) cs))
+    ((xs ++ c ∷ []) ++ cs) (xs ++ c ∷ cs)
     (append_assoc prefix (change_text before s c) (objects_text (Some c.key.kind) (after_change before s c) cs)) (append_assoc xs (c ∷ []) cs)
-    (objects_written (Some c.key.kind) (prefix ++ change_text before s c) (xs ++ c ∷ []) (after_change before s c) cs one (last_kind-push xs c) each.1 (omega (arith, length-append xs (c ∷ []))))
+    (objects_written (Some c.key.kind) (prefix ++ change_text before s c) (xs ++ c ∷ []) (after_change before s c) cs
+    one (last_kind-push xs c) each.1 (omega (arith, length-append xs (c ∷ []))))
 
 written : (batch : List ChangeValue) → IsBatch batch → Behind (beginning ++ objects_text None new_state batch) batch
 written batch l =
     let few : length batch ≤ 100000 = l.few in
-    objects_written None beginning [] new_state batch (record { context = fresh; is_front = begin; state_is = record { counters_are = fresh_counters; known = new_known }; bounds = no_bounds; shortest = tt; ends = refl }) refl l.each (omega arith)
+    objects_written None beginning [] new_state batch (record {
+      context = fresh;
+      is_front = begin;
+      state_is =
+          record { counters_are = fresh_counters; known = new_known };
+      bounds = no_bounds;
+      shortest = tt;
+      ends = refl;
+    })
+    refl l.each (omega arith)
 
 pub text_spells : (batch : List ChangeValue) → IsBatch batch → SpellsO5c (o5c_text batch) batch
 text_spells batch l =

@@ -14,7 +14,9 @@ use Rattle.osm_model.specs.declared.lists.Member.{Member}
 use Rattle.osm_model.specs.declared.lists.Tag.{Tag}
 use Rattle.osm_o5c.specs.Number.{zigzag}
 use Rattle.osm_o5c.specs.Context.{Context, total, members_of, with_members, with_strings, kind_digit}
-use Rattle.osm_o5c.specs.Written.{member_counter, with_member_counter, difference_text, pair_text, after_pair, single_text, tags_text, after_tags, refs_text, last_ref, member_text, after_member, members_text, after_members}
+use Rattle.osm_o5c.specs.Written.{member_counter, with_member_counter, difference_text, pair_text, after_pair}
+use Rattle.osm_o5c.specs.Written.{single_text, tags_text, after_tags, refs_text, last_ref, member_text, after_member}
+use Rattle.osm_o5c.specs.Written.{members_text, after_members}
 use Rattle.osm_o5c.specs.Many.{none, more}
 use Rattle.osm_o5c.specs.Object.{SpellsTags, SpellsRefs, SpellsMember, SpellsMembers}
 use Rattle.osm_o5c.specs.declared.counters.Counters.{Counters}
@@ -52,7 +54,12 @@ tags_short strings [] each = omega arith
 tags_short strings (t ∷ ts) each =
     let key : length t.key ≤ 1020 = each.0.key.short in
     let value : length t.value ≤ 1020 = each.0.value.short in
-    omega (arith, tags_short (after_pair strings t.key t.value) ts each.1, length-append (pair_text strings t.key t.value) (tags_text (after_pair strings t.key t.value) ts), pair_short strings t.key t.value)
+    omega (
+      arith,
+      tags_short (after_pair strings t.key t.value) ts each.1,
+      length-append (pair_text strings t.key t.value) (tags_text (after_pair strings t.key t.value) ts),
+      pair_short strings t.key t.value,
+    )
 
 -- ---- references
 
@@ -80,7 +87,8 @@ refs_spell before (r ∷ rs) b each =
     let one : SumWritten before (total before) r = sum_written before r near.0 near.1 in
     let is : total (before ++ (r -ℤ total before) ∷ []) ≡ r = sum_after before r in
     let rest : RefsWritten (before ++ (r -ℤ total before) ∷ []) rs = refs_spell (before ++ (r -ℤ total before) ∷ []) rs (subst IsId (sym is) each.0) each.1 in
-    let from : RefsFrom (before ++ (r -ℤ total before) ∷ []) (total (before ++ (r -ℤ total before) ∷ [])) rs = record { after = rest.after; spells = rest.spells; last = rest.last; shortest = rest.shortest } in
+    let from : RefsFrom (before ++ (r -ℤ total before) ∷ []) (total (before ++ (r -ℤ total before) ∷ [])) rs =
+    record { after = rest.after; spells = rest.spells; last = rest.last; shortest = rest.shortest } in
     let tail : RefsFrom (before ++ (r -ℤ total before) ∷ []) r rs = subst (λ (v : ℤ). RefsFrom (before ++ (r -ℤ total before) ∷ []) v rs) is from in
     record {
       after = tail.after;
@@ -117,9 +125,45 @@ member_bound Way s b = b.way_member
 member_bound Relation s b = b.relation_member
 
 bounds_member : (k : Kind) (s : Counters) (id : ℤ) → Bounds s → IsId id → Bounds (with_member_counter k s id)
-bounds_member Node s id b h = record { id = b.id; time_low = b.time_low; time_high = b.time_high; changeset_low = b.changeset_low; changeset_high = b.changeset_high; way_node = b.way_node; node_member = h; way_member = b.way_member; relation_member = b.relation_member }
-bounds_member Way s id b h = record { id = b.id; time_low = b.time_low; time_high = b.time_high; changeset_low = b.changeset_low; changeset_high = b.changeset_high; way_node = b.way_node; node_member = b.node_member; way_member = h; relation_member = b.relation_member }
-bounds_member Relation s id b h = record { id = b.id; time_low = b.time_low; time_high = b.time_high; changeset_low = b.changeset_low; changeset_high = b.changeset_high; way_node = b.way_node; node_member = b.node_member; way_member = b.way_member; relation_member = h }
+bounds_member Node s id b h = record {
+  id = b.id;
+  time_low = b.time_low;
+  time_high = b.time_high;
+  changeset_low =
+      b.changeset_low;
+  changeset_high = b.changeset_high;
+  way_node = b.way_node;
+  node_member = h;
+  way_member =
+      b.way_member;
+  relation_member = b.relation_member;
+}
+bounds_member Way s id b h = record {
+  id = b.id;
+  time_low = b.time_low;
+  time_high = b.time_high;
+  changeset_low =
+      b.changeset_low;
+  changeset_high = b.changeset_high;
+  way_node = b.way_node;
+  node_member = b.node_member;
+  way_member =
+      h;
+  relation_member = b.relation_member;
+}
+bounds_member Relation s id b h = record {
+  id = b.id;
+  time_low = b.time_low;
+  time_high = b.time_high;
+  changeset_low =
+      b.changeset_low;
+  changeset_high = b.changeset_high;
+  way_node = b.way_node;
+  node_member = b.node_member;
+  way_member =
+      b.way_member;
+  relation_member = h;
+}
 
 digit_text : (k : Kind) (role : List ℕ) → IsText role → ¬ Contains (kind_digit k ∷ role) 0
 digit_text Node role t = none_before 48 role (λ z. omega arith) t.no_nul
@@ -127,7 +171,8 @@ digit_text Way role t = none_before 49 role (λ z. omega arith) t.no_nul
 digit_text Relation role t = none_before 50 role (λ z. omega arith) t.no_nul
 
 -- the context after a written member
-positive_sum_with : (k : Kind) (C : Context) (ids : List ℤ) (ss : List Entry) → counters_of (with_strings (with_members k C ids) ss) ≡ with_member_counter k (counters_of C) (total ids)
+positive_sum_with : (k : Kind) (C : Context) (ids : List ℤ) (ss : List Entry)
+    → counters_of (with_strings (with_members k C ids) ss) ≡ with_member_counter k (counters_of C) (total ids)
 positive_sum_with Node C ids ss = refl
 positive_sum_with Way C ids ss = refl
 positive_sum_with Relation C ids ss = refl
@@ -145,10 +190,14 @@ record MemberWritten (C : Context) (s : State) (m : Member) : Type 0 where
 
 member_spells : (C : Context) (s : State) (m : Member) → IsState C s → Bounds s.counters → HasMemberId m → IsRole m → MemberWritten C s m
 member_spells C s m st b i r =
-    let at : member_counter m.key.kind s.counters ≡ total (members_of m.key.kind C) = ap (λ (k : Counters). member_counter m.key.kind k) (sym st.counters_are) ∙ counter_is m.key.kind C in
+    let at : member_counter m.key.kind s.counters ≡ total (members_of m.key.kind C) =
+    ap (λ (k : Counters). member_counter m.key.kind k) (sym st.counters_are) ∙ counter_is m.key.kind C in
     let near = ids_apart (total (members_of m.key.kind C)) m.key.id (subst IsId at (member_bound m.key.kind s.counters b)) i in
-    let number : SumWritten (members_of m.key.kind C) (member_counter m.key.kind s.counters) m.key.id = subst (λ (v : ℤ). SumWritten (members_of m.key.kind C) v m.key.id) (sym at) (sum_written (members_of m.key.kind C) m.key.id near.0 near.1) in
-    let string : SingleWritten C.strings s.strings (kind_digit m.key.kind ∷ m.role) = single_written C.strings s.strings (kind_digit m.key.kind ∷ m.role) st.known (digit_text m.key.kind m.role r) in
+    let number : SumWritten (members_of m.key.kind C) (member_counter m.key.kind s.counters) m.key.id =
+    subst (λ (v : ℤ). SumWritten (members_of m.key.kind C) v m.key.id) (sym at)
+    (sum_written (members_of m.key.kind C) m.key.id near.0 near.1) in
+    let string : SingleWritten C.strings s.strings (kind_digit m.key.kind ∷ m.role) =
+    single_written C.strings s.strings (kind_digit m.key.kind ∷ m.role) st.known (digit_text m.key.kind m.role r) in
     record {
       after = with_strings (with_members m.key.kind C (members_of m.key.kind C ++ (m.key.id -ℤ total (members_of m.key.kind C)) ∷ [])) string.after;
       spells = record {
@@ -162,7 +211,11 @@ member_spells C s m st b i r =
         context = refl;
       };
       state_is = record {
-        counters_are = positive_sum_with m.key.kind C (members_of m.key.kind C ++ (m.key.id -ℤ total (members_of m.key.kind C)) ∷ []) string.after ∙ ap (λ (v : ℤ). with_member_counter m.key.kind (counters_of C) v) (sum_after (members_of m.key.kind C) m.key.id) ∙ ap (λ (k : Counters). with_member_counter m.key.kind k m.key.id) st.counters_are;
+        counters_are =
+            positive_sum_with m.key.kind C (members_of m.key.kind C ++ (m.key.id -ℤ total (members_of m.key.kind C)) ∷
+            []) string.after ∙ ap (λ (v : ℤ). with_member_counter m.key.kind (counters_of C) v)
+            (sum_after (members_of m.key.kind C) m.key.id)
+            ∙ ap (λ (k : Counters). with_member_counter m.key.kind k m.key.id) st.counters_are;
         known = string.known;
       };
       shortest = (number.shortest, string.shortest);
@@ -175,11 +228,14 @@ pub record MembersWritten (C : Context) (s : State) (members : List Member) : Ty
   pub bounds : Bounds (after_members s members).counters
   pub shortest : AreShortestMembers spells
 
-pub members_spell : (C : Context) (s : State) (members : List Member) → IsState C s → Bounds s.counters → AllByRecursion HasMemberId members → AllByRecursion IsRole members → MembersWritten C s members
+pub members_spell : (C : Context) (s : State) (members : List Member) → IsState C s → Bounds s.counters
+    → AllByRecursion HasMemberId members → AllByRecursion IsRole members → MembersWritten C s members
 members_spell C s [] st b i r = record { after = C; spells = none C; state_is = st; bounds = b; shortest = tt }
 members_spell C s (m ∷ ms) st b i r =
     let one : MemberWritten C s m = member_spells C s m st b i.0 r.0 in
-    let rest : MembersWritten one.after (after_member s m) ms = members_spell one.after (after_member s m) ms one.state_is (bounds_member m.key.kind s.counters m.key.id b i.0) i.1 r.1 in
+    let rest : MembersWritten one.after (after_member s m) ms =
+    members_spell one.after (after_member s m) ms one.state_is (bounds_member m.key.kind s.counters m.key.id b i.0)
+    i.1 r.1 in
     record {
       after = rest.after;
       spells = more C (member_text s m) m one.after (members_text (after_member s m) ms) ms rest.after one.spells rest.spells;
@@ -192,4 +248,13 @@ pub members_short : (s : State) (members : List Member) → AllByRecursion IsRol
 members_short s [] r = omega arith
 members_short s (m ∷ ms) r =
     let role : length m.role ≤ 1020 = r.0.short in
-    omega (arith, members_short (after_member s m) ms r.1, number_short (zigzag (m.key.id -ℤ member_counter m.key.kind s.counters)), single_short s.strings (kind_digit m.key.kind ∷ m.role), length-append (member_text s m) (members_text (after_member s m) ms), length-append (difference_text (member_counter m.key.kind s.counters) m.key.id) (single_text s.strings (kind_digit m.key.kind ∷ m.role)))
+    omega (
+      arith,
+      members_short (after_member s m) ms r.1,
+      number_short (zigzag (m.key.id -ℤ member_counter m.key.kind s.counters)),
+      single_short s.strings
+          (kind_digit m.key.kind ∷ m.role),
+      length-append (member_text s m) (members_text (after_member s m) ms),
+      length-append (difference_text (member_counter m.key.kind s.counters) m.key.id)
+          (single_text s.strings (kind_digit m.key.kind ∷ m.role)),
+    )

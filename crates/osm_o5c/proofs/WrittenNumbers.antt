@@ -112,12 +112,15 @@ pub signed_spells : (z : ℤ) → neg_ℤ (pos 9223372036854775808) ≤ℤ z →
 signed_spells z low high = record { unsigned = number_spells (zigzag z) (zigzag_small z low high) }
 
 -- a written difference, and the differences after it
-pub sum_spells : (before : List ℤ) (v : ℤ) → neg_ℤ (pos 9223372036854775808) ≤ℤ (v -ℤ total before) → (v -ℤ total before) ≤ℤ pos 9223372036854775807 → SpellsSum before (difference_text (total before) v) v (before ++ (v -ℤ total before) ∷ [])
+pub sum_spells : (before : List ℤ) (v : ℤ) → neg_ℤ (pos 9223372036854775808) ≤ℤ (v -ℤ total before)
+    → (v -ℤ total before) ≤ℤ pos 9223372036854775807 → SpellsSum before (difference_text (total before) v) v
+    (before ++ (v -ℤ total before) ∷ [])
 sum_spells before v low high = record {
   difference = v -ℤ total before;
   signed = signed_spells (v -ℤ total before) low high;
   added = refl;
-  sum_is = let t : total (before ++ (v -ℤ total before) ∷ []) ≡ total before +ℤ (v -ℤ total before) = total-push before (v -ℤ total before) in omega (arith, ints);
+  sum_is = let t : total (before ++ (v -ℤ total before) ∷ []) ≡ total before +ℤ (v -ℤ total before) =
+      total-push before (v -ℤ total before) in omega (arith, ints);
 }
 
 -- a written difference from a counter
@@ -125,14 +128,17 @@ pub record SumWritten (before : List ℤ) (counter v : ℤ) : Type 0 where
   pub spells : SpellsSum before (difference_text counter v) v (before ++ (v -ℤ total before) ∷ [])
   pub shortest : IsShortestSum spells
 
-pub sum_written : (before : List ℤ) (v : ℤ) → neg_ℤ (pos 9223372036854775808) ≤ℤ (v -ℤ total before) → (v -ℤ total before) ≤ℤ pos 9223372036854775807 → SumWritten before (total before) v
+pub sum_written : (before : List ℤ) (v : ℤ) → neg_ℤ (pos 9223372036854775808) ≤ℤ (v -ℤ total before)
+    → (v -ℤ total before) ≤ℤ pos 9223372036854775807 → SumWritten before (total before) v
 unfolding sum_spells
 sum_written before v low high = record { spells = sum_spells before v low high; shortest = (λ other s. fewest_bytes other (zigzag (v -ℤ total before)) s) }
 
 pub sum_after : (before : List ℤ) (v : ℤ) → total (before ++ (v -ℤ total before) ∷ []) ≡ v
-sum_after before v = let t : total (before ++ (v -ℤ total before) ∷ []) ≡ total before +ℤ (v -ℤ total before) = total-push before (v -ℤ total before) in omega (arith, ints)
+sum_after before v = let t : total (before ++ (v -ℤ total before) ∷ []) ≡ total before +ℤ (v -ℤ total before) =
+    total-push before (v -ℤ total before) in omega (arith, ints)
 
-pub wrapped_spells : (before : List ℤ) (v : ℤ) → neg_ℤ (pos 2147483648) ≤ℤ v → v ≤ℤ pos 2147483647 → SpellsWrapped before (difference_text (wrapped_total before) v) v (before ++ (v -ℤ wrapped_total before) ∷ [])
+pub wrapped_spells : (before : List ℤ) (v : ℤ) → neg_ℤ (pos 2147483648) ≤ℤ v → v ≤ℤ pos 2147483647
+    → SpellsWrapped before (difference_text (wrapped_total before) v) v (before ++ (v -ℤ wrapped_total before) ∷ [])
 wrapped_spells before v low high =
     let w : IsWrapped (wrapped_total before) (total before) = wrapped_is (total before) in
     let wl = w.low in
@@ -156,7 +162,8 @@ wrapped_written before v low high = record {
   shortest = ((λ other s. fewest_bytes other (zigzag (v -ℤ wrapped_total before)) s), (λ last w. ap (λ (t : ℤ). v -ℤ t) (wrapped_same last (total before) w)));
 }
 
-pub wrapped_after : (before : List ℤ) (v : ℤ) → neg_ℤ (pos 2147483648) ≤ℤ v → v ≤ℤ pos 2147483647 → wrapped_total (before ++ (v -ℤ wrapped_total before) ∷ []) ≡ v
+pub wrapped_after : (before : List ℤ) (v : ℤ) → neg_ℤ (pos 2147483648) ≤ℤ v → v ≤ℤ pos 2147483647
+    → wrapped_total (before ++ (v -ℤ wrapped_total before) ∷ []) ≡ v
 wrapped_after before v low high =
     let s : SpellsWrapped before (difference_text (wrapped_total before) v) v (before ++ (v -ℤ wrapped_total before) ∷ []) = wrapped_spells before v low high in
     wrapped_same v (total (before ++ (v -ℤ wrapped_total before) ∷ [])) s.wrapped

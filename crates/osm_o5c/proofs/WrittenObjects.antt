@@ -15,23 +15,28 @@ use Rattle.osm_model.specs.declared.lists.Tag.{Tag}
 use Rattle.osm_o5c.specs.Number.{zigzag}
 use Rattle.osm_o5c.specs.Context.{Context, total, with_strings}
 use Rattle.osm_o5c.specs.Object.{SpellsMeta, SpellsWhat, SpellsObject}
-use Rattle.osm_o5c.specs.Written.{number_text, difference_text, pair_text, after_pair, part_text, tags_text, refs_text, last_ref, members_text, after_members, meta_text, what_text, after_what, after_meta, object_text, after_object}
+use Rattle.osm_o5c.specs.Written.{number_text, difference_text, pair_text, after_pair, part_text, tags_text, refs_text}
+use Rattle.osm_o5c.specs.Written.{last_ref, members_text, after_members, meta_text, what_text, after_what, after_meta}
+use Rattle.osm_o5c.specs.Written.{object_text, after_object}
 use Rattle.osm_o5c.specs.Shortest.{IsShortestMeta, IsShortestWhat, IsShortestObject}
 use Rattle.osm_o5c.specs.declared.counters.Counters.{Counters}
 use Rattle.osm_o5c.specs.declared.strings.Entry.{Entry}
 use Rattle.osm_o5c.specs.declared.writer.State.{State}
 use Rattle.osm_o5c.proofs.CounterLemmas.{wrapped_total}
 use Rattle.osm_o5c.proofs.FieldLemmas.{counters_of}
-use Rattle.osm_o5c.proofs.WrittenNumbers.{number_spells, number_short, number_no_nul, fewest_bytes, SumWritten, sum_written, sum_after, WrappedWritten, wrapped_written, wrapped_after}
+use Rattle.osm_o5c.proofs.WrittenNumbers.{number_spells, number_short, number_no_nul, fewest_bytes, SumWritten}
+use Rattle.osm_o5c.proofs.WrittenNumbers.{sum_written, sum_after, WrappedWritten, wrapped_written, wrapped_after}
 use Rattle.osm_o5c.proofs.KnownLemmas.{IsKnown, PairWritten, pair_written, pair_short}
-use Rattle.osm_o5c.proofs.WrittenLists.{Bounds, IsState, TagsWritten, tags_spell, tags_short, RefsWritten, refs_spell, refs_short, last_is_id, ids_apart, MembersWritten, members_spell, members_short}
+use Rattle.osm_o5c.proofs.WrittenLists.{Bounds, IsState, TagsWritten, tags_spell, tags_short, RefsWritten, refs_spell}
+use Rattle.osm_o5c.proofs.WrittenLists.{refs_short, last_is_id, ids_apart, MembersWritten, members_spell, members_short}
 
 -- ---- metadata
 
 positive_small : (n : ℕ) → IsPositive n → n < 2 ^ 64
 positive_small n p = let h : n < 2 ^ 32 = p.high in omega arith
 
-counts_apart : (a : ℤ) (n : ℕ) → pos 0 ≤ℤ a → a ≤ℤ pos 4294967295 → IsPositive n → (neg_ℤ (pos 9223372036854775808) ≤ℤ (pos n -ℤ a)) × ((pos n -ℤ a) ≤ℤ pos 9223372036854775807)
+counts_apart : (a : ℤ) (n : ℕ) → pos 0 ≤ℤ a → a ≤ℤ pos 4294967295 → IsPositive n
+    → (neg_ℤ (pos 9223372036854775808) ≤ℤ (pos n -ℤ a)) × ((pos n -ℤ a) ≤ℤ pos 9223372036854775807)
 counts_apart a n low high p = let h : n < 2 ^ 32 = p.high in (omega (arith, ints), omega (arith, ints))
 
 -- the state of a writer in a context, with these strings entered
@@ -58,7 +63,8 @@ meta_spells C strings m known b l =
     let apart = counts_apart (total C.changesets) m.changeset b.changeset_low b.changeset_high l.changeset in
     let time : SumWritten C.times (total C.times) (pos m.time) = sum_written C.times (pos m.time) near.0 near.1 in
     let changeset : SumWritten C.changesets (total C.changesets) (pos m.changeset) = sum_written C.changesets (pos m.changeset) apart.0 apart.1 in
-    let user : PairWritten C.strings strings (number_text m.uid) m.user = pair_written C.strings strings (number_text m.uid) m.user known (number_no_nul m.uid l.uid.low) l.user.no_nul in
+    let user : PairWritten C.strings strings (number_text m.uid) m.user =
+    pair_written C.strings strings (number_text m.uid) m.user known (number_no_nul m.uid l.uid.low) l.user.no_nul in
     record {
       after = user.after;
       spells = record {
@@ -94,7 +100,8 @@ meta_short s m l =
       number_short (zigzag (pos m.changeset -ℤ s.counters.changeset)),
       number_short m.uid,
       pair_short s.strings (number_text m.uid) m.user,
-      length-append (number_text m.version ++ difference_text s.counters.time (pos m.time) ++ difference_text s.counters.changeset (pos m.changeset)) (pair_text s.strings (number_text m.uid) m.user),
+      length-append (number_text m.version ++ difference_text s.counters.time (pos m.time)
+          ++ difference_text s.counters.changeset (pos m.changeset)) (pair_text s.strings (number_text m.uid) m.user),
       length-append (number_text m.version ++ difference_text s.counters.time (pos m.time)) (difference_text s.counters.changeset (pos m.changeset)),
       length-append (number_text m.version) (difference_text s.counters.time (pos m.time)),
     )
@@ -108,13 +115,29 @@ record WhatWritten (kind : Kind) (C : Context) (s : State) (what : What) : Type 
   bounds : Bounds (after_what s what).counters
   shortest : IsShortestWhat kind C (what_text s what) what after spells
 
-location_counters : (C : Context) (lons lats : List ℤ) (ss : List Entry) (lon lat : ℤ) → wrapped_total lons ≡ lon → wrapped_total lats ≡ lat → counters_of (record C { lons = lons; lats = lats; strings = ss }) ≡ record (counters_of C) { lon = lon; lat = lat }
+location_counters : (C : Context) (lons lats : List ℤ) (ss : List Entry) (lon lat : ℤ) → wrapped_total lons ≡ lon
+    → wrapped_total lats ≡ lat → counters_of (record C { lons = lons; lats = lats; strings = ss }) ≡
+    record (counters_of C) { lon = lon; lat = lat }
 location_counters C lons lats ss lon lat x y = rw (x, y) refl
 
 bounds_location : (s : Counters) (lon lat : ℤ) → Bounds s → Bounds (record s { lon = lon; lat = lat })
-bounds_location s lon lat b = record { id = b.id; time_low = b.time_low; time_high = b.time_high; changeset_low = b.changeset_low; changeset_high = b.changeset_high; way_node = b.way_node; node_member = b.node_member; way_member = b.way_member; relation_member = b.relation_member }
+bounds_location s lon lat b = record {
+  id = b.id;
+  time_low = b.time_low;
+  time_high = b.time_high;
+  changeset_low =
+      b.changeset_low;
+  changeset_high = b.changeset_high;
+  way_node = b.way_node;
+  node_member = b.node_member;
+  way_member =
+      b.way_member;
+  relation_member = b.relation_member;
+}
 
-node_written : (kind : Kind) (C : Context) (strings : List (List ℕ)) (lon lat : ℤ) (tags : List Tag) → IsKnown C.strings strings → Bounds (counters_of C) → kind ≡ kinds.Node → IsLocation lon lat → AreTags tags → WhatWritten kind C (state_of C strings) (Node lon lat tags)
+node_written : (kind : Kind) (C : Context) (strings : List (List ℕ)) (lon lat : ℤ) (tags : List Tag)
+    → IsKnown C.strings strings → Bounds (counters_of C) → kind ≡ kinds.Node → IsLocation lon lat → AreTags tags
+    → WhatWritten kind C (state_of C strings) (Node lon lat tags)
 node_written kind C strings lon lat tags known b k p l =
     let lonl = p.longitude.low in
     let lonh = p.longitude.high in
@@ -150,20 +173,37 @@ node_written kind C strings lon lat tags known b k p l =
         },
       );
       state_is = record {
-        counters_are = location_counters C (C.lons ++ (lon -ℤ wrapped_total C.lons) ∷ []) (C.lats ++ (lat -ℤ wrapped_total C.lats) ∷ []) t.after lon lat (wrapped_after C.lons lon lows highs) (wrapped_after C.lats lat lowt hight);
+        counters_are = location_counters C (C.lons ++ (lon -ℤ wrapped_total C.lons) ∷ [])
+            (C.lats ++ (lat -ℤ wrapped_total C.lats) ∷ []) t.after lon lat (wrapped_after C.lons lon lows highs)
+            (wrapped_after C.lats lat lowt hight);
         known = t.known;
       };
       bounds = bounds_location (counters_of C) lon lat b;
       shortest = (x.shortest, y.shortest, t.shortest);
     }
 
-way_counters : (C : Context) (nodes : List ℤ) (ss : List Entry) (last : ℤ) → total nodes ≡ last → counters_of (record C { way_nodes = nodes; strings = ss }) ≡ record (counters_of C) { way_node = last }
+way_counters : (C : Context) (nodes : List ℤ) (ss : List Entry) (last : ℤ) → total nodes ≡ last
+    → counters_of (record C { way_nodes = nodes; strings = ss }) ≡ record (counters_of C) { way_node = last }
 way_counters C nodes ss last e = rw e refl
 
 bounds_way : (s : Counters) (last : ℤ) → Bounds s → IsId last → Bounds (record s { way_node = last })
-bounds_way s last b h = record { id = b.id; time_low = b.time_low; time_high = b.time_high; changeset_low = b.changeset_low; changeset_high = b.changeset_high; way_node = h; node_member = b.node_member; way_member = b.way_member; relation_member = b.relation_member }
+bounds_way s last b h = record {
+  id = b.id;
+  time_low = b.time_low;
+  time_high = b.time_high;
+  changeset_low =
+      b.changeset_low;
+  changeset_high = b.changeset_high;
+  way_node = h;
+  node_member = b.node_member;
+  way_member =
+      b.way_member;
+  relation_member = b.relation_member;
+}
 
-way_written : (kind : Kind) (C : Context) (strings : List (List ℕ)) (refs : List ℤ) (tags : List Tag) → IsKnown C.strings strings → Bounds (counters_of C) → kind ≡ kinds.Way → AreRefs refs → AreTags tags → WhatWritten kind C (state_of C strings) (Way refs tags)
+way_written : (kind : Kind) (C : Context) (strings : List (List ℕ)) (refs : List ℤ) (tags : List Tag)
+    → IsKnown C.strings strings → Bounds (counters_of C) → kind ≡ kinds.Way → AreRefs refs → AreTags tags
+    → WhatWritten kind C (state_of C strings) (Way refs tags)
 way_written kind C strings refs tags known b k r l =
     let w : RefsWritten C.way_nodes refs = refs_spell C.way_nodes refs b.way_node r.each in
     let t : TagsWritten C.strings strings tags = tags_spell C.strings strings tags known l.each in
@@ -193,9 +233,12 @@ way_written kind C strings refs tags known b k r l =
       shortest = ((λ other s. fewest_bytes other (length (refs_text (total C.way_nodes) refs)) s), w.shortest, t.shortest);
     }
 
-relation_written : (kind : Kind) (C : Context) (strings : List (List ℕ)) (members : List Member) (tags : List Tag) → IsKnown C.strings strings → Bounds (counters_of C) → kind ≡ kinds.Relation → AreMembers members → AreTags tags → WhatWritten kind C (state_of C strings) (Relation members tags)
+relation_written : (kind : Kind) (C : Context) (strings : List (List ℕ)) (members : List Member) (tags : List Tag)
+    → IsKnown C.strings strings → Bounds (counters_of C) → kind ≡ kinds.Relation → AreMembers members → AreTags tags
+    → WhatWritten kind C (state_of C strings) (Relation members tags)
 relation_written kind C strings members tags known b k r l =
-    let w : MembersWritten C (state_of C strings) members = members_spell C (state_of C strings) members (record { counters_are = refl; known = known }) b r.ids r.roles in
+    let w : MembersWritten C (state_of C strings) members = members_spell C (state_of C strings) members
+    (record { counters_are = refl; known = known }) b r.ids r.roles in
     let entered : List (List ℕ) = (after_members (state_of C strings) members).strings in
     let t : TagsWritten w.after.strings entered tags = tags_spell w.after.strings entered tags w.state_is.known l.each in
     let few : length members ≤ 32000 = r.few in
@@ -221,8 +264,16 @@ relation_written kind C strings members tags known b k r l =
       shortest = ((λ other s. fewest_bytes other (length (members_text (state_of C strings) members)) s), w.shortest, t.shortest);
     }
 
-what_written : (kind : Kind) (C : Context) (strings : List (List ℕ)) (what : What) → IsKnown C.strings strings → Bounds (counters_of C) → IsWhat kind what → WhatWritten kind C (state_of C strings) what
-what_written kind C strings Deleted known b l = record { after = C; spells = (refl, refl); state_is = record { counters_are = refl; known = known }; bounds = b; shortest = tt }
+what_written : (kind : Kind) (C : Context) (strings : List (List ℕ)) (what : What) → IsKnown C.strings strings
+    → Bounds (counters_of C) → IsWhat kind what → WhatWritten kind C (state_of C strings) what
+what_written kind C strings Deleted known b l = record {
+  after = C;
+  spells = (refl, refl);
+  state_is =
+      record { counters_are = refl; known = known };
+  bounds = b;
+  shortest = tt;
+}
 what_written kind C strings (Node lon lat tags) known b l = node_written kind C strings lon lat tags known b l.0 l.1 l.2
 what_written kind C strings (Way refs tags) known b l = way_written kind C strings refs tags known b l.0 l.1 l.2
 what_written kind C strings (Relation members tags) known b l = relation_written kind C strings members tags known b l.0 l.1 l.2
@@ -231,15 +282,38 @@ what_short : (kind : Kind) (s : State) (what : What) → IsWhat kind what → le
 what_short kind s Deleted l = omega arith
 what_short kind s (Node lon lat tags) l =
     let few : length tags ≤ 5000 = l.2.few in
-    omega (arith, tags_short s.strings tags l.2.each, number_short (zigzag (lon -ℤ s.counters.lon)), number_short (zigzag (lat -ℤ s.counters.lat)), length-append (difference_text s.counters.lon lon ++ difference_text s.counters.lat lat) (tags_text s.strings tags), length-append (difference_text s.counters.lon lon) (difference_text s.counters.lat lat))
+    omega (
+      arith,
+      tags_short s.strings tags l.2.each,
+      number_short (zigzag (lon -ℤ s.counters.lon)),
+      number_short (zigzag (lat -ℤ s.counters.lat)),
+      length-append (difference_text s.counters.lon lon
+          ++ difference_text s.counters.lat lat) (tags_text s.strings tags),
+      length-append (difference_text s.counters.lon lon) (difference_text s.counters.lat lat),
+    )
 what_short kind s (Way refs tags) l =
     let few : length tags ≤ 5000 = l.2.few in
     let fewr : length refs ≤ 32000 = l.1.few in
-    omega (arith, tags_short s.strings tags l.2.each, refs_short s.counters.way_node refs, number_short (length (refs_text s.counters.way_node refs)), length-append (part_text (refs_text s.counters.way_node refs)) (tags_text s.strings tags), length-append (number_text (length (refs_text s.counters.way_node refs))) (refs_text s.counters.way_node refs))
+    omega (
+      arith,
+      tags_short s.strings tags l.2.each,
+      refs_short s.counters.way_node refs,
+      number_short (length (refs_text s.counters.way_node refs)),
+      length-append (part_text (refs_text s.counters.way_node refs)) (tags_text s.strings tags),
+      length-append (number_text (length (refs_text s.counters.way_node refs))) (refs_text s.counters.way_node refs),
+    )
 what_short kind s (Relation members tags) l =
     let few : length tags ≤ 5000 = l.2.few in
     let fewm : length members ≤ 32000 = l.1.few in
-    omega (arith, tags_short (after_members s members).strings tags l.2.each, members_short s members l.1.roles, number_short (length (members_text s members)), length-append (part_text (members_text s members)) (tags_text (after_members s members).strings tags), length-append (number_text (length (members_text s members))) (members_text s members))
+    omega (
+      arith,
+      tags_short (after_members s members).strings tags l.2.each,
+      members_short s members l.1.roles,
+      number_short (length (members_text s members)),
+      length-append (part_text (members_text s members))
+          (tags_text (after_members s members).strings tags),
+      length-append (number_text (length (members_text s members))) (members_text s members),
+    )
 
 -- ---- objects
 
@@ -254,28 +328,57 @@ pub record ObjectWritten (C : Context) (s : State) (c : ChangeValue) : Type 0 wh
 abbrev id_context : Context → ℤ → Context
 id_context C id = record C { ids = C.ids ++ (id -ℤ total C.ids) ∷ [] }
 
-meta_counters : (C : Context) (strings : List (List ℕ)) (c : ChangeValue) (ss : List Entry) → counters_of (meta_context (id_context C c.key.id) c.meta ss) ≡ (after_meta (state_of C strings) c).counters
+meta_counters : (C : Context) (strings : List (List ℕ)) (c : ChangeValue) (ss : List Entry)
+    → counters_of (meta_context (id_context C c.key.id) c.meta ss) ≡ (after_meta (state_of C strings) c).counters
 meta_counters C strings c ss = rw (sum_after C.ids c.key.id, sum_after C.times (pos c.meta.time), sum_after C.changesets (pos c.meta.changeset)) refl
 
 id_bounds : (C : Context) (id : ℤ) → Bounds (counters_of C) → IsId id → Bounds (counters_of (id_context C id))
-id_bounds C id b h = record { id = subst IsId (sym (sum_after C.ids id)) h; time_low = b.time_low; time_high = b.time_high; changeset_low = b.changeset_low; changeset_high = b.changeset_high; way_node = b.way_node; node_member = b.node_member; way_member = b.way_member; relation_member = b.relation_member }
+id_bounds C id b h = record {
+  id = subst IsId (sym (sum_after C.ids id)) h;
+  time_low = b.time_low;
+  time_high =
+      b.time_high;
+  changeset_low = b.changeset_low;
+  changeset_high = b.changeset_high;
+  way_node = b.way_node;
+  node_member = b.node_member;
+  way_member = b.way_member;
+  relation_member = b.relation_member;
+}
 
 meta_bounds : (s : State) (c : ChangeValue) → Bounds s.counters → IsChange c → Bounds (after_meta s c).counters
 meta_bounds s c b l =
     let time : c.meta.time < 2 ^ 32 = l.meta.time.high in
     let changeset : c.meta.changeset < 2 ^ 32 = l.meta.changeset.high in
-    record { id = l.id; time_low = omega (arith, ints); time_high = omega (arith, ints); changeset_low = omega (arith, ints); changeset_high = omega (arith, ints); way_node = b.way_node; node_member = b.node_member; way_member = b.way_member; relation_member = b.relation_member }
+    record {
+      id = l.id;
+      time_low = omega (arith, ints);
+      time_high = omega (arith, ints);
+      changeset_low =
+          omega (arith, ints);
+      changeset_high = omega (arith, ints);
+      way_node = b.way_node;
+      node_member = b.node_member;
+      way_member = b.way_member;
+      relation_member = b.relation_member;
+    }
 
-object_at_context : (C : Context) (strings : List (List ℕ)) (c : ChangeValue) → IsKnown C.strings strings → Bounds (counters_of C) → IsChange c → ObjectWritten C (state_of C strings) c
+object_at_context : (C : Context) (strings : List (List ℕ)) (c : ChangeValue) → IsKnown C.strings strings
+    → Bounds (counters_of C) → IsChange c → ObjectWritten C (state_of C strings) c
 object_at_context C strings c known b l =
     let near = ids_apart (total C.ids) c.key.id b.id l.id in
     let id : SumWritten C.ids (total C.ids) c.key.id = sum_written C.ids c.key.id near.0 near.1 in
-    let m : MetaWritten (id_context C c.key.id) strings c.meta = meta_spells (id_context C c.key.id) strings c.meta known (id_bounds C c.key.id b l.id) l.meta in
+    let m : MetaWritten (id_context C c.key.id) strings c.meta =
+    meta_spells (id_context C c.key.id) strings c.meta known (id_bounds C c.key.id b l.id) l.meta in
     let then : Context = meta_context (id_context C c.key.id) c.meta m.after in
     let entered : List (List ℕ) = after_pair strings (number_text c.meta.uid) c.meta.user in
     let is : counters_of then ≡ (after_meta (state_of C strings) c).counters = meta_counters C strings c m.after in
-    let at : WhatWritten c.key.kind then (state_of then entered) c.what = what_written c.key.kind then entered c.what m.known (subst Bounds (sym is) (meta_bounds (state_of C strings) c b l)) l.what in
-    let w : WhatWritten c.key.kind then (after_meta (state_of C strings) c) c.what = subst (λ (k : Counters). WhatWritten c.key.kind then (record { counters = k; strings = entered }) c.what) is at in
+    let at : WhatWritten c.key.kind then (state_of then entered) c.what =
+    what_written c.key.kind then entered c.what m.known
+    (subst Bounds (sym is) (meta_bounds (state_of C strings) c b l)) l.what in
+    let w : WhatWritten c.key.kind then (after_meta (state_of C strings) c) c.what =
+    subst (λ (k : Counters). WhatWritten c.key.kind then (record { counters = k; strings = entered }) c.what) is
+    at in
     record {
       after = w.after;
       spells = record {
@@ -296,7 +399,8 @@ object_at_context C strings c known b l =
     }
 
 pub object_written : (C : Context) (s : State) (c : ChangeValue) → IsState C s → Bounds s.counters → IsChange c → ObjectWritten C s c
-object_written C s c st b l = subst (λ (k : Counters). ObjectWritten C (record { counters = k; strings = s.strings }) c) st.counters_are (object_at_context C s.strings c st.known (subst Bounds (sym st.counters_are) b) l)
+object_written C s c st b l = subst (λ (k : Counters). ObjectWritten C (record { counters = k; strings = s.strings }) c)
+    st.counters_are (object_at_context C s.strings c st.known (subst Bounds (sym st.counters_are) b) l)
 
 pub object_short : (s : State) (c : ChangeValue) → IsChange c → length (object_text s c) < 2 ^ 64
 object_short s c l =

@@ -5,4 +5,5 @@ pub mod NumberReading
 pub mod StringReading
 pub mod ObjectReading
 pub mod FileReading
+pub mod Latest
 pub mod Index

@@ -1,9 +1,12 @@
 //! Change files in the form o5c (OSM wiki, O5m).
 #![tactic(auto)]
 
+mod chains;
 mod counters;
 mod datasets;
 mod file_string;
+mod hashed_string;
+mod latest;
 mod metadata;
 mod numbers;
 pub mod o5c;

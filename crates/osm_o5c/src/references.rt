@@ -1,6 +1,7 @@
 //! The reference part of a way or a relation.
 
-ghost use Rattle.std.specs.Prelude.{◌≡◌, ◌≤◌, ◌++◌, ◌+ℤ◌, true, false, length, IfOk, OnOk, OnErr};
+ghost use Rattle.std.specs.Prelude.{◌≡◌, ◌≤◌, [], ◌++◌, ◌+ℤ◌, true, false, length, IfOk, OnOk};
+ghost use Rattle.std.specs.Prelude.{OnErr, vec_capacity};
 ghost use Rattle.osm_o5c.specs.Context.{kind_digit};
 ghost use Rattle.osm_o5c.specs.Steps.ObjectReading.{refs_at, ref_at, role_of, member_at};
 ghost use Rattle.osm_o5c.specs.Steps.ObjectReading.{members_at};
@@ -48,6 +49,14 @@ fn count_numbers(part: &[u8]) -> usize
     count
 }
 
+// An empty list with room for the references of the part, but no more than may be read.
+fn room_for_refs(alloc: Global, part: &[u8]) -> Result<Vec<i64>, WantOfMemory>
+    ensures empty { IfOk result (λ v. v.items ≡ []) }
+    ensures room { IfOk result (λ v. vec_capacity v ≤ length part.now) }
+{
+    Ok(Vec::with_capacity(alloc, count_numbers(part).min(MAX_REFS))?)
+}
+
 /// The references up to the end of the part, at most 32,000; the counter of way nodes moves on.
 pub fn refs(counters: &mut Counters, alloc: Global, part: &[u8]) -> Result<Refs, Refusal>
     ensures gives { Gives (λ r. (r, counters.new.way_node)) result
@@ -55,7 +64,7 @@ pub fn refs(counters: &mut Counters, alloc: Global, part: &[u8]) -> Result<Refs,
     ensures others { OnOk result
         (counters.new ≡ record counters.old { way_node = counters.new.way_node }) }
 {
-    let mut found = Vec::with_capacity(alloc, count_numbers(part).min(MAX_REFS))?;
+    let mut found = room_for_refs(alloc, part)?;
     let mut rest = part;
     while !rest.is_empty() {
         if found.len() >= MAX_REFS {

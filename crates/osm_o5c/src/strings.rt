@@ -12,8 +12,9 @@ ghost use Rattle.osm_o5c.specs.Written.{entered_by, pair_text, after_pair, singl
 ghost use Rattle.osm_o5c.specs.Written.{after_single};
 
 use crate::file_string::FileString;
+use crate::hashed_string::HashedString;
 use crate::numbers::{unsigned, write_unsigned};
-use crate::string_index::{HashedString, StringIndex};
+use crate::string_index::StringIndex;
 use circular_buffer::HeapCircularBuffer;
 use osm_model::form::Why;
 use osm_model::memory::WantOfMemory;

@@ -1,6 +1,6 @@
 //! Tags up to the end of an object.
 
-ghost use Rattle.std.specs.Prelude.{◌≡◌, ◌++◌, OnOk};
+ghost use Rattle.std.specs.Prelude.{◌≡◌, ◌≤◌, [], ◌++◌, IfOk, OnOk, vec_capacity};
 ghost use Rattle.osm_o5c.specs.Steps.ObjectReading.{tags_at};
 ghost use Rattle.osm_reading.specs.Steps.Answers.{Gives};
 ghost use Rattle.osm_o5c.specs.Steps.StringReading.{tag_at};
@@ -33,11 +33,21 @@ fn tag<'a>(
 
 // How many tags a list first gets room for. A tag takes a byte or more, and a few that are all
 // named by numbers of one byte get just their room; a tag in line seldom takes less than 8 bytes.
-fn likely_count(bytes: &[u8]) -> usize {
+fn likely_count(bytes: &[u8]) -> usize
+    ensures { result ≤ 4 }
+{
     match bytes.first() {
         Some(0) => (bytes.len() / 8).clamp(1, 4),
         _ => bytes.len().min(4),
     }
+}
+
+// An empty list with room for the likely number of tags.
+fn room_for_tags(alloc: Global, bytes: &[u8]) -> Result<Vec<Tag>, WantOfMemory>
+    ensures empty { IfOk result (λ v. v.items ≡ []) }
+    ensures room { IfOk result (λ v. vec_capacity v ≤ 4) }
+{
+    Ok(Vec::with_capacity(alloc, likely_count(bytes))?)
 }
 
 /// The tags up to the end of the bytes, at most 5,000.
@@ -48,7 +58,7 @@ pub fn tags<'a>(
 ) -> Result<Tags, Refusal>
     ensures { Gives (λ t. (t, strings.new)) result (tags_at strings.old bytes.now) }
 {
-    let mut found = Vec::with_capacity(alloc, likely_count(bytes))?;
+    let mut found = room_for_tags(alloc, bytes)?;
     let mut rest = bytes;
     while !rest.is_empty() {
         if found.len() >= MAX_TAGS {

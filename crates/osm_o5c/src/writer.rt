@@ -1,6 +1,6 @@
 //! What a writer keeps between datasets.
 
-ghost use Rattle.std.specs.Prelude.{◌≡◌, [], Option, IfOk};
+ghost use Rattle.std.specs.Prelude.{◌≡◌, ◌≤◌, ◌*◌, [], Option, IfOk, vec_capacity};
 ghost use Rattle.osm_o5c.specs.File.{beginning};
 ghost use Rattle.osm_o5c.specs.Written.{new_state};
 
@@ -40,6 +40,7 @@ pub struct Buffers {
 impl State {
     /// The state after a reset, with room for `room` strings.
     pub fn new(alloc: Global, room: usize) -> Result<State, WantOfMemory>
+        requires { room ≤ 200000 }
         ensures { IfOk result (λ s. s ≡ new_state) }
     {
         Ok(State {
@@ -57,18 +58,28 @@ impl State {
     }
 }
 
+// An empty file with room for `changes` changes of the usual size.
+fn room_for_file(alloc: Global, changes: usize) -> Result<Vec<u8>, WantOfMemory>
+    requires { changes ≤ 100000 }
+    ensures empty { IfOk result (λ v. v.items ≡ []) }
+    ensures room { IfOk result (λ v. vec_capacity v ≤ 32 * changes) }
+{
+    Ok(Vec::with_capacity(alloc, 32 * changes)?)
+}
+
 impl Writer {
     /// A file with only its beginning, and room for `changes` changes of the usual size.
     pub fn new(alloc: Global, changes: usize) -> Result<Writer, WantOfMemory>
+        requires { changes ≤ 100000 }
         ensures { IfOk result (λ w. (w.out.items ≡ beginning) × (w.state ≡ new_state)
             × (w.kind ≡ Option.None)) }
     {
-        let mut out = Vec::with_capacity(alloc, changes.saturating_mul(32))?;
+        let mut out = room_for_file(alloc, changes)?;
         out.extend_from_slice(&BEGINNING)?;
         Ok(Writer {
             out,
             buffers: Buffers::new(alloc),
-            state: State::new(alloc, changes.saturating_mul(2))?,
+            state: State::new(alloc, 2 * changes)?,
             kind: None,
         })
     }

@@ -1,5 +1,6 @@
 -- The folder and the save of published sequences, some of whose files may be lost.
-use Rattle.std.proofs.Common.{◌≡◌, ℕ, zero, suc, ◌+◌, ◌-◌, ◌<◌, ◌≤◌, List, [], ◌∷◌, ◌++◌, length, take, Bool, true, false, Option, Some, inl, inr, arith, refl, sym, ap, subst, ◌∙◌, length-append}
+use Rattle.std.proofs.Common.{◌≡◌, ℕ, zero, suc, ◌+◌, ◌-◌, ◌<◌, ◌≤◌, List, [], ◌∷◌, ◌++◌, length, take, Bool, true}
+use Rattle.std.proofs.Common.{false, Option, Some, inl, inr, arith, refl, sym, ap, subst, ◌∙◌, length-append}
 use Rattle.std.specs.Prelude.{IsTrue, not}
 use Rattle.std.specs.List.{AllByRecursion}
 use Rattle.std.proofs.Math.Seq.{get_or-append_seam}
@@ -54,15 +55,25 @@ few (x ∷ p) s =
     last.most
 
 -- stores that hold the same under the folder's names have the same folder
-pub folder_same : (p : List PublishedValue) (dir : List ℕ) (f g : Files) → g (top_name_of dir) ≡ f (top_name_of dir) → ((k : ℕ) (s : Suffix) → 0 < k → k ≤ length p → g (file_name_of dir k s) ≡ f (file_name_of dir k s)) → IsFolderOf p f dir → IsFolderOf p g dir
+pub folder_same : (p : List PublishedValue) (dir : List ℕ) (f g : Files) → g (top_name_of dir) ≡ f (top_name_of dir)
+    → ((k : ℕ) (s : Suffix) → 0 < k → k ≤ length p → g (file_name_of dir k s) ≡ f (file_name_of dir k s))
+    → IsFolderOf p f dir → IsFolderOf p g dir
 folder_same p dir f g top each is = record {
   sequences = is.sequences;
   top = subst (IsTop p) (sym top) is.top;
   each = λ k s above within. subst (λ o. IsAbsentOr o (IsFile s (sequence_at p k))) (sym (each k s above within)) (is.each k s above within);
 }
 
+-- a save that is the same
+pub save_same : (p : List PublishedValue) (m : ℕ) (old new : Option (List ℕ)) → new ≡ old → IsSaveOf p m old → IsSaveOf p m new
+save_same p m old new same s = subst (IsSaveOf p m) (sym same) s
+
 -- nothing of it has changed
-pub untouched : (p : List PublishedValue) (lost : ℕ → Suffix → Bool) (m : ℕ) (dir save changes : List ℕ) (start f g l : Files) (n : ℕ) → IsFolderOf p g dir → ((k : ℕ) (s : Suffix) → 0 < k → k ≤ length p → g (file_name_of dir k s) ≡ f (file_name_of dir k s)) → g save ≡ f save → ((name : List ℕ) → IsOther dir save changes name → g name ≡ f name) → Agrees p lost m dir save changes start f l n → Agrees p lost m dir save changes start g l n
+pub untouched : (p : List PublishedValue) (lost : ℕ → Suffix → Bool) (m : ℕ) (dir save changes : List ℕ)
+    (start f g l : Files) (n : ℕ) → IsFolderOf p g dir → ((k : ℕ) (s : Suffix) → 0 < k → k ≤ length p
+    → g (file_name_of dir k s) ≡ f (file_name_of dir k s)) → g save ≡ f save
+    → ((name : List ℕ) → IsOther dir save changes name → g name ≡ f name) → Agrees p lost m dir save changes start f l n
+    → Agrees p lost m dir save changes start g l n
 untouched p lost m dir save changes start f g l n folder each same others s = record {
   folder = folder;
   each = λ k t above within. each k t above within ∙ s.each k t above within;
@@ -75,27 +86,36 @@ untouched p lost m dir save changes start f g l n folder each same others s = re
 }
 
 -- the file of changes is written
-pub changes_put : (p : List PublishedValue) (lost : ℕ → Suffix → Bool) (m : ℕ) (dir save changes : List ℕ) (start f g l : Files) (n : ℕ) (w : Option (List ℕ)) → AreApart dir save changes → Puts f changes w g → Agrees p lost m dir save changes start f l n → Agrees p lost m dir save changes start g l n
+pub changes_put : (p : List PublishedValue) (lost : ℕ → Suffix → Bool) (m : ℕ) (dir save changes : List ℕ)
+    (start f g l : Files) (n : ℕ) (w : Option (List ℕ)) → AreApart dir save changes → Puts f changes w g
+    → Agrees p lost m dir save changes start f l n → Agrees p lost m dir save changes start g l n
 changes_put p lost m dir save changes start f g l n w apart put s =
     let most = few p s.folder.sequences in
     untouched p lost m dir save changes start f g l n
-    (folder_same p dir f g (put.others (top_name_of dir) (λ e. apart.changes_are.top (sym e))) (λ k t above within. put.others (file_name_of dir k t) (λ e. apart.changes_are.each k t (omega arith) (sym e))) s.folder)
+    (folder_same p dir f g (put.others (top_name_of dir) (λ e. apart.changes_are.top (sym e)))
+    (λ k t above within. put.others (file_name_of dir k t) (λ e. apart.changes_are.each k t (omega arith) (sym e)))
+    s.folder)
     (λ k t above within. put.others (file_name_of dir k t) (λ e. apart.changes_are.each k t (omega arith) (sym e)))
     (put.others save apart.differ)
     (λ name o. put.others name o.changes_are) s
 
 -- writes of other files
-leaves : (name : List ℕ) (ws : List (List ℕ × List ℕ)) (f g : Files) → AllByRecursion (λ (w : List ℕ × List ℕ). name ≡ w.0 → ⊥) ws → Writes ws f g → g name ≡ f name
+pub leaves : (name : List ℕ) (ws : List (List ℕ × List ℕ)) (f g : Files)
+    → AllByRecursion (λ (w : List ℕ × List ℕ). name ≡ w.0 → ⊥) ws → Writes ws f g → g name ≡ f name
 leaves name [] f g apart w = ap (λ (h : Files). h name) w
 leaves name (v ∷ ws) f g apart w = leaves name ws w.0 g apart.1 w.2 ∙ w.1.others name apart.0
 
-take_apart : (name : List ℕ) (count : ℕ) (ws : List (List ℕ × List ℕ)) → AllByRecursion (λ (w : List ℕ × List ℕ). name ≡ w.0 → ⊥) ws → AllByRecursion (λ (w : List ℕ × List ℕ). name ≡ w.0 → ⊥) (take count ws)
+pub take_apart : (name : List ℕ) (count : ℕ) (ws : List (List ℕ × List ℕ))
+    → AllByRecursion (λ (w : List ℕ × List ℕ). name ≡ w.0 → ⊥) ws → AllByRecursion (λ (w : List ℕ × List ℕ). name ≡ w.0
+    → ⊥) (take count ws)
 take_apart name zero ws apart = tt
 take_apart name (suc n) [] apart = tt
 take_apart name (suc n) (v ∷ ws) apart = (apart.0, take_apart name n ws apart.1)
 
 -- the files of a number before that which is written
-writes_before : (dir : List ℕ) (x : PublishedTexts) (k : ℕ) (s : Suffix) (count : ℕ) (f g : Files) → k < x.number → x.number ≤ max_sequence → Writes (take count (writes_of dir x)) f g → g (file_name_of dir k s) ≡ f (file_name_of dir k s)
+pub writes_before : (dir : List ℕ) (x : PublishedTexts) (k : ℕ) (s : Suffix) (count : ℕ) (f g : Files) → k < x.number
+    → x.number ≤ max_sequence → Writes (take count (writes_of dir x)) f g → g (file_name_of dir k s) ≡
+    f (file_name_of dir k s)
 writes_before dir x k s count f g below most w =
     leaves (file_name_of dir k s) (take count (writes_of dir x)) f g (take_apart (file_name_of dir k s) count (writes_of dir x)
     (other O5c, (other Opl, (other State, (λ e. top_is_no_file dir k s (sym e), tt))))) w
@@ -106,17 +126,19 @@ writes_before dir x k s count f g below most w =
         let same = one.0 in
         omega (arith, same)
 
-abbrev text_in : Suffix → PublishedTexts → List ℕ
+abbrev pub text_in : Suffix → PublishedTexts → List ℕ
 text_in O5c x = x.o5c
 text_in Opl x = x.opl
 text_in State x = x.state
 
 -- the files of the number that is written
-writes_last : (dir : List ℕ) (x : PublishedTexts) (s : Suffix) (f g : Files) → x.number ≤ max_sequence → Writes (writes_of dir x) f g → g (file_name_of dir x.number s) ≡ Some (text_in s x)
+pub writes_last : (dir : List ℕ) (x : PublishedTexts) (s : Suffix) (f g : Files) → x.number ≤ max_sequence
+    → Writes (writes_of dir x) f g → g (file_name_of dir x.number s) ≡ Some (text_in s x)
 writes_last dir x s f g fits w = in_g s ∙ of_last s
   where
     in_g : (s : Suffix) → g (file_name_of dir x.number s) ≡ w.2.2.0 (file_name_of dir x.number s)
-    in_g s = ap (λ (h : Files). h (file_name_of dir x.number s)) w.2.2.2.2 ∙ w.2.2.2.1.others (file_name_of dir x.number s) (λ e. top_is_no_file dir x.number s (sym e))
+    in_g s = ap (λ (h : Files). h (file_name_of dir x.number s)) w.2.2.2.2
+        ∙ w.2.2.2.1.others (file_name_of dir x.number s) (λ e. top_is_no_file dir x.number s (sym e))
 
     differ : (s t : Suffix) → (s ≡ t → ⊥) → file_name_of dir x.number s ≡ file_name_of dir x.number t → ⊥
     differ s t apart e = (let one = one_file dir x.number x.number s t fits fits e in apart one.1)
@@ -146,7 +168,7 @@ save_before p x m told s = record {
           time = is.time ∙ sym (time_within p (x ∷ []) v.number within);
         }
 
-sequence_last : (p : List PublishedValue) (x : PublishedValue) (k : ℕ) → k ≡ length p + 1 → sequence_at (p ++ x ∷ []) k ≡ x
+pub sequence_last : (p : List PublishedValue) (x : PublishedValue) (k : ℕ) → k ≡ length p + 1 → sequence_at (p ++ x ∷ []) k ≡ x
 sequence_last p x k e = let at : k - 1 ≡ length p = omega arith in rw at (get_or-append_seam p x [] unpublished)
 
 -- one text shows one time
@@ -156,17 +178,22 @@ one_shown bytes t u p q =
     let b = shown_by_digits bytes (loose_moment bytes) u refl q in
     omega (arith, ints, a.seconds, b.seconds)
 
-same_sequence : (m n : ℕ) (b c : List ChangeValue) (t u : ℕ) → m ≡ n → b ≡ c → t ≡ u → (let a : PublishedValue = record { number = m; changes = b; time = t } in a) ≡ (let a : PublishedValue = record { number = n; changes = c; time = u } in a)
+pub same_sequence : (m n : ℕ) (b c : List ChangeValue) (t u : ℕ) → m ≡ n → b ≡ c → t ≡ u
+    → (let a : PublishedValue = record { number = m; changes = b; time = t } in a) ≡ (let a : PublishedValue =
+    record { number = n; changes = c; time = u } in a)
 same_sequence m n b c t u p q r = rw (p, q, r) refl
 
 -- the edits of a publisher that read the file of changes
-pub read_batch : (dir changes now : List ℕ) (batch : List ChangeValue) (f m : Files) (bytes : List ℕ) (a : List ChangeValue) → AreChangesPut changes batch f m → m changes ≡ Some bytes → SpellsOpl bytes a → a ≡ batch
+pub read_batch : (dir changes now : List ℕ) (batch : List ChangeValue) (f m : Files) (bytes : List ℕ)
+    (a : List ChangeValue) → AreChangesPut changes batch f m → m changes ≡ Some bytes → SpellsOpl bytes a → a ≡ batch
 read_batch dir changes now batch f m bytes a put there spelled =
     let same : bytes ≡ opl_text batch = same_Some _ _ (sym there ∙ put.put.there) in
     opl_laws.one_batch (opl_text batch) a batch (subst (λ bs. SpellsOpl bs a) same spelled) (opl_trip.text_spells batch put.limits)
 
 -- the sequence that a publisher closes
-closing_is : (p : List PublishedValue) (dir changes now : List ℕ) (batch : List ChangeValue) (time : ℕ) (f m : Files) (a : PublisherValue) (t : ℕ) → IsFolderOf p m dir → Shows now time → AreChangesPut changes batch f m → IsReady dir changes now m a t → closing a t ≡ record { number = length p + 1; changes = batch; time = time }
+closing_is : (p : List PublishedValue) (dir changes now : List ℕ) (batch : List ChangeValue) (time : ℕ) (f m : Files)
+    (a : PublisherValue) (t : ℕ) → IsFolderOf p m dir → Shows now time → AreChangesPut changes batch f m
+    → IsReady dir changes now m a t → closing a t ≡ record { number = length p + 1; changes = batch; time = time }
 closing_is p dir changes now batch time f m a t folder shows put ready =
     let number = goes_on_number p (m (top_name_of dir)) a.number a.time folder.sequences folder.top ready.read.goes_on in
     same_sequence (a.number + 1) (length p + 1) a.pending batch t time (ap (λ k. k + 1) number)
@@ -174,12 +201,19 @@ closing_is p dir changes now batch time f m a t folder shows put ready =
     (one_shown now t time ready.read.now_is.shows shows)
 
 -- one sequence more
-agrees_more : (p : List PublishedValue) (lost : ℕ → Suffix → Bool) (m : ℕ) (dir save changes : List ℕ) (start f g l : Files) (n : ℕ) (x : PublishedValue) → x.number ≡ length p + 1 → IsWritten x → Writes (writes_of dir (written_of x)) f g → ((name : List ℕ) → IsApart dir name → g name ≡ f name) → IsApart dir save → Agrees p lost m dir save changes start f l n → Agrees (p ++ x ∷ []) lost m dir save changes start g l (n + 1)
-agrees_more p lost m dir save changes start f g l n x next is w others apart s = record {
+pub agrees_more : (p : List PublishedValue) (lost : ℕ → Suffix → Bool) (m : ℕ) (dir save changes : List ℕ)
+    (start f g l : Files) (n : ℕ) (x : PublishedValue) → x.number ≡ length p + 1 → x.number ≤ max_sequence
+    → IsFolderOf (p ++ x ∷ []) g dir → Writes (writes_of dir (written_of x)) f g
+    → ((name : List ℕ) → IsApart dir name → g name ≡ f name) → IsApart dir save
+    → Agrees p lost m dir save changes start f l n → Agrees (p ++ x ∷ []) lost m dir save changes start g l (n + 1)
+agrees_more p lost m dir save changes start f g l n x next fits folder w others apart s = record {
   folder = folder;
   each = each;
   away = λ k t above most. elim (cases_lt (length p) k) [
-    | inl past ↦ rw (s.fresh k t past) (subst (λ b. l (file_name_of dir k t) ≡ unless_lost (not b) (text_of t (sequence_at p k))) (s.fresh k t past) (s.away k t above most))
+    | inl past ↦
+        rw (s.fresh k t past)
+        (subst (λ b. l (file_name_of dir k t) ≡ unless_lost (not b) (text_of t (sequence_at p k))) (s.fresh k t past)
+        (s.away k t above most))
     | inr until ↦ rw (sequence_within p (x ∷ []) k above until) (s.away k t above most)
   ];
   fresh = λ k t past. s.fresh k t (omega (arith, more, past));
@@ -194,12 +228,6 @@ agrees_more p lost m dir save changes start f g l n x next is w others apart s =
   where
     more : length (p ++ x ∷ []) ≡ length p + 1
     more = grind (arith, length-append)
-
-    fits : x.number ≤ max_sequence
-    fits = is.sequence.most
-
-    folder : IsFolderOf (p ++ x ∷ []) g dir
-    folder = all_add p dir x f g next is w s.folder
 
     last_file : (t : Suffix) → g (file_name_of dir x.number t) ≡ Some (text_of t x)
     last_file O5c = writes_last dir (written_of x) O5c f g fits w
@@ -223,31 +251,45 @@ agrees_more p lost m dir save changes start f g l n x next is w others apart s =
         (subst (λ o. IsAbsentOr o (IsFile t (sequence_at (p ++ x ∷ []) x.number))) (last_file t) (folder.each x.number t above at))
 
 -- a publication that is done
-pub published_agrees : (p : List PublishedValue) (lost : ℕ → Suffix → Bool) (m : ℕ) (dir save changes : List ℕ) (start f g l : Files) (n : ℕ) (batch : List ChangeValue) (time : ℕ) (report : ReportValue) → AreApart dir save changes → Agrees p lost m dir save changes start f l n → IsPublishRun dir changes batch time f g (Publishes dir changes report g) → Agrees (p ++ (record { number = length p + 1; changes = batch; time = time }) ∷ []) lost m dir save changes start g l (n + 1) × (report ≡ publish_report_of (length p + 1))
+pub published_agrees : (p : List PublishedValue) (lost : ℕ → Suffix → Bool) (m : ℕ) (dir save changes : List ℕ)
+    (start f g l : Files) (n : ℕ) (batch : List ChangeValue) (time : ℕ) (report : ReportValue)
+    → AreApart dir save changes → Agrees p lost m dir save changes start f l n → IsPublishRun dir changes batch time f g
+    (Publishes dir changes report g) → Agrees (p ++ (record { number = length p + 1; changes = batch; time = time }) ∷
+    []) lost m dir save changes start g l (n + 1) × (report ≡ publish_report_of (length p + 1))
 published_agrees p lost m dir save changes start f g l n batch time report apart s run =
     let mid = changes_put p lost m dir save changes start f run.middle l n (Some (opl_text batch)) apart run.there.put s in
     let done = run.is_so.published in
-    let number = goes_on_number p (run.middle (top_name_of dir)) done.publisher.number done.publisher.time mid.folder.sequences mid.folder.top done.ready.read.goes_on in
-    let same = closing_is p dir changes run.now batch time f run.middle done.publisher done.time mid.folder run.shows run.there done.ready in (
+    let number = goes_on_number p (run.middle (top_name_of dir)) done.publisher.number done.publisher.time
+    mid.folder.sequences mid.folder.top done.ready.read.goes_on in
+    let same = closing_is p dir changes run.now batch time f run.middle done.publisher done.time mid.folder run.shows run.there done.ready in
+    let is = subst IsWritten same (ready_written dir changes run.now run.middle done.publisher done.time done.ready) in
+    let written = subst (λ x. Writes (writes_of dir (written_of x)) run.middle g) same done.written in (
       agrees_more p lost m dir save changes start run.middle g l n (record { number = length p + 1; changes = batch; time = time }) refl
-          (subst IsWritten same (ready_written dir changes run.now run.middle done.publisher done.time done.ready))
-          (subst (λ x. Writes (writes_of dir (written_of x)) run.middle g) same done.written)
+          is.sequence.most
+          (all_add p dir (record { number = length p + 1; changes = batch; time = time }) run.middle g refl is written mid.folder)
+          written
           run.others apart.save_is mid,
       done.report_is ∙ ap (λ k. publish_report_of (k + 1)) number,
     )
 
 -- a publication that stopped
-pub stopped_agrees : (p : List PublishedValue) (lost : ℕ → Suffix → Bool) (m : ℕ) (dir save changes : List ℕ) (start f g l : Files) (n : ℕ) (batch : List ChangeValue) (time : ℕ) (fault : RunFault) → AreApart dir save changes → Agrees p lost m dir save changes start f l n → IsPublishRun dir changes batch time f g (StopsPublishing dir changes fault g) → Agrees p lost m dir save changes start g l n
-stopped_agrees p lost m dir save changes start f g l n batch time fault apart s run = by_stop run.is_so.stops
+pub stopped_agrees : (left : Option ℕ) (p : List PublishedValue) (lost : ℕ → Suffix → Bool) (m : ℕ)
+    (dir save changes : List ℕ) (start f g l : Files) (n : ℕ) (batch : List ChangeValue) (time : ℕ) (fault : RunFault)
+    → AreApart dir save changes → Agrees p lost m dir save changes start f l n → IsPublishRun dir changes batch time f g
+    (StopsPublishing left dir changes fault g) → Agrees p lost m dir save changes start g l n
+stopped_agrees left p lost m dir save changes start f g l n batch time fault apart s run = by_stop run.is_so.stops
   where
     mid : Agrees p lost m dir save changes start run.middle l n
     mid = changes_put p lost m dir save changes start f run.middle l n (Some (opl_text batch)) apart run.there.put s
 
-    from_cut : IsCutOff dir changes run.now run.middle g fault → (k : ℕ) (t : Suffix) → k ≤ length p → g (file_name_of dir k t) ≡ run.middle (file_name_of dir k t)
+    from_cut : IsCutOff dir changes run.now run.middle g fault → (k : ℕ) (t : Suffix) → k ≤ length p
+        → g (file_name_of dir k t) ≡ run.middle (file_name_of dir k t)
     from_cut cut k t within =
-        let number = goes_on_number p (run.middle (top_name_of dir)) cut.publisher.number cut.publisher.time mid.folder.sequences mid.folder.top cut.ready.read.goes_on in
+        let number = goes_on_number p (run.middle (top_name_of dir)) cut.publisher.number cut.publisher.time
+        mid.folder.sequences mid.folder.top cut.ready.read.goes_on in
         let room = cut.ready.can_close.room in
-        writes_before dir (written_of (closing cut.publisher cut.time)) k t cut.count run.middle g (omega (arith, number, within)) (omega (arith, room)) cut.written
+        writes_before dir (written_of (closing cut.publisher cut.time)) k t cut.count run.middle g
+        (omega (arith, number, within)) (omega (arith, room)) cut.written
 
     by_stop : PublishStops (IsTrue true) dir changes run.now run.middle g fault → Agrees p lost m dir save changes start g l n
     by_stop (inl a) = subst (λ (h : Files). Agrees p lost m dir save changes start h l n) (sym a.1) mid

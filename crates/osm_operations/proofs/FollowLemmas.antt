@@ -1,5 +1,6 @@
 -- A run of the follower over the folder of published sequences, some of whose files may be lost.
-use Rattle.std.proofs.Common.{◌≡◌, ℕ, zero, suc, ◌+◌, ◌-◌, ◌<◌, ◌≤◌, List, [], ◌∷◌, length, Bool, true, false, Option, Some, None, inl, inr, arith, refl, sym, ap, subst, ◌∙◌}
+use Rattle.std.proofs.Common.{◌≡◌, ℕ, zero, suc, ◌+◌, ◌-◌, ◌<◌, ◌≤◌, List, [], ◌∷◌, length, Bool, true, false, Option}
+use Rattle.std.proofs.Common.{Some, None, inl, inr, arith, refl, sym, ap, subst, ◌∙◌}
 use Rattle.std.specs.Prelude.{◌⊎◌, ◌||◌, ◌&&◌, filter, is_none, min}
 use Rattle.std.proofs.lemmas.Bool.{cases_lt}
 use Rattle.std.proofs.lemmas.List.Elements.{filter-append}
@@ -11,7 +12,8 @@ use Rattle.osm_follow.specs.Published.{PublishedValue, sequence_at}
 use Rattle.osm_follow.specs.Reach.{numbers}
 use Rattle.osm_folder.specs.Files.{Files, IsOver}
 use Rattle.osm_folder.specs.Folder.{IsFile, IsThere}
-use Rattle.osm_folder.specs.Following.{AddsAll, AreChanges, FollowRefuses, HasFiles, IsFollowed, IsInStepAfter, IsSaved, IsSaveOf, follow_calls, is_lost, lost_numbers, max_save, ranges}
+use Rattle.osm_folder.specs.Following.{AddsAll, AreChanges, FollowRefuses, HasFiles, IsFollowed, IsInStepAfter, IsSaved}
+use Rattle.osm_folder.specs.Following.{IsSaveOf, follow_calls, is_lost, lost_numbers, max_save, ranges}
 use Rattle.osm_folder.specs.Names.{file_name_of, top_name_of}
 use Rattle.osm_folder.specs.Reports.{ReportValue, follow_report_of}
 use Rattle.osm_folder.specs.Runs.{LacksCalls}
@@ -33,7 +35,9 @@ none_kept : (b : Bool) (text : List ℕ) → is_none (unless_lost b text) ≡ b
 none_kept true text = refl
 none_kept false text = refl
 
-pub lost_same : (p : List PublishedValue) (lost : ℕ → Suffix → Bool) (m : ℕ) (dir save changes : List ℕ) (start f l : Files) (n k : ℕ) → Agrees p lost m dir save changes start f l n → 0 < k → k ≤ length p → is_lost f dir k ≡ (lost k State || (lost k O5c && lost k Opl))
+pub lost_same : (p : List PublishedValue) (lost : ℕ → Suffix → Bool) (m : ℕ) (dir save changes : List ℕ)
+    (start f l : Files) (n k : ℕ) → Agrees p lost m dir save changes start f l n → 0 < k → k ≤ length p
+    → is_lost f dir k ≡ (lost k State || (lost k O5c && lost k Opl))
 lost_same p lost m dir save changes start f l n k s above within =
     rw (is State, is O5c, is Opl) refl
   where
@@ -54,7 +58,8 @@ there_not_lost files dir p h =
     rw (some_there (files (file_name_of dir p.number State)) (IsFile State p) h.state)
     (changes_there (files (file_name_of dir p.number O5c)) (files (file_name_of dir p.number Opl)) p h.changes)
 
-taken_there : (files : Files) (dir : List ℕ) (count : ℕ) (old new : Saved) → AddsAll files dir count old new → (k : ℕ) → old.number < k → k ≤ old.number + count → is_lost files dir k ≡ false
+taken_there : (files : Files) (dir : List ℕ) (count : ℕ) (old new : Saved) → AddsAll files dir count old new → (k : ℕ)
+    → old.number < k → k ≤ old.number + count → is_lost files dir k ≡ false
 taken_there files dir zero old new add k above until = absurd (omega arith)
 taken_there files dir (suc count) old new (between, before, last) k above until = elim (cases_lt (old.number + count) k) [
   | inl past ↦ (
@@ -66,7 +71,9 @@ taken_there files dir (suc count) old new (between, before, last) k above until 
 ]
 
 -- how many numbers come before the first that is lost
-count_is : (is_gone : ℕ → Bool) (n most count : ℕ) → count ≤ most → ((k : ℕ) → n < k → k ≤ n + count → is_gone k ≡ false) → (count ≡ most) ⊎ (is_gone (n + count + 1) ≡ true) → count_from is_gone n most ≡ count
+count_is : (is_gone : ℕ → Bool) (n most count : ℕ) → count ≤ most
+    → ((k : ℕ) → n < k → k ≤ n + count → is_gone k ≡ false) → (count ≡ most) ⊎ (is_gone (n + count + 1) ≡ true)
+    → count_from is_gone n most ≡ count
 count_is is_gone n zero zero within each far = refl
 count_is is_gone n zero (suc count) within each far = absurd (omega arith)
 count_is is_gone n (suc most) zero within each (inl e) = absurd (omega arith)
@@ -90,12 +97,17 @@ filter_same a b n (suc count) same =
       same (n + suc count) (omega arith) (omega arith),
     ) refl
 
-min_below : (a b : ℕ) → min a b ≤ b
+pub min_below : (a b : ℕ) → min a b ≤ b
 min_below a b = grind (arith)
 
 -- a run that is done
-pub followed : (p : List PublishedValue) (lost : ℕ → Suffix → Bool) (m : ℕ) (dir save changes : List ℕ) (start f g l : Files) (n : ℕ) (report : ReportValue) → AreApart dir save changes → Agrees p lost m dir save changes start f l n → IsFollowed dir save f g report → (let c = count_from (number_lost lost) m (length p - m) in
-    Agrees p lost (m + c) dir save changes start g l n × (report ≡ follow_report_of (ranges m c) (filter (number_lost lost) (numbers (m + c) (min 64 (length p - (m + c))))) (m + c)))
+pub followed : (p : List PublishedValue) (lost : ℕ → Suffix → Bool) (m : ℕ) (dir save changes : List ℕ)
+    (start f g l : Files) (n : ℕ) (report : ReportValue) → AreApart dir save changes
+    → Agrees p lost m dir save changes start f l n → IsFollowed dir save f g report
+    → (let c = count_from (number_lost lost) m (length p - m) in
+    Agrees p lost (m + c) dir save changes start g l n
+    × (report ≡ follow_report_of (ranges m c)
+    (filter (number_lost lost) (numbers (m + c) (min 64 (length p - (m + c))))) (m + c)))
 followed p lost m dir save changes start f g l n report apart s run =
     rw count_same (agrees, after.report_is ∙ ap (λ xs. follow_report_of (ranges m count) xs (m + count)) lost_are)
   where
@@ -129,7 +141,8 @@ followed p lost m dir save changes start f g l n report apart s run =
     none : (k : ℕ) → m < k → k ≤ m + count → number_lost lost k ≡ false
     none k above until =
         sym (gone k (omega arith) (omega (arith, within, until)))
-        ∙ taken_there f dir run.following.count run.following.start run.following.reached run.following.goes_on.added k (omega (arith, start_is, above)) (omega (arith, start_is, until, same_count))
+        ∙ taken_there f dir run.following.count run.following.start run.following.reached run.following.goes_on.added k
+        (omega (arith, start_is, above)) (omega (arith, start_is, until, same_count))
 
     far : (count ≡ length p - m) ⊎ (number_lost lost (m + count + 1) ≡ true)
     far = elim after.far [
@@ -164,7 +177,9 @@ followed p lost m dir save changes start f g l n report apart s run =
     }
 
 -- a run that stopped
-pub stopped_follow : (p : List PublishedValue) (m calls : ℕ) (told : Option (List ℕ)) (fault : RunFault) → LacksCalls (follow_calls p m) (Some calls) fault → IsSaveOf p m told → FollowRefuses p told fault → KilledFollowingRefused p m calls fault
+pub stopped_follow : (p : List PublishedValue) (m calls : ℕ) (told : Option (List ℕ)) (fault : RunFault)
+    → LacksCalls (follow_calls p m) (Some calls) fault → IsSaveOf p m told → FollowRefuses p told fault
+    → KilledFollowingRefused p m calls fault
 stopped_follow p m calls told WantOfMemory lacks s r = tt
 stopped_follow p m calls told (ReadFault file) lacks s r = lacks
 stopped_follow p m calls told (WriteFault file) lacks s r = (r, lacks)
@@ -185,7 +200,8 @@ stopped_follow p m calls told (TooLarge file) lacks s r = (
         omega (arith, long, over, a.0)
 stopped_follow p m calls told fault lacks s r = absurd r
 
-pub not_killed_follow : (p : List PublishedValue) (m calls : ℕ) (fault : RunFault) → IsNoDevice fault → KilledFollowingRefused p m calls fault → FollowingRefused p fault
+pub not_killed_follow : (p : List PublishedValue) (m calls : ℕ) (fault : RunFault) → IsNoDevice fault
+    → KilledFollowingRefused p m calls fault → FollowingRefused p fault
 not_killed_follow p m calls (ReadFault file) none h = absurd none
 not_killed_follow p m calls (WriteFault file) none h = absurd none
 not_killed_follow p m calls fault none h = h

@@ -1,6 +1,12 @@
 pub mod RunLemmas
 pub mod AgreeLemmas
 pub mod RowLemmas
+pub mod NumberLemmas
 pub mod FollowLemmas
+pub mod NumberedLemmas
+pub mod CutLemmas
+pub mod NumberRows
 pub mod MoveLemmas
+pub mod ReportedLemmas
 pub mod StepLemmas
+pub mod PublicationLemmas

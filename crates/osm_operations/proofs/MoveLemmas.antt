@@ -39,19 +39,23 @@ file_same : (j : ℕ) (s : Suffix) (k : ℕ) (t : Suffix) → j ≡ k → s ≡ 
 file_same j s k t e d = rw (← e, ← d, eq-eqb j j refl) (suffix_same s)
 
 -- what a put leaves under the names of other files
-put_other : (dir : List ℕ) (j : ℕ) (s : Suffix) (w : Option (List ℕ)) (f g : Files) → j ≤ max_sequence → Puts f (file_name_of dir j s) w g → (k : ℕ) (t : Suffix) → k ≤ max_sequence → same_file j s k t ≡ false → g (file_name_of dir k t) ≡ f (file_name_of dir k t)
+put_other : (dir : List ℕ) (j : ℕ) (s : Suffix) (w : Option (List ℕ)) (f g : Files) → j ≤ max_sequence
+    → Puts f (file_name_of dir j s) w g → (k : ℕ) (t : Suffix) → k ≤ max_sequence → same_file j s k t ≡ false
+    → g (file_name_of dir k t) ≡ f (file_name_of dir k t)
 put_other dir j s w f g most put k t fits differ = put.others (file_name_of dir k t) (λ e.
     (let one = one_file dir k j t s fits most e in
     let yes : same_file j s k t ≡ true = file_same j s k t (sym one.0) (sym one.1) in
     let bad : true ≡ false = sym yes ∙ differ in cc))
 
 -- what a put leaves under the name of the file
-put_here : (dir : List ℕ) (j : ℕ) (s : Suffix) (w : Option (List ℕ)) (f g : Files) → Puts f (file_name_of dir j s) w g → (k : ℕ) (t : Suffix) → same_file j s k t ≡ true → g (file_name_of dir k t) ≡ w
+put_here : (dir : List ℕ) (j : ℕ) (s : Suffix) (w : Option (List ℕ)) (f g : Files) → Puts f (file_name_of dir j s) w g
+    → (k : ℕ) (t : Suffix) → same_file j s k t ≡ true → g (file_name_of dir k t) ≡ w
 put_here dir j s w f g put k t same =
     let one = file_one j s k t same in
     subst (λ (u : Suffix). g (file_name_of dir k u) ≡ w) one.1 (subst (λ (i : ℕ). g (file_name_of dir i s) ≡ w) one.0 put.there)
 
-text_here : (p : List PublishedValue) (j : ℕ) (s : Suffix) (k : ℕ) (t : Suffix) → same_file j s k t ≡ true → text_of s (sequence_at p j) ≡ text_of t (sequence_at p k)
+text_here : (p : List PublishedValue) (j : ℕ) (s : Suffix) (k : ℕ) (t : Suffix) → same_file j s k t ≡ true
+    → text_of s (sequence_at p j) ≡ text_of t (sequence_at p k)
 text_here p j s k t same = let one = file_one j s k t same in rw (one.0, one.1) refl
 
 kept_right : (b : Bool) (text : List ℕ) (holds : List ℕ → Type 0) → holds text → IsAbsentOr (unless_lost b text) holds
@@ -59,12 +63,19 @@ kept_right true text holds h = tt
 kept_right false text holds h = h
 
 -- the file comes or goes
-pub set_agrees : (b : Bool) (p : List PublishedValue) (lost : ℕ → Suffix → Bool) (m : ℕ) (dir save changes : List ℕ) (start f l g k : Files) (n j : ℕ) (s : Suffix) → AreApart dir save changes → 0 < j → j ≤ length p → Puts f (file_name_of dir j s) (unless_lost b (text_of s (sequence_at p j))) g → Puts l (file_name_of dir j s) (unless_lost (not b) (text_of s (sequence_at p j))) k → Agrees p lost m dir save changes start f l n → Agrees p (λ i t. if same_file j s i t then b else lost i t) m dir save changes start g k n
+pub set_agrees : (b : Bool) (p : List PublishedValue) (lost : ℕ → Suffix → Bool) (m : ℕ) (dir save changes : List ℕ)
+    (start f l g k : Files) (n j : ℕ) (s : Suffix) → AreApart dir save changes → 0 < j → j ≤ length p
+    → Puts f (file_name_of dir j s) (unless_lost b (text_of s (sequence_at p j))) g
+    → Puts l (file_name_of dir j s) (unless_lost (not b) (text_of s (sequence_at p j))) k
+    → Agrees p lost m dir save changes start f l n → Agrees p (λ i t. if same_file j s i t then b else lost i t) m dir
+    save changes start g k n
 set_agrees b p lost m dir save changes start f l g k n j s apart above within put taken is = record {
   folder = record {
     sequences = is.folder.sequences;
     top = subst (IsTop p) (sym (put.others (top_name_of dir) (top_is_no_file dir j s))) is.folder.top;
-    each = λ i t from until. subst (λ o. IsAbsentOr o (IsFile t (sequence_at p i))) (sym (each i t from until)) (kept_right (if same_file j s i t then b else lost i t) (text_of t (sequence_at p i)) (IsFile t (sequence_at p i)) (is.right i t from until));
+    each = λ i t from until. subst (λ o. IsAbsentOr o (IsFile t (sequence_at p i))) (sym (each i t from until))
+        (kept_right (if same_file j s i t then b else lost i t) (text_of t (sequence_at p i))
+        (IsFile t (sequence_at p i)) (is.right i t from until));
   };
   each = each;
   away = away;
@@ -84,13 +95,15 @@ set_agrees b p lost m dir save changes start f l g k n j s apart above within pu
     fits : (i : ℕ) → i ≤ length p → i ≤ max_sequence
     fits i until = let all = few p is.folder.sequences in omega (arith, all, until)
 
-    each : (i : ℕ) (t : Suffix) → 0 < i → i ≤ length p → g (file_name_of dir i t) ≡ unless_lost (if same_file j s i t then b else lost i t) (text_of t (sequence_at p i))
+    each : (i : ℕ) (t : Suffix) → 0 < i → i ≤ length p → g (file_name_of dir i t) ≡ unless_lost
+        (if same_file j s i t then b else lost i t) (text_of t (sequence_at p i))
     each i t from until = elim (cases_Bool (same_file j s i t)) [
       | inl same ↦ rw (put_here dir j s (unless_lost b (text_of s (sequence_at p j))) f g put i t same, text_here p j s i t same, same) refl
       | inr other ↦ rw other (put_other dir j s (unless_lost b (text_of s (sequence_at p j))) f g most put i t (fits i until) other ∙ is.each i t from until)
     ]
 
-    away : (i : ℕ) (t : Suffix) → 0 < i → i ≤ max_sequence → k (file_name_of dir i t) ≡ unless_lost (not (if same_file j s i t then b else lost i t)) (text_of t (sequence_at p i))
+    away : (i : ℕ) (t : Suffix) → 0 < i → i ≤ max_sequence → k (file_name_of dir i t) ≡ unless_lost
+        (not (if same_file j s i t then b else lost i t)) (text_of t (sequence_at p i))
     away i t from until = elim (cases_Bool (same_file j s i t)) [
       | inl same ↦ rw (put_here dir j s (unless_lost (not b) (text_of s (sequence_at p j))) l k taken i t same, text_here p j s i t same, same) refl
       | inr other ↦ rw other (put_other dir j s (unless_lost (not b) (text_of s (sequence_at p j))) l k most taken i t until other ∙ is.away i t from until)
@@ -113,7 +126,10 @@ not_true false e = refl
 not_true true e = absurd (let h : false ≡ true = e in cc)
 
 -- a file is lost
-pub lost_agrees : (p : List PublishedValue) (lost : ℕ → Suffix → Bool) (m : ℕ) (dir save changes : List ℕ) (start f l g k : Files) (n j : ℕ) (s : Suffix) → AreApart dir save changes → 0 < j → j ≤ length p → Moves true (file_name_of dir j s) f l g k → Agrees p lost m dir save changes start f l n → Agrees p (λ i t. if same_file j s i t then true else lost i t) m dir save changes start g k n × (lost j s ≡ false)
+pub lost_agrees : (p : List PublishedValue) (lost : ℕ → Suffix → Bool) (m : ℕ) (dir save changes : List ℕ)
+    (start f l g k : Files) (n j : ℕ) (s : Suffix) → AreApart dir save changes → 0 < j → j ≤ length p
+    → Moves true (file_name_of dir j s) f l g k → Agrees p lost m dir save changes start f l n
+    → Agrees p (λ i t. if same_file j s i t then true else lost i t) m dir save changes start g k n × (lost j s ≡ false)
 lost_agrees p lost m dir save changes start f l g k n j s apart above within (bytes, there, put, gone) is =
     let was = kept_some (lost j s) (text_of s (sequence_at p j)) bytes (sym (is.each j s above within) ∙ there) in (
       set_agrees true p lost m dir save changes start f l g k n j s apart above within gone
@@ -122,7 +138,10 @@ lost_agrees p lost m dir save changes start f l g k n j s apart above within (by
     )
 
 -- a file is put back
-pub back_agrees : (p : List PublishedValue) (lost : ℕ → Suffix → Bool) (m : ℕ) (dir save changes : List ℕ) (start f l g k : Files) (n j : ℕ) (s : Suffix) → AreApart dir save changes → 0 < j → j ≤ length p → Moves true (file_name_of dir j s) l f k g → Agrees p lost m dir save changes start f l n → Agrees p (λ i t. if same_file j s i t then false else lost i t) m dir save changes start g k n × (lost j s ≡ true)
+pub back_agrees : (p : List PublishedValue) (lost : ℕ → Suffix → Bool) (m : ℕ) (dir save changes : List ℕ)
+    (start f l g k : Files) (n j : ℕ) (s : Suffix) → AreApart dir save changes → 0 < j → j ≤ length p
+    → Moves true (file_name_of dir j s) l f k g → Agrees p lost m dir save changes start f l n
+    → Agrees p (λ i t. if same_file j s i t then false else lost i t) m dir save changes start g k n × (lost j s ≡ true)
 back_agrees p lost m dir save changes start f l g k n j s apart above within (bytes, there, put, gone) is =
     let most = few p is.folder.sequences in
     let was = kept_some (not (lost j s)) (text_of s (sequence_at p j)) bytes (sym (is.away j s above (omega (arith, most, within))) ∙ there) in (

@@ -1,28 +1,43 @@
 -- What a run of the publisher answers, as a step.
-use Rattle.std.proofs.Common.{◌≡◌, ℕ, ◌≤◌, List, true, inr, subst, refl, sym, ◌∙◌}
-use Rattle.std.specs.Prelude.{IsTrue, Result, Ok, Err, IfErr, IfOk, OnErr}
+use Rattle.std.proofs.Common.{◌≡◌, ℕ, ◌≤◌, List, Option, Some, None, Bool, true, false, inr, ap, arith, subst, refl, sym, ◌∙◌}
+use Rattle.std.specs.Prelude.{IsTrue, Result, Ok, Err, IfErr, IfOk, OnErr, OnOk}
 use Rattle.osm_model.specs.Change.{ChangeValue}
 use Rattle.osm_model.specs.Time.{Shows, TimeText}
 use Rattle.osm_follow.specs.Published.{PublishedValue}
+use Rattle.std.specs.Prelude.{decimal, max}
+use Rattle.std.proofs.lemmas.Fmt.{decimal_is_IsNumeral, length-decimal-le}
+use Rattle.osm_reading.specs.Sequence.{SpellsSequence}
 use Rattle.osm_folder.specs.Files.{Files}
 use Rattle.osm_folder.specs.Folder.{IsApart, IsFolderOf}
 use Rattle.osm_folder.specs.Following.{FollowRefuses, IsFollowed, IsSaveOf}
-use Rattle.osm_folder.specs.Publication.{FolderRefuses, IsPublished, PublishStops}
+use Rattle.osm_state.specs.declared.paths.Suffix.TheVariants.{O5c, Opl}
+use Rattle.osm_folder.specs.Stores.{files_of}
+use Rattle.osm_folder.specs.Names.{file_name_of, top_name_of}
+use Rattle.osm_folder.specs.Numbered.{IsAddedAs, IsPublishedAs, NumberedOut, NumberedRefuses, NumberedStops, SpendsExactly, numbered_calls}
+use Rattle.osm_folder.specs.Publication.{FolderRefuses, GoesOnFrom, IsPublished, PublishOut, PublishStops}
 use Rattle.osm_folder.specs.Reports.{ReportValue}
 use Rattle.osm_folder.specs.declared.fault.RunFault.{RunFault}
-use Rattle.osm_operations.specs.Steps.Stepping.{AreChangesPut, FollowStep, PublishStep}
+use Rattle.osm_operations.specs.Steps.Stepping.{AreChangesPut, FollowStep, HasCalls, IsNumberText, NumberedStep}
+use Rattle.osm_operations.specs.Steps.Stepping.{PublishAsTo, PublishStep, ReturnBoth, ReturnForms, SettleTo, named}
+use Rattle.osm_operations.specs.Steps.Stepping.{stopped_reply}
+use Rattle.osm_operations.specs.declared.operation.Reply.{Reply}
+use Rattle.osm_operations.specs.declared.world.World.{World}
 
 -- what the contract of a run says of its answer
-pub record Answers (dir changes now : List ℕ) (middle new : Files)
+pub record Answers (left : Option ℕ) (dir changes now : List ℕ) (middle new : Files)
     (r : Result ReportValue RunFault) : Type 0 where
   pub published : IfOk r (λ report. IsTrue true → IsPublished dir changes now middle new report)
   pub stops : IfErr r (PublishStops (IsTrue true) dir changes now middle new)
   pub refuses : IfErr r (λ fault. IsTrue true → (p : List PublishedValue) → IsFolderOf p middle dir → FolderRefuses p now fault)
   pub keeps : OnErr r (IsTrue true → (p : List PublishedValue) → IsFolderOf p middle dir → IsFolderOf p new dir)
+  pub out : IfErr r (λ fault. IsTrue true → PublishOut dir middle left fault)
   pub others : IsTrue true → (name : List ℕ) → IsApart dir name → new name ≡ middle name
 
-pub run_step : (dir changes now : List ℕ) (batch : List ChangeValue) (time : ℕ) (f m g : Files) (r : Result ReportValue RunFault) → Shows now time → (1 ≤ time → TimeText now time) → AreChangesPut changes batch f m → Answers dir changes now m g r → PublishStep dir changes batch time r f g
-run_step dir changes now batch time f m g (Ok report) shows is_text there a = record {
+pub run_step : (left : Option ℕ) (dir changes now : List ℕ) (batch : List ChangeValue) (time : ℕ) (f m g : Files)
+    (r : Result ReportValue RunFault) → Shows now time → (1 ≤ time → TimeText now time)
+    → AreChangesPut changes batch f m → Answers left dir changes now m g r
+    → PublishStep left dir changes batch time r f g
+run_step left dir changes now batch time f m g (Ok report) shows is_text there a = record {
   now = now;
   middle = m;
   shows = shows;
@@ -31,24 +46,135 @@ run_step dir changes now batch time f m g (Ok report) shows is_text there a = re
   is_so = record { published = a.published refl };
   others = a.others refl;
 }
-run_step dir changes now batch time f m g (Err fault) shows is_text there a = inr (record {
+run_step left dir changes now batch time f m g (Err fault) shows is_text there a = inr (record {
   now = now;
   middle = m;
   shows = shows;
   is_text = is_text;
   there = there;
-  is_so = record { stops = a.stops; refuses = a.refuses refl; keeps = a.keeps refl };
+  is_so = record { stops = a.stops; refuses = a.refuses refl; keeps = a.keeps refl; out = a.out refl };
   others = a.others refl;
 })
 
 -- the same over other stores with the same files
-pub run_step_over : (dir changes now : List ℕ) (batch : List ChangeValue) (time : ℕ) (f m n g h : Files) (r : Result ReportValue RunFault) → n ≡ m → h ≡ g → Shows now time → (1 ≤ time → TimeText now time) → AreChangesPut changes batch f m → Answers dir changes now n g r → PublishStep dir changes batch time r f h
-run_step_over dir changes now batch time f m n g h r same same_after shows is_text there a =
-    subst (λ (x : Files). PublishStep dir changes batch time r f x) (sym same_after)
-    (run_step dir changes now batch time f n g r shows is_text (subst (λ (x : Files). AreChangesPut changes batch f x) (sym same) there) a)
+pub run_step_over : (left left_there : Option ℕ) (dir changes now : List ℕ) (batch : List ChangeValue) (time : ℕ)
+    (f m n g h : Files) (r : Result ReportValue RunFault) → left_there ≡ left → n ≡ m → h ≡ g → Shows now time
+    → (1 ≤ time → TimeText now time) → AreChangesPut changes batch f m → Answers left_there dir changes now n g r
+    → PublishStep left dir changes batch time r f h
+run_step_over left left_there dir changes now batch time f m n g h r same_left same same_after shows is_text there a =
+    subst (λ (x : Files). PublishStep left dir changes batch time r f x) (sym same_after)
+    (subst (λ (x : Option ℕ). PublishStep x dir changes batch time r f g) same_left
+    (run_step left_there dir changes now batch time f n g r shows is_text (subst (λ (x : Files). AreChangesPut changes batch f x) (sym same) there) a))
+
+-- what the contract of a run by number says of its answer
+pub record AnswersAs (left : Option ℕ) (dir changes now sequence : List ℕ) (middle new : Files)
+    (r : Result ReportValue RunFault) : Type 0 where
+  pub published : IfOk r (λ report. IsTrue true → IsPublishedAs dir changes now sequence middle new report)
+  pub added : IfOk r (λ report. IsTrue true → (p : List PublishedValue) → IsFolderOf p middle dir → IsAddedAs p dir changes now sequence middle new report)
+  pub exact : OnOk r (IsTrue true → (number top time : ℕ) → SpellsSequence sequence number
+      → GoesOnFrom (middle (top_name_of dir)) top time → HasCalls (numbered_calls number top) left)
+  pub stops : IfErr r (NumberedStops (IsTrue true) dir changes now sequence middle new)
+  pub refuses : IfErr r (λ fault. IsTrue true → (p : List PublishedValue) → IsFolderOf p middle dir → NumberedRefuses p dir changes now sequence middle fault)
+  pub keeps : OnErr r (IsTrue true → (p : List PublishedValue) → IsFolderOf p middle dir → IsFolderOf p new dir)
+  pub out : IfErr r (λ fault. IsTrue true → NumberedOut dir sequence middle left fault)
+  pub others : IsTrue true → (name : List ℕ) → IsApart dir name → new name ≡ middle name
+
+-- a number is written without leading zeros
+pub number_is_text : (n : ℕ) (text : List ℕ) → n ≤ 4294967295 → text ≡ decimal n → IsNumberText n text
+number_is_text n text most same =
+    let is = decimal_is_IsNumeral n (omega (arith, most)) in
+    subst (IsNumberText n) (sym same) (record {
+      only = λ k spelled. spelled.value ∙ is.1;
+      spelled = λ fits. record { numeral = is.0; short = length-decimal-le 9 n (omega arith) (omega (arith, fits)) (omega (arith, fits)); value = sym is.1 };
+    })
+
+pub calls_made : (calls : ℕ) (old new : Option ℕ) → SpendsExactly calls old new → HasCalls calls old
+calls_made calls None new spent = tt
+calls_made calls (Some left) new spent = let m = spent.0.2 in omega (arith, m)
+
+-- the calls of a run that is done
+pub ok_calls : {T E : Type 0} (r : Result T E) (dir sequence : List ℕ) (middle : Files) (left left_after : Option ℕ)
+    → OnOk r (IsTrue true → (number top time : ℕ) → SpellsSequence sequence number
+    → GoesOnFrom (middle (top_name_of dir)) top time → SpendsExactly (numbered_calls number top) left left_after)
+    → OnOk r (IsTrue true → (number top time : ℕ) → SpellsSequence sequence number
+    → GoesOnFrom (middle (top_name_of dir)) top time → HasCalls (numbered_calls number top) left)
+ok_calls (Ok x) dir sequence middle left left_after exact = λ known number top time spelled goes. calls_made
+    (numbered_calls number top) left left_after (exact known number top time spelled goes)
+ok_calls (Err e) dir sequence middle left left_after exact = tt
+
+pub number_step : (left : Option ℕ) (dir changes now sequence : List ℕ) (batch : List ChangeValue) (time n : ℕ)
+    (f m g : Files) (r : Result ReportValue RunFault) → IsNumberText n sequence → Shows now time
+    → (1 ≤ time → TimeText now time) → AreChangesPut changes batch f m → AnswersAs left dir changes now sequence m g r
+    → NumberedStep left dir changes batch time n r f g
+number_step left dir changes now sequence batch time n f m g (Ok report) text shows is_text there a = record {
+  now = now;
+  middle = m;
+  shows = shows;
+  is_text = is_text;
+  there = there;
+  is_so = record { sequence = sequence; number_is = text; published = a.published refl; added = a.added refl; calls = a.exact refl };
+  others = a.others refl;
+}
+number_step left dir changes now sequence batch time n f m g (Err fault) text shows is_text there a = inr (record {
+  now = now;
+  middle = m;
+  shows = shows;
+  is_text = is_text;
+  there = there;
+  is_so = record { sequence = sequence; number_is = text; stops = a.stops; refuses = a.refuses refl; keeps = a.keeps refl; out = a.out refl };
+  others = a.others refl;
+})
+
+-- the same over other stores with the same files
+pub number_step_over : (left left_there : Option ℕ) (dir changes now sequence : List ℕ) (batch : List ChangeValue)
+    (time number : ℕ) (f m n g h : Files) (r : Result ReportValue RunFault) → left_there ≡ left → n ≡ m → h ≡ g
+    → IsNumberText number sequence → Shows now time → (1 ≤ time → TimeText now time) → AreChangesPut changes batch f m
+    → AnswersAs left_there dir changes now sequence n g r → NumberedStep left dir changes batch time number r f h
+number_step_over left left_there dir changes now sequence batch time number f m n g h r same_left same same_after text shows is_text there a =
+    subst (λ (x : Files). NumberedStep left dir changes batch time number r f x) (sym same_after)
+    (subst (λ (x : Option ℕ). NumberedStep x dir changes batch time number r f g) same_left
+    (number_step left_there dir changes now sequence batch time number f n g r text shows is_text
+    (subst (λ (x : Files). AreChangesPut changes batch f x) (sym same) there) a))
+
+-- a publication by number, from what its run answered and what is there again
+pub answer_to : (left : Option ℕ) (dir changes : List ℕ) (batch : List ChangeValue) (time n : ℕ)
+    (answer : Result ReportValue RunFault) (r : Reply) (a m b : World) (o5c_name opl_name : List ℕ)
+    → o5c_name ≡ file_name_of dir (named n) O5c → opl_name ≡ file_name_of dir (named n) Opl
+    → NumberedStep left dir changes batch time n answer (files_of a.store) (files_of m.store) → m.lost ≡ a.lost
+    → m.published ≡ a.published → b.store ≡ m.store → SettleTo answer o5c_name opl_name n r m b
+    → PublishAsTo left dir changes batch time n r a b
+answer_to left dir changes batch time n answer r a m b o5c_name opl_name first second step lost count store settled =
+    by_answer answer (subst (λ (x : Files). NumberedStep left dir changes batch time n answer (files_of a.store) x) (sym (ap files_of store)) step) settled
+  where
+    forms : (o5c opl : Bool) → ReturnBoth o5c opl o5c_name opl_name (files_of m.store) (files_of m.lost)
+        (files_of b.lost) → ReturnForms o5c opl dir (named n) (files_of b.store) (files_of a.lost) (files_of b.lost)
+    forms o5c opl both =
+        subst (λ (x : Files). ReturnForms o5c opl dir (named n) (files_of b.store) x (files_of b.lost)) (ap files_of lost)
+        (subst (λ (x : Files). ReturnForms o5c opl dir (named n) x (files_of m.lost) (files_of b.lost)) (sym (ap files_of store))
+        (subst (λ x. ReturnBoth o5c opl (file_name_of dir (named n) O5c) x (files_of m.store) (files_of m.lost) (files_of b.lost)) second
+        (subst (λ x. ReturnBoth o5c opl x opl_name (files_of m.store) (files_of m.lost) (files_of b.lost)) first both)))
+
+    stopped : (fault : RunFault) (o5c opl : Bool) → NumberedStep left dir changes batch time n (Err fault)
+        (files_of a.store) (files_of b.store) → ReturnForms o5c opl dir (named n) (files_of b.store) (files_of a.lost)
+        (files_of b.lost) → b.published ≡ a.published → PublishAsTo left dir changes batch time n
+        (stopped_reply fault o5c opl) a b
+    stopped fault true opl s back same = (s, (opl, back), same)
+    stopped fault false true s back same = (s, back, same)
+    stopped fault false false s back same = inr (s, back, same)
+
+    by_answer : (answer : Result ReportValue RunFault) → NumberedStep left dir changes batch time n answer
+        (files_of a.store) (files_of b.store) → SettleTo answer o5c_name opl_name n r m b
+        → PublishAsTo left dir changes batch time n r a b
+    by_answer (Ok report) s (is, back, after) =
+        subst (λ x. PublishAsTo left dir changes batch time n x a b) (sym is) (s, (back.0, back.1, forms back.0 back.1 back.2), after ∙ ap (λ k. max k n) count)
+    by_answer (Err fault) s (back, after) =
+        subst (λ x. PublishAsTo left dir changes batch time n x a b) (sym back.2) (stopped fault back.0 back.1 s (forms back.0 back.1 back.3) (after ∙ count))
 
 -- what a run of the follower answers, as a step
-pub follow_step : (dir save : List ℕ) (f f' g g' : Files) (r : Result ReportValue RunFault) → f' ≡ f → g' ≡ g → IfOk r (λ report. IsTrue true → IsFollowed dir save f' g report) → IfErr r (λ fault. IsTrue true → (p : List PublishedValue) (n : ℕ) → IsFolderOf p f' dir → IsSaveOf p n (f' save) → FollowRefuses p (f' save) fault) → OnErr r (g ≡ f') → FollowStep dir save r f g'
+pub follow_step : (dir save : List ℕ) (f f' g g' : Files) (r : Result ReportValue RunFault) → f' ≡ f → g' ≡ g
+    → IfOk r (λ report. IsTrue true → IsFollowed dir save f' g report)
+    → IfErr r (λ fault. IsTrue true → (p : List PublishedValue) (n : ℕ) → IsFolderOf p f' dir → IsSaveOf p n (f' save)
+    → FollowRefuses p (f' save) fault) → OnErr r (g ≡ f') → FollowStep dir save r f g'
 follow_step dir save f f' g g' (Ok report) same same_after followed refuses unchanged =
     subst (λ (x : Files). IsFollowed dir save f x report) (sym same_after) (subst (λ (x : Files). IsFollowed dir save x g report) same (followed refl))
 follow_step dir save f f' g g' (Err fault) same same_after followed refuses unchanged = (

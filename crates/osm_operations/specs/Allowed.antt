@@ -6,24 +6,30 @@ use Rattle.osm_model.specs.Limits.{max_sequence}
 use Rattle.osm_save.specs.Save.{SpellsSave}
 use Rattle.osm_save.specs.declared.save.Saved.{Saved}
 use Rattle.osm_state.specs.declared.paths.Suffix.{Suffix}
+use Rattle.osm_state.specs.declared.paths.Suffix.TheVariants.{O5c, Opl, State}
 use Rattle.osm_follow.specs.Published.{PublishedValue, sequence_at}
 use Rattle.osm_follow.specs.Publisher.{IsTooLarge}
 use Rattle.osm_folder.specs.Following.{IsInStep, follow_calls, max_save, ranges}
+use Rattle.osm_folder.specs.Numbered.{calls_before, file_read_after, numbered_calls}
+use Rattle.osm_folder.specs.Publication.{file_after}
 use Rattle.osm_folder.specs.Reports.{ReportValue, follow_report_of, publish_report_of}
 use Rattle.osm_folder.specs.declared.fault.FileName.TheVariants.{Changes, Save, Top}
 use Rattle.osm_folder.specs.declared.fault.RunFault.{RunFault}
 use Rattle.osm_folder.specs.declared.fault.RunFault.TheVariants.{WantOfMemory, ReadFault}
 use Rattle.osm_folder.specs.declared.fault.RunFault.TheVariants.{WriteFault, TooLarge, Absent}
 use Rattle.osm_folder.specs.declared.fault.RunFault.TheVariants.{TimeBack, SequenceFull, BadNow}
+use Rattle.osm_folder.specs.declared.fault.RunFault.TheVariants.{BadSequence, Differs, TopAt}
 use Rattle.osm_operations.specs.History.{History, published_of, is_file_lost, number_of}
-use Rattle.osm_operations.specs.History.{count_after, lost_after}
+use Rattle.osm_operations.specs.History.{is_number_lost, count_after, lost_after}
 use Rattle.osm_operations.specs.declared.operation.Operation.{Operation}
 use Rattle.osm_operations.specs.declared.operation.Operation.TheVariants.{Publish, KilledPublish}
+use Rattle.osm_operations.specs.declared.operation.Operation.TheVariants.{PublishAs}
+use Rattle.osm_operations.specs.declared.operation.Operation.TheVariants.{KilledPublishAs}
 use Rattle.osm_operations.specs.declared.operation.Operation.TheVariants.{Follow, KilledFollow}
 use Rattle.osm_operations.specs.declared.operation.Operation.TheVariants.{Lose, PutBack}
 use Rattle.osm_operations.specs.declared.operation.Reply.{Reply}
 use Rattle.osm_operations.specs.declared.operation.Reply.TheVariants.{Published, Followed}
-use Rattle.osm_operations.specs.declared.operation.Reply.TheVariants.{Refused, Lost, IsBack}
+use Rattle.osm_operations.specs.declared.operation.Reply.TheVariants.{Refused, CutOff, Lost, IsBack}
 use Rattle.osm_operations.specs.declared.operation.Reply.TheVariants.{NotThere}
 
 -- the time is below that of the last sequence
@@ -40,15 +46,50 @@ PublicationRefused published changes time SequenceFull = length published ≡ ma
 PublicationRefused published changes time TimeBack = IsBelowLast published time
 PublicationRefused published changes time fault = ⊥
 
--- why a publication that is killed after that many calls isn't done: for a call after the last one,
--- if there were fewer than it makes; else only for what refuses a whole publication
+-- why a publication that is killed after that many calls isn't done: for the file of the next call;
+-- else only for what refuses a whole publication
 abbrev pub KilledPublicationRefused :
     List PublishedValue → List ChangeValue → ℕ → ℕ → RunFault → Type 0
 KilledPublicationRefused published changes time calls (ReadFault file) =
-    ((file ≡ Top) ⊎ (file ≡ Changes)) × (calls < 6)
-KilledPublicationRefused published changes time calls (WriteFault file) = calls < 6
+    ((calls ≡ 0) × (file ≡ Top)) ⊎ ((calls ≡ 1) × (file ≡ Changes))
+KilledPublicationRefused published changes time calls (WriteFault file) =
+    (count : ℕ) × (count < 4) × (calls ≡ 2 + count)
+    × (file ≡ file_after (length published + 1) count)
 KilledPublicationRefused published changes time calls fault =
     PublicationRefused published changes time fault
+
+-- the changes and the time are those of the published sequence of that number, whose state is there
+-- and its changes in one form at least
+abbrev pub IsRepeat : History → List ChangeValue → ℕ → ℕ → Type 0
+IsRepeat h changes time n =
+    (0 < n) × (n ≤ length (published_of h))
+    × (sequence_at (published_of h) n ≡ record { number = n; changes = changes; time = time })
+    × (is_number_lost h n ≡ false)
+
+-- why a publication by number that isn't killed isn't done: never for a fault in a file of the
+-- folder
+abbrev pub NumberedRefused : History → List ChangeValue → ℕ → ℕ → RunFault → Type 0
+NumberedRefused h changes time n WantOfMemory = Unit {0}
+NumberedRefused h changes time n BadNow = time ≡ 0
+NumberedRefused h changes time n BadSequence = max_sequence < n
+NumberedRefused h changes time n (TooLarge file) = (file ≡ Changes) × IsTooLarge changes
+NumberedRefused h changes time n TimeBack =
+    (n ≡ length (published_of h) + 1) × IsBelowLast (published_of h) time
+NumberedRefused h changes time n (TopAt number) =
+    (number ≡ length (published_of h)) × ((n ≡ 0) ⊎ (length (published_of h) + 1 < n))
+NumberedRefused h changes time n (Differs number) =
+    (number ≡ n) × (0 < n) × (n ≤ length (published_of h)) × (IsRepeat h changes time n → ⊥)
+NumberedRefused h changes time n fault = ⊥
+
+-- why a publication by number that is killed after that many calls isn't done: for the file of the
+-- next call; else only for what refuses a whole one
+abbrev pub KilledNumberedRefused : History → List ChangeValue → ℕ → ℕ → ℕ → RunFault → Type 0
+KilledNumberedRefused h changes time n calls (ReadFault file) =
+    (calls < calls_before n (length (published_of h))) × (file ≡ file_read_after n calls)
+KilledNumberedRefused h changes time n calls (WriteFault file) =
+    (count : ℕ) × (count < 4) × (calls ≡ calls_before n (length (published_of h)) + count)
+    × (file ≡ file_after n count)
+KilledNumberedRefused h changes time n calls fault = NumberedRefused h changes time n fault
 
 -- the save text of a follower of the published sequences passes 1 GiB
 pub record HasBigSave (published : List PublishedValue) : Type 0 where
@@ -96,13 +137,58 @@ AllowedPublish h changes time (Refused fault) =
 AllowedPublish h changes time r = ⊥
 
 -- a killed publication that is done had as many calls as it makes; one that the device refused had
--- fewer
+-- as many as come before the call that failed
 abbrev pub AllowedKilledPublish : History → List ChangeValue → ℕ → ℕ → Reply → Type 0
 AllowedKilledPublish h changes time calls (Published report) =
     (report ≡ publication_report h) × (6 ≤ calls)
 AllowedKilledPublish h changes time calls (Refused fault) =
     KilledPublicationRefused (published_of h) changes time calls fault
 AllowedKilledPublish h changes time calls r = ⊥
+
+-- a publication by number is done: it is the next one, or is published already with those changes
+-- at that time
+abbrev pub NumberedDone : History → List ChangeValue → ℕ → ℕ → ReportValue → Type 0
+NumberedDone h changes time n report =
+    (report ≡ publish_report_of n)
+    × ((n ≡ length (published_of h) + 1) ⊎ IsRepeat h changes time n)
+
+-- the place of a file among those of a sequence, in the order in which they are written
+abbrev pub place_of : Suffix → ℕ
+place_of O5c = 0
+place_of Opl = 1
+place_of State = 2
+
+-- a publication by number stopped while it wrote the newest sequence once more: after so many
+-- files, one of which was lost
+abbrev pub NumberedCut : History → List ChangeValue → ℕ → ℕ → RunFault → Suffix → ℕ → Type 0
+NumberedCut h changes time n fault s count =
+    (n ≡ length (published_of h)) × IsRepeat h changes time n × (is_file_lost h n s ≡ true)
+    × (place_of s < count) × (count < 4)
+
+-- a publication by number is done, refused, or cut off for want of memory
+abbrev pub AllowedPublishAs : History → List ChangeValue → ℕ → ℕ → Reply → Type 0
+AllowedPublishAs h changes time n (Published report) = NumberedDone h changes time n report
+AllowedPublishAs h changes time n (Refused fault) = NumberedRefused h changes time n fault
+AllowedPublishAs h changes time n (CutOff fault s) =
+    (fault ≡ WantOfMemory) × ((count : ℕ) × NumberedCut h changes time n fault s count)
+AllowedPublishAs h changes time n r = ⊥
+
+-- the fault of a killed publication that is cut off: that of the next call, or want of memory
+abbrev pub CutsAfter : ℕ → ℕ → ℕ → RunFault → Type 0
+CutsAfter n calls count WantOfMemory = Unit {0}
+CutsAfter n calls count (WriteFault file) = (calls ≡ 5 + count) × (file ≡ file_after n count)
+CutsAfter n calls count fault = ⊥
+
+-- a killed publication by number that is done had as many calls as it makes; one that the device
+-- refused had as many as come before the call that failed
+abbrev pub AllowedKilledPublishAs : History → List ChangeValue → ℕ → ℕ → ℕ → Reply → Type 0
+AllowedKilledPublishAs h changes time n calls (Published report) =
+    NumberedDone h changes time n report × (numbered_calls n (length (published_of h)) ≤ calls)
+AllowedKilledPublishAs h changes time n calls (Refused fault) =
+    KilledNumberedRefused h changes time n calls fault
+AllowedKilledPublishAs h changes time n calls (CutOff fault s) =
+    (count : ℕ) × CutsAfter n calls count fault × NumberedCut h changes time n fault s count
+AllowedKilledPublishAs h changes time n calls r = ⊥
 
 -- a run of the follower is done or refused
 abbrev pub AllowedFollow : History → Reply → Type 0
@@ -142,6 +228,8 @@ AllowedPutBack h n s r = ⊥
 abbrev pub Allowed : History → Operation → Reply → Type 0
 Allowed h (Publish changes time) r = AllowedPublish h changes time r
 Allowed h (KilledPublish changes time calls) r = AllowedKilledPublish h changes time calls r
+Allowed h (PublishAs changes time n) r = AllowedPublishAs h changes time n r
+Allowed h (KilledPublishAs changes time n calls) r = AllowedKilledPublishAs h changes time n calls r
 Allowed h Follow r = AllowedFollow h r
 Allowed h (KilledFollow calls) r = AllowedKilledFollow h calls r
 Allowed h (Lose n s) r = AllowedLose h n s r

@@ -8,12 +8,15 @@ use Rattle.osm_follow.specs.Published.{PublishedValue, sequence_at, written_of}
 use Rattle.osm_follow.specs.Reach.{numbers}
 use Rattle.osm_state.specs.declared.paths.Suffix.{Suffix}
 use Rattle.osm_state.specs.declared.paths.Suffix.TheVariants.{O5c, Opl, State}
+use Rattle.osm_operations.specs.Reported.{applied_in}
 use Rattle.osm_operations.specs.declared.operation.Operation.{Operation}
 use Rattle.osm_operations.specs.declared.operation.Operation.TheVariants.{Publish, KilledPublish}
+use Rattle.osm_operations.specs.declared.operation.Operation.TheVariants.{PublishAs}
+use Rattle.osm_operations.specs.declared.operation.Operation.TheVariants.{KilledPublishAs}
 use Rattle.osm_operations.specs.declared.operation.Operation.TheVariants.{Lose, PutBack}
 use Rattle.osm_operations.specs.declared.operation.Reply.{Reply}
 use Rattle.osm_operations.specs.declared.operation.Reply.TheVariants.{Published, Followed}
-use Rattle.osm_operations.specs.declared.operation.Reply.TheVariants.{Lost, IsBack}
+use Rattle.osm_operations.specs.declared.operation.Reply.TheVariants.{CutOff, Lost, IsBack}
 
 -- an operation and its reply
 abbrev pub Pair : Type 0
@@ -26,12 +29,17 @@ History = List Pair
 abbrev pub history_of : List Operation → List Reply → History
 history_of operations replies = reverse (zip operations replies)
 
--- the sequence that the pair published, with that number
+-- the sequence that the pair published, if that number is the next one. A publication by number is
+-- the first of that number; once more it publishes nothing
 abbrev pub published_by : Operation → Reply → ℕ → List PublishedValue
 published_by (Publish changes time) (Published report) number =
     (record { number = number; changes = changes; time = time }) ∷ []
 published_by (KilledPublish changes time calls) (Published report) number =
     (record { number = number; changes = changes; time = time }) ∷ []
+published_by (PublishAs changes time n) (Published report) number =
+    if n == number then (record { number = n; changes = changes; time = time }) ∷ [] else []
+published_by (KilledPublishAs changes time n calls) (Published report) number =
+    if n == number then (record { number = n; changes = changes; time = time }) ∷ [] else []
 published_by e r number = []
 
 -- the sequences that were published: each the batch and the time of a publication that was done
@@ -49,16 +57,31 @@ same_suffix s t = false
 abbrev pub same_file : ℕ → Suffix → ℕ → Suffix → Bool
 same_file n s k t = n == k && same_suffix s t
 
--- whether the file of a sequence is lost after the pair, given whether it was before
-abbrev pub is_lost_by : Operation → Reply → ℕ → Suffix → Bool → Bool
-is_lost_by (Lose n s) Lost k t before = if same_file n s k t then true else before
-is_lost_by (PutBack n s) IsBack k t before = if same_file n s k t then false else before
-is_lost_by e r k t before = before
+-- whether a publication by number, once it is done, wrote the files of that sequence: it is the
+-- newest one
+abbrev pub wrote : ℕ → ℕ → ℕ → Bool
+wrote n newest k = n == k && n == newest
+
+-- whether the file of a sequence is lost after the pair, given the newest number and whether it was
+-- lost before. The newest sequence's files come back if they are written again
+abbrev pub is_lost_by : Operation → Reply → ℕ → ℕ → Suffix → Bool → Bool
+is_lost_by (Lose n s) Lost newest k t before = if same_file n s k t then true else before
+is_lost_by (PutBack n s) IsBack newest k t before = if same_file n s k t then false else before
+is_lost_by (PublishAs changes time n) (Published report) newest k t before =
+    if wrote n newest k then false else before
+is_lost_by (KilledPublishAs changes time n calls) (Published report) newest k t before =
+    if wrote n newest k then false else before
+is_lost_by (PublishAs changes time n) (CutOff fault s) newest k t before =
+    if same_file n s k t then false else before
+is_lost_by (KilledPublishAs changes time n calls) (CutOff fault s) newest k t before =
+    if same_file n s k t then false else before
+is_lost_by e r newest k t before = before
 
 -- whether the file of a sequence is lost
 abbrev pub is_file_lost : History → ℕ → Suffix → Bool
 is_file_lost [] k t = false
-is_file_lost (p ∷ h) k t = is_lost_by p.0 p.1 k t (is_file_lost h k t)
+is_file_lost (p ∷ h) k t =
+    is_lost_by p.0 p.1 (length (published_of h)) k t (is_file_lost h k t)
 
 -- whether a number is lost: its state is, or its changes are in both forms
 abbrev pub is_number_lost : History → ℕ → Bool
@@ -94,7 +117,7 @@ abbrev pub is_followed : Reply → Bool
 is_followed (Followed report) = true
 is_followed r = false
 
--- how many numbers the reply to an operation after a history reports, from n on
+-- how many numbers the reply to an operation after a history adds to the follower's, from n on
 abbrev pub count_by : History → Reply → ℕ → ℕ
 count_by h r n = if is_followed r then count_after h n else 0
 
@@ -103,10 +126,15 @@ abbrev pub number_of : History → ℕ
 number_of [] = 0
 number_of (p ∷ h) = number_of h + count_by h p.1 (number_of h)
 
+-- the numbers that a reply says are applied: those of the lines of its report
+abbrev pub reported_by : Reply → List ℕ
+reported_by (Followed report) = applied_in report.text
+reported_by r = []
+
 -- the numbers that were reported, in the order of the reports
 abbrev pub reported_of : History → List ℕ
 reported_of [] = []
-reported_of (p ∷ h) = reported_of h ++ numbers (number_of h) (count_by h p.1 (number_of h))
+reported_of (p ∷ h) = reported_of h ++ reported_by p.1
 
 -- the lost numbers after n, up to the smaller of n + 64 and the last published one, rising
 abbrev pub lost_after : History → ℕ → List ℕ

@@ -1,4 +1,6 @@
+pub mod Reported
 pub mod History
 pub mod Allowed
 pub mod Correct
+pub mod Publications
 pub mod Steps

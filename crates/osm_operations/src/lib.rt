@@ -1,6 +1,7 @@
 //! What may happen to a folder and a save, in any order, and what holds afterwards.
 #![tactic(auto)]
 
+pub mod laws;
 pub mod operation;
 mod runs;
 pub mod world;

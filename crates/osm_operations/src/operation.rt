@@ -21,6 +21,20 @@ pub enum Operation {
         time: u32,
         calls: u64,
     },
+    /// The changes are published as the sequence of that number: as the next one, or once more as
+    /// one that is published.
+    PublishAs {
+        changes: Batch,
+        time: u32,
+        number: u32,
+    },
+    /// The same, by a run that is killed.
+    KilledPublishAs {
+        changes: Batch,
+        time: u32,
+        number: u32,
+        calls: u64,
+    },
     /// The follower goes on from the save.
     Follow,
     /// The same, by a run that is killed.
@@ -49,6 +63,9 @@ pub enum Reply {
     Followed(Report),
     /// The run stopped, or the file wasn't moved.
     Refused(RunFault),
+    /// The run stopped while it wrote the files of the newest sequence again, and the lost one in
+    /// this form is there again.
+    CutOff { fault: RunFault, back: Suffix },
     /// The file is lost.
     Lost,
     /// The file is there again.

@@ -1,13 +1,15 @@
 //! Runs over a store in memory, whole or killed.
 
-ghost use Rattle.std.specs.Prelude.{◌≡◌, ◌≤◌, IfErr, IfOk, OnErr, OnOk, Some};
+ghost use Rattle.std.specs.Prelude.{◌≡◌, ◌≤◌, IfErr, IfOk, None, OnErr, OnOk, Some};
+ghost use Rattle.std.specs.Prelude.{decimal, string_bytes};
 ghost use Rattle.std.specs.Str.{IsAscii};
 ghost use Rattle.osm_model.specs.Limits.{max_sequence};
 ghost use Rattle.osm_folder.specs.Names.{file_name_of};
-ghost use Rattle.osm_folder.specs.Runs.{LacksCalls};
 ghost use Rattle.osm_folder.specs.Stores.{calls_of, files_of, inner_of};
 ghost use Rattle.osm_operations.specs.Steps.Stepping.{AreChangesPut, ChangesStop, FollowStep};
-ghost use Rattle.osm_operations.specs.Steps.Stepping.{IsNoDevice, LacksFollowCalls, Moves};
+ghost use Rattle.osm_operations.specs.Steps.Stepping.{IsNoDevice};
+ghost use Rattle.osm_operations.specs.Steps.Stepping.{LacksFollowCalls, Moves, NumberedStep};
+ghost use Rattle.osm_operations.specs.Steps.Stepping.{Returns, named};
 ghost use Rattle.osm_operations.specs.Steps.Stepping.{PublishStep};
 
 use osm_folder::fault::{FileName, RunFault};
@@ -16,9 +18,11 @@ use osm_folder::fuse::Fuse;
 use osm_folder::memory_store::MemoryStore;
 use osm_folder::names::file_name;
 use osm_folder::publish::publish_run;
+use osm_folder::publish_as::publish_as_run;
 use osm_folder::report::Report;
 use osm_model::batch::Batch;
 use osm_model::form::{ChangeForm, FormError};
+use osm_model::limits::MAX_SEQUENCE;
 use osm_model::memory::WantOfMemory;
 use osm_model::time::time_write;
 use osm_opl::opl::Opl;
@@ -35,9 +39,8 @@ pub(crate) fn publish(
     batch: &Batch,
     time: u32,
 ) -> Result<Report, RunFault>
-    ensures step { PublishStep dir.now changes.now batch.now time result
+    ensures step { PublishStep None dir.now changes.now batch.now time result
         (files_of store.old) (files_of store.new) }
-    ensures device { IfErr result IsNoDevice }
 {
     write_changes(alloc, store, changes, batch)?;
     let now = time_write(time);
@@ -55,10 +58,9 @@ pub(crate) fn publish_killed(
     time: u32,
     calls: u64,
 ) -> Result<Report, RunFault>
-    ensures step { PublishStep dir.now changes.now batch.now time result
+    ensures step { PublishStep (Some calls) dir.now changes.now batch.now time result
         (files_of store.old) (files_of store.new) }
     ensures left { OnOk result (6 ≤ calls) }
-    ensures lacks { IfErr result (LacksCalls 6 (Some calls)) }
 {
     write_changes(alloc, store, changes, batch)?;
     let now = time_write(time);
@@ -66,6 +68,62 @@ pub(crate) fn publish_killed(
     let answer = publish_run(alloc, &mut fuse, dir, changes, text_of(&now));
     *store = fuse.into_inner();
     answer
+}
+
+// Publishes the changes as the sequence of that number.
+pub(crate) fn publish_as(
+    alloc: Global,
+    store: &mut MemoryStore,
+    dir: &str,
+    changes: &str,
+    batch: &Batch,
+    time: u32,
+    number: u32,
+) -> Result<Report, RunFault>
+    ensures step { NumberedStep None dir.now changes.now batch.now time number result
+        (files_of store.old) (files_of store.new) }
+{
+    let sequence = number_text(alloc, number)?;
+    write_changes(alloc, store, changes, batch)?;
+    let now = time_write(time);
+    publish_as_run(alloc, store, dir, changes, text_of(&now), sequence.as_str())
+}
+
+// The same, by a run that is killed after that many calls.
+pub(crate) fn publish_as_killed(
+    alloc: Global,
+    store: &mut MemoryStore,
+    dir: &str,
+    changes: &str,
+    batch: &Batch,
+    time: u32,
+    number: u32,
+    calls: u64,
+) -> Result<Report, RunFault>
+    ensures step { NumberedStep (Some calls) dir.now changes.now batch.now time number result
+        (files_of store.old) (files_of store.new) }
+{
+    let sequence = number_text(alloc, number)?;
+    write_changes(alloc, store, changes, batch)?;
+    let now = time_write(time);
+    let mut fuse = fuse_over(alloc, store, calls);
+    let answer = publish_as_run(
+        alloc,
+        &mut fuse,
+        dir,
+        changes,
+        text_of(&now),
+        sequence.as_str(),
+    );
+    *store = fuse.into_inner();
+    answer
+}
+
+fn number_text(alloc: Global, number: u32) -> Result<String, WantOfMemory>
+    ensures text { IfOk result (λ text. string_bytes text ≡ decimal number) }
+    ensures fits { number ≤ 4294967295 }
+{
+    Ok(format!(in alloc; "{number}")?)
 }
 
 // A run of the follower.
@@ -138,6 +196,38 @@ fn text_of(time: &[u8; 20]) -> &str
         Ok(text) => text,
         Err(_) => unreachable!(),
     }
+}
+
+// The names of the two files of a sequence's changes.
+#[derive(Drop)]
+pub(crate) struct FormNames {
+    pub(crate) o5c: String,
+    pub(crate) opl: String,
+}
+
+// No sequence has the number 0 or one past the last; names of other files stand in for theirs.
+pub(crate) fn form_names(alloc: Global, dir: &str, number: u32) -> Result<FormNames, WantOfMemory>
+    ensures o5c { IfOk result (λ names. string_bytes names.o5c
+        ≡ file_name_of dir.now (named number) Suffix.O5c) }
+    ensures opl { IfOk result (λ names. string_bytes names.opl
+        ≡ file_name_of dir.now (named number) Suffix.Opl) }
+{
+    let number = number.min(MAX_SEQUENCE).max(1);
+    Ok(FormNames {
+        o5c: file_name(alloc, dir, number, Suffix::O5c)?,
+        opl: file_name(alloc, dir, number, Suffix::Opl)?,
+    })
+}
+
+// Whether a lost file is in the store again; then it is a lost one no longer.
+pub(crate) fn returns(name: &str, store: &MemoryStore, lost: &mut MemoryStore) -> bool
+    ensures { Returns result name.now (files_of store.now) (files_of lost.old) (files_of lost.new) }
+{
+    if store.get(name).is_none() || lost.get(name).is_none() {
+        return false;
+    }
+    lost.remove(name);
+    true
 }
 
 // Moves a file of a sequence from one store to another; false if it isn't there.

@@ -1,16 +1,22 @@
 //! A folder and a save over a list of operations.
 
-ghost use Rattle.std.specs.Prelude.{◌≡◌, length, IfOk};
+ghost use Rattle.std.specs.Prelude.{◌≡◌, ◌<◌, [], length, vec_capacity, IfOk, OnErr, None, Some};
+ghost use Rattle.std.specs.Prelude.{string_bytes};
 ghost use Rattle.osm_folder.specs.Stores.{files_of};
 ghost use Rattle.osm_operations.specs.Correct.{AreApart, IsNew, IsRun};
 ghost use Rattle.osm_operations.specs.Steps.Stepping.{FollowTo, HasFollowCalls, HasPublishCalls};
-ghost use Rattle.osm_operations.specs.Steps.Stepping.{IsNumber, IsWhole, LoseTo, PublishTo};
-ghost use Rattle.osm_operations.specs.Steps.Stepping.{PutBackTo, Step};
+ghost use Rattle.osm_operations.specs.Steps.Stepping.{IsNumber, IsWhole, LoseTo, PublishAsTo};
+ghost use Rattle.osm_operations.specs.Steps.Stepping.{PublishTo, PutBackTo, SettleTo, Step};
+ghost use Rattle.osm_operations.specs.Steps.Stepping.{stopped_reply as settled};
 
 use crate::operation::{Operation, Reply};
-use crate::runs::{follow, follow_killed, move_file, publish, publish_killed};
+use crate::runs::{
+    FormNames, follow, follow_killed, form_names, move_file, publish, publish_as,
+    publish_as_killed, publish_killed, returns,
+};
 use osm_folder::fault::RunFault;
 use osm_folder::memory_store::MemoryStore;
+use osm_folder::report::Report;
 use osm_model::batch::Batch;
 use osm_model::limits::MAX_SEQUENCE;
 use osm_model::memory::WantOfMemory;
@@ -56,7 +62,7 @@ pub fn run(
         lost: MemoryStore::new(alloc),
         published: 0,
     };
-    let mut replies = Vec::with_capacity(alloc, operations.len())?;
+    let mut replies = room_for_replies(alloc, operations.as_slice())?;
     for operation in operations {
         let reply = world.step(dir, save, changes, operation);
         replies.push(reply).unwrap();
@@ -65,6 +71,15 @@ pub fn run(
         store: world.store,
         replies,
     })
+}
+
+// An empty list with room for one reply to each operation, and for no more.
+fn room_for_replies(alloc: Global, operations: &[Operation]) -> Result<Vec<Reply>, WantOfMemory>
+    ensures empty { IfOk result (λ replies. replies.items ≡ []) }
+    ensures room { IfOk result (λ replies. vec_capacity replies ≡ length operations.now) }
+    ensures refused { OnErr result (0 < length operations.now) }
+{
+    Ok(Vec::with_capacity(alloc, operations.len())?)
 }
 
 impl World {
@@ -81,6 +96,17 @@ impl World {
                 time,
                 calls,
             } => self.publish_killed(dir, changes, &batch, time, calls),
+            Operation::PublishAs {
+                changes: batch,
+                time,
+                number,
+            } => self.publish_as(dir, changes, &batch, time, number),
+            Operation::KilledPublishAs {
+                changes: batch,
+                time,
+                number,
+                calls,
+            } => self.publish_as_killed(dir, changes, &batch, time, number, calls),
             Operation::Follow => self.follow(dir, save),
             Operation::KilledFollow { calls } => self.follow_killed(dir, save, calls),
             Operation::Lose { number, suffix } => self.lose(dir, number, suffix),
@@ -89,8 +115,7 @@ impl World {
     }
 
     fn publish(&mut self, dir: &str, changes: &str, batch: &Batch, time: u32) -> Reply
-        ensures step { PublishTo dir.now changes.now batch.now time result self.old self.new }
-        ensures whole { IsWhole result }
+        ensures { PublishTo None dir.now changes.now batch.now time result self.old self.new }
     {
         match publish(self.alloc, &mut self.store, dir, changes, batch, time) {
             Err(fault) => Reply::Refused(fault),
@@ -109,7 +134,8 @@ impl World {
         time: u32,
         calls: u64,
     ) -> Reply
-        ensures step { PublishTo dir.now changes.now batch.now time result self.old self.new }
+        ensures step { PublishTo (Some calls) dir.now changes.now batch.now time result
+            self.old self.new }
         ensures left { HasPublishCalls calls result }
     {
         match publish_killed(
@@ -126,6 +152,77 @@ impl World {
                 self.published = self.published.saturating_add(1);
                 Reply::Published(report)
             }
+        }
+    }
+
+    fn publish_as(
+        &mut self,
+        dir: &str,
+        changes: &str,
+        batch: &Batch,
+        time: u32,
+        number: u32,
+    ) -> Reply
+        ensures { PublishAsTo None dir.now changes.now batch.now time number result
+            self.old self.new }
+    {
+        let Ok(names) = form_names(self.alloc, dir, number) else {
+            return Reply::Refused(RunFault::WantOfMemory);
+        };
+        let answer = publish_as(
+            self.alloc,
+            &mut self.store,
+            dir,
+            changes,
+            batch,
+            time,
+            number,
+        );
+        self.settle(&names, number, answer)
+    }
+
+    fn publish_as_killed(
+        &mut self,
+        dir: &str,
+        changes: &str,
+        batch: &Batch,
+        time: u32,
+        number: u32,
+        calls: u64,
+    ) -> Reply
+        ensures { PublishAsTo (Some calls) dir.now changes.now batch.now time number result
+            self.old self.new }
+    {
+        let Ok(names) = form_names(self.alloc, dir, number) else {
+            return Reply::Refused(RunFault::WantOfMemory);
+        };
+        let answer = publish_as_killed(
+            self.alloc,
+            &mut self.store,
+            dir,
+            changes,
+            batch,
+            time,
+            number,
+            calls,
+        );
+        self.settle(&names, number, answer)
+    }
+
+    // The reply to a publication by number. Its run may have put lost files back.
+    fn settle(&mut self, names: &FormNames, number: u32, answer: Result<Report, RunFault>) -> Reply
+        ensures step { SettleTo answer (string_bytes names.now.o5c) (string_bytes names.now.opl)
+            number result self.old self.new }
+        ensures store { self.new.store ≡ self.old.store }
+    {
+        let o5c = returns(names.o5c.as_str(), &self.store, &mut self.lost);
+        let opl = returns(names.opl.as_str(), &self.store, &mut self.lost);
+        match answer {
+            Ok(report) => {
+                self.published = self.published.max(number);
+                Reply::Published(report)
+            }
+            Err(fault) => stopped_reply(fault, o5c, opl),
         }
     }
 
@@ -189,6 +286,25 @@ impl World {
             Ok(false) => Reply::NotThere,
             Err(WantOfMemory) => Reply::Refused(RunFault::WantOfMemory),
         }
+    }
+}
+
+// The reply to a publication by number that stopped, and what it says is there again.
+fn stopped_reply(fault: RunFault, o5c: bool, opl: bool) -> Reply
+    ensures { result ≡ settled fault o5c opl }
+{
+    if o5c {
+        Reply::CutOff {
+            fault,
+            back: Suffix::O5c,
+        }
+    } else if opl {
+        Reply::CutOff {
+            fault,
+            back: Suffix::Opl,
+        }
+    } else {
+        Reply::Refused(fault)
     }
 }
 

@@ -37,10 +37,25 @@ coordinate_lack : (s : ℕ) (b : IsBlank s) (letter : ℕ) (x : List ℕ) (z : �
 coordinate_lack s b letter x z high h = (λ e. omega (arith, e, b.low), maybe_coordinate_lacks s b x z h)
 
 what_lacks : (s : ℕ) (b : IsBlank s) (kind : Kind) (fields : List (List ℕ)) (w : What) → SpellsWhat kind fields w → AllByRecursion (Lacks s) fields
-what_lacks s b _ _ _ (node t x y tags lon lat ts hx hy) = (tags_lack s b t tags ts, (coordinate_lack s b 120 x lon (lit≤ tt) hx, (coordinate_lack s b 121 y lat (lit≤ tt) hy, tt)))
+what_lacks s b _ _ _ (node t x y tags lon lat ts hx hy) = (
+  tags_lack s b t tags ts,
+  (
+    coordinate_lack s b 120 x lon (lit≤ tt) hx,
+    (
+      coordinate_lack s b 121 y lat (lit≤ tt) hy,
+      tt,
+    ),
+  ),
+)
 what_lacks s b _ _ _ (way t n tags refs ts rs) = (tags_lack s b t tags ts, (refs_lack s b n refs rs, tt))
 what_lacks s b _ _ _ (relation t m tags members ts ms) = (tags_lack s b t tags ts, (members_lack s b m members ms, tt))
-what_lacks s b _ _ _ (deleted_node t x y tags ts are hx hy) = (tags_lack s b t tags ts, ((λ e. omega (arith, e, b.low), (longitude_read x hx).lacks s b), ((λ e. omega (arith, e, b.low), (latitude_read y hy).lacks s b), tt)))
+what_lacks s b _ _ _ (deleted_node t x y tags ts are hx hy) = (
+  tags_lack s b t tags ts,
+  (
+    (λ e. omega (arith, e, b.low), (longitude_read x hx).lacks s b),
+    ((λ e. omega (arith, e, b.low), (latitude_read y hy).lacks s b), tt),
+  ),
+)
 what_lacks s b _ _ _ (deleted_way t n tags refs ts are rs within) = (tags_lack s b t tags ts, (refs_lack s b n refs rs, tt))
 what_lacks s b _ _ _ (deleted_relation t m tags members ts are ms within) = (tags_lack s b t tags ts, (members_lack s b m members ms, tt))
 
@@ -60,7 +75,58 @@ digit_isnt : (s : ℕ) (b : IsBlank s) (n : ℕ) → last_digit n ≢ s
 digit_isnt s b n = λ e. omega (arith, e, b.low)
 
 moment_lacks : (s : ℕ) (b : IsBlank s) (m : Moment) → Lacks s (moment_text m)
-moment_lacks s b m = (digit_isnt s b (m.year / 1000), (digit_isnt s b (m.year / 100), (digit_isnt s b (m.year / 10), (digit_isnt s b (m.year), ((λ e. omega (arith, e, b.low)), (digit_isnt s b (m.month / 10), (digit_isnt s b (m.month), ((λ e. omega (arith, e, b.low)), (digit_isnt s b (m.day / 10), (digit_isnt s b (m.day), ((λ e. omega (arith, e, b.low)), (digit_isnt s b (m.hour / 10), (digit_isnt s b (m.hour), ((λ e. omega (arith, e, b.low)), (digit_isnt s b (m.minute / 10), (digit_isnt s b (m.minute), ((λ e. omega (arith, e, b.low)), (digit_isnt s b (m.second / 10), (digit_isnt s b (m.second), ((λ e. omega (arith, e, b.low)), tt))))))))))))))))))))
+moment_lacks s b m = (
+  digit_isnt s b (m.year / 1000),
+  (
+    digit_isnt s b (m.year / 100),
+    (
+      digit_isnt s b (m.year / 10),
+      (
+        digit_isnt s b (m.year),
+        (
+          (λ e. omega (arith, e, b.low)),
+          (
+            digit_isnt s b (m.month / 10),
+            (
+              digit_isnt s b (m.month),
+              (
+                (λ e. omega (arith, e, b.low)),
+                (
+                  digit_isnt s b (m.day / 10),
+                  (
+                    digit_isnt s b (m.day),
+                    (
+                      (λ e. omega (arith, e, b.low)),
+                      (
+                        digit_isnt s b (m.hour / 10),
+                        (
+                          digit_isnt s b (m.hour),
+                          (
+                            (λ e. omega (arith, e, b.low)),
+                            (
+                              digit_isnt s b (m.minute / 10),
+                              (
+                                digit_isnt s b (m.minute),
+                                (
+                                  (λ e. omega (arith, e, b.low)),
+                                  (digit_isnt s b (m.second / 10), (digit_isnt s b (m.second), ((λ e. omega (arith, e, b.low)), tt))),
+                                ),
+                              ),
+                            ),
+                          ),
+                        ),
+                      ),
+                    ),
+                  ),
+                ),
+              ),
+            ),
+          ),
+        ),
+      ),
+    ),
+  ),
+)
 
 time_lacks : (s : ℕ) (b : IsBlank s) (bytes : List ℕ) (t : ℕ) → TimeText bytes t → Lacks s bytes
 time_lacks s b bytes t h = let e = h.shows.text in rw e (moment_lacks s b h.shows.moment)
@@ -70,7 +136,9 @@ abbrev pub fields_of : Kind → List ℕ → List ℕ → Bool → List ℕ → 
 fields_of kind id version v changeset time uid user fields =
     (letter_of kind ∷ id) ∷ (118 ∷ version) ∷ (100 ∷ visible_text v) ∷ (99 ∷ changeset) ∷ (116 ∷ time) ∷ (105 ∷ uid) ∷ (117 ∷ user) ∷ fields
 
-pub fields_lack : (s : ℕ) (b : IsBlank s) (line : List ℕ) (c : ChangeValue) (l : SpellsLine line c) → AllByRecursion (Lacks s) (fields_of c.key.kind l.id_text l.version_text (is_standing c.what) l.changeset_text l.time_text l.uid_text l.user_text l.fields)
+pub fields_lack : (s : ℕ) (b : IsBlank s) (line : List ℕ) (c : ChangeValue) (l : SpellsLine line c)
+    → AllByRecursion (Lacks s) (fields_of c.key.kind l.id_text l.version_text (is_standing c.what) l.changeset_text
+    l.time_text l.uid_text l.user_text l.fields)
 fields_lack s b line c l = (
   (letter_isnt s b c.key.kind, id_lacks s l.id_text c.key.id (omega (arith, b.far)) (λ e. omega (arith, e, b.low)) (λ e. omega (arith, e, b.low)) l.id),
   (

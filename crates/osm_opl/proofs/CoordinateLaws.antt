@@ -32,7 +32,8 @@ maybe_coordinate_takes most (b ∷ bs) r e =
 
 pub maybe_coordinate_again : (most : ℕ) (bytes : List ℕ) (units : ℤ) → CoordinateTaken most bytes units → maybe_coordinate_at most bytes ≡ Some (Some units)
 unfolding maybe_coordinate_at
-maybe_coordinate_again most [] units h = let e : coordinate_at most [] ≡ Some units = coordinate_again most [] units h.spells h.low h.high in absurd (no_coordinate most units e)
+maybe_coordinate_again most [] units h = let e : coordinate_at most [] ≡ Some units =
+    coordinate_again most [] units h.spells h.low h.high in absurd (no_coordinate most units e)
   where
     no_coordinate : (most : ℕ) (units : ℤ) → coordinate_at most [] ≡ Some units → ⊥
     no_coordinate most units e = unfold coordinate_at in cc
@@ -58,9 +59,20 @@ nothing_read most = refl
 pub maybe_coordinate_lacks : (s : ℕ) (b : IsBlank s) (bytes : List ℕ) (z : ℤ) → SpellsCoordinate bytes z → Lacks s bytes
 maybe_coordinate_lacks s b bytes z h = coordinate_lacks s bytes z (omega (arith, b.far)) (λ e. omega (arith, e, b.low)) (λ e. omega (arith, e, b.low)) h
 
-maybe_coordinate_read : (most : ℕ) (Limits : ℤ → Type 0) → ((z : ℤ) → Limits z → neg_ℤ (pos most) ≤ℤ z) → ((z : ℤ) → Limits z → z ≤ℤ pos most) → (bytes : List ℕ) → MayBeCoordinate Limits bytes → CoordinateRead most bytes
+maybe_coordinate_read : (most : ℕ) (Limits : ℤ → Type 0) → ((z : ℤ) → Limits z → neg_ℤ (pos most) ≤ℤ z)
+    → ((z : ℤ) → Limits z → z ≤ℤ pos most) → (bytes : List ℕ) → MayBeCoordinate Limits bytes → CoordinateRead most bytes
 maybe_coordinate_read most Limits low high _ absent = record { units = None; read = nothing_read most; lacks = λ s b. tt }
-maybe_coordinate_read most Limits low high _ (given bytes z h limits) = record { units = Some z; read = maybe_coordinate_again most bytes z (record { spells = h; low = low z limits; high = high z limits }); lacks = λ s b. maybe_coordinate_lacks s b bytes z h }
+maybe_coordinate_read most Limits low high _ (given bytes z h limits) =
+    record {
+      units = Some z;
+      read = maybe_coordinate_again most bytes z (record {
+        spells = h;
+        low = low z limits;
+        high =
+            high z limits;
+      });
+      lacks = λ s b. maybe_coordinate_lacks s b bytes z h;
+    }
 
 pub longitude_read : (bytes : List ℕ) → MayBeCoordinate IsLongitude bytes → CoordinateRead 1800000000 bytes
 longitude_read bytes h = maybe_coordinate_read 1800000000 IsLongitude (λ z l. l.low) (λ z l. l.high) bytes h

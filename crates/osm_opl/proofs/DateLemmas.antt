@@ -57,7 +57,8 @@ time_found bytes None sound complete = by_option (time_at bytes) (λ t e. let c 
     by_option None f = refl
     by_option (Some t) f = absurd (f t refl)
 
-pub time_finds : (bytes : List ℕ) (r : Option ℕ) (why : Why) → IfSome r (λ t. TimeText bytes t) → ((t : ℕ) → TimeText bytes t → r ≡ Some t) → Finds (λ t. t) (ok_or r why) (time_at bytes)
+pub time_finds : (bytes : List ℕ) (r : Option ℕ) (why : Why) → IfSome r (λ t. TimeText bytes t)
+    → ((t : ℕ) → TimeText bytes t → r ≡ Some t) → Finds (λ t. t) (ok_or r why) (time_at bytes)
 time_finds bytes r why sound complete = by_option r (time_at bytes) (time_found bytes r sound complete)
   where
     by_option : (r read : Option ℕ) → read ≡ r → Finds (λ t. t) (ok_or r why) read

@@ -1,5 +1,6 @@
 -- A text that is read is spelled, and what is spelled is read.
-use Rattle.std.proofs.Common.{◌≡◌, ℕ, ◌+◌, ◌<◌, ◌≤◌, Bool, true, false, cond, leb, List, [], ◌∷◌, ◌++◌, length, Some, None, refl, sym, ap, ◌∙◌, append_assoc, arith, lit<, lit≤, ◌/◌, ◌%◌, ltb}
+use Rattle.std.proofs.Common.{◌≡◌, ℕ, ◌+◌, ◌<◌, ◌≤◌, Bool, true, false, cond, leb, List, [], ◌∷◌, ◌++◌, length, Some}
+use Rattle.std.proofs.Common.{None, refl, sym, ap, ◌∙◌, append_assoc, arith, lit<, lit≤, ◌/◌, ◌%◌, ltb}
 use Rattle.std.specs.Prelude.{◌≢◌, not}
 use Rattle.std.specs.Char.{encode_utf8, digit_value}
 use Rattle.std.specs.List.{list_all}
@@ -43,12 +44,14 @@ free_after [] ys e = e
 free_after (x ∷ xs) ys e = free_after xs ys (both_held (is_free x) (list_all is_free (xs ++ ys)) e).1
 
 -- a run of bare characters before a spelling of a text
-run_before : (cs bytes text : List ℕ) → scalars cs ≡ true → list_all is_free (encodes cs) ≡ true → SpellsText bytes text → SpellsText (encodes cs ++ bytes) (encodes cs ++ text)
+run_before : (cs bytes text : List ℕ) → scalars cs ≡ true → list_all is_free (encodes cs) ≡ true → SpellsText bytes text
+    → SpellsText (encodes cs ++ bytes) (encodes cs ++ text)
 run_before [] bytes text s free h = h
 run_before (c ∷ cs) bytes text s free h =
     let p = both_held (scalar c) (scalars cs) s in
     let inner = run_before cs bytes text p.1 (free_after (encode_utf8 c) (encodes cs) free) h in
-    rw (append_assoc (encode_utf8 c) (encodes cs) bytes, append_assoc (encode_utf8 c) (encodes cs) text) (bare c (encodes cs ++ bytes) (encodes cs ++ text) (bare_in c (encodes cs) p.0 free) inner)
+    rw (append_assoc (encode_utf8 c) (encodes cs) bytes, append_assoc (encode_utf8 c) (encodes cs) text)
+    (bare c (encodes cs ++ bytes) (encodes cs ++ text) (bare_in c (encodes cs) p.0 free) inner)
 
 run_begins : (run bytes text : List ℕ) → list_all is_free run ≡ true → IsUtf8 run → SpellsText bytes text → SpellsText (run ++ bytes) (run ++ text)
 run_begins run bytes text free (cs, (s, is)) h =
@@ -63,20 +66,27 @@ runs_take (run ∷ []) text e =
     let plain : SpellsText run run = rw (append-nil run) at h in
     rw r.0 plain
 runs_take (run ∷ digits ∷ []) text e =
-    let a = some_then (run_at run) (λ (r : List ℕ). and_then {A = ℕ} {B = List ℕ} (escape_at digits) (λ c. and_then {A = List ℕ} {B = List ℕ} (runs_at []) (λ t. Some (r ++ encode_utf8 c ++ t)))) text e in
+    let a = some_then (run_at run) (λ (r : List ℕ). and_then {A = ℕ} {B = List ℕ} (escape_at digits)
+    (λ c. and_then {A = List ℕ} {B = List ℕ} (runs_at []) (λ t. Some (r ++ encode_utf8 c ++ t)))) text e in
     let b = some_then (escape_at digits) (λ (c : ℕ). and_then {A = List ℕ} {B = List ℕ} (runs_at []) (λ t. Some (a.0 ++ encode_utf8 c ++ t))) text a.2 in
     let z : None ≡ Some text = b.2 in
     absurd cc
 runs_take (run ∷ digits ∷ next ∷ more) text e =
-    let a = some_then (run_at run) (λ (r : List ℕ). and_then {A = ℕ} {B = List ℕ} (escape_at digits) (λ c. and_then {A = List ℕ} {B = List ℕ} (runs_at (next ∷ more)) (λ t. Some (r ++ encode_utf8 c ++ t)))) text e in
-    let b = some_then (escape_at digits) (λ (c : ℕ). and_then {A = List ℕ} {B = List ℕ} (runs_at (next ∷ more)) (λ t. Some (a.0 ++ encode_utf8 c ++ t))) text a.2 in
+    let a = some_then (run_at run) (λ (r : List ℕ). and_then {A = ℕ} {B = List ℕ} (escape_at digits)
+    (λ c. and_then {A = List ℕ} {B = List ℕ} (runs_at (next ∷ more)) (λ t. Some (r ++ encode_utf8 c ++ t)))) text
+    e in
+    let b = some_then (escape_at digits) (λ (c : ℕ). and_then {A = List ℕ} {B = List ℕ} (runs_at (next ∷ more))
+    (λ t. Some (a.0 ++ encode_utf8 c ++ t))) text a.2 in
     let d = some_then (runs_at (next ∷ more)) (λ (t : List ℕ). Some (a.0 ++ encode_utf8 b.0 ++ t)) text b.2 in
     let r = run_takes run a.0 a.1 in
     let n : NamesChar digits b.0 = escape_takes digits b.0 b.1 in
     let inner : SpellsText (joined 37 (next ∷ more)) d.0 = runs_take (next ∷ more) d.0 d.1 in
     let same : a.0 ++ encode_utf8 b.0 ++ d.0 ≡ text = same_Some (a.0 ++ encode_utf8 b.0 ++ d.0) text d.2 in
-    let h : SpellsText (run ++ (37 ∷ (digits ++ (37 ∷ joined 37 (next ∷ more))))) (run ++ (encode_utf8 b.0 ++ d.0)) = run_begins run (37 ∷ (digits ++ (37 ∷ joined 37 (next ∷ more)))) (encode_utf8 b.0 ++ d.0) r.1 r.2 (escape digits b.0 (joined 37 (next ∷ more)) d.0 n inner) in
-    let value : run ++ (encode_utf8 b.0 ++ d.0) ≡ text = sym (append_assoc run (encode_utf8 b.0) d.0) ∙ (ap (λ (l : List ℕ). l ++ encode_utf8 b.0 ++ d.0) (sym r.0) ∙ same) in
+    let h : SpellsText (run ++ (37 ∷ (digits ++ (37 ∷ joined 37 (next ∷ more))))) (run ++ (encode_utf8 b.0 ++ d.0)) =
+    run_begins run (37 ∷ (digits ++ (37 ∷ joined 37 (next ∷ more)))) (encode_utf8 b.0 ++ d.0) r.1 r.2
+    (escape digits b.0 (joined 37 (next ∷ more)) d.0 n inner) in
+    let value : run ++ (encode_utf8 b.0 ++ d.0) ≡ text = sym (append_assoc run (encode_utf8 b.0) d.0)
+    ∙ (ap (λ (l : List ℕ). l ++ encode_utf8 b.0 ++ d.0) (sym r.0) ∙ same) in
     rw value at h
 
 pub text_takes : (bytes text : List ℕ) → text_at bytes ≡ Some text → SpellsText bytes text
@@ -103,11 +113,26 @@ encode_free : (c : ℕ) → IsBare c → list_all is_free (encode_utf8 c) ≡ tr
 unfolding encode_utf8
 encode_free c h = by_tests (ltb c 128) (ltb c 2048) (ltb c 65536)
   where
-    by_tests : (x y z : Bool) → list_all is_free (cond x (c ∷ []) (cond y ((192 + c / 64) ∷ (128 + c % 64) ∷ []) (cond z ((224 + c / 4096) ∷ (128 + c / 64 % 64) ∷ (128 + c % 64) ∷ []) ((240 + c / 262144) ∷ (128 + c / 4096 % 64) ∷ (128 + c / 64 % 64) ∷ (128 + c % 64) ∷ [])))) ≡ true
+    by_tests : (x y z : Bool)
+        → list_all is_free
+        (cond x (c ∷ []) (cond y ((192 + c / 64) ∷ (128 + c % 64) ∷ [])
+        (cond z ((224 + c / 4096) ∷ (128 + c / 64 % 64) ∷ (128 + c % 64) ∷ [])
+        ((240 + c / 262144) ∷ (128 + c / 4096 % 64) ∷ (128 + c / 64 % 64) ∷ (128 + c % 64) ∷ [])))) ≡ true
     by_tests true y z = let e : is_reserved c ≡ false = h.free in rw e refl
     by_tests false true z = rw (high_free (192 + c / 64) (omega arith), high_free (128 + c % 64) (omega arith)) refl
-    by_tests false false true = rw (high_free (224 + c / 4096) (omega arith), high_free (128 + c / 64 % 64) (omega arith), high_free (128 + c % 64) (omega arith)) refl
-    by_tests false false false = rw (high_free (240 + c / 262144) (omega arith), high_free (128 + c / 4096 % 64) (omega arith), high_free (128 + c / 64 % 64) (omega arith), high_free (128 + c % 64) (omega arith)) refl
+    by_tests false false true =
+        rw (
+          high_free (224 + c / 4096) (omega arith),
+          high_free (128 + c / 64 % 64) (omega arith),
+          high_free (128 + c % 64) (omega arith),
+        ) refl
+    by_tests false false false =
+        rw (
+          high_free (240 + c / 262144) (omega arith),
+          high_free (128 + c / 4096 % 64) (omega arith),
+          high_free (128 + c / 64 % 64) (omega arith),
+          high_free (128 + c % 64) (omega arith),
+        ) refl
 
 run_again : (run : List ℕ) → list_all is_free run ≡ true → IsUtf8 run → run_at run ≡ Some run
 run_again run free u = rw (free, is_utf8-from_IsUtf8 run u) refl
@@ -115,24 +140,30 @@ run_again run free u = rw (free, is_utf8-from_IsUtf8 run u) refl
 run_longer : (c : ℕ) (run text : List ℕ) → IsBare c → run_at run ≡ Some text → run_at (encode_utf8 c ++ run) ≡ Some (encode_utf8 c ++ text)
 run_longer c run text h e =
     let r = run_takes run text e in
-    rw (r.0) (run_again (encode_utf8 c ++ run) (free_append (encode_utf8 c) run (encode_free c h) r.1) (IsUtf8-append (encode_utf8 c) run (IsUtf8-encode c h.scalar) r.2))
+    rw (r.0) (run_again (encode_utf8 c ++ run) (free_append (encode_utf8 c) run (encode_free c h) r.1)
+    (IsUtf8-append (encode_utf8 c) run (IsUtf8-encode c h.scalar) r.2))
 
-runs_of : (run digits : List ℕ) (more : List (List ℕ)) (r : List ℕ) (c : ℕ) (t : List ℕ) → run_at run ≡ Some r → escape_at digits ≡ Some c → runs_at more ≡ Some t → runs_at (run ∷ digits ∷ more) ≡ Some (r ++ encode_utf8 c ++ t)
+runs_of : (run digits : List ℕ) (more : List (List ℕ)) (r : List ℕ) (c : ℕ) (t : List ℕ) → run_at run ≡ Some r
+    → escape_at digits ≡ Some c → runs_at more ≡ Some t → runs_at (run ∷ digits ∷ more) ≡ Some (r ++ encode_utf8 c ++ t)
 runs_of run digits more r c t p q s = rw (p, q, s) refl
 
 four_parts : (a b c d : List ℕ) → a ++ b ++ c ++ d ≡ a ++ (b ++ c ++ d)
 four_parts a b c d = simp append_assoc
 
-runs_longer : (c : ℕ) (ps : List (List ℕ)) (text : List ℕ) → IsBare c → runs_at ps ≡ Some text → runs_at (with_prefix (encode_utf8 c) ps) ≡ Some (encode_utf8 c ++ text)
+runs_longer : (c : ℕ) (ps : List (List ℕ)) (text : List ℕ) → IsBare c → runs_at ps ≡ Some text
+    → runs_at (with_prefix (encode_utf8 c) ps) ≡ Some (encode_utf8 c ++ text)
 runs_longer c [] text h e = absurd cc
 runs_longer c (run ∷ []) text h e = run_longer c run text h e
 runs_longer c (run ∷ digits ∷ more) text h e =
-    let a = some_then (run_at run) (λ (r : List ℕ). and_then {A = ℕ} {B = List ℕ} (escape_at digits) (λ c. and_then {A = List ℕ} {B = List ℕ} (runs_at more) (λ t. Some (r ++ encode_utf8 c ++ t)))) text e in
+    let a = some_then (run_at run) (λ (r : List ℕ). and_then {A = ℕ} {B = List ℕ} (escape_at digits)
+    (λ c. and_then {A = List ℕ} {B = List ℕ} (runs_at more) (λ t. Some (r ++ encode_utf8 c ++ t)))) text e in
     let b = some_then (escape_at digits) (λ (c : ℕ). and_then {A = List ℕ} {B = List ℕ} (runs_at more) (λ t. Some (a.0 ++ encode_utf8 c ++ t))) text a.2 in
     let d = some_then (runs_at more) (λ (t : List ℕ). Some (a.0 ++ encode_utf8 b.0 ++ t)) text b.2 in
     let value : a.0 ++ encode_utf8 b.0 ++ d.0 ≡ text = same_Some (a.0 ++ encode_utf8 b.0 ++ d.0) text d.2 in
-    let regroup : encode_utf8 c ++ a.0 ++ encode_utf8 b.0 ++ d.0 ≡ encode_utf8 c ++ (a.0 ++ encode_utf8 b.0 ++ d.0) = four_parts (encode_utf8 c) a.0 (encode_utf8 b.0) d.0 in
-    runs_of (encode_utf8 c ++ run) digits more (encode_utf8 c ++ a.0) b.0 d.0 (run_longer c run a.0 h a.1) b.1 d.1 ∙ ap (λ (l : List ℕ). Some l) (regroup ∙ ap (λ (l : List ℕ). encode_utf8 c ++ l) value)
+    let regroup : encode_utf8 c ++ a.0 ++ encode_utf8 b.0 ++ d.0 ≡ encode_utf8 c ++ (a.0 ++ encode_utf8 b.0 ++ d.0) =
+    four_parts (encode_utf8 c) a.0 (encode_utf8 b.0) d.0 in
+    runs_of (encode_utf8 c ++ run) digits more (encode_utf8 c ++ a.0) b.0 d.0 (run_longer c run a.0 h a.1) b.1 d.1
+    ∙ ap (λ (l : List ℕ). Some l) (regroup ∙ ap (λ (l : List ℕ). encode_utf8 c ++ l) value)
 
 pub runs_again : (bytes text : List ℕ) → SpellsText bytes text → runs_at (pieces 37 bytes) ≡ Some text
 unfolding pieces
@@ -142,7 +173,12 @@ runs_again _ _ (bare c bytes text h rest) =
     let other : c ≢ 37 = λ e. let q : is_reserved 37 ≡ false = rw e at free in cc in
     rw (pieces-prefix 37 (encode_utf8 c) bytes (encode_lacks 37 c (lit< tt) other)) (runs_longer c (pieces 37 bytes) text h (runs_again bytes text rest))
 runs_again _ _ (escape digits c bytes text n rest) =
-    rw (pieces-more 37 digits bytes (digits_lack 16 37 digits (lit≤ tt) n.numeral.1), is_utf8-from_IsUtf8 [] IsUtf8-nil, escape_again digits c n, runs_again bytes text rest) refl
+    rw (
+      pieces-more 37 digits bytes (digits_lack 16 37 digits (lit≤ tt) n.numeral.1),
+      is_utf8-from_IsUtf8 [] IsUtf8-nil,
+      escape_again digits c n,
+      runs_again bytes text rest,
+    ) refl
 
 pub text_again : (bytes text : List ℕ) → SpellsText bytes text → IsText text → text_at bytes ≡ Some text
 unfolding text_at
@@ -163,4 +199,5 @@ text_lacks s _ _ r other far (bare c bytes text h rest) =
     both_ways true a b = cc
     both_ways false a b = cc
 text_lacks s _ _ r other far (escape digits c bytes text n rest) =
-    lacks_append s (37 ∷ digits) (37 ∷ bytes) (λ e. other (sym e), digits_lack 16 s digits far n.numeral.1) (λ e. other (sym e), text_lacks s bytes text r other far rest)
+    lacks_append s (37 ∷ digits) (37 ∷ bytes) (λ e. other (sym e), digits_lack 16 s digits far n.numeral.1)
+    (λ e. other (sym e), text_lacks s bytes text r other far rest)

@@ -1,5 +1,6 @@
 -- Runs of bare characters, and escapes.
-use Rattle.std.proofs.Common.{◌≡◌, ℕ, zero, suc, ◌+◌, ◌/◌, ◌%◌, ◌<◌, ◌≤◌, Bool, true, false, cond, ltb, leb, ◌&&◌, List, [], ◌∷◌, ◌++◌, ◌∙◌, length, Some, None, refl, sym, arith}
+use Rattle.std.proofs.Common.{◌≡◌, ℕ, zero, suc, ◌+◌, ◌/◌, ◌%◌, ◌<◌, ◌≤◌, Bool, true, false, cond, ltb, leb, ◌&&◌, List}
+use Rattle.std.proofs.Common.{[], ◌∷◌, ◌++◌, ◌∙◌, length, Some, None, refl, sym, arith}
 use Rattle.std.specs.Prelude.{Contains}
 use Rattle.std.specs.Str.{IsUtf8, is_utf8}
 use Rattle.std.specs.List.{list_all}
@@ -41,7 +42,10 @@ pub encode_lacks : (s c : ℕ) → s < 128 → c ≢ s → Lacks s (encode_utf8 
 unfolding encode_utf8
 encode_lacks s c small other = by_tests (ltb c 128) (ltb c 2048) (ltb c 65536)
   where
-    by_tests : (x y z : Bool) → Lacks s (cond x (c ∷ []) (cond y ((192 + c / 64) ∷ (128 + c % 64) ∷ []) (cond z ((224 + c / 4096) ∷ (128 + c / 64 % 64) ∷ (128 + c % 64) ∷ []) ((240 + c / 262144) ∷ (128 + c / 4096 % 64) ∷ (128 + c / 64 % 64) ∷ (128 + c % 64) ∷ []))))
+    by_tests : (x y z : Bool)
+        → Lacks s (cond x (c ∷ []) (cond y ((192 + c / 64) ∷ (128 + c % 64) ∷ [])
+        (cond z ((224 + c / 4096) ∷ (128 + c / 64 % 64) ∷ (128 + c % 64) ∷ [])
+        ((240 + c / 262144) ∷ (128 + c / 4096 % 64) ∷ (128 + c / 64 % 64) ∷ (128 + c % 64) ∷ []))))
     by_tests true y z = (other, tt)
     by_tests false true z = (λ e. omega arith, (λ e. omega arith, tt))
     by_tests false false true = (λ e. omega arith, (λ e. omega arith, (λ e. omega arith, tt)))
@@ -88,7 +92,14 @@ escape_takes digits c e =
 pub escape_again : (digits : List ℕ) (c : ℕ) → NamesChar digits c → escape_at digits ≡ Some c
 unfolding escape_at
 escape_again digits c h =
-    let read : digits_at 16 8 digits ≡ Some c = digits_again 16 8 digits c (record { all = all_from_each 16 digits h.numeral.1; some = h.numeral.0; short = h.short; value = h.value }) in
+    let read : digits_at 16 8 digits ≡ Some c =
+    digits_again 16 8 digits c (record {
+      all = all_from_each 16 digits h.numeral.1;
+      some = h.numeral.0;
+      short =
+          h.short;
+      value = h.value;
+    }) in
     let s : scalar c ≡ true = h.scalar in
     let other : c ≢ 0 = h.other in
     let t : (c == 0) ≡ false = grind (arith, nat_tests) in
@@ -104,7 +115,8 @@ runs_plain (run ∷ []) text e =
     let same : text ≡ run = r.0 in
     rw same (r.2, free_lacks 0 run refl r.1)
 runs_plain (run ∷ digits ∷ more) text e =
-    let a = some_then (run_at run) (λ (r : List ℕ). and_then {A = ℕ} {B = List ℕ} (escape_at digits) (λ c. and_then {A = List ℕ} {B = List ℕ} (runs_at more) (λ t. Some (r ++ encode_utf8 c ++ t)))) text e in
+    let a = some_then (run_at run) (λ (r : List ℕ). and_then {A = ℕ} {B = List ℕ} (escape_at digits)
+    (λ c. and_then {A = List ℕ} {B = List ℕ} (runs_at more) (λ t. Some (r ++ encode_utf8 c ++ t)))) text e in
     let b = some_then (escape_at digits) (λ (c : ℕ). and_then {A = List ℕ} {B = List ℕ} (runs_at more) (λ t. Some (a.0 ++ encode_utf8 c ++ t))) text a.2 in
     let d = some_then (runs_at more) (λ (t : List ℕ). Some (a.0 ++ encode_utf8 b.0 ++ t)) text b.2 in
     let r = run_takes run a.0 a.1 in

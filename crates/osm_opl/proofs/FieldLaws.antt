@@ -19,7 +19,8 @@ use Rattle.osm_opl.proofs.ListLaws.{kind_taken, kind_again}
 
 -- ---- fields
 
-pub field_takes : (letter : ℕ) (fields : List (List ℕ)) (content : List ℕ) (more : List (List ℕ)) → field_at letter fields ≡ Some (content, more) → fields ≡ (letter ∷ content) ∷ more
+pub field_takes : (letter : ℕ) (fields : List (List ℕ)) (content : List ℕ) (more : List (List ℕ))
+    → field_at letter fields ≡ Some (content, more) → fields ≡ (letter ∷ content) ∷ more
 unfolding field_at
 field_takes letter [] content more e = absurd cc
 field_takes letter ([] ∷ ps) content more e = absurd cc
@@ -68,7 +69,8 @@ unfolding key_at
 key_takes [] k e = absurd cc
 key_takes ([] ∷ more) k e = absurd cc
 key_takes ((b ∷ bs) ∷ more) k e =
-    let a = some_then (kind_at b) (λ (kind : Kind). and_then {A = ℤ} {B = Key × List (List ℕ)} (id_at bs) (λ id. Some (record { kind = kind; id = id }, more))) k e in
+    let a = some_then (kind_at b) (λ (kind : Kind). and_then {A = ℤ} {B = Key × List (List ℕ)} (id_at bs)
+    (λ id. Some (record { kind = kind; id = id }, more))) k e in
     let i = some_then (id_at bs) (λ (id : ℤ). Some (let x : Key × List (List ℕ) = (record { kind = a.0; id = id }, more) in x)) k a.2 in
     let made : Key × List (List ℕ) = (record { kind = a.0; id = i.0 }, more) in
     let t : TakesId bs i.0 = id_takes bs i.0 i.1 in
@@ -76,6 +78,7 @@ key_takes ((b ∷ bs) ∷ more) k e =
     let P : Key × List (List ℕ) → Type 0 = λ x. TakesKey ((b ∷ bs) ∷ more) x.0 x.1 in
     subst P (same_Some made k i.2) (record { text = bs; parts = ap (λ (x : ℕ). (x ∷ bs) ∷ more) letter; spells = t.spells; limits = t.limits })
 
-pub key_again : (kind : Kind) (id : ℤ) (text : List ℕ) (more : List (List ℕ)) → SpellsId text id → IsId id → key_at ((letter_of kind ∷ text) ∷ more) ≡ Some (record { kind = kind; id = id }, more)
+pub key_again : (kind : Kind) (id : ℤ) (text : List ℕ) (more : List (List ℕ)) → SpellsId text id → IsId id
+    → key_at ((letter_of kind ∷ text) ∷ more) ≡ Some (record { kind = kind; id = id }, more)
 unfolding key_at
 key_again kind id text more h limits = rw (kind_again kind, id_again text id h limits) refl

@@ -1,5 +1,6 @@
 -- What the lines of a file spell, and where they go wrong.
-use Rattle.std.proofs.Common.{◌≡◌, ℕ, suc, ◌+◌, ◌<◌, ◌≤◌, Bool, true, false, List, [], ◌∷◌, ◌++◌, length, Option, Some, None, refl, sym, ap, ◌∙◌, append_assoc, arith, inl, inr, ◌⊎◌}
+use Rattle.std.proofs.Common.{◌≡◌, ℕ, suc, ◌+◌, ◌<◌, ◌≤◌, Bool, true, false, List, [], ◌∷◌, ◌++◌, length, Option, Some}
+use Rattle.std.proofs.Common.{None, refl, sym, ap, ◌∙◌, append_assoc, arith, inl, inr, ◌⊎◌}
 use Rattle.std.specs.List.{AllByRecursion}
 use Rattle.std.proofs.lemmas.Bool.{cases_lt}
 use Rattle.std.proofs.lemmas.List.{append-nil, length-append}
@@ -62,7 +63,14 @@ lines_split (x ∷ xs) ys _ (skipped _ _ changes s p) =
     record { first = r.first; second = r.second; whole = r.whole; prefix = skipped x xs r.first s r.prefix; back = r.back }
 lines_split (x ∷ xs) ys _ (change _ _ c changes s h p) =
     let r = lines_split xs ys changes p in
-    record { first = c ∷ r.first; second = r.second; whole = ap (λ (l : List ChangeValue). c ∷ l) r.whole; prefix = change x xs c r.first s h r.prefix; back = r.back }
+    record {
+      first = c ∷ r.first;
+      second = r.second;
+      whole = ap (λ (l : List ChangeValue). c ∷ l) r.whole;
+      prefix =
+          change x xs c r.first s h r.prefix;
+      back = r.back;
+    }
 
 -- the first line of those that aren't skipped spells the first change
 pub record FirstLine (line : List ℕ) (lines : List (List ℕ)) (changes : List ChangeValue) : Type 0 where
@@ -71,7 +79,8 @@ pub record FirstLine (line : List ℕ) (lines : List (List ℕ)) (changes : List
   pub whole : changes ≡ change ∷ rest
   pub spells : SpellsLine line change
 
-pub first_line : (line : List ℕ) (lines : List (List ℕ)) (changes : List ChangeValue) → is_skipped line ≡ false → SpellsLines (line ∷ lines) changes → FirstLine line lines changes
+pub first_line : (line : List ℕ) (lines : List (List ℕ)) (changes : List ChangeValue) → is_skipped line ≡ false
+    → SpellsLines (line ∷ lines) changes → FirstLine line lines changes
 first_line line lines _ n (skipped _ _ changes s p) = absurd (both_ways (is_skipped line) s n)
 first_line line lines _ n (change _ _ c changes s h p) = record { change = c; rest = changes; whole = refl; spells = h }
 
@@ -100,7 +109,8 @@ head_same : {A : Type 0} (x y : A) (xs ys : List A) → x ∷ xs ≡ y ∷ ys �
 head_same x y xs ys e = (cc, cc)
 
 -- a line before a fault is no fault
-not_before : (n : ℕ) (line : List ℕ) (lines : List (List ℕ)) (a b : List ChangeValue) (other : List ℕ) → StopsAt n line [] → StopsAt n other b → SpellsLines (line ∷ lines) b → ⊥
+not_before : (n : ℕ) (line : List ℕ) (lines : List (List ℕ)) (a b : List ChangeValue) (other : List ℕ)
+    → StopsAt n line [] → StopsAt n other b → SpellsLines (line ∷ lines) b → ⊥
 not_before n line lines a _ other s t (skipped _ _ b k p) = both_ways (is_skipped line) k s.counts
 not_before n line lines a _ other s t (change _ _ c b k h p) = let few : n + suc (length b) ≤ max_changes = t.few in s.fault c h (omega arith)
 
@@ -111,7 +121,9 @@ shifted n line c changes s = record {
   fault = λ d h lt. s.fault d h (omega (arith, lt));
 }
 
-one_stop : (n : ℕ) (before other : List (List ℕ)) (line last : List ℕ) (after more : List (List ℕ)) (a b : List ChangeValue) → before ++ line ∷ after ≡ other ++ last ∷ more → SpellsLines before a → SpellsLines other b → StopsAt n line a → StopsAt n last b → length before ≡ length other
+one_stop : (n : ℕ) (before other : List (List ℕ)) (line last : List ℕ) (after more : List (List ℕ))
+    (a b : List ChangeValue) → before ++ line ∷ after ≡ other ++ last ∷ more → SpellsLines before a
+    → SpellsLines other b → StopsAt n line a → StopsAt n last b → length before ≡ length other
 one_stop n [] [] line last after more a b e p q s t = refl
 one_stop n [] (y ∷ ys) line last after more a b e p q s t =
     let h = head_same line y after (ys ++ last ∷ more) e in
@@ -150,7 +162,8 @@ stops bytes place f = record {
 -- a fault has one place
 pub one_place : (bytes : List ℕ) (a b : ℕ) → FaultLine bytes a → FaultLine bytes b → a ≡ b
 one_place bytes a b f g =
-    let n : length f.before ≡ length g.before = one_stop 0 f.before g.before f.line g.line f.after g.after f.changes g.changes (sym f.parts ∙ g.parts) f.spelled g.spelled (stops bytes a f) (stops bytes b g) in
+    let n : length f.before ≡ length g.before = one_stop 0 f.before g.before f.line g.line f.after g.after f.changes
+    g.changes (sym f.parts ∙ g.parts) f.spelled g.spelled (stops bytes a f) (stops bytes b g) in
     let x : a ≡ length f.before + 1 = f.number in
     let y : b ≡ length g.before + 1 = g.number in
     omega arith
@@ -167,11 +180,14 @@ pub record LinesRead (bytes : List ℕ) (left : List (List ℕ)) (changes : List
 pub lines_begun : (bytes : List ℕ) → LinesRead bytes (lines_of bytes) [] 0
 lines_begun bytes = record { before = []; parts = refl; number = refl; spelled = none; few = omega arith }
 
-added : (before : List (List ℕ)) (line : List ℕ) (changes new : List ChangeValue) → SpellsLines before changes → AddsLine line changes new → SpellsLines (before ++ line ∷ []) new
+added : (before : List (List ℕ)) (line : List ℕ) (changes new : List ChangeValue) → SpellsLines before changes
+    → AddsLine line changes new → SpellsLines (before ++ line ∷ []) new
 added before line changes _ p (answers.skipped _ _ s) = rw (← append-nil changes) (lines_append before (line ∷ []) changes [] p (skipped line [] [] s none))
 added before line changes _ p (answers.change _ _ c s h) = lines_append before (line ∷ []) changes (c ∷ []) p (change line [] c [] s h none)
 
-pub line_added : (bytes : List ℕ) (left more : List (List ℕ)) (line : List ℕ) (changes new : List ChangeValue) (place : ℕ) → LinesRead bytes left changes place → left ≡ line ∷ more → AddsLine line changes new → length new ≤ max_changes → LinesRead bytes more new (place + 1)
+pub line_added : (bytes : List ℕ) (left more : List (List ℕ)) (line : List ℕ) (changes new : List ChangeValue)
+    (place : ℕ) → LinesRead bytes left changes place → left ≡ line ∷ more → AddsLine line changes new
+    → length new ≤ max_changes → LinesRead bytes more new (place + 1)
 line_added bytes left more line changes new place h e add few =
     let n : place ≡ length h.before = h.number in
     let l : length (h.before ++ line ∷ []) ≡ length h.before + 1 = length-append h.before (line ∷ []) in
@@ -183,12 +199,15 @@ line_added bytes left more line changes new place h e add few =
       few = few;
     }
 
-pub lines_done : (bytes : List ℕ) (left : List (List ℕ)) (changes : List ChangeValue) (place : ℕ) → LinesRead bytes left changes place → left ≡ [] → SpellsOpl bytes changes
+pub lines_done : (bytes : List ℕ) (left : List (List ℕ)) (changes : List ChangeValue) (place : ℕ)
+    → LinesRead bytes left changes place → left ≡ [] → SpellsOpl bytes changes
 lines_done bytes left changes place h e =
     let whole : lines_of bytes ≡ h.before = h.parts ∙ ap (λ (x : List (List ℕ)). h.before ++ x) e ∙ append-nil h.before in
     record { lines = rw whole h.spelled; limits = record { few = h.few; each = lines_limits h.before changes h.spelled } }
 
-stop_fault : (bytes : List ℕ) (more : List (List ℕ)) (line : List ℕ) (changes : List ChangeValue) (place : ℕ) → LinesRead bytes (line ∷ more) changes place → is_skipped line ≡ false → ((c : ChangeValue) → SpellsLine line c → length changes < max_changes → ⊥) → FaultLine bytes (place + 1)
+stop_fault : (bytes : List ℕ) (more : List (List ℕ)) (line : List ℕ) (changes : List ChangeValue) (place : ℕ)
+    → LinesRead bytes (line ∷ more) changes place → is_skipped line ≡ false → ((c : ChangeValue) → SpellsLine line c
+    → length changes < max_changes → ⊥) → FaultLine bytes (place + 1)
 stop_fault bytes more line changes place h counts fault = record {
   before = h.before;
   line = line;
@@ -202,7 +221,8 @@ stop_fault bytes more line changes place h counts fault = record {
   fault = fault;
 }
 
-not_empty : (bytes : List ℕ) (more : List (List ℕ)) (line : List ℕ) (changes : List ChangeValue) (place : ℕ) → LinesRead bytes (line ∷ more) changes place → is_skipped line ≡ false → SpellsOpl bytes [] → ⊥
+not_empty : (bytes : List ℕ) (more : List (List ℕ)) (line : List ℕ) (changes : List ChangeValue) (place : ℕ)
+    → LinesRead bytes (line ∷ more) changes place → is_skipped line ≡ false → SpellsOpl bytes [] → ⊥
 not_empty bytes more line changes place h counts s =
     let g : SpellsLines (h.before ++ line ∷ more) [] = rw h.parts at s.lines in
     let split = lines_split h.before (line ∷ more) [] g in
@@ -212,7 +232,9 @@ not_empty bytes more line changes place h counts s =
     omega (arith, n, m)
 
 -- reading that stops at a line is refused as the form says
-pub line_stops : (bytes : List ℕ) (left more : List (List ℕ)) (line : List ℕ) (changes : List ChangeValue) (place : ℕ) (error : FormError) → length bytes ≤ max_file → LinesRead bytes left changes place → left ≡ line ∷ more → LineStops line (place + 1) changes error → ReadRefused SpellsOpl FaultLine bytes error
+pub line_stops : (bytes : List ℕ) (left more : List (List ℕ)) (line : List ℕ) (changes : List ChangeValue) (place : ℕ)
+    (error : FormError) → length bytes ≤ max_file → LinesRead bytes left changes place → left ≡ line ∷ more
+    → LineStops line (place + 1) changes error → ReadRefused SpellsOpl FaultLine bytes error
 line_stops bytes left more line changes place WantOfMemory small read e stop =
     (small, not_empty bytes more line changes place (rw e at read) stop)
 line_stops bytes left more line changes place TooLarge small read e stop = absurd stop
@@ -223,21 +245,33 @@ line_stops bytes left more line changes place (Fault p why) small read e stop =
 
 -- ---- either a batch or a fault
 
-pub found : (bytes : List ℕ) (left : List (List ℕ)) (changes : List ChangeValue) (place : ℕ) → LinesRead bytes left changes place → ((batch : List ChangeValue) × SpellsOpl bytes batch) ⊎ ((p : ℕ) × FaultLine bytes p)
+pub found : (bytes : List ℕ) (left : List (List ℕ)) (changes : List ChangeValue) (place : ℕ)
+    → LinesRead bytes left changes place → ((batch : List ChangeValue) × SpellsOpl bytes batch)
+    ⊎ ((p : ℕ) × FaultLine bytes p)
 found bytes [] changes place h = inl (changes, lines_done bytes [] changes place h refl)
 found bytes (line ∷ more) changes place h = by_skip (λ new r. found bytes more new (place + 1) r) (is_skipped line) refl
   where
-    by_line : ((new : List ChangeValue) → LinesRead bytes more new (place + 1) → ((batch : List ChangeValue) × SpellsOpl bytes batch) ⊎ ((p : ℕ) × FaultLine bytes p)) → is_skipped line ≡ false → (r : Option ChangeValue) → line_at line ≡ r → ((batch : List ChangeValue) × SpellsOpl bytes batch) ⊎ ((p : ℕ) × FaultLine bytes p)
-    by_line go s None e = inr (place + 1, stop_fault bytes more line changes place h s (λ c l lt. let f = line_again line c l in let z : None ≡ Some c = sym e ∙ f in absurd cc))
+    by_line : ((new : List ChangeValue) → LinesRead bytes more new (place + 1)
+        → ((batch : List ChangeValue) × SpellsOpl bytes batch) ⊎ ((p : ℕ) × FaultLine bytes p))
+        → is_skipped line ≡ false → (r : Option ChangeValue) → line_at line ≡ r
+        → ((batch : List ChangeValue) × SpellsOpl bytes batch) ⊎ ((p : ℕ) × FaultLine bytes p)
+    by_line go s None e = inr (
+      place + 1,
+      stop_fault bytes more line changes place h s (λ c l lt.
+          let f = line_again line c l in let z : None ≡ Some c = sym e ∙ f in absurd cc),
+    )
     by_line go s (Some c) e =
         elim (cases_lt (length changes) max_changes) [
           | inl lt ↦
               let l : length (changes ++ c ∷ []) ≡ length changes + 1 = length-append changes (c ∷ []) in
-              go (changes ++ c ∷ []) (line_added bytes (line ∷ more) more line changes (changes ++ c ∷ []) place h refl (answers.change line changes c s (line_takes line c e)) (omega arith))
+              go (changes ++ c ∷ []) (line_added bytes (line ∷ more) more line changes (changes ++ c ∷ []) place h refl
+              (answers.change line changes c s (line_takes line c e)) (omega arith))
           | inr ge ↦ inr (place + 1, stop_fault bytes more line changes place h s (λ d l lt. omega (arith, lt, ge)))
         ]
 
-    by_skip : ((new : List ChangeValue) → LinesRead bytes more new (place + 1) → ((batch : List ChangeValue) × SpellsOpl bytes batch) ⊎ ((p : ℕ) × FaultLine bytes p)) → (s : Bool) → is_skipped line ≡ s → ((batch : List ChangeValue) × SpellsOpl bytes batch) ⊎ ((p : ℕ) × FaultLine bytes p)
+    by_skip : ((new : List ChangeValue) → LinesRead bytes more new (place + 1)
+        → ((batch : List ChangeValue) × SpellsOpl bytes batch) ⊎ ((p : ℕ) × FaultLine bytes p)) → (s : Bool)
+        → is_skipped line ≡ s → ((batch : List ChangeValue) × SpellsOpl bytes batch) ⊎ ((p : ℕ) × FaultLine bytes p)
     by_skip go true e = go changes (line_added bytes (line ∷ more) more line changes changes place h refl (answers.skipped line changes e) h.few)
     by_skip go false e = by_line go e (line_at line) refl
 

@@ -1,5 +1,6 @@
 -- The decimals of a coordinate are the digits of a number that has a 1 before them.
-use Rattle.std.proofs.Common.{◌≡◌, ℕ, zero, suc, ◌+◌, ◌*◌, ◌/◌, ◌%◌, ◌^◌, ◌<◌, ◌≤◌, true, false, List, [], ◌∷◌, ◌++◌, drop, inl, inr, refl, sym, ap, ◌∙◌, arith, lit<}
+use Rattle.std.proofs.Common.{◌≡◌, ℕ, zero, suc, ◌+◌, ◌*◌, ◌/◌, ◌%◌, ◌^◌, ◌<◌, ◌≤◌, true, false, List, [], ◌∷◌, ◌++◌}
+use Rattle.std.proofs.Common.{drop, inl, inr, refl, sym, ap, ◌∙◌, arith, lit<}
 use Rattle.std.specs.Prelude.{◌==◌}
 use Rattle.std.proofs.lemmas.Bool.{cases_lt}
 use Rattle.std.proofs.lemmas.Bool.Decides.{nat_tests}
@@ -27,10 +28,42 @@ moves : (k n : ℕ) → k ≤ 6 → Moves k n
 moves zero n h = record { over = omega arith; back = omega arith; last = omega arith; up = omega arith; rest = omega arith; below = omega arith }
 moves (suc zero) n h = record { over = omega arith; back = omega arith; last = omega arith; up = omega arith; rest = omega arith; below = omega arith }
 moves (suc (suc zero)) n h = record { over = omega arith; back = omega arith; last = omega arith; up = omega arith; rest = omega arith; below = omega arith }
-moves (suc (suc (suc zero))) n h = record { over = omega arith; back = omega arith; last = omega arith; up = omega arith; rest = omega arith; below = omega arith }
-moves (suc (suc (suc (suc zero)))) n h = record { over = omega arith; back = omega arith; last = omega arith; up = omega arith; rest = omega arith; below = omega arith }
-moves (suc (suc (suc (suc (suc zero))))) n h = record { over = omega arith; back = omega arith; last = omega arith; up = omega arith; rest = omega arith; below = omega arith }
-moves (suc (suc (suc (suc (suc (suc zero)))))) n h = record { over = omega arith; back = omega arith; last = omega arith; up = omega arith; rest = omega arith; below = omega arith }
+moves (suc (suc (suc zero))) n h = record {
+  over = omega arith;
+  back = omega arith;
+  last = omega arith;
+  up =
+      omega arith;
+  rest = omega arith;
+  below = omega arith;
+}
+moves (suc (suc (suc (suc zero)))) n h = record {
+  over = omega arith;
+  back = omega arith;
+  last = omega arith;
+  up =
+      omega arith;
+  rest = omega arith;
+  below = omega arith;
+}
+moves (suc (suc (suc (suc (suc zero))))) n h = record {
+  over = omega arith;
+  back = omega arith;
+  last = omega arith;
+  up =
+      omega arith;
+  rest = omega arith;
+  below = omega arith;
+}
+moves (suc (suc (suc (suc (suc (suc zero)))))) n h = record {
+  over = omega arith;
+  back = omega arith;
+  last =
+      omega arith;
+  up = omega arith;
+  rest = omega arith;
+  below = omega arith;
+}
 moves (suc (suc (suc (suc (suc (suc (suc k))))))) n h = absurd (omega arith)
 
 -- the digits of a number that has a 1 before them
@@ -39,11 +72,13 @@ after_one zero n le h = let z : n < 1 = h in let e : 10 ^ 0 + n ≡ 1 = omega ar
 after_one (suc k) n le h =
     let some : 1 ≤ 10 ^ k = one-le-pow k 10 (lit< tt) in
     let most : 10 ^ k ≤ 10 ^ 6 = pow-le-pow_right {n = 10} (lit< tt) {i = k} {j = 6} (omega arith) in
-    let step : decimal (10 ^ suc k + n) ≡ decimal ((10 ^ suc k + n) / 10) ++ ((48 + (10 ^ suc k + n) % 10) ∷ []) = decimal_step (10 ^ suc k + n) (omega arith) (omega arith) in
+    let step : decimal (10 ^ suc k + n) ≡ decimal ((10 ^ suc k + n) / 10) ++ ((48 + (10 ^ suc k + n) % 10) ∷ []) =
+    decimal_step (10 ^ suc k + n) (omega arith) (omega arith) in
     let front : (10 ^ suc k + n) / 10 ≡ 10 ^ k + n / 10 = omega arith in
     let last : (10 ^ suc k + n) % 10 ≡ n % 10 = omega arith in
     let inner : decimal (10 ^ k + n / 10) ≡ 49 ∷ padded k (n / 10) = after_one k (n / 10) (omega arith) (omega arith) in
-    step ∙ ap (λ (d : ℕ). decimal ((10 ^ suc k + n) / 10) ++ ((48 + d) ∷ [])) last ∙ ap (λ (m : ℕ). decimal m ++ ((48 + n % 10) ∷ [])) front ∙ ap (λ (l : List ℕ). l ++ ((48 + n % 10) ∷ [])) inner
+    step ∙ ap (λ (d : ℕ). decimal ((10 ^ suc k + n) / 10) ++ ((48 + d) ∷ [])) last
+    ∙ ap (λ (m : ℕ). decimal m ++ ((48 + n % 10) ∷ [])) front ∙ ap (λ (l : List ℕ). l ++ ((48 + n % 10) ∷ [])) inner
 
 -- the first digit and the others
 first_padded : (k n : ℕ) → k ≤ 6 → n < 10 ^ suc k → padded (suc k) n ≡ (48 + n / 10 ^ k) ∷ padded k (n % 10 ^ k)
@@ -69,7 +104,8 @@ all_decimals (suc (suc k)) n le h some =
     let test : (n == 0) ≡ false = grind (arith, nat_tests) in
     let m : Moves k n = moves k n (omega arith) in
     let o : Moves (suc k) n = moves (suc k) n (omega arith) in
-    let inner : decimals (suc k) (n % 10 ^ suc k) ≡ padded (suc k) (n % 10 ^ suc k) = all_decimals (suc k) (n % 10 ^ suc k) (omega arith) o.below (omega (arith, m.last)) in
+    let inner : decimals (suc k) (n % 10 ^ suc k) ≡ padded (suc k) (n % 10 ^ suc k) =
+    all_decimals (suc k) (n % 10 ^ suc k) (omega arith) o.below (omega (arith, m.last)) in
     let step : decimals (suc (suc k)) n ≡ (48 + n / 10 ^ suc k) ∷ decimals (suc k) (n % 10 ^ suc k) = rw test refl in
     step ∙ ap (λ (l : List ℕ). (48 + n / 10 ^ suc k) ∷ l) inner ∙ sym (first_padded (suc k) n (omega arith) h)
 
@@ -117,7 +153,8 @@ strip_begun part some h = record { places = 7; rest = part; few = omega arith; s
 pub strip_more : (part number : ℕ) → Stripped part number → number % 10 ≡ 0 → Stripped part (number / 10)
 strip_more part number h e = strip h.places h.rest h.few h.some h.below h.is h.same
   where
-    strip : (places rest : ℕ) → places ≤ 7 → 0 < rest → rest < 10 ^ places → number ≡ 10 ^ places + rest → decimals places rest ≡ decimals 7 part → Stripped part (number / 10)
+    strip : (places rest : ℕ) → places ≤ 7 → 0 < rest → rest < 10 ^ places → number ≡ 10 ^ places + rest
+        → decimals places rest ≡ decimals 7 part → Stripped part (number / 10)
     strip zero rest few some below is same = absurd (let z : rest < 1 = below in omega arith)
     strip (suc k) rest few some below is same =
         let zero_last : rest % 10 ≡ 0 = omega arith in
@@ -136,7 +173,8 @@ strip_more part number h e = strip h.places h.rest h.few h.some h.below h.is h.s
 pub strip_done : (part number : ℕ) → Stripped part number → 0 < number % 10 → decimal number ≡ 49 ∷ decimals 7 part
 strip_done part number h some = strip h.places h.rest h.few h.some h.below h.is h.same
   where
-    strip : (places rest : ℕ) → places ≤ 7 → 0 < rest → rest < 10 ^ places → number ≡ 10 ^ places + rest → decimals places rest ≡ decimals 7 part → decimal number ≡ 49 ∷ decimals 7 part
+    strip : (places rest : ℕ) → places ≤ 7 → 0 < rest → rest < 10 ^ places → number ≡ 10 ^ places + rest
+        → decimals places rest ≡ decimals 7 part → decimal number ≡ 49 ∷ decimals 7 part
     strip zero rest few some below is same = absurd (let z : rest < 1 = below in omega arith)
     strip (suc k) rest few more below is same =
         let last : 0 < rest % 10 = omega arith in

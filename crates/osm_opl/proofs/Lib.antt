@@ -15,6 +15,7 @@ pub mod LineLaws
 pub mod FileLaws
 pub mod FractionLemmas
 pub mod WrittenLemmas
+pub mod RoomLemmas
 pub mod WrittenNumbers
 pub mod WrittenTexts
 pub mod WrittenLists

@@ -1,5 +1,6 @@
 -- Items one at a time.
-use Rattle.std.proofs.Common.{◌≡◌, ℕ, suc, ◌+◌, ◌<◌, ◌≤◌, true, false, cond, leb, List, [], ◌∷◌, ◌++◌, length, Option, Some, None, refl, sym, ap, ◌∙◌, arith, append_assoc}
+use Rattle.std.proofs.Common.{◌≡◌, ℕ, suc, ◌+◌, ◌<◌, ◌≤◌, true, false, cond, leb, List, [], ◌∷◌, ◌++◌, length, Option}
+use Rattle.std.proofs.Common.{Some, None, refl, sym, ap, ◌∙◌, arith, append_assoc}
 use Rattle.std.proofs.lemmas.Bool.Decides.{nat_tests}
 use Rattle.std.proofs.lemmas.List.{append-nil, length-append}
 use Rattle.std.proofs.lemmas.Option.{same_Some, some_pair_parts}
@@ -37,7 +38,8 @@ pub record ListRead {X : Type 0} (read : List ℕ → Option X) (all rest : List
 pub list_begun : {X : Type 0} (read : List ℕ → Option X) (all : List (List ℕ)) → ListRead read all all []
 list_begun read all = record { same = sym (put_before-nothing (each_at read all)); count = omega arith }
 
-pub item_read : {X : Type 0} (read : List ℕ → Option X) (all left ps : List (List ℕ)) (items : List X) (p : List ℕ) (x : X) → ListRead read all left items → left ≡ p ∷ ps → read p ≡ Some x → ListRead read all ps (items ++ x ∷ [])
+pub item_read : {X : Type 0} (read : List ℕ → Option X) (all left ps : List (List ℕ)) (items : List X) (p : List ℕ)
+    (x : X) → ListRead read all left items → left ≡ p ∷ ps → read p ≡ Some x → ListRead read all ps (items ++ x ∷ [])
 item_read {X} read all left ps items p x before is e =
     let h : ListRead read all (p ∷ ps) items = rw is at before in
     let step : each_at read (p ∷ ps) ≡ and_then (each_at read ps) (λ ys. Some (x ∷ ys)) = rw e refl in
@@ -46,7 +48,8 @@ item_read {X} read all left ps items p x before is e =
     record { same = h.same ∙ ap (put_before items) step ∙ put_before-bind items x (each_at read ps); count = omega arith }
 
 -- the item of the first piece
-pub item_first : {X : Type 0} (read : List ℕ → Option X) (all left ps : List (List ℕ)) (items : List X) (x : X) → ListRead read all left items → first_at read left ≡ Some (x, ps) → ListRead read all ps (items ++ x ∷ [])
+pub item_first : {X : Type 0} (read : List ℕ → Option X) (all left ps : List (List ℕ)) (items : List X) (x : X)
+    → ListRead read all left items → first_at read left ≡ Some (x, ps) → ListRead read all ps (items ++ x ∷ [])
 item_first read all [] ps items x before e = absurd cc
 item_first {X} read all (p ∷ qs) ps items x before e =
     let a = some_then (read p) (λ (y : X). Some (let pair : X × List (List ℕ) = (y, qs) in pair)) (x, ps) e in
@@ -67,7 +70,8 @@ each_length {X} read (p ∷ ps) xs e =
     rw (← same) (omega arith)
 
 -- a list whose items are all read
-pub list_read : {X : Type 0} (read : List ℕ → Option X) (most : ℕ) (bytes : List ℕ) (items : List X) → ListRead read (list_pieces bytes) [] items → length items ≤ most → list_at read most bytes ≡ Some items
+pub list_read : {X : Type 0} (read : List ℕ → Option X) (most : ℕ) (bytes : List ℕ) (items : List X)
+    → ListRead read (list_pieces bytes) [] items → length items ≤ most → list_at read most bytes ≡ Some items
 unfolding list_at
 list_read read most bytes items h short =
     let whole : each_at read (list_pieces bytes) ≡ Some items = h.same ∙ ap (λ (l : List _). Some l) (append-nil items) in
@@ -75,7 +79,9 @@ list_read read most bytes items h short =
     rw (whole, t) refl
 
 -- an item that can't be read
-pub item_unread : {X : Type 0} (read : List ℕ → Option X) (most : ℕ) (bytes : List ℕ) (left ps : List (List ℕ)) (items : List X) (p : List ℕ) → ListRead read (list_pieces bytes) left items → left ≡ p ∷ ps → read p ≡ None → list_at read most bytes ≡ None
+pub item_unread : {X : Type 0} (read : List ℕ → Option X) (most : ℕ) (bytes : List ℕ) (left ps : List (List ℕ))
+    (items : List X) (p : List ℕ) → ListRead read (list_pieces bytes) left items → left ≡ p ∷ ps → read p ≡ None
+    → list_at read most bytes ≡ None
 unfolding list_at
 item_unread read most bytes left ps items p before is e =
     let h : ListRead read (list_pieces bytes) (p ∷ ps) items = rw is at before in
@@ -83,19 +89,27 @@ item_unread read most bytes left ps items p before is e =
     let fails : each_at read (list_pieces bytes) ≡ None = h.same ∙ put_before-none items (each_at read (p ∷ ps)) step in
     rw fails refl
 
-pub first_unread : {X : Type 0} (read : List ℕ → Option X) (most : ℕ) (bytes : List ℕ) (left : List (List ℕ)) (items : List X) → ListRead read (list_pieces bytes) left items → 1 ≤ length left → first_at read left ≡ None → list_at read most bytes ≡ None
+pub first_unread : {X : Type 0} (read : List ℕ → Option X) (most : ℕ) (bytes : List ℕ) (left : List (List ℕ))
+    (items : List X) → ListRead read (list_pieces bytes) left items → 1 ≤ length left → first_at read left ≡ None
+    → list_at read most bytes ≡ None
 first_unread read most bytes [] items before some e = absurd (omega arith)
 first_unread {X} read most bytes (p ∷ ps) items before some e =
     item_unread read most bytes (p ∷ ps) ps items p before refl (none_then (read p) (λ (x : X). let pair : X × List (List ℕ) = (x, ps) in pair) e)
 
-pub item_fails : {X : Type 0} (read : List ℕ → Option X) (most : ℕ) (bytes : List ℕ) (error : Refusal) (left ps : List (List ℕ)) (items : List X) (p : List ℕ) → ListRead read (list_pieces bytes) left items → left ≡ p ∷ ps → Fails error (read p) → Fails error (list_at read most bytes)
+pub item_fails : {X : Type 0} (read : List ℕ → Option X) (most : ℕ) (bytes : List ℕ) (error : Refusal)
+    (left ps : List (List ℕ)) (items : List X) (p : List ℕ) → ListRead read (list_pieces bytes) left items
+    → left ≡ p ∷ ps → Fails error (read p) → Fails error (list_at read most bytes)
 item_fails read most bytes WantOfMemory left ps items p before is e = tt
 item_fails read most bytes (Fault why) left ps items p before is e = item_unread read most bytes left ps items p before is e
 
 -- one item too many
-pub item_too_many : {X : Type 0} (read : List ℕ → Option X) (most : ℕ) (bytes : List ℕ) (left : List (List ℕ)) (items : List X) → ListRead read (list_pieces bytes) left items → 1 ≤ length left → most ≤ length items → list_at read most bytes ≡ None
+pub item_too_many : {X : Type 0} (read : List ℕ → Option X) (most : ℕ) (bytes : List ℕ) (left : List (List ℕ))
+    (items : List X) → ListRead read (list_pieces bytes) left items → 1 ≤ length left → most ≤ length items
+    → list_at read most bytes ≡ None
 unfolding list_at
-item_too_many {X} read most bytes left items h more long = by_option (each_at read (list_pieces bytes)) (λ xs e. let n : length xs ≡ length (list_pieces bytes) = each_length read (list_pieces bytes) xs e in let m : length (list_pieces bytes) ≡ length items + length left = h.count in omega arith)
+item_too_many {X} read most bytes left items h more long = by_option (each_at read (list_pieces bytes)) (λ xs e.
+    let n : length xs ≡ length (list_pieces bytes) = each_length read (list_pieces bytes) xs e in
+    let m : length (list_pieces bytes) ≡ length items + length left = h.count in omega arith)
   where
     by_option : (r : Option (List X)) → ((xs : List X) → r ≡ Some xs → most < length xs) → and_then r (λ xs. cond (leb (length xs) most) (Some xs) None) ≡ None
     by_option None f = refl
@@ -108,7 +122,10 @@ run_bound xs run None = refl
 run_bound xs run (Some t) = ap (λ (l : List ℕ). Some l) (sym (append_assoc xs run t))
 
 -- one more run and escape
-pub run_read : (before run after text next : List ℕ) (left more : List (List ℕ)) (digits : List ℕ) (c : ℕ) (whole : Option (List ℕ)) → whole ≡ put_before before (runs_at left) → left ≡ run ∷ digits ∷ more → run_at run ≡ Some after → escape_at digits ≡ Some c → text ≡ before ++ after → next ≡ text ++ encode_utf8 c → whole ≡ put_before next (runs_at more)
+pub run_read : (before run after text next : List ℕ) (left more : List (List ℕ)) (digits : List ℕ) (c : ℕ)
+    (whole : Option (List ℕ)) → whole ≡ put_before before (runs_at left) → left ≡ run ∷ digits ∷ more
+    → run_at run ≡ Some after → escape_at digits ≡ Some c → text ≡ before ++ after → next ≡ text ++ encode_utf8 c
+    → whole ≡ put_before next (runs_at more)
 run_read before run after text next left more digits c whole e is r d t n =
     let step : runs_at (run ∷ digits ∷ more) ≡ and_then (runs_at more) (λ t. Some (after ++ encode_utf8 c ++ t)) = rw (r, d) refl in
     let joined : (after ++ encode_utf8 c) ≡ (after ++ encode_utf8 c) = refl in
@@ -132,7 +149,8 @@ run_first run r (digits ∷ more) e =
     let p = by_parts (escape_at digits) (runs_at more) in
     (p.0, step ∙ p.1)
   where
-    by_parts : (c : Option ℕ) (t : Option (List ℕ)) → (rest : Option (List ℕ)) × (and_then c (λ c. and_then t (λ t. Some (r ++ encode_utf8 c ++ t))) ≡ put_before r rest)
+    by_parts : (c : Option ℕ) (t : Option (List ℕ)) → (rest : Option (List ℕ))
+        × (and_then c (λ c. and_then t (λ t. Some (r ++ encode_utf8 c ++ t))) ≡ put_before r rest)
     by_parts None t = (None, refl)
     by_parts (Some c) None = (None, refl)
     by_parts (Some c) (Some t) = (Some (encode_utf8 c ++ t), ap (λ (l : List ℕ). Some l) (append_assoc r (encode_utf8 c) t))
@@ -145,18 +163,22 @@ text_long bytes start (Some t) e l =
     let t : leb (length (start ++ t)) 1020 ≡ false = grind (arith, nat_tests, length-append {A = ℕ}) in
     rw (e, t) refl
 
-pub text_none : (bytes start : List ℕ) (left : List (List ℕ)) → runs_at (pieces 37 bytes) ≡ put_before start (runs_at left) → runs_at left ≡ None → text_at bytes ≡ None
+pub text_none : (bytes start : List ℕ) (left : List (List ℕ)) → runs_at (pieces 37 bytes) ≡ put_before start
+    (runs_at left) → runs_at left ≡ None → text_at bytes ≡ None
 unfolding text_at
 text_none bytes start left e n = rw (e, n) refl
 
-pub text_whole : (bytes start text run r : List ℕ) (left : List (List ℕ)) → runs_at (pieces 37 bytes) ≡ put_before start (runs_at left) → left ≡ run ∷ [] → run_at run ≡ Some r → text ≡ start ++ r → length text ≤ 1020 → text_at bytes ≡ Some text
+pub text_whole : (bytes start text run r : List ℕ) (left : List (List ℕ)) → runs_at (pieces 37 bytes) ≡ put_before start
+    (runs_at left) → left ≡ run ∷ [] → run_at run ≡ Some r → text ≡ start ++ r → length text ≤ 1020
+    → text_at bytes ≡ Some text
 unfolding text_at
 text_whole bytes start text run r left e only is t short =
     let f : leb (length (start ++ r)) 1020 ≡ true = rw t at (let f : leb (length text) 1020 ≡ true = grind (arith, nat_tests) in f) in
     rw (e, only, is, f, t) refl
 
 -- a run that can't be read, and one that passes the limit
-pub run_none : (bytes start run : List ℕ) (left ps : List (List ℕ)) → runs_at (pieces 37 bytes) ≡ put_before start (runs_at left) → left ≡ run ∷ ps → run_at run ≡ None → text_at bytes ≡ None
+pub run_none : (bytes start run : List ℕ) (left ps : List (List ℕ)) → runs_at (pieces 37 bytes) ≡ put_before start
+    (runs_at left) → left ≡ run ∷ ps → run_at run ≡ None → text_at bytes ≡ None
 run_none bytes start run left ps e is none = text_none bytes start left e (rw is (by_rest ps))
   where
     by_rest : (ps : List (List ℕ)) → runs_at (run ∷ ps) ≡ None
@@ -164,15 +186,20 @@ run_none bytes start run left ps e is none = text_none bytes start left e (rw is
     by_rest (digits ∷ []) = rw none refl
     by_rest (digits ∷ p ∷ more) = rw none refl
 
-pub run_long : (bytes start run r : List ℕ) (left ps : List (List ℕ)) (error : Refusal) → runs_at (pieces 37 bytes) ≡ put_before start (runs_at left) → left ≡ run ∷ ps → run_at run ≡ Some r → PassesLimit (start ++ r) error → Fails error (text_at bytes)
+pub run_long : (bytes start run r : List ℕ) (left ps : List (List ℕ)) (error : Refusal) → runs_at (pieces 37 bytes) ≡
+    put_before start (runs_at left) → left ≡ run ∷ ps → run_at run ≡ Some r → PassesLimit (start ++ r) error
+    → Fails error (text_at bytes)
 run_long bytes start run r left ps WantOfMemory e is read long = tt
 run_long bytes start run r left ps (Fault why) e is read long =
     let f = run_first run r ps read in
-    let whole : runs_at (pieces 37 bytes) ≡ put_before (start ++ r) f.0 = e ∙ ap (λ (l : List (List ℕ)). put_before start (runs_at l)) is ∙ ap (put_before start) f.1 ∙ put_before-twice start r f.0 in
+    let whole : runs_at (pieces 37 bytes) ≡ put_before (start ++ r) f.0 =
+    e ∙ ap (λ (l : List (List ℕ)). put_before start (runs_at l)) is ∙ ap (put_before start) f.1
+    ∙ put_before-twice start r f.0 in
     text_long bytes (start ++ r) f.0 whole long
 
 -- an escape that can't be read, or that has no end, and one that passes the limit
-pub escape_open : (bytes start run digits : List ℕ) (left : List (List ℕ)) → runs_at (pieces 37 bytes) ≡ put_before start (runs_at left) → left ≡ run ∷ digits ∷ [] → text_at bytes ≡ None
+pub escape_open : (bytes start run digits : List ℕ) (left : List (List ℕ)) → runs_at (pieces 37 bytes) ≡
+    put_before start (runs_at left) → left ≡ run ∷ digits ∷ [] → text_at bytes ≡ None
 escape_open bytes start run digits left e is = text_none bytes start left e (rw is (by_parts (run_at run) (escape_at digits)))
   where
     by_parts : (r : Option (List ℕ)) (c : Option ℕ) → and_then r (λ r. and_then c (λ c. and_then (runs_at []) (λ t. Some (r ++ encode_utf8 c ++ t)))) ≡ None
@@ -180,13 +207,15 @@ escape_open bytes start run digits left e is = text_none bytes start left e (rw 
     by_parts (Some r) None = refl
     by_parts (Some r) (Some c) = refl
 
-pub escape_none : (bytes start run digits : List ℕ) (left more : List (List ℕ)) → runs_at (pieces 37 bytes) ≡ put_before start (runs_at left) → left ≡ run ∷ digits ∷ more → escape_at digits ≡ None → text_at bytes ≡ None
+pub escape_none : (bytes start run digits : List ℕ) (left more : List (List ℕ)) → runs_at (pieces 37 bytes) ≡
+    put_before start (runs_at left) → left ≡ run ∷ digits ∷ more → escape_at digits ≡ None → text_at bytes ≡ None
 escape_none bytes start run digits left more e is none = text_none bytes start left e (rw (is, none) (by_run (run_at run)))
   where
     by_run : (r : Option (List ℕ)) → and_then r (λ r. and_then None (λ c. and_then (runs_at more) (λ t. Some (r ++ encode_utf8 c ++ t)))) ≡ None
     by_run None = refl
     by_run (Some r) = refl
 
-pub char_long : (bytes next : List ℕ) (rest : Option (List ℕ)) (error : Refusal) → runs_at (pieces 37 bytes) ≡ put_before next rest → PassesLimit next error → Fails error (text_at bytes)
+pub char_long : (bytes next : List ℕ) (rest : Option (List ℕ)) (error : Refusal) → runs_at (pieces 37 bytes) ≡
+    put_before next rest → PassesLimit next error → Fails error (text_at bytes)
 char_long bytes next rest WantOfMemory e long = tt
 char_long bytes next rest (Fault why) e long = text_long bytes next rest e long

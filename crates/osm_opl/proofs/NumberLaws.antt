@@ -1,5 +1,6 @@
 -- A number that is read is spelled, and what is spelled is read.
-use Rattle.std.proofs.Common.{◌≡◌, ℕ, suc, ◌+◌, ◌-◌, ◌*◌, ◌^◌, ◌<◌, ◌≤◌, true, false, cond, List, [], ◌∷◌, ◌++◌, length, Option, Some, None, refl, sym, ap, arith, lit≤}
+use Rattle.std.proofs.Common.{◌≡◌, ℕ, suc, ◌+◌, ◌-◌, ◌*◌, ◌^◌, ◌<◌, ◌≤◌, true, false, cond, List, [], ◌∷◌, ◌++◌, length}
+use Rattle.std.proofs.Common.{Option, Some, None, refl, sym, ap, arith, lit≤}
 use Rattle.std.specs.Prelude.{◌≢◌, ◌==◌, ℤ, pos, neg_ℤ, ◌≤ℤ◌, nat_le}
 use Rattle.std.specs.Char.{digit_value}
 use Rattle.std.specs.Str.Parse.{AllDigits, IsNumeral, digits_value}
@@ -28,7 +29,8 @@ digits_lack radix s (b ∷ bs) far h =
 numeral_of : (radix most : ℕ) (bytes : List ℕ) (n : ℕ) → IsNumeralOf radix most bytes n → IsNumeral radix bytes
 numeral_of radix most bytes n h = (h.some, each_digit radix bytes h.all)
 
-of_numeral : (radix most : ℕ) (bytes : List ℕ) (n : ℕ) → IsNumeral radix bytes → length bytes ≤ most → n ≡ digits_value radix bytes → IsNumeralOf radix most bytes n
+of_numeral : (radix most : ℕ) (bytes : List ℕ) (n : ℕ) → IsNumeral radix bytes → length bytes ≤ most
+    → n ≡ digits_value radix bytes → IsNumeralOf radix most bytes n
 of_numeral radix most bytes n h short value = record { all = all_from_each radix bytes h.1; some = h.0; short = short; value = value }
 
 -- ---- whole numbers
@@ -94,10 +96,12 @@ pub record TakesSigned (Spells : List ℕ → ℕ → Type 0) (most : ℕ) (byte
   pub low : neg_ℤ (pos most) ≤ℤ z
   pub high : z ≤ℤ pos most
 
-pub signed_takes : (read : List ℕ → Option ℕ) (Spells : List ℕ → ℕ → Type 0) (most : ℕ) → ReadsDigits read Spells most → (bytes : List ℕ) (z : ℤ) → signed_at read bytes ≡ Some z → TakesSigned Spells most bytes z
+pub signed_takes : (read : List ℕ → Option ℕ) (Spells : List ℕ → ℕ → Type 0) (most : ℕ) → ReadsDigits read Spells most
+    → (bytes : List ℕ) (z : ℤ) → signed_at read bytes ≡ Some z → TakesSigned Spells most bytes z
 signed_takes read Spells most r [] z e = absurd cc
 signed_takes read Spells most r (b ∷ bs) z e =
-    chosen (b == 45) (and_then (read bs) (λ n. Some (neg_ℤ (pos n)))) (and_then (read (b ∷ bs)) (λ n. Some (pos n))) (Some z) e (TakesSigned Spells most (b ∷ bs) z)
+    chosen (b == 45) (and_then (read bs) (λ n. Some (neg_ℤ (pos n)))) (and_then (read (b ∷ bs)) (λ n. Some (pos n)))
+    (Some z) e (TakesSigned Spells most (b ∷ bs) z)
     (λ t is.
     let x = some_then (read bs) (λ (n : ℕ). Some (neg_ℤ (pos n))) z is in
     let same : b ≡ 45 = grind (arith, nat_tests) in
@@ -110,7 +114,9 @@ signed_takes read Spells most r (b ∷ bs) z e =
     let limit : x.0 ≤ most = r.limit (b ∷ bs) x.0 x.1 in
     rw (← value) (record { spells = plain (b ∷ bs) x.0 (r.takes (b ∷ bs) x.0 x.1); low = omega (arith, ints); high = omega (arith, ints) }))
 
-pub signed_again : (read : List ℕ → Option ℕ) (Spells : List ℕ → ℕ → Type 0) (most : ℕ) → ReadsDigits read Spells most → (bytes : List ℕ) (z : ℤ) → Signed Spells bytes z → neg_ℤ (pos most) ≤ℤ z → z ≤ℤ pos most → signed_at read bytes ≡ Some z
+pub signed_again : (read : List ℕ → Option ℕ) (Spells : List ℕ → ℕ → Type 0) (most : ℕ) → ReadsDigits read Spells most
+    → (bytes : List ℕ) (z : ℤ) → Signed Spells bytes z → neg_ℤ (pos most) ≤ℤ z → z ≤ℤ pos most
+    → signed_at read bytes ≡ Some z
 signed_again read Spells most r [] _ (plain _ n h) low high = absurd (let s : 0 < length {A = ℕ} [] = r.some [] n h in omega (arith, s))
 signed_again read Spells most r (b ∷ bs) _ (plain _ n h) low high =
     let lacks : Lacks 45 (b ∷ bs) = r.lacks 45 (b ∷ bs) n (lit≤ tt) (λ e. omega (arith, e)) h in
@@ -120,7 +126,8 @@ signed_again read Spells most r (b ∷ bs) _ (plain _ n h) low high =
 signed_again read Spells most r _ _ (minus bs n h) low high =
     rw (r.again bs n h (omega (arith, ints, low))) refl
 
-pub signed_lacks : (read : List ℕ → Option ℕ) (Spells : List ℕ → ℕ → Type 0) (most : ℕ) → ReadsDigits read Spells most → (s : ℕ) (bytes : List ℕ) (z : ℤ) → 10 ≤ digit_value s → s ≢ 46 → s ≢ 45 → Signed Spells bytes z → Lacks s bytes
+pub signed_lacks : (read : List ℕ → Option ℕ) (Spells : List ℕ → ℕ → Type 0) (most : ℕ) → ReadsDigits read Spells most
+    → (s : ℕ) (bytes : List ℕ) (z : ℤ) → 10 ≤ digit_value s → s ≢ 46 → s ≢ 45 → Signed Spells bytes z → Lacks s bytes
 signed_lacks read Spells most r s _ _ far n46 n45 (plain bytes n h) = r.lacks s bytes n far n46 h
 signed_lacks read Spells most r s _ _ far n46 n45 (minus bytes n h) = (λ e. n45 (sym e), r.lacks s bytes n far n46 h)
 
@@ -145,7 +152,8 @@ id_takes bytes id e =
 
 pub id_again : (bytes : List ℕ) (id : ℤ) → SpellsId bytes id → IsId id → id_at bytes ≡ Some id
 unfolding id_at
-id_again bytes id h limits = signed_again (number_at 4611686018427387903) SpellsNumber 4611686018427387903 (numbers_read 4611686018427387903) bytes id h limits.low limits.high
+id_again bytes id h limits = signed_again (number_at 4611686018427387903) SpellsNumber 4611686018427387903
+    (numbers_read 4611686018427387903) bytes id h limits.low limits.high
 
 pub id_lacks : (s : ℕ) (bytes : List ℕ) (id : ℤ) → 10 ≤ digit_value s → s ≢ 46 → s ≢ 45 → SpellsId bytes id → Lacks s bytes
 id_lacks s bytes id far n46 n45 h = signed_lacks (number_at 1) SpellsNumber 1 (numbers_read 1) s bytes id far n46 n45 h
@@ -173,7 +181,8 @@ parts_take most bytes n None cut e =
     let limit : x.0 * 10 ^ 7 ≤ most = w.1 in
     record { spells = rw (← is) (whole bytes (numeral_of 10 3 bytes x.0 t) t.short); limit = omega arith }
 parts_take most bytes n (Some c) cut e =
-    let x = some_then (digits_at 10 3 c.0) (λ (d : ℕ). and_then {A = ℕ} {B = ℕ} (digits_at 10 7 c.1) (λ f. within most (d * 10 ^ 7 + f * 10 ^ (7 - length c.1)))) n e in
+    let x = some_then (digits_at 10 3 c.0) (λ (d : ℕ). and_then {A = ℕ} {B = ℕ} (digits_at 10 7 c.1)
+    (λ f. within most (d * 10 ^ 7 + f * 10 ^ (7 - length c.1)))) n e in
     let y = some_then (digits_at 10 7 c.1) (λ (f : ℕ). within most (x.0 * 10 ^ 7 + f * 10 ^ (7 - length c.1))) n x.2 in
     let t : IsNumeralOf 10 3 c.0 x.0 = digits_take 10 3 c.0 x.0 x.1 in
     let u : IsNumeralOf 10 7 c.1 y.0 = digits_take 10 7 c.1 y.0 y.1 in
@@ -196,21 +205,29 @@ pub units_again : (most : ℕ) (bytes : List ℕ) (n : ℕ) → SpellsUnits byte
 unfolding units_at
 units_again most _ _ (whole ds numeral short) limit =
     let cut : cut_at 46 ds ≡ None = uncut_again 46 ds (digits_lack 10 46 ds (lit≤ tt) numeral.1) in
-    let read : digits_at 10 3 ds ≡ Some (digits_value 10 ds) = digits_again 10 3 ds (digits_value 10 ds) (of_numeral 10 3 ds (digits_value 10 ds) numeral short refl) in
+    let read : digits_at 10 3 ds ≡ Some (digits_value 10 ds) = digits_again 10 3 ds (digits_value 10 ds)
+    (of_numeral 10 3 ds (digits_value 10 ds) numeral short refl) in
     rw (cut, read) (within_again most (digits_value 10 ds * 10 ^ 7) limit)
 units_again most _ _ (point ds fs numeral short decimals few) limit =
     let cut : cut_at 46 (ds ++ 46 ∷ fs) ≡ Some (ds, fs) = cut_again 46 ds fs (digits_lack 10 46 ds (lit≤ tt) numeral.1) in
-    let read : digits_at 10 3 ds ≡ Some (digits_value 10 ds) = digits_again 10 3 ds (digits_value 10 ds) (of_numeral 10 3 ds (digits_value 10 ds) numeral short refl) in
-    let more : digits_at 10 7 fs ≡ Some (digits_value 10 fs) = digits_again 10 7 fs (digits_value 10 fs) (of_numeral 10 7 fs (digits_value 10 fs) decimals few refl) in
+    let read : digits_at 10 3 ds ≡ Some (digits_value 10 ds) = digits_again 10 3 ds (digits_value 10 ds)
+    (of_numeral 10 3 ds (digits_value 10 ds) numeral short refl) in
+    let more : digits_at 10 7 fs ≡ Some (digits_value 10 fs) = digits_again 10 7 fs (digits_value 10 fs)
+    (of_numeral 10 7 fs (digits_value 10 fs) decimals few refl) in
     rw (cut, read, more) (within_again most (digits_value 10 ds * 10 ^ 7 + digits_value 10 fs * 10 ^ (7 - length fs)) limit)
 
 units_some : (bytes : List ℕ) (n : ℕ) → SpellsUnits bytes n → 0 < length bytes
 units_some _ _ (whole ds numeral short) = numeral.0
-units_some _ _ (point ds fs numeral short decimals few) = let l : length (ds ++ 46 ∷ fs) ≡ length ds + suc (length fs) = length-append ds (46 ∷ fs) in omega arith
+units_some _ _ (point ds fs numeral short decimals few) = let l : length (ds ++ 46 ∷ fs) ≡ length ds + suc (length fs) =
+    length-append ds (46 ∷ fs) in omega arith
 
 units_lack : (s : ℕ) (bytes : List ℕ) (n : ℕ) → 10 ≤ digit_value s → s ≢ 46 → SpellsUnits bytes n → Lacks s bytes
 units_lack s _ _ far other (whole ds numeral short) = digits_lack 10 s ds far numeral.1
-units_lack s _ _ far other (point ds fs numeral short decimals few) = lacks_append s ds (46 ∷ fs) (digits_lack 10 s ds far numeral.1) (λ e. other (sym e), digits_lack 10 s fs far decimals.1)
+units_lack s _ _ far other (point ds fs numeral short decimals few) =
+    lacks_append s ds (46 ∷ fs) (digits_lack 10 s ds far numeral.1) (
+      λ e. other (sym e),
+      digits_lack 10 s fs far decimals.1,
+    )
 
 pub units_read : (most : ℕ) → ReadsDigits (units_at most) SpellsUnits most
 units_read most = record {
@@ -225,7 +242,8 @@ pub coordinate_takes : (most : ℕ) (bytes : List ℕ) (z : ℤ) → coordinate_
 unfolding coordinate_at
 coordinate_takes most bytes z e = signed_takes (units_at most) SpellsUnits most (units_read most) bytes z e
 
-pub coordinate_again : (most : ℕ) (bytes : List ℕ) (z : ℤ) → SpellsCoordinate bytes z → neg_ℤ (pos most) ≤ℤ z → z ≤ℤ pos most → coordinate_at most bytes ≡ Some z
+pub coordinate_again : (most : ℕ) (bytes : List ℕ) (z : ℤ) → SpellsCoordinate bytes z → neg_ℤ (pos most) ≤ℤ z
+    → z ≤ℤ pos most → coordinate_at most bytes ≡ Some z
 unfolding coordinate_at
 coordinate_again most bytes z h low high = signed_again (units_at most) SpellsUnits most (units_read most) bytes z h low high
 

@@ -1,5 +1,6 @@
 -- Digits one at a time.
-use Rattle.std.proofs.Common.{◌≡◌, ℕ, zero, suc, ◌+◌, ◌-◌, ◌*◌, ◌^◌, ◌<◌, ◌≤◌, true, false, cond, ◌&&◌, List, [], ◌∷◌, ◌++◌, length, get_or, take, Option, Some, None, refl, sym, ap, arith, inl, inr, lit<}
+use Rattle.std.proofs.Common.{◌≡◌, ℕ, zero, suc, ◌+◌, ◌-◌, ◌*◌, ◌^◌, ◌<◌, ◌≤◌, true, false, cond, ◌&&◌, List, [], ◌∷◌}
+use Rattle.std.proofs.Common.{◌++◌, length, get_or, take, Option, Some, None, refl, sym, ap, arith, inl, inr, lit<}
 use Rattle.std.proofs.Math.Nat.{pow-le-pow_right}
 use Rattle.std.proofs.lemmas.Option.{same_Some}
 use Rattle.std.specs.Prelude.{Result, Ok, Err, IfOk, min, option_map, nat_lt, nat_le}
@@ -22,17 +23,19 @@ pub record Digits (radix : ℕ) (bytes : List ℕ) (most : ℕ) (i : ℕ) (so_fa
 
 all_digits-append : (radix : ℕ) (xs ys : List ℕ) → all_digits radix (xs ++ ys) ≡ (all_digits radix xs && all_digits radix ys)
 all_digits-append radix [] ys = refl
-all_digits-append radix (x ∷ xs) ys = elim (nat_lt (digit_value x) radix) as (λ t. (t && all_digits radix (xs ++ ys)) ≡ ((t && all_digits radix xs) && all_digits radix ys)) [
-  | true ↦ all_digits-append radix xs ys
-  | false ↦ refl
-]
+all_digits-append radix (x ∷ xs) ys = elim (nat_lt (digit_value x) radix) as (λ t. (t && all_digits radix (xs ++ ys)) ≡
+    ((t && all_digits radix xs) && all_digits radix ys)) [
+      | true ↦ all_digits-append radix xs ys
+      | false ↦ refl
+    ]
 
 value_after-push : (radix n : ℕ) (xs : List ℕ) (c : ℕ) → digits_value_after radix n (xs ++ c ∷ []) ≡ digits_value_after radix n xs * radix + digit_value c
 value_after-push radix n [] c = refl
 value_after-push radix n (x ∷ xs) c = value_after-push radix (n * radix + digit_value x) xs c
 
 -- a byte that isn't a digit leaves no numeral
-pub not_digits : (radix most : ℕ) (bytes : List ℕ) (i : ℕ) → i < length bytes → nat_lt (digit_value (get_or bytes i 0)) radix ≡ false → digits_at radix most bytes ≡ None
+pub not_digits : (radix most : ℕ) (bytes : List ℕ) (i : ℕ) → i < length bytes
+    → nat_lt (digit_value (get_or bytes i 0)) radix ≡ false → digits_at radix most bytes ≡ None
 unfolding digits_at
 not_digits radix most bytes i lt other = rw (some_not bytes i lt other) refl
   where
@@ -53,13 +56,16 @@ pub digits_many : (radix most : ℕ) (bytes : List ℕ) → most < length bytes 
 unfolding digits_at
 digits_many radix most bytes e =
     let t : nat_le (length bytes) most ≡ false = grind (arith, nat_tests) in
-    rw t (elim (all_digits radix bytes && nat_le 1 (length bytes)) as (λ t. cond (t && false) (Some (digits_value radix bytes)) None ≡ None) [ true ↦ refl | false ↦ refl ])
+    rw t (elim (all_digits radix bytes && nat_le 1 (length bytes)) as
+    (λ t. cond (t && false) (Some (digits_value radix bytes)) None ≡ None) [ true ↦ refl | false ↦ refl ])
 
 pub no_digits_yet : (radix most : ℕ) (bytes : List ℕ) → Digits radix bytes most 0 0
 no_digits_yet radix most bytes = record { all = refl; value = omega arith }
 
 -- one more digit
-pub one_digit : (bytes : List ℕ) (most i so_far d : ℕ) → i < length bytes → Digits 10 bytes most i so_far → is_ascii_digit (get_or bytes i 0) ≡ true → d ≡ get_or bytes i 0 - 48 → Digits 10 bytes most (i + 1) (min (min (so_far * 10) most + d) most)
+pub one_digit : (bytes : List ℕ) (most i so_far d : ℕ) → i < length bytes → Digits 10 bytes most i so_far
+    → is_ascii_digit (get_or bytes i 0) ≡ true → d ≡ get_or bytes i 0 - 48
+    → Digits 10 bytes most (i + 1) (min (min (so_far * 10) most + d) most)
 one_digit bytes most i so_far d lt h digit e =
     let b : ℕ = get_or bytes i 0 in
     let low : 48 ≤ get_or bytes i 0 = grind (arith, nat_tests) in
@@ -67,7 +73,8 @@ one_digit bytes most i so_far d lt h digit e =
     let is : digit_value (get_or bytes i 0) + 48 ≡ get_or bytes i 0 = digit_value_digit (get_or bytes i 0) (low, high) in
     let small : nat_lt (digit_value (get_or bytes i 0)) 10 ≡ true = grind (arith, nat_tests) in
     let more : take (i + 1) bytes ≡ take i bytes ++ get_or bytes i 0 ∷ [] = take_more bytes i 0 lt in
-    let value : digits_value 10 (take (i + 1) bytes) ≡ digits_value 10 (take i bytes) * 10 + digit_value (get_or bytes i 0) = rw more (value_after-push 10 0 (take i bytes) (get_or bytes i 0)) in
+    let value : digits_value 10 (take (i + 1) bytes) ≡ digits_value 10 (take i bytes) * 10
+    + digit_value (get_or bytes i 0) = rw more (value_after-push 10 0 (take i bytes) (get_or bytes i 0)) in
     let old : so_far ≡ min most (digits_value 10 (take i bytes)) = h.value in
     let every : all_digits 10 (take i bytes) ≡ true = h.all in
     record {
@@ -75,7 +82,9 @@ one_digit bytes most i so_far d lt h digit e =
       value = rw value (omega arith);
     }
 
-pub digits_done : (radix most : ℕ) (bytes : List ℕ) (limit so_far i : ℕ) → length bytes ≡ i → 1 ≤ length bytes → length bytes ≤ most → Digits radix bytes limit i so_far → option_map (min limit) (digits_at radix most bytes) ≡ Some so_far
+pub digits_done : (radix most : ℕ) (bytes : List ℕ) (limit so_far i : ℕ) → length bytes ≡ i → 1 ≤ length bytes
+    → length bytes ≤ most → Digits radix bytes limit i so_far → option_map (min limit) (digits_at radix most bytes) ≡
+    Some so_far
 unfolding digits_at
 digits_done radix most bytes limit so_far i e low high h =
     let whole : take i bytes ≡ bytes = take_all i bytes (omega arith) in
@@ -124,12 +133,15 @@ room_for_digit bytes i so_far few h =
     omega (arith, small, h.value)
 
 -- one more digit, if there is room
-pub one_digit_fits : (bytes : List ℕ) (i so_far : ℕ) → i < length bytes → i ≤ 18 → Digits 10 bytes 18446744073709551615 i so_far → is_ascii_digit (get_or bytes i 0) ≡ true → Digits 10 bytes 18446744073709551615 (i + 1) (10 * so_far + (get_or bytes i 0 - 48))
+pub one_digit_fits : (bytes : List ℕ) (i so_far : ℕ) → i < length bytes → i ≤ 18
+    → Digits 10 bytes 18446744073709551615 i so_far → is_ascii_digit (get_or bytes i 0) ≡ true
+    → Digits 10 bytes 18446744073709551615 (i + 1) (10 * so_far + (get_or bytes i 0 - 48))
 one_digit_fits bytes i so_far lt few h digit =
     let room : so_far < 1000000000000000000 = room_for_digit bytes i so_far few h in
     let high : get_or bytes i 0 ≤ 57 = grind (arith, nat_tests) in
     let next = one_digit bytes 18446744073709551615 i so_far (get_or bytes i 0 - 48) lt h digit refl in
-    let same : min (min (so_far * 10) 18446744073709551615 + (get_or bytes i 0 - 48)) 18446744073709551615 ≡ 10 * so_far + (get_or bytes i 0 - 48) = omega arith in
+    let same : min (min (so_far * 10) 18446744073709551615 + (get_or bytes i 0 - 48)) 18446744073709551615 ≡ 10 * so_far
+    + (get_or bytes i 0 - 48) = omega arith in
     rw same at next
 
 -- a limit on the number of digits makes no difference to fewer
@@ -184,10 +196,13 @@ small_number most bytes h = by_option (digits_at 10 most bytes) (λ n e. let l =
     by_option (Some n) h = ap (λ (m : ℕ). Some m) (h n refl)
 
 -- the same for what a function found
-pub small_found : (most : ℕ) (bytes : List ℕ) (r : Result ℕ Why) → most ≤ 7 → Finds (λ n. n) r (option_map (min 18446744073709551615) (digits_at 10 most bytes)) → Finds (λ n. n) r (digits_at 10 most bytes)
+pub small_found : (most : ℕ) (bytes : List ℕ) (r : Result ℕ Why) → most ≤ 7
+    → Finds (λ n. n) r (option_map (min 18446744073709551615) (digits_at 10 most bytes))
+    → Finds (λ n. n) r (digits_at 10 most bytes)
 small_found most bytes r h f = rw (small_number most bytes h) at f
 
-pub small_bound : (most : ℕ) (bytes : List ℕ) (r : Result ℕ Why) → most ≤ 7 → Finds (λ n. n) r (digits_at 10 most bytes) → IfOk r (λ n. (n < 10 ^ 7) × (length bytes ≤ most))
+pub small_bound : (most : ℕ) (bytes : List ℕ) (r : Result ℕ Why) → most ≤ 7 → Finds (λ n. n) r (digits_at 10 most bytes)
+    → IfOk r (λ n. (n < 10 ^ 7) × (length bytes ≤ most))
 small_bound most bytes (Err e) h f = tt
 small_bound most bytes (Ok n) h f = small_limit most n bytes h f
 
@@ -196,11 +211,13 @@ unfolding positive_at number_at
 not_positive bytes e = rw (digits_none 10 20 bytes e) refl
 
 -- one more hexadecimal digit
-pub one_hex_digit : (bytes : List ℕ) (most i so_far d : ℕ) → i < length bytes → Digits 16 bytes most i so_far → d < 16 → d ≡ digit_value (get_or bytes i 0) → Digits 16 bytes most (i + 1) (min (min (so_far * 16) most + d) most)
+pub one_hex_digit : (bytes : List ℕ) (most i so_far d : ℕ) → i < length bytes → Digits 16 bytes most i so_far → d < 16
+    → d ≡ digit_value (get_or bytes i 0) → Digits 16 bytes most (i + 1) (min (min (so_far * 16) most + d) most)
 one_hex_digit bytes most i so_far d lt h small is =
     let test : nat_lt (digit_value (get_or bytes i 0)) 16 ≡ true = grind (arith, nat_tests) in
     let more : take (i + 1) bytes ≡ take i bytes ++ get_or bytes i 0 ∷ [] = take_more bytes i 0 lt in
-    let value : digits_value 16 (take (i + 1) bytes) ≡ digits_value 16 (take i bytes) * 16 + digit_value (get_or bytes i 0) = rw more (value_after-push 16 0 (take i bytes) (get_or bytes i 0)) in
+    let value : digits_value 16 (take (i + 1) bytes) ≡ digits_value 16 (take i bytes) * 16
+    + digit_value (get_or bytes i 0) = rw more (value_after-push 16 0 (take i bytes) (get_or bytes i 0)) in
     let old : so_far ≡ min most (digits_value 16 (take i bytes)) = h.value in
     let every : all_digits 16 (take i bytes) ≡ true = h.all in
     record {

@@ -1,5 +1,6 @@
 -- Numbers that are read in one pass are what the readers of whole fields find.
-use Rattle.std.proofs.Common.{◌≡◌, ℕ, ◌+◌, ◌<◌, ◌≤◌, true, false, List, [], ◌∷◌, ◌++◌, length, get_or, take, drop, Option, Some, None, refl, sym, ap, ◌∙◌, ◌^◌, arith, pos, lit≤}
+use Rattle.std.proofs.Common.{◌≡◌, ℕ, ◌+◌, ◌<◌, ◌≤◌, true, false, List, [], ◌∷◌, ◌++◌, length, get_or, take, drop}
+use Rattle.std.proofs.Common.{Option, Some, None, refl, sym, ap, ◌∙◌, ◌^◌, arith, pos, lit≤}
 use Rattle.std.specs.Prelude.{◌≢◌, ◌==◌, IfSome, ℤ, min, nat_le}
 use Rattle.std.specs.Borrow.{Bor}
 use Rattle.std.specs.Char.{digit_value}
@@ -25,7 +26,8 @@ record Led (bytes : List ℕ) (n count : ℕ) : Type 0 where
   lacks : (s : ℕ) → 10 ≤ digit_value s → Lacks s (take count bytes)
   number : digits_at 10 20 (take count bytes) ≡ Some n
 
-led : (bytes : List ℕ) (n count : ℕ) → all_digits 10 (take count bytes) ≡ true → n ≡ digits_value 10 (take count bytes) → 1 ≤ count → count ≤ 19 → count ≤ length bytes → Led bytes n count
+led : (bytes : List ℕ) (n count : ℕ) → all_digits 10 (take count bytes) ≡ true → n ≡ digits_value 10 (take count bytes)
+    → 1 ≤ count → count ≤ 19 → count ≤ length bytes → Led bytes n count
 led bytes n count all value some few within =
     let l : length (take count bytes) ≡ min count (length bytes) = length-take count bytes in
     record {
@@ -33,7 +35,9 @@ led bytes n count all value some few within =
       number = digits_again 10 20 (take count bytes) n (record { all = all; some = omega arith; short = omega arith; value = value });
     }
 
-pub number_then : (s : ℕ) (bytes : List ℕ) (n count : ℕ) → 10 ≤ digit_value s → all_digits 10 (take count bytes) ≡ true → n ≡ digits_value 10 (take count bytes) → 1 ≤ count → count ≤ 19 → count < length bytes → get_or bytes count 0 ≡ s → NumberFirst s bytes n (pieces s (drop (count + 1) bytes))
+pub number_then : (s : ℕ) (bytes : List ℕ) (n count : ℕ) → 10 ≤ digit_value s → all_digits 10 (take count bytes) ≡ true
+    → n ≡ digits_value 10 (take count bytes) → 1 ≤ count → count ≤ 19 → count < length bytes → get_or bytes count 0 ≡ s
+    → NumberFirst s bytes n (pieces s (drop (count + 1) bytes))
 number_then s bytes n count other all value some few within here =
     let l : Led bytes n count = led bytes n count all value some few (omega arith) in
     let next : drop count bytes ≡ s ∷ drop (count + 1) bytes = drop_more bytes count 0 within ∙ ap (λ (b : ℕ). b ∷ drop (count + 1) bytes) here in
@@ -44,7 +48,8 @@ number_then s bytes n count other all value some few within here =
       number = l.number;
     }
 
-pub number_whole : (s : ℕ) (bytes : List ℕ) (n count : ℕ) → 10 ≤ digit_value s → all_digits 10 (take count bytes) ≡ true → n ≡ digits_value 10 (take count bytes) → 1 ≤ count → count ≤ 19 → count ≡ length bytes → NumberFirst s bytes n []
+pub number_whole : (s : ℕ) (bytes : List ℕ) (n count : ℕ) → 10 ≤ digit_value s → all_digits 10 (take count bytes) ≡ true
+    → n ≡ digits_value 10 (take count bytes) → 1 ≤ count → count ≤ 19 → count ≡ length bytes → NumberFirst s bytes n []
 number_whole s bytes n count other all value some few is =
     let l : Led bytes n count = led bytes n count all value some few (omega arith) in
     let whole : take count bytes ≡ bytes = take_all count bytes (omega arith) in
@@ -77,11 +82,14 @@ id_first s bytes n more h limit = record {
 }
 
 -- a letter comes before the first piece
-lettered : (s letter : ℕ) (content digits : List ℕ) (more : List (List ℕ)) → letter ≢ s → pieces s content ≡ digits ∷ more → pieces s (letter ∷ content) ≡ (letter ∷ digits) ∷ more
+lettered : (s letter : ℕ) (content digits : List ℕ) (more : List (List ℕ)) → letter ≢ s
+    → pieces s content ≡ digits ∷ more → pieces s (letter ∷ content) ≡ (letter ∷ digits) ∷ more
 unfolding pieces
 lettered s letter content digits more other e = let t : (letter == s) ≡ false = grind (arith, nat_tests) in rw (t, e) refl
 
-pub plain_positive : (letter : ℕ) (content : List ℕ) (n : ℕ) (more : List (List ℕ)) → letter ≢ 32 → NumberFirst 32 content n more → 1 ≤ n → n ≤ 4294967295 → positive_field_at letter (pieces 32 (letter ∷ content)) ≡ Some (n, more)
+pub plain_positive : (letter : ℕ) (content : List ℕ) (n : ℕ) (more : List (List ℕ)) → letter ≢ 32
+    → NumberFirst 32 content n more → 1 ≤ n → n ≤ 4294967295 → positive_field_at letter (pieces 32 (letter ∷ content)) ≡
+    Some (n, more)
 unfolding positive_field_at field_at positive_at
 plain_positive letter content n more other h some few =
     let parts : pieces 32 (letter ∷ content) ≡ (letter ∷ h.digits) ∷ more = lettered 32 letter content h.digits more other h.parts in
@@ -90,7 +98,9 @@ plain_positive letter content n more other h some few =
     let test : nat_le 1 n ≡ true = grind (arith, nat_tests) in
     rw (parts, same, number, test) refl
 
-pub plain_key : (letter : ℕ) (kind : Kind) (content : List ℕ) (id : ℤ) (more : List (List ℕ)) → kind_at letter ≡ Some kind → IdFirst 32 content id more → key_at (pieces 32 (letter ∷ content)) ≡ Some (record { kind = kind; id = id }, more)
+pub plain_key : (letter : ℕ) (kind : Kind) (content : List ℕ) (id : ℤ) (more : List (List ℕ))
+    → kind_at letter ≡ Some kind → IdFirst 32 content id more → key_at (pieces 32 (letter ∷ content)) ≡
+    Some (record { kind = kind; id = id }, more)
 unfolding key_at
 plain_key letter kind content id more k h =
     let parts : pieces 32 (letter ∷ content) ≡ (letter ∷ h.digits) ∷ more = lettered 32 letter content h.digits more (no_space letter kind k) h.parts in
@@ -105,6 +115,8 @@ plain_ref content id more h =
     let parts : pieces 44 (110 ∷ content) ≡ (110 ∷ h.digits) ∷ more = lettered 44 110 content h.digits more (λ e. omega arith) h.parts in
     rw (parts, h.is) refl
 
-pub plain_refs : (r : Option (ℤ × Option (Bor (List ℕ)))) (items content : List ℕ) → items ≡ 110 ∷ content → IfSome r (λ r. IdFirst 44 content r.0 (pieces_after 44 r.1)) → IfSome r (λ r. first_at ref_at (pieces 44 items) ≡ Some (r.0, pieces_after 44 r.1))
+pub plain_refs : (r : Option (ℤ × Option (Bor (List ℕ)))) (items content : List ℕ) → items ≡ 110 ∷ content
+    → IfSome r (λ r. IdFirst 44 content r.0 (pieces_after 44 r.1))
+    → IfSome r (λ r. first_at ref_at (pieces 44 items) ≡ Some (r.0, pieces_after 44 r.1))
 plain_refs None items content e h = tt
 plain_refs (Some r) items content e h = rw e (plain_ref content r.0 (pieces_after 44 r.1) h)

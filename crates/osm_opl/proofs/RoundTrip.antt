@@ -70,7 +70,9 @@ unfolding opl_text pieces
 lines_spell [] is = skipped [] [] [] refl none
 lines_spell (c ∷ cs) is =
     let line : SpellsLine (line_text c) c = line_spells c is.0 in
-    let cut : pieces 10 (line_text c ++ 10 ∷ opl_text cs) ≡ line_text c ∷ pieces 10 (opl_text cs) = pieces-more 10 (line_text c) (opl_text cs) (line_lacks 10 line_feed (line_text c) c (λ e. omega (arith, e)) line) in
+    let cut : pieces 10 (line_text c ++ 10 ∷ opl_text cs) ≡ line_text c ∷ pieces 10 (opl_text cs) =
+    pieces-more 10 (line_text c) (opl_text cs) (line_lacks 10 line_feed (line_text c) c (λ e. omega (arith, e))
+    line) in
     let kept : without_cr (line_text c) ≡ line_text c = no_cr (line_text c) (line_lacks 13 carriage_return (line_text c) c (λ e. omega (arith, e)) line) in
     rw (cut, kept) (change (line_text c) (lines_of (opl_text cs)) c cs (counts c) line (lines_spell cs is.1))
 

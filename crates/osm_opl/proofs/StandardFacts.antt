@@ -89,3 +89,8 @@ no_last_zero = refl
 no_decimals : coordinate_text (pos 1800000000) ≡ codes "180"
 unfolding coordinate_text decimals digits
 no_decimals = refl
+
+-- and their limits, in degrees
+north_pole : coordinate_text (pos 900000000) ≡ codes "90"
+unfolding coordinate_text decimals digits
+north_pole = refl

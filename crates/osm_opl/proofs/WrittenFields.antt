@@ -62,28 +62,46 @@ what_parts Relation whats.Deleted = sym (two_spaced (84 ∷ []) (77 ∷ []))
 pub what_spells : (kind : Kind) (what : What) → IsWhat kind what → SpellsWhat kind (what_fields kind what) what
 unfolding what_fields
 what_spells kind (whats.Node lon lat tags) h =
-    let spelled : SpellsWhat Node ((84 ∷ items_text tag_text tags) ∷ (120 ∷ coordinate_text lon) ∷ (121 ∷ coordinate_text lat) ∷ []) (whats.Node lon lat tags) = node (items_text tag_text tags) (coordinate_text lon) (coordinate_text lat) tags lon lat (tags_spell tags h.2) (coordinate_spells lon h.1.longitude.low h.1.longitude.high) (coordinate_spells lat (omega (arith, ints, h.1.latitude.low)) (omega (arith, ints, h.1.latitude.high))) in
-    subst (λ (k : Kind). SpellsWhat k ((84 ∷ items_text tag_text tags) ∷ (120 ∷ coordinate_text lon) ∷ (121 ∷ coordinate_text lat) ∷ []) (whats.Node lon lat tags)) (sym h.0) spelled
+    let spelled : SpellsWhat Node ((84 ∷ items_text tag_text tags) ∷ (120 ∷ coordinate_text lon) ∷
+    (121 ∷ coordinate_text lat) ∷ []) (whats.Node lon lat tags) =
+    node (items_text tag_text tags) (coordinate_text lon) (coordinate_text lat) tags lon lat (tags_spell tags h.2)
+    (coordinate_spells lon h.1.longitude.low h.1.longitude.high)
+    (coordinate_spells lat (omega (arith, ints, h.1.latitude.low)) (omega (arith, ints, h.1.latitude.high))) in
+    subst (λ (k : Kind). SpellsWhat k ((84 ∷ items_text tag_text tags) ∷ (120 ∷ coordinate_text lon) ∷
+    (121 ∷ coordinate_text lat) ∷ []) (whats.Node lon lat tags)) (sym h.0) spelled
 what_spells kind (whats.Way refs tags) h =
-    subst (λ (k : Kind). SpellsWhat k ((84 ∷ items_text tag_text tags) ∷ (78 ∷ items_text ref_text refs) ∷ []) (whats.Way refs tags)) (sym h.0) (way (items_text tag_text tags) (items_text ref_text refs) tags refs (tags_spell tags h.2) (refs_spell refs h.1))
+    subst (λ (k : Kind). SpellsWhat k ((84 ∷ items_text tag_text tags) ∷ (78 ∷ items_text ref_text refs) ∷ [])
+    (whats.Way refs tags)) (sym h.0) (way (items_text tag_text tags) (items_text ref_text refs) tags refs
+    (tags_spell tags h.2) (refs_spell refs h.1))
 what_spells kind (whats.Relation members tags) h =
-    subst (λ (k : Kind). SpellsWhat k ((84 ∷ items_text tag_text tags) ∷ (77 ∷ items_text member_text members) ∷ []) (whats.Relation members tags)) (sym h.0) (relation (items_text tag_text tags) (items_text member_text members) tags members (tags_spell tags h.2) (members_spell members h.1))
+    subst (λ (k : Kind). SpellsWhat k ((84 ∷ items_text tag_text tags) ∷ (77 ∷ items_text member_text members) ∷ [])
+    (whats.Relation members tags)) (sym h.0) (relation (items_text tag_text tags) (items_text member_text members)
+    tags members (tags_spell tags h.2) (members_spell members h.1))
 what_spells Node whats.Deleted h = deleted_node [] [] [] [] empty (record { few = omega arith; each = tt }) absent absent
 what_spells Way whats.Deleted h = deleted_way [] [] [] [] empty (record { few = omega arith; each = tt }) empty (record { few = omega arith; each = tt })
-what_spells Relation whats.Deleted h = deleted_relation [] [] [] [] empty (record { few = omega arith; each = tt }) empty (record { few = omega arith; ids = tt; roles = tt })
+what_spells Relation whats.Deleted h = deleted_relation [] [] [] [] empty (record { few = omega arith; each = tt })
+    empty (record { few = omega arith; ids = tt; roles = tt })
 
 six : (a b c d e f : List ℕ) → ((32 ∷ a) ++ (32 ∷ b) ++ (32 ∷ c)) ++ ((32 ∷ d) ++ (32 ∷ e) ++ (32 ∷ f)) ≡ spaced (a ∷ b ∷ c ∷ []) ++ spaced (d ∷ e ∷ f ∷ [])
 six a b c d e f = rw (three_spaced a b c, three_spaced d e f) refl
 
-head_parts : (status : List ℕ) (m : MetaValue) → meta_text status m ≡ spaced ((118 ∷ decimal m.version) ∷ (100 ∷ status) ∷ (99 ∷ decimal m.changeset) ∷ (116 ∷ time_text m.time) ∷ (105 ∷ decimal m.uid) ∷ (117 ∷ escaped_text m.user) ∷ [])
+head_parts : (status : List ℕ) (m : MetaValue)
+    → meta_text status m ≡ spaced ((118 ∷ decimal m.version) ∷ (100 ∷ status) ∷ (99 ∷ decimal m.changeset) ∷
+    (116 ∷ time_text m.time) ∷ (105 ∷ decimal m.uid) ∷ (117 ∷ escaped_text m.user) ∷ [])
 head_parts status m =
     six (118 ∷ decimal m.version) (100 ∷ status) (99 ∷ decimal m.changeset) (116 ∷ time_text m.time) (105 ∷ decimal m.uid) (117 ∷ escaped_text m.user)
-    ∙ sym (spaced-append ((118 ∷ decimal m.version) ∷ (100 ∷ status) ∷ (99 ∷ decimal m.changeset) ∷ []) ((116 ∷ time_text m.time) ∷ (105 ∷ decimal m.uid) ∷ (117 ∷ escaped_text m.user) ∷ []))
+    ∙ sym (spaced-append ((118 ∷ decimal m.version) ∷ (100 ∷ status) ∷ (99 ∷ decimal m.changeset) ∷ [])
+    ((116 ∷ time_text m.time) ∷ (105 ∷ decimal m.uid) ∷ (117 ∷ escaped_text m.user) ∷ []))
 
-pub line_whole : (c : ChangeValue) → line_text c ≡ joined 32 ((letter_of c.key.kind ∷ signed_decimal c.key.id) ∷ (118 ∷ decimal c.meta.version) ∷ (100 ∷ status_text c.what) ∷ (99 ∷ decimal c.meta.changeset) ∷ (116 ∷ time_text c.meta.time) ∷ (105 ∷ decimal c.meta.uid) ∷ (117 ∷ escaped_text c.meta.user) ∷ what_fields c.key.kind c.what)
+pub line_whole : (c : ChangeValue) → line_text c ≡ joined 32 ((letter_of c.key.kind ∷ signed_decimal c.key.id) ∷
+    (118 ∷ decimal c.meta.version) ∷ (100 ∷ status_text c.what) ∷ (99 ∷ decimal c.meta.changeset) ∷
+    (116 ∷ time_text c.meta.time) ∷ (105 ∷ decimal c.meta.uid) ∷ (117 ∷ escaped_text c.meta.user) ∷ what_fields
+    c.key.kind c.what)
 unfolding line_text
 line_whole c =
-    let head : List (List ℕ) = (118 ∷ decimal c.meta.version) ∷ (100 ∷ status_text c.what) ∷ (99 ∷ decimal c.meta.changeset) ∷ (116 ∷ time_text c.meta.time) ∷ (105 ∷ decimal c.meta.uid) ∷ (117 ∷ escaped_text c.meta.user) ∷ [] in
+    let head : List (List ℕ) = (118 ∷ decimal c.meta.version) ∷ (100 ∷ status_text c.what) ∷
+    (99 ∷ decimal c.meta.changeset) ∷ (116 ∷ time_text c.meta.time) ∷ (105 ∷ decimal c.meta.uid) ∷
+    (117 ∷ escaped_text c.meta.user) ∷ [] in
     let first : List ℕ = letter_of c.key.kind ∷ signed_decimal c.key.id in
     append_assoc first (meta_text (status_text c.what) c.meta) (what_text c.key.kind c.what)
     ∙ ap (λ (l : List ℕ). first ++ (l ++ what_text c.key.kind c.what)) (head_parts (status_text c.what) c.meta)

@@ -1,5 +1,6 @@
 -- What has been written so far.
-use Rattle.std.proofs.Common.{◌≡◌, ℕ, zero, suc, ◌+◌, ◌-◌, ◌/◌, ◌%◌, ◌^◌, ◌<◌, ◌≤◌, Bool, true, false, cond, List, [], ◌∷◌, ◌++◌, length, get_or, take, drop, refl, sym, ap, ◌∙◌, append_assoc, arith, lit<}
+use Rattle.std.proofs.Common.{◌≡◌, ℕ, zero, suc, ◌+◌, ◌-◌, ◌/◌, ◌%◌, ◌^◌, ◌<◌, ◌≤◌, Bool, true, false, cond, List, []}
+use Rattle.std.proofs.Common.{◌∷◌, ◌++◌, length, get_or, take, drop, refl, sym, ap, ◌∙◌, append_assoc, arith, lit<}
 use Rattle.std.specs.Prelude.{Result, Ok, Err, OnErr, ◌&&◌, min, nat_le, nat_lt, not}
 use Rattle.std.specs.Io.{StartsWith}
 use Rattle.std.proofs.Math.Nat.{pow-le-pow_right}
@@ -29,7 +30,8 @@ pub record Writes (old new rest whole : List ℕ) : Type 0 where
 pub writes_nothing : (old whole : List ℕ) → Writes old old whole whole
 writes_nothing old whole = record { prefix = []; written = sym (append-nil old); same = refl }
 
-pub writes_more : (old new rest whole part after next : List ℕ) → Writes old new rest whole → rest ≡ part ++ after → next ≡ new ++ part → Writes old next after whole
+pub writes_more : (old new rest whole part after next : List ℕ) → Writes old new rest whole → rest ≡ part ++ after
+    → next ≡ new ++ part → Writes old next after whole
 writes_more old new rest whole part after next h e n = record {
   prefix = h.prefix ++ part;
   written = n ∙ ap (λ (l : List ℕ). l ++ part) h.written ∙ append_assoc old h.prefix part;
@@ -67,14 +69,19 @@ pub record HexWritten (old new : List ℕ) (code count left : ℕ) : Type 0 wher
 pub hex_begun : (old : List ℕ) (code count : ℕ) → count ≤ 6 → HexWritten old old code count count
 hex_begun old code count h = record { few = h; writes = writes_nothing old (hex_digits count code) }
 
-pub hex_more : (old new next : List ℕ) (code count left : ℕ) → HexWritten old new code count left → 0 < left → next ≡ new ++ digit_char (code / 16 ^ (left - 1) % 16) ∷ [] → HexWritten old next code count (left - 1)
+pub hex_more : (old new next : List ℕ) (code count left : ℕ) → HexWritten old new code count left → 0 < left
+    → next ≡ new ++ digit_char (code / 16 ^ (left - 1) % 16) ∷ [] → HexWritten old next code count (left - 1)
 unfolding hex_digits
 hex_more old new next code count zero h some n = absurd (omega arith)
 hex_more old new next code count (suc k) h some n =
     let few : suc k ≤ 6 = h.few in
     let back : suc k - 1 ≡ k = omega arith in
     let m : next ≡ new ++ digit_char (code / 16 ^ k % 16) ∷ [] = rw back at n in
-    rw back (record { few = omega arith; writes = writes_more old new (hex_digits (suc k) code) (hex_digits count code) (digit_char (code / 16 ^ k % 16) ∷ []) (hex_digits k code) next h.writes refl m })
+    rw back (record {
+      few = omega arith;
+      writes = writes_more old new (hex_digits (suc k) code) (hex_digits count code)
+          (digit_char (code / 16 ^ k % 16) ∷ []) (hex_digits k code) next h.writes refl m;
+    })
 
 pub hex_done : (old new : List ℕ) (code count left : ℕ) → HexWritten old new code count left → left ≡ 0 → new ≡ old ++ hex_digits count code
 unfolding hex_digits
@@ -101,22 +108,32 @@ pub record ItemsWritten {X : Type 0} (text : X → List ℕ) (old new : List ℕ
 pub items_begun : {X : Type 0} (text : X → List ℕ) (old : List ℕ) (xs : List X) → ItemsWritten text old old xs true 0
 items_begun text old xs = record { writes = writes_nothing old (items_text text xs) }
 
-item_step : {X : Type 0} (text : X → List ℕ) (is_first : Bool) (x : X) (xs : List X) → items_left text is_first (x ∷ xs) ≡ (comma is_first ++ text x) ++ more_items text xs
+pub item_step : {X : Type 0} (text : X → List ℕ) (is_first : Bool) (x : X) (xs : List X)
+    → items_left text is_first (x ∷ xs) ≡ (comma is_first ++ text x) ++ more_items text xs
 item_step text true x xs = refl
 item_step text false x xs = refl
 
-pub items_more : {X : Type 0} (text : X → List ℕ) (old new next : List ℕ) (xs : List X) (is_first : Bool) (i : ℕ) (x : X) → ItemsWritten text old new xs is_first i → i < length xs → x ≡ get_or xs i x → next ≡ new ++ (comma is_first ++ text x) → ItemsWritten text old next xs false (i + 1)
+pub items_more : {X : Type 0} (text : X → List ℕ) (old new next : List ℕ) (xs : List X) (is_first : Bool) (i : ℕ)
+    (x : X) → ItemsWritten text old new xs is_first i → i < length xs → x ≡ get_or xs i x → next ≡ new
+    ++ (comma is_first ++ text x) → ItemsWritten text old next xs false (i + 1)
 items_more text old new next xs is_first i x h lt is whole =
     let more : drop i xs ≡ x ∷ drop (i + 1) xs = drop_more xs i x lt ∙ ap (λ (y : _). y ∷ drop (i + 1) xs) (sym is) in
-    let step : items_left text is_first (drop i xs) ≡ (comma is_first ++ text x) ++ more_items text (drop (i + 1) xs) = rw more (item_step text is_first x (drop (i + 1) xs)) in
-    record { writes = writes_more old new (items_left text is_first (drop i xs)) (items_text text xs) (comma is_first ++ text x) (more_items text (drop (i + 1) xs)) next h.writes step whole }
+    let step : items_left text is_first (drop i xs) ≡ (comma is_first ++ text x) ++ more_items text (drop (i + 1) xs) =
+    rw more (item_step text is_first x (drop (i + 1) xs)) in
+    record {
+      writes = writes_more old new (items_left text is_first (drop i xs)) (items_text text xs)
+          (comma is_first ++ text x) (more_items text (drop (i + 1) xs)) next h.writes step whole;
+    }
 
 -- the comma and the item are two appends
-pub items_more_apart : {X : Type 0} (text : X → List ℕ) (old new mid next : List ℕ) (xs : List X) (is_first : Bool) (i : ℕ) (x : X) → ItemsWritten text old new xs is_first i → i < length xs → x ≡ get_or xs i x → mid ≡ new ++ comma is_first → next ≡ mid ++ text x → ItemsWritten text old next xs false (i + 1)
+pub items_more_apart : {X : Type 0} (text : X → List ℕ) (old new mid next : List ℕ) (xs : List X) (is_first : Bool)
+    (i : ℕ) (x : X) → ItemsWritten text old new xs is_first i → i < length xs → x ≡ get_or xs i x
+    → mid ≡ new ++ comma is_first → next ≡ mid ++ text x → ItemsWritten text old next xs false (i + 1)
 items_more_apart text old new mid next xs is_first i x h lt is m n =
     items_more text old new next xs is_first i x h lt is (n ∙ ap (λ (l : List ℕ). l ++ text x) m ∙ append_assoc new (comma is_first) (text x))
 
-pub items_done : {X : Type 0} (text : X → List ℕ) (old new : List ℕ) (xs : List X) (is_first : Bool) (i : ℕ) → ItemsWritten text old new xs is_first i → length xs ≤ i → new ≡ old ++ items_text text xs
+pub items_done : {X : Type 0} (text : X → List ℕ) (old new : List ℕ) (xs : List X) (is_first : Bool) (i : ℕ)
+    → ItemsWritten text old new xs is_first i → length xs ≤ i → new ≡ old ++ items_text text xs
 items_done text old new xs is_first i h le =
     let none : drop i xs ≡ [] = drop_all i xs le in
     let left : items_left text is_first (drop i xs) ≡ [] = rw none (no_items text is_first) in
@@ -126,7 +143,8 @@ items_done text old new xs is_first i h le =
     no_items text true = refl
     no_items text false = refl
 
-pub items_start : {X : Type 0} (text : X → List ℕ) (old new : List ℕ) (xs : List X) (is_first : Bool) (i : ℕ) → ItemsWritten text old new xs is_first i → StartsWith new old
+pub items_start : {X : Type 0} (text : X → List ℕ) (old new : List ℕ) (xs : List X) (is_first : Bool) (i : ℕ)
+    → ItemsWritten text old new xs is_first i → StartsWith new old
 items_start text old new xs is_first i h = writes_start old new (items_left text is_first (drop i xs)) (items_text text xs) h.writes
 
 pub on_err : {T E : Type 0} (r : Result T E) (P : Type 0) → P → OnErr r P
@@ -143,11 +161,17 @@ pub record TextWritten (old new text rest : List ℕ) : Type 0 where
 pub text_begun : (old text : List ℕ) → IsUtf8 text → TextWritten old old text text
 text_begun old text u = record { utf8 = u; writes = writes_nothing old (escaped_text text) }
 
-pub text_more : (old new next text rest after : List ℕ) (c : ℕ) → TextWritten old new text rest → rest ≡ encode_utf8 c ++ after → next ≡ new ++ char_text c → TextWritten old next text after
+pub text_more : (old new next text rest after : List ℕ) (c : ℕ) → TextWritten old new text rest → rest ≡ encode_utf8 c
+    ++ after → next ≡ new ++ char_text c → TextWritten old next text after
 unfolding escaped_text
 text_more old new next text rest after c h e n =
     let step : chars rest ≡ c ∷ chars after = chars_past_char rest after c h.utf8 e in
-    record { utf8 = IsUtf8-past_char rest after c h.utf8 e; writes = writes_more old new (escaped_text rest) (escaped_text text) (char_text c) (escaped_text after) next h.writes (ap chars_text step) n }
+    record {
+      utf8 = IsUtf8-past_char rest after c h.utf8 e;
+      writes =
+          writes_more old new (escaped_text rest) (escaped_text text) (char_text c) (escaped_text after) next h.writes
+          (ap chars_text step) n;
+    }
 
 pub text_done : (old new text rest : List ℕ) → TextWritten old new text rest → length rest ≡ 0 → new ≡ old ++ escaped_text text
 unfolding escaped_text chars
@@ -188,7 +212,8 @@ starts_back old mid new part e h = starts_more old mid new (rw e (starts_append 
 opl_text-append : (xs ys : List ChangeValue) → opl_text (xs ++ ys) ≡ opl_text xs ++ opl_text ys
 unfolding opl_text
 opl_text-append [] ys = refl
-opl_text-append (x ∷ xs) ys = ap (λ (l : List ℕ). line_text x ++ 10 ∷ l) (opl_text-append xs ys) ∙ sym (append_assoc (line_text x) (10 ∷ opl_text xs) (opl_text ys))
+opl_text-append (x ∷ xs) ys = ap (λ (l : List ℕ). line_text x ++ 10 ∷ l) (opl_text-append xs ys)
+    ∙ sym (append_assoc (line_text x) (10 ∷ opl_text xs) (opl_text ys))
 
 -- the lines of the first changes
 pub record FileWritten (text : List ℕ) (changes : List ChangeValue) (i : ℕ) : Type 0 where
@@ -199,17 +224,22 @@ pub file_begun : (changes : List ChangeValue) → FileWritten [] changes 0
 unfolding opl_text
 file_begun changes = record { same = refl; small = omega arith }
 
-pub file_more : (text next : List ℕ) (changes : List ChangeValue) (i : ℕ) (c : ChangeValue) → FileWritten text changes i → i < length changes → c ≡ get_or changes i c → next ≡ text ++ (line_text c ++ 10 ∷ []) → next ≡ opl_text (take (i + 1) changes)
+pub file_more : (text next : List ℕ) (changes : List ChangeValue) (i : ℕ) (c : ChangeValue) → FileWritten text changes i
+    → i < length changes → c ≡ get_or changes i c → next ≡ text ++ (line_text c ++ 10 ∷ [])
+    → next ≡ opl_text (take (i + 1) changes)
 unfolding opl_text
 file_more text next changes i c h lt is n =
     let more : take (i + 1) changes ≡ take i changes ++ c ∷ [] = take_more changes i c lt ∙ ap (λ (d : ChangeValue). take i changes ++ d ∷ []) (sym is) in
     n ∙ ap (λ (l : List ℕ). l ++ (line_text c ++ 10 ∷ [])) h.same ∙ sym (opl_text-append (take i changes) (c ∷ [])) ∙ ap opl_text (sym more)
 
 -- the lines of the first changes are no longer than those of all
-pub file_prefix : (text : List ℕ) (changes : List ChangeValue) (i : ℕ) → text ≡ opl_text (take i changes) → max_file < length text → max_file < length (opl_text changes)
+pub file_prefix : (text : List ℕ) (changes : List ChangeValue) (i : ℕ) → text ≡ opl_text (take i changes)
+    → max_file < length text → max_file < length (opl_text changes)
 file_prefix text changes i e h =
-    let whole : opl_text changes ≡ opl_text (take i changes) ++ opl_text (drop i changes) = ap opl_text (sym (take-append-drop i changes)) ∙ opl_text-append (take i changes) (drop i changes) in
-    let l : length (opl_text changes) ≡ length (opl_text (take i changes)) + length (opl_text (drop i changes)) = ap length whole ∙ length-append (opl_text (take i changes)) (opl_text (drop i changes)) in
+    let whole : opl_text changes ≡ opl_text (take i changes) ++ opl_text (drop i changes) =
+    ap opl_text (sym (take-append-drop i changes)) ∙ opl_text-append (take i changes) (drop i changes) in
+    let l : length (opl_text changes) ≡ length (opl_text (take i changes)) + length (opl_text (drop i changes)) =
+    ap length whole ∙ length-append (opl_text (take i changes)) (opl_text (drop i changes)) in
     let m : length text ≡ length (opl_text (take i changes)) = ap length e in
     omega arith
 

@@ -1,5 +1,6 @@
 -- A number, an id or a coordinate that is written spells what was written.
-use Rattle.std.proofs.Common.{◌≡◌, ℕ, zero, suc, ◌+◌, ◌-◌, ◌*◌, ◌/◌, ◌%◌, ◌^◌, ◌<◌, ◌≤◌, true, false, List, [], ◌∷◌, ◌++◌, length, sym, ap, subst, ◌∙◌, arith, inl, inr, lit<}
+use Rattle.std.proofs.Common.{◌≡◌, ℕ, zero, suc, ◌+◌, ◌-◌, ◌*◌, ◌/◌, ◌%◌, ◌^◌, ◌<◌, ◌≤◌, true, false, List, [], ◌∷◌}
+use Rattle.std.proofs.Common.{◌++◌, length, sym, ap, subst, ◌∙◌, arith, inl, inr, lit<}
 use Rattle.std.specs.Prelude.{◌==◌, ℤ, pos, negsuc, neg_ℤ, ◌≤ℤ◌, decimal, int_lt}
 use Rattle.std.specs.Char.{digit_value}
 use Rattle.std.specs.Fmt.{signed_decimal}
@@ -22,8 +23,10 @@ use Rattle.osm_opl.specs.Written.{coordinate_text, decimals, fraction_text}
 value_after : (n : ℕ) (ds : List ℕ) → digits_value_after 10 n ds ≡ n * 10 ^ length ds + digits_value 10 ds
 value_after n [] = omega arith
 value_after n (d ∷ ds) =
-    let a : digits_value_after 10 (n * 10 + digit_value d) ds ≡ (n * 10 + digit_value d) * 10 ^ length ds + digits_value 10 ds = value_after (n * 10 + digit_value d) ds in
-    let b : digits_value_after 10 (0 * 10 + digit_value d) ds ≡ (0 * 10 + digit_value d) * 10 ^ length ds + digits_value 10 ds = value_after (0 * 10 + digit_value d) ds in
+    let a : digits_value_after 10 (n * 10 + digit_value d) ds ≡ (n * 10 + digit_value d) * 10 ^ length ds
+    + digits_value 10 ds = value_after (n * 10 + digit_value d) ds in
+    let b : digits_value_after 10 (0 * 10 + digit_value d) ds ≡ (0 * 10 + digit_value d) * 10 ^ length ds
+    + digits_value 10 ds = value_after (0 * 10 + digit_value d) ds in
     let p : 10 ^ suc (length ds) ≡ 10 ^ length ds * 10 = pow-suc 10 (length ds) in
     let q : n * 10 ^ suc (length ds) ≡ n * (10 ^ length ds * 10) = ap (λ (x : ℕ). n * x) p in
     omega (arith, a, b, q)
@@ -55,13 +58,16 @@ scaled q a v b k r n ab vb qk =
     let m : q * (a * b) ≡ q * k = ap (λ (x : ℕ). q * x) ab in
     omega (arith, m)
 
-one_more : (k n : ℕ) (ds : List ℕ) → 0 < 10 ^ k → n / 10 ^ k < 10 → digit_value (48 + n / 10 ^ k) ≡ n / 10 ^ k → IsDecimals k (n % 10 ^ k) ds → IsDecimals (suc k) n ((48 + n / 10 ^ k) ∷ ds)
+one_more : (k n : ℕ) (ds : List ℕ) → 0 < 10 ^ k → n / 10 ^ k < 10 → digit_value (48 + n / 10 ^ k) ≡ n / 10 ^ k
+    → IsDecimals k (n % 10 ^ k) ds → IsDecimals (suc k) n ((48 + n / 10 ^ k) ∷ ds)
 one_more k n ds above q d inner =
     let short : length ds ≤ k = inner.short in
     let v : digits_value 10 ds * 10 ^ (k - length ds) ≡ n % 10 ^ k = inner.value in
-    let a : digits_value_after 10 (0 * 10 + digit_value (48 + n / 10 ^ k)) ds ≡ (0 * 10 + digit_value (48 + n / 10 ^ k)) * 10 ^ length ds + digits_value 10 ds = value_after (0 * 10 + digit_value (48 + n / 10 ^ k)) ds in
+    let a : digits_value_after 10 (0 * 10 + digit_value (48 + n / 10 ^ k)) ds ≡ (0 * 10 + digit_value (48 + n / 10 ^ k))
+    * 10 ^ length ds + digits_value 10 ds = value_after (0 * 10 + digit_value (48 + n / 10 ^ k)) ds in
     let first : 0 * 10 + digit_value (48 + n / 10 ^ k) ≡ n / 10 ^ k = omega (arith, d) in
-    let is : digits_value 10 ((48 + n / 10 ^ k) ∷ ds) ≡ n / 10 ^ k * 10 ^ length ds + digits_value 10 ds = a ∙ ap (λ (x : ℕ). x * 10 ^ length ds + digits_value 10 ds) first in
+    let is : digits_value 10 ((48 + n / 10 ^ k) ∷ ds) ≡ n / 10 ^ k * 10 ^ length ds + digits_value 10 ds =
+    a ∙ ap (λ (x : ℕ). x * 10 ^ length ds + digits_value 10 ds) first in
     let less : suc k - suc (length ds) ≡ k - length ds = omega arith in
     let both : length ds + (k - length ds) ≡ k = omega arith in
     let power : 10 ^ length ds * 10 ^ (k - length ds) ≡ 10 ^ k = sym (pow-add 10 (length ds) (k - length ds)) ∙ ap (λ (x : ℕ). 10 ^ x) both in
@@ -69,7 +75,10 @@ one_more k n ds above q d inner =
     record {
       each = (omega (arith, d), inner.each);
       short = omega arith;
-      value = ap (λ (x : ℕ). x * 10 ^ (suc k - suc (length ds))) is ∙ ap (λ (x : ℕ). (n / 10 ^ k * 10 ^ length ds + digits_value 10 ds) * 10 ^ x) less ∙ scaled (n / 10 ^ k) (10 ^ length ds) (digits_value 10 ds) (10 ^ (k - length ds)) (10 ^ k) (n % 10 ^ k) n power v back;
+      value = ap (λ (x : ℕ). x * 10 ^ (suc k - suc (length ds))) is
+          ∙ ap (λ (x : ℕ). (n / 10 ^ k * 10 ^ length ds + digits_value 10 ds) * 10 ^ x) less
+          ∙ scaled (n / 10 ^ k) (10 ^ length ds) (digits_value 10 ds) (10 ^ (k - length ds)) (10 ^ k)
+          (n % 10 ^ k) n power v back;
     }
 
 decimals_are : (k n : ℕ) → n < 10 ^ k → IsDecimals k n (decimals k n)
@@ -104,12 +113,20 @@ units_spell m h =
     elim (cases_lt 0 (m % 10 ^ 7)) [
       | inr nothing ↦
           let t : (m % 10 ^ 7 == 0) ≡ true = grind (arith, nat_tests) in
-          rw (t, append-nil (decimal (m / 10 ^ 7))) (units_of (decimal (m / 10 ^ 7)) (digits_value 10 (decimal (m / 10 ^ 7)) * 10 ^ 7) m (whole (decimal (m / 10 ^ 7)) d.0 short) (omega (arith, value)))
+          rw (t, append-nil (decimal (m / 10 ^ 7)))
+          (units_of (decimal (m / 10 ^ 7)) (digits_value 10 (decimal (m / 10 ^ 7)) * 10 ^ 7) m
+          (whole (decimal (m / 10 ^ 7)) d.0 short) (omega (arith, value)))
       | inl some ↦
           let t : (m % 10 ^ 7 == 0) ≡ false = grind (arith, nat_tests) in
           let f : IsDecimals 7 (m % 10 ^ 7) (decimals 7 (m % 10 ^ 7)) = decimals_are 7 (m % 10 ^ 7) (omega arith) in
           let part : digits_value 10 (decimals 7 (m % 10 ^ 7)) * 10 ^ (7 - length (decimals 7 (m % 10 ^ 7))) ≡ m % 10 ^ 7 = f.value in
-          rw t (units_of (decimal (m / 10 ^ 7) ++ 46 ∷ decimals 7 (m % 10 ^ 7)) (digits_value 10 (decimal (m / 10 ^ 7)) * 10 ^ 7 + digits_value 10 (decimals 7 (m % 10 ^ 7)) * 10 ^ (7 - length (decimals 7 (m % 10 ^ 7)))) m (point (decimal (m / 10 ^ 7)) (decimals 7 (m % 10 ^ 7)) d.0 short (decimals_some (m % 10 ^ 7) some, f.each) f.short) (omega (arith, value, part)))
+          rw t (units_of (decimal (m / 10 ^ 7) ++ 46 ∷ decimals 7 (m % 10 ^ 7))
+          (digits_value 10 (decimal (m / 10 ^ 7)) * 10 ^ 7 + digits_value 10 (decimals 7 (m % 10 ^ 7)) * 10 ^
+          (7 - length (decimals 7 (m % 10 ^ 7)))) m
+          (point (decimal (m / 10 ^ 7)) (decimals 7 (m % 10 ^ 7)) d.0 short (
+            decimals_some (m % 10 ^ 7) some,
+            f.each,
+          ) f.short) (omega (arith, value, part)))
     ]
 
 pub coordinate_spells : (z : ℤ) → neg_ℤ (pos 1800000000) ≤ℤ z → z ≤ℤ pos 1800000000 → SpellsCoordinate (coordinate_text z) z
@@ -117,4 +134,5 @@ unfolding coordinate_text
 coordinate_spells (pos n) low high =
     let t : int_lt (pos n) (pos 0) ≡ false = grind (arith, nat_tests) in
     rw t (plain (decimal (n / 10 ^ 7) ++ fraction_text (n % 10 ^ 7)) n (units_spell n (omega (arith, ints, high))))
-coordinate_spells (negsuc n) low high = minus (decimal (suc n / 10 ^ 7) ++ fraction_text (suc n % 10 ^ 7)) (suc n) (units_spell (suc n) (omega (arith, ints, low)))
+coordinate_spells (negsuc n) low high = minus (decimal (suc n / 10 ^ 7) ++ fraction_text (suc n % 10 ^ 7)) (suc n)
+    (units_spell (suc n) (omega (arith, ints, low)))

@@ -1,5 +1,6 @@
 -- A text that is written, with its escapes, spells what was written.
-use Rattle.std.proofs.Common.{◌≡◌, ℕ, zero, suc, ◌+◌, ◌*◌, ◌/◌, ◌%◌, ◌^◌, ◌<◌, ◌≤◌, Bool, true, false, cond, List, [], ◌∷◌, ◌++◌, length, refl, sym, ap, subst, ◌∙◌, append_assoc, arith, inl, inr, lit<, lit≤}
+use Rattle.std.proofs.Common.{◌≡◌, ℕ, zero, suc, ◌+◌, ◌*◌, ◌/◌, ◌%◌, ◌^◌, ◌<◌, ◌≤◌, Bool, true, false, cond, List, []}
+use Rattle.std.proofs.Common.{◌∷◌, ◌++◌, length, refl, sym, ap, subst, ◌∙◌, append_assoc, arith, inl, inr, lit<, lit≤}
 use Rattle.std.specs.Prelude.{◌≢◌, nat_lt, Contains}
 use Rattle.std.specs.Char.{digit_char, digit_value, encode_utf8}
 use Rattle.std.specs.List.{AllByRecursion}
@@ -22,8 +23,10 @@ use Rattle.osm_opl.specs.Written.{char_text, chars_text, hex_count, hex_digits, 
 hex_after : (n : ℕ) (ds : List ℕ) → digits_value_after 16 n ds ≡ n * 16 ^ length ds + digits_value 16 ds
 hex_after n [] = omega arith
 hex_after n (d ∷ ds) =
-    let a : digits_value_after 16 (n * 16 + digit_value d) ds ≡ (n * 16 + digit_value d) * 16 ^ length ds + digits_value 16 ds = hex_after (n * 16 + digit_value d) ds in
-    let b : digits_value_after 16 (0 * 16 + digit_value d) ds ≡ (0 * 16 + digit_value d) * 16 ^ length ds + digits_value 16 ds = hex_after (0 * 16 + digit_value d) ds in
+    let a : digits_value_after 16 (n * 16 + digit_value d) ds ≡ (n * 16 + digit_value d) * 16 ^ length ds
+    + digits_value 16 ds = hex_after (n * 16 + digit_value d) ds in
+    let b : digits_value_after 16 (0 * 16 + digit_value d) ds ≡ (0 * 16 + digit_value d) * 16 ^ length ds
+    + digits_value 16 ds = hex_after (0 * 16 + digit_value d) ds in
     let p : 16 ^ suc (length ds) ≡ 16 ^ length ds * 16 = pow-suc 16 (length ds) in
     let q : n * 16 ^ suc (length ds) ≡ n * (16 ^ length ds * 16) = ap (λ (x : ℕ). n * x) p in
     omega (arith, a, b, q)
@@ -39,7 +42,8 @@ hex_step p c d above is =
     let e : ℕ = c / p / 16 in
     let back : c / p * p + c % p ≡ c = omega arith in
     let high : c / p ≡ 16 * (c / p / 16) + d = omega arith in
-    let parts : c ≡ p * 16 * (c / p / 16) + (d * p + c % p) = let m : c / p * p ≡ (16 * (c / p / 16) + d) * p = ap (λ (x : ℕ). x * p) high in omega (arith, m, back) in
+    let parts : c ≡ p * 16 * (c / p / 16) + (d * p + c % p) = let m : c / p * p ≡ (16 * (c / p / 16) + d) * p =
+    ap (λ (x : ℕ). x * p) high in omega (arith, m, back) in
     let r : c % p < p = mod-lt c {m = p} above in
     let small : d ≤ 15 = omega arith in
     let bound : p * d ≤ p * 15 = mul-le-mul_left p small in
@@ -55,13 +59,19 @@ hex_are (suc k) c =
     let digit : digit_value (digit_char (c / 16 ^ k % 16)) ≡ c / 16 ^ k % 16 = digit_value-digit_char (c / 16 ^ k % 16) (omega arith) in
     let v : digits_value 16 (hex_digits k c) ≡ c % 16 ^ k = inner.value in
     let n : length (hex_digits k c) ≡ k = inner.count in
-    let a : digits_value_after 16 (0 * 16 + digit_value (digit_char (c / 16 ^ k % 16))) (hex_digits k c) ≡ (0 * 16 + digit_value (digit_char (c / 16 ^ k % 16))) * 16 ^ length (hex_digits k c) + digits_value 16 (hex_digits k c) = hex_after (0 * 16 + digit_value (digit_char (c / 16 ^ k % 16))) (hex_digits k c) in
+    let a : digits_value_after 16 (0 * 16 + digit_value (digit_char (c / 16 ^ k % 16))) (hex_digits k c) ≡
+    (0 * 16 + digit_value (digit_char (c / 16 ^ k % 16))) * 16 ^ length (hex_digits k c)
+    + digits_value 16 (hex_digits k c) = hex_after (0 * 16 + digit_value (digit_char (c / 16 ^ k % 16)))
+    (hex_digits k c) in
     let first : 0 * 16 + digit_value (digit_char (c / 16 ^ k % 16)) ≡ c / 16 ^ k % 16 = omega (arith, digit) in
     let p : 16 ^ suc k ≡ 16 ^ k * 16 = pow-suc 16 k in
     record {
       each = (omega (arith, digit), inner.each);
       count = ap (λ (x : ℕ). suc x) n;
-      value = a ∙ ap (λ (x : ℕ). x * 16 ^ length (hex_digits k c) + digits_value 16 (hex_digits k c)) first ∙ ap (λ (x : ℕ). c / 16 ^ k % 16 * 16 ^ x + digits_value 16 (hex_digits k c)) n ∙ ap (λ (x : ℕ). c / 16 ^ k % 16 * 16 ^ k + x) v ∙ hex_step (16 ^ k) c (c / 16 ^ k % 16) above refl ∙ ap (λ (x : ℕ). c % x) (sym p);
+      value = a ∙ ap (λ (x : ℕ). x * 16 ^ length (hex_digits k c) + digits_value 16 (hex_digits k c)) first
+          ∙ ap (λ (x : ℕ). c / 16 ^ k % 16 * 16 ^ x + digits_value 16 (hex_digits k c)) n
+          ∙ ap (λ (x : ℕ). c / 16 ^ k % 16 * 16 ^ k + x) v ∙ hex_step (16 ^ k) c (c / 16 ^ k % 16) above refl
+          ∙ ap (λ (x : ℕ). c % x) (sym p);
     }
 
 scalar_bound : (c : ℕ) → scalar c ≡ true → c < 0x110000
@@ -95,7 +105,14 @@ names c s other =
     let n : length (hex_digits (hex_count c) c) ≡ hex_count c = h.count in
     let few : hex_count c ≤ 6 = k.few in
     let some : 1 ≤ hex_count c = k.some in
-    record { numeral = (omega (arith, n, some), h.each); short = omega (arith, n, few); value = sym (h.value ∙ mod-eq_of_lt k.below); scalar = s; other = other }
+    record {
+      numeral = (omega (arith, n, some), h.each);
+      short = omega (arith, n, few);
+      value =
+          sym (h.value ∙ mod-eq_of_lt k.below);
+      scalar = s;
+      other = other;
+    }
 
 -- ---- characters and texts
 
@@ -107,7 +124,8 @@ char_spells c bytes text s other h = by_test (is_written_bare c) refl
     by_test true e =
         let small : c < 128 = grind (arith, nat_tests) in
         let free : is_reserved c ≡ false = grind (arith, nat_tests) in
-        subst (λ (l : List ℕ). SpellsText (l ++ bytes) (encode_utf8 c ++ text)) (encode_ascii c small) (bare c bytes text (record { scalar = s; free = free }) h)
+        subst (λ (l : List ℕ). SpellsText (l ++ bytes) (encode_utf8 c ++ text)) (encode_ascii c small)
+        (bare c bytes text (record { scalar = s; free = free }) h)
     by_test false e = rw (append_assoc (37 ∷ hex_digits (hex_count c) c) (37 ∷ []) bytes) (escape (hex_digits (hex_count c) c) c bytes text (names c s other) h)
 
 chars_spell : (cs : List ℕ) → scalars cs ≡ true → AllByRecursion (λ c. c ≢ 0) cs → SpellsText (chars_text cs) (encodes cs)
@@ -127,7 +145,8 @@ chars_no_nul (c ∷ cs) h = (
     first_nul c rest z = let e : encode_utf8 c ≡ c ∷ [] = encode_ascii c (omega arith) in rw e (0, omega arith, z)
 
     contains_after : (xs ys : List ℕ) → Contains ys 0 → Contains (xs ++ ys) 0
-    contains_after xs ys (k, lt, is) = let l : length (xs ++ ys) ≡ length xs + length ys = length-append xs ys in (length xs + k, omega arith, get_or-append-add xs ys k 0 ∙ is)
+    contains_after xs ys (k, lt, is) = let l : length (xs ++ ys) ≡ length xs + length ys = length-append xs ys in
+        (length xs + k, omega arith, get_or-append-add xs ys k 0 ∙ is)
 
 pub text_is_spelled : (text : List ℕ) → IsText text → SpellsText (escaped_text text) text
 unfolding escaped_text

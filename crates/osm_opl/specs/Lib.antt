@@ -5,4 +5,5 @@ pub mod Lists
 pub mod Line
 pub mod File
 pub mod Written
+pub mod Room
 pub mod Steps

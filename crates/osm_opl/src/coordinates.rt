@@ -1,10 +1,12 @@
 //! Longitudes and latitudes, in units of 10^-7 degree.
 
+ghost use Rattle.std.specs.Prelude.{vec_capacity};
 ghost use Rattle.std.specs.Prelude.{◌≡◌, ◌-◌, ◌^◌, ◌<◌, ◌≤◌, ◌++◌, ◌≤ℤ◌, length, pos};
 ghost use Rattle.std.specs.Prelude.{◌/◌, ◌%◌, ◌∷◌, unsigned_abs, option_map, drop};
 ghost use Rattle.std.specs.Prelude.{IfOk, OnOk, OnErr};
 ghost use Rattle.std.specs.Fmt.{decimal};
 ghost use Rattle.std.specs.Io.{StartsWith};
+ghost use Rattle.osm_opl.specs.Room.{LacksRoom};
 ghost use Rattle.osm_opl.specs.Steps.Reading.{coordinate_at, digits_at};
 ghost use Rattle.osm_opl.specs.Steps.Reading.{maybe_coordinate_at, units_at};
 ghost use Rattle.osm_opl.specs.Written.{coordinate_field, decimals, fraction_text};
@@ -104,6 +106,8 @@ pub(crate) fn write_coordinate(
     requires { length mark.now ≤ 2 }
     ensures ok { OnOk result (out.new.items ≡ out.old.items ++ coordinate_field mark.now units) }
     ensures err { OnErr result (StartsWith out.new.items out.old.items) }
+    ensures room { vec_capacity out.old ≤ vec_capacity out.new }
+    ensures refused { OnErr result (LacksRoom out.old (coordinate_field mark.now units)) }
 {
     let mut room = [0; ROOM];
     let size = prepend_size(units.unsigned_abs(), &mut room);

@@ -1,13 +1,15 @@
 //! Texts: user names, keys and values of tags, and roles. A character is written bare or as an
 //! escape `%DIGITS%` with the hexadecimal digits of its code.
 
+ghost use Rattle.std.specs.Prelude.{vec_capacity};
 ghost use Rattle.std.specs.Prelude.{◌≡◌, ◌-◌, ◌^◌, ◌<◌, ◌≤◌, ◌++◌, length, min, option_map};
 ghost use Rattle.std.specs.Prelude.{true, string_bytes, if◌then◌else◌, Some, None, ◌∷◌, []};
-ghost use Rattle.std.specs.Prelude.{IfErr, OnOk, OnErr};
+ghost use Rattle.std.specs.Prelude.{IfErr, IfOk, OnOk, OnErr, string_capacity};
 ghost use Rattle.std.specs.Char.{digit_char, encode_utf8};
 ghost use Rattle.std.specs.Io.{StartsWith};
 ghost use Rattle.std.specs.List.{list_all};
 ghost use Rattle.osm_opl.specs.Escape.{is_reserved};
+ghost use Rattle.osm_opl.specs.Room.{LacksRoom, WantsOnlyIf};
 ghost use Rattle.osm_opl.specs.Steps.Reading.{PassesLimit, digits_at, escape_at, is_bare_run};
 ghost use Rattle.osm_opl.specs.Steps.Reading.{is_free, run_at, runs_at, text_at};
 ghost use Rattle.osm_opl.specs.Written.{char_text, escaped_text, hex_count, hex_digits};
@@ -21,7 +23,7 @@ use osm_model::memory::WantOfMemory;
 use osm_model::text::Text;
 use osm_reading::pieces::cut;
 use osm_reading::refusal::Refusal;
-use std::alloc::Global;
+use std::alloc::{AllocError, Global};
 
 // Each byte that is written bare is at its own index, and a comma is everywhere else.
 static BARE: [u8; 256] = *b"\
@@ -37,7 +39,8 @@ static BARE: [u8; 256] = *b"\
 /// Reads a text of at most 1,020 bytes and resolves its escapes.
 #[tactic(auto, unfolding(crate::specs::Steps::Reading::text_at))]
 pub(crate) fn read_text(alloc: Global, bytes: &[u8]) -> Result<Text, Refusal>
-    ensures { Gives (λ t. t) result (text_at bytes.now) }
+    ensures value { Gives (λ t. t) result (text_at bytes.now) }
+    ensures wants { WantsOnlyIf (0 < length bytes.now) result }
 {
     if is_free_run(bytes) {
         return read_bare(alloc, bytes);
@@ -49,7 +52,8 @@ pub(crate) fn read_text(alloc: Global, bytes: &[u8]) -> Result<Text, Refusal>
 // Reads a text that has no escapes.
 fn read_bare(alloc: Global, bytes: &[u8]) -> Result<Text, Refusal>
     requires { list_all is_free bytes.now ≡ true }
-    ensures { Gives (λ t. t) result (text_at bytes.now) }
+    ensures value { Gives (λ t. t) result (text_at bytes.now) }
+    ensures wants { WantsOnlyIf (22 < length bytes.now) result }
 {
     let Ok(text) = std::str::from_utf8(bytes) else {
         return Err(Refusal::Fault(Why::BadText));
@@ -64,7 +68,7 @@ fn read_bare(alloc: Global, bytes: &[u8]) -> Result<Text, Refusal>
 fn unescape(alloc: Global, bytes: &[u8]) -> Result<String, Refusal>
     ensures { Gives string_bytes result (text_at bytes.now) }
 {
-    let mut text = String::with_capacity(alloc, bytes.len().min(MAX_TEXT))?;
+    let mut text = room_for_text(alloc, bytes)?;
     let mut rest = bytes;
     loop {
         let (run, after) = cut(rest, b'%');
@@ -79,6 +83,16 @@ fn unescape(alloc: Global, bytes: &[u8]) -> Result<String, Refusal>
         append_char(read_escape(digits)?, &mut text)?;
         rest = after;
     }
+}
+
+// An empty text with room for that many bytes, but for no more than a text may have.
+fn room_for_text(alloc: Global, bytes: &[u8]) -> Result<String, AllocError>
+    ensures none { IfOk result (λ text. string_bytes text ≡ []) }
+    ensures room { IfOk result (λ text. (string_capacity text ≤ 1020)
+        × (string_capacity text ≤ length bytes.now)) }
+    ensures refused { OnErr result (0 < length bytes.now) }
+{
+    String::with_capacity(alloc, bytes.len().min(MAX_TEXT))
 }
 
 fn append_run(run: &str, text: &mut String) -> Result<(), Refusal>
@@ -175,6 +189,8 @@ fn read_hex(digits: &[u8]) -> Result<u32, Why>
 pub(crate) fn write_text(text: &str, out: &mut Vec<u8>) -> Result<(), WantOfMemory>
     ensures ok { OnOk result (out.new.items ≡ out.old.items ++ escaped_text text.now) }
     ensures err { OnErr result (StartsWith out.new.items out.old.items) }
+    ensures room { vec_capacity out.old ≤ vec_capacity out.new }
+    ensures refused { OnErr result (LacksRoom out.old (escaped_text text.now)) }
 {
     if is_written_as_it_is(text.as_bytes()) {
         out.extend_from_slice(text.as_bytes())?;
@@ -199,6 +215,8 @@ fn is_bare_byte(byte: u8) -> bool
 fn write_chars(text: &str, out: &mut Vec<u8>) -> Result<(), WantOfMemory>
     ensures ok { OnOk result (out.new.items ≡ out.old.items ++ escaped_text text.now) }
     ensures err { OnErr result (StartsWith out.new.items out.old.items) }
+    ensures room { vec_capacity out.old ≤ vec_capacity out.new }
+    ensures refused { OnErr result (LacksRoom out.old (escaped_text text.now)) }
 {
     for character in text.chars() {
         write_char(character, out)?;
@@ -217,6 +235,8 @@ fn is_written_bare(code: u32) -> bool
 fn write_char(character: char, out: &mut Vec<u8>) -> Result<(), WantOfMemory>
     ensures ok { OnOk result (out.new.items ≡ out.old.items ++ char_text character) }
     ensures err { OnErr result (StartsWith out.new.items out.old.items) }
+    ensures room { vec_capacity out.old ≤ vec_capacity out.new }
+    ensures refused { OnErr result (LacksRoom out.old (char_text character)) }
 {
     let code = character as u32;
     if is_written_bare(code) {
@@ -238,6 +258,9 @@ fn write_short_escape(code: u32, out: &mut Vec<u8>) -> Result<(), WantOfMemory>
     ensures ok { OnOk result (out.new.items
         ≡ out.old.items ++ (37 ∷ hex_digits (hex_count code) code ++ 37 ∷ [])) }
     ensures err { OnErr result (StartsWith out.new.items out.old.items) }
+    ensures room { vec_capacity out.old ≤ vec_capacity out.new }
+    ensures refused { OnErr result (LacksRoom out.old
+        (37 ∷ hex_digits (hex_count code) code ++ 37 ∷ [])) }
 {
     let first = hex_digit((code / 16) as u8);
     let second = hex_digit((code % 16) as u8);
@@ -262,6 +285,8 @@ fn write_hex(code: u32, count: u32, out: &mut Vec<u8>) -> Result<(), WantOfMemor
     requires { count ≤ 6 }
     ensures ok { OnOk result (out.new.items ≡ out.old.items ++ hex_digits count code) }
     ensures err { OnErr result (StartsWith out.new.items out.old.items) }
+    ensures room { vec_capacity out.old ≤ vec_capacity out.new }
+    ensures refused { OnErr result (LacksRoom out.old (hex_digits count code)) }
 {
     let mut left = count;
     while left > 0 {

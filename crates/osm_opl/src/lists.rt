@@ -1,9 +1,10 @@
 //! Lists: tags, the nodes of a way and the members of a relation, separated by commas.
 
-ghost use Rattle.std.specs.Prelude.{◌≡◌, ◌<◌, ◌≤◌, ◌++◌, ◌∷◌, [], length, if◌then◌else◌, Some};
-ghost use Rattle.std.specs.Prelude.{IfOk, IfSome, OnOk, OnErr};
+ghost use Rattle.std.specs.Prelude.{◌≡◌, ◌+◌, ◌<◌, ◌≤◌, ◌++◌, ◌∷◌, [], length, if◌then◌else◌};
+ghost use Rattle.std.specs.Prelude.{IfOk, IfSome, OnOk, OnErr, Some, vec_capacity};
 ghost use Rattle.std.specs.Io.{StartsWith};
 ghost use Rattle.osm_opl.specs.Lists.{letter_of};
+ghost use Rattle.osm_opl.specs.Room.{LacksRoom, WantsOnlyIf};
 ghost use Rattle.osm_opl.specs.Steps.Plain.{first_at};
 ghost use Rattle.osm_opl.specs.Steps.Reading.{kind_at, list_at, list_pieces, member_at};
 ghost use Rattle.osm_opl.specs.Steps.Reading.{ref_at, tag_at};
@@ -22,7 +23,7 @@ use osm_model::lists::{Member, Members, Refs, Tag, Tags};
 use osm_model::memory::WantOfMemory;
 use osm_reading::pieces::cut;
 use osm_reading::refusal::Refusal;
-use std::alloc::Global;
+use std::alloc::{AllocError, Global};
 
 // What there is to read of a list: nothing if the list is empty.
 fn first_item(bytes: &[u8]) -> Option<&[u8]>
@@ -31,14 +32,18 @@ fn first_item(bytes: &[u8]) -> Option<&[u8]>
     if bytes.is_empty() { None } else { Some(bytes) }
 }
 
-// How many items to make room for: one for each piece, but no more than may be read.
-fn room_for(bytes: &[u8], most: usize) -> usize
-    ensures { result ≤ most }
+// An empty vector with room for as many items as the bytes have pieces, but for no more than may be
+// read.
+fn room_for<T>(alloc: Global, bytes: &[u8], most: usize) -> Result<Vec<T>, AllocError>
+    ensures none { IfOk result (λ v. v.items ≡ []) }
+    ensures room { IfOk result (λ v. (vec_capacity v ≤ most)
+        × (vec_capacity v ≤ length bytes.now + 1)) }
+    ensures refused { OnErr result (0 < length bytes.now) }
 {
     if bytes.is_empty() {
-        return 0;
+        return Ok(Vec::new(alloc));
     }
-    commas(bytes).saturating_add(1).min(most)
+    Vec::with_capacity(alloc, commas(bytes).saturating_add(1).min(most))
 }
 
 fn commas(bytes: &[u8]) -> usize
@@ -55,7 +60,7 @@ fn commas(bytes: &[u8]) -> usize
 pub(crate) fn read_tags(alloc: Global, bytes: &[u8]) -> Result<Tags, Refusal>
     ensures { Gives (λ t. t) result (list_at tag_at 5000 bytes.now) }
 {
-    let mut tags = Vec::with_capacity(alloc, room_for(bytes, MAX_TAGS))?;
+    let mut tags = room_for(alloc, bytes, MAX_TAGS)?;
     let mut rest = first_item(bytes);
     while let Some(items) = rest {
         if tags.len() >= MAX_TAGS {
@@ -74,7 +79,8 @@ pub(crate) fn read_tags(alloc: Global, bytes: &[u8]) -> Result<Tags, Refusal>
 // `KEY=VALUE`
 #[tactic(auto, unfolding(crate::specs::Steps::Reading::tag_at))]
 fn read_tag(alloc: Global, bytes: &[u8]) -> Result<Tag, Refusal>
-    ensures { Gives (λ t. t) result (tag_at bytes.now) }
+    ensures value { Gives (λ t. t) result (tag_at bytes.now) }
+    ensures wants { WantsOnlyIf (0 < length bytes.now) result }
 {
     let (key, value) = cut(bytes, b'=');
     let Some(value) = value else {
@@ -90,7 +96,7 @@ fn read_tag(alloc: Global, bytes: &[u8]) -> Result<Tag, Refusal>
 pub(crate) fn read_refs(alloc: Global, bytes: &[u8]) -> Result<Refs, Refusal>
     ensures { Gives (λ r. r) result (list_at ref_at 32000 bytes.now) }
 {
-    let mut refs = Vec::with_capacity(alloc, room_for(bytes, MAX_REFS))?;
+    let mut refs = room_for(alloc, bytes, MAX_REFS)?;
     let mut rest = first_item(bytes);
     while let Some(items) = rest {
         if refs.len() >= MAX_REFS {
@@ -157,7 +163,7 @@ fn read_ref(bytes: &[u8]) -> Result<i64, Why>
 pub(crate) fn read_members(alloc: Global, bytes: &[u8]) -> Result<Members, Refusal>
     ensures { Gives (λ m. m) result (list_at member_at 32000 bytes.now) }
 {
-    let mut members = Vec::with_capacity(alloc, room_for(bytes, MAX_REFS))?;
+    let mut members = room_for(alloc, bytes, MAX_REFS)?;
     let mut rest = first_item(bytes);
     while let Some(items) = rest {
         if members.len() >= MAX_REFS {
@@ -176,7 +182,8 @@ pub(crate) fn read_members(alloc: Global, bytes: &[u8]) -> Result<Members, Refus
 // `nID@ROLE`, `wID@ROLE` or `rID@ROLE`
 #[tactic(auto, unfolding(crate::specs::Steps::Reading::member_at))]
 fn read_member(alloc: Global, bytes: &[u8]) -> Result<Member, Refusal>
-    ensures { Gives (λ m. m) result (member_at bytes.now) }
+    ensures value { Gives (λ m. m) result (member_at bytes.now) }
+    ensures wants { WantsOnlyIf (0 < length bytes.now) result }
 {
     let Some((letter, rest)) = bytes.split_first() else {
         return Err(Refusal::Fault(Why::BadKind));
@@ -221,6 +228,8 @@ pub(crate) fn kind_letter(kind: Kind) -> u8
 pub(crate) fn write_tags(tags: &[Tag], out: &mut Vec<u8>) -> Result<(), WantOfMemory>
     ensures ok { OnOk result (out.new.items ≡ out.old.items ++ items_text tag_text tags.now) }
     ensures err { OnErr result (StartsWith out.new.items out.old.items) }
+    ensures room { vec_capacity out.old ≤ vec_capacity out.new }
+    ensures refused { OnErr result (LacksRoom out.old (items_text tag_text tags.now)) }
 {
     let mut is_first = true;
     for tag in tags {
@@ -235,6 +244,8 @@ pub(crate) fn write_tags(tags: &[Tag], out: &mut Vec<u8>) -> Result<(), WantOfMe
 fn write_tag(tag: &Tag, out: &mut Vec<u8>) -> Result<(), WantOfMemory>
     ensures ok { OnOk result (out.new.items ≡ out.old.items ++ tag_text tag.now) }
     ensures err { OnErr result (StartsWith out.new.items out.old.items) }
+    ensures room { vec_capacity out.old ≤ vec_capacity out.new }
+    ensures refused { OnErr result (LacksRoom out.old (tag_text tag.now)) }
 {
     write_text(tag.key.as_str(), out)?;
     out.push(b'=')?;
@@ -245,6 +256,8 @@ fn write_tag(tag: &Tag, out: &mut Vec<u8>) -> Result<(), WantOfMemory>
 pub(crate) fn write_refs(refs: &[i64], out: &mut Vec<u8>) -> Result<(), WantOfMemory>
     ensures ok { OnOk result (out.new.items ≡ out.old.items ++ items_text ref_text refs.now) }
     ensures err { OnErr result (StartsWith out.new.items out.old.items) }
+    ensures room { vec_capacity out.old ≤ vec_capacity out.new }
+    ensures refused { OnErr result (LacksRoom out.old (items_text ref_text refs.now)) }
 {
     let mut room = [0; ROOM];
     let mut is_first = true;
@@ -265,6 +278,9 @@ fn write_ref(
     ensures ok { OnOk result (out.new.items
         ≡ out.old.items ++ ((if is_first then [] else 44 ∷ []) ++ ref_text id)) }
     ensures err { OnErr result (StartsWith out.new.items out.old.items) }
+    ensures room { vec_capacity out.old ≤ vec_capacity out.new }
+    ensures refused { OnErr result (LacksRoom out.old
+        ((if is_first then [] else 44 ∷ []) ++ ref_text id)) }
 {
     let digits = prepend_id(id, room, ROOM);
     let letter = prepend(b"n", room, digits);
@@ -276,6 +292,8 @@ fn write_ref(
 pub(crate) fn write_members(members: &[Member], out: &mut Vec<u8>) -> Result<(), WantOfMemory>
     ensures ok { OnOk result (out.new.items ≡ out.old.items ++ items_text member_text members.now) }
     ensures err { OnErr result (StartsWith out.new.items out.old.items) }
+    ensures room { vec_capacity out.old ≤ vec_capacity out.new }
+    ensures refused { OnErr result (LacksRoom out.old (items_text member_text members.now)) }
 {
     let mut is_first = true;
     for member in members {
@@ -286,11 +304,14 @@ pub(crate) fn write_members(members: &[Member], out: &mut Vec<u8>) -> Result<(),
 }
 
 // `nID@ROLE`, `wID@ROLE` or `rID@ROLE`, after a comma unless it is the first
-#[tactic(auto, using(crate::proofs::WrittenLemmas::starts_back))]
+#[tactic(auto, using(crate::proofs::WrittenLemmas::starts_back, crate::proofs::RoomLemmas::lacks))]
 fn write_member(is_first: bool, member: &Member, out: &mut Vec<u8>) -> Result<(), WantOfMemory>
     ensures ok { OnOk result (out.new.items
         ≡ out.old.items ++ ((if is_first then [] else 44 ∷ []) ++ member_text member.now)) }
     ensures err { OnErr result (StartsWith out.new.items out.old.items) }
+    ensures room { vec_capacity out.old ≤ vec_capacity out.new }
+    ensures refused { OnErr result (LacksRoom out.old
+        ((if is_first then [] else 44 ∷ []) ++ member_text member.now)) }
 {
     let mut room = [0; ROOM];
     let role = prepend(b"@", &mut room, ROOM);
@@ -305,6 +326,8 @@ fn write_member(is_first: bool, member: &Member, out: &mut Vec<u8>) -> Result<()
 fn write_comma(is_first: bool, out: &mut Vec<u8>) -> Result<(), WantOfMemory>
     ensures ok { OnOk result (out.new.items ≡ out.old.items ++ (if is_first then [] else 44 ∷ [])) }
     ensures err { OnErr result (StartsWith out.new.items out.old.items) }
+    ensures room { vec_capacity out.old ≤ vec_capacity out.new }
+    ensures refused { OnErr result (LacksRoom out.old (if is_first then [] else 44 ∷ [])) }
 {
     if !is_first {
         out.push(b',')?;

@@ -1,8 +1,10 @@
 //! The fields that follow the id of every object: version, status, changeset, time and user.
 
+ghost use Rattle.std.specs.Prelude.{vec_capacity};
 ghost use Rattle.std.specs.Prelude.{◌≡◌, ◌≢◌, ◌<◌, ◌++◌, IfOk, IfSome, Some, codes};
 ghost use Rattle.std.specs.Prelude.{◌+◌, ◌≤◌, drop, OnOk, OnErr};
 ghost use Rattle.std.specs.Io.{StartsWith};
+ghost use Rattle.osm_opl.specs.Room.{LacksRoom};
 ghost use Rattle.osm_opl.specs.Steps.Reading.{head_at, positive_field_at, status_at};
 ghost use Rattle.osm_opl.specs.Steps.Reading.{status_field_at, time_at, time_field_at};
 ghost use Rattle.osm_opl.specs.Steps.Reading.{user_field_at};
@@ -156,7 +158,7 @@ fn read_time(bytes: &[u8]) -> Result<u32, Why>
 }
 
 /// Writes the kind and the id of a change, and the same fields, each after a space.
-#[tactic(auto, using(crate::proofs::WrittenLemmas::starts_back))]
+#[tactic(auto, using(crate::proofs::WrittenLemmas::starts_back, crate::proofs::RoomLemmas::lacks))]
 pub(crate) fn write_head(
     key: Key,
     is_visible: bool,
@@ -166,6 +168,9 @@ pub(crate) fn write_head(
     ensures ok { OnOk result (out.new.items
         ≡ out.old.items ++ (key_text key ++ meta_text (visible_text is_visible) meta.now)) }
     ensures err { OnErr result (StartsWith out.new.items out.old.items) }
+    ensures room { vec_capacity out.old ≤ vec_capacity out.new }
+    ensures refused { OnErr result (LacksRoom out.old
+        (key_text key ++ meta_text (visible_text is_visible) meta.now)) }
 {
     let mut room = [0; ROOM];
     let user = prepend_user(meta, &mut room);

@@ -1,8 +1,10 @@
 //! The fields after the user, which say what the object is.
 
+ghost use Rattle.std.specs.Prelude.{◌≤◌, vec_capacity};
 ghost use Rattle.std.specs.Prelude.{◌≡◌, ◌++◌, IfOk, OnOk, OnErr};
 ghost use Rattle.std.specs.Io.{StartsWith};
 ghost use Rattle.osm_model.specs.Change.{IsWhat};
+ghost use Rattle.osm_opl.specs.Room.{LacksRoom};
 ghost use Rattle.osm_opl.specs.Steps.Reading.{node_at, node_of, relation_at, way_at, what_at};
 ghost use Rattle.osm_opl.specs.Written.{coordinate_field, members_field, refs_field};
 ghost use Rattle.osm_opl.specs.Written.{tags_field, what_text};
@@ -98,10 +100,12 @@ fn read_relation(alloc: Global, is_visible: bool, rest: Option<&[u8]>) -> Result
 }
 
 /// Writes the fields, each after a space; those of a deletion are empty.
-#[tactic(auto, using(crate::proofs::WrittenLemmas::starts_back))]
+#[tactic(auto, using(crate::proofs::WrittenLemmas::starts_back, crate::proofs::RoomLemmas::lacks))]
 pub(crate) fn write_what(kind: Kind, what: &What, out: &mut Vec<u8>) -> Result<(), WantOfMemory>
     ensures ok { OnOk result (out.new.items ≡ out.old.items ++ what_text kind what.now) }
     ensures err { OnErr result (StartsWith out.new.items out.old.items) }
+    ensures room { vec_capacity out.old ≤ vec_capacity out.new }
+    ensures refused { OnErr result (LacksRoom out.old (what_text kind what.now)) }
 {
     match what {
         What::Node { lon, lat, tags } => {
@@ -132,10 +136,12 @@ pub(crate) fn write_what(kind: Kind, what: &What, out: &mut Vec<u8>) -> Result<(
 }
 
 // ` TTAGS`
-#[tactic(auto, using(crate::proofs::WrittenLemmas::starts_back))]
+#[tactic(auto, using(crate::proofs::WrittenLemmas::starts_back, crate::proofs::RoomLemmas::lacks))]
 fn write_tags_field(tags: &[Tag], out: &mut Vec<u8>) -> Result<(), WantOfMemory>
     ensures ok { OnOk result (out.new.items ≡ out.old.items ++ tags_field tags.now) }
     ensures err { OnErr result (StartsWith out.new.items out.old.items) }
+    ensures room { vec_capacity out.old ≤ vec_capacity out.new }
+    ensures refused { OnErr result (LacksRoom out.old (tags_field tags.now)) }
 {
     out.extend_from_slice(b" T")?;
     write_tags(tags, out)?;
@@ -143,10 +149,12 @@ fn write_tags_field(tags: &[Tag], out: &mut Vec<u8>) -> Result<(), WantOfMemory>
 }
 
 // ` NREFS`
-#[tactic(auto, using(crate::proofs::WrittenLemmas::starts_back))]
+#[tactic(auto, using(crate::proofs::WrittenLemmas::starts_back, crate::proofs::RoomLemmas::lacks))]
 fn write_refs_field(refs: &[i64], out: &mut Vec<u8>) -> Result<(), WantOfMemory>
     ensures ok { OnOk result (out.new.items ≡ out.old.items ++ refs_field refs.now) }
     ensures err { OnErr result (StartsWith out.new.items out.old.items) }
+    ensures room { vec_capacity out.old ≤ vec_capacity out.new }
+    ensures refused { OnErr result (LacksRoom out.old (refs_field refs.now)) }
 {
     out.extend_from_slice(b" N")?;
     write_refs(refs, out)?;
@@ -154,10 +162,12 @@ fn write_refs_field(refs: &[i64], out: &mut Vec<u8>) -> Result<(), WantOfMemory>
 }
 
 // ` MMEMBERS`
-#[tactic(auto, using(crate::proofs::WrittenLemmas::starts_back))]
+#[tactic(auto, using(crate::proofs::WrittenLemmas::starts_back, crate::proofs::RoomLemmas::lacks))]
 fn write_members_field(members: &[Member], out: &mut Vec<u8>) -> Result<(), WantOfMemory>
     ensures ok { OnOk result (out.new.items ≡ out.old.items ++ members_field members.now) }
     ensures err { OnErr result (StartsWith out.new.items out.old.items) }
+    ensures room { vec_capacity out.old ≤ vec_capacity out.new }
+    ensures refused { OnErr result (LacksRoom out.old (members_field members.now)) }
 {
     out.extend_from_slice(b" M")?;
     write_members(members, out)?;

@@ -1,7 +1,7 @@
 //! OPL files: one line for each change of a batch, in order (Osmium manual, OPL File Format).
 
 ghost use Rattle.std.specs.Prelude.{◌≡◌, ℕ, List, ◌∷◌, [], ◌++◌, ◌≤◌, ◌<◌, length};
-ghost use Rattle.std.specs.Prelude.{IfOk, OnOk, IfErr};
+ghost use Rattle.std.specs.Prelude.{◌*◌, IfOk, OnOk, OnErr, IfErr, vec_capacity};
 ghost use Rattle.osm_model.specs.Batch.{IsBatch};
 ghost use Rattle.osm_model.specs.Change.{ChangeValue};
 ghost use Rattle.osm_model.specs.ChangeForm.{ReadRefused, SpellsNothing, WriteRefused};
@@ -9,6 +9,7 @@ ghost use Rattle.osm_model.specs.Limits.{max_changes, max_file};
 ghost use Rattle.osm_opl.specs.Steps.Adding.{AddsLine, LineStops};
 ghost use Rattle.osm_opl.specs.File.{FaultLine, SpellsOpl};
 ghost use Rattle.osm_opl.specs.Line.{SpellsLine};
+ghost use Rattle.osm_opl.specs.Room.{LacksRoom};
 ghost use Rattle.osm_opl.specs.Written.{line_text, opl_text};
 
 use crate::lines::{read_line, write_line};
@@ -19,7 +20,7 @@ use osm_model::limits::MAX_FILE;
 use osm_model::memory::WantOfMemory;
 use osm_reading::lines::{is_skipped_line, split_line};
 use osm_reading::refusal::Refusal;
-use std::alloc::Global;
+use std::alloc::{AllocError, Global};
 
 /// The form of OPL files. The place of a fault is the number of its line, counted from 1 over all
 /// lines.
@@ -61,8 +62,7 @@ fn write_batch(alloc: Global, batch: &Batch) -> Result<Vec<u8>, FormError>
     ensures small { IfOk result (λ v. length v.items ≤ max_file) }
     ensures refused { IfErr result (WriteRefused (opl_text batch.now)) }
 {
-    let room = batch.changes().len().saturating_mul(SHORTEST_LINE);
-    let Ok(mut text) = Vec::with_capacity(alloc, room) else {
+    let Ok(mut text) = room_for_lines(alloc, batch.changes()) else {
         return Err(FormError::WantOfMemory);
     };
     for change in batch.changes() {
@@ -77,8 +77,20 @@ fn write_batch(alloc: Global, batch: &Batch) -> Result<Vec<u8>, FormError>
     Ok(text)
 }
 
+// An empty text with room for that many of the shortest lines.
+fn room_for_lines(alloc: Global, changes: &[Change]) -> Result<Vec<u8>, AllocError>
+    ensures none { IfOk result (λ text. text.items ≡ []) }
+    ensures room { IfOk result (λ text. vec_capacity text ≤ 43 * length changes.now) }
+    ensures refused { OnErr result (0 < length changes.now) }
+{
+    Vec::with_capacity(alloc, changes.len().saturating_mul(SHORTEST_LINE))
+}
+
+#[tactic(auto, using(crate::proofs::RoomLemmas::lacks))]
 fn add_change(change: &Change, text: &mut Vec<u8>) -> Result<(), WantOfMemory>
-    ensures { OnOk result (text.new.items ≡ text.old.items ++ (line_text change.now ++ 10 ∷ [])) }
+    ensures ok { OnOk result (text.new.items
+        ≡ text.old.items ++ (line_text change.now ++ 10 ∷ [])) }
+    ensures refused { OnErr result (LacksRoom text.old (line_text change.now ++ 10 ∷ [])) }
 {
     write_line(change, text)?;
     text.push(b'\n')?;

@@ -1,5 +1,6 @@
 -- Where a text is cut, and that joined pieces are cut apart again.
-use Rattle.std.proofs.Common.{◌≡◌, ℕ, zero, suc, ◌+◌, ◌<◌, ◌≤◌, true, false, cond, List, [], ◌∷◌, ◌++◌, length, get_or, take, drop, Option, Some, None, refl, sym, ap, subst, ◌∙◌, arith}
+use Rattle.std.proofs.Common.{◌≡◌, ℕ, zero, suc, ◌+◌, ◌<◌, ◌≤◌, true, false, cond, List, [], ◌∷◌, ◌++◌, length, get_or}
+use Rattle.std.proofs.Common.{take, drop, Option, Some, None, refl, sym, ap, subst, ◌∙◌, arith}
 use Rattle.std.specs.Prelude.{◌≢◌, ◌==◌, IfSome, MatchOption}
 use Rattle.std.specs.Borrow.{Bor}
 use Rattle.std.specs.List.{AllByRecursion}
@@ -12,7 +13,8 @@ use Rattle.osm_reading.specs.Lines.{BeginsWithLine, without_cr}
 use Rattle.osm_reading.proofs.StepLemmas.{chosen}
 
 -- the first part of a cut, if a byte was put before it
-some_before : (b : ℕ) (r : Option (List ℕ × List ℕ)) (c : List ℕ × List ℕ) → with_before b r ≡ Some c → (x : List ℕ × List ℕ) × (r ≡ Some x) × (Some (b ∷ x.0, x.1) ≡ Some c)
+some_before : (b : ℕ) (r : Option (List ℕ × List ℕ)) (c : List ℕ × List ℕ) → with_before b r ≡ Some c
+    → (x : List ℕ × List ℕ) × (r ≡ Some x) × (Some (b ∷ x.0, x.1) ≡ Some c)
 some_before b (Some x) c e = (x, refl, e)
 some_before b None c e = absurd cc
 
@@ -20,7 +22,8 @@ no_before : (b : ℕ) (r : Option (List ℕ × List ℕ)) → with_before b r �
 no_before b None e = refl
 no_before b (Some x) e = absurd cc
 
-pub cut_found : (s : ℕ) (bytes : List ℕ) (i : ℕ) → i < length bytes → get_or bytes i 0 ≡ s → ((k : ℕ) → k < i → get_or bytes k 0 ≢ s) → cut_at s bytes ≡ Some (take i bytes, drop (i + 1) bytes)
+pub cut_found : (s : ℕ) (bytes : List ℕ) (i : ℕ) → i < length bytes → get_or bytes i 0 ≡ s
+    → ((k : ℕ) → k < i → get_or bytes k 0 ≢ s) → cut_at s bytes ≡ Some (take i bytes, drop (i + 1) bytes)
 unfolding cut_at
 cut_found s [] i h e none = absurd (omega arith)
 cut_found s (b ∷ bs) zero h e none = let t : (b == s) ≡ true = grind (arith, nat_tests) in rw t refl
@@ -265,6 +268,8 @@ begins_with_line bytes piece line rest e l = record {
   ending = l;
 }
 
-pub after_line : (bytes piece line : List ℕ) (after : Option (Bor (List ℕ))) → MatchOption after ((cut_at 10 bytes ≡ None) × (piece ≡ bytes)) (λ rest. cut_at 10 bytes ≡ Some (piece, rest.now)) → line ≡ without_cr piece → IfSome after (λ rest. BeginsWithLine bytes line rest.now)
+pub after_line : (bytes piece line : List ℕ) (after : Option (Bor (List ℕ)))
+    → MatchOption after ((cut_at 10 bytes ≡ None) × (piece ≡ bytes)) (λ rest. cut_at 10 bytes ≡ Some (piece, rest.now))
+    → line ≡ without_cr piece → IfSome after (λ rest. BeginsWithLine bytes line rest.now)
 after_line bytes piece line None e l = tt
 after_line bytes piece line (Some rest) e l = begins_with_line bytes piece line rest.now e l

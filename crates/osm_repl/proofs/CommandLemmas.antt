@@ -1,6 +1,7 @@
 -- Words that clap takes name one of the commands.
-use Rattle.std.proofs.Common.{◌≡◌, ◌∙◌, ◌++◌, ℕ, Bool, subst, true, false, not, List, [], ◌∷◌, Option, Some, None, refl, ap, sym, is_some, codes, option_map, ◌⊎◌, inl, inr, ◌&&◌, ◌||◌}
-use Rattle.std.specs.Prelude.{find, fold, cond}
+use Rattle.std.proofs.Common.{◌≡◌, ◌∙◌, ◌++◌, ℕ, Bool, subst, true, false, not, List, [], ◌∷◌, Option, Some, None, refl}
+use Rattle.std.proofs.Common.{ap, sym, is_some, codes, option_map, ◌⊎◌, inl, inr, ◌&&◌, ◌||◌}
+use Rattle.std.specs.Prelude.{find, fold, cond, MatchOption}
 use Rattle.std.proofs.lemmas.Option.{same_Some}
 use Rattle.std.specs.Str.{bytes_eq}
 use Rattle.std.proofs.lemmas.Slice.Eq.{bytes_eq-Decides}
@@ -8,7 +9,11 @@ use Rattle.clap.specs.Lexer.{long_of, short_of}
 use Rattle.clap.specs.Kinds.{Kinds, or_else}
 use Rattle.clap.specs.Faults.{fault_of, other_fault, turn_fault, walk_fault, word_fault, step_fault}
 use Rattle.clap.specs.Simple.{App, Shape, argument_words, built, entered, names_of}
-use Rattle.clap.specs.Walk.{Held, Names, Outcome, Row, Rule, Step, Text, Waiting, Walk, after_flag, after_step, arg_by_index, bundle, done, idle, long_met, arg_by_long, long_or_other, next, nothing_held, option, plain, plain_word, positional, refused, short_or_plain, subcommand, subcommand_met, subcommand_or_other, to_positional, trailing, value, waits, walk, walk_from, walked, walked_from, word_met}
+use Rattle.clap.specs.Walk.{Held, Names, Outcome, Row, Rule, Step, Text, Waiting, Walk, after_flag, after_step}
+use Rattle.clap.specs.Walk.{arg_by_index, bundle, done, idle, long_met, arg_by_long, long_or_other, next, nothing_held}
+use Rattle.clap.specs.Walk.{option, plain, plain_word, positional, refused, short_or_plain, subcommand, subcommand_met}
+use Rattle.clap.specs.Walk.{subcommand_or_other, to_positional, trailing, value, waits, walk, walk_from, walked}
+use Rattle.clap.specs.Walk.{walked_from, word_met}
 use Rattle.clap.specs.Simple.{label_of, rows_at}
 use Rattle.clap.specs.Walk.{answers_to, finished}
 use Rattle.clap.specs.Kinds.{check_kinds}
@@ -20,7 +25,7 @@ use Rattle.clap.specs.Walk.{first_of, rows_after}
 use Rattle.std.specs.Option.{option_map_or}
 use Rattle.std.specs.Borrow.{Bor}
 use Rattle.clap.specs.declared.error.kind.ErrorKind.TheVariants.{InvalidValue}
-use Rattle.osm_repl.specs.CommandLine.{osmrepl_app, time_rule, word_rule}
+use Rattle.osm_repl.specs.CommandLine.{osmrepl_app, sequence_rule, time_rule, word_rule}
 use Rattle.osm_repl.specs.Steps.Commands.{HasValue, HasWord, HasWords, IsCommand, IsCommandOf}
 use Rattle.osm_repl.proofs.WordLemmas.{Each, HasValueIn, IsGoodRule, IsGoodValue, Passes, first_passes, level_passes, second_passes, words_have_values}
 
@@ -78,7 +83,8 @@ stays c names w p (word ∷ rest) at fine =
 abbrev GoesOn : Option (Text × List Text) → Type 0
 GoesOn stopped = (stopped ≡ None) ⊎ ((name : Text) × (stopped ≡ Some (name, [])) × (bytes_eq name (codes "help") ≡ false))
 
-help_faulty : (s : Shape) (name word : Text) (h : Held) → s.disable_help_subcommand ≡ false → other_fault s (Some name) word h ≡ [] → bytes_eq name (codes "help") ≡ false
+help_faulty : (s : Shape) (name word : Text) (h : Held) → s.disable_help_subcommand ≡ false
+    → other_fault s (Some name) word h ≡ [] → bytes_eq name (codes "help") ≡ false
 help_faulty s name word h on passes = go (bytes_eq name (codes "help")) s.disable_help_subcommand on passes
   where
     go : (b d : Bool) → d ≡ false → cond (b && not d) (DisplayHelp ∷ InvalidSubcommand ∷ []) [] ≡ [] → b ≡ false
@@ -88,7 +94,9 @@ help_faulty s name word h on passes = go (bytes_eq name (codes "help")) s.disabl
 
 goes_on : (s : Shape) (w : Walk) (word : Text) (t : Bool) (m : Option Text) → w.stopped ≡ None → s.disable_help_subcommand ≡ false
     → cond t [] (other_fault s m word w.held) ≡ []
-    → GoesOn (after_step s.rules word w (cond t (w.held, value) (subcommand_or_other s.rules m w.waiting w.position word w.held)).0 (cond t (w.held, value) (subcommand_or_other s.rules m w.waiting w.position word w.held)).1).stopped
+    → GoesOn (after_step s.rules word w
+    (cond t (w.held, value) (subcommand_or_other s.rules m w.waiting w.position word w.held)).0
+    (cond t (w.held, value) (subcommand_or_other s.rules m w.waiting w.position word w.held)).1).stopped
 goes_on s w word true m none on h = inl (own_goes_on s.rules word w w.held value tt none)
 goes_on s w word false (Some name) none on h = inr (name, refl, help_faulty s name word w.held on h)
 goes_on s w word false None none on h = inl (go (bytes_eq word (45 ∷ 45 ∷ [])))
@@ -100,13 +108,17 @@ goes_on s w word false None none on h = inl (go (bytes_eq word (45 ∷ 45 ∷ []
     go true = none
     go false = own_goes_on s.rules word w other.0 other.1 (long_own s.rules w.waiting word (long_of word) w.held) none
 
-turn_passes : (s : Shape) (names : Names) (w : Walk) (word : Text) → w.stopped ≡ None → turn_fault s names w word ≡ [] → word_fault s names w.is_trailing w.waiting word w.held ≡ []
+turn_passes : (s : Shape) (names : Names) (w : Walk) (word : Text) → w.stopped ≡ None → turn_fault s names w word ≡ []
+    → word_fault s names w.is_trailing w.waiting word w.held ≡ []
 turn_passes s names w word none h = go w.stopped none h
   where
     others : Kinds
-    others = step_fault s w.position (word_met s.rules names w.is_trailing w.waiting w.position word w.held).0 (word_met s.rules names w.is_trailing w.waiting w.position word w.held).1
+    others = step_fault s w.position (word_met s.rules names w.is_trailing w.waiting w.position word w.held).0
+        (word_met s.rules names w.is_trailing w.waiting w.position word w.held).1
 
-    go : (o : Option (Text × List Text)) → o ≡ None → cond (is_some o) [] (or_else (word_fault s names w.is_trailing w.waiting word w.held) others) ≡ [] → word_fault s names w.is_trailing w.waiting word w.held ≡ []
+    go : (o : Option (Text × List Text)) → o ≡ None
+        → cond (is_some o) [] (or_else (word_fault s names w.is_trailing w.waiting word w.held) others) ≡ []
+        → word_fault s names w.is_trailing w.waiting word w.held ≡ []
     go None e h = first_passes _ others h
     go (Some p) e h = absurd cc
 
@@ -118,7 +130,8 @@ no_help s names w (word ∷ rest) on none h =
     let turn : turn_fault s names w word ≡ [] = first_passes _ (walk_fault s names (walked s.rules names w word) rest) h in
     let after : walk_fault s names (walked s.rules names w word) rest ≡ [] = second_passes (turn_fault s names w word) _ h in
     let met : Held × Step = word_met s.rules names w.is_trailing w.waiting w.position word w.held in
-    let is : walked s.rules names w word ≡ after_step s.rules word w met.0 met.1 = ap (λ (o : Option (Text × List Text)). walked_from s.rules names o w word) none in
+    let is : walked s.rules names w word ≡ after_step s.rules word w met.0 met.1 =
+    ap (λ (o : Option (Text × List Text)). walked_from s.rules names o w word) none in
     let on_so : GoesOn (after_step s.rules word w met.0 met.1).stopped =
     goes_on s w word w.is_trailing (subcommand_met names w.waiting word) none on (turn_passes s names w word none turn) in
     elim on_so [
@@ -134,7 +147,8 @@ AnyOf P (s ∷ subs) = P s ⊎ AnyOf P subs
 abbrev Meets : Text → List Text → Text × List Row → Shape → Type 0
 Meets word rest f s = (f ≡ rows_at s rest) × (answers_to word (label_of s) ≡ true) × (level_fault s [] nothing_held rest false [] ≡ [])
 
-found_any : (word : Text) (rest : List Text) (subs : List Shape) (f : Text × List Row) → option_map (λ s. rows_at s rest) (find (λ s. answers_to word (label_of s)) subs) ≡ Some f
+found_any : (word : Text) (rest : List Text) (subs : List Shape) (f : Text × List Row)
+    → option_map (λ s. rows_at s rest) (find (λ s. answers_to word (label_of s)) subs) ≡ Some f
     → option_map_or (λ s. level_fault s [] nothing_held rest false []) (find (λ s. answers_to word (label_of s)) subs) [] ≡ []
     → AnyOf (Meets word rest f) subs
 found_any word rest [] f h passes = absurd cc
@@ -142,7 +156,8 @@ found_any word rest (s ∷ subs) f h passes = go (answers_to word (label_of s)) 
   where
     go : (b : Bool) → answers_to word (label_of s) ≡ b
         → (option_map (λ s. rows_at s rest) (find (λ s. answers_to word (label_of s)) subs) ≡ Some f
-        → option_map_or (λ s. level_fault s [] nothing_held rest false []) (find (λ s. answers_to word (label_of s)) subs) [] ≡ [] → AnyOf (Meets word rest f) subs)
+        → option_map_or (λ s. level_fault s [] nothing_held rest false [])
+        (find (λ s. answers_to word (label_of s)) subs) [] ≡ [] → AnyOf (Meets word rest f) subs)
         → option_map (λ s. rows_at s rest) (cond b (Some s) (find (λ s. answers_to word (label_of s)) subs)) ≡ Some f
         → option_map_or (λ s. level_fault s [] nothing_held rest false []) (cond b (Some s) (find (λ s. answers_to word (label_of s)) subs)) [] ≡ []
         → AnyOf (Meets word rest f) (s ∷ subs)
@@ -172,12 +187,15 @@ two_ways word fine h =
 
 -- ---- the words of the commands
 
--- the rules of a word, of the time and of help, as they are built
+-- the rules of a word, of the time, of the number and of help, as they are built
 abbrev built_word : Text → ℕ → Rule
 built_word id i = with_index i (filled (word_rule id))
 
 abbrev built_time : ℕ → Rule
 built_time i = with_index i (filled time_rule)
+
+abbrev built_sequence : ℕ → Rule
+built_sequence i = with_index i (filled sequence_rule)
 
 abbrev built_help : ℕ → Rule
 built_help i = with_index i (filled help_rule)
@@ -198,6 +216,16 @@ good_time i = record {
     is_set = refl;
     some = λ h. let bad : ◌≡◌ {A = Kinds} (InvalidValue ∷ []) [] = h in absurd cc;
     empty = λ h. refl;
+  });
+  no_default = refl;
+}
+
+good_sequence : (i : ℕ) → IsGoodRule (built_sequence i)
+good_sequence i = record {
+  use_is = inr (record {
+    is_set = refl;
+    some = λ h. let bad : ◌≡◌ {A = Kinds} (InvalidValue ∷ []) [] = h in absurd cc;
+    empty = λ h. let bad : ◌≡◌ {A = Kinds} (InvalidValue ∷ []) [] = h in absurd cc;
   });
   no_default = refl;
 }
@@ -225,11 +253,13 @@ has_value rows id good = go (first_of id rows) refl good
     go (Some v) e h = record { value = v; is_first = e }
 
 -- a command that was entered has the values of its required words
-entered_with : (word : Text) (rest : List Text) (f : Text × List Row) (s : Shape) (rules : List Rule) → s.rules ≡ rules → Each IsGoodRule rules → Meets word rest f s
+entered_with : (word : Text) (rest : List Text) (f : Text × List Row) (s : Shape) (rules : List Rule) → s.rules ≡ rules
+    → Each IsGoodRule rules → Meets word rest f s
     → (f.0 ≡ s.name) × Each (HasValueIn f.1) rules
 entered_with word rest f s rules are good h =
     let values : Each (HasValueIn (rows_after s.rules [] rest)) s.rules = words_have_values s rest (subst (Each IsGoodRule) (sym are) good) h.2 in
-    subst (λ (q : Text × List Row). (q.0 ≡ s.name) × Each (HasValueIn q.1) rules) (sym h.0) (refl, subst (Each (HasValueIn (rows_after s.rules [] rest))) are values)
+    subst (λ (q : Text × List Row). (q.0 ≡ s.name) × Each (HasValueIn q.1) rules) (sym h.0)
+    (refl, subst (Each (HasValueIn (rows_after s.rules [] rest))) are values)
 
 -- such a command of two words
 pair_with : (word : Text) (rest : List Text) (f : Text × List Row) (s : Shape) (a b : Text) → s.rules ≡ built_word a 1 ∷ built_word b 2 ∷ built_help 3 ∷ []
@@ -241,11 +271,15 @@ pair_with word rest f s a b are no_a no_b h =
 named : (name : Text) (f : Text × List Row) → f.0 ≡ name → IsCommandOf name f.1 → IsCommand (Some f)
 named name f e is = subst (λ (n : Text). IsCommandOf n f.1) (sym e) is
 
-is_command : (p : Text × List Text) (f : Text × List Row) → bytes_eq p.0 (codes "help") ≡ false → AnyOf (Meets p.0 p.1 f) (built osmrepl_app).subs → IsCommand (Some f)
+is_command : (p : Text × List Text) (f : Text × List Row) → bytes_eq p.0 (codes "help") ≡ false
+    → AnyOf (Meets p.0 p.1 f) (built osmrepl_app).subs → IsCommand (Some f)
 is_command p f fine (inl h) = named (codes "replay") f (ap (λ (q : Text × List Row). q.0) h.0) (inl refl, tt, tt)
 is_command p f fine (inr (inl h)) =
-    let rules : List Rule = built_word (codes "DIR") 1 ∷ built_word (codes "CHANGES") 2 ∷ built_time 3 ∷ built_help 3 ∷ [] in
-    let has = entered_with p.0 p.1 f _ rules refl (good_word (codes "DIR") 1, (good_word (codes "CHANGES") 2, (good_time 3, (good_help 3, tt)))) h in
+    let rules : List Rule = built_word (codes "DIR") 1 ∷ built_word (codes "CHANGES") 2 ∷ built_time 3 ∷ built_sequence 3 ∷ built_help 3 ∷ [] in
+    let has = entered_with p.0 p.1 f _ rules refl (
+      good_word (codes "DIR") 1,
+      (good_word (codes "CHANGES") 2, (good_time 3, (good_sequence 3, (good_help 3, tt)))),
+    ) h in
     named (codes "publish") f has.0 (
       inr (inl refl),
       (has_word f.1 (codes "DIR") refl (has.1.0 refl), (has_word f.1 (codes "CHANGES") refl (has.1.1.0 refl), tt)),
@@ -285,7 +319,15 @@ names_command words h =
     (is_named (finished a.top.rules end.held) (is_some (entered a end.stopped)) parts.checks) parts.enters
 
 -- a word with a value was found
-pub no_value : (found : Option (Bor Text)) (name : Text) (rows : List Row) → found ≡ None → option_map (λ (s : Bor Text). s.now) found ≡ first_of name rows → HasValue rows name → ⊥
+pub no_value : (found : Option (Bor Text)) (name : Text) (rows : List Row) → found ≡ None
+    → option_map (λ (s : Bor Text). s.now) found ≡ first_of name rows → HasValue rows name → ⊥
 no_value found name rows none is has =
     let bad : ◌≡◌ {A = Option Text} None (Some has.value) = sym (ap (option_map (λ (s : Bor Text). s.now)) none) ∙ (is ∙ has.is_first) in
     absurd cc
+
+-- a word with a value, or without one
+pub may_have : (found : Option (Bor Text)) (name : Text) (rows : List Row)
+    → option_map (λ (s : Bor Text). s.now) found ≡ first_of name rows → MatchOption found (first_of name rows ≡ None)
+    (λ v. first_of name rows ≡ Some v.now)
+may_have None name rows is = sym is
+may_have (Some v) name rows is = sym is

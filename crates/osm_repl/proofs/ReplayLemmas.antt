@@ -28,7 +28,8 @@ at_line (l ∷ ls) after line (e ∷ es) h = at_line ls after line es h.1
 -- so a text with a bad line is no script
 pub bad_line_none : (script : List ℕ) (number : ℕ) → IsBadLine script number → (events : List Event) → ScriptOf script events → ⊥
 bad_line_none script number bad events is =
-    let said : said_of (lines_of script) ≡ said_of bad.before ++ bad.line ∷ said_of bad.after = ap said_of bad.parts ∙ rw (filter-append (λ (l : List ℕ). not (is_skipped l)) bad.before (bad.line ∷ bad.after), bad.said) refl in
+    let said : said_of (lines_of script) ≡ said_of bad.before ++ bad.line ∷ said_of bad.after = ap said_of bad.parts
+    ∙ rw (filter-append (λ (l : List ℕ). not (is_skipped l)) bad.before (bad.line ∷ bad.after), bad.said) refl in
     let here : (e : Event) × IsEventLine bad.line e = at_line (said_of bad.before) (said_of bad.after) bad.line events (rw said at is) in
     bad.none here.0 here.1
 
@@ -41,9 +42,12 @@ all_read (Some xs) (Some ys) bytes P c e p =
     subst P (sym all) p
 
 -- what a fault says about the bytes that were read, it says about all of them
-pub script_fault : (old new : Option (List ℕ)) (script : List ℕ) (fault : RunFault) → Consumes old new script → IsAtEnd new → AnswerRefused script fault → ReplayFault old new fault
+pub script_fault : (old new : Option (List ℕ)) (script : List ℕ) (fault : RunFault) → Consumes old new script
+    → IsAtEnd new → AnswerRefused script fault → ReplayFault old new fault
 script_fault old new script WantOfMemory c e h = tt
-script_fault old new script (BadScript line) c e h = all_read old new script (λ s. IsBadLine s line × ((events : List Event) → ScriptOf s events → ⊥)) c e (h, bad_line_none script line h)
+script_fault old new script (BadScript line) c e h =
+    all_read old new script (λ s. IsBadLine s line × ((events : List Event) → ScriptOf s events → ⊥)) c e
+    (h, bad_line_none script line h)
 script_fault old new script fault c e h = absurd h
 
 -- every fault but a failed write leaves nothing written
@@ -66,7 +70,8 @@ answered_more next events old text event reply new more a step is = record {
 }
 
 -- all events of the script are answered
-pub answered_all : (script : List ℕ) (events : List Event) (world : WorldValue) (text : List ℕ) → ScriptOf script events → IsAnswered events world text → RepliesTo script text
+pub answered_all : (script : List ℕ) (events : List Event) (world : WorldValue) (text : List ℕ) → ScriptOf script events
+    → IsAnswered events world text → RepliesTo script text
 answered_all script events world text is a = record {
   events = events;
   is_script = is;

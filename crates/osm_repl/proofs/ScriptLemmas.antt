@@ -1,5 +1,7 @@
 -- Prefixes and suffixes of lines, which event a line can be, and how far a script was read.
-use Rattle.std.proofs.Common.{◌≡◌, ℕ, ◌+◌, ◌-◌, ◌<◌, ◌≤◌, List, [], ◌∷◌, ◌++◌, length, take, drop, get_or, refl, append_assoc, ap, sym, ◌∙◌, true, false, arith, Some, None, length-append, append-nil, Option}
+use Rattle.std.proofs.Common.{◌≡◌, ℕ, ◌+◌, ◌-◌, ◌<◌, ◌≤◌, List, [], ◌∷◌, ◌++◌, length, take, drop, get_or, refl}
+use Rattle.std.proofs.Common.{append_assoc, ap, sym, ◌∙◌, true, false, arith, Some, None, length-append, append-nil}
+use Rattle.std.proofs.Common.{Option}
 use Rattle.std.proofs.Math.Seq.{take-append_seam, drop-append_seam}
 use Rattle.std.proofs.lemmas.List.{take-append-drop, append_cancel_left}
 use Rattle.std.specs.Cmp.Lexicographic.{pointwise, same_text, other_text}
@@ -18,24 +20,30 @@ use Rattle.osm_world.specs.declared.event.Form.TheVariants.{Opl, O5c}
 use Rattle.osm_repl.specs.declared.script.LineFault.{LineFault}
 use Rattle.osm_repl.specs.declared.script.LineFault.TheVariants.{WantOfMemory, NoEvent}
 
-pub prefix_is : (line prefix rest : List ℕ) → pointwise nat_eq (take (length prefix) line) prefix ≡ true → rest ≡ drop (length prefix) line → line ≡ prefix ++ rest
+pub prefix_is : (line prefix rest : List ℕ) → pointwise nat_eq (take (length prefix) line) prefix ≡ true
+    → rest ≡ drop (length prefix) line → line ≡ prefix ++ rest
 prefix_is line prefix rest e r =
     sym (take-append-drop (length prefix) line)
-    ∙ (ap (λ (xs : List ℕ). xs ++ drop (length prefix) line) (same_text (take (length prefix) line) prefix (sym e)) ∙ ap (λ (ys : List ℕ). prefix ++ ys) (sym r))
+    ∙ (ap (λ (xs : List ℕ). xs ++ drop (length prefix) line) (same_text (take (length prefix) line) prefix (sym e))
+    ∙ ap (λ (ys : List ℕ). prefix ++ ys) (sym r))
 
 pub no_prefix : (line prefix rest : List ℕ) → pointwise nat_eq (take (length prefix) line) prefix ≡ false → line ≡ prefix ++ rest → ⊥
 no_prefix line prefix rest e is = other_text _ _ (sym e) (ap (take (length prefix)) is ∙ take-append_seam prefix rest)
 
-pub suffix_is : (words suffix rest : List ℕ) → pointwise nat_eq (drop (length words - length suffix) words) suffix ≡ true → rest ≡ take (length words - length suffix) words → words ≡ rest ++ suffix
+pub suffix_is : (words suffix rest : List ℕ) → pointwise nat_eq (drop (length words - length suffix) words) suffix ≡
+    true → rest ≡ take (length words - length suffix) words → words ≡ rest ++ suffix
 suffix_is words suffix rest e r =
     sym (take-append-drop (length words - length suffix) words)
-    ∙ (ap (λ (ys : List ℕ). take (length words - length suffix) words ++ ys) (same_text (drop (length words - length suffix) words) suffix (sym e)) ∙ ap (λ (xs : List ℕ). xs ++ suffix) (sym r))
+    ∙ (ap (λ (ys : List ℕ). take (length words - length suffix) words ++ ys)
+    (same_text (drop (length words - length suffix) words) suffix (sym e)) ∙ ap (λ (xs : List ℕ). xs ++ suffix)
+    (sym r))
 
 pub no_suffix : (words suffix rest : List ℕ) → pointwise nat_eq (drop (length words - length suffix) words) suffix ≡ false → words ≡ rest ++ suffix → ⊥
 no_suffix words suffix rest e is =
     let many : length words ≡ length rest + length suffix = ap length is ∙ length-append rest suffix in
     let index : length words - length suffix ≡ length rest = omega arith in
-    let same : drop (length words - length suffix) words ≡ suffix = ap (λ (n : ℕ). drop n words) index ∙ (ap (drop (length rest)) is ∙ drop-append_seam rest suffix) in
+    let same : drop (length words - length suffix) words ≡ suffix = ap (λ (n : ℕ). drop n words) index
+    ∙ (ap (drop (length rest)) is ∙ drop-append_seam rest suffix) in
     other_text (drop (length words - length suffix) words) suffix (sym e) same
 
 -- the first byte of an event's line
@@ -62,7 +70,8 @@ apart n m line p q ne = ne (sym p ∙ q)
 -- a line that begins as one event is no other event
 pub only_edit : (line object : List ℕ) (e : Event) → line ≡ codes "edit " ++ object → IsEventLine line e → IsEditOf object e
 unfolding first_of
-only_edit line object (Edit c) is h = let same : h.object ≡ object = append_cancel_left (codes "edit ") h.object object (sym h.parts ∙ is) in rw (← same) h.spelled
+only_edit line object (Edit c) is h = let same : h.object ≡ object = append_cancel_left (codes "edit ") h.object object
+    (sym h.parts ∙ is) in rw (← same) h.spelled
 only_edit line object (Close t) is h = apart 101 99 line (ap (λ (l : List ℕ). get_or l 0 0) is) (first_is line (Close t) h) (λ e. omega arith)
 only_edit line object (Deliver n form) is h = apart 101 100 line (ap (λ (l : List ℕ). get_or l 0 0) is) (first_is line (Deliver n form) h) (λ e. omega arith)
 only_edit line object Show is h = apart 101 115 line (ap (λ (l : List ℕ). get_or l 0 0) is) (first_is line Show h) (λ e. omega arith)
@@ -102,7 +111,8 @@ four_bytes Opl = refl
 four_bytes O5c = refl
 
 -- words that name a form have the digits before its name, whichever form it is
-pub deliver_words : (words digits : List ℕ) (form : Form) (e : Event) → words ≡ digits ++ form_text form → IsDeliverOf words e → (n : ℕ) × SpellsSequence digits n
+pub deliver_words : (words digits : List ℕ) (form : Form) (e : Event) → words ≡ digits ++ form_text form
+    → IsDeliverOf words e → (n : ℕ) × SpellsSequence digits n
 deliver_words words digits form (Edit c) is h = absurd h
 deliver_words words digits form (Close t) is h = absurd h
 deliver_words words digits form (Deliver n g) is h =
@@ -120,17 +130,23 @@ deliver_words words digits form Save is h = absurd h
 deliver_words words digits form Restart is h = absurd h
 
 -- one more line, which is skipped or is an event
-pub AreEvents-skipped : (lines : List (List ℕ)) (events : List Event) (line : List ℕ) → AreEvents lines events → is_skipped line ≡ true → AreEvents (lines ++ line ∷ []) events
+pub AreEvents-skipped : (lines : List (List ℕ)) (events : List Event) (line : List ℕ) → AreEvents lines events
+    → is_skipped line ≡ true → AreEvents (lines ++ line ∷ []) events
 AreEvents-skipped lines events line h skipped = rw (filter-append (λ (l : List ℕ). not (is_skipped l)) lines (line ∷ []), skipped, append-nil) h
 
-zip-push : (ls : List (List ℕ)) (es : List Event) (l : List ℕ) (e : Event) → AllZip IsEventLine ls es → IsEventLine l e → AllZip IsEventLine (ls ++ l ∷ []) (es ++ e ∷ [])
+zip-push : (ls : List (List ℕ)) (es : List Event) (l : List ℕ) (e : Event) → AllZip IsEventLine ls es → IsEventLine l e
+    → AllZip IsEventLine (ls ++ l ∷ []) (es ++ e ∷ [])
 zip-push [] [] l e h is = (is, tt)
 zip-push [] (d ∷ es) l e h is = absurd h
 zip-push (k ∷ ls) [] l e h is = absurd h
 zip-push (k ∷ ls) (d ∷ es) l e h is = (h.0, zip-push ls es l e h.1 is)
 
-pub AreEvents-more : (lines : List (List ℕ)) (events : List Event) (line : List ℕ) (e : Event) → AreEvents lines events → is_skipped line ≡ false → IsEventLine line e → AreEvents (lines ++ line ∷ []) (events ++ e ∷ [])
-AreEvents-more lines events line e h said is = rw (filter-append (λ (l : List ℕ). not (is_skipped l)) lines (line ∷ []), said) (zip-push (said_of lines) events line e h is)
+pub AreEvents-more : (lines : List (List ℕ)) (events : List Event) (line : List ℕ) (e : Event) → AreEvents lines events
+    → is_skipped line ≡ false → IsEventLine line e → AreEvents (lines ++ line ∷ []) (events ++ e ∷ [])
+AreEvents-more lines events line e h said is = rw (
+  filter-append (λ (l : List ℕ). not (is_skipped l)) lines (line ∷ []),
+  said,
+) (zip-push (said_of lines) events line e h is)
 
 -- the length of what is left to read, and one more for its first line
 abbrev pub left_of : Option (Bor (List ℕ)) → ℕ
@@ -180,7 +196,8 @@ read_skipped script bytes line after number events i split skipped =
 
 -- one more line is passed, which is an event
 pub read_event : (script : List ℕ) (bytes : Bor (List ℕ)) (line : List ℕ) (after : Option (Bor (List ℕ))) (number : ℕ) (events : List Event) (event : Event)
-    → IsReadTo script (Some bytes) number events → IsSplit bytes.now line after → IsSaid line (Some event) → IsReadTo script after (number + 1) (events ++ event ∷ [])
+    → IsReadTo script (Some bytes) number events → IsSplit bytes.now line after → IsSaid line (Some event)
+    → IsReadTo script after (number + 1) (events ++ event ∷ [])
 read_event script bytes line after number events event i split said =
     let less : left_of after ≤ length bytes.now = left_after after (length bytes.now) split.shorter in
     let room : number + (length bytes.now + 1) ≤ length script + 1 = i.room in

@@ -1,5 +1,6 @@
 -- Rows of a command whose words pass: each has a first value, and only a time's may be empty.
-use Rattle.std.proofs.Common.{◌≡◌, ◌∙◌, ◌++◌, ◌&&◌, ◌||◌, ◌⊎◌, inl, inr, ℕ, zero, suc, Bool, true, false, not, List, [], ◌∷◌, Option, Some, None, refl, ap, sym, subst, is_some, codes, length, drop}
+use Rattle.std.proofs.Common.{◌≡◌, ◌∙◌, ◌++◌, ◌&&◌, ◌||◌, ◌⊎◌, inl, inr, ℕ, zero, suc, Bool, true, false, not, List, []}
+use Rattle.std.proofs.Common.{◌∷◌, Option, Some, None, refl, ap, sym, subst, is_some, codes, length, drop}
 use Rattle.std.specs.Prelude.{cond, encode_utf8, find, fold, option_and_then, slice_get}
 use Rattle.std.specs.Option.{option_map_or}
 use Rattle.std.specs.List.{list_any}
@@ -11,8 +12,19 @@ use Rattle.clap.specs.Kinds.{Kinds, check_kinds, or_else, range_kinds, value_kin
 use Rattle.clap.specs.Lexer.{long_of, short_of}
 use Rattle.clap.specs.Simple.{Shape}
 use Rattle.clap.specs.Takes.{is_given}
-use Rattle.clap.specs.Walk.{Held, Names, Outcome, Row, Rule, Step, Text, Waiting, Walk, action_of, after_flag, after_step, arg_by_id, arg_by_index, arg_by_long, arg_by_short, at_row, attached_value, bundle, bundle_met, bundle_step, default_rows, done, finished, first_of, flag_met, has_row, idle, is_pending, long_met, long_or_other, more_values, most_values, next, nothing_held, option, option_met, option_word, plain, plain_word, positional, pushed, reacted, reading_by, refused, rows_after, settled, settled_rows, short_met, short_or_plain, subcommand, subcommand_met, subcommand_or_other, takes_several, takes_values, to_positional, trailing, used, used_as, used_by_id, value, values_or_missing, waits, walk, walk_from, walked, walked_from, with_default, without, word_met}
-use Rattle.clap.specs.Faults.{action_fault, bundle_fault, bundle_step_fault, check_fault, defaults_fault, flag_word_fault, flags_fault, level_fault, long_fault, option_fault, other_fault, positional_fault, react_fault, repeat_fault, set_fault, settle_fault, short_fault, step_fault, stray_fault, turn_fault, use_fault, values_fault, walk_fault, word_fault}
+use Rattle.clap.specs.Walk.{Held, Names, Outcome, Row, Rule, Step, Text, Waiting, Walk, action_of, after_flag}
+use Rattle.clap.specs.Walk.{after_step, arg_by_id, arg_by_index, arg_by_long, arg_by_short, at_row, attached_value}
+use Rattle.clap.specs.Walk.{bundle, bundle_met, bundle_step, default_rows, done, finished, first_of, flag_met, has_row}
+use Rattle.clap.specs.Walk.{idle, is_pending, long_met, long_or_other, more_values, most_values, next, nothing_held}
+use Rattle.clap.specs.Walk.{option, option_met, option_word, plain, plain_word, positional, pushed, reacted, reading_by}
+use Rattle.clap.specs.Walk.{refused, rows_after, settled, settled_rows, short_met, short_or_plain, subcommand}
+use Rattle.clap.specs.Walk.{subcommand_met, subcommand_or_other, takes_several, takes_values, to_positional, trailing}
+use Rattle.clap.specs.Walk.{used, used_as, used_by_id, value, values_or_missing, waits, walk, walk_from, walked}
+use Rattle.clap.specs.Walk.{walked_from, with_default, without, word_met}
+use Rattle.clap.specs.Faults.{action_fault, bundle_fault, bundle_step_fault, check_fault, defaults_fault}
+use Rattle.clap.specs.Faults.{flag_word_fault, flags_fault, level_fault, long_fault, option_fault, other_fault}
+use Rattle.clap.specs.Faults.{positional_fault, react_fault, repeat_fault, set_fault, settle_fault, short_fault}
+use Rattle.clap.specs.Faults.{step_fault, stray_fault, turn_fault, use_fault, values_fault, walk_fault, word_fault}
 use Rattle.clap.specs.declared.builder.action.ArgAction.{ArgAction}
 use Rattle.clap.specs.declared.builder.action.ArgAction.TheVariants.{Help, Set}
 use Rattle.clap.specs.declared.error.kind.ErrorKind.TheVariants.{TooManyValues}
@@ -34,7 +46,8 @@ pub record Passes (s : Shape) (names : Names) (h : Held) (words : List Text) (ha
   pub settles : settle_fault s.rules s.args_override_self (walk s.rules names h words).held ≡ []
   pub checks : check_fault s (finished s.rules (walk s.rules names h words).held) has ≡ []
 
-pub level_passes : (s : Shape) (names : Names) (h : Held) (words : List Text) (has : Bool) (below : Kinds) → level_fault s names h words has below ≡ [] → Passes s names h words has below
+pub level_passes : (s : Shape) (names : Names) (h : Held) (words : List Text) (has : Bool) (below : Kinds)
+    → level_fault s names h words has below ≡ [] → Passes s names h words has below
 level_passes s names h words has below e =
     let end : Held = (walk s.rules names h words).held in
     let walks : Kinds = walk_fault s names (walk_from h) words in
@@ -146,7 +159,8 @@ module _ (c : List Rule) (again : Bool) (good : Each IsGoodRule c) where
       let settles : settle_fault c again h ≡ [] = first_passes _ (use_fault again a values (settled c h).rows) passes in
       used_good again a values (settled c h).rows fine (second_passes (settle_fault c again h) _ passes) (settled_good h settles old)
 
-  option_good : (a : Rule) (v : Option Text) (h : Held) → IsGoodRule a → option_fault c again a v h ≡ [] → Each IsGoodRow h.rows → Each IsGoodRow (option_met c a v h).0.rows
+  option_good : (a : Rule) (v : Option Text) (h : Held) → IsGoodRule a → option_fault c again a v h ≡ []
+      → Each IsGoodRow h.rows → Each IsGoodRow (option_met c a v h).0.rows
   option_good a (Some v) h fine passes old = reacted_good a (v ∷ []) h fine passes old
   option_good a None h fine passes old = settled_good h passes old
 
@@ -174,13 +188,16 @@ module _ (c : List Rule) (again : Bool) (good : Each IsGoodRule c) where
           let reacts : react_fault c again a [] h ≡ [] = first_passes _ (faults (reacted c a [] h)) f in
           later (reacted c a [] h) (second_passes (react_fault c again a [] h) _ f) (reacted_good a [] h (fine a refl) reacts old)
 
-  flag_good : (o : Option ℕ) (flags : Text) (skip : ℕ) (so_far : Outcome) (h : Held) (onward : Text → ℕ → Outcome → Held → Held × Outcome) (faults : Text → ℕ → Held → Kinds)
-      → ((flags : Text) (skip : ℕ) (so_far : Outcome) (g : Held) → faults flags skip g ≡ [] → Each IsGoodRow g.rows → Each IsGoodRow (onward flags skip so_far g).0.rows)
+  flag_good : (o : Option ℕ) (flags : Text) (skip : ℕ) (so_far : Outcome) (h : Held) (onward : Text → ℕ → Outcome → Held
+      → Held × Outcome) (faults : Text → ℕ → Held → Kinds)
+      → ((flags : Text) (skip : ℕ) (so_far : Outcome) (g : Held) → faults flags skip g ≡ [] → Each IsGoodRow g.rows
+      → Each IsGoodRow (onward flags skip so_far g).0.rows)
       → bundle_step_fault c again o flags skip h faults ≡ [] → Each IsGoodRow h.rows → Each IsGoodRow (bundle_step c o flags skip so_far h onward).0.rows
   flag_good None flags skip so_far h onward faults later passes old = old
   flag_good (Some x) flags zero so_far h onward faults later passes old =
       let rest : Text = drop (length (encode_utf8 x)) flags in
-      short_good (arg_by_short c x) rest h (onward rest 0 done) (faults rest 0) (λ a found. (found_of_each IsGoodRule _ c a good found).0) (later rest 0 done) passes old
+      short_good (arg_by_short c x) rest h (onward rest 0 done) (faults rest 0)
+      (λ a found. (found_of_each IsGoodRule _ c a good found).0) (later rest 0 done) passes old
   flag_good (Some x) flags (suc skip) so_far h onward faults later passes old = later (drop (length (encode_utf8 x)) flags) skip so_far h passes old
 
   bundle_good : (k : ℕ) (flags : Text) (skip : ℕ) (so_far : Outcome) (h : Held) → flags_fault c again k flags skip h ≡ [] → Each IsGoodRow h.rows
@@ -254,7 +271,8 @@ module _ (s : Shape) (names : Names) (good : Each IsGoodRule s.rules) where
       go None f = old
       go (Some a) f = settles a (is_pending a h.pending && takes_several a) f
 
-  turn_good : (w : Walk) (word : Text) → turn_fault s names w word ≡ [] → Each IsGoodRow w.held.rows → Each IsGoodRow (walked_from s.rules names w.stopped w word).held.rows
+  turn_good : (w : Walk) (word : Text) → turn_fault s names w word ≡ [] → Each IsGoodRow w.held.rows
+      → Each IsGoodRow (walked_from s.rules names w.stopped w word).held.rows
   turn_good w word passes old = go w.stopped passes
     where
       met : Held × Step
@@ -268,7 +286,8 @@ module _ (s : Shape) (names : Names) (good : Each IsGoodRule s.rules) where
           let words : word_fault s names w.is_trailing w.waiting word w.held ≡ [] = first_passes _ (step_fault s w.position met.0 met.1) f in
           step_good w word met.0 met.1 (second_passes (word_fault s names w.is_trailing w.waiting word w.held) _ f) (word_good w word words old)
 
-  walk_good : (w : Walk) (words : List Text) → walk_fault s names w words ≡ [] → Each IsGoodRow w.held.rows → Each IsGoodRow (fold (walked s.rules names) w words).held.rows
+  walk_good : (w : Walk) (words : List Text) → walk_fault s names w words ≡ [] → Each IsGoodRow w.held.rows
+      → Each IsGoodRow (fold (walked s.rules names) w words).held.rows
   unfolding walked walk_fault
   walk_good w [] passes old = old
   walk_good w (word ∷ rest) passes old =

@@ -1,19 +1,27 @@
 -- The command line: the words that are taken, and the order that they give.
-use Rattle.std.specs.Prelude.{◌≡◌, List, [], ◌∷◌, Option, Some, codes, true}
+use Rattle.std.specs.Prelude.{◌≡◌, List, [], ◌∷◌, Option, Some, None, codes, true}
 use Rattle.clap.specs.Words.{App, Row, Rule, Text, first_of, new_app, new_rule, subcommand_of}
 use Rattle.clap.specs.Words.{with_rule, with_subcommand}
 use Rattle.clap.specs.declared.builder.value_parser.ValueParser.TheVariants.{NonEmptyString}
 use Rattle.osm_repl.specs.declared.orders.Order.{Order}
 use Rattle.osm_repl.specs.declared.orders.Order.TheVariants.{Replay, Publish, Follow, Lag, Show}
-use Rattle.osm_repl.specs.declared.orders.Order.TheVariants.{Convert}
+use Rattle.osm_repl.specs.declared.orders.Order.TheVariants.{Convert, PublishAs}
+
+-- a word that isn't empty
+abbrev pub filled_rule : Text → Rule
+filled_rule name = record (new_rule name) { parser = Some NonEmptyString }
 
 -- a word that has to be there, and isn't empty
 abbrev pub word_rule : Text → Rule
-word_rule name = record (new_rule name) { required = true; parser = Some NonEmptyString }
+word_rule name = record (filled_rule name) { required = true }
 
 -- `--now TIME`, which has to be there
 abbrev pub time_rule : Rule
 time_rule = record (new_rule (codes "TIME")) { long = Some (codes "now"); required = true }
+
+-- `--sequence N`, which may be left out, but isn't empty
+abbrev pub sequence_rule : Rule
+sequence_rule = record (filled_rule (codes "N")) { long = Some (codes "sequence") }
 
 -- the command with one more word
 abbrev pub with_word : App → Text → App
@@ -24,10 +32,14 @@ abbrev pub replay_app : App
 replay_app = new_app (codes "replay")
 
 -- `publish DIR CHANGES --now TIME`
-abbrev pub publish_app : App
-publish_app =
+abbrev pub publish_next_app : App
+publish_next_app =
     with_rule (with_word (with_word (new_app (codes "publish")) (codes "DIR")) (codes "CHANGES"))
     time_rule
+
+-- the same, and perhaps `--sequence N`
+abbrev pub publish_app : App
+publish_app = with_rule publish_next_app sequence_rule
 
 -- `follow DIR SAVE`
 abbrev pub follow_app : App
@@ -70,11 +82,20 @@ pub record IsFound (found : Option (Text × List Row)) (command : Text)
   pub command_is : found ≡ Some (command, rows)
   pub values_are : AreValues rows values
 
+-- that word isn't among those that were found
+abbrev pub IsLeftOut : Option (Text × List Row) → Text → Type 0
+IsLeftOut None name = ⊥
+IsLeftOut (Some found) name = first_of name found.1 ≡ None
+
 -- the order is the one for the command that was found
 abbrev pub IsOrderIn : Option (Text × List Row) → Order → Type 0
 IsOrderIn found Replay = IsFound found (codes "replay") []
 IsOrderIn found (Publish dir changes now) = IsFound found (codes "publish")
     ((codes "DIR", dir.now) ∷ (codes "CHANGES", changes.now) ∷ (codes "TIME", now.now) ∷ [])
+    × IsLeftOut found (codes "N")
+IsOrderIn found (PublishAs dir changes now sequence) = IsFound found (codes "publish")
+    ((codes "DIR", dir.now) ∷ (codes "CHANGES", changes.now) ∷ (codes "TIME", now.now)
+    ∷ (codes "N", sequence.now) ∷ [])
 IsOrderIn found (Follow dir save) =
     IsFound found (codes "follow") ((codes "DIR", dir.now) ∷ (codes "SAVE", save.now) ∷ [])
 IsOrderIn found (Lag dir save) =
@@ -87,10 +108,12 @@ IsOrderIn found (Convert input output) =
 abbrev pub IsOrderOf : List Text → Order → Type 0
 IsOrderOf words = IsOrderIn (subcommand_of osmrepl_app words)
 
--- no word of the order is empty, except a time
+-- no word of the order is empty, except a time; the number of a sequence isn't either, by its rule
 abbrev pub HasNoEmptyWord : Order → Type 0
 HasNoEmptyWord Replay = Unit {0}
 HasNoEmptyWord (Publish dir changes now) = (dir.now ≡ [] → ⊥) × (changes.now ≡ [] → ⊥)
+HasNoEmptyWord (PublishAs dir changes now sequence) =
+    (dir.now ≡ [] → ⊥) × (changes.now ≡ [] → ⊥)
 HasNoEmptyWord (Follow dir save) = (dir.now ≡ [] → ⊥) × (save.now ≡ [] → ⊥)
 HasNoEmptyWord (Lag dir save) = (dir.now ≡ [] → ⊥) × (save.now ≡ [] → ⊥)
 HasNoEmptyWord (Show save) = save.now ≡ [] → ⊥

@@ -4,12 +4,14 @@ use Rattle.std.specs.Prelude.{◌≡◌, ℕ, ◌⊎◌, List, Option, take}
 use Rattle.std.specs.Io.KnownBytes.{Appends}
 use Rattle.osm_follow.specs.Published.{PublishedValue}
 use Rattle.osm_follow.specs.View.{ViewValue}
+use Rattle.osm_reading.specs.Sequence.{SpellsSequence}
 use Rattle.osm_folder.specs.Conversion.{ConvertStops, IsConverted}
 use Rattle.osm_folder.specs.Files.{Files}
 use Rattle.osm_folder.specs.Folder.{IsApart, IsFolderOf}
 use Rattle.osm_folder.specs.Following.{FollowRefuses, FollowStops, IsFollowReport, IsFollowed}
 use Rattle.osm_folder.specs.Following.{IsInStepAfter, IsSaveOf}
 use Rattle.osm_folder.specs.Lagging.{IsLag, IsLagOf, IsLagReport, LagRefuses, LagStops}
+use Rattle.osm_folder.specs.Numbered.{IsAddedAs, IsPublishedAs, NumberedRefuses, NumberedStops}
 use Rattle.osm_folder.specs.Publication.{FolderRefuses, IsAdded, IsPublished, PublishStops}
 use Rattle.osm_folder.specs.Reports.{ReportValue, convert_report_of, publish_report_of}
 use Rattle.osm_folder.specs.Reports.{show_report_of}
@@ -21,7 +23,7 @@ use Rattle.osm_folder.specs.declared.fault.RunFault.TheVariants.{WriteFault}
 use Rattle.osm_repl.specs.Replay.{ReplayFault, ReplayLeaves, Replays}
 use Rattle.osm_repl.specs.declared.orders.Order.{Order}
 use Rattle.osm_repl.specs.declared.orders.Order.TheVariants.{Replay, Publish, Follow, Lag, Show}
-use Rattle.osm_repl.specs.declared.orders.Order.TheVariants.{Convert}
+use Rattle.osm_repl.specs.declared.orders.Order.TheVariants.{Convert, PublishAs}
 
 -- the order is a run over the files: each is, except a replay
 abbrev pub IsOverFiles : Order → Type 0
@@ -31,6 +33,7 @@ IsOverFiles order = Unit {0}
 -- how many calls of the store a run makes at least if it is done
 abbrev pub calls_of : Order → ℕ
 calls_of (Publish dir changes now) = 6
+calls_of (PublishAs dir changes now sequence) = 5
 calls_of (Follow dir save) = 3
 calls_of (Lag dir save) = 2
 calls_of (Show save) = 1
@@ -41,6 +44,8 @@ calls_of Replay = 0
 abbrev pub Does : Order → Files → Files → ReportValue → Type 0
 Does (Publish dir changes now) old new report =
     IsPublished dir.now changes.now now.now old new report
+Does (PublishAs dir changes now sequence) old new report =
+    IsPublishedAs dir.now changes.now now.now sequence.now old new report
 Does (Follow dir save) old new report = IsFollowed dir.now save.now old new report
 Does (Lag dir save) old new report = IsLag dir.now save.now old report
 Does (Show save) old new report = IsShown (old save.now) report
@@ -52,6 +57,9 @@ abbrev pub DoesOver : Order → Files → Files → ReportValue → Type 0
 DoesOver (Publish dir changes now) old new report =
     (published : List PublishedValue) → IsFolderOf published old dir.now
     → IsAdded published dir.now changes.now now.now old new report
+DoesOver (PublishAs dir changes now sequence) old new report =
+    (published : List PublishedValue) → IsFolderOf published old dir.now
+    → IsAddedAs published dir.now changes.now now.now sequence.now old new report
 DoesOver (Follow dir save) old new report =
     (published : List PublishedValue) (number : ℕ) → IsFolderOf published old dir.now
     → IsSaveOf published number (old save.now)
@@ -67,6 +75,8 @@ DoesOver order old new report = Unit {0}
 -- the report of such a run, whatever is known of the files
 abbrev pub IsReportOf : Order → ReportValue → Type 0
 IsReportOf (Publish dir changes now) report = (n : ℕ) × (report ≡ publish_report_of n)
+IsReportOf (PublishAs dir changes now sequence) report =
+    (n : ℕ) × SpellsSequence sequence.now n × (report ≡ publish_report_of n)
 IsReportOf (Follow dir save) report = IsFollowReport report
 IsReportOf (Lag dir save) report = IsLagReport report
 IsReportOf (Show save) report = (view : ViewValue) × (report ≡ show_report_of view)
@@ -77,6 +87,8 @@ IsReportOf Replay report = ⊥
 abbrev pub RunStops : Type 0 → Order → Files → Files → RunFault → Type 0
 RunStops known (Publish dir changes now) old new fault =
     PublishStops known dir.now changes.now now.now old new fault
+RunStops known (PublishAs dir changes now sequence) old new fault =
+    NumberedStops known dir.now changes.now now.now sequence.now old new fault
 RunStops known (Follow dir save) old new fault = FollowStops known dir.now save.now old fault
 RunStops known (Lag dir save) old new fault = LagStops known dir.now save.now old fault
 RunStops known (Show save) old new fault = ShowStops known (old save.now) fault
@@ -89,6 +101,9 @@ abbrev pub StopsOver : Order → Files → Files → RunFault → Type 0
 StopsOver (Publish dir changes now) old new fault =
     (published : List PublishedValue) → IsFolderOf published old dir.now
     → FolderRefuses published now.now fault
+StopsOver (PublishAs dir changes now sequence) old new fault =
+    (published : List PublishedValue) → IsFolderOf published old dir.now
+    → NumberedRefuses published dir.now changes.now now.now sequence.now old fault
 StopsOver (Follow dir save) old new fault =
     (published : List PublishedValue) (number : ℕ) → IsFolderOf published old dir.now
     → IsSaveOf published number (old save.now) → FollowRefuses published (old save.now) fault
@@ -104,12 +119,16 @@ abbrev pub Leaves : Type 0 → Order → Files → Files → Type 0
 Leaves known (Publish dir changes now) old new =
     known → (published : List PublishedValue) → IsFolderOf published old dir.now
     → IsFolderOf published new dir.now
+Leaves known (PublishAs dir changes now sequence) old new =
+    known → (published : List PublishedValue) → IsFolderOf published old dir.now
+    → IsFolderOf published new dir.now
 Leaves known order old new = new ≡ old
 
 -- the names that the order doesn't change, however it ends
 abbrev pub IsUntouched : Order → List ℕ → Type 0
 IsUntouched Replay name = Unit {0}
 IsUntouched (Publish dir changes now) name = IsApart dir.now name
+IsUntouched (PublishAs dir changes now sequence) name = IsApart dir.now name
 IsUntouched (Follow dir save) name = name ≡ save.now → ⊥
 IsUntouched (Lag dir save) name = Unit {0}
 IsUntouched (Show save) name = Unit {0}

@@ -1,12 +1,14 @@
 //! The command line, read by `clap`.
 
-ghost use Rattle.std.specs.Prelude.{◌≡◌, IfOk, IfErr, Some, [], map, codes, true, false};
+ghost use Rattle.std.specs.Prelude.{◌≡◌, IfOk, IfErr, Some, None, MatchOption, [], map, codes};
+ghost use Rattle.std.specs.Prelude.{true, false};
 ghost use Rattle.clap.specs.Words.{FailsBy, HasMatchesOf, app_of, fault_of, found_of, kind_of};
 ghost use Rattle.clap.specs.Words.{first_of, rows_of, rule_of, subcommand_rows_of, takes};
 ghost use Rattle.clap.specs.declared.builder.Command.TheViews.{out-Command as fields_of};
 ghost use Rattle.osm_repl.specs.CommandLine.{HasNoEmptyWord, IsOrderIn, IsOrderOf, convert_app};
-ghost use Rattle.osm_repl.specs.CommandLine.{follow_app, lag_app, osmrepl_app, program_app};
-ghost use Rattle.osm_repl.specs.CommandLine.{publish_app, replay_app, show_app, time_rule};
+ghost use Rattle.osm_repl.specs.CommandLine.{filled_rule, follow_app, lag_app, osmrepl_app};
+ghost use Rattle.osm_repl.specs.CommandLine.{program_app, publish_app, publish_next_app};
+ghost use Rattle.osm_repl.specs.CommandLine.{replay_app, sequence_rule, show_app, time_rule};
 ghost use Rattle.osm_repl.specs.CommandLine.{word_rule};
 ghost use Rattle.osm_repl.specs.Steps.Commands.{HasValue, HasValues, HasWord, HasWords, IsCommand};
 ghost use Rattle.osm_repl.specs.Steps.Commands.{times_of, words_of};
@@ -57,10 +59,16 @@ fn publish_of<'a>(given: &ArgMatches<'a>) -> Order<'a>
     ensures order { IsOrderIn (Some (codes "publish", rows_of (found_of given.now))) result }
     ensures not_empty { HasNoEmptyWord result }
 {
-    Order::Publish {
-        dir: nonempty(given, "DIR"),
-        changes: nonempty(given, "CHANGES"),
-        now: value(given, "TIME"),
+    let (dir, changes) = (nonempty(given, "DIR"), nonempty(given, "CHANGES"));
+    let now = value(given, "TIME");
+    match optional(given, "N") {
+        None => Order::Publish { dir, changes, now },
+        Some(sequence) => Order::PublishAs {
+            dir,
+            changes,
+            now,
+            sequence,
+        },
     }
 }
 
@@ -114,6 +122,14 @@ fn nonempty<'a>(given: &ArgMatches<'a>, name: &str) -> &'a str
     ensures not_empty { result.now ≡ [] → ⊥ }
 {
     value(given, name)
+}
+
+// The first value of a word, if it has one.
+fn optional<'a>(given: &ArgMatches<'a>, name: &str) -> Option<&'a str>
+    ensures { MatchOption result (first_of name.now (rows_of (found_of given.now)) ≡ None)
+        (λ value. first_of name.now (rows_of (found_of given.now)) ≡ Some value.now) }
+{
+    given.get_str(name)
 }
 
 // The value of a word that has one.
@@ -170,6 +186,14 @@ fn replay<'a>(alloc: Global) -> Command<'a>
 
 fn publish<'a>(alloc: Global) -> Result<Command<'a>, AllocError>
     ensures app { IfOk result (λ c. app_of c ≡ publish_app) }
+    ensures local { IfOk result (λ c. (fields_of c).has_globals ≡ false) }
+{
+    publish_next(alloc)?.arg(sequence(alloc))
+}
+
+// `publish` with the words that have to be there.
+fn publish_next<'a>(alloc: Global) -> Result<Command<'a>, AllocError>
+    ensures app { IfOk result (λ c. app_of c ≡ publish_next_app) }
     ensures local { IfOk result (λ c. (fields_of c).has_globals ≡ false) }
 {
     Command::new(alloc, "publish")
@@ -237,9 +261,17 @@ fn word<'a>(alloc: Global, name: &'a str, says: &'a str) -> Arg<'a>
     ensures local { result.global ≡ false }
     ensures help { result.help ≡ Some says.entry }
 {
+    filled(alloc, name, says).required(true)
+}
+
+// A word that isn't empty.
+fn filled<'a>(alloc: Global, name: &'a str, says: &'a str) -> Arg<'a>
+    ensures rule { rule_of result ≡ filled_rule name.now }
+    ensures local { result.global ≡ false }
+    ensures help { result.help ≡ Some says.entry }
+{
     Arg::new(alloc, name)
         .help(says)
-        .required(true)
         .value_parser(ValueParser::NonEmptyString)
 }
 
@@ -252,4 +284,13 @@ fn time<'a>(alloc: Global) -> Arg<'a>
         .long("now")
         .required(true)
         .help("The time of the sequence, as 2024-01-01T00:00:00Z")
+}
+
+// `--sequence N`, which may be left out.
+fn sequence<'a>(alloc: Global) -> Arg<'a>
+    ensures rule { rule_of result ≡ sequence_rule }
+    ensures local { result.global ≡ false }
+{
+    let says = "The number of the sequence; the same command can then be run again";
+    filled(alloc, "N", says).long("sequence")
 }

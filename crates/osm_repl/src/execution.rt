@@ -15,6 +15,7 @@ use osm_folder::fault::RunFault;
 use osm_folder::follow::follow_run;
 use osm_folder::lag::lag_run;
 use osm_folder::publish::publish_run;
+use osm_folder::publish_as::publish_as_run;
 use osm_folder::report::Report;
 use osm_folder::show::show_run;
 use osm_folder::store::Store;
@@ -123,6 +124,12 @@ fn run<S: Store>(alloc: Global, order: Order<'_>, store: &mut S) -> Result<Repor
 {
     match order {
         Order::Publish { dir, changes, now } => publish_run(alloc, store, dir, changes, now),
+        Order::PublishAs {
+            dir,
+            changes,
+            now,
+            sequence,
+        } => publish_as_run(alloc, store, dir, changes, now, sequence),
         Order::Follow { dir, save } => follow_run(alloc, store, dir, save),
         Order::Lag { dir, save } => lag_run(alloc, store, dir, save),
         Order::Show { save } => show_run(alloc, store, save),

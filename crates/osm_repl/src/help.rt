@@ -4,7 +4,7 @@ pub(crate) const ABOUT: &str =
     "Publishes OpenStreetMap edits as numbered sequences, and follows them";
 
 pub(crate) const EXAMPLES: &str = "Examples:
-  osmrepl publish folder changes.opl --now 2024-01-01T00:00:00Z
+  osmrepl publish folder changes.opl --now 2024-01-01T00:00:00Z --sequence 1
   osmrepl follow folder follower.save
   osmrepl lag folder follower.save
   osmrepl show follower.save
@@ -23,7 +23,7 @@ pub(crate) const REPLAY: &str =
 pub(crate) const SCRIPTS: &str = "The script is read from standard input, as in
   osmrepl replay <script.txt >replies.txt
 
-It has one event a line; empty lines and lines that begin with # say nothing:
+It has one event a line; empty lines and lines that begin with # are ignored:
   edit LINE      the publisher takes an edit, a line of an OPL file, as
                  n1 v1 dV c7 t2024-01-01T00:00:00Z i5 uann T x1 y2
   close TIME     the pending edits are published as the next sequence, at a time as
@@ -40,22 +40,34 @@ input, and standard output as output.";
 pub(crate) const PUBLISH: &str = "Publishes the changes of a file as a folder's next sequence";
 
 pub(crate) const PUBLISHING: &str = "As in
-  osmrepl publish folder changes.opl --now 2024-01-01T00:00:00Z
+  osmrepl publish folder changes.opl --now 2024-01-01T00:00:00Z --sequence 1
 
 The number's files are written first, as folder/000/000/001.o5c, .opl and .state.txt, and then
 folder/state.txt, so the folder is whole at every moment. The number is printed, as 'published 1'.
 
+With --sequence the changes are published as that number or not at all, so after a fault the same
+command can be run again:
+  the number after the folder's newest     it is published
+  the newest one, with the same changes    its files are written again
+    and the same time
+  an older one, with the same changes      nothing is written
+    and the same time
+  a published one otherwise                refused: already published, and differs
+  any other number                         refused: state.txt: at the newest number
+Without --sequence, the same command run again may publish the same changes a second time.
+
 A fault names a file of DIR by its path there, as state.txt or 000/000/001.o5c, and CHANGES as
 changes.";
 
-pub(crate) const FOLLOW: &str = "Takes what a folder has after a save, and saves that";
+pub(crate) const FOLLOW: &str = "Applies a folder's new sequences to a save";
 
 pub(crate) const FOLLOWING: &str = "As in
   osmrepl follow folder follower.save
 
 Each number after the save's is taken from its .o5c file, or if there is none, from its .opl file.
-A number without a state file, or without both, is missing: SAVE goes up to the number before it.
-SAVE is written first. Then is printed:
+A number is missing if it has no state file, or neither change file: SAVE goes up to the number
+before it.
+After SAVE is written, this is printed:
   applied LOW..HIGH  for each step
   missing K          for each missing number; the status is then 1
   number N           the number that SAVE is at
@@ -85,7 +97,7 @@ changesets with their counts of edits.
 
 A fault names SAVE as save.";
 
-pub(crate) const CONVERT: &str = "Writes the changes of a file in the form of another's name";
+pub(crate) const CONVERT: &str = "Converts a change file; the ending of OUT says the form";
 
 pub(crate) const CONVERTING: &str = "As in
   osmrepl convert changes.opl changes.o5c

@@ -11,6 +11,13 @@ pub enum Order<'a> {
         changes: &'a str,
         now: &'a str,
     },
+    /// Publishes them as the number `sequence`, or once more if it is published with them.
+    PublishAs {
+        dir: &'a str,
+        changes: &'a str,
+        now: &'a str,
+        sequence: &'a str,
+    },
     /// Takes a save as far as a folder goes.
     Follow {
         dir: &'a str,

@@ -31,8 +31,11 @@ same_parts a b x y p q = rw (p, q) refl
 pub count_takes : (most : ℕ) (last : Option ℕ) (line : List ℕ) (e : Counted) → count_at most last line ≡ Some e → TakesCount most last line e
 unfolding count_at
 count_takes most last line e h =
-    let p = some_then (cut_at 32 line) (λ (p : List ℕ × List ℕ). and_then {A = ℕ} {B = Counted} (number_at p.0) (λ (n : ℕ). and_then {A = ℕ} {B = Counted} (number_at p.1) (λ (k : ℕ). if is_kept most last n k then Some (n, k) else None))) e h in
-    let n = some_then (number_at p.0.0) (λ (n : ℕ). and_then {A = ℕ} {B = Counted} (number_at p.0.1) (λ (k : ℕ). if is_kept most last n k then Some (n, k) else None)) e p.2 in
+    let p = some_then (cut_at 32 line) (λ (p : List ℕ × List ℕ). and_then {A = ℕ} {B = Counted} (number_at p.0)
+    (λ (n : ℕ). and_then {A = ℕ} {B = Counted} (number_at p.1) (λ (k : ℕ). if is_kept most last n k then Some
+    (n, k) else None))) e h in
+    let n = some_then (number_at p.0.0) (λ (n : ℕ). and_then {A = ℕ} {B = Counted} (number_at p.0.1)
+    (λ (k : ℕ). if is_kept most last n k then Some (n, k) else None)) e p.2 in
     let k = some_then (number_at p.0.1) (λ (k : ℕ). if is_kept most last n.0 k then Some (n.0, k) else None) e n.2 in
     let g = guard_some (is_kept most last n.0 k.0) (Some (n.0, k.0)) e k.2 in
     let a = both_held (nat_le 1 n.0 && nat_lt n.0 (2 ^ 32) && nat_le 1 k.0 && nat_le k.0 most) (is_above nat_cmp last n.0) g.0 in
@@ -53,12 +56,14 @@ count_takes most last line e h =
       above = a.1;
     })
 
-pub count_again : (most : ℕ) (last : Option ℕ) (e : Counted) → most < 1000000000000000 → IsPositive e.0 → 1 ≤ e.1 → e.1 ≤ most → is_above nat_cmp last e.0 ≡ true → count_at most last (count_text e) ≡ Some e
+pub count_again : (most : ℕ) (last : Option ℕ) (e : Counted) → most < 1000000000000000 → IsPositive e.0 → 1 ≤ e.1
+    → e.1 ≤ most → is_above nat_cmp last e.0 ≡ true → count_at most last (count_text e) ≡ Some e
 unfolding count_at
 count_again most last e small number some few above =
     let positive : 1 ≤ e.0 = number.low in
     let fits : e.0 < 2 ^ 32 = number.high in
-    let cut : cut_at 32 (count_text e) ≡ Some (decimal e.0, decimal e.1) = cut_again 32 (decimal e.0) (decimal e.1) (decimal_lacks 32 e.0 (omega arith) (omega arith)) in
+    let cut : cut_at 32 (count_text e) ≡ Some (decimal e.0, decimal e.1) = cut_again 32 (decimal e.0) (decimal e.1)
+    (decimal_lacks 32 e.0 (omega arith) (omega arith)) in
     let first : number_at (decimal e.0) ≡ Some e.0 = number_again e.0 (omega arith) in
     let second : number_at (decimal e.1) ≡ Some e.1 = number_again e.1 (omega arith) in
     let t_low : nat_le 1 e.0 ≡ true = grind (arith, nat_tests) in

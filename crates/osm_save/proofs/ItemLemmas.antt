@@ -9,7 +9,7 @@ use Rattle.std.specs.declared.cmp.Ordering.{Ordering}
 use Rattle.std.specs.declared.cmp.Ordering.TheVariants.{Less, Equal, Greater}
 use Rattle.osm_reading.specs.Pieces.{cut_at}
 use Rattle.osm_reading.specs.Steps.Answers.{and_then}
-use Rattle.osm_save.specs.Steps.Answers.{Stops}
+use Rattle.osm_save.specs.Steps.Answers.{Fails, Stops}
 use Rattle.osm_save.specs.Steps.Reading.{is_above, items_at}
 use Rattle.osm_save.specs.declared.stop.Stop.{Stop}
 use Rattle.osm_save.specs.declared.stop.Stop.TheVariants.{WantOfMemory, Wrong}
@@ -19,7 +19,8 @@ abbrev pub with_earlier : {X : Type 0} → List X → Option (List X × List ℕ
 with_earlier earlier reading = and_then reading (λ r. Some (earlier ++ r.0, r.1))
 
 -- the values read so far, and then those of the rest, are those of the whole list
-pub record Items {X K : Type 0} (key : X → K) (item : Option K → List ℕ → Option X) (many : ℕ) (bytes : List ℕ) (i : ℕ) (xs : List X) (last : Option K) (rest : List ℕ) : Type 0 where
+pub record Items {X K : Type 0} (key : X → K) (item : Option K → List ℕ → Option X) (many : ℕ) (bytes : List ℕ) (i : ℕ)
+    (xs : List X) (last : Option K) (rest : List ℕ) : Type 0 where
   pub same : items_at key item many None bytes ≡ with_earlier xs (items_at key item (many - i) last rest)
 
 module _ {X K : Type 0} (key : X → K) (item : Option K → List ℕ → Option X) where
@@ -32,7 +33,9 @@ module _ {X K : Type 0} (key : X → K) (item : Option K → List ℕ → Option
       alone None = refl
       alone (Some r) = refl
 
-  pub items_more : (many : ℕ) (bytes : List ℕ) (i : ℕ) (xs : List X) (last : Option K) (rest line after : List ℕ) (x : X) → i < many → Items key item many bytes i xs last rest → cut_at 10 rest ≡ Some (line, after) → item last line ≡ Some x → Items key item many bytes (i + 1) (xs ++ x ∷ []) (Some (key x)) after
+  pub items_more : (many : ℕ) (bytes : List ℕ) (i : ℕ) (xs : List X) (last : Option K) (rest line after : List ℕ)
+      (x : X) → i < many → Items key item many bytes i xs last rest → cut_at 10 rest ≡ Some (line, after)
+      → item last line ≡ Some x → Items key item many bytes (i + 1) (xs ++ x ∷ []) (Some (key x)) after
   items_more many bytes i xs last rest line after x lt h cut is =
       let left : many - i ≡ suc (many - (i + 1)) = omega arith in
       record { same = h.same ∙ rw (left, cut, is) (joined (items_at key item (many - (i + 1)) (Some (key x)) after)) }
@@ -41,23 +44,27 @@ module _ {X K : Type 0} (key : X → K) (item : Option K → List ℕ → Option
       joined None = refl
       joined (Some r) = ap (λ (l : List X). Some (l, r.1)) (sym (append_assoc xs (x ∷ []) r.0))
 
-  pub items_cut : (many : ℕ) (bytes : List ℕ) (i : ℕ) (xs : List X) (last : Option K) (rest : List ℕ) → i < many → Items key item many bytes i xs last rest → cut_at 10 rest ≡ None → items_at key item many None bytes ≡ None
+  pub items_cut : (many : ℕ) (bytes : List ℕ) (i : ℕ) (xs : List X) (last : Option K) (rest : List ℕ) → i < many
+      → Items key item many bytes i xs last rest → cut_at 10 rest ≡ None → items_at key item many None bytes ≡ None
   items_cut many bytes i xs last rest lt h cut =
       let left : many - i ≡ suc (many - (i + 1)) = omega arith in
       h.same ∙ rw (left, cut) refl
 
-  pub items_wrong : (many : ℕ) (bytes : List ℕ) (i : ℕ) (xs : List X) (last : Option K) (rest line after : List ℕ) → i < many → Items key item many bytes i xs last rest → cut_at 10 rest ≡ Some (line, after) → item last line ≡ None → items_at key item many None bytes ≡ None
+  pub items_wrong : (many : ℕ) (bytes : List ℕ) (i : ℕ) (xs : List X) (last : Option K) (rest line after : List ℕ)
+      → i < many → Items key item many bytes i xs last rest → cut_at 10 rest ≡ Some (line, after)
+      → item last line ≡ None → items_at key item many None bytes ≡ None
   items_wrong many bytes i xs last rest line after lt h cut is =
       let left : many - i ≡ suc (many - (i + 1)) = omega arith in
       h.same ∙ rw (left, cut, is) refl
 
-  pub items_done : (many : ℕ) (bytes : List ℕ) (i : ℕ) (xs : List X) (last : Option K) (rest : List ℕ) → many ≤ i → Items key item many bytes i xs last rest → items_at key item many None bytes ≡ Some (xs, rest)
+  pub items_done : (many : ℕ) (bytes : List ℕ) (i : ℕ) (xs : List X) (last : Option K) (rest : List ℕ) → many ≤ i
+      → Items key item many bytes i xs last rest → items_at key item many None bytes ≡ Some (xs, rest)
   items_done many bytes i xs last rest le h =
       let left : many - i ≡ 0 = omega arith in
       h.same ∙ rw (left, append-nil xs) refl
 
 -- what the refusal of a line says of the whole list
-pub stops : {A B : Type 0} (s : Stop) (r : Option A) (t : Option B) → Stops s r → (r ≡ None → t ≡ None) → Stops s t
+pub stops : {A B : Type 0} (s : Stop) (r : Option A) (t : Option B) → Fails s r → (r ≡ None → t ≡ None) → Stops s t
 stops WantOfMemory r t h f = tt
 stops (Wrong left) r t h f = f h
 
@@ -77,7 +84,8 @@ module _ {K : Type 0} (cmp : K → K → Ordering) (total : IsTotalOrder cmp) wh
   below_all (p ∷ ks) q k lt all = (all.0, below_all ks q k lt all.1)
 
   -- a key below all keys of a list is also below a key above the list's last
-  all_more : (p : K) (ks : List K) (q k : K) → cmp q k ≡ Less → AllByRecursion (λ y. cmp p y ≡ Less) (ks ++ q ∷ []) → AllByRecursion (λ y. cmp p y ≡ Less) ((ks ++ q ∷ []) ++ k ∷ [])
+  all_more : (p : K) (ks : List K) (q k : K) → cmp q k ≡ Less → AllByRecursion (λ y. cmp p y ≡ Less) (ks ++ q ∷ [])
+      → AllByRecursion (λ y. cmp p y ≡ Less) ((ks ++ q ∷ []) ++ k ∷ [])
   all_more p [] q k lt all = (all.0, (total.trans p q k all.0 lt, tt))
   all_more p (r ∷ ks) q k lt all = (all.0, all_more p ks q k lt all.1)
 

@@ -8,3 +8,4 @@ pub mod ListLemmas
 pub mod MirrorLemmas
 pub mod SaveLemmas
 pub mod StandardFacts
+pub mod LengthLemmas

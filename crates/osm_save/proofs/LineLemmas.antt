@@ -1,5 +1,6 @@
 -- Lines of a save text: what is read is written that way, and what is written that way is read.
-use Rattle.std.proofs.Common.{◌≡◌, ℕ, ◌<◌, ◌≤◌, ◌/◌, ◌^◌, List, ◌∷◌, ◌++◌, length, take, drop, refl, ap, sym, ◌∙◌, true, false, Some, None, Option, subst, arith}
+use Rattle.std.proofs.Common.{◌≡◌, ℕ, ◌<◌, ◌≤◌, ◌/◌, ◌^◌, List, ◌∷◌, ◌++◌, length, take, drop, refl, ap, sym, ◌∙◌, true}
+use Rattle.std.proofs.Common.{false, Some, None, Option, subst, arith}
 use Rattle.std.specs.Prelude.{◌≢◌, ◌==◌, nat_le, if◌then◌else◌, codes, decimal}
 use Rattle.std.specs.Str.{bytes_eq}
 use Rattle.std.proofs.lemmas.Bool.Decides.{nat_tests}
@@ -68,8 +69,11 @@ same_line word line digits text after p q = rw (p, q) refl
 pub numbered_takes : (word : List ℕ) (most : ℕ) (bytes : List ℕ) (r : ℕ × List ℕ) → numbered_at word most bytes ≡ Some r → TakesNumbered word most bytes r.0 r.1
 unfolding numbered_at
 numbered_takes word most bytes r e =
-    let l = some_then (cut_at 10 bytes) (λ (l : List ℕ × List ℕ). and_then {A = List ℕ} {B = ℕ × List ℕ} (after_word word l.0) (λ (digits : List ℕ). and_then {A = ℕ} {B = ℕ × List ℕ} (number_at digits) (λ (n : ℕ). if nat_le n most then Some (n, l.1) else None))) r e in
-    let d = some_then (after_word word l.0.0) (λ (digits : List ℕ). and_then {A = ℕ} {B = ℕ × List ℕ} (number_at digits) (λ (n : ℕ). if nat_le n most then Some (n, l.0.1) else None)) r l.2 in
+    let l = some_then (cut_at 10 bytes) (λ (l : List ℕ × List ℕ). and_then {A = List ℕ} {B = ℕ × List ℕ}
+    (after_word word l.0) (λ (digits : List ℕ). and_then {A = ℕ} {B = ℕ × List ℕ} (number_at digits)
+    (λ (n : ℕ). if nat_le n most then Some (n, l.1) else None))) r e in
+    let d = some_then (after_word word l.0.0) (λ (digits : List ℕ). and_then {A = ℕ} {B = ℕ × List ℕ} (number_at digits)
+    (λ (n : ℕ). if nat_le n most then Some (n, l.0.1) else None)) r l.2 in
     let n = some_then (number_at d.0) (λ (n : ℕ). if nat_le n most then Some (n, l.0.1) else None) r d.2 in
     let g = guard_some (nat_le n.0 most) (Some (n.0, l.0.1)) r n.2 in
     let taken = number_takes d.0 n.0 n.1 in
@@ -80,7 +84,8 @@ numbered_takes word most bytes r e =
       small = taken.small;
     })
 
-pub numbered_again : (word : List ℕ) (most n : ℕ) (rest : List ℕ) → Lacks 10 word → n ≤ most → n < 1000000000000000 → numbered_at word most ((word ++ decimal n) ++ 10 ∷ rest) ≡ Some (n, rest)
+pub numbered_again : (word : List ℕ) (most n : ℕ) (rest : List ℕ) → Lacks 10 word → n ≤ most → n < 1000000000000000
+    → numbered_at word most ((word ++ decimal n) ++ 10 ∷ rest) ≡ Some (n, rest)
 unfolding numbered_at
 numbered_again word most n rest lacks few small =
     let lacks_line : Lacks 10 (word ++ decimal n) = lacks_append 10 word (decimal n) lacks (decimal_lacks 10 n (omega arith) small) in
@@ -96,7 +101,58 @@ digit_isnt : (n : ℕ) → last_digit n ≢ 10
 digit_isnt n = λ e. omega (arith, e)
 
 moment_lacks : (m : Moment) → Lacks 10 (moment_text m)
-moment_lacks m = (digit_isnt (m.year / 1000), (digit_isnt (m.year / 100), (digit_isnt (m.year / 10), (digit_isnt (m.year), ((λ e. omega (arith, e)), (digit_isnt (m.month / 10), (digit_isnt (m.month), ((λ e. omega (arith, e)), (digit_isnt (m.day / 10), (digit_isnt (m.day), ((λ e. omega (arith, e)), (digit_isnt (m.hour / 10), (digit_isnt (m.hour), ((λ e. omega (arith, e)), (digit_isnt (m.minute / 10), (digit_isnt (m.minute), ((λ e. omega (arith, e)), (digit_isnt (m.second / 10), (digit_isnt (m.second), ((λ e. omega (arith, e)), tt))))))))))))))))))))
+moment_lacks m = (
+  digit_isnt (m.year / 1000),
+  (
+    digit_isnt (m.year / 100),
+    (
+      digit_isnt (m.year / 10),
+      (
+        digit_isnt (m.year),
+        (
+          (λ e. omega (arith, e)),
+          (
+            digit_isnt (m.month / 10),
+            (
+              digit_isnt (m.month),
+              (
+                (λ e. omega (arith, e)),
+                (
+                  digit_isnt (m.day / 10),
+                  (
+                    digit_isnt (m.day),
+                    (
+                      (λ e. omega (arith, e)),
+                      (
+                        digit_isnt (m.hour / 10),
+                        (
+                          digit_isnt (m.hour),
+                          (
+                            (λ e. omega (arith, e)),
+                            (
+                              digit_isnt (m.minute / 10),
+                              (
+                                digit_isnt (m.minute),
+                                (
+                                  (λ e. omega (arith, e)),
+                                  (digit_isnt (m.second / 10), (digit_isnt (m.second), ((λ e. omega (arith, e)), tt))),
+                                ),
+                              ),
+                            ),
+                          ),
+                        ),
+                      ),
+                    ),
+                  ),
+                ),
+              ),
+            ),
+          ),
+        ),
+      ),
+    ),
+  ),
+)
 
 pub time_lacks : (t : ℕ) → t < 2 ^ 32 → Lacks 10 (time_text t)
 time_lacks t fits =
@@ -111,7 +167,9 @@ pub record TakesTime (number : ℕ) (bytes : List ℕ) (time : Option ℕ) (rest
 one_time_text : (bytes : List ℕ) (t : ℕ) → TimeText bytes t → bytes ≡ time_text t
 one_time_text bytes t h = one_text bytes (time_text t) t h.shows (time_text_shows t h.limits.high)
 
-no_time_takes : (number : ℕ) (bytes : List ℕ) (r : Option ℕ × List ℕ) → number ≡ 0 → and_then {A = List ℕ} {B = Option ℕ × List ℕ} (fixed_at (codes "time none") bytes) (λ (rest : List ℕ). Some (None, rest)) ≡ Some r → TakesTime number bytes r.0 r.1
+no_time_takes : (number : ℕ) (bytes : List ℕ) (r : Option ℕ × List ℕ) → number ≡ 0
+    → and_then {A = List ℕ} {B = Option ℕ × List ℕ} (fixed_at (codes "time none") bytes)
+    (λ (rest : List ℕ). Some (None, rest)) ≡ Some r → TakesTime number bytes r.0 r.1
 no_time_takes number bytes r zero e =
     let f = some_then (fixed_at (codes "time none") bytes) (λ (rest : List ℕ). Some (None, rest)) r e in
     subst (λ (x : Option ℕ × List ℕ). TakesTime number bytes x.0 x.1) (same_Some (None, f.0) r f.2) (record {
@@ -119,14 +177,22 @@ no_time_takes number bytes r zero e =
       is_time = zero;
     })
 
-some_time_takes : (number : ℕ) (bytes : List ℕ) (r : Option ℕ × List ℕ) → 0 < number → and_then {A = List ℕ × List ℕ} {B = Option ℕ × List ℕ} (cut_at 10 bytes) (λ (l : List ℕ × List ℕ). and_then {A = List ℕ} {B = Option ℕ × List ℕ} (after_word (codes "time ") l.0) (λ (text : List ℕ). and_then {A = ℕ} {B = Option ℕ × List ℕ} (time_at text) (λ (time : ℕ). Some (Some time, l.1)))) ≡ Some r → TakesTime number bytes r.0 r.1
+some_time_takes : (number : ℕ) (bytes : List ℕ) (r : Option ℕ × List ℕ) → 0 < number
+    → and_then {A = List ℕ × List ℕ} {B = Option ℕ × List ℕ} (cut_at 10 bytes)
+    (λ (l : List ℕ × List ℕ). and_then {A = List ℕ} {B = Option ℕ × List ℕ} (after_word (codes "time ") l.0)
+    (λ (text : List ℕ). and_then {A = ℕ} {B = Option ℕ × List ℕ} (time_at text)
+    (λ (time : ℕ). Some (Some time, l.1)))) ≡ Some r → TakesTime number bytes r.0 r.1
 some_time_takes number bytes r above e =
-    let l = some_then (cut_at 10 bytes) (λ (l : List ℕ × List ℕ). and_then {A = List ℕ} {B = Option ℕ × List ℕ} (after_word (codes "time ") l.0) (λ (text : List ℕ). and_then {A = ℕ} {B = Option ℕ × List ℕ} (time_at text) (λ (time : ℕ). Some (Some time, l.1)))) r e in
-    let w = some_then (after_word (codes "time ") l.0.0) (λ (text : List ℕ). and_then {A = ℕ} {B = Option ℕ × List ℕ} (time_at text) (λ (time : ℕ). Some (Some time, l.0.1))) r l.2 in
+    let l = some_then (cut_at 10 bytes) (λ (l : List ℕ × List ℕ). and_then {A = List ℕ} {B = Option ℕ × List ℕ}
+    (after_word (codes "time ") l.0) (λ (text : List ℕ). and_then {A = ℕ} {B = Option ℕ × List ℕ} (time_at text)
+    (λ (time : ℕ). Some (Some time, l.1)))) r e in
+    let w = some_then (after_word (codes "time ") l.0.0) (λ (text : List ℕ). and_then {A = ℕ} {B = Option ℕ × List ℕ}
+    (time_at text) (λ (time : ℕ). Some (Some time, l.0.1))) r l.2 in
     let t = some_then (time_at w.0) (λ (time : ℕ). Some (Some time, l.0.1)) r w.2 in
     let text : TimeText w.0 t.0 = time_takes w.0 t.0 t.1 in
     subst (λ (x : Option ℕ × List ℕ). TakesTime number bytes x.0 x.1) (same_Some (Some t.0, l.0.1) r t.2) (record {
-      is_text = cut_takes 10 bytes l.0.0 l.0.1 l.1 ∙ same_line (codes "time ") l.0.0 w.0 (time_text t.0) l.0.1 (word_takes (codes "time ") l.0.0 w.0 w.1) (one_time_text w.0 t.0 text);
+      is_text = cut_takes 10 bytes l.0.0 l.0.1 l.1 ∙ same_line (codes "time ") l.0.0 w.0 (time_text t.0) l.0.1
+          (word_takes (codes "time ") l.0.0 w.0 w.1) (one_time_text w.0 t.0 text);
       is_time = (above, text.limits);
     })
 
@@ -138,12 +204,28 @@ time_line_takes number bytes r e =
     (λ test f. some_time_takes number bytes r (let t : (number == 0) ≡ false = test in let other : number ≢ 0 = grind (arith, nat_tests) in omega arith) f)
 
 none_lacks : Lacks 10 (codes "time none")
-none_lacks = ((λ e. omega (arith, e)), ((λ e. omega (arith, e)), ((λ e. omega (arith, e)), ((λ e. omega (arith, e)), ((λ e. omega (arith, e)), ((λ e. omega (arith, e)), ((λ e. omega (arith, e)), ((λ e. omega (arith, e)), ((λ e. omega (arith, e)), tt)))))))))
+none_lacks = (
+  (λ e. omega (arith, e)),
+  (
+    (λ e. omega (arith, e)),
+    (
+      (λ e. omega (arith, e)),
+      (
+        (λ e. omega (arith, e)),
+        (
+          (λ e. omega (arith, e)),
+          ((λ e. omega (arith, e)), ((λ e. omega (arith, e)), ((λ e. omega (arith, e)), ((λ e. omega (arith, e)), tt)))),
+        ),
+      ),
+    ),
+  ),
+)
 
 time_word_lacks : Lacks 10 (codes "time ")
 time_word_lacks = ((λ e. omega (arith, e)), ((λ e. omega (arith, e)), ((λ e. omega (arith, e)), ((λ e. omega (arith, e)), ((λ e. omega (arith, e)), tt)))))
 
-pub time_line_again : (number : ℕ) (time : Option ℕ) (rest : List ℕ) → IsTimeOf number time → time_line_at number ((codes "time " ++ maybe_time_text time) ++ 10 ∷ rest) ≡ Some (time, rest)
+pub time_line_again : (number : ℕ) (time : Option ℕ) (rest : List ℕ) → IsTimeOf number time
+    → time_line_at number ((codes "time " ++ maybe_time_text time) ++ 10 ∷ rest) ≡ Some (time, rest)
 unfolding time_line_at
 time_line_again number None rest is =
     let test : (number == 0) ≡ true = (let zero : number ≡ 0 = is in grind (arith, nat_tests)) in
@@ -154,6 +236,9 @@ time_line_again number (Some time) rest is =
     let limits : IsPositive time = is.1 in
     let test : (number == 0) ≡ false = (let other : number ≢ 0 = (λ e. omega (arith, e, above)) in grind (arith, nat_tests)) in
     let lacks : Lacks 10 (codes "time " ++ time_text time) = lacks_append 10 (codes "time ") (time_text time) time_word_lacks (time_lacks time limits.high) in
-    let cut : cut_at 10 ((codes "time " ++ time_text time) ++ 10 ∷ rest) ≡ Some (codes "time " ++ time_text time, rest) = cut_again 10 (codes "time " ++ time_text time) rest lacks in
+    let cut : cut_at 10 ((codes "time " ++ time_text time) ++ 10 ∷ rest) ≡ Some (
+      codes "time " ++ time_text time,
+      rest,
+    ) = cut_again 10 (codes "time " ++ time_text time) rest lacks in
     let read : time_at (time_text time) ≡ Some time = time_again (time_text time) time (record { shows = time_text_shows time limits.high; limits = limits }) in
     rw (test, cut, read) refl

@@ -42,14 +42,30 @@ TakesObjects most bytes r = TakesList key_cmp (λ (c : ChangeValue). c.key) line
 
 pub objects_take : (most : ℕ) (bytes : List ℕ) (r : List ChangeValue × List ℕ) → objects_at most bytes ≡ Some r → TakesObjects most bytes r
 unfolding objects_at
-objects_take most bytes r e = list_takes key_cmp keys_total (λ (c : ChangeValue). c.key) line_text IsObject object_at object_item (codes "objects ") most bytes r e
+objects_take most bytes r e = list_takes key_cmp keys_total (λ (c : ChangeValue). c.key) line_text IsObject object_at
+    object_item (codes "objects ") most bytes r e
 
 objects_lack : Lacks 10 (codes "objects ")
-objects_lack = ((λ e. omega (arith, e)), ((λ e. omega (arith, e)), ((λ e. omega (arith, e)), ((λ e. omega (arith, e)), ((λ e. omega (arith, e)), ((λ e. omega (arith, e)), ((λ e. omega (arith, e)), ((λ e. omega (arith, e)), tt))))))))
+objects_lack = (
+  (λ e. omega (arith, e)),
+  (
+    (λ e. omega (arith, e)),
+    (
+      (λ e. omega (arith, e)),
+      (
+        (λ e. omega (arith, e)),
+        ((λ e. omega (arith, e)), ((λ e. omega (arith, e)), ((λ e. omega (arith, e)), ((λ e. omega (arith, e)), tt)))),
+      ),
+    ),
+  ),
+)
 
-pub objects_again : (most : ℕ) (cs : List ChangeValue) (rest : List ℕ) → length cs ≤ most → most < 1000000000000000 → AllByRecursion IsObject cs → IsStrictlySortedBy key_cmp (map (λ (c : ChangeValue). c.key) cs) → objects_at most (ended (list_lines (codes "objects ") line_text cs) ++ rest) ≡ Some (cs, rest)
+pub objects_again : (most : ℕ) (cs : List ChangeValue) (rest : List ℕ) → length cs ≤ most → most < 1000000000000000
+    → AllByRecursion IsObject cs → IsStrictlySortedBy key_cmp (map (λ (c : ChangeValue). c.key) cs)
+    → objects_at most (ended (list_lines (codes "objects ") line_text cs) ++ rest) ≡ Some (cs, rest)
 unfolding objects_at
-objects_again most cs rest few small good rising = list_again key_cmp keys_total (λ (c : ChangeValue). c.key) line_text IsObject object_at object_item (codes "objects ") most cs rest objects_lack few small good rising
+objects_again most cs rest few small good rising = list_again key_cmp keys_total (λ (c : ChangeValue). c.key) line_text
+    IsObject object_at object_item (codes "objects ") most cs rest objects_lack few small good rising
 
 -- ---- counts
 
@@ -63,7 +79,8 @@ count_lacks : (most : ℕ) (e : Counted) → most < 1000000000000000 → IsCount
 count_lacks most e small good =
     let fits : e.0 < 2 ^ 32 = good.number.high in
     let few : e.1 ≤ most = good.few in
-    lacks_append 10 (decimal e.0) (32 ∷ decimal e.1) (decimal_lacks 10 e.0 (omega arith) (omega arith)) ((λ x. omega (arith, x)), decimal_lacks 10 e.1 (omega arith) (omega arith))
+    lacks_append 10 (decimal e.0) (32 ∷ decimal e.1) (decimal_lacks 10 e.0 (omega arith) (omega arith))
+    ((λ x. omega (arith, x)), decimal_lacks 10 e.1 (omega arith) (omega arith))
 
 count_item : (most : ℕ) → most < 1000000000000000 → IsItem nat_cmp (λ (e : Counted). e.0) count_text (IsCountWithin most) (count_at most)
 count_item most small = record {
@@ -75,13 +92,20 @@ count_item most small = record {
 abbrev pub TakesCounts : List ℕ → ℕ → List ℕ → List Counted × List ℕ → Type 0
 TakesCounts word most bytes r = TakesList nat_cmp (λ (e : Counted). e.0) count_text (IsCountWithin most) word most bytes r.0 r.1
 
-pub counts_take : (word : List ℕ) (most : ℕ) (bytes : List ℕ) (r : List Counted × List ℕ) → most < 1000000000000000 → counts_at word most bytes ≡ Some r → TakesCounts word most bytes r
+pub counts_take : (word : List ℕ) (most : ℕ) (bytes : List ℕ) (r : List Counted × List ℕ) → most < 1000000000000000
+    → counts_at word most bytes ≡ Some r → TakesCounts word most bytes r
 unfolding counts_at
-counts_take word most bytes r small e = list_takes nat_cmp nat_cmp_total (λ (e : Counted). e.0) count_text (IsCountWithin most) (count_at most) (count_item most small) word most bytes r e
+counts_take word most bytes r small e = list_takes nat_cmp nat_cmp_total (λ (e : Counted). e.0) count_text
+    (IsCountWithin most) (count_at most) (count_item most small) word most bytes r e
 
-pub counts_again : (word : List ℕ) (most : ℕ) (es : List Counted) (rest : List ℕ) → Lacks 10 word → length es ≤ most → most < 1000000000000000 → AllByRecursion (IsCountWithin most) es → IsStrictlySortedBy nat_cmp (map (λ (e : Counted). e.0) es) → counts_at word most (ended (list_lines word count_text es) ++ rest) ≡ Some (es, rest)
+pub counts_again : (word : List ℕ) (most : ℕ) (es : List Counted) (rest : List ℕ) → Lacks 10 word → length es ≤ most
+    → most < 1000000000000000 → AllByRecursion (IsCountWithin most) es
+    → IsStrictlySortedBy nat_cmp (map (λ (e : Counted). e.0) es)
+    → counts_at word most (ended (list_lines word count_text es) ++ rest) ≡ Some (es, rest)
 unfolding counts_at
-counts_again word most es rest lacks few small good rising = list_again nat_cmp nat_cmp_total (λ (e : Counted). e.0) count_text (IsCountWithin most) (count_at most) (count_item most small) word most es rest lacks few small good rising
+counts_again word most es rest lacks few small good rising =
+    list_again nat_cmp nat_cmp_total (λ (e : Counted). e.0) count_text (IsCountWithin most) (count_at most)
+    (count_item most small) word most es rest lacks few small good rising
 
 -- ---- counts of a mirror
 
@@ -117,7 +141,9 @@ all_at n q [] same all = tt
 all_at n q (k ∷ ks) same all = (nat_cmp_total.congr n q k same ∙ all.0, all_at n q ks same all.1)
 
 -- no number has a greater count in the rest of a list than in the list
-tail_most : (most : ℕ) (e : Counted) (es : List Counted) → IsStrictlySortedBy nat_cmp (map (λ (d : Counted). d.0) (e ∷ es)) → ((n : ℕ) → mirror.count_at (e ∷ es) n ≤ most) → (n : ℕ) → mirror.count_at es n ≤ most
+tail_most : (most : ℕ) (e : Counted) (es : List Counted)
+    → IsStrictlySortedBy nat_cmp (map (λ (d : Counted). d.0) (e ∷ es)) → ((n : ℕ) → mirror.count_at (e ∷ es) n ≤ most)
+    → (n : ℕ) → mirror.count_at es n ≤ most
 unfolding IsStrictlySortedBy
 tail_most most e es rising each n = by_test (is_at (nat_cmp n) e.0) refl (each n)
   where
@@ -128,7 +154,9 @@ tail_most most e es rising each n = by_test (is_at (nat_cmp n) e.0) refl (each n
     by_test false at most_here = most_here
 
 -- each entry of a list whose counts are at most `most`
-pub each_within : (most : ℕ) (es : List Counted) → IsStrictlySortedBy nat_cmp (map (λ (d : Counted). d.0) es) → AllByRecursion HasNumber es → AllByRecursion IsAboveZero es → ((n : ℕ) → mirror.count_at es n ≤ most) → AllByRecursion (IsCountWithin most) es
+pub each_within : (most : ℕ) (es : List Counted) → IsStrictlySortedBy nat_cmp (map (λ (d : Counted). d.0) es)
+    → AllByRecursion HasNumber es → AllByRecursion IsAboveZero es → ((n : ℕ) → mirror.count_at es n ≤ most)
+    → AllByRecursion (IsCountWithin most) es
 unfolding IsStrictlySortedBy
 each_within most [] rising numbers above each = tt
 each_within most (e ∷ es) rising numbers above each =

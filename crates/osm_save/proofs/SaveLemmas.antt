@@ -14,7 +14,8 @@ use Rattle.osm_opl.specs.Written.{line_text}
 use Rattle.osm_save.specs.Steps.Reading.{counts_at, fixed_at, mirror_at, numbered_at, objects_at, save_at, time_line_at}
 use Rattle.osm_save.specs.declared.save.Saved.{Saved}
 use Rattle.osm_save.proofs.LineLemmas.{fixed_again, fixed_takes, numbered_again, numbered_takes, time_line_again, time_line_takes}
-use Rattle.osm_save.proofs.MirrorLemmas.{TakesCounts, TakesObjects, above_of, counts_again, counts_most, counts_take, each_within, numbers_of, objects_again, objects_take}
+use Rattle.osm_save.proofs.MirrorLemmas.{TakesCounts, TakesObjects, above_of, counts_again, counts_most, counts_take}
+use Rattle.osm_save.proofs.MirrorLemmas.{each_within, numbers_of, objects_again, objects_take}
 use Rattle.osm_save.proofs.TextLemmas.{mirror_text, save_text_is}
 
 small_most : (number : ℕ) → number ≤ max_sequence → 100000 * number < 1000000000000000
@@ -30,7 +31,12 @@ pub record TakesMirror (number : ℕ) (time : Option ℕ) (bytes : List ℕ) (v 
   pub text : bytes ≡ mirror_text v.mirror
 
 abbrev saved : ℕ → Option ℕ → List ChangeValue → List Counted → List Counted → Saved
-saved number time objects users changesets = record { number = number; time = time; mirror = record { objects = objects; users = users; changesets = changesets } }
+saved number time objects users changesets = record {
+  number = number;
+  time = time;
+  mirror =
+      record { objects = objects; users = users; changesets = changesets };
+}
 
 nothing_left : (bytes : List ℕ) → (length bytes == 0) ≡ true → bytes ≡ []
 nothing_left [] e = refl
@@ -39,7 +45,10 @@ nothing_left (b ∷ bs) e = absurd (let none : length (b ∷ bs) ≡ 0 = grind (
 parts_joined : (bytes a r b s c t d : List ℕ) → bytes ≡ a ++ r → r ≡ b ++ s → s ≡ c ++ t → t ≡ d → bytes ≡ a ++ (b ++ (c ++ d))
 parts_joined bytes a r b s c t d p q w x = p ∙ ap (λ (l : List ℕ). a ++ l) (q ∙ ap (λ (l : List ℕ). b ++ l) (w ∙ ap (λ (l : List ℕ). c ++ l) x))
 
-mirror_taken : (number : ℕ) (time : Option ℕ) (bytes : List ℕ) (o : List ChangeValue × List ℕ) (u s : List Counted × List ℕ) (rest : List ℕ) → TakesObjects (100000 * number) bytes o → TakesCounts (codes "users ") (100000 * number) o.1 u → TakesCounts (codes "changesets ") (100000 * number) u.1 s → s.1 ≡ codes "end" ++ 10 ∷ rest → rest ≡ [] → TakesMirror number time bytes (saved number time o.0 u.0 s.0)
+mirror_taken : (number : ℕ) (time : Option ℕ) (bytes : List ℕ) (o : List ChangeValue × List ℕ) (u s : List Counted
+    × List ℕ) (rest : List ℕ) → TakesObjects (100000 * number) bytes o
+    → TakesCounts (codes "users ") (100000 * number) o.1 u → TakesCounts (codes "changesets ") (100000 * number) u.1 s
+    → s.1 ≡ codes "end" ++ 10 ∷ rest → rest ≡ [] → TakesMirror number time bytes (saved number time o.0 u.0 s.0)
 mirror_taken number time bytes o u s rest objects users changesets end done = record {
   number_is = refl;
   time_is = refl;
@@ -60,33 +69,60 @@ mirror_taken number time bytes o u s rest objects users changesets end done = re
     user_counts = counts_most (100000 * number) u.0 users.good;
     changeset_counts = counts_most (100000 * number) s.0 changesets.good;
   };
-  text = parts_joined bytes (ended (list_lines (codes "objects ") line_text o.0)) o.1 (ended (list_lines (codes "users ") count_text u.0)) u.1 (ended (list_lines (codes "changesets ") count_text s.0)) s.1 (codes "end" ++ 10 ∷ []) objects.is_text users.is_text changesets.is_text (end ∙ ap (λ (l : List ℕ). codes "end" ++ 10 ∷ l) done);
+  text = parts_joined bytes (ended (list_lines (codes "objects ") line_text o.0)) o.1
+      (ended (list_lines (codes "users ") count_text u.0)) u.1 (ended (list_lines (codes "changesets ") count_text s.0))
+      s.1 (codes "end" ++ 10 ∷ []) objects.is_text users.is_text changesets.is_text
+      (end ∙ ap (λ (l : List ℕ). codes "end" ++ 10 ∷ l) done);
 }
 
 abbrev ending : ℕ → Option ℕ → List ChangeValue → List Counted → List Counted → List ℕ → Option Saved
 ending number time o u s rest = if length rest == 0 then Some (saved number time o u s) else None
 
-mirror_takes : (number : ℕ) (time : Option ℕ) (bytes : List ℕ) (v : Saved) → number ≤ max_sequence → mirror_at number time bytes ≡ Some v → TakesMirror number time bytes v
+mirror_takes : (number : ℕ) (time : Option ℕ) (bytes : List ℕ) (v : Saved) → number ≤ max_sequence
+    → mirror_at number time bytes ≡ Some v → TakesMirror number time bytes v
 unfolding mirror_at
 mirror_takes number time bytes v few e =
-    let o = some_then (objects_at (100000 * number) bytes) (λ (o : List ChangeValue × List ℕ). and_then {A = List Counted × List ℕ} {B = Saved} (counts_at (codes "users ") (100000 * number) o.1) (λ (u : List Counted × List ℕ). and_then {A = List Counted × List ℕ} {B = Saved} (counts_at (codes "changesets ") (100000 * number) u.1) (λ (s : List Counted × List ℕ). and_then {A = List ℕ} {B = Saved} (fixed_at (codes "end") s.1) (λ (rest : List ℕ). ending number time o.0 u.0 s.0 rest)))) v e in
-    let u = some_then (counts_at (codes "users ") (100000 * number) o.0.1) (λ (u : List Counted × List ℕ). and_then {A = List Counted × List ℕ} {B = Saved} (counts_at (codes "changesets ") (100000 * number) u.1) (λ (s : List Counted × List ℕ). and_then {A = List ℕ} {B = Saved} (fixed_at (codes "end") s.1) (λ (rest : List ℕ). ending number time o.0.0 u.0 s.0 rest))) v o.2 in
-    let s = some_then (counts_at (codes "changesets ") (100000 * number) u.0.1) (λ (s : List Counted × List ℕ). and_then {A = List ℕ} {B = Saved} (fixed_at (codes "end") s.1) (λ (rest : List ℕ). ending number time o.0.0 u.0.0 s.0 rest)) v u.2 in
+    let o = some_then (objects_at (100000 * number) bytes) (λ (o : List ChangeValue × List ℕ). and_then {A =
+    List Counted × List ℕ} {B = Saved} (counts_at (codes "users ") (100000 * number) o.1)
+    (λ (u : List Counted × List ℕ). and_then {A = List Counted × List ℕ} {B = Saved}
+    (counts_at (codes "changesets ") (100000 * number) u.1) (λ (s : List Counted × List ℕ). and_then {A =
+    List ℕ} {B = Saved} (fixed_at (codes "end") s.1) (λ (rest : List ℕ). ending number time o.0 u.0 s.0 rest)))) v
+    e in
+    let u = some_then (counts_at (codes "users ") (100000 * number) o.0.1) (λ (u : List Counted × List ℕ). and_then {A =
+    List Counted × List ℕ} {B = Saved} (counts_at (codes "changesets ") (100000 * number) u.1)
+    (λ (s : List Counted × List ℕ). and_then {A = List ℕ} {B = Saved} (fixed_at (codes "end") s.1)
+    (λ (rest : List ℕ). ending number time o.0.0 u.0 s.0 rest))) v o.2 in
+    let s = some_then (counts_at (codes "changesets ") (100000 * number) u.0.1)
+    (λ (s : List Counted × List ℕ). and_then {A = List ℕ} {B = Saved} (fixed_at (codes "end") s.1)
+    (λ (rest : List ℕ). ending number time o.0.0 u.0.0 s.0 rest)) v u.2 in
     let f = some_then (fixed_at (codes "end") s.0.1) (λ (rest : List ℕ). ending number time o.0.0 u.0.0 s.0.0 rest) v s.2 in
     let g = guard_some (length f.0 == 0) (Some (saved number time o.0.0 u.0.0 s.0.0)) v f.2 in
     let small = small_most number few in
     subst (λ (x : Saved). TakesMirror number time bytes x) (same_Some (saved number time o.0.0 u.0.0 s.0.0) v g.1)
-    (mirror_taken number time bytes o.0 u.0 s.0 f.0 (objects_take (100000 * number) bytes o.0 o.1) (counts_take (codes "users ") (100000 * number) o.0.1 u.0 small u.1) (counts_take (codes "changesets ") (100000 * number) u.0.1 s.0 small s.1) (fixed_takes (codes "end") s.0.1 f.0 f.1) (nothing_left f.0 g.0))
+    (mirror_taken number time bytes o.0 u.0 s.0 f.0 (objects_take (100000 * number) bytes o.0 o.1)
+    (counts_take (codes "users ") (100000 * number) o.0.1 u.0 small u.1)
+    (counts_take (codes "changesets ") (100000 * number) u.0.1 s.0 small s.1)
+    (fixed_takes (codes "end") s.0.1 f.0 f.1) (nothing_left f.0 g.0))
 
-lines_joined : (bytes first n t : List ℕ) (number : ℕ) (time : Option ℕ) (v : Saved) → bytes ≡ codes "osmrepl-save 1" ++ 10 ∷ first → first ≡ (codes "sequence " ++ decimal number) ++ 10 ∷ n → n ≡ (codes "time " ++ maybe_time_text time) ++ 10 ∷ t → TakesMirror number time t v → bytes ≡ save_text v
+lines_joined : (bytes first n t : List ℕ) (number : ℕ) (time : Option ℕ) (v : Saved) → bytes ≡ codes "osmrepl-save 1"
+    ++ 10 ∷ first → first ≡ (codes "sequence " ++ decimal number) ++ 10 ∷ n
+    → n ≡ (codes "time " ++ maybe_time_text time) ++ 10 ∷ t → TakesMirror number time t v → bytes ≡ save_text v
 lines_joined bytes first n t number time v p q r m =
-    p ∙ (ap (λ (l : List ℕ). codes "osmrepl-save 1" ++ 10 ∷ l) (q ∙ rw (← m.number_is) (ap (λ (l : List ℕ). (codes "sequence " ++ decimal v.number) ++ 10 ∷ l) (r ∙ rw (← m.time_is) (ap (λ (l : List ℕ). (codes "time " ++ maybe_time_text v.time) ++ 10 ∷ l) m.text)))) ∙ sym (save_text_is v))
+    p ∙ (ap (λ (l : List ℕ). codes "osmrepl-save 1" ++ 10 ∷ l)
+    (q ∙ rw (← m.number_is) (ap (λ (l : List ℕ). (codes "sequence " ++ decimal v.number) ++ 10 ∷ l)
+    (r ∙ rw (← m.time_is) (ap (λ (l : List ℕ). (codes "time " ++ maybe_time_text v.time) ++ 10 ∷ l) m.text))))
+    ∙ sym (save_text_is v))
 
 pub save_takes : (bytes : List ℕ) (v : Saved) → save_at bytes ≡ Some v → SpellsSave bytes v
 unfolding save_at
 save_takes bytes v e =
-    let f = some_then (fixed_at (codes "osmrepl-save 1") bytes) (λ (first : List ℕ). and_then {A = ℕ × List ℕ} {B = Saved} (numbered_at (codes "sequence ") max_sequence first) (λ (n : ℕ × List ℕ). and_then {A = Option ℕ × List ℕ} {B = Saved} (time_line_at n.0 n.1) (λ (t : Option ℕ × List ℕ). mirror_at n.0 t.0 t.1))) v e in
-    let n = some_then (numbered_at (codes "sequence ") max_sequence f.0) (λ (n : ℕ × List ℕ). and_then {A = Option ℕ × List ℕ} {B = Saved} (time_line_at n.0 n.1) (λ (t : Option ℕ × List ℕ). mirror_at n.0 t.0 t.1)) v f.2 in
+    let f = some_then (fixed_at (codes "osmrepl-save 1") bytes) (λ (first : List ℕ). and_then {A = ℕ × List ℕ} {B =
+    Saved} (numbered_at (codes "sequence ") max_sequence first)
+    (λ (n : ℕ × List ℕ). and_then {A = Option ℕ × List ℕ} {B = Saved} (time_line_at n.0 n.1)
+    (λ (t : Option ℕ × List ℕ). mirror_at n.0 t.0 t.1))) v e in
+    let n = some_then (numbered_at (codes "sequence ") max_sequence f.0)
+    (λ (n : ℕ × List ℕ). and_then {A = Option ℕ × List ℕ} {B = Saved} (time_line_at n.0 n.1)
+    (λ (t : Option ℕ × List ℕ). mirror_at n.0 t.0 t.1)) v f.2 in
     let t = some_then (time_line_at n.0.0 n.0.1) (λ (t : Option ℕ × List ℕ). mirror_at n.0.0 t.0 t.1) v n.2 in
     let sequence = numbered_takes (codes "sequence ") max_sequence f.0 n.0 n.1 in
     let time = time_line_takes n.0.0 n.0.1 t.0 t.1 in
@@ -104,16 +140,94 @@ save_takes bytes v e =
 -- ---- what is saved is read
 
 first_lacks : Lacks 10 (codes "osmrepl-save 1")
-first_lacks = ((λ e. omega (arith, e)), ((λ e. omega (arith, e)), ((λ e. omega (arith, e)), ((λ e. omega (arith, e)), ((λ e. omega (arith, e)), ((λ e. omega (arith, e)), ((λ e. omega (arith, e)), ((λ e. omega (arith, e)), ((λ e. omega (arith, e)), ((λ e. omega (arith, e)), ((λ e. omega (arith, e)), ((λ e. omega (arith, e)), ((λ e. omega (arith, e)), ((λ e. omega (arith, e)), tt))))))))))))))
+first_lacks = (
+  (λ e. omega (arith, e)),
+  (
+    (λ e. omega (arith, e)),
+    (
+      (λ e. omega (arith, e)),
+      (
+        (λ e. omega (arith, e)),
+        (
+          (λ e. omega (arith, e)),
+          (
+            (λ e. omega (arith, e)),
+            (
+              (λ e. omega (arith, e)),
+              (
+                (λ e. omega (arith, e)),
+                (
+                  (λ e. omega (arith, e)),
+                  (
+                    (λ e. omega (arith, e)),
+                    (
+                      (λ e. omega (arith, e)),
+                      ((λ e. omega (arith, e)), ((λ e. omega (arith, e)), ((λ e. omega (arith, e)), tt))),
+                    ),
+                  ),
+                ),
+              ),
+            ),
+          ),
+        ),
+      ),
+    ),
+  ),
+)
 
 sequence_lacks : Lacks 10 (codes "sequence ")
-sequence_lacks = ((λ e. omega (arith, e)), ((λ e. omega (arith, e)), ((λ e. omega (arith, e)), ((λ e. omega (arith, e)), ((λ e. omega (arith, e)), ((λ e. omega (arith, e)), ((λ e. omega (arith, e)), ((λ e. omega (arith, e)), ((λ e. omega (arith, e)), tt)))))))))
+sequence_lacks = (
+  (λ e. omega (arith, e)),
+  (
+    (λ e. omega (arith, e)),
+    (
+      (λ e. omega (arith, e)),
+      (
+        (λ e. omega (arith, e)),
+        (
+          (λ e. omega (arith, e)),
+          ((λ e. omega (arith, e)), ((λ e. omega (arith, e)), ((λ e. omega (arith, e)), ((λ e. omega (arith, e)), tt)))),
+        ),
+      ),
+    ),
+  ),
+)
 
 users_lack : Lacks 10 (codes "users ")
-users_lack = ((λ e. omega (arith, e)), ((λ e. omega (arith, e)), ((λ e. omega (arith, e)), ((λ e. omega (arith, e)), ((λ e. omega (arith, e)), ((λ e. omega (arith, e)), tt))))))
+users_lack = (
+  (λ e. omega (arith, e)),
+  (
+    (λ e. omega (arith, e)),
+    ((λ e. omega (arith, e)), ((λ e. omega (arith, e)), ((λ e. omega (arith, e)), ((λ e. omega (arith, e)), tt)))),
+  ),
+)
 
 changesets_lack : Lacks 10 (codes "changesets ")
-changesets_lack = ((λ e. omega (arith, e)), ((λ e. omega (arith, e)), ((λ e. omega (arith, e)), ((λ e. omega (arith, e)), ((λ e. omega (arith, e)), ((λ e. omega (arith, e)), ((λ e. omega (arith, e)), ((λ e. omega (arith, e)), ((λ e. omega (arith, e)), ((λ e. omega (arith, e)), ((λ e. omega (arith, e)), tt)))))))))))
+changesets_lack = (
+  (λ e. omega (arith, e)),
+  (
+    (λ e. omega (arith, e)),
+    (
+      (λ e. omega (arith, e)),
+      (
+        (λ e. omega (arith, e)),
+        (
+          (λ e. omega (arith, e)),
+          (
+            (λ e. omega (arith, e)),
+            (
+              (λ e. omega (arith, e)),
+              (
+                (λ e. omega (arith, e)),
+                ((λ e. omega (arith, e)), ((λ e. omega (arith, e)), ((λ e. omega (arith, e)), tt))),
+              ),
+            ),
+          ),
+        ),
+      ),
+    ),
+  ),
+)
 
 end_lacks : Lacks 10 (codes "end")
 end_lacks = ((λ e. omega (arith, e)), ((λ e. omega (arith, e)), ((λ e. omega (arith, e)), tt)))
@@ -123,17 +237,28 @@ unfolding mirror_at
 mirror_again v is =
     let small = small_most v.number is.number in
     let end = fixed_again (codes "end") [] end_lacks in
-    let changesets = counts_again (codes "changesets ") (100000 * v.number) v.mirror.changesets (codes "end" ++ 10 ∷ []) changesets_lack is.within.changesets small (each_within (100000 * v.number) v.mirror.changesets is.mirror.orderly.changesets.rising is.mirror.changesets is.mirror.orderly.changesets.above is.within.changeset_counts) is.mirror.orderly.changesets.rising in
-    let users = counts_again (codes "users ") (100000 * v.number) v.mirror.users (ended (list_lines (codes "changesets ") count_text v.mirror.changesets) ++ (codes "end" ++ 10 ∷ [])) users_lack is.within.users small (each_within (100000 * v.number) v.mirror.users is.mirror.orderly.users.rising is.mirror.users is.mirror.orderly.users.above is.within.user_counts) is.mirror.orderly.users.rising in
-    let objects = objects_again (100000 * v.number) v.mirror.objects (ended (list_lines (codes "users ") count_text v.mirror.users) ++ (ended (list_lines (codes "changesets ") count_text v.mirror.changesets) ++ (codes "end" ++ 10 ∷ []))) is.within.objects small is.mirror.objects is.mirror.orderly.objects in
+    let changesets = counts_again (codes "changesets ") (100000 * v.number) v.mirror.changesets (codes "end" ++ 10 ∷ [])
+    changesets_lack is.within.changesets small
+    (each_within (100000 * v.number) v.mirror.changesets is.mirror.orderly.changesets.rising is.mirror.changesets
+    is.mirror.orderly.changesets.above is.within.changeset_counts) is.mirror.orderly.changesets.rising in
+    let users = counts_again (codes "users ") (100000 * v.number) v.mirror.users
+    (ended (list_lines (codes "changesets ") count_text v.mirror.changesets) ++ (codes "end" ++ 10 ∷ [])) users_lack
+    is.within.users small (each_within (100000 * v.number) v.mirror.users is.mirror.orderly.users.rising
+    is.mirror.users is.mirror.orderly.users.above is.within.user_counts) is.mirror.orderly.users.rising in
+    let objects = objects_again (100000 * v.number) v.mirror.objects
+    (ended (list_lines (codes "users ") count_text v.mirror.users)
+    ++ (ended (list_lines (codes "changesets ") count_text v.mirror.changesets) ++ (codes "end" ++ 10 ∷ [])))
+    is.within.objects small is.mirror.objects is.mirror.orderly.objects in
     rw (objects, users, changesets, end) refl
 
 pub save_again : (v : Saved) → IsSavable v → save_at (save_text v) ≡ Some v
 unfolding save_at
 save_again v is =
     let few : v.number ≤ max_sequence = is.number in
-    let first = fixed_again (codes "osmrepl-save 1") ((codes "sequence " ++ decimal v.number) ++ 10 ∷ ((codes "time " ++ maybe_time_text v.time) ++ 10 ∷ mirror_text v.mirror)) first_lacks in
-    let sequence = numbered_again (codes "sequence ") max_sequence v.number ((codes "time " ++ maybe_time_text v.time) ++ 10 ∷ mirror_text v.mirror) sequence_lacks is.number (omega (arith, few)) in
+    let first = fixed_again (codes "osmrepl-save 1") ((codes "sequence " ++ decimal v.number)
+    ++ 10 ∷ ((codes "time " ++ maybe_time_text v.time) ++ 10 ∷ mirror_text v.mirror)) first_lacks in
+    let sequence = numbered_again (codes "sequence ") max_sequence v.number ((codes "time " ++ maybe_time_text v.time)
+    ++ 10 ∷ mirror_text v.mirror) sequence_lacks is.number (omega (arith, few)) in
     let time = time_line_again v.number v.time (mirror_text v.mirror) is.time in
     rw (save_text_is v, first, sequence, time) (mirror_again v is)
 

@@ -3,7 +3,7 @@
 ghost use Rattle.std.specs.Prelude.{◌≡◌, ◌≤◌, ◌++◌, ◌∷◌, [], decimal, IfOk, OnOk};
 ghost use Rattle.osm_reading.specs.Pieces.{cut_at};
 ghost use Rattle.osm_save.specs.Save.{ended};
-ghost use Rattle.osm_save.specs.Steps.Answers.{Gives};
+ghost use Rattle.osm_save.specs.Steps.Answers.{Finds};
 ghost use Rattle.osm_save.specs.Steps.Reading.{fixed_at, numbered_at};
 
 use crate::numbers::{read_number, write_number};
@@ -13,7 +13,7 @@ use osm_reading::pieces::cut;
 
 /// The next line without its LF, and the bytes after it.
 pub(crate) fn next_line(rest: &[u8]) -> Result<(&[u8], &[u8]), Stop>
-    ensures { Gives (λ r. (r.0.now, r.1.now)) result (cut_at 10 rest.now) }
+    ensures { Finds (λ r. (r.0.now, r.1.now)) result (cut_at 10 rest.now) }
 {
     match cut(rest, b'\n') {
         (line, Some(after)) => Ok((line, after)),
@@ -24,7 +24,7 @@ pub(crate) fn next_line(rest: &[u8]) -> Result<(&[u8], &[u8]), Stop>
 /// The bytes after the next line, which must have this text.
 #[tactic(auto, unfolding(crate::specs::Steps::Reading::fixed_at))]
 pub(crate) fn fixed_line<'a>(text: &[u8], rest: &'a [u8]) -> Result<&'a [u8], Stop>
-    ensures { Gives (λ after. after.now) result (fixed_at text.now rest.now) }
+    ensures { Finds (λ after. after.now) result (fixed_at text.now rest.now) }
 {
     let (line, after) = next_line(rest)?;
     if line != text {
@@ -41,7 +41,7 @@ pub(crate) fn numbered_line<'a>(
     most: u64,
     rest: &'a [u8],
 ) -> Result<(u64, &'a [u8]), Stop>
-    ensures value { Gives (λ r. (r.0, r.1.now)) result (numbered_at word.now most rest.now) }
+    ensures value { Finds (λ r. (r.0, r.1.now)) result (numbered_at word.now most rest.now) }
     ensures limit { IfOk result (λ r. r.0 ≤ most) }
 {
     let (line, after) = next_line(rest)?;

@@ -13,15 +13,15 @@
 //! end
 //! ```
 
-ghost use Rattle.std.specs.Prelude.{◌≡◌, ◌*◌, ◌≤◌, ◌++◌, ◌∷◌, [], List, ℕ, Option, codes};
-ghost use Rattle.std.specs.Prelude.{decimal, IfOk, IfErr, OnOk};
+ghost use Rattle.std.specs.Prelude.{◌≡◌, ◌*◌, ◌<◌, ◌≤◌, ◌++◌, ◌∷◌, [], List, ℕ, Option, codes};
+ghost use Rattle.std.specs.Prelude.{decimal, length, vec_capacity, IfOk, IfErr, OnErr, OnOk};
 ghost use Rattle.osm_model.specs.Limits.{max_sequence};
-ghost use Rattle.osm_mirror.specs.Mirror.{IsWithin};
+ghost use Rattle.osm_mirror.specs.Mirror.{HoldsSome, IsWithin};
 ghost use Rattle.osm_opl.specs.Steps.Reading.{time_at};
 ghost use Rattle.osm_save.specs.Refusal.{SaveRefused};
 ghost use Rattle.osm_save.specs.Save.{IsSavable, IsTimeOf, SpellsSave, ended, maybe_time_text};
 ghost use Rattle.osm_save.specs.Save.{save_text};
-ghost use Rattle.osm_save.specs.Steps.Answers.{Gives};
+ghost use Rattle.osm_save.specs.Steps.Answers.{Finds, Gives};
 ghost use Rattle.osm_save.specs.Steps.Reading.{mirror_at, save_at, time_line_at};
 
 use crate::counts::{read_counts, write_counts};
@@ -79,7 +79,7 @@ pub fn save_write(
         })) }
 {
     mirror.lists_rise();
-    let mut text = Vec::with_capacity(alloc, least_length(mirror))?;
+    let mut text = room_for_text(alloc, mirror)?;
     write_start(number, time, &mut text)?;
     write_objects(mirror.objects_by_key(), &mut text)?;
     write_counts(b"users ", mirror.user_counts(), &mut text)?;
@@ -88,10 +88,31 @@ pub fn save_write(
     Ok(text)
 }
 
-// A lower bound on the length of the text, in bytes: an object's line has at least 48, a count's at
+// An empty text with room for no more than the shortest save text of the mirror.
+fn room_for_text(alloc: Global, mirror: &Mirror) -> Result<Vec<u8>, WantOfMemory>
+    ensures empty { IfOk result (λ text. text.items ≡ []) }
+    ensures room { IfOk result (λ text. (number : ℕ) (time : Option ℕ)
+        → vec_capacity text ≤ length (save_text (record {
+          number = number;
+          time = time;
+          mirror = mirror.now;
+        }))) }
+    ensures refused { OnErr result (HoldsSome mirror.now) }
+{
+    Ok(Vec::with_capacity(alloc, least_length(mirror))?)
+}
+
+// A lower bound on the length of the text, in bytes: an object's line has at least 43, a count's at
 // least 4.
-fn least_length(mirror: &Mirror) -> usize {
-    let objects = mirror.objects_by_key().len().saturating_mul(48);
+fn least_length(mirror: &Mirror) -> usize
+    ensures least { (number : ℕ) (time : Option ℕ) → result ≤ length (save_text (record {
+      number = number;
+      time = time;
+      mirror = mirror.now;
+    })) }
+    ensures some { 0 < result → HoldsSome mirror.now }
+{
+    let objects = mirror.objects_by_key().len().saturating_mul(43);
     let users = mirror.user_counts().len().saturating_mul(4);
     let changesets = mirror.changeset_counts().len().saturating_mul(4);
     objects.saturating_add(users).saturating_add(changesets)
@@ -164,7 +185,7 @@ fn read_save(alloc: Global, bytes: &[u8]) -> Result<Saved, Stop>
 // Reads the line with the time of a number.
 #[tactic(auto, unfolding(crate::specs::Steps::Reading::time_line_at))]
 fn time_line(number: u64, rest: &[u8]) -> Result<(Option<u32>, &[u8]), Stop>
-    ensures { Gives (λ r. (r.0, r.1.now)) result (time_line_at number rest.now) }
+    ensures { Finds (λ r. (r.0, r.1.now)) result (time_line_at number rest.now) }
 {
     if number == 0 {
         let after = fixed_line(b"time none", rest)?;

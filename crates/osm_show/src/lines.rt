@@ -1,6 +1,7 @@
 //! Lines with numbers, each ended by LF. A call that is refused may have appended a part.
 
-ghost use Rattle.std.specs.Prelude.{◌≡◌, ◌++◌, OnOk, decimal};
+ghost use Rattle.std.specs.Prelude.{◌≡◌, ◌+◌, ◌<◌, ◌≤◌, ◌++◌, OnErr, OnOk, decimal, length};
+ghost use Rattle.std.specs.Prelude.{vec_capacity, vec_len};
 ghost use Rattle.std.specs.List.{flat_map};
 ghost use Rattle.osm_show.specs.Lines.{applied_line, count_line, numbered_line};
 
@@ -9,7 +10,11 @@ use osm_model::memory::WantOfMemory;
 
 /// Appends `NAME N`; the blank is the last byte of `name`.
 pub fn write_numbered(name: &[u8], number: u64, text: &mut Vec<u8>) -> Result<(), WantOfMemory>
-    ensures { OnOk result (text.new.items ≡ text.old.items ++ numbered_line name.now number) }
+    ensures appended { OnOk result
+        (text.new.items ≡ text.old.items ++ numbered_line name.now number) }
+    ensures room { vec_capacity text.old ≤ vec_capacity text.new }
+    ensures refused { OnErr result
+        (vec_capacity text.old < vec_len text.old + length (numbered_line name.now number)) }
 {
     write_bytes(name, text)?;
     write_number(number, text)?;
@@ -22,8 +27,11 @@ pub fn write_numbered_lines(
     numbers: &[u32],
     text: &mut Vec<u8>,
 ) -> Result<(), WantOfMemory>
-    ensures { OnOk result
+    ensures appended { OnOk result
         (text.new.items ≡ text.old.items ++ flat_map (numbered_line name.now) numbers.now) }
+    ensures room { vec_capacity text.old ≤ vec_capacity text.new }
+    ensures refused { OnErr result (vec_capacity text.old
+        < vec_len text.old + length (flat_map (numbered_line name.now) numbers.now)) }
 {
     for number in numbers {
         write_numbered(name, *number as u64, text)?;
@@ -33,7 +41,10 @@ pub fn write_numbered_lines(
 
 /// Appends `applied LOW..HIGH`.
 pub fn write_applied(low: u32, high: u32, text: &mut Vec<u8>) -> Result<(), WantOfMemory>
-    ensures { OnOk result (text.new.items ≡ text.old.items ++ applied_line (low, high)) }
+    ensures appended { OnOk result (text.new.items ≡ text.old.items ++ applied_line (low, high)) }
+    ensures room { vec_capacity text.old ≤ vec_capacity text.new }
+    ensures refused { OnErr result
+        (vec_capacity text.old < vec_len text.old + length (applied_line (low, high))) }
 {
     write_bytes(b"applied ", text)?;
     write_number(low as u64, text)?;
@@ -44,7 +55,11 @@ pub fn write_applied(low: u32, high: u32, text: &mut Vec<u8>) -> Result<(), Want
 
 /// Appends `ID COUNT` for each of the counts.
 pub fn write_count_lines(counts: &[(u32, u64)], text: &mut Vec<u8>) -> Result<(), WantOfMemory>
-    ensures { OnOk result (text.new.items ≡ text.old.items ++ flat_map count_line counts.now) }
+    ensures appended { OnOk result
+        (text.new.items ≡ text.old.items ++ flat_map count_line counts.now) }
+    ensures room { vec_capacity text.old ≤ vec_capacity text.new }
+    ensures refused { OnErr result
+        (vec_capacity text.old < vec_len text.old + length (flat_map count_line counts.now)) }
 {
     for (number, count) in counts {
         write_count(*number, *count, text)?;
@@ -53,7 +68,10 @@ pub fn write_count_lines(counts: &[(u32, u64)], text: &mut Vec<u8>) -> Result<()
 }
 
 fn write_count(number: u32, count: u64, text: &mut Vec<u8>) -> Result<(), WantOfMemory>
-    ensures { OnOk result (text.new.items ≡ text.old.items ++ count_line (number, count)) }
+    ensures appended { OnOk result (text.new.items ≡ text.old.items ++ count_line (number, count)) }
+    ensures room { vec_capacity text.old ≤ vec_capacity text.new }
+    ensures refused { OnErr result
+        (vec_capacity text.old < vec_len text.old + length (count_line (number, count))) }
 {
     write_number(number as u64, text)?;
     write_bytes(b" ", text)?;
@@ -63,7 +81,10 @@ fn write_count(number: u32, count: u64, text: &mut Vec<u8>) -> Result<(), WantOf
 
 /// Appends the number's decimal digits.
 pub fn write_number(number: u64, text: &mut Vec<u8>) -> Result<(), WantOfMemory>
-    ensures { OnOk result (text.new.items ≡ text.old.items ++ decimal number) }
+    ensures appended { OnOk result (text.new.items ≡ text.old.items ++ decimal number) }
+    ensures room { vec_capacity text.old ≤ vec_capacity text.new }
+    ensures refused { OnErr result
+        (vec_capacity text.old < vec_len text.old + length (decimal number)) }
 {
     let mut buffer = Buffer::new();
     write_bytes(buffer.format(number).as_bytes(), text)
@@ -71,7 +92,9 @@ pub fn write_number(number: u64, text: &mut Vec<u8>) -> Result<(), WantOfMemory>
 
 /// Appends the bytes.
 pub fn write_bytes(bytes: &[u8], text: &mut Vec<u8>) -> Result<(), WantOfMemory>
-    ensures { OnOk result (text.new.items ≡ text.old.items ++ bytes.now) }
+    ensures appended { OnOk result (text.new.items ≡ text.old.items ++ bytes.now) }
+    ensures room { vec_capacity text.old ≤ vec_capacity text.new }
+    ensures refused { OnErr result (vec_capacity text.old < vec_len text.old + length (bytes.now)) }
 {
     text.extend_from_slice(bytes)?;
     Ok(())

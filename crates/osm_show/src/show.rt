@@ -1,6 +1,7 @@
 //! The show text of a view.
 
-ghost use Rattle.std.specs.Prelude.{◌≡◌, ◌++◌, OnOk};
+ghost use Rattle.std.specs.Prelude.{◌≡◌, ◌+◌, ◌<◌, ◌≤◌, ◌++◌, OnErr, OnOk, length};
+ghost use Rattle.std.specs.Prelude.{vec_capacity, vec_len};
 ghost use Rattle.std.specs.List.{flat_map};
 ghost use Rattle.osm_show.specs.Show.{counts_text, held_text, object_line, objects_text};
 ghost use Rattle.osm_show.specs.Show.{time_line, view_text};
@@ -27,7 +28,10 @@ pub fn write_view(view: &View, text: &mut Vec<u8>) -> Result<(), WantOfMemory>
 }
 
 fn write_time(time: Option<u32>, text: &mut Vec<u8>) -> Result<(), WantOfMemory>
-    ensures { OnOk result (text.new.items ≡ text.old.items ++ time_line time) }
+    ensures appended { OnOk result (text.new.items ≡ text.old.items ++ time_line time) }
+    ensures room { vec_capacity text.old ≤ vec_capacity text.new }
+    ensures refused { OnErr result
+        (vec_capacity text.old < vec_len text.old + length (time_line time)) }
 {
     match time {
         None => write_bytes(b"time none\n", text),
@@ -59,7 +63,11 @@ fn write_object_lines(objects: &[Change], text: &mut Vec<u8>) -> Result<(), Want
 
 #[tactic(auto, unfolding(crate::specs::Show::counts_text))]
 fn write_counts(name: &[u8], counts: &[(u32, u64)], text: &mut Vec<u8>) -> Result<(), WantOfMemory>
-    ensures { OnOk result (text.new.items ≡ text.old.items ++ counts_text name.now counts.now) }
+    ensures appended { OnOk result
+        (text.new.items ≡ text.old.items ++ counts_text name.now counts.now) }
+    ensures room { vec_capacity text.old ≤ vec_capacity text.new }
+    ensures refused { OnErr result
+        (vec_capacity text.old < vec_len text.old + length (counts_text name.now counts.now)) }
 {
     write_numbered(name, counts.len() as u64, text)?;
     write_count_lines(counts, text)
@@ -67,7 +75,10 @@ fn write_counts(name: &[u8], counts: &[(u32, u64)], text: &mut Vec<u8>) -> Resul
 
 #[tactic(auto, unfolding(crate::specs::Show::held_text))]
 fn write_held(numbers: &[u32], text: &mut Vec<u8>) -> Result<(), WantOfMemory>
-    ensures { OnOk result (text.new.items ≡ text.old.items ++ held_text numbers.now) }
+    ensures appended { OnOk result (text.new.items ≡ text.old.items ++ held_text numbers.now) }
+    ensures room { vec_capacity text.old ≤ vec_capacity text.new }
+    ensures refused { OnErr result
+        (vec_capacity text.old < vec_len text.old + length (held_text numbers.now)) }
 {
     write_numbered(b"held ", numbers.len() as u64, text)?;
     write_numbered_lines(b"", numbers, text)

@@ -19,7 +19,8 @@ same_option (Some x) = refl
 pub at_start : (value : List ℕ) → IsUnescaping value value []
 at_start value = record { done = []; so_far = same_option (unescaped value); cut = refl }
 
-joined : (done : List ℕ) (c : ℕ) (o : Option (List ℕ)) → option_map (λ plain. done ++ plain) (option_map (λ plain. c ∷ plain) o) ≡ option_map (λ plain. (done ++ c ∷ []) ++ plain) o
+joined : (done : List ℕ) (c : ℕ) (o : Option (List ℕ)) → option_map (λ plain. done ++ plain)
+    (option_map (λ plain. c ∷ plain) o) ≡ option_map (λ plain. (done ++ c ∷ []) ++ plain) o
 joined done c None = refl
 joined done c (Some x) = ap (λ l. Some l) (sym (append_assoc done (c ∷ []) x))
 
@@ -56,10 +57,13 @@ kept done b =
     ]
 
 -- one more byte or escape was read
-pub step : (value rest after prefix next : List ℕ) (first b : ℕ) → IsUnescaping value rest prefix → rest ≡ first ∷ after → next ≡ take 21 (prefix ++ b ∷ []) → (more : List ℕ) → unescaped (first ∷ after) ≡ option_map (λ plain. b ∷ plain) (unescaped more) → IsUnescaping value more next
+pub step : (value rest after prefix next : List ℕ) (first b : ℕ) → IsUnescaping value rest prefix → rest ≡ first ∷ after
+    → next ≡ take 21 (prefix ++ b ∷ []) → (more : List ℕ) → unescaped (first ∷ after) ≡ option_map (λ plain. b ∷ plain)
+    (unescaped more) → IsUnescaping value more next
 step value rest after prefix next first b h e n more u = record {
   done = h.done ++ b ∷ [];
-  so_far = h.so_far ∙ (ap (λ l. option_map (λ plain. h.done ++ plain) (unescaped l)) e ∙ (ap (λ o. option_map (λ plain. h.done ++ plain) o) u ∙ joined h.done b (unescaped more)));
+  so_far = h.so_far ∙ (ap (λ l. option_map (λ plain. h.done ++ plain) (unescaped l)) e
+      ∙ (ap (λ o. option_map (λ plain. h.done ++ plain) o) u ∙ joined h.done b (unescaped more)));
   cut = n ∙ (ap (λ l. take 21 (l ++ b ∷ [])) h.cut ∙ kept h.done b);
 }
 

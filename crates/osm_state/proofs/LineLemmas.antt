@@ -24,7 +24,8 @@ pub entry_of_none : (line : List ℕ) → is_note line ≡ false → position (�
 unfolding entry_of
 entry_of_none line e p = rw (e, p) refl
 
-pub entry_of_some : (line : List ℕ) (i : ℕ) → is_note line ≡ false → position (λ b. b == 61) line ≡ Some i → entry_of line ≡ Some (trimmed (take i line), trimmed (drop (i + 1) line))
+pub entry_of_some : (line : List ℕ) (i : ℕ) → is_note line ≡ false → position (λ b. b == 61) line ≡ Some i
+    → entry_of line ≡ Some (trimmed (take i line), trimmed (drop (i + 1) line))
 unfolding entry_of
 entry_of_some line i e p = rw (e, p) refl
 
@@ -48,15 +49,20 @@ pub no_value : (v : Option (List ℕ)) → v ≡ option_or v None
 no_value v = sym (or_none v)
 
 -- one more line
-pub keeps_last : (key text line : List ℕ) (lines more : List (List ℕ)) (before found after : Option (Bor (List ℕ))) (entry : Option (List ℕ × List ℕ)) → value_of text key ≡ option_or (last_value key lines) (option_copied before) → lines ≡ line ∷ more → entry ≡ entry_of line → option_copied found ≡ value_at key entry → after ≡ option_or found before → value_of text key ≡ option_or (last_value key more) (option_copied after)
+pub keeps_last : (key text line : List ℕ) (lines more : List (List ℕ)) (before found after : Option (Bor (List ℕ)))
+    (entry : Option (List ℕ × List ℕ)) → value_of text key ≡ option_or (last_value key lines) (option_copied before)
+    → lines ≡ line ∷ more → entry ≡ entry_of line → option_copied found ≡ value_at key entry
+    → after ≡ option_or found before → value_of text key ≡ option_or (last_value key more) (option_copied after)
 unfolding last_value
 keeps_last key text line lines more before found after entry b l e f a =
-    let next : option_copied after ≡ option_or (value_at key (entry_of line)) (option_copied before) = ap option_copied a ∙ (copied_or found before ∙ rw (f, e) refl) in
+    let next : option_copied after ≡ option_or (value_at key (entry_of line)) (option_copied before) =
+    ap option_copied a ∙ (copied_or found before ∙ rw (f, e) refl) in
     b ∙ (ap (λ ls. option_or (last_value key ls) (option_copied before)) l
     ∙ (or_assoc (last_value key more) (value_at key (entry_of line)) (option_copied before)
     ∙ ap (option_or (last_value key more)) (sym next)))
 
 -- after the last line
-pub after_last : (key text : List ℕ) (rest : Option (Bor (List ℕ))) (v : Option (List ℕ)) → rest ≡ None → value_of text key ≡ option_or (last_value key (lines_after rest)) v → v ≡ value_of text key
+pub after_last : (key text : List ℕ) (rest : Option (Bor (List ℕ))) (v : Option (List ℕ)) → rest ≡ None
+    → value_of text key ≡ option_or (last_value key (lines_after rest)) v → v ≡ value_of text key
 unfolding last_value
 after_last key text rest v e h = sym (h ∙ ap (λ r. option_or (last_value key (lines_after r)) v) e)

@@ -1,5 +1,6 @@
 -- Three digits and back, and the two parts of a path.
-use Rattle.std.proofs.Common.{◌≡◌, ℕ, ◌+◌, ◌*◌, ◌/◌, ◌%◌, ◌<◌, ◌≤◌, List, [], ◌∷◌, ◌++◌, length, take, drop, get_or, refl, sym, ap, ◌∙◌, arith, lit≤, false, inl, inr, ◌^◌, eqb}
+use Rattle.std.proofs.Common.{◌≡◌, ℕ, ◌+◌, ◌*◌, ◌/◌, ◌%◌, ◌<◌, ◌≤◌, List, [], ◌∷◌, ◌++◌, length, take, drop, get_or}
+use Rattle.std.proofs.Common.{refl, sym, ap, ◌∙◌, arith, lit≤, false, inl, inr, ◌^◌, eqb}
 use Rattle.std.specs.Prelude.{codes, decimal}
 use Rattle.std.specs.Fmt.{padded_integral, format_spec, char_count}
 use Rattle.std.proofs.lemmas.Bool.{cases_lt}
@@ -21,7 +22,8 @@ pub ones : (digits : List ℕ) (n : ℕ) → digits ≡ three_digits n → get_o
 ones digits n e = rw e refl
 
 -- a number is made up of its three folders
-pub folders_of : (m t o : ℕ) → m < 1000 → t < 1000 → o < 1000 → folders_text (1000000 * m + 1000 * t + o) ≡ three_digits m ++ codes "/" ++ three_digits t ++ codes "/" ++ three_digits o
+pub folders_of : (m t o : ℕ) → m < 1000 → t < 1000 → o < 1000 → folders_text (1000000 * m + 1000 * t + o) ≡
+    three_digits m ++ codes "/" ++ three_digits t ++ codes "/" ++ three_digits o
 folders_of m t o p q r =
     let first : (1000000 * m + 1000 * t + o) / 1000000 ≡ m = omega arith in
     let second : (1000000 * m + 1000 * t + o) / 1000 % 1000 ≡ t = omega arith in
@@ -56,7 +58,8 @@ filled_to_three n = padded_integral (format_spec 32 0 4 3 18446744073709551615) 
 
 one_digit : (n : ℕ) → n < 10 → filled_to_three n ≡ three_digits n
 unfolding padded_integral char_count
-one_digit n h = rw (decimal_digit n h) (three_same 48 48 (48 + n) (48 + n / 100 % 10) (48 + n / 10 % 10) (48 + n % 10) (omega arith) (omega arith) (omega arith))
+one_digit n h = rw (decimal_digit n h) (three_same 48 48 (48 + n) (48 + n / 100 % 10) (48 + n / 10 % 10) (48 + n % 10)
+    (omega arith) (omega arith) (omega arith))
 
 two_digits_long : (n : ℕ) → 10 ≤ n → n < 100 → filled_to_three n ≡ three_digits n
 unfolding padded_integral char_count
@@ -85,7 +88,11 @@ padded_three n h =
     ]
 
 -- eleven bytes are their three folders and the bytes between them
-pub eleven : (l : List ℕ) (m t o : ℕ) → length l ≡ 11 → get_or l 3 0 ≡ 47 → get_or l 7 0 ≡ 47 → (let a : List ℕ = get_or l 0 0 ∷ get_or l 1 0 ∷ get_or l 2 0 ∷ [] in a) ≡ three_digits m → (let b : List ℕ = get_or l 4 0 ∷ get_or l 5 0 ∷ get_or l 6 0 ∷ [] in b) ≡ three_digits t → (let c : List ℕ = get_or l 8 0 ∷ get_or l 9 0 ∷ get_or l 10 0 ∷ [] in c) ≡ three_digits o → l ≡ three_digits m ++ codes "/" ++ three_digits t ++ codes "/" ++ three_digits o
+pub eleven : (l : List ℕ) (m t o : ℕ) → length l ≡ 11 → get_or l 3 0 ≡ 47 → get_or l 7 0 ≡ 47
+    → (let a : List ℕ = get_or l 0 0 ∷ get_or l 1 0 ∷ get_or l 2 0 ∷ [] in a) ≡ three_digits m
+    → (let b : List ℕ = get_or l 4 0 ∷ get_or l 5 0 ∷ get_or l 6 0 ∷ [] in b) ≡ three_digits t
+    → (let c : List ℕ = get_or l 8 0 ∷ get_or l 9 0 ∷ get_or l 10 0 ∷ [] in c) ≡ three_digits o → l ≡ three_digits m
+    ++ codes "/" ++ three_digits t ++ codes "/" ++ three_digits o
 eleven (a ∷ b ∷ c ∷ d ∷ e ∷ f ∷ g ∷ h ∷ i ∷ j ∷ k ∷ []) m t o len p q x y z = cc
 eleven _ m t o len p q x y z = absurd (omega arith)
 

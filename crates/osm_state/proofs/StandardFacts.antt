@@ -4,6 +4,7 @@ use Rattle.std.proofs.Common.{◌≡◌, ℕ, [], ◌∷◌, ◌++◌, refl, ari
 use Rattle.std.specs.Prelude.{Some, None, codes}
 use Rattle.std.specs.Fmt.{digits}
 use Rattle.osm_model.specs.CivilTime.{time_text, year_of_day, month_of_day}
+use Rattle.osm_model.specs.Limits.{max_sequence}
 use Rattle.osm_reading.specs.Sequence.{SpellsSequence}
 use Rattle.osm_reading.specs.Pieces.{pieces}
 use Rattle.osm_state.specs.Properties.{value_of, unescaped, entry_of, last_value, trimmed}
@@ -12,11 +13,15 @@ use Rattle.osm_state.specs.Path.{path_text}
 use Rattle.osm_state.specs.declared.paths.Suffix.TheVariants.{O5c, Opl, State}
 
 -- a state file as a server writes it
-server_sequence : value_of (codes "#Wed Sep 12 07:07:05 UTC 2012\r\ntxnMax=5\r\nsequenceNumber=1234567\r\ntimestamp=2012-09-12T07\\:06\\:02Z\r\n") sequence_key ≡ Some (codes "1234567")
+server_sequence : value_of
+    (codes "#Wed Sep 12 07:07:05 UTC 2012\r\ntxnMax=5\r\nsequenceNumber=1234567\r\ntimestamp=2012-09-12T07\\:06\\:02Z\r\n")
+    sequence_key ≡ Some (codes "1234567")
 unfolding entry_of last_value trimmed pieces
 server_sequence = refl
 
-server_time : value_of (codes "#Wed Sep 12 07:07:05 UTC 2012\r\ntxnMax=5\r\nsequenceNumber=1234567\r\ntimestamp=2012-09-12T07\\:06\\:02Z\r\n") time_key ≡ Some (codes "2012-09-12T07\\:06\\:02Z")
+server_time : value_of
+    (codes "#Wed Sep 12 07:07:05 UTC 2012\r\ntxnMax=5\r\nsequenceNumber=1234567\r\ntimestamp=2012-09-12T07\\:06\\:02Z\r\n")
+    time_key ≡ Some (codes "2012-09-12T07\\:06\\:02Z")
 unfolding entry_of last_value trimmed pieces
 server_time = refl
 
@@ -177,6 +182,6 @@ path_of_20030100 : path_text 20030100 State ≡ codes "020/030/100.state.txt"
 unfolding path_text
 path_of_20030100 = refl
 
-path_of_the_last : path_text 999999999 State ≡ codes "999/999/999.state.txt"
+path_of_the_last : path_text max_sequence State ≡ codes "999/999/999.state.txt"
 unfolding path_text
 path_of_the_last = refl

@@ -45,19 +45,24 @@ module _ (IsText : List ℕ → ℕ → Type 0) (short : (bytes : List ℕ) (n :
   }
 
 -- what is answered for the value of a sequence number
-pub sequence_judged : (value prefix : List ℕ) (o : Option ℕ) → IsPlainPrefix value prefix → IfSome o (λ n. SpellsSequence prefix n) → ((n : ℕ) → SpellsSequence prefix n → o ≡ Some n) → MatchResult (ok_or o BadSequence) (StandsForNumber SpellsSequence value) (SequenceFault value)
+pub sequence_judged : (value prefix : List ℕ) (o : Option ℕ) → IsPlainPrefix value prefix
+    → IfSome o (λ n. SpellsSequence prefix n) → ((n : ℕ) → SpellsSequence prefix n → o ≡ Some n)
+    → MatchResult (ok_or o BadSequence) (StandsForNumber SpellsSequence value) (SequenceFault value)
 sequence_judged value prefix (Some n) h sound complete = stands_for_number SpellsSequence short_sequence value prefix n h sound
 sequence_judged value prefix None h sound complete =
     stands_for_none SpellsSequence short_sequence value prefix h (λ n t. let e = complete n t in cc)
 
 -- what is answered for the value of a time
-pub time_judged : (value prefix : List ℕ) (o : Option ℕ) → IsPlainPrefix value prefix → IfSome o (λ t. TimeText prefix t) → ((t : ℕ) → TimeText prefix t → o ≡ Some t) → MatchResult (ok_or o BadTime) (StandsForNumber TimeText value) (TimeFault value)
+pub time_judged : (value prefix : List ℕ) (o : Option ℕ) → IsPlainPrefix value prefix
+    → IfSome o (λ t. TimeText prefix t) → ((t : ℕ) → TimeText prefix t → o ≡ Some t)
+    → MatchResult (ok_or o BadTime) (StandsForNumber TimeText value) (TimeFault value)
 time_judged value prefix (Some n) h sound complete = stands_for_number TimeText short_time value prefix n h sound
 time_judged value prefix None h sound complete =
     stands_for_none TimeText short_time value prefix h (λ n t. let e = complete n t in cc)
 
 -- what a text names is within the limits
-pub state_limits : (value time_value : List ℕ) (sequence time : ℕ) → StandsForNumber SpellsSequence value sequence → StandsForNumber TimeText time_value time → IsState (record { sequence = sequence; time = time })
+pub state_limits : (value time_value : List ℕ) (sequence time : ℕ) → StandsForNumber SpellsSequence value sequence
+    → StandsForNumber TimeText time_value time → IsState (record { sequence = sequence; time = time })
 state_limits value time_value sequence time s t =
     let small = nine_digits s.plain s.number.numeral.1 s.number.short in
     record { sequence = omega (arith, small, s.number.value); time = t.number.limits }
@@ -79,7 +84,8 @@ one_time_number value t u p q =
     let same : p.plain ≡ q.plain = same_Some _ _ (sym p.stands_for ∙ q.stands_for) in
     one_time q.plain t u (subst (λ bytes. TimeText bytes t) same p.number) q.number
 
-same_parts : (m t n u : ℕ) → m ≡ n → t ≡ u → (let a : StateValue = record { sequence = m; time = t } in a) ≡ (let b : StateValue = record { sequence = n; time = u } in b)
+same_parts : (m t n u : ℕ) → m ≡ n → t ≡ u → (let a : StateValue = record { sequence = m; time = t } in
+    a) ≡ (let b : StateValue = record { sequence = n; time = u } in b)
 same_parts m t n u p q = rw (p, q) refl
 
 -- a text has at most one state
@@ -87,6 +93,7 @@ pub one_state : (text : List ℕ) (s t : StateValue) → StateOf text s → Stat
 one_state text s t p q =
     let a : p.sequence.value ≡ q.sequence.value = same_Some _ _ (sym p.sequence.found ∙ q.sequence.found) in
     let b : p.time.value ≡ q.time.value = same_Some _ _ (sym p.time.found ∙ q.time.found) in
-    let n = one_number q.sequence.value s.sequence t.sequence (subst (λ v. StandsForNumber SpellsSequence v s.sequence) a p.sequence.is_true) q.sequence.is_true in
+    let n = one_number q.sequence.value s.sequence t.sequence
+    (subst (λ v. StandsForNumber SpellsSequence v s.sequence) a p.sequence.is_true) q.sequence.is_true in
     let u = one_time_number q.time.value s.time t.time (subst (λ v. StandsForNumber TimeText v s.time) b p.time.is_true) q.time.is_true in
     same_parts s.sequence s.time t.sequence t.time n u

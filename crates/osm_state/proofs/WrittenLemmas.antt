@@ -1,6 +1,8 @@
 -- A written text has two lines, and their values are the digits of the sequence number and the text of
 -- the time.
-use Rattle.std.proofs.Common.{◌≡◌, ℕ, zero, suc, ◌+◌, ◌/◌, ◌<◌, ◌≤◌, ◌^◌, List, [], ◌∷◌, ◌++◌, length, take, drop, get_or, reverse, true, false, nat_lt, refl, sym, ap, ◌∙◌, arith, append_assoc, lit<, inl, inr}
+use Rattle.std.proofs.Common.{◌≡◌, ℕ, zero, suc, ◌+◌, ◌/◌, ◌<◌, ◌≤◌, ◌^◌, List, [], ◌∷◌, ◌++◌, length, take, drop}
+use Rattle.std.proofs.Common.{get_or, reverse, true, false, nat_lt, refl, sym, ap, ◌∙◌, arith, append_assoc, lit<, inl}
+use Rattle.std.proofs.Common.{inr}
 use Rattle.std.specs.Prelude.{Some, None, codes, decimal, ◌==◌, if◌then◌else◌}
 use Rattle.std.specs.List.{position, position_or_len}
 use Rattle.std.specs.Str.Parse.{AllDigits}
@@ -268,14 +270,28 @@ unfolding time_text
 time_plain t = moment_plain (moment_at t)
 
 sequence_key_dark : AllDark (codes "sequenceNumber")
-sequence_key_dark = (lit< tt, (lit< tt, (lit< tt, (lit< tt, (lit< tt, (lit< tt, (lit< tt, (lit< tt, (lit< tt, (lit< tt, (lit< tt, (lit< tt, (lit< tt, (lit< tt, tt))))))))))))))
+sequence_key_dark = (
+  lit< tt,
+  (
+    lit< tt,
+    (
+      lit< tt,
+      (
+        lit< tt,
+        (lit< tt, (lit< tt, (lit< tt, (lit< tt, (lit< tt, (lit< tt, (lit< tt, (lit< tt, (lit< tt, (lit< tt, tt)))))))))),
+      ),
+    ),
+  ),
+)
 
 time_key_dark : AllDark (codes "timestamp")
 time_key_dark = (lit< tt, (lit< tt, (lit< tt, (lit< tt, (lit< tt, (lit< tt, (lit< tt, (lit< tt, (lit< tt, tt)))))))))
 
 -- the entries of the two lines of a state's text
 sequence_entry : (v : List ℕ) → AllDark v → entry_of (codes "sequenceNumber" ++ 61 ∷ v) ≡ Some (codes "sequenceNumber", v)
-sequence_entry v p = written_entry (codes "sequenceNumber") v (refl, (refl, (refl, (refl, (refl, (refl, (refl, (refl, (refl, (refl, (refl, (refl, (refl, (refl, tt)))))))))))))) sequence_key_dark p refl
+sequence_entry v p = written_entry (codes "sequenceNumber") v
+    (refl, (refl, (refl, (refl, (refl, (refl, (refl, (refl, (refl, (refl, (refl, (refl, (refl, (refl, tt))))))))))))))
+    sequence_key_dark p refl
 
 time_entry : (v : List ℕ) → AllDark v → entry_of (codes "timestamp" ++ 61 ∷ v) ≡ Some (codes "timestamp", v)
 time_entry v p = written_entry (codes "timestamp") v (refl, (refl, (refl, (refl, (refl, (refl, (refl, (refl, (refl, tt))))))))) time_key_dark p refl
@@ -284,17 +300,22 @@ no_entry : entry_of [] ≡ None
 unfolding entry_of
 no_entry = refl
 
-two_line_text : (v w : List ℕ) → codes "sequenceNumber=" ++ v ++ codes "\ntimestamp=" ++ w ++ codes "\n" ≡ (codes "sequenceNumber" ++ 61 ∷ v) ++ 10 ∷ ((codes "timestamp" ++ 61 ∷ w) ++ 10 ∷ [])
+two_line_text : (v w : List ℕ) → codes "sequenceNumber=" ++ v ++ codes "\ntimestamp=" ++ w
+    ++ codes "\n" ≡ (codes "sequenceNumber" ++ 61 ∷ v) ++ 10 ∷ ((codes "timestamp" ++ 61 ∷ w) ++ 10 ∷ [])
 two_line_text v w =
     append_assoc (codes "sequenceNumber=" ++ v ++ codes "\ntimestamp=") w (codes "\n")
     ∙ append_assoc (codes "sequenceNumber=" ++ v) (codes "\ntimestamp=") (w ++ codes "\n")
 
-two_line_lines : (v w : List ℕ) → AllDark v → AllDark w → lines_of (codes "sequenceNumber=" ++ v ++ codes "\ntimestamp=" ++ w ++ codes "\n") ≡ (codes "sequenceNumber" ++ 61 ∷ v) ∷ (codes "timestamp" ++ 61 ∷ w) ∷ [] ∷ []
+two_line_lines : (v w : List ℕ) → AllDark v → AllDark w → lines_of (codes "sequenceNumber=" ++ v ++ codes "\ntimestamp="
+    ++ w ++ codes "\n") ≡ (codes "sequenceNumber" ++ 61 ∷ v) ∷ (codes "timestamp" ++ 61 ∷ w) ∷ [] ∷ []
 two_line_lines v w p q =
     ap lines_of (two_line_text v w)
-    ∙ two_lines (codes "sequenceNumber" ++ 61 ∷ v) (codes "timestamp" ++ 61 ∷ w) (dark-append (codes "sequenceNumber") (61 ∷ v) sequence_key_dark (lit< tt, p)) (dark-append (codes "timestamp") (61 ∷ w) time_key_dark (lit< tt, q))
+    ∙ two_lines (codes "sequenceNumber" ++ 61 ∷ v) (codes "timestamp" ++ 61 ∷ w)
+    (dark-append (codes "sequenceNumber") (61 ∷ v) sequence_key_dark (lit< tt, p))
+    (dark-append (codes "timestamp") (61 ∷ w) time_key_dark (lit< tt, q))
 
-sequence_value : (v w : List ℕ) → AllDark v → AllDark w → value_of (codes "sequenceNumber=" ++ v ++ codes "\ntimestamp=" ++ w ++ codes "\n") sequence_key ≡ Some v
+sequence_value : (v w : List ℕ) → AllDark v → AllDark w → value_of (codes "sequenceNumber=" ++ v ++ codes "\ntimestamp="
+    ++ w ++ codes "\n") sequence_key ≡ Some v
 unfolding last_value
 sequence_value v w p q = ap (last_value sequence_key) (two_line_lines v w p q) ∙ rw (sequence_entry v p, time_entry w q, no_entry) refl
 
@@ -320,12 +341,24 @@ written_is_read s h =
       sequence = record {
         value = decimal s.sequence;
         found = sequence_value (decimal s.sequence) (escaped_colons (time_text s.time)) dark dark_time;
-        is_true = record { plain = decimal s.sequence; stands_for = unescaped_plain (decimal s.sequence) (digits_plain (decimal s.sequence) digits.numeral.1); number = digits };
+        is_true = record {
+          plain = decimal s.sequence;
+          stands_for =
+              unescaped_plain (decimal s.sequence) (digits_plain (decimal s.sequence) digits.numeral.1);
+          number =
+              digits;
+        };
       };
       time = record {
         value = escaped_colons (time_text s.time);
         found = time_value (decimal s.sequence) (escaped_colons (time_text s.time)) dark dark_time;
-        is_true = record { plain = time_text s.time; stands_for = unescaped-escaped (time_text s.time) (time_plain s.time); number = record { shows = time_text_shows s.time h.time.high; limits = h.time } };
+        is_true = record {
+          plain = time_text s.time;
+          stands_for =
+              unescaped-escaped (time_text s.time) (time_plain s.time);
+          number =
+              record { shows = time_text_shows s.time h.time.high; limits = h.time };
+        };
       };
       limits = h;
     }

@@ -1,7 +1,7 @@
 //! Reading and writing `state.txt`.
 
 ghost use Rattle.std.specs.Prelude.{◌≡◌, ◌==◌, Ok, Err, ◌++◌, IfOk, OnOk};
-ghost use Rattle.std.specs.Prelude.{IfErr, MatchResult};
+ghost use Rattle.std.specs.Prelude.{◌<◌, length, IfErr, MatchResult, OnErr};
 ghost use Rattle.osm_model.specs.Time.{TimeText};
 ghost use Rattle.osm_reading.specs.Sequence.{SpellsSequence};
 ghost use Rattle.osm_state.specs.State.{StateValue};
@@ -92,7 +92,8 @@ pub fn state_write(alloc: Global, state: &State) -> Result<Vec<u8>, WantOfMemory
 
 // Appends the bytes with a backslash before each colon.
 fn append_escaped(text: &mut Vec<u8>, bytes: &[u8]) -> Result<(), WantOfMemory>
-    ensures { OnOk result (text.new.items ≡ text.old.items ++ escaped_colons bytes.now) }
+    ensures ok { OnOk result (text.new.items ≡ text.old.items ++ escaped_colons bytes.now) }
+    ensures refused { OnErr result (0 < length bytes.now) }
 {
     for byte in bytes {
         if needs_backslash(*byte) {

@@ -51,8 +51,11 @@ find_is : {K X : Type 0} (R : K → K → Ordering) (q : K) (es : List (K × X))
 find_is R q [] = refl
 find_is R q (e ∷ es) = ap (λ o. cond (is_eq (R q e.0)) (Some e.1) o) (find_is R q es)
 
-one_list : {K X : Type 0} (R : K → K → Ordering) → IsTotalOrder R → ((x y : K) → R x y ≡ Equal → x ≡ y) → (es fs : List (K × X)) → IsStrictlySortedBy R (keys_of es) → IsStrictlySortedBy R (keys_of fs) → ((q : K) → lookup (is_at (R q)) es ≡ lookup (is_at (R q)) fs) → es ≡ fs
-one_list R o exact es fs s t same = same_entries R o exact es fs (sorted_entries R es s) (sorted_entries R fs t) (λ q. find_is R q es ∙ (same q ∙ sym (find_is R q fs)))
+one_list : {K X : Type 0} (R : K → K → Ordering) → IsTotalOrder R → ((x y : K) → R x y ≡ Equal → x ≡ y)
+    → (es fs : List (K × X)) → IsStrictlySortedBy R (keys_of es) → IsStrictlySortedBy R (keys_of fs)
+    → ((q : K) → lookup (is_at (R q)) es ≡ lookup (is_at (R q)) fs) → es ≡ fs
+one_list R o exact es fs s t same = same_entries R o exact es fs (sorted_entries R es s) (sorted_entries R fs t)
+    (λ q. find_is R q es ∙ (same q ∙ sym (find_is R q fs)))
 
 -- ---- counts
 
@@ -71,7 +74,9 @@ same_found (Some v) None p q e = absurd (let above : 0 < v = p v refl in let non
 same_found (Some v) (Some w) p q e = ap (λ (n : ℕ). Some n) e
 
 one_counts : (a b : List Counted) → AreCountsAboveZero a → AreCountsAboveZero b → ((n : ℕ) → count_at a n ≡ count_at b n) → a ≡ b
-one_counts a b p q same = one_list nat_cmp nat_cmp_total exact_unsigned a b p.rising q.rising (λ n. same_found (lookup (is_at (nat_cmp n)) a) (lookup (is_at (nat_cmp n)) b) (λ v. found_above (is_at (nat_cmp n)) a v p.above) (λ v. found_above (is_at (nat_cmp n)) b v q.above) (same n))
+one_counts a b p q same = one_list nat_cmp nat_cmp_total exact_unsigned a b p.rising q.rising
+    (λ n. same_found (lookup (is_at (nat_cmp n)) a) (lookup (is_at (nat_cmp n)) b)
+    (λ v. found_above (is_at (nat_cmp n)) a v p.above) (λ v. found_above (is_at (nat_cmp n)) b v q.above) (same n))
 
 -- ---- objects
 
@@ -98,7 +103,8 @@ key_total = then_total (on_total (λ (k : Key). kind_rank k.kind) nat_cmp_total)
 
 one_objects : (a b : List ChangeValue) → AreRising a → AreRising b → ((k : Key) → object_at a k ≡ object_at b k) → a ≡ b
 one_objects a b p q same =
-    let all : keyed a ≡ keyed b = one_list key_cmp key_total one_key (keyed a) (keyed b) (rw (keys-keyed a) p) (rw (keys-keyed b) q) (λ k. found-keyed a k ∙ (same k ∙ sym (found-keyed b k))) in
+    let all : keyed a ≡ keyed b = one_list key_cmp key_total one_key (keyed a) (keyed b) (rw (keys-keyed a) p)
+    (rw (keys-keyed b) q) (λ k. found-keyed a k ∙ (same k ∙ sym (found-keyed b k))) in
     sym (values-keyed a) ∙ (ap (map (λ (e : Key × ChangeValue). e.1)) all ∙ values-keyed b)
 
 made : List ChangeValue → List Counted → List Counted → MirrorValue
@@ -110,7 +116,9 @@ unfolding made
 one_mirror cs a b p q =
     let objects : a.objects ≡ b.objects = one_objects a.objects b.objects p.orderly.objects q.orderly.objects (λ k. p.objects k ∙ sym (q.objects k)) in
     let users : a.users ≡ b.users = one_counts a.users b.users p.orderly.users q.orderly.users (λ n. p.users n ∙ sym (q.users n)) in
-    let changesets : a.changesets ≡ b.changesets = one_counts a.changesets b.changesets p.orderly.changesets q.orderly.changesets (λ n. p.changesets n ∙ sym (q.changesets n)) in
+    let changesets : a.changesets ≡ b.changesets =
+    one_counts a.changesets b.changesets p.orderly.changesets q.orderly.changesets (λ n. p.changesets n
+    ∙ sym (q.changesets n)) in
     ap (λ (x : List ChangeValue). made x a.users a.changesets) objects
     ∙ (ap (λ (x : List Counted). made b.objects x a.changesets) users
     ∙ ap (λ (x : List Counted). made b.objects b.users x) changesets)
@@ -141,10 +149,13 @@ unit_found (Some a) (Some b) f g = refl
 
 pub one_rising : (xs ys : List ℕ) → IsStrictlySortedBy nat_cmp xs → IsStrictlySortedBy nat_cmp ys → ((j : ℕ) → Contains xs j ↔ Contains ys j) → xs ≡ ys
 one_rising xs ys s t same =
-    let all : units xs ≡ units ys = one_list nat_cmp nat_cmp_total exact_unsigned (units xs) (units ys) (rw (keys-units xs) s) (rw (keys-units ys) t) (λ q. unit_found (lookup (is_at (nat_cmp q)) (units xs)) (lookup (is_at (nat_cmp q)) (units ys)) (crosses xs ys q (same q).0) (crosses ys xs q (same q).1)) in
+    let all : units xs ≡ units ys = one_list nat_cmp nat_cmp_total exact_unsigned (units xs) (units ys)
+    (rw (keys-units xs) s) (rw (keys-units ys) t) (λ q. unit_found (lookup (is_at (nat_cmp q)) (units xs))
+    (lookup (is_at (nat_cmp q)) (units ys)) (crosses xs ys q (same q).0) (crosses ys xs q (same q).1)) in
     sym (keys-units xs) ∙ (ap keys_of all ∙ keys-units ys)
   where
-    crosses : (us vs : List ℕ) (q : ℕ) → (Contains us q → Contains vs q) → IsSome (lookup (is_at (nat_cmp q)) (units us)) → IsSome (lookup (is_at (nat_cmp q)) (units vs))
+    crosses : (us vs : List ℕ) (q : ℕ) → (Contains us q → Contains vs q)
+        → IsSome (lookup (is_at (nat_cmp q)) (units us)) → IsSome (lookup (is_at (nat_cmp q)) (units vs))
     crosses us vs q over has =
         let there : Contains (keys_of (units us)) q = Contains-keys_from_lookup {eq = eq_by_cmp nat_cmp} exact_by q (units us) has in
         let moved : Contains (keys_of (units vs)) q = rw (keys-units vs) (over (rw (keys-units us) at there)) in
@@ -158,7 +169,8 @@ Same acc acd = (j : ℕ) → acc j ≡ acd j
 one_number : (acc acd : ℕ → Bool) (start n m : ℕ) → Same acc acd → Reaches acc start n → Reaches acd start m → n ≡ m
 one_number acc acd start n m same r s = one_reach acd start n m (reaches_same acc acd start n (λ j above. same j) r) s
 
-pub state_alike : (ps : List PublishedValue) (start : ℕ) (acc acd : ℕ → Bool) (f g : FollowerValue) → Same acc acd → IsState ps start acc f → IsState ps start acd g → AreAlike f g
+pub state_alike : (ps : List PublishedValue) (start : ℕ) (acc acd : ℕ → Bool) (f g : FollowerValue) → Same acc acd
+    → IsState ps start acc f → IsState ps start acd g → AreAlike f g
 state_alike ps start acc acd f g same s t =
     let number : f.number ≡ g.number = one_number acc acd start f.number g.number same s.reach t.reach in
     record {
@@ -181,7 +193,8 @@ state_alike ps start acc acd f g same s t =
 made_view : ℕ → Option ℕ → MirrorValue → List ℕ → ViewValue
 made_view number time mirror held = record { number = number; time = time; mirror = mirror; held = held }
 
-pub one_view : (ps : List PublishedValue) (start : ℕ) (acc acd : ℕ → Bool) (v w : ViewValue) → Same acc acd → IsView ps start acc v → IsView ps start acd w → v ≡ w
+pub one_view : (ps : List PublishedValue) (start : ℕ) (acc acd : ℕ → Bool) (v w : ViewValue) → Same acc acd
+    → IsView ps start acc v → IsView ps start acd w → v ≡ w
 unfolding made_view
 one_view ps start acc acd v w same s t =
     let number : v.number ≡ w.number = one_number acc acd start v.number w.number same s.reach t.reach in

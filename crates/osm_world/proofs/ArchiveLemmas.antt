@@ -19,12 +19,15 @@ use Rattle.osm_world.specs.declared.event.Form.TheVariants.{Opl, O5c}
 use Rattle.osm_follow.proofs.DeliveryLemmas.{state_of}
 use Rattle.osm_world.proofs.StepLemmas.{AreLawful}
 
-readable_in : AreLawful → (form : Form) (p : PublishedValue) → 0 < p.number → IsSequence p.number p → length (bytes_in form (written_of p)) ≤ max_file → IsReadable (spells_in form) (written_of p).state (bytes_in form (written_of p))
+readable_in : AreLawful → (form : Form) (p : PublishedValue) → 0 < p.number → IsSequence p.number p
+    → length (bytes_in form (written_of p)) ≤ max_file → IsReadable (spells_in form) (written_of p).state
+    (bytes_in form (written_of p))
 readable_in laws form p above is small =
     let named : StateOf (written_of p).state (state_of p) = written_is_read (state_of p) (record { sequence = is.most; time = is.time }) in
     record {
       named = λ e fault. laws.apart (written_of p).state (state_of p) e named fault;
-      above = λ s names. (let same : state_of p ≡ s = one_state (written_of p).state (state_of p) s named names in let number : p.number ≡ s.sequence = ap (λ (t : StateValue). t.sequence) same in omega arith);
+      above = λ s names. (let same : state_of p ≡ s = one_state (written_of p).state (state_of p) s named names in
+          let number : p.number ≡ s.sequence = ap (λ (t : StateValue). t.sequence) same in omega arith);
       small = small;
       some = λ nothing. nothing p.changes (laws.spelled form p is.changes);
     }
@@ -36,7 +39,8 @@ written_readable laws p above is small = record {
 }
 
 -- the texts at a number of the archive can be delivered
-pub readable_at : (n : ℕ) (archive : List PublishedTexts) (i : ℕ) (p : PublishedTexts) → IsArchive n archive → i < length archive → p ≡ get_or archive i p → AreReadable p
+pub readable_at : (n : ℕ) (archive : List PublishedTexts) (i : ℕ) (p : PublishedTexts) → IsArchive n archive
+    → i < length archive → p ≡ get_or archive i p → AreReadable p
 readable_at n archive i p a below is =
     let index : i + 1 - 1 ≡ i = omega arith in
     let here : texts_at archive (i + 1) ≡ p = ap (λ (j : ℕ). get_or archive j no_texts) index ∙ (get_or_default archive i no_texts p below ∙ sym is) in
@@ -57,12 +61,17 @@ archive_grown n archive p a readable =
               rw here (a.each k above below))
           | inl past ↦ (
               let index : k - 1 ≡ length archive + 0 = omega arith in
-              let here : texts_at (archive ++ p ∷ []) k ≡ p = ap (λ (i : ℕ). get_or (archive ++ p ∷ []) i no_texts) index ∙ get_or-append-add archive (p ∷ []) 0 no_texts in
+              let here : texts_at (archive ++ p ∷ []) k ≡ p =
+              ap (λ (i : ℕ). get_or (archive ++ p ∷ []) i no_texts) index
+              ∙ get_or-append-add archive (p ∷ []) 0 no_texts in
               rw here readable)
         ]
 
 -- a delivery of such texts, as a step
-pub delivered_step : (a b : WorldValue) (k i : ℕ) (form : Form) (r : Reply) (p : PublishedTexts) → i < length a.archive → p ≡ get_or a.archive i p → i ≡ k - 1 → 0 < k → k ≤ a.publisher.number → Replies (spells_in form) (fault_in form) a.follower p.state (bytes_in form p) r b.follower → b ≡ record a { follower = b.follower } → DeliverStep a k form r b
+pub delivered_step : (a b : WorldValue) (k i : ℕ) (form : Form) (r : Reply) (p : PublishedTexts) → i < length a.archive
+    → p ≡ get_or a.archive i p → i ≡ k - 1 → 0 < k → k ≤ a.publisher.number
+    → Replies (spells_in form) (fault_in form) a.follower p.state (bytes_in form p) r b.follower
+    → b ≡ record a { follower = b.follower } → DeliverStep a k form r b
 delivered_step a b k i form r p below is index above there replies rest =
     let here : texts_at a.archive k ≡ p = ap (λ (j : ℕ). get_or a.archive j no_texts) (sym index) ∙ (get_or_default a.archive i no_texts p below ∙ sym is) in
     by_reply r (record { above = above; there = there; replies = rw here replies; rest = rest })

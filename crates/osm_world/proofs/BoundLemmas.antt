@@ -10,7 +10,9 @@ use Rattle.osm_follow.specs.View.{ViewValue}
 use Rattle.osm_world.specs.declared.event.Event.{Event}
 use Rattle.osm_world.specs.declared.event.Event.TheVariants.{Edit, Close, Deliver, Show, Save, Restart}
 use Rattle.osm_world.specs.declared.event.Reply.{Reply}
-use Rattle.osm_world.specs.declared.event.Reply.TheVariants.{Edited, BatchFull, WantOfMemory, Closed, SequenceFull, TimeBack, TooLarge, NotPublished, Broken, Old, Again, TooEarly, Held, Applied, Broke, Shown, Saved, Restarted}
+use Rattle.osm_world.specs.declared.event.Reply.TheVariants.{Edited, BatchFull, WantOfMemory, Closed, SequenceFull}
+use Rattle.osm_world.specs.declared.event.Reply.TheVariants.{TimeBack, TooLarge, NotPublished, Broken, Old, Again}
+use Rattle.osm_world.specs.declared.event.Reply.TheVariants.{TooEarly, Held, Applied, Broke, Shown, Saved, Restarted}
 use Rattle.osm_world.proofs.ReachLemmas.{reaches_more}
 use Rattle.osm_world.proofs.ReportLemmas.{legal_before}
 
@@ -32,7 +34,8 @@ number_in count saved start n acc b reach = elim (cases_lt start n) [
 ]
 
 -- one more sequence was published
-more_published : (published : List PublishedValue) (p : PublishedValue) (saved start : ℕ) (acc : ℕ → Bool) → IsBounded (length published) saved start acc → IsBounded (length (published ++ p ∷ [])) saved start acc
+more_published : (published : List PublishedValue) (p : PublishedValue) (saved start : ℕ) (acc : ℕ → Bool)
+    → IsBounded (length published) saved start acc → IsBounded (length (published ++ p ∷ [])) saved start acc
 more_published published p saved start acc b =
     let many : length (published ++ p ∷ []) ≡ length published + length (p ∷ []) = length-append published (p ∷ []) in
     record {
@@ -43,7 +46,8 @@ more_published published p saved start acc b =
     }
 
 -- a wanted sequence was accepted
-one_accepted : (h : hist.History) (k m : ℕ) → IsWanted h k m → Bounded h → IsBounded (length (hist.published_of h)) (hist.saved_of h) (hist.start_of h) (λ j. (k == j) || hist.accepted_of h j)
+one_accepted : (h : hist.History) (k m : ℕ) → IsWanted h k m → Bounded h → IsBounded (length (hist.published_of h))
+    (hist.saved_of h) (hist.start_of h) (λ j. (k == j) || hist.accepted_of h j)
 one_accepted h k m wanted b = record {
   saved_in = b.saved_in;
   start_in = b.start_in;
@@ -52,7 +56,8 @@ one_accepted h k m wanted b = record {
     | inr was ↦ b.accepted_in j was
   ];
   window = λ n j reach has. (
-      let more : m ≤ n = reaches_more (hist.accepted_of h) (λ i. (k == i) || hist.accepted_of h i) (hist.start_of h) m n wanted.is_open.number reach (λ i t. or_right (k == i) (hist.accepted_of h i) t) in
+      let more : m ≤ n = reaches_more (hist.accepted_of h) (λ i. (k == i) || hist.accepted_of h i) (hist.start_of h) m n
+      wanted.is_open.number reach (λ i t. or_right (k == i) (hist.accepted_of h i) t) in
       elim (or_cases (k == j) (hist.accepted_of h j) has) [
         | inl is ↦ (let same : k ≡ j = eqb-true k j is in let within = wanted.within in omega arith)
         | inr was ↦ (let old : j ≤ m + 64 = b.window m j wanted.is_open.number was in omega arith)
@@ -76,7 +81,13 @@ bounded (p ∷ h) legal = by_pair p.0 p.1 (legal.each [] h p.0 p.1 refl) (bounde
     by_pair (Edit c) BatchFull a before = before
     by_pair (Edit c) WantOfMemory a before = before
     by_pair (Edit c) r a before = absurd a
-    by_pair (Close t) (Closed m) a before = more_published (hist.published_of h) (record { number = length (hist.published_of h) + 1; changes = hist.pending_of h; time = t }) (hist.saved_of h) (hist.start_of h) (hist.accepted_of h) before
+    by_pair (Close t) (Closed m) a before =
+        more_published (hist.published_of h) (record {
+          number = length (hist.published_of h) + 1;
+          changes =
+              hist.pending_of h;
+          time = t;
+        }) (hist.saved_of h) (hist.start_of h) (hist.accepted_of h) before
     by_pair (Close t) SequenceFull a before = before
     by_pair (Close t) TimeBack a before = before
     by_pair (Close t) TooLarge a before = before
@@ -110,9 +121,11 @@ bounded (p ∷ h) legal = by_pair p.0 p.1 (legal.each [] h p.0 p.1 refl) (bounde
     by_pair Restart r a before = absurd a
 
 pub shown_number : (h : hist.History) (v : ViewValue) → IsLegal h → Allowed h Show (Shown v) → v.number ≤ length (hist.published_of h)
-shown_number h v legal a = number_in (length (hist.published_of h)) (hist.saved_of h) (hist.start_of h) v.number (hist.accepted_of h) (bounded h legal) a.1.reach
+shown_number h v legal a = number_in (length (hist.published_of h)) (hist.saved_of h) (hist.start_of h) v.number
+    (hist.accepted_of h) (bounded h legal) a.1.reach
 
-pub shown_held : (h : hist.History) (v : ViewValue) (j : ℕ) → IsLegal h → Allowed h Show (Shown v) → Contains v.held j → (v.number + 1 < j) × (j ≤ v.number + 64) × (j ≤ length (hist.published_of h))
+pub shown_held : (h : hist.History) (v : ViewValue) (j : ℕ) → IsLegal h → Allowed h Show (Shown v) → Contains v.held j
+    → (v.number + 1 < j) × (j ≤ v.number + 64) × (j ≤ length (hist.published_of h))
 shown_held h v j legal a has =
     let b : Bounded h = bounded h legal in
     let both = (a.1.held j).0 has in

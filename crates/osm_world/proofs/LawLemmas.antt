@@ -9,7 +9,9 @@ use Rattle.osm_follow.specs.Reach.{Reaches, numbers}
 use Rattle.osm_world.specs.declared.event.Event.{Event}
 use Rattle.osm_world.specs.declared.event.Event.TheVariants.{Edit, Close, Deliver, Show, Save, Restart}
 use Rattle.osm_world.specs.declared.event.Reply.{Reply}
-use Rattle.osm_world.specs.declared.event.Reply.TheVariants.{Edited, BatchFull, WantOfMemory, Closed, SequenceFull, TimeBack, TooLarge, NotPublished, Broken, Old, Again, TooEarly, Held, Applied, Broke, Shown, Saved, Restarted}
+use Rattle.osm_world.specs.declared.event.Reply.TheVariants.{Edited, BatchFull, WantOfMemory, Closed, SequenceFull}
+use Rattle.osm_world.specs.declared.event.Reply.TheVariants.{TimeBack, TooLarge, NotPublished, Broken, Old, Again}
+use Rattle.osm_world.specs.declared.event.Reply.TheVariants.{TooEarly, Held, Applied, Broke, Shown, Saved, Restarted}
 use Rattle.osm_world.proofs.ReachLemmas.{one_reach, reaches_more}
 use Rattle.osm_world.proofs.ReportLemmas.{legal_before}
 
@@ -42,7 +44,8 @@ abbrev Reached : hist.History → ℕ → ℕ → Type 0
 Reached h start n = (count : ℕ) → IsSubsequence (numbers start count) (delivered_of h) → start + count ≤ n
 
 -- one more delivery, of a number that the follower has or that is beyond the next
-step_up : (start n k count : ℕ) (ds : List ℕ) → start ≤ n → ((c : ℕ) → IsSubsequence (numbers start c) ds → start + c ≤ n) → (k ≤ n + 1 → k ≤ n) → IsSubsequence (numbers start count) (ds ++ k ∷ []) → start + count ≤ n
+step_up : (start n k count : ℕ) (ds : List ℕ) → start ≤ n → ((c : ℕ) → IsSubsequence (numbers start c) ds
+    → start + c ≤ n) → (k ≤ n + 1 → k ≤ n) → IsSubsequence (numbers start count) (ds ++ k ∷ []) → start + count ≤ n
 step_up start n k zero ds from before near is = omega arith
 step_up start n k (suc count) ds from before near is = elim (subsequence-snoc (numbers start count) ds (start + suc count) k is) [
   | inl earlier ↦ before (suc count) earlier
@@ -57,22 +60,29 @@ step_up start n k (suc count) ds from before near is = elim (subsequence-snoc (n
 abbrev Before : hist.History → Type 0
 Before h = hist.is_broken h ≡ false → (n : ℕ) → IsNumber h n → Reached h (hist.start_of h) n
 
-quiet_pair : (h : hist.History) (n : ℕ) → hist.is_broken h ≡ false → IsNumber h n → Before h → (count : ℕ) → IsSubsequence (numbers (hist.start_of h) count) (delivered_of h ++ []) → hist.start_of h + count ≤ n
+quiet_pair : (h : hist.History) (n : ℕ) → hist.is_broken h ≡ false → IsNumber h n → Before h → (count : ℕ)
+    → IsSubsequence (numbers (hist.start_of h) count) (delivered_of h ++ []) → hist.start_of h + count ≤ n
 quiet_pair h n whole number before count is = before whole n number count (rw append-nil at is)
 
 -- a delivery that accepts nothing
-known_pair : (h : hist.History) (k n m : ℕ) → hist.is_broken h ≡ false → IsNumber h n → IsNumber h m → (k ≤ m + 1 → k ≤ m) → Before h → (count : ℕ) → IsSubsequence (numbers (hist.start_of h) count) (delivered_of h ++ k ∷ []) → hist.start_of h + count ≤ n
+known_pair : (h : hist.History) (k n m : ℕ) → hist.is_broken h ≡ false → IsNumber h n → IsNumber h m
+    → (k ≤ m + 1 → k ≤ m) → Before h → (count : ℕ) → IsSubsequence (numbers (hist.start_of h) count)
+    (delivered_of h ++ k ∷ []) → hist.start_of h + count ≤ n
 known_pair h k n m whole number old near before count is =
     let one : m ≡ n = one_reach (hist.accepted_of h) (hist.start_of h) m n old number in
     let from = number.from in
     step_up (hist.start_of h) n k count (delivered_of h) from (before whole n number) (λ le. (let there : k ≤ m = near (omega arith) in omega arith)) is
 
 -- a delivery that accepts its number
-new_pair : (h : hist.History) (k n m : ℕ) → hist.is_broken h ≡ false → Reaches (λ j. (k == j) || hist.accepted_of h j) (hist.start_of h) n → IsNumber h m → Before h → (count : ℕ) → IsSubsequence (numbers (hist.start_of h) count) (delivered_of h ++ k ∷ []) → hist.start_of h + count ≤ n
+new_pair : (h : hist.History) (k n m : ℕ) → hist.is_broken h ≡ false → Reaches (λ j. (k == j) || hist.accepted_of h j)
+    (hist.start_of h) n → IsNumber h m → Before h → (count : ℕ) → IsSubsequence (numbers (hist.start_of h) count)
+    (delivered_of h ++ k ∷ []) → hist.start_of h + count ≤ n
 new_pair h k n m whole number old before count is =
-    let more : m ≤ n = reaches_more (hist.accepted_of h) (λ j. (k == j) || hist.accepted_of h j) (hist.start_of h) m n old number (λ j t. or_right (k == j) (hist.accepted_of h j) t) in
+    let more : m ≤ n = reaches_more (hist.accepted_of h) (λ j. (k == j) || hist.accepted_of h j) (hist.start_of h) m n
+    old number (λ j t. or_right (k == j) (hist.accepted_of h j) t) in
     let from = number.from in
-    step_up (hist.start_of h) n k count (delivered_of h) from (λ c s. (let le : hist.start_of h + c ≤ m = before whole m old c s in omega arith)) (λ le. elim (cases_lt n k) [
+    step_up (hist.start_of h) n k count (delivered_of h) from (λ c s. (let le : hist.start_of h + c ≤ m =
+    before whole m old c s in omega arith)) (λ le. elim (cases_lt n k) [
       | inr there ↦ there
       | inl less ↦ absurd (
           let next : k ≡ n + 1 = omega arith in
@@ -95,9 +105,11 @@ none_delivered start n (suc count) from is = absurd (none (numbers start count) 
 
 pub catches_up : (h : hist.History) (n : ℕ) → IsLegal h → hist.is_broken h ≡ false → IsNumber h n → Reached h (hist.start_of h) n
 catches_up [] n legal whole number count is = none_delivered 0 n count number.from is
-catches_up (p ∷ h) n legal whole number count is = by_pair p.0 p.1 (legal_last h p.0 p.1 legal) whole number (λ ok m at. catches_up h m (legal_before h p.0 p.1 legal) ok at) count is
+catches_up (p ∷ h) n legal whole number count is = by_pair p.0 p.1 (legal_last h p.0 p.1 legal) whole number
+    (λ ok m at. catches_up h m (legal_before h p.0 p.1 legal) ok at) count is
   where
-    by_pair : (e : Event) (r : Reply) → Allowed h e r → hist.is_broken ((e, r) ∷ h) ≡ false → IsNumber ((e, r) ∷ h) n → Before h → Reached ((e, r) ∷ h) (hist.start_of ((e, r) ∷ h)) n
+    by_pair : (e : Event) (r : Reply) → Allowed h e r → hist.is_broken ((e, r) ∷ h) ≡ false → IsNumber ((e, r) ∷ h) n
+        → Before h → Reached ((e, r) ∷ h) (hist.start_of ((e, r) ∷ h)) n
     by_pair (Edit c) Edited a ok at before = quiet_pair h n ok at before
     by_pair (Edit c) BatchFull a ok at before = quiet_pair h n ok at before
     by_pair (Edit c) WantOfMemory a ok at before = quiet_pair h n ok at before
@@ -139,7 +151,8 @@ abbrev Known : hist.History → ℕ → Type 0
 Known h j = (hist.accepted_of h j ≡ true) ↔ ((hist.start_of h < j) × (is_confirmed h j ≡ true))
 
 -- a delivery whose reply says that its number was accepted before, if it is above the start
-told_pair : (h : hist.History) (k j : ℕ) → (hist.start_of h < k → hist.accepted_of h k ≡ true) → Known h j → (hist.accepted_of h j ≡ true) ↔ ((hist.start_of h < j) × (((k == j) || is_confirmed h j) ≡ true))
+told_pair : (h : hist.History) (k j : ℕ) → (hist.start_of h < k → hist.accepted_of h k ≡ true) → Known h j
+    → (hist.accepted_of h j ≡ true) ↔ ((hist.start_of h < j) × (((k == j) || is_confirmed h j) ≡ true))
 told_pair h k j was before = (
   λ has. (let both = before.0 has in (both.0, or_right (k == j) (is_confirmed h j) both.1)),
   λ both. elim (or_cases (k == j) (is_confirmed h j) both.1) [
@@ -149,7 +162,8 @@ told_pair h k j was before = (
 )
 
 -- a delivery that accepts its number, which is above the start
-taken_pair : (h : hist.History) (k j : ℕ) → hist.start_of h < k → Known h j → (((k == j) || hist.accepted_of h j) ≡ true) ↔ ((hist.start_of h < j) × (((k == j) || is_confirmed h j) ≡ true))
+taken_pair : (h : hist.History) (k j : ℕ) → hist.start_of h < k → Known h j
+    → (((k == j) || hist.accepted_of h j) ≡ true) ↔ ((hist.start_of h < j) × (((k == j) || is_confirmed h j) ≡ true))
 taken_pair h k j above before = (
   λ has. elim (or_cases (k == j) (hist.accepted_of h j) has) [
     | inl is ↦ (let same : k ≡ j = eqb-true k j is in (omega arith, or_left (k == j) (is_confirmed h j) is))

@@ -22,7 +22,9 @@ use Rattle.osm_follow.specs.declared.delivery.DeliverError.TheVariants as errors
 use Rattle.osm_world.specs.declared.event.Event.{Event}
 use Rattle.osm_world.specs.declared.event.Event.TheVariants.{Edit, Close, Deliver, Show, Save, Restart}
 use Rattle.osm_world.specs.declared.event.Reply.{Reply}
-use Rattle.osm_world.specs.declared.event.Reply.TheVariants.{Edited, BatchFull, WantOfMemory, Closed, SequenceFull, TimeBack, TooLarge, NotPublished, Broken, Old, Again, TooEarly, Held, Applied, Broke, Shown, Saved, Restarted}
+use Rattle.osm_world.specs.declared.event.Reply.TheVariants.{Edited, BatchFull, WantOfMemory, Closed, SequenceFull}
+use Rattle.osm_world.specs.declared.event.Reply.TheVariants.{TimeBack, TooLarge, NotPublished, Broken, Old, Again}
+use Rattle.osm_world.specs.declared.event.Reply.TheVariants.{TooEarly, Held, Applied, Broke, Shown, Saved, Restarted}
 use Rattle.osm_holding.proofs.AreaLemmas.{exactly_held}
 use Rattle.osm_holding.specs.Holding as area
 use Rattle.osm_holding.specs.declared.holding.Held as kept
@@ -34,7 +36,8 @@ use Rattle.osm_world.proofs.StepLemmas.{AreLawful, OneSave, StartsAt, delivered_
 whole_of : (h : hist.History) (a : WorldValue) → IsInStep h a → a.follower.is_broken ≡ false → hist.is_broken h ≡ false
 whole_of h a s whole = sym s.broken ∙ whole
 
-state_of : (h : hist.History) (a : WorldValue) → IsInStep h a → a.follower.is_broken ≡ false → IsState (hist.published_of h) (hist.start_of h) (hist.accepted_of h) a.follower
+state_of : (h : hist.History) (a : WorldValue) → IsInStep h a → a.follower.is_broken ≡ false
+    → IsState (hist.published_of h) (hist.start_of h) (hist.accepted_of h) a.follower
 state_of h a s whole = s.state (whole_of h a s whole)
 
 published_is : (h : hist.History) (a : WorldValue) → IsInStep h a → a.publisher.number ≡ length (hist.published_of h)
@@ -43,7 +46,8 @@ published_is h a s = ap (λ (p : PublisherValue). p.number) s.publisher
 pending_is : (h : hist.History) (a : WorldValue) → IsInStep h a → a.publisher.pending ≡ hist.pending_of h
 pending_is h a s = ap (λ (p : PublisherValue). p.pending) s.publisher
 
-open_of : (h : hist.History) (a : WorldValue) (k : ℕ) → IsInStep h a → 0 < k → k ≤ a.publisher.number → a.follower.is_broken ≡ false → IsOpen h k a.follower.number
+open_of : (h : hist.History) (a : WorldValue) (k : ℕ) → IsInStep h a → 0 < k → k ≤ a.publisher.number
+    → a.follower.is_broken ≡ false → IsOpen h k a.follower.number
 open_of h a k s above there whole = record {
   above = above;
   there = (let n : a.publisher.number ≡ length (hist.published_of h) = published_is h a s in rw n at there);
@@ -52,7 +56,8 @@ open_of h a k s above there whole = record {
 }
 
 -- the sequence that is delivered is wanted
-wanted_of : (h : hist.History) (a : WorldValue) (k : ℕ) → IsInStep h a → 0 < k → k ≤ a.publisher.number → IsDueAt a.follower (sequence_at (hist.published_of h) k).number → IsWanted h k a.follower.number
+wanted_of : (h : hist.History) (a : WorldValue) (k : ℕ) → IsInStep h a → 0 < k → k ≤ a.publisher.number
+    → IsDueAt a.follower (sequence_at (hist.published_of h) k).number → IsWanted h k a.follower.number
 wanted_of h a k s above there t =
     let is : IsSequence k (sequence_at (hist.published_of h) k) = published_at h a k s above there in
     let number_is : (sequence_at (hist.published_of h) k).number ≡ k = is.number_is in
@@ -61,14 +66,18 @@ wanted_of h a k s above there t =
       is_open = open_of h a k s above there t.whole;
       above = past;
       within = rw number_is at t.within;
-      fresh = fresh_is_unaccepted (hist.published_of h) (hist.start_of h) (hist.accepted_of h) a.follower (state_of h a s t.whole) k past (rw number_is at t.fresh);
+      fresh = fresh_is_unaccepted (hist.published_of h) (hist.start_of h) (hist.accepted_of h) a.follower
+          (state_of h a s t.whole) k past (rw number_is at t.fresh);
     }
 
 some_of : (cs before after : List ChangeValue) (c : ChangeValue) → cs ≡ before ++ c ∷ after → 0 < length cs
-some_of cs before after c e = let many : length (before ++ c ∷ after) ≡ length before + length (c ∷ after) = length-append before (c ∷ after) in omega (arith, ap length e)
+some_of cs before after c e = let many : length (before ++ c ∷ after) ≡ length before + length (c ∷ after) =
+    length-append before (c ∷ after) in omega (arith, ap length e)
 
 -- an application that stopped part-way had a change to apply
-work_of : (h : hist.History) (a b : WorldValue) (k : ℕ) → IsInStep h a → a.follower.is_broken ≡ false → a.follower.number < k → (sequence_at (hist.published_of h) k).number ≡ k → Breaks a.follower (sequence_at (hist.published_of h) k) b.follower → HasChanges h k
+work_of : (h : hist.History) (a b : WorldValue) (k : ℕ) → IsInStep h a → a.follower.is_broken ≡ false
+    → a.follower.number < k → (sequence_at (hist.published_of h) k).number ≡ k
+    → Breaks a.follower (sequence_at (hist.published_of h) k) b.follower → HasChanges h k
 work_of h a b k s whole past number_is t =
     let ps : List PublishedValue = hist.published_of h in
     let state : IsState ps (hist.start_of h) (hist.accepted_of h) a.follower = state_of h a s whole in
@@ -76,14 +85,17 @@ work_of h a b k s whole past number_is t =
     let held_reach : Reaches (is_held a.follower) k t.high = rw number_is at t.reach in
     let joined : between (changes_held a.follower) (sequence_at ps k).number t.count ≡ between (changes_at ps) k t.count =
     rw number_is (joined_is ps (hist.start_of h) (hist.accepted_of h) a.follower k t.high t.count state past high_is held_reach) in
-    let some : 0 < length (changes_at ps k ++ between (changes_held a.follower) (sequence_at ps k).number t.count) = some_of _ t.needs.before t.needs.after t.needs.change t.needs.is in
+    let some : 0 < length (changes_at ps k ++ between (changes_held a.follower) (sequence_at ps k).number t.count) =
+    some_of _ t.needs.before t.needs.after t.needs.change t.needs.is in
     record {
       count = t.count;
       reach = rw (← high_is) (reaches_accepted ps (hist.start_of h) (hist.accepted_of h) a.follower k t.high state past held_reach);
       some = rw joined at some;
     }
 
-view_is : (h : hist.History) (a : WorldValue) (v : ViewValue) → IsInStep h a → a.follower.is_broken ≡ false → v ≡ view_of a.follower → IsStrictlySortedBy nat_cmp v.held → IsView (hist.published_of h) (hist.start_of h) (hist.accepted_of h) v
+view_is : (h : hist.History) (a : WorldValue) (v : ViewValue) → IsInStep h a → a.follower.is_broken ≡ false
+    → v ≡ view_of a.follower → IsStrictlySortedBy nat_cmp v.held → IsView (hist.published_of h) (hist.start_of h)
+    (hist.accepted_of h) v
 view_is h a v s whole is rising = rw is (record {
   reach = state.reach;
   time = state.follows.time;
@@ -94,7 +106,9 @@ view_is h a v s whole is rising = rw is (record {
         let there : IsSome (held_at a.follower j) = shown j ((exactly_held a.follower.holding j).0 has) in
         let past : a.follower.number < j = above j there in
         (past, held_was_accepted (hist.published_of h) (hist.start_of h) (hist.accepted_of h) a.follower state j past there)),
-    λ both. (exactly_held a.follower.holding j).1 (told j (held_accepted (hist.published_of h) (hist.start_of h) (hist.accepted_of h) a.follower state j both.0 ∙ both.1)),
+    λ both. (exactly_held a.follower.holding j).1
+        (told j (held_accepted (hist.published_of h) (hist.start_of h) (hist.accepted_of h) a.follower state j both.0
+        ∙ both.1)),
   );
 })
   where
@@ -104,14 +118,26 @@ view_is h a v s whole is rising = rw is (record {
     shown : (j : ℕ) → IsSome (area.held_at a.follower.holding j) → IsSome (held_at a.follower j)
     shown j has = by_case (area.held_at a.follower.holding j) has
       where
-        by_case : (o : Option kept.Held) → IsSome o → IsSome (option_map (λ x. let p : PublishedValue = record { number = j; changes = x.batch; time = x.time } in p) o)
+        by_case : (o : Option kept.Held) → IsSome o
+            → IsSome (option_map (λ x. let p : PublishedValue = record {
+              number = j;
+              changes = x.batch;
+              time =
+                  x.time;
+            } in p) o)
         by_case (Some x) t = refl
         by_case None t = cc
 
     told : (j : ℕ) → IsSome (held_at a.follower j) → IsSome (area.held_at a.follower.holding j)
     told j has = by_case (area.held_at a.follower.holding j) has
       where
-        by_case : (o : Option kept.Held) → IsSome (option_map (λ x. let p : PublishedValue = record { number = j; changes = x.batch; time = x.time } in p) o) → IsSome o
+        by_case : (o : Option kept.Held)
+            → IsSome (option_map (λ x. let p : PublishedValue = record {
+              number = j;
+              changes = x.batch;
+              time =
+                  x.time;
+            } in p) o) → IsSome o
         by_case (Some x) t = refl
         by_case None t = cc
 
@@ -127,50 +153,86 @@ step_allowed laws one h (Edit c) Edited a b s t = (let cs : a.publisher.pending 
 step_allowed laws one h (Edit c) BatchFull a b s t = (let cs : a.publisher.pending ≡ hist.pending_of h = pending_is h a s in rw cs at t.0)
 step_allowed laws one h (Edit c) WantOfMemory a b s t = (let cs : a.publisher.pending ≡ hist.pending_of h = pending_is h a s in rw cs at t.0)
 step_allowed laws one h (Edit c) r a b s t = absurd t
-step_allowed laws one h (Close m) (Closed n) a b s t = (rw s.publisher at t.0, (let cs : a.publisher.pending ≡ hist.pending_of h = pending_is h a s in rw cs at t.2), t.3 ∙ ap (λ (k : ℕ). k + 1) (published_is h a s))
+step_allowed laws one h (Close m) (Closed n) a b s t = (
+  rw s.publisher at t.0,
+  (let cs : a.publisher.pending ≡ hist.pending_of h = pending_is h a s in rw cs at t.2),
+  t.3
+      ∙ ap (λ (k : ℕ). k + 1) (published_is h a s),
+)
 step_allowed laws one h (Close m) SequenceFull a b s t = (let n : a.publisher.number ≡ length (hist.published_of h) = published_is h a s in rw n at t.0)
-step_allowed laws one h (Close m) TimeBack a b s t = ((let n : a.publisher.number ≡ length (hist.published_of h) = published_is h a s in rw n at t.0), rw s.publisher at t.1)
-step_allowed laws one h (Close m) TooLarge a b s t = (rw s.publisher at t.0, (let cs : a.publisher.pending ≡ hist.pending_of h = pending_is h a s in rw cs at t.1))
+step_allowed laws one h (Close m) TimeBack a b s t = (
+  (let n : a.publisher.number ≡ length (hist.published_of h) = published_is h a s in rw n at t.0),
+  rw s.publisher at t.1,
+)
+step_allowed laws one h (Close m) TooLarge a b s t =
+    (rw s.publisher at t.0, (let cs : a.publisher.pending ≡ hist.pending_of h = pending_is h a s in rw cs at t.1))
 step_allowed laws one h (Close m) WantOfMemory a b s t = rw s.publisher at t.0
 step_allowed laws one h (Close m) r a b s t = absurd t
 step_allowed laws one h (Deliver k form) NotPublished a b s t = (let n : a.publisher.number ≡ length (hist.published_of h) = published_is h a s in rw n at t.0)
-step_allowed laws one h (Deliver k form) Broken a b s t = (t.above, (let n : a.publisher.number ≡ length (hist.published_of h) = published_is h a s in rw n at t.there), sym s.broken ∙ t.replies.0)
+step_allowed laws one h (Deliver k form) Broken a b s t = (
+  t.above,
+  (let n : a.publisher.number ≡ length (hist.published_of h) = published_is h a s in rw n at t.there),
+  sym s.broken ∙ t.replies.0,
+)
 step_allowed laws one h (Deliver k form) Old a b s t =
     let is : IsSequence k (sequence_at (hist.published_of h) k) = published_at h a k s t.above t.there in
-    let d : FollowerStep a.follower (sequence_at (hist.published_of h) k) (Ok answers.Old) b.follower = delivered_as laws h a b k form (Ok answers.Old) s t.above t.there t.replies in
+    let d : FollowerStep a.follower (sequence_at (hist.published_of h) k) (Ok answers.Old) b.follower =
+    delivered_as laws h a b k form (Ok answers.Old) s t.above t.there t.replies in
     (a.follower.number, open_of h a k s t.above t.there d.0, (let n = is.number_is in let below = d.1 in omega arith))
 step_allowed laws one h (Deliver k form) Again a b s t =
     let is : IsSequence k (sequence_at (hist.published_of h) k) = published_at h a k s t.above t.there in
     let number : (sequence_at (hist.published_of h) k).number ≡ k = is.number_is in
-    let d : FollowerStep a.follower (sequence_at (hist.published_of h) k) (Ok answers.Again) b.follower = delivered_as laws h a b k form (Ok answers.Again) s t.above t.there t.replies in
+    let d : FollowerStep a.follower (sequence_at (hist.published_of h) k) (Ok answers.Again) b.follower =
+    delivered_as laws h a b k form (Ok answers.Again) s t.above t.there t.replies in
     let past : a.follower.number < k = rw number at d.1 in
-    let there : IsSome (held_at a.follower k) = rw number at d.2 in
-    (a.follower.number, open_of h a k s t.above t.there d.0, past, held_was_accepted (hist.published_of h) (hist.start_of h) (hist.accepted_of h) a.follower (state_of h a s d.0) k past there)
+    let there : IsSome (held_at a.follower k) = rw number at d.2 in (
+      a.follower.number,
+      open_of h a k s t.above t.there d.0,
+      past,
+      held_was_accepted (hist.published_of h)
+          (hist.start_of h) (hist.accepted_of h) a.follower (state_of h a s d.0) k past there,
+    )
 step_allowed laws one h (Deliver k form) TooEarly a b s t =
     let is : IsSequence k (sequence_at (hist.published_of h) k) = published_at h a k s t.above t.there in
     let number : (sequence_at (hist.published_of h) k).number ≡ k = is.number_is in
-    let d : FollowerStep a.follower (sequence_at (hist.published_of h) k) (Err errors.TooEarly) b.follower = delivered_as laws h a b k form (Err errors.TooEarly) s t.above t.there t.replies in
+    let d : FollowerStep a.follower (sequence_at (hist.published_of h) k) (Err errors.TooEarly) b.follower =
+    delivered_as laws h a b k form (Err errors.TooEarly) s t.above t.there t.replies in
     let past : a.follower.number + 64 < k = rw number at d.1 in
-    let none : held_at a.follower k ≡ None = rw number at d.2 in
-    (a.follower.number, open_of h a k s t.above t.there d.0, past, fresh_is_unaccepted (hist.published_of h) (hist.start_of h) (hist.accepted_of h) a.follower (state_of h a s d.0) k (omega arith) none)
+    let none : held_at a.follower k ≡ None = rw number at d.2 in (
+      a.follower.number,
+      open_of h a k s t.above t.there d.0,
+      past,
+      fresh_is_unaccepted (hist.published_of h)
+          (hist.start_of h) (hist.accepted_of h) a.follower (state_of h a s d.0) k (omega arith) none,
+    )
 step_allowed laws one h (Deliver k form) WantOfMemory a b s t =
-    let d : FollowerStep a.follower (sequence_at (hist.published_of h) k) (Err errors.WantOfMemory) b.follower = delivered_as laws h a b k form (Err errors.WantOfMemory) s t.above t.there t.replies in
+    let d : FollowerStep a.follower (sequence_at (hist.published_of h) k) (Err errors.WantOfMemory) b.follower =
+    delivered_as laws h a b k form (Err errors.WantOfMemory) s t.above t.there t.replies in
     (a.follower.number, wanted_of h a k s t.above t.there d.0, d.1)
 step_allowed laws one h (Deliver k form) Held a b s t =
     let is : IsSequence k (sequence_at (hist.published_of h) k) = published_at h a k s t.above t.there in
     let number : (sequence_at (hist.published_of h) k).number ≡ k = is.number_is in
-    let d : FollowerStep a.follower (sequence_at (hist.published_of h) k) (Ok answers.Held) b.follower = delivered_as laws h a b k form (Ok answers.Held) s t.above t.there t.replies in
+    let d : FollowerStep a.follower (sequence_at (hist.published_of h) k) (Ok answers.Held) b.follower =
+    delivered_as laws h a b k form (Ok answers.Held) s t.above t.there t.replies in
     (a.follower.number, wanted_of h a k s t.above t.there d.0, rw number at d.1)
 step_allowed laws one h (Deliver k form) (Applied low high) a b s t =
     let is : IsSequence k (sequence_at (hist.published_of h) k) = published_at h a k s t.above t.there in
     let number : (sequence_at (hist.published_of h) k).number ≡ k = is.number_is in
-    let d : FollowerStep a.follower (sequence_at (hist.published_of h) k) (Ok (answers.Applied low high)) b.follower = delivered_as laws h a b k form (Ok (answers.Applied low high)) s t.above t.there t.replies in
-    let next : k ≡ a.follower.number + 1 = sym number ∙ d.1 in
-    (a.follower.number, wanted_of h a k s t.above t.there d.0, next, d.2 ∙ number, reaches_accepted (hist.published_of h) (hist.start_of h) (hist.accepted_of h) a.follower k high (state_of h a s d.0.whole) (omega arith) (rw number at d.3.reach))
+    let d : FollowerStep a.follower (sequence_at (hist.published_of h) k) (Ok (answers.Applied low high)) b.follower =
+    delivered_as laws h a b k form (Ok (answers.Applied low high)) s t.above t.there t.replies in
+    let next : k ≡ a.follower.number + 1 = sym number ∙ d.1 in (
+      a.follower.number,
+      wanted_of h a k s t.above t.there d.0,
+      next,
+      d.2 ∙ number,
+      reaches_accepted (hist.published_of h) (hist.start_of h) (hist.accepted_of h) a.follower k high
+          (state_of h a s d.0.whole) (omega arith) (rw number at d.3.reach),
+    )
 step_allowed laws one h (Deliver k form) Broke a b s t =
     let is : IsSequence k (sequence_at (hist.published_of h) k) = published_at h a k s t.above t.there in
     let number : (sequence_at (hist.published_of h) k).number ≡ k = is.number_is in
-    let d : FollowerStep a.follower (sequence_at (hist.published_of h) k) (Err errors.Broke) b.follower = delivered_as laws h a b k form (Err errors.Broke) s t.above t.there t.replies in
+    let d : FollowerStep a.follower (sequence_at (hist.published_of h) k) (Err errors.Broke) b.follower =
+    delivered_as laws h a b k form (Err errors.Broke) s t.above t.there t.replies in
     let next : k ≡ a.follower.number + 1 = sym number ∙ d.1 in
     (a.follower.number, wanted_of h a k s t.above t.there d.0, next, work_of h a b k s d.0.whole (omega arith) number d.2)
 step_allowed laws one h (Deliver k form) r a b s t = absurd t.replies
@@ -183,7 +245,8 @@ step_allowed laws one h Save (Saved n) a b s t = (whole_of h a s t.1, (let state
 step_allowed laws one h Save WantOfMemory a b s t = whole_of h a s t.0
 step_allowed laws one h Save r a b s t = absurd t
 step_allowed laws one h Restart (Restarted n) a b s t =
-    let g : StartsAt (hist.published_of h) (hist.saved_of h) b.follower = restarted_as one (hist.published_of h) (hist.last_saved h) a.saved a.follower b.follower s.saved t.0 in
+    let g : StartsAt (hist.published_of h) (hist.saved_of h) b.follower =
+    restarted_as one (hist.published_of h) (hist.last_saved h) a.saved a.follower b.follower s.saved t.0 in
     t.1 ∙ g.number
 step_allowed laws one h Restart WantOfMemory a b s t = refused_from (hist.published_of h) (hist.last_saved h) a.saved a.follower b.follower s.saved t.0
 step_allowed laws one h Restart r a b s t = absurd t

@@ -10,3 +10,5 @@ pub mod OrderLemmas
 pub mod BoundLemmas
 pub mod AlikeLemmas
 pub mod ReplyLemmas
+pub mod FewLemmas
+pub mod NewLemmas

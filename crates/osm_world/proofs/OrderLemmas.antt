@@ -1,5 +1,5 @@
 -- Numbers of one window that were all delivered, in any order, are reached.
-use Rattle.std.proofs.Common.{◌≡◌, ℕ, ◌+◌, ◌<◌, ◌≤◌, List, [], ◌∷◌, ◌++◌, refl, sym, ◌∙◌, Bool, true, false, arith, inl, inr, append-nil, length}
+use Rattle.std.proofs.Common.{◌≡◌, ℕ, ◌+◌, ◌<◌, ◌≤◌, [], ◌∷◌, ◌++◌, refl, sym, ◌∙◌, Bool, true, false, arith, inl, inr, append-nil}
 use Rattle.std.specs.Prelude.{◌==◌, ◌||◌, Contains}
 use Rattle.std.proofs.lemmas.Bool.{cases_lt, eq-eqb, or_left, or_right}
 use Rattle.std.proofs.lemmas.List.Elements.{Contains-push_cases}
@@ -9,7 +9,9 @@ use Rattle.osm_world.specs.Legal.{IsLegal, IsNumber, Allowed}
 use Rattle.osm_world.specs.declared.event.Event.{Event}
 use Rattle.osm_world.specs.declared.event.Event.TheVariants.{Edit, Close, Deliver, Show, Save, Restart}
 use Rattle.osm_world.specs.declared.event.Reply.{Reply}
-use Rattle.osm_world.specs.declared.event.Reply.TheVariants.{Edited, BatchFull, WantOfMemory, Closed, SequenceFull, TimeBack, TooLarge, NotPublished, Broken, Old, Again, TooEarly, Held, Applied, Broke, Shown, Saved, Restarted}
+use Rattle.osm_world.specs.declared.event.Reply.TheVariants.{Edited, BatchFull, WantOfMemory, Closed, SequenceFull}
+use Rattle.osm_world.specs.declared.event.Reply.TheVariants.{TimeBack, TooLarge, NotPublished, Broken, Old, Again}
+use Rattle.osm_world.specs.declared.event.Reply.TheVariants.{TooEarly, Held, Applied, Broke, Shown, Saved, Restarted}
 use Rattle.osm_world.proofs.ReportLemmas.{legal_before}
 
 apart : (b : Bool) → b ≡ true → b ≡ false → ⊥
@@ -19,19 +21,23 @@ apart b is out = let bad : true ≡ false = sym is ∙ out in cc
 abbrev Taken : hist.History → ℕ → Type 0
 Taken h j = hist.is_broken h ≡ false → hist.start_of h < j → j ≤ hist.start_of h + 64 → Contains (delivered_of h) j → hist.accepted_of h j ≡ true
 
-quiet_takes : (h : hist.History) (j : ℕ) → Taken h j → hist.is_broken h ≡ false → hist.start_of h < j → j ≤ hist.start_of h + 64 → Contains (delivered_of h ++ []) j → hist.accepted_of h j ≡ true
+quiet_takes : (h : hist.History) (j : ℕ) → Taken h j → hist.is_broken h ≡ false → hist.start_of h < j
+    → j ≤ hist.start_of h + 64 → Contains (delivered_of h ++ []) j → hist.accepted_of h j ≡ true
 quiet_takes h j before ok above below is = before ok above below (rw append-nil at is)
 
 -- a delivery that accepts nothing, of a number that was accepted if it is among the 64 after the
 -- start
-known_takes : (h : hist.History) (k j : ℕ) → (hist.start_of h < k → k ≤ hist.start_of h + 64 → hist.accepted_of h k ≡ true) → Taken h j → hist.is_broken h ≡ false → hist.start_of h < j → j ≤ hist.start_of h + 64 → Contains (delivered_of h ++ k ∷ []) j → hist.accepted_of h j ≡ true
+known_takes : (h : hist.History) (k j : ℕ) → (hist.start_of h < k → k ≤ hist.start_of h + 64
+    → hist.accepted_of h k ≡ true) → Taken h j → hist.is_broken h ≡ false → hist.start_of h < j → j ≤ hist.start_of h
+    + 64 → Contains (delivered_of h ++ k ∷ []) j → hist.accepted_of h j ≡ true
 known_takes h k j was before ok above below is = elim (Contains-push_cases (delivered_of h) k j is) [
   | inl earlier ↦ before ok above below earlier
   | inr same ↦ rw same at (was (omega arith) (omega arith))
 ]
 
 -- a delivery that accepts its number
-new_takes : (h : hist.History) (k j : ℕ) → Taken h j → hist.is_broken h ≡ false → hist.start_of h < j → j ≤ hist.start_of h + 64 → Contains (delivered_of h ++ k ∷ []) j → ((k == j) || hist.accepted_of h j) ≡ true
+new_takes : (h : hist.History) (k j : ℕ) → Taken h j → hist.is_broken h ≡ false → hist.start_of h < j
+    → j ≤ hist.start_of h + 64 → Contains (delivered_of h ++ k ∷ []) j → ((k == j) || hist.accepted_of h j) ≡ true
 new_takes h k j before ok above below is = elim (Contains-push_cases (delivered_of h) k j is) [
   | inl earlier ↦ or_right (k == j) (hist.accepted_of h j) (before ok above below earlier)
   | inr same ↦ or_left (k == j) (hist.accepted_of h j) (eq-eqb k j same)
@@ -74,7 +80,9 @@ delivered_is_taken (p ∷ h) j legal = by_pair p.0 p.1 (legal.each [] h p.0 p.1 
     by_pair Restart WantOfMemory a before = λ ok above below is. absurd (apart true refl ok)
     by_pair Restart r a before = absurd a
 
-pub any_order : (h : hist.History) (n count : ℕ) → IsLegal h → hist.is_broken h ≡ false → IsNumber h n → count ≤ 64 → ((j : ℕ) → hist.start_of h < j → j ≤ hist.start_of h + count → Contains (delivered_of h) j) → hist.start_of h + count ≤ n
+pub any_order : (h : hist.History) (n count : ℕ) → IsLegal h → hist.is_broken h ≡ false → IsNumber h n → count ≤ 64
+    → ((j : ℕ) → hist.start_of h < j → j ≤ hist.start_of h + count → Contains (delivered_of h) j) → hist.start_of h
+    + count ≤ n
 any_order h n count legal ok number few all = elim (cases_lt n (hist.start_of h + count)) [
   | inr le ↦ le
   | inl less ↦ absurd (

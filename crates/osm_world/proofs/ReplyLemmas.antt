@@ -1,5 +1,5 @@
 -- The reply that is due after a history, unless memory is refused.
-use Rattle.std.proofs.Common.{◌≡◌, ℕ, ◌+◌, ◌<◌, ◌≤◌, List, [], ◌∷◌, length, refl, ap, sym, ◌∙◌, Bool, true, false, arith, inl, inr}
+use Rattle.std.proofs.Common.{◌≡◌, ℕ, ◌+◌, ◌<◌, ◌≤◌, [], ◌∷◌, length, refl, ap, sym, ◌∙◌, Bool, true, false, arith, inl, inr}
 use Rattle.std.specs.Prelude.{◌==◌, ◌||◌, if◌then◌else◌, nat_le, nat_lt}
 use Rattle.std.proofs.lemmas.Bool.{eq-eqb, ne_eqb, or_from, or_left, or_right}
 use Rattle.std.proofs.lemmas.Bool.Decides.{nat_tests}
@@ -14,11 +14,13 @@ use Rattle.osm_world.proofs.AlikeLemmas.{one_view}
 use Rattle.osm_world.proofs.ReachLemmas.{one_reach}
 use Rattle.osm_world.specs.Due.{due_delivery, is_unpublished}
 use Rattle.osm_world.specs.History as hist
-use Rattle.osm_world.specs.Legal.{Allowed, AllowedClose, AllowedDeliver, AllowedEdit, AllowedRestart, AllowedSave, AllowedShow, IsNumber, IsOpen, is_want_of_memory}
+use Rattle.osm_world.specs.Legal.{Allowed, AllowedClose, AllowedDeliver, AllowedEdit, AllowedRestart, AllowedSave, AllowedShow, IsNumber, is_want_of_memory}
 use Rattle.osm_world.specs.declared.event.Event.{Event}
 use Rattle.osm_world.specs.declared.event.Event.TheVariants.{Edit, Close, Deliver, Show, Save, Restart}
 use Rattle.osm_world.specs.declared.event.Reply.{Reply}
-use Rattle.osm_world.specs.declared.event.Reply.TheVariants.{Edited, BatchFull, WantOfMemory, Closed, SequenceFull, TimeBack, TooLarge, NotPublished, Broken, Old, Again, TooEarly, Held, Applied, Broke, Shown, Saved, Restarted}
+use Rattle.osm_world.specs.declared.event.Reply.TheVariants.{Edited, BatchFull, WantOfMemory, Closed, SequenceFull}
+use Rattle.osm_world.specs.declared.event.Reply.TheVariants.{TimeBack, TooLarge, NotPublished, Broken, Old, Again}
+use Rattle.osm_world.specs.declared.event.Reply.TheVariants.{TooEarly, Held, Applied, Broke, Shown, Saved, Restarted}
 
 due_edit : hist.History → Reply
 due_edit h = if nat_lt (length (hist.pending_of h)) max_changes then Edited else BatchFull
@@ -55,8 +57,10 @@ close_is_due h t TooLarge a ok =
     let full : nat_le max_sequence (length (hist.published_of h)) ≡ false = grind (arith, nat_tests) in
     let early : nat_lt t (last_time (hist.published_of h)) ≡ false = grind (arith, nat_tests) in
     let large : (nat_lt max_file (length (opl_text (hist.pending_of h))) || nat_lt max_file (length (o5c_text (hist.pending_of h)))) ≡ true = elim a.1 [
-      | inl opl ↦ or_left (nat_lt max_file (length (opl_text (hist.pending_of h)))) (nat_lt max_file (length (o5c_text (hist.pending_of h)))) (grind (arith, nat_tests))
-      | inr o5c ↦ or_right (nat_lt max_file (length (opl_text (hist.pending_of h)))) (nat_lt max_file (length (o5c_text (hist.pending_of h)))) (grind (arith, nat_tests))
+      | inl opl ↦ or_left (nat_lt max_file (length (opl_text (hist.pending_of h))))
+          (nat_lt max_file (length (o5c_text (hist.pending_of h)))) (grind (arith, nat_tests))
+      | inr o5c ↦ or_right (nat_lt max_file (length (opl_text (hist.pending_of h))))
+          (nat_lt max_file (length (o5c_text (hist.pending_of h)))) (grind (arith, nat_tests))
     ] in
     rw (full, early, large) refl
 close_is_due h t (Closed n) a ok =
@@ -66,7 +70,11 @@ close_is_due h t (Closed n) a ok =
     let o5c = a.1.o5c in
     let full : nat_le max_sequence (length (hist.published_of h)) ≡ false = grind (arith, nat_tests) in
     let early : nat_lt t (last_time (hist.published_of h)) ≡ false = grind (arith, nat_tests) in
-    let large : (nat_lt max_file (length (opl_text (hist.pending_of h))) || nat_lt max_file (length (o5c_text (hist.pending_of h)))) ≡ false = or_from (nat_lt max_file (length (opl_text (hist.pending_of h)))) (nat_lt max_file (length (o5c_text (hist.pending_of h)))) (grind (arith, nat_tests)) (grind (arith, nat_tests)) in
+    let large : (nat_lt max_file (length (opl_text (hist.pending_of h))) || nat_lt max_file
+    (length (o5c_text (hist.pending_of h)))) ≡ false =
+    or_from (nat_lt max_file (length (opl_text (hist.pending_of h))))
+    (nat_lt max_file (length (o5c_text (hist.pending_of h)))) (grind (arith, nat_tests))
+    (grind (arith, nat_tests)) in
     rw (full, early, large, a.2) refl
 close_is_due h t WantOfMemory a ok = cc
 close_is_due h t r a ok = absurd a
@@ -74,7 +82,8 @@ close_is_due h t r a ok = absurd a
 published : (h : hist.History) (k : ℕ) → 0 < k → k ≤ length (hist.published_of h) → is_unpublished h k ≡ false
 published h k above there = or_from (k == 0) (nat_lt (length (hist.published_of h)) k) (ne_eqb k 0 (λ e. omega arith)) (grind (arith, nat_tests))
 
-pub delivery_is_due : (h : hist.History) (k n high : ℕ) (r : Reply) → IsNumber h n → Reaches (hist.accepted_of h) k high → AllowedDeliver h k r → is_want_of_memory r ≡ false → r ≡ due_delivery h k n high
+pub delivery_is_due : (h : hist.History) (k n high : ℕ) (r : Reply) → IsNumber h n → Reaches (hist.accepted_of h) k high
+    → AllowedDeliver h k r → is_want_of_memory r ≡ false → r ≡ due_delivery h k n high
 delivery_is_due h k n high NotPublished number reach a ok =
     let out : is_unpublished h k ≡ true = elim a [
       | inl none ↦ or_left (k == 0) (nat_lt (length (hist.published_of h)) k) (eq-eqb k 0 none)
@@ -156,7 +165,9 @@ one_show h Broken (Shown w) a b p o = absurd (broken_apart (hist.is_broken h) a 
 one_show h Broken WantOfMemory a b p o = cc
 one_show h Broken r a b p o = absurd b
 one_show h (Shown v) Broken a b p o = absurd (broken_apart (hist.is_broken h) b a.0)
-one_show h (Shown v) (Shown w) a b p o = ap (λ (x : ViewValue). Shown x) (one_view (hist.published_of h) (hist.start_of h) (hist.accepted_of h) (hist.accepted_of h) v w (λ j. refl) a.1 b.1)
+one_show h (Shown v) (Shown w) a b p o =
+    ap (λ (x : ViewValue). Shown x) (one_view (hist.published_of h) (hist.start_of h) (hist.accepted_of h)
+    (hist.accepted_of h) v w (λ j. refl) a.1 b.1)
 one_show h (Shown v) WantOfMemory a b p o = cc
 one_show h (Shown v) r a b p o = absurd b
 one_show h WantOfMemory r a b p o = cc
@@ -181,7 +192,9 @@ accepts_within e r j above = refl
 accepted_within : (h : hist.History) (j : ℕ) → top_of h < j → hist.accepted_of h j ≡ false
 unfolding top_of
 accepted_within [] j above = refl
-accepted_within (p ∷ h) j above = by_test (hist.restarts p.0 p.1) (or_from (hist.accepts p.0 p.1 j) (hist.accepted_of h j) (accepts_within p.0 p.1 j (omega arith)) (accepted_within h j (omega arith)))
+accepted_within (p ∷ h) j above =
+    by_test (hist.restarts p.0 p.1) (or_from (hist.accepts p.0 p.1 j) (hist.accepted_of h j)
+    (accepts_within p.0 p.1 j (omega arith)) (accepted_within h j (omega arith)))
   where
     by_test : (b : Bool) {a : Bool} → a ≡ false → (if b then false else a) ≡ false
     by_test true e = refl

@@ -1,5 +1,6 @@
 -- What a legal history has reported as applied.
-use Rattle.std.proofs.Common.{◌≡◌, ℕ, zero, suc, ◌+◌, ◌-◌, ◌<◌, [], ◌∷◌, ◌++◌, length, get_or, refl, ap, sym, ◌∙◌, Bool, true, false, arith, append-nil, length-append, inl, inr, subst}
+use Rattle.std.proofs.Common.{◌≡◌, ℕ, zero, suc, ◌+◌, ◌-◌, ◌<◌, [], ◌∷◌, ◌++◌, length, get_or, refl, ap, sym, ◌∙◌, Bool}
+use Rattle.std.proofs.Common.{true, false, arith, append-nil, length-append, inl, inr, subst}
 use Rattle.std.specs.Prelude.{◌==◌, ◌||◌}
 use Rattle.std.proofs.lemmas.Bool.{cases_lt}
 use Rattle.std.proofs.lemmas.List.{get_or_append_left, get_or-append-add}
@@ -13,7 +14,9 @@ use Rattle.osm_world.specs.declared.event.Event.{Event}
 use Rattle.osm_world.specs.declared.event.Event.TheVariants.{Edit, Close, Deliver, Show, Save, Restart}
 use Rattle.osm_world.specs.declared.event.Form.{Form}
 use Rattle.osm_world.specs.declared.event.Reply.{Reply}
-use Rattle.osm_world.specs.declared.event.Reply.TheVariants.{Edited, BatchFull, WantOfMemory, Closed, SequenceFull, TimeBack, TooLarge, NotPublished, Broken, Old, Again, TooEarly, Held, Applied, Broke, Shown, Saved, Restarted}
+use Rattle.osm_world.specs.declared.event.Reply.TheVariants.{Edited, BatchFull, WantOfMemory, Closed, SequenceFull}
+use Rattle.osm_world.specs.declared.event.Reply.TheVariants.{TimeBack, TooLarge, NotPublished, Broken, Old, Again}
+use Rattle.osm_world.specs.declared.event.Reply.TheVariants.{TooEarly, Held, Applied, Broke, Shown, Saved, Restarted}
 
 pub length-numbers : (n count : ℕ) → length (numbers n count) ≡ count
 length-numbers n zero = refl
@@ -27,7 +30,9 @@ get_or-numbers n (suc count) i below =
       | inl before ↦ get_or_append_left (numbers n count) ((n + suc count) ∷ []) 0 i (omega arith) ∙ get_or-numbers n count i before
       | inr after ↦ (
           let index : i ≡ length (numbers n count) + 0 = omega arith in
-          let last : get_or (numbers n count ++ (n + suc count) ∷ []) i 0 ≡ n + suc count = ap (λ (j : ℕ). get_or (numbers n count ++ (n + suc count) ∷ []) j 0) index ∙ get_or-append-add (numbers n count) ((n + suc count) ∷ []) 0 0 in
+          let last : get_or (numbers n count ++ (n + suc count) ∷ []) i 0 ≡ n + suc count =
+          ap (λ (j : ℕ). get_or (numbers n count ++ (n + suc count) ∷ []) j 0) index
+          ∙ get_or-append-add (numbers n count) ((n + suc count) ∷ []) 0 0 in
           last ∙ omega arith)
     ]
 
@@ -41,17 +46,25 @@ record IsSilent (h : hist.History) (e : Event) (r : Reply) : Type 0 where
   accepted : hist.accepted_of ((e, r) ∷ h) ≡ hist.accepted_of h
   reported : hist.reported_of ((e, r) ∷ h) ≡ hist.reported_of h ++ []
 
-silent : (h : hist.History) (e : Event) (r : Reply) → hist.start_of ((e, r) ∷ h) ≡ hist.start_of h → hist.is_broken ((e, r) ∷ h) ≡ hist.is_broken h → hist.accepted_of ((e, r) ∷ h) ≡ hist.accepted_of h → hist.reported_of ((e, r) ∷ h) ≡ hist.reported_of h ++ [] → IsSilent h e r
+silent : (h : hist.History) (e : Event) (r : Reply) → hist.start_of ((e, r) ∷ h) ≡ hist.start_of h
+    → hist.is_broken ((e, r) ∷ h) ≡ hist.is_broken h → hist.accepted_of ((e, r) ∷ h) ≡ hist.accepted_of h
+    → hist.reported_of ((e, r) ∷ h) ≡ hist.reported_of h ++ [] → IsSilent h e r
 silent h e r a b c d = record { start = a; broken = b; accepted = c; reported = d }
 
-quiet_reports : (h : hist.History) (e : Event) (r : Reply) (n : ℕ) → IsSilent h e r → (hist.is_broken h ≡ false → IsNumber h n → IsReported (hist.reported_of h) (hist.start_of h) n) → hist.is_broken ((e, r) ∷ h) ≡ false → IsNumber ((e, r) ∷ h) n → IsReported (hist.reported_of ((e, r) ∷ h)) (hist.start_of ((e, r) ∷ h)) n
+quiet_reports : (h : hist.History) (e : Event) (r : Reply) (n : ℕ) → IsSilent h e r
+    → (hist.is_broken h ≡ false → IsNumber h n → IsReported (hist.reported_of h) (hist.start_of h) n)
+    → hist.is_broken ((e, r) ∷ h) ≡ false → IsNumber ((e, r) ∷ h) n → IsReported (hist.reported_of ((e, r) ∷ h))
+    (hist.start_of ((e, r) ∷ h)) n
 quiet_reports h e r n q before ok number =
     let from : Reaches (hist.accepted_of ((e, r) ∷ h)) (hist.start_of h) n = subst (λ (m : ℕ). Reaches (hist.accepted_of ((e, r) ∷ h)) m n) q.start number in
     let at : IsNumber h n = subst (λ (acc : ℕ → Bool). Reaches acc (hist.start_of h) n) q.accepted from in
     rw (q.start, q.reported, append-nil) (before (sym q.broken ∙ ok) at)
 
 -- a pair that reports the next sequences
-applied_reports : (h : hist.History) (k low high n : ℕ) (form : Form) → Allowed h (Deliver k form) (Applied low high) → ((m : ℕ) → hist.is_broken h ≡ false → IsNumber h m → IsReported (hist.reported_of h) (hist.start_of h) m) → IsNumber ((Deliver k form, Applied low high) ∷ h) n → IsReported (hist.reported_of ((Deliver k form, Applied low high) ∷ h)) (hist.start_of h) n
+applied_reports : (h : hist.History) (k low high n : ℕ) (form : Form) → Allowed h (Deliver k form) (Applied low high)
+    → ((m : ℕ) → hist.is_broken h ≡ false → IsNumber h m → IsReported (hist.reported_of h) (hist.start_of h) m)
+    → IsNumber ((Deliver k form, Applied low high) ∷ h) n
+    → IsReported (hist.reported_of ((Deliver k form, Applied low high) ∷ h)) (hist.start_of h) n
 applied_reports h k low high n form allowed before number =
     let m : ℕ = allowed.0 in
     let next : k ≡ m + 1 = allowed.2 in
@@ -62,7 +75,8 @@ applied_reports h k low high n form allowed before number =
     let start = here.from in
     let p : IsReported (hist.reported_of h) (hist.start_of h) m = before m allowed.1.is_open.whole here in
     let number_is : m ≡ hist.start_of h + p.count = p.number_is in
-    let reaches : Reaches (λ j. (k == j) || hist.accepted_of h j) (hist.start_of h) high = reaches_with_next (hist.accepted_of h) (hist.start_of h) m k high here next reach in
+    let reaches : Reaches (λ j. (k == j) || hist.accepted_of h j) (hist.start_of h) high =
+    reaches_with_next (hist.accepted_of h) (hist.start_of h) m k high here next reach in
     let is : n ≡ high = one_reach (λ j. (k == j) || hist.accepted_of h j) (hist.start_of h) n high number reaches in
     let count : ℕ = high + 1 - low in
     let first : low - 1 ≡ hist.start_of h + p.count = omega arith in
@@ -73,11 +87,15 @@ applied_reports h k low high n form allowed before number =
     }
 
 -- a pair that holds a sequence reports nothing, and leaves the number
-held_reports : (h : hist.History) (k n : ℕ) (form : Form) → Allowed h (Deliver k form) Held → ((m : ℕ) → hist.is_broken h ≡ false → IsNumber h m → IsReported (hist.reported_of h) (hist.start_of h) m) → IsNumber ((Deliver k form, Held) ∷ h) n → IsReported (hist.reported_of ((Deliver k form, Held) ∷ h)) (hist.start_of h) n
+held_reports : (h : hist.History) (k n : ℕ) (form : Form) → Allowed h (Deliver k form) Held
+    → ((m : ℕ) → hist.is_broken h ≡ false → IsNumber h m → IsReported (hist.reported_of h) (hist.start_of h) m)
+    → IsNumber ((Deliver k form, Held) ∷ h) n → IsReported (hist.reported_of ((Deliver k form, Held) ∷ h))
+    (hist.start_of h) n
 held_reports h k n form allowed before number =
     let m : ℕ = allowed.0 in
     let here : IsNumber h m = allowed.1.is_open.number in
-    let reaches : Reaches (λ j. (k == j) || hist.accepted_of h j) (hist.start_of h) m = reaches_with_later (hist.accepted_of h) (hist.start_of h) m k here allowed.2 in
+    let reaches : Reaches (λ j. (k == j) || hist.accepted_of h j) (hist.start_of h) m =
+    reaches_with_later (hist.accepted_of h) (hist.start_of h) m k here allowed.2 in
     let is : n ≡ m = one_reach (λ j. (k == j) || hist.accepted_of h j) (hist.start_of h) n m number reaches in
     rw (is, append-nil) (before m allowed.1.is_open.whole here)
 
@@ -93,23 +111,38 @@ reported_is [] n legal ok number = none_reported 0 n number
 reported_is (p ∷ h) n legal ok number =
     by_pair p.0 p.1 (legal.each [] h p.0 p.1 refl) (λ m whole at. reported_is h m (legal_before h p.0 p.1 legal) whole at) ok number
   where
-    by_pair : (e : Event) (r : Reply) → Allowed h e r → ((m : ℕ) → hist.is_broken h ≡ false → IsNumber h m → IsReported (hist.reported_of h) (hist.start_of h) m) → hist.is_broken ((e, r) ∷ h) ≡ false → IsNumber ((e, r) ∷ h) n → IsReported (hist.reported_of ((e, r) ∷ h)) (hist.start_of ((e, r) ∷ h)) n
+    by_pair : (e : Event) (r : Reply) → Allowed h e r → ((m : ℕ) → hist.is_broken h ≡ false → IsNumber h m
+        → IsReported (hist.reported_of h) (hist.start_of h) m) → hist.is_broken ((e, r) ∷ h) ≡ false
+        → IsNumber ((e, r) ∷ h) n → IsReported (hist.reported_of ((e, r) ∷ h)) (hist.start_of ((e, r) ∷ h)) n
     by_pair (Edit c) Edited allowed before whole at = quiet_reports h (Edit c) Edited n (silent h (Edit c) Edited refl refl refl refl) (before n) whole at
-    by_pair (Edit c) BatchFull allowed before whole at = quiet_reports h (Edit c) BatchFull n (silent h (Edit c) BatchFull refl refl refl refl) (before n) whole at
-    by_pair (Edit c) WantOfMemory allowed before whole at = quiet_reports h (Edit c) WantOfMemory n (silent h (Edit c) WantOfMemory refl refl refl refl) (before n) whole at
+    by_pair (Edit c) BatchFull allowed before whole at =
+        quiet_reports h (Edit c) BatchFull n (silent h (Edit c) BatchFull refl refl refl refl) (before n) whole at
+    by_pair (Edit c) WantOfMemory allowed before whole at =
+        quiet_reports h (Edit c) WantOfMemory n (silent h (Edit c) WantOfMemory refl refl refl refl) (before n) whole at
     by_pair (Edit c) r allowed before whole at = absurd allowed
-    by_pair (Close t) (Closed m) allowed before whole at = quiet_reports h (Close t) (Closed m) n (silent h (Close t) (Closed m) refl refl refl refl) (before n) whole at
-    by_pair (Close t) SequenceFull allowed before whole at = quiet_reports h (Close t) SequenceFull n (silent h (Close t) SequenceFull refl refl refl refl) (before n) whole at
-    by_pair (Close t) TimeBack allowed before whole at = quiet_reports h (Close t) TimeBack n (silent h (Close t) TimeBack refl refl refl refl) (before n) whole at
-    by_pair (Close t) TooLarge allowed before whole at = quiet_reports h (Close t) TooLarge n (silent h (Close t) TooLarge refl refl refl refl) (before n) whole at
-    by_pair (Close t) WantOfMemory allowed before whole at = quiet_reports h (Close t) WantOfMemory n (silent h (Close t) WantOfMemory refl refl refl refl) (before n) whole at
+    by_pair (Close t) (Closed m) allowed before whole at =
+        quiet_reports h (Close t) (Closed m) n (silent h (Close t) (Closed m) refl refl refl refl) (before n) whole at
+    by_pair (Close t) SequenceFull allowed before whole at = quiet_reports h (Close t) SequenceFull n
+        (silent h (Close t) SequenceFull refl refl refl refl) (before n) whole at
+    by_pair (Close t) TimeBack allowed before whole at =
+        quiet_reports h (Close t) TimeBack n (silent h (Close t) TimeBack refl refl refl refl) (before n) whole at
+    by_pair (Close t) TooLarge allowed before whole at =
+        quiet_reports h (Close t) TooLarge n (silent h (Close t) TooLarge refl refl refl refl) (before n) whole at
+    by_pair (Close t) WantOfMemory allowed before whole at = quiet_reports h (Close t) WantOfMemory n
+        (silent h (Close t) WantOfMemory refl refl refl refl) (before n) whole at
     by_pair (Close t) r allowed before whole at = absurd allowed
-    by_pair (Deliver k form) NotPublished allowed before whole at = quiet_reports h (Deliver k form) NotPublished n (silent h (Deliver k form) NotPublished refl refl refl refl) (before n) whole at
-    by_pair (Deliver k form) Broken allowed before whole at = quiet_reports h (Deliver k form) Broken n (silent h (Deliver k form) Broken refl refl refl refl) (before n) whole at
-    by_pair (Deliver k form) Old allowed before whole at = quiet_reports h (Deliver k form) Old n (silent h (Deliver k form) Old refl refl refl refl) (before n) whole at
-    by_pair (Deliver k form) Again allowed before whole at = quiet_reports h (Deliver k form) Again n (silent h (Deliver k form) Again refl refl refl refl) (before n) whole at
-    by_pair (Deliver k form) TooEarly allowed before whole at = quiet_reports h (Deliver k form) TooEarly n (silent h (Deliver k form) TooEarly refl refl refl refl) (before n) whole at
-    by_pair (Deliver k form) WantOfMemory allowed before whole at = quiet_reports h (Deliver k form) WantOfMemory n (silent h (Deliver k form) WantOfMemory refl refl refl refl) (before n) whole at
+    by_pair (Deliver k form) NotPublished allowed before whole at = quiet_reports h (Deliver k form) NotPublished n
+        (silent h (Deliver k form) NotPublished refl refl refl refl) (before n) whole at
+    by_pair (Deliver k form) Broken allowed before whole at = quiet_reports h (Deliver k form) Broken n
+        (silent h (Deliver k form) Broken refl refl refl refl) (before n) whole at
+    by_pair (Deliver k form) Old allowed before whole at =
+        quiet_reports h (Deliver k form) Old n (silent h (Deliver k form) Old refl refl refl refl) (before n) whole at
+    by_pair (Deliver k form) Again allowed before whole at = quiet_reports h (Deliver k form) Again n
+        (silent h (Deliver k form) Again refl refl refl refl) (before n) whole at
+    by_pair (Deliver k form) TooEarly allowed before whole at = quiet_reports h (Deliver k form) TooEarly n
+        (silent h (Deliver k form) TooEarly refl refl refl refl) (before n) whole at
+    by_pair (Deliver k form) WantOfMemory allowed before whole at = quiet_reports h (Deliver k form) WantOfMemory n
+        (silent h (Deliver k form) WantOfMemory refl refl refl refl) (before n) whole at
     by_pair (Deliver k form) Held allowed before whole at = held_reports h k n form allowed before at
     by_pair (Deliver k form) (Applied low high) allowed before whole at = applied_reports h k low high n form allowed before at
     by_pair (Deliver k form) Broke allowed before whole at = cc

@@ -20,7 +20,9 @@ use Rattle.osm_world.proofs.LegalLemmas.{legal_none, legal_more, step_allowed}
 use Rattle.osm_world.proofs.StepLemmas.{AreLawful, OneSave, history_of-snoc, step_keeps, new_in_step}
 
 -- the laws of the forms and of state texts, collected
-pub lawful : ((cs : List ChangeValue) → IsBatch cs → SpellsOpl (opl_text cs) cs) → OneBatch SpellsOpl → ((cs : List ChangeValue) → IsBatch cs → SpellsO5c (o5c_text cs) cs) → OneBatch SpellsO5c → NoFaultBeside → AreLawful
+pub lawful : ((cs : List ChangeValue) → IsBatch cs → SpellsOpl (opl_text cs) cs) → OneBatch SpellsOpl
+    → ((cs : List ChangeValue) → IsBatch cs → SpellsO5c (o5c_text cs) cs) → OneBatch SpellsO5c → NoFaultBeside
+    → AreLawful
 lawful opl one_opl o5c one_o5c apart = record { spelled = spelled; one = one; apart = apart }
   where
     spelled : (form : Form) (p : PublishedValue) → IsBatch p.changes → spells_in form (bytes_in form (written_of p)) p.changes
@@ -34,9 +36,12 @@ lawful opl one_opl o5c one_o5c apart = record { spelled = spelled; one = one; ap
 pub run_none : IsRun [] [] new_world
 run_none = record { one_each = refl; legal = legal_none; in_step = new_in_step }
 
-pub run_more : AreLawful → OneSave → (events : List Event) (replies : List Reply) (w : WorldValue) (e : Event) (r : Reply) (v : WorldValue) → IsRun events replies w → Step w e r v → IsRun (events ++ e ∷ []) (replies ++ r ∷ []) v
+pub run_more : AreLawful → OneSave → (events : List Event) (replies : List Reply) (w : WorldValue) (e : Event)
+    (r : Reply) (v : WorldValue) → IsRun events replies w → Step w e r v
+    → IsRun (events ++ e ∷ []) (replies ++ r ∷ []) v
 run_more laws one events replies w e r v run step = record {
   one_each = (let each = run.one_each in omega (arith, length-append events (e ∷ []), length-append replies (r ∷ [])));
-  legal = rw (history_of-snoc events replies e r run.one_each) (legal_more (history_of events replies) e r run.legal (step_allowed laws one (history_of events replies) e r w v run.in_step step));
+  legal = rw (history_of-snoc events replies e r run.one_each) (legal_more (history_of events replies) e r run.legal
+      (step_allowed laws one (history_of events replies) e r w v run.in_step step));
   in_step = rw (history_of-snoc events replies e r run.one_each) (step_keeps laws one (history_of events replies) e r w v run.in_step step);
 }

@@ -1,5 +1,6 @@
 -- A step keeps a world in step with its history.
-use Rattle.std.proofs.Common.{◌≡◌, ℕ, ◌+◌, ◌-◌, ◌<◌, ◌≤◌, List, [], ◌∷◌, ◌++◌, length, refl, ap, sym, ◌∙◌, Bool, true, false, arith, Some, None, Option, append-nil, length-append, subst}
+use Rattle.std.proofs.Common.{◌≡◌, ℕ, ◌+◌, ◌-◌, ◌<◌, ◌≤◌, List, [], ◌∷◌, ◌++◌, length, refl, ap, sym, ◌∙◌, Bool, true}
+use Rattle.std.proofs.Common.{false, arith, Some, None, Option, append-nil, length-append, subst}
 use Rattle.std.specs.Prelude.{◌==◌, if◌then◌else◌, ◌||◌, Result, Ok, Err, is_some, unwrap_or}
 use Rattle.std.specs.List.{zip}
 use Rattle.std.proofs.lemmas.List.{reverse-append, map-append}
@@ -30,7 +31,9 @@ use Rattle.osm_world.specs.declared.event.Event.{Event}
 use Rattle.osm_world.specs.declared.event.Event.TheVariants.{Edit, Close, Deliver, Show, Save, Restart}
 use Rattle.osm_world.specs.declared.event.Form.{Form}
 use Rattle.osm_world.specs.declared.event.Reply.{Reply}
-use Rattle.osm_world.specs.declared.event.Reply.TheVariants.{Edited, BatchFull, WantOfMemory, Closed, SequenceFull, TimeBack, TooLarge, NotPublished, Broken, Old, Again, TooEarly, Held, Applied, Broke, Shown, Saved, Restarted}
+use Rattle.osm_world.specs.declared.event.Reply.TheVariants.{Edited, BatchFull, WantOfMemory, Closed, SequenceFull}
+use Rattle.osm_world.specs.declared.event.Reply.TheVariants.{TimeBack, TooLarge, NotPublished, Broken, Old, Again}
+use Rattle.osm_world.specs.declared.event.Reply.TheVariants.{TooEarly, Held, Applied, Broke, Shown, Saved, Restarted}
 use Rattle.osm_follow.proofs.DeliveryLemmas.{OneBatch, NoFaultBeside, FollowerStep, read_as, state_of}
 use Rattle.osm_follow.proofs.FollowLemmas.{follows_grown, state_held, state_taken}
 use Rattle.osm_follow.proofs.ReachLemmas.{between-append}
@@ -44,7 +47,8 @@ zip-snoc [] (q ∷ rs) e r h = absurd (omega arith)
 zip-snoc (d ∷ es) [] e r h = absurd (omega arith)
 zip-snoc (d ∷ es) (q ∷ rs) e r h = ap (λ x. (d, q) ∷ x) (zip-snoc es rs e r (omega arith))
 
-pub history_of-snoc : (es : List Event) (rs : List Reply) (e : Event) (r : Reply) → length rs ≡ length es → hist.history_of (es ++ e ∷ []) (rs ++ r ∷ []) ≡ (e, r) ∷ hist.history_of es rs
+pub history_of-snoc : (es : List Event) (rs : List Reply) (e : Event) (r : Reply) → length rs ≡ length es
+    → hist.history_of (es ++ e ∷ []) (rs ++ r ∷ []) ≡ (e, r) ∷ hist.history_of es rs
 history_of-snoc es rs e r h = rw (zip-snoc es rs e r h) (reverse-append (zip es rs) ((e, r) ∷ []))
 
 -- what a pair leaves as it was
@@ -87,7 +91,9 @@ state_grown ps more start acc f s = record {
       (s.follows.held j (sequence_at ps j) (s.held j past ∙ ap (λ b. if b then Some (sequence_at ps j) else None) t)).2);
 }
 
-edited_keeps : (h : hist.History) (c : ChangeValue) (a b : WorldValue) → IsInStep h a → IsBatch b.publisher.pending → b ≡ record a { publisher = record a.publisher { pending = a.publisher.pending ++ c ∷ [] } } → IsInStep ((Edit c, Edited) ∷ h) b
+edited_keeps : (h : hist.History) (c : ChangeValue) (a b : WorldValue) → IsInStep h a → IsBatch b.publisher.pending
+    → b ≡ record a { publisher = record a.publisher { pending = a.publisher.pending ++ c ∷ [] } }
+    → IsInStep ((Edit c, Edited) ∷ h) b
 edited_keeps h c a b s batch t =
     let pending : a.publisher.pending ≡ hist.pending_of h = ap (λ (p : PublisherValue). p.pending) s.publisher in
     let grown : b.publisher.pending ≡ hist.pending_of h ++ c ∷ [] = ap (λ (w : WorldValue). w.publisher.pending) t ∙ ap (λ cs. cs ++ c ∷ []) pending in
@@ -120,7 +126,9 @@ save_grown ps more (Some n) (Some bytes) s = record {
 empty_batch : IsBatch []
 empty_batch = record { few = omega arith; each = tt }
 
-closed_keeps : (h : hist.History) (t n : ℕ) (a b : WorldValue) → IsInStep h a → CanClose a.publisher t → IsPositive t → b ≡ record a { publisher = closed a.publisher t; archive = a.archive ++ written_of (closing a.publisher t) ∷ [] } → IsInStep ((Close t, Closed n) ∷ h) b
+closed_keeps : (h : hist.History) (t n : ℕ) (a b : WorldValue) → IsInStep h a → CanClose a.publisher t → IsPositive t
+    → b ≡ record a { publisher = closed a.publisher t; archive = a.archive ++ written_of (closing a.publisher t) ∷ [] }
+    → IsInStep ((Close t, Closed n) ∷ h) b
 closed_keeps h t n a b s can positive is =
     let p : PublishedValue = record { number = length (hist.published_of h) + 1; changes = hist.pending_of h; time = t } in
     let many : length (hist.published_of h ++ p ∷ []) ≡ length (hist.published_of h) + 1 = length-append (hist.published_of h) (p ∷ []) in
@@ -139,7 +147,8 @@ closed_keeps h t n a b s can positive is =
     })
 
 -- the numbers from the next up to high were reported too
-reported_more : (reported : List ℕ) (start n k low high count : ℕ) → k ≡ n + 1 → low ≡ k → high ≡ k + count → IsReported reported start n → IsReported (reported ++ numbers (low - 1) (high + 1 - low)) start high
+reported_more : (reported : List ℕ) (start n k low high count : ℕ) → k ≡ n + 1 → low ≡ k → high ≡ k + count
+    → IsReported reported start n → IsReported (reported ++ numbers (low - 1) (high + 1 - low)) start high
 reported_more reported start n k low high count next low_is high_is p =
     let is = p.number_is in
     let many : high + 1 - low ≡ count + 1 = omega arith in
@@ -157,12 +166,17 @@ pub record AreLawful : Type 0 where
   pub apart : NoFaultBeside
 
 -- the sequence that is delivered is the one that was published
-pub published_at : (h : hist.History) (a : WorldValue) (k : ℕ) → IsInStep h a → 0 < k → k ≤ a.publisher.number → IsSequence k (sequence_at (hist.published_of h) k)
+pub published_at : (h : hist.History) (a : WorldValue) (k : ℕ) → IsInStep h a → 0 < k → k ≤ a.publisher.number
+    → IsSequence k (sequence_at (hist.published_of h) k)
 published_at h a k s above there =
     let number : a.publisher.number ≡ length (hist.published_of h) = ap (λ (q : PublisherValue). q.number) s.publisher in
     s.sequences k above (omega arith)
 
-pub delivered_as : AreLawful → (h : hist.History) (a b : WorldValue) (k : ℕ) (form : Form) (answer : Result Delivered DeliverError) → IsInStep h a → 0 < k → k ≤ a.publisher.number → table.Delivers (spells_in form) (fault_in form) a.follower (texts_at a.archive k).state (bytes_in form (texts_at a.archive k)) answer b.follower → FollowerStep a.follower (sequence_at (hist.published_of h) k) answer b.follower
+pub delivered_as : AreLawful → (h : hist.History) (a b : WorldValue) (k : ℕ) (form : Form)
+    (answer : Result Delivered DeliverError) → IsInStep h a → 0 < k → k ≤ a.publisher.number
+    → table.Delivers (spells_in form) (fault_in form) a.follower (texts_at a.archive k).state
+    (bytes_in form (texts_at a.archive k)) answer b.follower
+    → FollowerStep a.follower (sequence_at (hist.published_of h) k) answer b.follower
 delivered_as laws h a b k form answer s above there d =
     let number : a.publisher.number ≡ length (hist.published_of h) = ap (λ (q : PublisherValue). q.number) s.publisher in
     let p : PublishedValue = sequence_at (hist.published_of h) k in
@@ -173,9 +187,11 @@ delivered_as laws h a b k form answer s above there d =
     let named : StateOf (written_of p).state (state_of p) = written_is_read (state_of p) (record { sequence = omega arith; time = is.time }) in
     let read : table.Delivers (spells_in form) (fault_in form) a.follower (written_of p).state (bytes_in form (written_of p)) answer b.follower =
     subst (λ (x : PublishedTexts). table.Delivers (spells_in form) (fault_in form) a.follower x.state (bytes_in form x) answer b.follower) texts d in
-    read_as (spells_in form) (fault_in form) (laws.one form) laws.apart a.follower b.follower (written_of p).state (bytes_in form (written_of p)) p (omega arith) named (laws.spelled form p is.changes) answer read
+    read_as (spells_in form) (fault_in form) (laws.one form) laws.apart a.follower b.follower (written_of p).state
+    (bytes_in form (written_of p)) p (omega arith) named (laws.spelled form p is.changes) answer read
 
-held_keeps : AreLawful → (h : hist.History) (k : ℕ) (form : Form) (a b : WorldValue) → IsInStep h a → DeliversTo a k form Held b → IsInStep ((Deliver k form, Held) ∷ h) b
+held_keeps : AreLawful → (h : hist.History) (k : ℕ) (form : Form) (a b : WorldValue) → IsInStep h a
+    → DeliversTo a k form Held b → IsInStep ((Deliver k form, Held) ∷ h) b
 held_keeps laws h k form a b s t =
     let p : PublishedValue = sequence_at (hist.published_of h) k in
     let published : a.publisher.number ≡ length (hist.published_of h) = ap (λ (q : PublisherValue). q.number) s.publisher in
@@ -194,17 +210,21 @@ held_keeps laws h k form a b s t =
       batch = rw append-nil s.batch;
       saved = s.saved;
       broken = same ∙ s.broken;
-      state = λ ok. state_held (hist.published_of h) (hist.start_of h) (hist.accepted_of h) (λ j. (k == j) || hist.accepted_of h j) k a.follower b.follower (s.state ok) (λ j. refl) later within there number_is step.2;
+      state = λ ok. state_held (hist.published_of h) (hist.start_of h) (hist.accepted_of h)
+          (λ j. (k == j) || hist.accepted_of h j) k a.follower b.follower (s.state ok) (λ j. refl) later within there
+          number_is step.2;
       reported = λ ok. rw (number, append-nil) (s.reported ok);
     })
 
-applied_keeps : AreLawful → (h : hist.History) (k low high : ℕ) (form : Form) (a b : WorldValue) → IsInStep h a → DeliversTo a k form (Applied low high) b → IsInStep ((Deliver k form, Applied low high) ∷ h) b
+applied_keeps : AreLawful → (h : hist.History) (k low high : ℕ) (form : Form) (a b : WorldValue) → IsInStep h a
+    → DeliversTo a k form (Applied low high) b → IsInStep ((Deliver k form, Applied low high) ∷ h) b
 applied_keeps laws h k low high form a b s t =
     let p : PublishedValue = sequence_at (hist.published_of h) k in
     let published : a.publisher.number ≡ length (hist.published_of h) = ap (λ (q : PublisherValue). q.number) s.publisher in
     let is : IsSequence k p = published_at h a k s t.above t.there in
     let number_is : p.number ≡ k = is.number_is in
-    let step : FollowerStep a.follower p (Ok (answers.Applied low high)) b.follower = delivered_as laws h a b k form (Ok (answers.Applied low high)) s t.above t.there t.replies in
+    let step : FollowerStep a.follower p (Ok (answers.Applied low high)) b.follower =
+    delivered_as laws h a b k form (Ok (answers.Applied low high)) s t.above t.there t.replies in
     let same : b.follower.is_broken ≡ a.follower.is_broken = step.3.whole ∙ sym step.0.whole in
     let number : b.follower.number ≡ high = step.3.number in
     let next : k ≡ a.follower.number + 1 = sym number_is ∙ step.1 in
@@ -218,13 +238,18 @@ applied_keeps laws h k low high form a b s t =
       batch = rw append-nil s.batch;
       saved = s.saved;
       broken = same ∙ s.broken;
-      state = λ ok. state_taken (hist.published_of h) (hist.start_of h) (hist.accepted_of h) (λ j. (k == j) || hist.accepted_of h j) k high a.follower b.follower (s.state ok) (λ j. refl) next there number_is step.3;
-      reported = λ ok. rw number (reported_more (hist.reported_of h) (hist.start_of h) a.follower.number k low high step.3.count next low_is high_is (s.reported ok));
+      state = λ ok. state_taken (hist.published_of h) (hist.start_of h) (hist.accepted_of h)
+          (λ j. (k == j) || hist.accepted_of h j) k high a.follower b.follower (s.state ok) (λ j. refl) next there
+          number_is step.3;
+      reported = λ ok. rw number (reported_more (hist.reported_of h) (hist.start_of h) a.follower.number k low high
+          step.3.count next low_is high_is (s.reported ok));
     })
 
-broke_keeps : AreLawful → (h : hist.History) (k : ℕ) (form : Form) (a b : WorldValue) → IsInStep h a → DeliversTo a k form Broke b → IsInStep ((Deliver k form, Broke) ∷ h) b
+broke_keeps : AreLawful → (h : hist.History) (k : ℕ) (form : Form) (a b : WorldValue) → IsInStep h a
+    → DeliversTo a k form Broke b → IsInStep ((Deliver k form, Broke) ∷ h) b
 broke_keeps laws h k form a b s t =
-    let step : FollowerStep a.follower (sequence_at (hist.published_of h) k) (Err errors.Broke) b.follower = delivered_as laws h a b k form (Err errors.Broke) s t.above t.there t.replies in
+    let step : FollowerStep a.follower (sequence_at (hist.published_of h) k) (Err errors.Broke) b.follower =
+    delivered_as laws h a b k form (Err errors.Broke) s t.above t.there t.replies in
     rw t.rest (record {
       publisher = rw append-nil s.publisher;
       archive = s.archive;
@@ -236,7 +261,10 @@ broke_keeps laws h k form a b s t =
       reported = λ ok. cc;
     })
 
-still : (h : hist.History) (e : Event) (r : Reply) → hist.edit_of e r ≡ [] → hist.closes e r ≡ false → hist.last_saved ((e, r) ∷ h) ≡ hist.last_saved h → hist.start_of ((e, r) ∷ h) ≡ hist.start_of h → hist.is_broken ((e, r) ∷ h) ≡ hist.is_broken h → hist.accepted_of ((e, r) ∷ h) ≡ hist.accepted_of h → hist.reported_of ((e, r) ∷ h) ≡ hist.reported_of h ++ [] → IsQuiet h e r
+still : (h : hist.History) (e : Event) (r : Reply) → hist.edit_of e r ≡ [] → hist.closes e r ≡ false
+    → hist.last_saved ((e, r) ∷ h) ≡ hist.last_saved h → hist.start_of ((e, r) ∷ h) ≡ hist.start_of h
+    → hist.is_broken ((e, r) ∷ h) ≡ hist.is_broken h → hist.accepted_of ((e, r) ∷ h) ≡ hist.accepted_of h
+    → hist.reported_of ((e, r) ∷ h) ≡ hist.reported_of h ++ [] → IsQuiet h e r
 still h e r a b c d f g i = record { edit = a; closed = b; saved = c; start = d; broken = f; accepted = g; reported = i }
 
 -- a save text is that of one value
@@ -286,7 +314,8 @@ starts_new ps = record {
   };
 }
 
-starts_saved : (ps : List PublishedValue) (n : ℕ) (v : SavedValue) → v.number ≡ n → n ≤ length ps → IsMirrorOf (changes_up_to ps n) v.mirror → v.time ≡ time_at ps n → StartsAt ps n (follower_of v)
+starts_saved : (ps : List PublishedValue) (n : ℕ) (v : SavedValue) → v.number ≡ n → n ≤ length ps
+    → IsMirrorOf (changes_up_to ps n) v.mirror → v.time ≡ time_at ps n → StartsAt ps n (follower_of v)
 starts_saved ps n v number within mirror time = record {
   number = number;
   whole = refl;
@@ -303,7 +332,8 @@ starts_saved ps n v number within mirror time = record {
 }
 
 -- a restart that was made starts at the number saved last
-pub restarted_as : OneSave → (ps : List PublishedValue) (number : Option ℕ) (bytes : Option (List ℕ)) (f g : FollowerValue) → IsLastSave ps number bytes → Restarts f bytes (Ok tt) g → StartsAt ps (unwrap_or number 0) g
+pub restarted_as : OneSave → (ps : List PublishedValue) (number : Option ℕ) (bytes : Option (List ℕ))
+    (f g : FollowerValue) → IsLastSave ps number bytes → Restarts f bytes (Ok tt) g → StartsAt ps (unwrap_or number 0) g
 restarted_as one ps None None f g s t = rw t (starts_new ps)
 restarted_as one ps None (Some bytes) f g s t = absurd s
 restarted_as one ps (Some n) None f g s t = absurd s
@@ -311,9 +341,11 @@ restarted_as one ps (Some n) (Some bytes) f g s t =
     let same : t.0 ≡ s.value = one bytes t.0 s.value t.1 s.spells in
     rw (t.2, same) (starts_saved ps n s.value s.number_is s.within s.mirror s.time)
 
-restarted_keeps : OneSave → (h : hist.History) (n : ℕ) (a b : WorldValue) → IsInStep h a → RestartStep a (Restarted n) b → IsInStep ((Restart, Restarted n) ∷ h) b
+restarted_keeps : OneSave → (h : hist.History) (n : ℕ) (a b : WorldValue) → IsInStep h a → RestartStep a (Restarted n) b
+    → IsInStep ((Restart, Restarted n) ∷ h) b
 restarted_keeps one h n a b s t =
-    let g : StartsAt (hist.published_of h) (hist.saved_of h) b.follower = restarted_as one (hist.published_of h) (hist.last_saved h) a.saved a.follower b.follower s.saved t.0 in
+    let g : StartsAt (hist.published_of h) (hist.saved_of h) b.follower =
+    restarted_as one (hist.published_of h) (hist.last_saved h) a.saved a.follower b.follower s.saved t.0 in
     let number : b.follower.number ≡ hist.saved_of h = g.number in
     rw t.2 (record {
       publisher = rw append-nil s.publisher;
@@ -327,7 +359,8 @@ restarted_keeps one h n a b s t =
     })
 
 -- a restart that was refused for memory had something to restart from, and leaves the follower broken
-pub refused_from : (ps : List PublishedValue) (number : Option ℕ) (bytes : Option (List ℕ)) (f g : FollowerValue) → IsLastSave ps number bytes → Restarts f bytes (Err restarts.WantOfMemory) g → is_some number ≡ true
+pub refused_from : (ps : List PublishedValue) (number : Option ℕ) (bytes : Option (List ℕ)) (f g : FollowerValue)
+    → IsLastSave ps number bytes → Restarts f bytes (Err restarts.WantOfMemory) g → is_some number ≡ true
 refused_from ps None None f g s t = absurd t
 refused_from ps None (Some bytes) f g s t = absurd s
 refused_from ps (Some n) None f g s t = absurd s
@@ -374,20 +407,34 @@ new_in_step = record {
 pub step_keeps : AreLawful → OneSave → (h : hist.History) (e : Event) (r : Reply) (a b : WorldValue) → IsInStep h a → Step a e r b → IsInStep ((e, r) ∷ h) b
 step_keeps laws one h (Edit c) Edited a b s t = edited_keeps h c a b s t.1 t.2
 step_keeps laws one h (Edit c) BatchFull a b s t = quiet_keeps h (Edit c) BatchFull a b (still h (Edit c) BatchFull refl refl refl refl refl refl refl) s t.1
-step_keeps laws one h (Edit c) WantOfMemory a b s t = quiet_keeps h (Edit c) WantOfMemory a b (still h (Edit c) WantOfMemory refl refl refl refl refl refl refl) s t.1
+step_keeps laws one h (Edit c) WantOfMemory a b s t =
+    quiet_keeps h (Edit c) WantOfMemory a b (still h (Edit c) WantOfMemory refl refl refl refl refl refl refl) s t.1
 step_keeps laws one h (Edit c) r a b s t = absurd t
 step_keeps laws one h (Close m) (Closed n) a b s t = closed_keeps h m n a b s t.0 t.1 t.4
-step_keeps laws one h (Close m) SequenceFull a b s t = quiet_keeps h (Close m) SequenceFull a b (still h (Close m) SequenceFull refl refl refl refl refl refl refl) s t.1
+step_keeps laws one h (Close m) SequenceFull a b s t = quiet_keeps h (Close m) SequenceFull a b
+    (still h (Close m) SequenceFull refl refl refl refl refl refl refl) s t.1
 step_keeps laws one h (Close m) TimeBack a b s t = quiet_keeps h (Close m) TimeBack a b (still h (Close m) TimeBack refl refl refl refl refl refl refl) s t.2
 step_keeps laws one h (Close m) TooLarge a b s t = quiet_keeps h (Close m) TooLarge a b (still h (Close m) TooLarge refl refl refl refl refl refl refl) s t.2
-step_keeps laws one h (Close m) WantOfMemory a b s t = quiet_keeps h (Close m) WantOfMemory a b (still h (Close m) WantOfMemory refl refl refl refl refl refl refl) s t.1
+step_keeps laws one h (Close m) WantOfMemory a b s t = quiet_keeps h (Close m) WantOfMemory a b
+    (still h (Close m) WantOfMemory refl refl refl refl refl refl refl) s t.1
 step_keeps laws one h (Close m) r a b s t = absurd t
-step_keeps laws one h (Deliver k form) NotPublished a b s t = quiet_keeps h (Deliver k form) NotPublished a b (still h (Deliver k form) NotPublished refl refl refl refl refl refl refl) s t.1
-step_keeps laws one h (Deliver k form) Broken a b s t = quiet_keeps h (Deliver k form) Broken a b (still h (Deliver k form) Broken refl refl refl refl refl refl refl) s (unmoved a b t.rest (delivered_as laws h a b k form (Err errors.Broken) s t.above t.there t.replies).1)
-step_keeps laws one h (Deliver k form) Old a b s t = quiet_keeps h (Deliver k form) Old a b (still h (Deliver k form) Old refl refl refl refl refl refl refl) s (unmoved a b t.rest (delivered_as laws h a b k form (Ok answers.Old) s t.above t.there t.replies).2)
-step_keeps laws one h (Deliver k form) Again a b s t = quiet_keeps h (Deliver k form) Again a b (still h (Deliver k form) Again refl refl refl refl refl refl refl) s (unmoved a b t.rest (delivered_as laws h a b k form (Ok answers.Again) s t.above t.there t.replies).3)
-step_keeps laws one h (Deliver k form) TooEarly a b s t = quiet_keeps h (Deliver k form) TooEarly a b (still h (Deliver k form) TooEarly refl refl refl refl refl refl refl) s (unmoved a b t.rest (delivered_as laws h a b k form (Err errors.TooEarly) s t.above t.there t.replies).3)
-step_keeps laws one h (Deliver k form) WantOfMemory a b s t = quiet_keeps h (Deliver k form) WantOfMemory a b (still h (Deliver k form) WantOfMemory refl refl refl refl refl refl refl) s (unmoved a b t.rest (delivered_as laws h a b k form (Err errors.WantOfMemory) s t.above t.there t.replies).2)
+step_keeps laws one h (Deliver k form) NotPublished a b s t = quiet_keeps h (Deliver k form) NotPublished a b
+    (still h (Deliver k form) NotPublished refl refl refl refl refl refl refl) s t.1
+step_keeps laws one h (Deliver k form) Broken a b s t = quiet_keeps h (Deliver k form) Broken a b
+    (still h (Deliver k form) Broken refl refl refl refl refl refl refl) s
+    (unmoved a b t.rest (delivered_as laws h a b k form (Err errors.Broken) s t.above t.there t.replies).1)
+step_keeps laws one h (Deliver k form) Old a b s t =
+    quiet_keeps h (Deliver k form) Old a b (still h (Deliver k form) Old refl refl refl refl refl refl refl) s
+    (unmoved a b t.rest (delivered_as laws h a b k form (Ok answers.Old) s t.above t.there t.replies).2)
+step_keeps laws one h (Deliver k form) Again a b s t = quiet_keeps h (Deliver k form) Again a b
+    (still h (Deliver k form) Again refl refl refl refl refl refl refl) s
+    (unmoved a b t.rest (delivered_as laws h a b k form (Ok answers.Again) s t.above t.there t.replies).3)
+step_keeps laws one h (Deliver k form) TooEarly a b s t = quiet_keeps h (Deliver k form) TooEarly a b
+    (still h (Deliver k form) TooEarly refl refl refl refl refl refl refl) s
+    (unmoved a b t.rest (delivered_as laws h a b k form (Err errors.TooEarly) s t.above t.there t.replies).3)
+step_keeps laws one h (Deliver k form) WantOfMemory a b s t = quiet_keeps h (Deliver k form) WantOfMemory a b
+    (still h (Deliver k form) WantOfMemory refl refl refl refl refl refl refl) s
+    (unmoved a b t.rest (delivered_as laws h a b k form (Err errors.WantOfMemory) s t.above t.there t.replies).2)
 step_keeps laws one h (Deliver k form) Held a b s t = held_keeps laws h k form a b s t
 step_keeps laws one h (Deliver k form) (Applied low high) a b s t = applied_keeps laws h k low high form a b s t
 step_keeps laws one h (Deliver k form) Broke a b s t = broke_keeps laws h k form a b s t

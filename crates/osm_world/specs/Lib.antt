@@ -4,6 +4,7 @@ pub mod Legal
 pub mod Due
 pub mod Deliveries
 pub mod Alike
+pub mod New
 pub mod Correct
 pub mod Step
 pub mod Steps

@@ -2,8 +2,14 @@
 
 ghost use Rattle.std.specs.Prelude.{◌≡◌, ℕ, ◌+◌, ◌<◌, List, [], ◌∷◌, ◌++◌, length, slice_index};
 ghost use Rattle.std.specs.Prelude.{◌≤◌, ◌↔◌, Contains, IsSome, true, false};
+ghost use Rattle.std.specs.List.Sorted.{IsStrictlySortedBy};
+ghost use Rattle.std.specs.Ordering.{nat_cmp};
 ghost use Rattle.osm_holding.specs.Holding.{window};
+ghost use Rattle.osm_o5c.specs.Written.{o5c_text};
+ghost use Rattle.osm_opl.specs.Written.{opl_text};
+ghost use Rattle.osm_state.specs.StateText.{state_text};
 ghost use Rattle.osm_follow.specs.Follower.{held_at, is_held};
+ghost use Rattle.osm_follow.specs.Published.{PublishedValue, texts_at};
 ghost use Rattle.osm_follow.specs.Reach.{Reaches, missing_numbers, numbers};
 ghost use Rattle.osm_follow.specs.View.{ViewValue};
 ghost use Rattle.osm_world.specs.Alike.{AcceptAlike, AreAlike};
@@ -13,6 +19,7 @@ ghost use Rattle.osm_world.specs.Deliveries.{IsSubsequence, delivered_of, is_con
 ghost use Rattle.osm_world.specs.History.{History, accepted_of, is_broken, published_of};
 ghost use Rattle.osm_world.specs.History.{reported_of, start_of};
 ghost use Rattle.osm_world.specs.Legal.{Allowed, IsLegal, IsNumber, is_want_of_memory};
+ghost use Rattle.osm_world.specs.New.{IsNew};
 ghost use Rattle.osm_world.specs.Step.{Step};
 ghost use Rattle.osm_world.specs.World.{WorldValue, new_world};
 ghost use Rattle.osm_world.specs.declared.event.Event.{Event};
@@ -25,10 +32,12 @@ use osm_opl::opl::Opl;
 use osm_save::save::laws_of_saves;
 use osm_state::laws::laws_of_state;
 
-/// A run of no events gives the new world, and a run with one more step is a run. So a caller may
-/// step a world itself, and keep only the replies that it needs. Does nothing at run time.
+/// A run of no events gives the new world and no other, and a run with one more step is a run. So a
+/// caller may step a world itself, and keep only the replies that it needs. Does nothing at run
+/// time.
 pub fn laws_of_runs()
     ensures first { IsRun [] [] new_world }
+    ensures only { (w : WorldValue) → IsRun [] [] w → IsNew w }
     ensures next { (events : List Event) (replies : List Reply) (w : WorldValue) (e : Event)
         (r : Reply) (v : WorldValue) → IsRun events replies w → Step w e r v
         → IsRun (events ++ e ∷ []) (replies ++ r ∷ []) v }
@@ -78,9 +87,25 @@ pub fn laws_of_progress()
         → start_of h + count ≤ n }
 {}
 
+/// A world in step with its history has archived one set of texts for each sequence that was
+/// published: for the sequence after any others, counted from 1, its number, the text of its state,
+/// and its changes as an o5c file and as an OPL file. Does nothing at run time.
+pub fn laws_of_archives()
+    ensures count { (h : History) (w : WorldValue) → IsInStep h w
+        → length w.archive ≡ length (published_of h) }
+    ensures texts { (h : History) (w : WorldValue) (before after : List PublishedValue)
+        (p : PublishedValue) → IsInStep h w → published_of h ≡ before ++ p ∷ after
+        → texts_at w.archive (length before + 1) ≡ record {
+          number = length before + 1;
+          state = state_text (record { sequence = length before + 1; time = p.time });
+          o5c = o5c_text p.changes;
+          opl = opl_text p.changes;
+        } }
+{}
+
 /// A follower that isn't broken is at the number of its history, and holds exactly the accepted
-/// numbers above it. These come after the next number, and are among the 64 after its own. So what
-/// it names as missing is what wasn't accepted. Does nothing at run time.
+/// numbers above it. These come after the next number, and are among the 64 after its own, so they
+/// are at most 63. What it names as missing is what wasn't accepted. Does nothing at run time.
 pub fn laws_of_holding()
     ensures number { (h : History) (w : WorldValue) → IsInStep h w → is_broken h ≡ false
         → IsNumber h w.follower.number }
@@ -90,19 +115,25 @@ pub fn laws_of_holding()
     ensures window { (h : History) (w : WorldValue) (j : ℕ) → IsInStep h w → is_broken h ≡ false
         → IsSome (held_at w.follower j)
         → (w.follower.number + 1 < j) × (j ≤ w.follower.number + window) }
+    ensures few { (h : History) (w : WorldValue) (js : List ℕ) → IsInStep h w
+        → is_broken h ≡ false → IsStrictlySortedBy nat_cmp js
+        → ((j : ℕ) → Contains js j → IsSome (held_at w.follower j)) → length js < window }
     ensures missing { (h : History) (w : WorldValue) (top : ℕ) → IsInStep h w
         → is_broken h ≡ false → missing_numbers (is_held w.follower) w.follower.number top
         ≡ missing_numbers (accepted_of h) w.follower.number top }
 {}
 
 /// What a legal history may show was published: the number, and the numbers held, which come after
-/// the next number and are among the 64 after its own. Does nothing at run time.
+/// the next number and are among the 64 after its own, so they are at most 63. Does nothing at run
+/// time.
 pub fn laws_of_views()
     ensures number { (h : History) (v : ViewValue) → IsLegal h
         → Allowed h Event.Show (Reply.Shown v) → v.number ≤ length (published_of h) }
     ensures held { (h : History) (v : ViewValue) (j : ℕ) → IsLegal h
         → Allowed h Event.Show (Reply.Shown v) → Contains v.held j
         → (v.number + 1 < j) × (j ≤ v.number + window) × (j ≤ length (published_of h)) }
+    ensures few { (h : History) (v : ViewValue) → IsLegal h
+        → Allowed h Event.Show (Reply.Shown v) → length v.held < window }
 {}
 
 /// Neither the order of deliveries nor repeats matter: if two histories published and accepted the

@@ -1,6 +1,7 @@
 //! A world: a publisher, its archive and a follower, which take events one by one.
 
-ghost use Rattle.std.specs.Prelude.{◌≡◌, ◌<◌, ◌≤◌, ◌⊎◌, ◌↔◌, IsNone, IfOk, IfSome};
+ghost use Rattle.std.specs.Prelude.{◌≡◌, ◌<◌, ◌≤◌, ◌⊎◌, ◌↔◌, [], length, vec_capacity, vec_len};
+ghost use Rattle.std.specs.Prelude.{IsNone, IfOk, IfSome, OnErr, OnOk};
 ghost use Rattle.osm_model.specs.Batch.{IsBatch};
 ghost use Rattle.osm_world.specs.Correct.{IsRun};
 ghost use Rattle.osm_follow.specs.Published.{texts_at};
@@ -81,9 +82,10 @@ impl World {
     /// Takes all the events in order, in a new world. After an error none of them was taken.
     pub fn run(alloc: Global, events: Vec<Event>) -> Result<Run, WantOfMemory>
         ensures run { IfOk result (λ r. IsRun events.items r.replies.items r.world) }
+        ensures none { events.items ≡ [] → IfOk result (λ r. r.world ≡ new_world) }
     {
         let mut world = World::new(alloc)?;
-        let mut replies = Vec::with_capacity(alloc, events.len())?;
+        let mut replies = room_for_replies(alloc, events.as_slice())?;
         laws_of_runs();
         for event in events {
             let reply = world.step(event);
@@ -198,6 +200,25 @@ impl World {
     }
 }
 
+// An empty list with room for one reply to each event, and for no more.
+fn room_for_replies(alloc: Global, events: &[Event]) -> Result<Vec<Reply>, WantOfMemory>
+    ensures empty { IfOk result (λ replies. replies.items ≡ []) }
+    ensures room { IfOk result (λ replies. vec_capacity replies ≡ length events.now) }
+    ensures refused { OnErr result (0 < length events.now) }
+{
+    Ok(Vec::with_capacity(alloc, events.len())?)
+}
+
+// Makes room for the files of one more sequence, if there is none.
+fn make_room(archive: &mut Vec<Published>) -> Result<(), WantOfMemory>
+    ensures kept { archive.new.items ≡ archive.old.items }
+    ensures room { OnOk result (vec_len archive.new < vec_capacity archive.new) }
+    ensures refused { OnErr result (vec_capacity archive.old ≤ vec_len archive.old) }
+{
+    archive.reserve(1)?;
+    Ok(())
+}
+
 // Publishes the pending edits and archives their files. Makes room in the archive first, so that a
 // refusal changes nothing.
 fn close_into(
@@ -212,7 +233,7 @@ fn close_into(
     ensures archive { IsArchive publisher.new.number archive.new.items }
 {
     publisher.check_close(time)?;
-    if archive.reserve(1).is_err() {
+    if make_room(archive).is_err() {
         return Err(CloseError::WantOfMemory);
     }
     let published = publisher.close(alloc, time)?;

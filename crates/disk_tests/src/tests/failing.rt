@@ -7,31 +7,37 @@ use std::io::{self, ErrorKind, Read, Seek, SeekFrom, Write};
 use std::path::PathBuf;
 use std::rc::Rc;
 
-/// Counts calls down, and fails the first one after them.
+/// Counts calls down, and fails the first one after them with an error of its kind.
 #[derive(Drop)]
 pub struct Countdown {
     left: Rc<Cell<u64>>,
+    kind: ErrorKind,
 }
 
 impl Countdown {
     /// Lets that many calls through, and fails the next one.
-    pub fn new(alloc: Global, calls: u64) -> Result<Countdown, AllocFailed<Cell<u64>>> {
+    pub fn new(
+        alloc: Global,
+        calls: u64,
+        kind: ErrorKind,
+    ) -> Result<Countdown, AllocFailed<Cell<u64>>> {
         let left = Rc::new(alloc, Cell::new(calls))?;
-        Ok(Countdown { left })
+        Ok(Countdown { left, kind })
     }
 
     fn spend(&self) -> io::Result<()> {
         let left = self.left.get();
         self.left.set(left.wrapping_sub(1));
         if left == 0 {
-            return Err(ErrorKind::Other.into());
+            return Err(self.kind.into());
         }
         Ok(())
     }
 
     fn share(&self) -> Result<Countdown, AllocError> {
         let left = self.left.clone()?;
-        Ok(Countdown { left })
+        let kind = self.kind;
+        Ok(Countdown { left, kind })
     }
 }
 

@@ -6,6 +6,7 @@ use osm_disk::disk_store::DiskStore;
 use osm_folder::store::{Store, StoreError};
 use std::alloc::Global;
 use std::fs::{self, Files};
+use std::io::ErrorKind;
 use std::process;
 use std::test::Fail;
 
@@ -62,7 +63,10 @@ fn fails<R: Files + Clone + Drop>(
     calls: u64,
     path: &str,
 ) -> Result<bool, Fail> {
-    let failing = Failing::new(files.clone()?, Countdown::new(alloc, calls)?);
+    let failing = Failing::new(
+        files.clone()?,
+        Countdown::new(alloc, calls, ErrorKind::Other)?,
+    );
     let mut store = DiskStore::new(failing, 7);
     Ok(is_read(alloc, &mut store, (path, 9), Err(StoreError::Device)))
 }

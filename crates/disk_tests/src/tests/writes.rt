@@ -7,6 +7,7 @@ use osm_disk::names::temporary_of;
 use osm_folder::store::{Store, StoreError};
 use std::alloc::Global;
 use std::fs::{self, Files};
+use std::io::ErrorKind;
 use std::process;
 use std::test::Fail;
 
@@ -16,10 +17,10 @@ const NEW: &[u8] = b"newer";
 fn write_failing<R: Files + Clone + Drop>(
     alloc: Global,
     files: &R,
-    calls: u64,
+    (calls, kind): (u64, ErrorKind),
     path: &str,
 ) -> Result<(Result<(), StoreError>, u64), Fail> {
-    let failing = Failing::new(files.clone()?, Countdown::new(alloc, calls)?);
+    let failing = Failing::new(files.clone()?, Countdown::new(alloc, calls, kind)?);
     let mut store = DiskStore::new(failing, 7);
     let answer = store.write(alloc, path, NEW);
     Ok((answer, store.failures()))
@@ -34,7 +35,7 @@ fn fails<R: Files + AllocGlobal + Clone + Drop>(
 ) -> Result<bool, Fail> {
     let alloc = rt.alloc();
     fs::write(rt, path, "old")?;
-    let answer = write_failing(alloc, rt, calls, path)?;
+    let answer = write_failing(alloc, rt, (calls, ErrorKind::Other), path)?;
     let bytes = if is_new { NEW } else { b"old" };
     let temporary = temporary_of(alloc, path, 7)?;
     let is_tidy = is_absent(rt, temporary.as_str());
@@ -53,8 +54,28 @@ fn a_write_with_each_call_failing_leaves_the_old_file_or_the_new_one(
     for calls in 0..9 {
         assert!(rt; fails(&rt, (calls, path.as_str()), calls > 6)?, "{calls}");
     }
-    assert!(rt; write_failing(alloc, &rt, 9, path.as_str())? == (Ok(()), 0));
+    let unharmed = write_failing(alloc, &rt, (9, ErrorKind::Other), path.as_str())?;
+    assert!(rt; unharmed == (Ok(()), 0));
     assert!(rt; holds(&rt, path.as_str(), NEW));
+    Ok(())
+}
+
+#[test]
+fn a_folder_that_cannot_be_synced_takes_files(rt: HostRuntime) -> Result<(), Fail> {
+    let alloc = rt.alloc();
+    let folder = scratch(alloc, &rt, process::id(rt.process()), "unreadable")?;
+    let path = format!(in alloc; "{folder}save")?;
+    // The folder may not be read, or its file system syncs none. Before the rename such errors
+    // count.
+    for (calls, kind, expected) in [
+        (6, ErrorKind::PermissionDenied, (Err(StoreError::Device), 1)),
+        (7, ErrorKind::PermissionDenied, (Ok(()), 0)),
+        (8, ErrorKind::InvalidInput, (Ok(()), 0)),
+        (8, ErrorKind::Unsupported, (Ok(()), 0)),
+    ] {
+        let answer = write_failing(alloc, &rt, (calls, kind), path.as_str())?;
+        assert!(rt; answer == expected, "{calls}");
+    }
     Ok(())
 }
 
@@ -112,6 +133,44 @@ fn a_link_stays_and_the_file_at_its_end_is_replaced(rt: HostRuntime) -> Result<(
     for text in ["end", whole.as_str(), "./end"] {
         assert!(rt; is_followed(&rt, folder.as_str(), text)?, "{text}");
     }
+    Ok(())
+}
+
+// Makes the links 1 to `count`: the first leads to `end`, and each other one to the one before it.
+fn link_up<R: Files + AllocGlobal>(rt: &R, folder: &str, count: u32) -> Result<(), Fail> {
+    let alloc = rt.alloc();
+    rt.symlink("end", format!(in alloc; "{folder}1")?.as_str())?;
+    for number in 2..=count {
+        let before = format!(in alloc; "{}", number - 1)?;
+        let link = format!(in alloc; "{folder}{number}")?;
+        rt.symlink(before.as_str(), link.as_str())?;
+    }
+    Ok(())
+}
+
+#[test]
+fn forty_links_are_followed_and_no_more(rt: HostRuntime) -> Result<(), Fail> {
+    let alloc = rt.alloc();
+    let folder = scratch(alloc, &rt, process::id(rt.process()), "chain")?;
+    let end = format!(in alloc; "{folder}end")?;
+    link_up(&rt, folder.as_str(), 41)?;
+    for number in [39, 40] {
+        let link = format!(in alloc; "{folder}{number}")?;
+        fs::write(&rt, end.as_str(), "old")?;
+        assert!(rt; makes(&rt, link.as_str())?, "{number}");
+        assert!(rt; holds(&rt, end.as_str(), NEW), "{number}");
+        rt.remove_file(end.as_str())?;
+        assert!(rt;
+            makes(&rt, link.as_str())?,
+            "{number}, with no file at the end"
+        );
+        assert!(rt;
+            rt.symlink_metadata(link.as_str())?.is_symlink(),
+            "{number}"
+        );
+    }
+    let last = format!(in alloc; "{folder}41")?;
+    assert!(rt; is_refused(&rt, last.as_str())?);
     Ok(())
 }
 

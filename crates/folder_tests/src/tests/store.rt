@@ -168,7 +168,7 @@ fn the_end_of_a_name_tells_the_form(rt: HostRuntime) {
 }
 
 // A fault, its text and its exit status.
-const FAULTS: [(RunFault, &str, u8); 18] = [
+const FAULTS: [(RunFault, &str, u8); 21] = [
     (RunFault::WantOfMemory, "out of memory", 3),
     (
         RunFault::ReadFault(FileName::Top),
@@ -222,6 +222,13 @@ const FAULTS: [(RunFault, &str, u8); 18] = [
     (RunFault::SequenceFull, "close refused: SequenceFull", 3),
     (RunFault::UnknownForm, "unknown form", 2),
     (RunFault::BadNow, "bad time", 2),
+    (RunFault::BadSequence, "bad sequence", 2),
+    (
+        RunFault::Differs(2),
+        "sequence 2: already published, and differs",
+        3,
+    ),
+    (RunFault::TopAt(2), "state.txt: at 2", 3),
 ];
 
 #[test]

@@ -1,5 +1,5 @@
 -- Steps of a lag.
-use Rattle.std.specs.Prelude.{◌≡◌, ℕ, ◌+◌, ◌<◌, Option, Some}
+use Rattle.std.specs.Prelude.{◌≡◌, ℕ, ◌+◌, ◌<◌, ◌≤◌, Option, Some}
 use Rattle.osm_state.specs.State.{StateValue}
 use Rattle.osm_follow.specs.Follower.{FollowerValue}
 use Rattle.osm_follow.specs.Lag.{AreSeconds}
@@ -20,5 +20,6 @@ pub record IsTold (f : FollowerValue) (top : StateValue) (report : ReportValue) 
 abbrev pub ToldStops : FollowerValue → StateValue → RunFault → Type 0
 ToldStops f top WantOfMemory = Unit {0}
 ToldStops f top TopBehind = top.sequence < f.number
-ToldStops f top TimeBehind = (time : ℕ) × (f.time ≡ Some time) × (top.time < time)
+ToldStops f top TimeBehind =
+    (f.number ≤ top.sequence) × ((time : ℕ) × (f.time ≡ Some time) × (top.time < time))
 ToldStops f top fault = ⊥

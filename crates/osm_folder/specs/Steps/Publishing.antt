@@ -1,22 +1,25 @@
 -- Steps of a publication. `known` says that it is known what the files hold.
-use Rattle.std.specs.Prelude.{◌≡◌, ℕ, ◌+◌, ◌<◌, ◌≤◌, List, [], ◌∷◌, length, take, Option, Some}
-use Rattle.std.specs.Prelude.{None, string_bytes}
+use Rattle.std.specs.Prelude.{◌≡◌, ℕ, ◌+◌, ◌<◌, ◌≤◌, ◌⊎◌, List, [], ◌∷◌, length, take}
+use Rattle.std.specs.Prelude.{Option, Some, None, string_bytes}
 use Rattle.osm_model.specs.Change.{ChangeValue}
 use Rattle.osm_model.specs.Limits.{max_file, max_sequence}
-use Rattle.osm_follow.specs.Published.{PublishedTexts, written_of}
-use Rattle.osm_follow.specs.Publisher.{CanClose, IsTooLarge, PublisherValue, closing}
+use Rattle.osm_follow.specs.Published.{PublishedTexts, PublishedValue, written_of}
+use Rattle.osm_follow.specs.Publisher.{CanClose, IsSmall, IsTooLarge, PublisherValue, closing}
+use Rattle.osm_follow.specs.Publisher.{new_publisher}
 use Rattle.osm_opl.specs.File.{SpellsOpl}
-use Rattle.osm_state.specs.StateFault.{FaultOf}
+use Rattle.osm_state.specs.State.{StateValue}
 use Rattle.osm_state.specs.declared.paths.Suffix.TheVariants.{O5c, Opl, State}
 use Rattle.osm_folder.specs.Files.{Files, IsOver}
 use Rattle.osm_folder.specs.Folder.{max_state}
 use Rattle.osm_folder.specs.Forms.{IsFaulty}
 use Rattle.osm_folder.specs.Names.{file_name_of, top_name_of}
 use Rattle.osm_folder.specs.Publication.{CutsOff, IsBadChanges, IsBadState, IsReady, Writes}
+use Rattle.osm_folder.specs.Publication.{file_after}
 use Rattle.osm_folder.specs.Reports.{publish_report_of}
 use Rattle.osm_folder.specs.declared.fault.FileName.TheVariants.{Top, Changes}
 use Rattle.osm_folder.specs.declared.fault.RunFault.{RunFault}
 use Rattle.osm_folder.specs.declared.fault.RunFault.TheVariants.{WantOfMemory, ReadFault, TooLarge}
+use Rattle.osm_folder.specs.declared.fault.RunFault.TheVariants.{WriteFault}
 use Rattle.osm_folder.specs.declared.fault.RunFault.TheVariants.{BadState, BadChange, Absent}
 use Rattle.osm_folder.specs.declared.fault.RunFault.TheVariants.{TimeBack, SequenceFull}
 use Rattle.osm_folder.specs.declared.form.Form.TheVariants as forms
@@ -31,10 +34,10 @@ TopStops known told (TooLarge file) = (file ≡ Top) × (known → IsOver max_st
 TopStops known told (BadState file cause) = (file ≡ Top) × (known → IsBadState told cause)
 TopStops known told fault = ⊥
 
--- why a text isn't a state to go on from
-abbrev pub ResumeStops : List ℕ → RunFault → Type 0
-ResumeStops text (BadState file cause) = (file ≡ Top) × FaultOf text cause
-ResumeStops text fault = ⊥
+-- the publisher that goes on from that top state, if there is one
+abbrev pub from_top : Option StateValue → PublisherValue
+from_top None = new_publisher
+from_top (Some s) = record { number = s.sequence; time = s.time; pending = [] }
 
 -- the file's changes
 pub record IsChangesOf (told : Option (List ℕ)) (batch : List ChangeValue) : Type 0 where
@@ -81,7 +84,14 @@ writes_to names p =
     (string_bytes names.o5c, p.o5c) ∷ (string_bytes names.opl, p.opl)
     ∷ (string_bytes names.state, p.state) ∷ (string_bytes names.top, p.state) ∷ []
 
--- all that a publication needs was made
+-- all that the publication of a sequence needs was made
+pub record IsMadeOf (dir : List ℕ) (p : PublishedValue) (made : Publication) : Type 0 where
+  pub fits : IsSmall p.changes
+  pub published_is : made.published ≡ written_of p
+  pub names_are : AreNames dir p.number made.names
+  pub report_is : made.report ≡ publish_report_of p.number
+
+-- the same for the sequence that the words and the files ask for
 pub record IsMade (known : Type 0) (dir changes now : List ℕ) (files : Files) (made : Publication) :
     Type 0 where
   pub publisher : PublisherValue
@@ -98,3 +108,17 @@ pub record IsCut (known : Type 0) (names : FolderNames) (p : PublishedTexts) (ol
   pub few : count < 4
   pub cut : CutsOff p.number count fault
   pub written : known → Writes (take count (writes_to names p)) old new
+
+-- the read at which no call was left: the top state, then the changes
+abbrev pub ReadsOut : Option ℕ → RunFault → Type 0
+ReadsOut left (ReadFault file) =
+    ((left ≡ Some 0) × (file ≡ Top)) ⊎ ((left ≡ Some 1) × (file ≡ Changes))
+ReadsOut left (WriteFault file) = ⊥
+ReadsOut left fault = Unit {0}
+
+-- the write at which no call was left
+abbrev pub WritesOut : ℕ → Option ℕ → RunFault → Type 0
+WritesOut number left (ReadFault file) = ⊥
+WritesOut number left (WriteFault file) =
+    (count : ℕ) × (count < 4) × (left ≡ Some count) × (file ≡ file_after number count)
+WritesOut number left fault = Unit {0}

@@ -1,11 +1,13 @@
 -- An index of strings: the strings of each bucket form a chain, newest first.
 use Rattle.std.specs.Prelude.{◌≡◌, ◌≢◌, ℕ, ◌+◌, ◌-◌, ◌*◌, ◌/◌, ◌%◌, ◌<◌, ◌≤◌, ◌&&◌, List, []}
-use Rattle.std.specs.Prelude.{◌∷◌, length, take, drop, get_or, slice_get, nat_le, nat_lt}
-use Rattle.std.specs.Prelude.{Option, Some, None, if◌then◌else◌}
+use Rattle.std.specs.Prelude.{◌∷◌, length, map, take, drop, get_or, slice_get, nat_le, nat_lt}
+use Rattle.std.specs.Prelude.{Option, Some, None, Bool, true, false, zero, suc, if◌then◌else◌}
 use Rattle.std.specs.Int.{w32, w64, from_le_bytes}
 use Rattle.std.specs.Simd.{first_chunks}
 use Rattle.osm_o5c.specs.Entries.{max_entries}
-use Rattle.osm_o5c.specs.declared.string_index.Slot.{Slot}
+use Rattle.osm_o5c.specs.Steps.Latest.{latest_of}
+use Rattle.osm_o5c.specs.declared.chains.Slot.{Slot}
+use Rattle.osm_o5c.specs.declared.latest.Latest.{Latest}
 
 -- one step of a polynomial, modulo 2^64
 abbrev pub mixed : ℕ → ℕ → ℕ
@@ -60,6 +62,32 @@ no_slot = record { start = 0; size = 0; hash = 0; previous = 0 }
 abbrev pub string_at : List (List ℕ) → ℕ → List ℕ
 string_at strings j = get_or strings j []
 
+-- for each slot, one more than the index of the string before it in its bucket, or 0
+abbrev pub links_of : List Slot → List ℕ
+links_of slots = map (λ slot. slot.previous) slots
+
+-- the strings, the link of each, and for each bucket one more than the index of its head, or 0
+pub record Chained : Type 0 where
+  pub strings : List (List ℕ)
+  pub links : List ℕ
+  pub heads : List ℕ
+
+-- the string of each slot lies within the bytes and has the slot's hash
+pub record IsStored (bytes : List ℕ) (slots : List Slot) (heads : List ℕ) : Type 0 where
+  pub within : (i : ℕ) → i < length slots
+      → (get_or slots i no_slot).start + (get_or slots i no_slot).size ≤ length bytes
+  pub hash : (i : ℕ) → i < length slots
+      → (get_or slots i no_slot).hash ≡ hash_of (string_at (strings_of bytes slots) i)
+  pub back : (i : ℕ) → i < length slots → (get_or slots i no_slot).previous ≤ i
+  pub heads_are : length heads ≡ 32768
+
+-- a chain has at least n strings that can be named, from the one before the number p on
+abbrev pub has_links : ℕ → List ℕ → ℕ → ℕ → Bool
+has_links count links zero p = true
+has_links count links (suc n) zero = false
+has_links count links (suc n) (suc p) =
+    if nat_lt count (suc p + max_entries) then has_links count links n (get_or links p 0) else false
+
 -- a number p leads to the string at index j: p is one more than the index of a string in the same
 -- bucket, and that index is j or greater
 pub record Leads (strings : List (List ℕ)) (j p : ℕ) : Type 0 where
@@ -71,37 +99,36 @@ pub record Leads (strings : List (List ℕ)) (j p : ℕ) : Type 0 where
 abbrev pub IsRecent : List (List ℕ) → ℕ → Type 0
 IsRecent strings j = length strings ≤ j + max_entries
 
--- a number that leads to each string in a bucket that can be named; 0 only if there is none
-pub record IsLastIn (strings : List (List ℕ)) (bucket p : ℕ) : Type 0 where
-  pub within : p ≤ length strings
-  pub last : (j : ℕ) → j < length strings → IsRecent strings j
-      → bucket_of (string_at strings j) ≡ bucket → Leads strings j p
+-- a number that leads to each string in a bucket that its head leads to and that can be named; 0
+-- only if there is none
+pub record IsLastIn (chained : Chained) (bucket p : ℕ) : Type 0 where
+  pub within : p ≤ length chained.strings
+  pub last : (j : ℕ) → j < length chained.strings → IsRecent chained.strings j
+      → bucket_of (string_at chained.strings j) ≡ bucket
+      → Leads chained.strings j (get_or chained.heads bucket 0) → Leads chained.strings j p
 
--- a number that leads to each string that can be named among those before an index in its bucket;
--- 0 only if there is none
-pub record IsPrevious (strings : List (List ℕ)) (index p : ℕ) : Type 0 where
-  pub back : p ≤ index
-  pub last : (j : ℕ) → j < index → IsRecent strings j
-      → bucket_of (string_at strings j) ≡ bucket_of (string_at strings index) → Leads strings j p
+-- the head of a bucket leads to each string in it that can be named, and the link of a string to
+-- each such string before it in its bucket, except for strings with a later number in `latest`
+pub record AreLed (chained : Chained) (latest : List ℕ → ℕ) : Type 0 where
+  pub links_are : length chained.links ≡ length chained.strings
+  pub heads_are : length chained.heads ≡ 32768
+  pub head : (j : ℕ) → j < length chained.strings → IsRecent chained.strings j
+      → latest (string_at chained.strings j) ≤ j
+      → Leads chained.strings j (get_or chained.heads (bucket_of (string_at chained.strings j)) 0)
+  pub chain : (i j : ℕ) → j < i → i < length chained.strings → IsRecent chained.strings j
+      → bucket_of (string_at chained.strings j) ≡ bucket_of (string_at chained.strings i)
+      → latest (string_at chained.strings j) ≤ j
+      → Leads chained.strings j (get_or chained.links i 0)
 
--- the head of a bucket leads to each string in it that can be named, and the number in a slot leads
--- to each such string before it in the same bucket
-pub record IsChained (strings : List (List ℕ)) (slots : List Slot) (heads : List ℕ) : Type 0 where
-  pub heads_are : length heads ≡ 32768
-  pub hash : (i : ℕ) → i < length slots
-      → (get_or slots i no_slot).hash ≡ hash_of (string_at strings i)
-  pub back : (i : ℕ) → i < length slots → (get_or slots i no_slot).previous ≤ i
-  pub head : (j : ℕ) → j < length slots → IsRecent strings j
-      → Leads strings j (get_or heads (bucket_of (string_at strings j)) 0)
-  pub chain : (i j : ℕ) → j < i → i < length slots → IsRecent strings j
-      → bucket_of (string_at strings j) ≡ bucket_of (string_at strings i)
-      → Leads strings j (get_or slots i no_slot).previous
+-- a number of `latest` is one more than the index of its string
+pub record IsLatest (strings : List (List ℕ)) (latest : List ℕ → ℕ) : Type 0 where
+  pub within : (t : List ℕ) → latest t ≤ length strings
+  pub equal : (t : List ℕ) → 0 < latest t → string_at strings (latest t - 1) ≡ t
 
--- the string of each slot lies within the bytes, and the chains lead to the strings
-pub record IsIndexed (bytes : List ℕ) (slots : List Slot) (heads : List ℕ) : Type 0 where
-  pub within : (i : ℕ) → i < length slots
-      → (get_or slots i no_slot).start + (get_or slots i no_slot).size ≤ length bytes
-  pub chains : IsChained (strings_of bytes slots) slots heads
+-- the chains and the map lead to every string that can be named
+pub record IsIndexed (chained : Chained) (kept : Latest) : Type 0 where
+  pub led : AreLed chained (latest_of kept)
+  pub latest : IsLatest chained.strings (latest_of kept)
 
 -- the k-th string from the end, if a reference can name it
 abbrev pub string_named : List (List ℕ) → ℕ → Option (List ℕ)

@@ -1,19 +1,24 @@
 -- Steps of operations: what each does to the files of a store.
 use Rattle.std.specs.Prelude.{◌≡◌, ℕ, ◌+◌, ◌<◌, ◌≤◌, ◌⊎◌, List, length, Bool, true, false}
-use Rattle.std.specs.Prelude.{Some, None}
+use Rattle.std.specs.Prelude.{Option, Some, None, is_none, min, max}
 use Rattle.std.specs.Prelude.{IsTrue, Result, Ok, Err}
 use Rattle.osm_model.specs.Batch.{IsBatch}
 use Rattle.osm_model.specs.Change.{ChangeValue}
 use Rattle.osm_model.specs.Limits.{max_file, max_sequence}
 use Rattle.osm_model.specs.Time.{Shows, TimeText}
 use Rattle.osm_opl.specs.Written.{opl_text}
+use Rattle.osm_reading.specs.Sequence.{SpellsSequence}
 use Rattle.osm_state.specs.declared.paths.Suffix.{Suffix}
+use Rattle.osm_state.specs.declared.paths.Suffix.TheVariants.{O5c, Opl}
 use Rattle.osm_follow.specs.Published.{PublishedValue}
 use Rattle.osm_folder.specs.Files.{Files, Puts}
 use Rattle.osm_folder.specs.Folder.{IsApart, IsFolderOf}
 use Rattle.osm_folder.specs.Following.{FollowRefuses, IsFollowed, IsSaveOf, follow_calls}
-use Rattle.osm_folder.specs.Publication.{FolderRefuses, IsPublished, PublishStops}
-use Rattle.osm_folder.specs.Names.{file_name_of}
+use Rattle.osm_folder.specs.Numbered.{IsAddedAs, IsPublishedAs, NumberedOut, NumberedRefuses}
+use Rattle.osm_folder.specs.Numbered.{NumberedStops, numbered_calls}
+use Rattle.osm_folder.specs.Publication.{FolderRefuses, GoesOnFrom, IsPublished, PublishOut}
+use Rattle.osm_folder.specs.Publication.{PublishStops}
+use Rattle.osm_folder.specs.Names.{file_name_of, top_name_of}
 use Rattle.osm_folder.specs.Reports.{ReportValue}
 use Rattle.osm_folder.specs.Runs.{LacksCalls}
 use Rattle.osm_folder.specs.Stores.{files_of}
@@ -23,11 +28,13 @@ use Rattle.osm_folder.specs.declared.fault.RunFault.TheVariants.{WantOfMemory, R
 use Rattle.osm_folder.specs.declared.fault.RunFault.TheVariants.{WriteFault, TooLarge}
 use Rattle.osm_operations.specs.declared.operation.Operation.{Operation}
 use Rattle.osm_operations.specs.declared.operation.Operation.TheVariants.{Publish, KilledPublish}
+use Rattle.osm_operations.specs.declared.operation.Operation.TheVariants.{PublishAs}
+use Rattle.osm_operations.specs.declared.operation.Operation.TheVariants.{KilledPublishAs}
 use Rattle.osm_operations.specs.declared.operation.Operation.TheVariants.{Follow, KilledFollow}
 use Rattle.osm_operations.specs.declared.operation.Operation.TheVariants.{Lose, PutBack}
 use Rattle.osm_operations.specs.declared.operation.Reply.{Reply}
 use Rattle.osm_operations.specs.declared.operation.Reply.TheVariants.{Published, Followed}
-use Rattle.osm_operations.specs.declared.operation.Reply.TheVariants.{Refused, Lost, IsBack}
+use Rattle.osm_operations.specs.declared.operation.Reply.TheVariants.{Refused, CutOff, Lost, IsBack}
 use Rattle.osm_operations.specs.declared.operation.Reply.TheVariants.{NotThere}
 use Rattle.osm_operations.specs.declared.world.World.{World}
 
@@ -60,22 +67,64 @@ pub record Publishes (dir changes : List ℕ) (report : ReportValue) (new : File
     (now : List ℕ) (middle : Files) : Type 0 where
   pub published : IsPublished dir changes now middle new report
 
--- the run stopped
-pub record StopsPublishing (dir changes : List ℕ) (fault : RunFault) (new : Files)
-    (now : List ℕ) (middle : Files) : Type 0 where
+-- the run stopped; `left` says how many calls it could make, none is no limit
+pub record StopsPublishing (left : Option ℕ) (dir changes : List ℕ) (fault : RunFault)
+    (new : Files) (now : List ℕ) (middle : Files) : Type 0 where
   pub stops : PublishStops (IsTrue true) dir changes now middle new fault
   pub refuses : (published : List PublishedValue) → IsFolderOf published middle dir
       → FolderRefuses published now fault
   pub keeps : (published : List PublishedValue) → IsFolderOf published middle dir
       → IsFolderOf published new dir
+  pub out : PublishOut dir middle left fault
 
-abbrev pub PublishStep : List ℕ → List ℕ → List ChangeValue → ℕ → Result ReportValue RunFault
-    → Files → Files → Type 0
-PublishStep dir changes batch time (Ok report) old new =
+abbrev pub PublishStep : Option ℕ → List ℕ → List ℕ → List ChangeValue → ℕ
+    → Result ReportValue RunFault → Files → Files → Type 0
+PublishStep left dir changes batch time (Ok report) old new =
     IsPublishRun dir changes batch time old new (Publishes dir changes report new)
-PublishStep dir changes batch time (Err fault) old new =
+PublishStep left dir changes batch time (Err fault) old new =
     (ChangesStop batch fault × (new ≡ old))
-    ⊎ IsPublishRun dir changes batch time old new (StopsPublishing dir changes fault new)
+    ⊎ IsPublishRun dir changes batch time old new (StopsPublishing left dir changes fault new)
+
+-- the text of a publication's number
+pub record IsNumberText (n : ℕ) (sequence : List ℕ) : Type 0 where
+  pub only : (k : ℕ) → SpellsSequence sequence k → k ≡ n
+  pub spelled : n ≤ max_sequence → SpellsSequence sequence n
+
+-- at least that many calls could be made
+abbrev pub HasCalls : ℕ → Option ℕ → Type 0
+HasCalls calls None = Unit {0}
+HasCalls calls (Some left) = calls ≤ left
+
+-- the run published by number
+pub record PublishesAs (left : Option ℕ) (dir changes : List ℕ) (n : ℕ) (report : ReportValue)
+    (new : Files) (now : List ℕ) (middle : Files) : Type 0 where
+  pub sequence : List ℕ
+  pub number_is : IsNumberText n sequence
+  pub published : IsPublishedAs dir changes now sequence middle new report
+  pub added : (published : List PublishedValue) → IsFolderOf published middle dir
+      → IsAddedAs published dir changes now sequence middle new report
+  pub calls : (number top time : ℕ) → SpellsSequence sequence number
+      → GoesOnFrom (middle (top_name_of dir)) top time → HasCalls (numbered_calls number top) left
+
+-- the run by number stopped
+pub record StopsPublishingAs (left : Option ℕ) (dir changes : List ℕ) (n : ℕ) (fault : RunFault)
+    (new : Files) (now : List ℕ) (middle : Files) : Type 0 where
+  pub sequence : List ℕ
+  pub number_is : IsNumberText n sequence
+  pub stops : NumberedStops (IsTrue true) dir changes now sequence middle new fault
+  pub refuses : (published : List PublishedValue) → IsFolderOf published middle dir
+      → NumberedRefuses published dir changes now sequence middle fault
+  pub keeps : (published : List PublishedValue) → IsFolderOf published middle dir
+      → IsFolderOf published new dir
+  pub out : NumberedOut dir sequence middle left fault
+
+abbrev pub NumberedStep : Option ℕ → List ℕ → List ℕ → List ChangeValue → ℕ → ℕ
+    → Result ReportValue RunFault → Files → Files → Type 0
+NumberedStep left dir changes batch time n (Ok report) old new =
+    IsPublishRun dir changes batch time old new (PublishesAs left dir changes n report new)
+NumberedStep left dir changes batch time n (Err fault) old new =
+    (ChangesStop batch fault × (new ≡ old))
+    ⊎ IsPublishRun dir changes batch time old new (StopsPublishingAs left dir changes n fault new)
 
 -- the device isn't to blame
 abbrev pub IsNoDevice : RunFault → Type 0
@@ -109,14 +158,84 @@ IsNumber true count n = (0 < n) × (n ≤ count) × (n ≤ max_sequence)
 IsNumber false count n = (n ≡ 0) ⊎ (count < n) ⊎ (max_sequence < n)
 
 -- an operation that publishes, if it is done
-abbrev pub PublishTo : List ℕ → List ℕ → List ChangeValue → ℕ → Reply → World → World → Type 0
-PublishTo dir changes batch time (Published report) a b =
-    PublishStep dir changes batch time (Ok report) (files_of a.store) (files_of b.store)
+abbrev pub PublishTo : Option ℕ → List ℕ → List ℕ → List ChangeValue → ℕ → Reply → World → World
+    → Type 0
+PublishTo left dir changes batch time (Published report) a b =
+    PublishStep left dir changes batch time (Ok report) (files_of a.store) (files_of b.store)
     × (b.lost ≡ a.lost) × GoesUp a.published b.published
-PublishTo dir changes batch time (Refused fault) a b =
-    PublishStep dir changes batch time (Err fault) (files_of a.store) (files_of b.store)
+PublishTo left dir changes batch time (Refused fault) a b =
+    PublishStep left dir changes batch time (Err fault) (files_of a.store) (files_of b.store)
     × (b.lost ≡ a.lost) × (b.published ≡ a.published)
-PublishTo dir changes batch time r a b = ⊥
+PublishTo left dir changes batch time r a b = ⊥
+
+-- a lost file is there again, and is no longer a lost one; or it isn't
+abbrev pub Returns : Bool → List ℕ → Files → Files → Files → Type 0
+Returns true name store lost lost_after =
+    (is_none (store name) ≡ false) × (is_none (lost name) ≡ false)
+    × Puts lost name None lost_after
+Returns false name store lost lost_after =
+    ((store name ≡ None) ⊎ (lost name ≡ None)) × (lost_after ≡ lost)
+
+-- the same of two files, one after the other
+abbrev pub ReturnBoth : Bool → Bool → List ℕ → List ℕ → Files → Files → Files → Type 0
+ReturnBoth o5c opl o5c_name opl_name store lost lost_after =
+    (between : Files) × Returns o5c o5c_name store lost between
+    × Returns opl opl_name store between lost_after
+
+-- the same of the two forms of a sequence's changes
+abbrev pub ReturnForms : Bool → Bool → List ℕ → ℕ → Files → Files → Files → Type 0
+ReturnForms o5c opl dir n store lost lost_after =
+    ReturnBoth o5c opl (file_name_of dir n O5c) (file_name_of dir n Opl) store lost lost_after
+
+-- the form whose file is there again, if either is
+abbrev pub form_back : Bool → Bool → Option Suffix
+form_back true opl = Some O5c
+form_back false true = Some Opl
+form_back false false = None
+
+-- the reply to a publication by number that stopped
+abbrev pub stopped_reply : RunFault → Bool → Bool → Reply
+stopped_reply fault true opl = CutOff fault O5c
+stopped_reply fault false true = CutOff fault Opl
+stopped_reply fault false false = Refused fault
+
+-- the reply to a publication by number, from what its run answered
+abbrev pub SettleTo : Result ReportValue RunFault → List ℕ → List ℕ → ℕ → Reply → World → World
+    → Type 0
+SettleTo (Ok report) o5c_name opl_name n r a b =
+    (r ≡ Published report) × ((o5c opl : Bool) × ReturnBoth o5c opl o5c_name opl_name
+    (files_of a.store) (files_of a.lost) (files_of b.lost)) × (b.published ≡ max a.published n)
+SettleTo (Err fault) o5c_name opl_name n r a b =
+    ((o5c opl : Bool) × (r ≡ stopped_reply fault o5c opl)
+    × ReturnBoth o5c opl o5c_name opl_name (files_of a.store) (files_of a.lost) (files_of b.lost))
+    × (b.published ≡ a.published)
+
+-- the number whose files are named: one that no sequence can have names those of another
+abbrev pub named : ℕ → ℕ
+named n = max 1 (min n max_sequence)
+
+-- an operation that publishes by number, by its reply
+abbrev pub PublishAsTo : Option ℕ → List ℕ → List ℕ → List ChangeValue → ℕ → ℕ → Reply → World
+    → World → Type 0
+PublishAsTo left dir changes batch time n (Published report) a b =
+    NumberedStep left dir changes batch time n (Ok report) (files_of a.store) (files_of b.store)
+    × ((o5c opl : Bool) × ReturnForms o5c opl dir (named n) (files_of b.store) (files_of a.lost)
+    (files_of b.lost)) × (b.published ≡ max a.published n)
+PublishAsTo left dir changes batch time n (CutOff fault O5c) a b =
+    NumberedStep left dir changes batch time n (Err fault) (files_of a.store) (files_of b.store)
+    × ((opl : Bool) × ReturnForms true opl dir (named n) (files_of b.store) (files_of a.lost)
+    (files_of b.lost)) × (b.published ≡ a.published)
+PublishAsTo left dir changes batch time n (CutOff fault Opl) a b =
+    NumberedStep left dir changes batch time n (Err fault) (files_of a.store) (files_of b.store)
+    × ReturnForms false true dir (named n) (files_of b.store) (files_of a.lost) (files_of b.lost)
+    × (b.published ≡ a.published)
+PublishAsTo left dir changes batch time n (Refused fault) a b =
+    ((fault ≡ WantOfMemory) × (b ≡ a))
+    ⊎ (NumberedStep left dir changes batch time n (Err fault) (files_of a.store)
+    (files_of b.store)
+    × ReturnForms false false dir (named n) (files_of b.store) (files_of a.lost) (files_of b.lost)
+    × (b.published ≡ a.published))
+PublishAsTo left dir changes batch time n r a b = ⊥
 
 abbrev pub FollowTo : List ℕ → List ℕ → Reply → World → World → Type 0
 FollowTo dir save (Followed report) a b =
@@ -130,7 +249,6 @@ FollowTo dir save r a b = ⊥
 -- what a reply says about the calls that a killed publication had
 abbrev pub HasPublishCalls : ℕ → Reply → Type 0
 HasPublishCalls calls (Published report) = 6 ≤ calls
-HasPublishCalls calls (Refused fault) = LacksCalls 6 (Some calls) fault
 HasPublishCalls calls r = Unit {0}
 
 -- why a run of the follower that had that many calls is refused
@@ -191,10 +309,13 @@ PutBackTo dir n s r a b = ⊥
 
 -- an operation and its reply
 abbrev pub Step : List ℕ → List ℕ → List ℕ → Operation → Reply → World → World → Type 0
-Step dir save changes (Publish batch time) r a b =
-    PublishTo dir changes batch time r a b × IsWhole r
+Step dir save changes (Publish batch time) r a b = PublishTo None dir changes batch time r a b
 Step dir save changes (KilledPublish batch time calls) r a b =
-    PublishTo dir changes batch time r a b × HasPublishCalls calls r
+    PublishTo (Some calls) dir changes batch time r a b × HasPublishCalls calls r
+Step dir save changes (PublishAs batch time n) r a b =
+    PublishAsTo None dir changes batch time n r a b
+Step dir save changes (KilledPublishAs batch time n calls) r a b =
+    PublishAsTo (Some calls) dir changes batch time n r a b
 Step dir save changes Follow r a b = FollowTo dir save r a b × IsWhole r
 Step dir save changes (KilledFollow calls) r a b =
     FollowTo dir save r a b × HasFollowCalls dir save calls r (files_of a.store)

@@ -31,7 +31,12 @@ returns-clause-converted g c = λ yes.
     let then : IsTrue (g.S.Store.tells c.read_present.new.store) = subst IsTrue (sym c.read_present.ensures.tells) yes in
     record {
       made = record {
-        forms = record { from = c.in-Some.from; to = c.in-Some-form_of.to; input_form = c.in-Some.ensures.found; output_form = c.in-Some-form_of.ensures.found };
+        forms = record {
+          from = c.in-Some.from;
+          to = c.in-Some-form_of.to;
+          input_form = c.in-Some.ensures.found;
+          output_form = c.in-Some-form_of.ensures.found;
+        };
         bytes = c.in_ok-bytes.bytes.items;
         text = c.in_ok-text.text.items;
         there = c.in_ok-bytes.ensures.read yes;
@@ -39,5 +44,7 @@ returns-clause-converted g c = λ yes.
         converts = c.in_ok-text.ensures.converted;
       };
       put = subst (λ f. Puts f c.args.output.now (Some c.in_ok-text.text.items) (g.S.Store.told c.write_file.new.store)) c.read_present.ensures.unchanged
-          (subst (λ xs. Puts (g.S.Store.told c.read_present.new.store) c.args.output.now (Some xs) (g.S.Store.told c.write_file.new.store)) c.as_slice.ensures.value (c.in_ok-write_file.ensures.written then));
+          (subst (λ xs. Puts (g.S.Store.told c.read_present.new.store) c.args.output.now (Some xs)
+          (g.S.Store.told c.write_file.new.store)) c.as_slice.ensures.value
+          (c.in_ok-write_file.ensures.written then));
     }

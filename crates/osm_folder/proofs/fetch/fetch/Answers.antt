@@ -12,4 +12,6 @@ returns-in_err-form-clause-stops g c =
     same_err _ c.from_residual-in_err-form.result _ c.from_residual-in_err-form.ensures.1
     ((rw (c.read_state.ensures.tells, c.read_state.ensures.unchanged) at c.in_err-form.ensures.stops)
     (λ yes. has_state (IsTrue (g.S.Store.tells c.args.store.now)) c.args.dir.now (g.S.Store.told c.args.store.now) c.args.number c.in-Some.state.items
-    (subst (λ o. IsStateRead (IsTrue (g.S.Store.tells c.args.store.now)) (g.S.Store.told c.args.store.now (file_name_of c.args.dir.now c.args.number State)) c.args.number o) c.in-Some.is c.in_ok-state.ensures.read) yes))
+    (subst (λ o. IsStateRead (IsTrue (g.S.Store.tells c.args.store.now))
+    (g.S.Store.told c.args.store.now (file_name_of c.args.dir.now c.args.number State)) c.args.number o)
+    c.in-Some.is c.in_ok-state.ensures.read) yes))

@@ -13,14 +13,16 @@ returns-then-before-number_of-clause-taken g c =
 pub returns-then-before-number_of-clause-most : goal.returns-then-before-number_of-clause-most
 returns-then-before-number_of-clause-most g c =
     let until = c.loop-before.invariant.until in
-    most_more (3 * (c.loop-before.before - c.args.follower.now.number)) (3 * (c.args.top - c.args.follower.now.number)) _ _ (omega (arith, until)) c.loop-before.invariant.most
+    most_more (3 * (c.loop-before.before - c.args.follower.now.number)) (3 * (c.args.top - c.args.follower.now.number))
+    _ _ (omega (arith, until)) c.loop-before.invariant.most
 
 pub returns-in-Err-clause-lacks : goal.returns-in-Err-clause-lacks
 returns-in-Err-clause-lacks g c =
     let i = c.loop-before.invariant in
     let from = i.from in
     let below : c.loop-before.before < c.args.top = grind (arith, common_steps) in
-    λ yes. lacks_after (3 * (c.loop-before.before - c.args.follower.now.number)) 3 (3 * (c.args.top - c.args.follower.now.number)) _ _ _ (omega (arith, below, from)) i.most
+    λ yes. lacks_after (3 * (c.loop-before.before - c.args.follower.now.number)) 3
+    (3 * (c.args.top - c.args.follower.now.number)) _ _ _ (omega (arith, below, from)) i.most
     ((rw i.tells at c.in-Err.ensures.lacks) yes)
 
 pub returns-in-Err-clause-left_after : goal.returns-in-Err-clause-left_after
@@ -45,7 +47,9 @@ loop-before-preserved g c =
       until = grind (arith, common_steps);
       left = spends_both 0 0 0 _ _ _ (omega arith) i.left c.take.ensures.left_after;
       most = (let from = i.from in
-          most_both (3 * (c.loop-before.before - c.args.follower.now.number)) 3 (3 * (c.loop-before.before + 1 - c.args.follower.now.number)) _ _ _ (omega (arith, from)) i.most c.in-Ok.ensures.most);
+          most_both (3 * (c.loop-before.before - c.args.follower.now.number)) 3
+          (3 * (c.loop-before.before + 1 - c.args.follower.now.number)) _ _ _ (omega (arith, from)) i.most
+          c.in-Ok.ensures.most);
       tells = c.take.ensures.tells ∙ i.tells;
       unchanged = c.take.ensures.unchanged ∙ i.unchanged;
       kept = (let before = i.kept in let more = c.take.ensures.kept in omega (arith, before, more));
@@ -56,7 +60,8 @@ loop-before-preserved g c =
 pub returns-clause-most : goal.returns-clause-most
 returns-clause-most g c =
     let until = c.loop-before.invariant.until in
-    most_more (3 * (c.loop-before.before - c.args.follower.now.number)) (3 * (c.args.top - c.args.follower.now.number)) _ _ (omega (arith, until)) c.loop-before.invariant.most
+    most_more (3 * (c.loop-before.before - c.args.follower.now.number)) (3 * (c.args.top - c.args.follower.now.number))
+    _ _ (omega (arith, until)) c.loop-before.invariant.most
 
 pub returns-clause-taken : goal.returns-clause-taken
 returns-clause-taken g c =

@@ -40,7 +40,8 @@ returns-in_err-write_file-3-clause-cut g c =
 
 pub returns-clause-cut : goal.returns-clause-cut
 returns-clause-cut g c =
-    err_both (PutStops Top) (IsCut (IsTrue (g.S.Store.tells c.args.store.now)) c.args.names.now c.args.published.now (g.S.Store.told c.args.store.now) (g.S.Store.told c.write_file-4.new.store))
+    err_both (PutStops Top) (IsCut (IsTrue (g.S.Store.tells c.args.store.now)) c.args.names.now c.args.published.now
+    (g.S.Store.told c.args.store.now) (g.S.Store.told c.write_file-4.new.store))
     c.write_file-4.result c.write_file-4.ensures.stops c.write_file-4.ensures.refused (λ fault stops same. record {
       count = 3;
       few = omega arith;

@@ -10,7 +10,8 @@ use Rattle.osm_folder.proofs.show.show_run.Goals as goal
 pub returns-in_err-follower-clause-stops : goal.returns-in_err-follower-clause-stops
 returns-in_err-follower-clause-stops g c =
     same_err _ c.from_residual-in_err-follower.result _ c.from_residual-in_err-follower.ensures.1
-    (restart_stops (IsTrue (g.S.Store.tells c.args.store.now)) (g.S.Store.told c.args.store.now c.args.save.now) c.in_ok-text.text.items c.in_err-follower.field-0.0
+    (restart_stops (IsTrue (g.S.Store.tells c.args.store.now)) (g.S.Store.told c.args.store.now c.args.save.now)
+    c.in_ok-text.text.items c.in_err-follower.field-0.0
     c.in_ok-text.ensures.read c.in_ok-text.ensures.within
     (subst (λ xs. RestartStops xs c.in_err-follower.field-0.0) c.as_slice.ensures.value c.in_err-follower.ensures.stops))
 

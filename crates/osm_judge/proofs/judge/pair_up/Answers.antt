@@ -12,4 +12,5 @@ returns c =
       | inl e ↦ no_first events.items replies.items events.len events.ok.0 e.1.0
       | inr e ↦ no_second events.items replies.items replies.len replies.ok.0 e.1.0
     ] in
-    c.reverse.ensures.items ∙ ap reverse (sym (append-nil c.loop-pair.pairs.items) ∙ (ap (λ rest. c.loop-pair.pairs.items ++ rest) (sym none) ∙ c.loop-pair.invariant))
+    c.reverse.ensures.items ∙ ap reverse (sym (append-nil c.loop-pair.pairs.items)
+    ∙ (ap (λ rest. c.loop-pair.pairs.items ++ rest) (sym none) ∙ c.loop-pair.invariant))

@@ -12,4 +12,5 @@ pub returns : goal.returns
 returns t c =
     let is : c.in_ok-is_legal.field-0 ≡ true = search rules in
     rw c.in-Some.ensures.cases.0
-    (IfOk-weaker c.is_allowed_next.result _ _ (λ b told. legal-cons c.in-Some.before.now c.in-Some.pair.now.0 c.in-Some.pair.now.1 b (c.in_ok-is_legal.ensures.0 is) told) c.is_allowed_next.ensures)
+    (IfOk-weaker c.is_allowed_next.result _ _ (λ b told. legal-cons c.in-Some.before.now c.in-Some.pair.now.0
+    c.in-Some.pair.now.1 b (c.in_ok-is_legal.ensures.0 is) told) c.is_allowed_next.ensures)

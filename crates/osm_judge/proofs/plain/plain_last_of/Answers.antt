@@ -16,7 +16,14 @@ loop-change-preserved c =
     let more = last_more c.args.changes.now c.loop-change.change-index c.change-item.result c.args.key (omega arith) here in
     elim c.if-is_eq.branch [
       | then-is_eq w ↦ (let test : same_key c.change-item.result.key c.args.key ≡ true = search rules in
-          ap option_copied w.last-is ∙ sym (more ∙ ap (λ b. if b then Some c.change-item.result else last_of (take c.loop-change.change-index c.args.changes.now) c.args.key) test))
+          ap option_copied w.last-is
+          ∙ sym (more
+          ∙ ap (λ b. if b then Some c.change-item.result else last_of
+          (take c.loop-change.change-index c.args.changes.now) c.args.key) test))
       | else-is_eq w ↦ (let test : same_key c.change-item.result.key c.args.key ≡ false = search rules in
-          ap option_copied w.last-is ∙ (c.loop-change.invariant ∙ sym (more ∙ ap (λ b. if b then Some c.change-item.result else last_of (take c.loop-change.change-index c.args.changes.now) c.args.key) test)))
+          ap option_copied w.last-is
+          ∙ (c.loop-change.invariant
+          ∙ sym (more
+          ∙ ap (λ b. if b then Some c.change-item.result else last_of
+          (take c.loop-change.change-index c.args.changes.now) c.args.key) test)))
     ]

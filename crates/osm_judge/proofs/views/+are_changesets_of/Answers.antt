@@ -6,8 +6,13 @@ use Rattle.osm_judge.proofs.views.+are_changesets_of.Goals as goal
 
 pub returns-then-is_changeset : goal.returns-then-is_changeset
 returns-then-is_changeset t c = rw c.in-Some.ensures.cases.0
-    (all-cons (λ d. count_at c.args.changesets.now d.meta.changeset ≡ edits_by_changeset c.args.changes.now d.meta.changeset) c.in-Some.first.now c.in-Some.others.now c.are_changesets_of.result (rw (← c.meta.ensures, ← c.changeset-id.ensures) (c.is_changeset.ensures.0 c.if-is_changeset.true)) c.are_changesets_of.ensures)
+    (all-cons (λ d. count_at c.args.changesets.now d.meta.changeset ≡ edits_by_changeset c.args.changes.now
+    d.meta.changeset) c.in-Some.first.now c.in-Some.others.now c.are_changesets_of.result
+    (rw (← c.meta.ensures, ← c.changeset-id.ensures) (c.is_changeset.ensures.0 c.if-is_changeset.true))
+    c.are_changesets_of.ensures)
 
 pub returns-else-is_changeset : goal.returns-else-is_changeset
 returns-else-is_changeset t c = rw c.in-Some.ensures.cases.0
-    (not_cons (λ d. count_at c.args.changesets.now d.meta.changeset ≡ edits_by_changeset c.args.changes.now d.meta.changeset) c.in-Some.first.now c.in-Some.others.now c.is_changeset.result (rw (← c.meta.ensures, ← c.changeset-id.ensures) c.is_changeset.ensures.1) c.if-is_changeset.false)
+    (not_cons (λ d. count_at c.args.changesets.now d.meta.changeset ≡ edits_by_changeset c.args.changes.now
+    d.meta.changeset) c.in-Some.first.now c.in-Some.others.now c.is_changeset.result
+    (rw (← c.meta.ensures, ← c.changeset-id.ensures) c.is_changeset.ensures.1) c.if-is_changeset.false)

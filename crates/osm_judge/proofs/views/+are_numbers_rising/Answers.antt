@@ -7,7 +7,8 @@ returns-in-None t c = rw (no_items c.args.numbers.now c.in-None.ensures.cases) (
 
 pub returns-then-is_number_below : goal.returns-then-is_number_below
 returns-then-is_number_below t c = rw c.in-Some.ensures.cases.0
-    (rising-cons nat_cmp c.in-Some.first.now c.in-Some.others.now c.is_number_below.result c.are_numbers_rising.result c.is_number_below.ensures c.if-is_number_below.true c.are_numbers_rising.ensures)
+    (rising-cons nat_cmp c.in-Some.first.now c.in-Some.others.now c.is_number_below.result c.are_numbers_rising.result
+    c.is_number_below.ensures c.if-is_number_below.true c.are_numbers_rising.ensures)
 
 pub returns-else-is_number_below : goal.returns-else-is_number_below
 returns-else-is_number_below t c = rw c.in-Some.ensures.cases.0

@@ -6,8 +6,12 @@ use Rattle.osm_judge.proofs.views.+are_users_of.Goals as goal
 
 pub returns-then-is_user : goal.returns-then-is_user
 returns-then-is_user t c = rw c.in-Some.ensures.cases.0
-    (all-cons (λ d. count_at c.args.users.now d.meta.uid ≡ edits_by_user c.args.changes.now d.meta.uid) c.in-Some.first.now c.in-Some.others.now c.are_users_of.result (rw (← c.meta.ensures, ← c.uid-uid.ensures) (c.is_user.ensures.0 c.if-is_user.true)) c.are_users_of.ensures)
+    (all-cons (λ d. count_at c.args.users.now d.meta.uid ≡ edits_by_user c.args.changes.now d.meta.uid)
+    c.in-Some.first.now c.in-Some.others.now c.are_users_of.result (rw (← c.meta.ensures, ← c.uid-uid.ensures)
+    (c.is_user.ensures.0 c.if-is_user.true)) c.are_users_of.ensures)
 
 pub returns-else-is_user : goal.returns-else-is_user
 returns-else-is_user t c = rw c.in-Some.ensures.cases.0
-    (not_cons (λ d. count_at c.args.users.now d.meta.uid ≡ edits_by_user c.args.changes.now d.meta.uid) c.in-Some.first.now c.in-Some.others.now c.is_user.result (rw (← c.meta.ensures, ← c.uid-uid.ensures) c.is_user.ensures.1) c.if-is_user.false)
+    (not_cons (λ d. count_at c.args.users.now d.meta.uid ≡ edits_by_user c.args.changes.now d.meta.uid)
+    c.in-Some.first.now c.in-Some.others.now c.is_user.result
+    (rw (← c.meta.ensures, ← c.uid-uid.ensures) c.is_user.ensures.1) c.if-is_user.false)

@@ -5,7 +5,8 @@ use Rattle.osm_judge.proofs.views.are_exactly_held.Goals as goal
 
 pub returns-then-are_accepted : goal.returns-then-are_accepted
 returns-then-are_accepted c = (
-  λ t. exactly_held (λ j. (c.args.number < j) × (accepted_of c.args.history.now j ≡ true)) c.args.held.now (c.are_accepted.ensures.0 c.if-are_accepted.true) (λ j q. c.are_all_held.ensures.0 t j q.0 q.1),
+  λ t. exactly_held (λ j. (c.args.number < j) × (accepted_of c.args.history.now j ≡ true)) c.args.held.now
+      (c.are_accepted.ensures.0 c.if-are_accepted.true) (λ j q. c.are_all_held.ensures.0 t j q.0 q.1),
   λ exact. c.are_all_held.ensures.1 (λ j above is. (exact j).1 (above, is)),
 )
 

@@ -8,7 +8,9 @@ use Rattle.osm_judge.proofs.views.are_objects.Goals as goal
 pub returns-then-is_first : goal.returns-then-is_first
 returns-then-is_first c = (
   λ t. right_everywhere c.args.objects.now c.args.changes.now (c.in_ok-is_first.ensures.0 c.if-is_first.true) (c.in_ok-is_second.ensures.0 t),
-  λ all. c.in_ok-is_second.ensures.1 (everywhere_in (λ k. object_at c.args.objects.now k ≡ content_of c.args.changes.now k) (λ o. o.key) c.args.changes.now all),
+  λ all. c.in_ok-is_second.ensures.1
+      (everywhere_in (λ k. object_at c.args.objects.now k ≡ content_of c.args.changes.now k)
+      (λ o. o.key) c.args.changes.now all),
 )
 
 pub returns-else-is_first : goal.returns-else-is_first

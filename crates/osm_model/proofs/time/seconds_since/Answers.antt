@@ -22,7 +22,8 @@ returns-clause-some c =
     let ed : to_z w8 p.day ≡ pos p.day = omega (arith, ints) in
     let month : pos c.in_ok-date.date.month ≡ pos p.month = is.1 ∙ em in
     let day : pos c.in_ok-date.date.day ≡ pos p.day = is.2 ∙ ed in
-    let sum : c.total.result ≡ seconds_of (moment_of p) = sum_of (moment_of p) c.in_ok-date.date c.to_unix_epoch_day.result c.total.result d (is.0 ∙ ey) (cc) (cc) e in
+    let sum : c.total.result ≡ seconds_of (moment_of p) =
+    sum_of (moment_of p) c.in_ok-date.date c.to_unix_epoch_day.result c.total.result d (is.0 ∙ ey) (cc) (cc) e in
     let made : IsDate (to_z w16 p.year) (to_z w8 p.month) (to_z w8 p.day) = search rules in
     let civil_date : IsCivilDate (pos p.year) p.month p.day = civil p.year p.month p.day (rw (ey, em, ed) at made) in
     (simp to_z-of_z sum, record { year = omega arith; date = civil_date; hour = omega arith; minute = omega arith; second = omega arith })

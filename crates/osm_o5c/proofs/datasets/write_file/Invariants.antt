@@ -4,4 +4,5 @@ use Rattle.osm_o5c.specs.File.{beginning}
 use Rattle.osm_o5c.proofs.datasets.write_file.Given as goal
 
 abbrev pub invariant-loop-change : goal.invariant-loop-change
-invariant-loop-change l = l.writer.out.items ++ objects_text l.writer.kind l.writer.state (drop l.change-index l.changes) ≡ beginning ++ objects_text None new_state l.changes
+invariant-loop-change l = l.writer.out.items ++ objects_text l.writer.kind l.writer.state
+    (drop l.change-index l.changes) ≡ beginning ++ objects_text None new_state l.changes

@@ -6,9 +6,16 @@ use Rattle.osm_o5c.proofs.metadata.write_meta.Goals as goal
 pub returns-clause-text : goal.returns-clause-text
 returns-clause-text c =
     let version : c.write_unsigned.new.out.items ≡ c.args.out.now.items ++ number_text c.args.meta.now.version = search rules in
-    let time : c.write_difference.new.out.items ≡ c.write_unsigned.new.out.items ++ difference_text c.args.state.now.counters.time (pos c.args.meta.now.time) = search rules in
-    let changeset : c.write_difference-2.new.out.items ≡ c.write_difference.new.out.items ++ difference_text c.args.state.now.counters.changeset (pos c.args.meta.now.changeset) = search rules in
+    let time : c.write_difference.new.out.items ≡ c.write_unsigned.new.out.items
+    ++ difference_text c.args.state.now.counters.time (pos c.args.meta.now.time) = search rules in
+    let changeset : c.write_difference-2.new.out.items ≡ c.write_difference.new.out.items
+    ++ difference_text c.args.state.now.counters.changeset (pos c.args.meta.now.changeset) = search rules in
     let user : c.user.result.now ≡ c.args.meta.now.user = search rules in
     let uid : c.uid.result ≡ c.args.meta.now.uid = search rules in
     on_ok c.write_user.result c.write_user.ensures.text (λ e.
-    four_pieces c.args.out.now.items c.write_unsigned.new.out.items c.write_difference.new.out.items c.write_difference-2.new.out.items c.write_user.new.out.items (number_text c.args.meta.now.version) (difference_text c.args.state.now.counters.time (pos c.args.meta.now.time)) (difference_text c.args.state.now.counters.changeset (pos c.args.meta.now.changeset)) (pair_text c.args.state.now.strings (number_text c.args.meta.now.uid) c.args.meta.now.user) version time changeset (rw (user, uid) at e))
+    four_pieces c.args.out.now.items c.write_unsigned.new.out.items c.write_difference.new.out.items
+    c.write_difference-2.new.out.items c.write_user.new.out.items (number_text c.args.meta.now.version)
+    (difference_text c.args.state.now.counters.time (pos c.args.meta.now.time))
+    (difference_text c.args.state.now.counters.changeset (pos c.args.meta.now.changeset))
+    (pair_text c.args.state.now.strings (number_text c.args.meta.now.uid) c.args.meta.now.user) version time
+    changeset (rw (user, uid) at e))

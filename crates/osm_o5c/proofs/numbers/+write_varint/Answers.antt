@@ -8,7 +8,10 @@ returns-then-most-eq0 t c =
     rw none (varint_none c.args.number c.args.out.now.items)
 
 pub returns-then-number-lt128 : goal.returns-then-number-lt128
-returns-then-number-lt128 t c = varint_last c.args.most c.args.number c.args.out.now.items c.push.new.self.items (omega arith) (omega arith) c.in_ok-push.ensures.items
+returns-then-number-lt128 t c = varint_last c.args.most c.args.number c.args.out.now.items c.push.new.self.items
+    (omega arith) (omega arith) c.in_ok-push.ensures.items
 
 pub returns : goal.returns
-returns t c = on_ok c.write_varint.result c.write_varint.ensures (λ e. varint_more c.args.most c.args.number c.args.out.now.items c.push-2.new.self.items c.write_varint.new.out.items (omega arith) (omega arith) c.in_ok-push-2.ensures.items e)
+returns t c = on_ok c.write_varint.result c.write_varint.ensures
+    (λ e. varint_more c.args.most c.args.number c.args.out.now.items c.push-2.new.self.items
+    c.write_varint.new.out.items (omega arith) (omega arith) c.in_ok-push-2.ensures.items e)

@@ -16,7 +16,11 @@ returns-in_default c =
     let rest = drop (c.in_ok-last.last + 1) bytes in
     let last : c.in_ok-last.last < length bytes = c.in_ok-last.ensures.last.within in
     let now : varint_at 10 bytes ≡ with_lows (take i bytes) (Some (c.loop-index.number, rest)) = c.loop-index.invariant in
-    rw (now, lows_back bytes i (Some (c.loop-index.number, rest)) c.loop-index-test.true (omega arith), low_none (get_or bytes (i - 1) 0) c.loop-index.number rest (omega arith)) (lows_none (take (i - 1) bytes))
+    rw (
+      now,
+      lows_back bytes i (Some (c.loop-index.number, rest)) c.loop-index-test.true (omega arith),
+      low_none (get_or bytes (i - 1) 0) c.loop-index.number rest (omega arith),
+    ) (lows_none (take (i - 1) bytes))
 
 pub loop-index-preserved : goal.loop-index-preserved
 loop-index-preserved c =
@@ -28,10 +32,21 @@ loop-index-preserved c =
     let now : varint_at 10 bytes ≡ with_lows (take i bytes) (Some (c.loop-index.number, rest)) = c.loop-index.invariant in
     let shifted : c.in-Some.shifted ≡ c.loop-index.number * 128 = c.in-Some.ensures.1 in
     let sum : c.in-Some.shifted + b % 128 ≡ b % 128 + 128 * c.loop-index.number = omega arith in
-    rw (now, lows_back bytes i (Some (c.loop-index.number, rest)) c.loop-index-test.true (omega arith), low_fits b c.loop-index.number rest (omega (arith, c.in-Some.ensures.0)), sum) refl
+    rw (
+      now,
+      lows_back bytes i (Some (c.loop-index.number, rest)) c.loop-index-test.true (omega arith),
+      low_fits b c.loop-index.number rest (omega (arith, c.in-Some.ensures.0)),
+      sum,
+    ) refl
 
 pub returns : goal.returns
 returns c =
     let bytes = c.args.bytes.now in
-    let now : varint_at 10 bytes ≡ with_lows (take c.loop-index.index bytes) (Some (c.loop-index.number, drop (c.in_ok-last.last + 1) bytes)) = c.loop-index.invariant in
-    rw (now, no_lows bytes c.loop-index.index (Some (c.loop-index.number, drop (c.in_ok-last.last + 1) bytes)) c.loop-index-test.false, take_rest bytes (c.in_ok-last.last + 1)) refl
+    let now : varint_at 10 bytes ≡ with_lows (take c.loop-index.index bytes)
+    (Some (c.loop-index.number, drop (c.in_ok-last.last + 1) bytes)) = c.loop-index.invariant in
+    rw (
+      now,
+      no_lows bytes c.loop-index.index (Some (c.loop-index.number, drop (c.in_ok-last.last + 1) bytes))
+          c.loop-index-test.false,
+      take_rest bytes (c.in_ok-last.last + 1),
+    ) refl

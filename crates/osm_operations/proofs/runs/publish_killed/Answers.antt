@@ -1,15 +1,15 @@
-use Rattle.std.proofs.Common.{Some, ap, refl, subst}
-use Rattle.osm_folder.specs.Runs.{LacksCalls}
+use Rattle.std.proofs.Common.{Some, ap}
 use Rattle.osm_folder.specs.Stores.{files_of}
-use Rattle.osm_folder.proofs.ResultLemmas.{err_map}
 use Rattle.osm_operations.proofs.RunLemmas.{run_step_over}
 use Rattle.osm_operations.proofs.runs.publish_killed.Goals as goal
 
 pub returns-clause-step : goal.returns-clause-step
 returns-clause-step c =
-    run_step_over c.args.dir.now c.args.changes.now c.text_of.result.now c.args.batch.now c.args.time
+    run_step_over (Some c.args.calls) (Some c.fuse_over-fuse.result.calls)
+    c.args.dir.now c.args.changes.now c.text_of.result.now c.args.batch.now c.args.time
     (files_of c.args.store.now) (files_of c.write_changes.new.store) (files_of c.fuse_over-fuse.result.inner)
     (files_of c.publish_run-answer.new.store.inner) (files_of c.into_inner.result) c.publish_run-answer.result
+    (ap Some c.fuse_over-fuse.ensures.calls)
     c.fuse_over-fuse.ensures.inner
     (ap files_of c.into_inner.ensures)
     (rw c.text_of.ensures c.time_write-now.ensures.shows)
@@ -20,10 +20,6 @@ returns-clause-step c =
       stops = c.publish_run-answer.ensures.stops;
       refuses = c.publish_run-answer.ensures.refuses;
       keeps = c.publish_run-answer.ensures.keeps;
+      out = c.publish_run-answer.ensures.out;
       others = c.publish_run-answer.ensures.others;
     })
-
-pub returns-clause-lacks : goal.returns-clause-lacks
-returns-clause-lacks c =
-    err_map _ _ c.publish_run-answer.result c.publish_run-answer.ensures.lacks
-    (λ fault lacks. subst (λ n. LacksCalls 6 (Some n) fault) c.fuse_over-fuse.ensures.calls (lacks refl))

@@ -25,9 +25,15 @@ loop-operation-preserved c =
       room = grind (arith, common_steps);
       rest = grind (arith, common_steps);
       many = grind (arith, common_steps);
-      holds = λ apart new. rw (pushed, history_of-snoc c.loop-operation.yielded c.loop-operation.replies.items c.in-Some.operation c.step-reply.result c.loop-operation.invariant.many)
+      holds = λ apart new. rw (
+        pushed,
+        history_of-snoc c.loop-operation.yielded c.loop-operation.replies.items
+            c.in-Some.operation c.step-reply.result c.loop-operation.invariant.many,
+      )
           (step_holds _ _ _ c.args.dir.now c.args.save.now c.args.changes.now _ _ _ apart (c.loop-operation.invariant.holds apart new) c.step-reply.ensures);
-      run = λ apart new. rw pushed (holds_at_end (c.loop-operation.yielded ++ c.in-Some.operation ∷ []) (c.loop-operation.replies.items ++ c.step-reply.result ∷ []) c.args.dir.now c.args.save.now c.args.changes.now (files_of c.args.store) c.step-reply.new.self
+      run = λ apart new. rw pushed (holds_at_end (c.loop-operation.yielded ++ c.in-Some.operation ∷ [])
+          (c.loop-operation.replies.items ++ c.step-reply.result ∷ []) c.args.dir.now c.args.save.now c.args.changes.now
+          (files_of c.args.store) c.step-reply.new.self
           (rw (history_of-snoc c.loop-operation.yielded c.loop-operation.replies.items c.in-Some.operation c.step-reply.result c.loop-operation.invariant.many)
           (step_holds _ _ _ c.args.dir.now c.args.save.now c.args.changes.now _ _ _ apart (c.loop-operation.invariant.holds apart new) c.step-reply.ensures)));
     }

@@ -21,7 +21,8 @@ returns-in_default c =
 
 pub loop-byte-preserved : goal.loop-byte-preserved
 loop-byte-preserved c =
-    let next = one_hex_digit c.args.digits.now 4294967295 c.loop-byte.byte-index c.loop-byte.number c.in-Some.digit (omega arith) c.loop-byte.invariant (search rules) (search rules) in
+    let next = one_hex_digit c.args.digits.now 4294967295 c.loop-byte.byte-index c.loop-byte.number c.in-Some.digit
+    (omega arith) c.loop-byte.invariant (search rules) (search rules) in
     rw (c.saturating_add-number.ensures, c.saturating_mul.ensures) next
 
 pub returns : goal.returns

@@ -8,4 +8,5 @@ returns-clause-value c =
     let parts : c.in-Some.fields.now ≡ c.in-Some-split_first.first.now ∷ c.in-Some-split_first.content.now = search rules in
     let same : c.in-Some-split_first.first.now ≡ c.args.letter = omega arith in
     rw (c.in-Some.is, parts, same)
-    (plain_positive c.args.letter c.in-Some-split_first.content.now c.in_ok-number.number (pieces_after 32 c.in_ok-number.rest) c.requires c.in_ok-number.ensures.value (omega arith) (omega arith))
+    (plain_positive c.args.letter c.in-Some-split_first.content.now c.in_ok-number.number
+    (pieces_after 32 c.in_ok-number.rest) c.requires c.in_ok-number.ensures.value (omega arith) (omega arith))

@@ -6,4 +6,14 @@ use Rattle.osm_opl.proofs.metadata.prepend_user.Goals as goal
 pub returns-clause-written : goal.returns-clause-written
 returns-clause-written c =
     let none : drop 96 c.args.room.now ≡ [] = drop_all 96 c.args.room.now (search rules) in
-    rw (c.prepend.ensures.written, c.prepend-time.ensures.written, c.prepend_number-uid.ensures.written, c.prepend-name.ensures.written, none, append_assoc, c.time_write.ensures.value, c.time.ensures, c.uid.ensures)
+    rw (
+      c.prepend.ensures.written,
+      c.prepend-time.ensures.written,
+      c.prepend_number-uid.ensures.written,
+      c.prepend-name.ensures.written,
+      none,
+      append_assoc,
+      c.time_write.ensures.value,
+      c.time.ensures,
+      c.uid.ensures,
+    )

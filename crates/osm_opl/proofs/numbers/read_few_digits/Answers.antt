@@ -6,13 +6,15 @@ use Rattle.osm_opl.proofs.numbers.read_few_digits.Goals as goal
 
 pub returns-then-not-is_ascii_digit : goal.returns-then-not-is_ascii_digit
 returns-then-not-is_ascii_digit c =
-    no_numeral 18446744073709551615 10 (length c.args.bytes.now) c.args.bytes.now (no_decimal (length c.args.bytes.now) c.args.bytes.now c.loop-byte.byte-index (omega arith) (search rules))
+    no_numeral 18446744073709551615 10 (length c.args.bytes.now) c.args.bytes.now
+    (no_decimal (length c.args.bytes.now) c.args.bytes.now c.loop-byte.byte-index (omega arith) (search rules))
 
 -- eighteen digits and one more fit
 pub overflow_mul-number : goal.overflow_mul-number
 overflow_mul-number c =
     let short : length c.args.bytes.now ≤ 19 = c.requires.1 in
-    let room : c.loop-byte.number < 1000000000000000000 = room_for_digit c.args.bytes.now c.loop-byte.byte-index c.loop-byte.number (omega arith) c.loop-byte.invariant in
+    let room : c.loop-byte.number < 1000000000000000000 =
+    room_for_digit c.args.bytes.now c.loop-byte.byte-index c.loop-byte.number (omega arith) c.loop-byte.invariant in
     omega arith
 
 pub overflow_add-number : goal.overflow_add-number
@@ -20,7 +22,8 @@ overflow_add-number c =
     let short : length c.args.bytes.now ≤ 19 = c.requires.1 in
     let digit : is_ascii_digit (get_or c.args.bytes.now c.loop-byte.byte-index 0) ≡ true = search rules in
     let high : get_or c.args.bytes.now c.loop-byte.byte-index 0 ≤ 57 = grind (arith, nat_tests) in
-    let room : c.loop-byte.number < 1000000000000000000 = room_for_digit c.args.bytes.now c.loop-byte.byte-index c.loop-byte.number (omega arith) c.loop-byte.invariant in
+    let room : c.loop-byte.number < 1000000000000000000 =
+    room_for_digit c.args.bytes.now c.loop-byte.byte-index c.loop-byte.number (omega arith) c.loop-byte.invariant in
     omega arith
 
 pub loop-byte-preserved : goal.loop-byte-preserved
@@ -31,4 +34,5 @@ loop-byte-preserved c =
 
 pub returns : goal.returns
 returns c =
-    digits_done 10 (length c.args.bytes.now) c.args.bytes.now 18446744073709551615 c.loop-byte.number c.loop-byte.byte-index (omega arith) c.requires.0 (omega arith) c.loop-byte.invariant
+    digits_done 10 (length c.args.bytes.now) c.args.bytes.now 18446744073709551615 c.loop-byte.number
+    c.loop-byte.byte-index (omega arith) c.requires.0 (omega arith) c.loop-byte.invariant

@@ -9,14 +9,19 @@ loop-rest-init c = record { read = rw c.new-batch.ensures (lines_begun c.args.by
 
 pub returns-in-Err-clause-refused : goal.returns-in-Err-clause-refused
 returns-in-Err-clause-refused c =
-    line_stops c.args.bytes.now (lines_after c.loop-rest.rest) (lines_after c.split_line.result.1) c.split_line.result.0.now c.loop-rest.batch c.loop-rest.place c.in-Err.error c.requires c.loop-rest.invariant.read (rw c.in-Some.is c.split_line.ensures.lines) c.in-Err.ensures.refused
+    line_stops c.args.bytes.now (lines_after c.loop-rest.rest) (lines_after c.split_line.result.1)
+    c.split_line.result.0.now c.loop-rest.batch c.loop-rest.place c.in-Err.error c.requires
+    c.loop-rest.invariant.read (rw c.in-Some.is c.split_line.ensures.lines) c.in-Err.ensures.refused
 
 pub loop-rest-preserved : goal.loop-rest-preserved
 loop-rest-preserved c =
-    let left : bytes_left c.split_line.result.1 ≤ length c.in-Some.lines.now = less_left c.split_line.result.1 (length c.in-Some.lines.now) c.split_line.ensures.shorter in
+    let left : bytes_left c.split_line.result.1 ≤ length c.in-Some.lines.now =
+    less_left c.split_line.result.1 (length c.in-Some.lines.now) c.split_line.ensures.shorter in
     let bound : c.loop-rest.place + bytes_left c.loop-rest.rest ≤ length c.args.bytes.now + 1 = c.loop-rest.invariant.bound in
     let before = rw c.in-Some.is at bound in
     record {
-      read = line_added c.args.bytes.now (lines_after c.loop-rest.rest) (lines_after c.split_line.result.1) c.split_line.result.0.now c.loop-rest.batch c.add_line.new.batch c.loop-rest.place c.loop-rest.invariant.read (rw c.in-Some.is c.split_line.ensures.lines) c.in-Ok.ensures.ok c.in-Ok.ensures.few;
+      read = line_added c.args.bytes.now (lines_after c.loop-rest.rest) (lines_after c.split_line.result.1)
+          c.split_line.result.0.now c.loop-rest.batch c.add_line.new.batch c.loop-rest.place c.loop-rest.invariant.read
+          (rw c.in-Some.is c.split_line.ensures.lines) c.in-Ok.ensures.ok c.in-Ok.ensures.few;
       bound = omega arith;
     }

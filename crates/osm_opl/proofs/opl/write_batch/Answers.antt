@@ -11,11 +11,17 @@ loop-change-init c =
 pub returns-then-len-gt-MAX_FILE-clause-refused : goal.returns-then-len-gt-MAX_FILE-clause-refused
 returns-then-len-gt-MAX_FILE-clause-refused c =
     let next : c.add_change.new.text.items ≡ opl_text (take (c.loop-change.change-index + 1) c.changes-change-items.result.now) =
-    file_more c.loop-change.text.items c.add_change.new.text.items c.changes-change-items.result.now c.loop-change.change-index c.change-item.result c.loop-change.invariant (omega arith) c.change-item.is c.in-Ok-add_change.ensures in
-    rw (← c.changes-change-items.ensures.changes) (file_prefix c.add_change.new.text.items c.changes-change-items.result.now (c.loop-change.change-index + 1) next (search rules))
+    file_more c.loop-change.text.items c.add_change.new.text.items c.changes-change-items.result.now
+    c.loop-change.change-index c.change-item.result c.loop-change.invariant (omega arith) c.change-item.is
+    c.in-Ok-add_change.ensures.ok in
+    rw (← c.changes-change-items.ensures.changes)
+    (file_prefix c.add_change.new.text.items c.changes-change-items.result.now (c.loop-change.change-index + 1) next
+    (search rules))
 
 pub loop-change-preserved : goal.loop-change-preserved
 loop-change-preserved c = record {
-  same = file_more c.loop-change.text.items c.add_change.new.text.items c.changes-change-items.result.now c.loop-change.change-index c.change-item.result c.loop-change.invariant (omega arith) c.change-item.is c.in-Ok-add_change.ensures;
+  same = file_more c.loop-change.text.items c.add_change.new.text.items c.changes-change-items.result.now
+      c.loop-change.change-index c.change-item.result c.loop-change.invariant (omega arith) c.change-item.is
+      c.in-Ok-add_change.ensures.ok;
   small = search rules;
 }

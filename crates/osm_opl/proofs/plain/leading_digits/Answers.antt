@@ -11,14 +11,18 @@ loop-count-init c = record { digits = no_digits_yet 10 18446744073709551615 c.ar
 -- eighteen digits and one more fit
 pub overflow_mul-number : goal.overflow_mul-number
 overflow_mul-number c =
-    let room : c.loop-count.number < 1000000000000000000 = room_for_digit c.args.bytes.now c.loop-count.count c.loop-count.number (omega arith) c.loop-count.invariant.digits in
+    let room : c.loop-count.number < 1000000000000000000 =
+    room_for_digit c.args.bytes.now c.loop-count.count c.loop-count.number
+    (omega arith) c.loop-count.invariant.digits in
     omega arith
 
 pub overflow_add-number : goal.overflow_add-number
 overflow_add-number c =
     let digit : is_ascii_digit (get_or c.args.bytes.now c.loop-count.count 0) ≡ true = search rules in
     let high : get_or c.args.bytes.now c.loop-count.count 0 ≤ 57 = grind (arith, nat_tests) in
-    let room : c.loop-count.number < 1000000000000000000 = room_for_digit c.args.bytes.now c.loop-count.count c.loop-count.number (omega arith) c.loop-count.invariant.digits in
+    let room : c.loop-count.number < 1000000000000000000 =
+    room_for_digit c.args.bytes.now c.loop-count.count c.loop-count.number
+    (omega arith) c.loop-count.invariant.digits in
     omega arith
 
 pub loop-count-preserved : goal.loop-count-preserved
@@ -30,7 +34,8 @@ loop-count-preserved c =
     }
 
 pub returns-then-not-is_ascii_digit-clause-value : goal.returns-then-not-is_ascii_digit-clause-value
-returns-then-not-is_ascii_digit-clause-value c = exact_number c.args.bytes.now c.loop-count.count c.loop-count.number (omega arith) c.loop-count.invariant.digits
+returns-then-not-is_ascii_digit-clause-value c = exact_number c.args.bytes.now c.loop-count.count c.loop-count.number
+    (omega arith) c.loop-count.invariant.digits
 
 pub returns-clause-value : goal.returns-clause-value
 returns-clause-value c = exact_number c.args.bytes.now c.loop-count.count c.loop-count.number (omega arith) c.loop-count.invariant.digits

@@ -10,11 +10,16 @@ returns c =
     c.in_ok-subcommand.ensures.shape c.replay.ensures.local ∙ ap₂ with_subcommand c.program.ensures.app (ap (λ (a : App). a.top) c.replay.ensures.app) in
     let with_publish : app_of c.in_ok-subcommand-2.field-0 ≡ with_subcommand (with_subcommand program_app replay_app.top) publish_app.top =
     c.in_ok-subcommand-2.ensures.shape c.in_ok-publish.ensures.local ∙ ap₂ with_subcommand with_replay (ap (λ (a : App). a.top) c.in_ok-publish.ensures.app) in
-    let with_follow : app_of c.in_ok-subcommand-3.field-0 ≡ with_subcommand (with_subcommand (with_subcommand program_app replay_app.top) publish_app.top) follow_app.top =
+    let with_follow : app_of c.in_ok-subcommand-3.field-0 ≡ with_subcommand
+    (with_subcommand (with_subcommand program_app replay_app.top) publish_app.top) follow_app.top =
     c.in_ok-subcommand-3.ensures.shape c.in_ok-follow.ensures.local ∙ ap₂ with_subcommand with_publish (ap (λ (a : App). a.top) c.in_ok-follow.ensures.app) in
-    let with_lag : app_of c.in_ok-subcommand-4.field-0 ≡ with_subcommand (with_subcommand (with_subcommand (with_subcommand program_app replay_app.top) publish_app.top) follow_app.top) lag_app.top =
+    let with_lag : app_of c.in_ok-subcommand-4.field-0 ≡ with_subcommand
+    (with_subcommand (with_subcommand (with_subcommand program_app replay_app.top) publish_app.top) follow_app.top)
+    lag_app.top =
     c.in_ok-subcommand-4.ensures.shape c.in_ok-lag.ensures.local ∙ ap₂ with_subcommand with_follow (ap (λ (a : App). a.top) c.in_ok-lag.ensures.app) in
-    let with_show : app_of c.in_ok-subcommand-5.field-0 ≡ with_subcommand (with_subcommand (with_subcommand (with_subcommand (with_subcommand program_app replay_app.top) publish_app.top) follow_app.top) lag_app.top) show_app.top =
+    let with_show : app_of c.in_ok-subcommand-5.field-0 ≡ with_subcommand
+    (with_subcommand (with_subcommand (with_subcommand (with_subcommand program_app replay_app.top) publish_app.top)
+    follow_app.top) lag_app.top) show_app.top =
     c.in_ok-subcommand-5.ensures.shape c.in_ok-show.ensures.local ∙ ap₂ with_subcommand with_lag (ap (λ (a : App). a.top) c.in_ok-show.ensures.app) in
     IfOk-weaker c.subcommand-6.result _ _ (λ r h. h.shape c.in_ok-convert.ensures.local
     ∙ ap₂ with_subcommand with_show (ap (λ (a : App). a.top) c.in_ok-convert.ensures.app)) c.subcommand-6.ensures

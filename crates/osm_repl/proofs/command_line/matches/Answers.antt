@@ -5,10 +5,14 @@ use Rattle.osm_repl.specs.CommandLine.{osmrepl_app}
 use Rattle.osm_repl.proofs.command_line.matches.Goals as goal
 
 pub returns-clause-taken : goal.returns-clause-taken
-returns-clause-taken c = IfErr-weaker c.try_get_matches_from.result _ _ (λ e h t. h (ap (λ (a : App). takes a (map (λ s. s.now) c.args.words.now)) c.in_ok-command.ensures ∙ t)) c.try_get_matches_from.ensures.passes
+returns-clause-taken c = IfErr-weaker c.try_get_matches_from.result _ _
+    (λ e h t. h (ap (λ (a : App). takes a (map (λ s. s.now) c.args.words.now)) c.in_ok-command.ensures ∙ t))
+    c.try_get_matches_from.ensures.passes
 
 pub returns-clause-matches : goal.returns-clause-matches
-returns-clause-matches c = IfOk-weaker c.try_get_matches_from.result _ _ (λ m h. subst (λ (a : App). HasMatchesOf a (map (λ s. s.now) c.args.words.now) m) c.in_ok-command.ensures h) c.try_get_matches_from.ensures.matches
+returns-clause-matches c = IfOk-weaker c.try_get_matches_from.result _ _
+    (λ m h. subst (λ (a : App). HasMatchesOf a (map (λ s. s.now) c.args.words.now) m) c.in_ok-command.ensures h)
+    c.try_get_matches_from.ensures.matches
 
 -- the command is simple, and none of its words has a rule on another
 is_simple : is_simple_and_free osmrepl_app ≡ true

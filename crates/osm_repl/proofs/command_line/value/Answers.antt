@@ -6,7 +6,8 @@ use Rattle.osm_repl.proofs.CommandLemmas.{no_value}
 use Rattle.osm_repl.proofs.command_line.value.Goals as goal
 
 pub unreachable-requires : goal.unreachable-requires
-unreachable-requires c = no_value c.get_str.result c.args.name.now _ c.in_default.is (c.get_str.ensures ∙ first_value-rows (found_of c.args.given.now) c.args.name.now) c.requires
+unreachable-requires c = no_value c.get_str.result c.args.name.now _ c.in_default.is (c.get_str.ensures
+    ∙ first_value-rows (found_of c.args.given.now) c.args.name.now) c.requires
 
 pub returns : goal.returns
 returns c =

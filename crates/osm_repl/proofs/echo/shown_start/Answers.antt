@@ -7,5 +7,6 @@ use Rattle.osm_repl.proofs.echo.shown_start.Goals as goal
 
 pub returns : goal.returns
 returns c =
-    let end = YieldsList-end (YieldsList-from_take 64 (YieldsList-from_chars c.args.word.now c.utf8.word cc) cc) c.loop-character.yielded _ c.loop-character.yielded_by _ _ c.in-None.is c.next.ensures.steps in
+    let end = YieldsList-end (YieldsList-from_take 64 (YieldsList-from_chars c.args.word.now c.utf8.word cc) cc)
+    c.loop-character.yielded _ c.loop-character.yielded_by _ _ c.in-None.is c.next.ensures.steps in
     c.loop-character.invariant ∙ ap (flat_map shown_char) (sym (map-id c.loop-character.yielded) ∙ end.0)

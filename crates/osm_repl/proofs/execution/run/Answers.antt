@@ -12,3 +12,12 @@ returns-in-Follow-clause-refuses g c = rw c.in-Follow.is c.follow_run.ensures.re
 
 pub returns-in-Lag-clause-over : goal.returns-in-Lag-clause-over
 returns-in-Lag-clause-over g c = rw c.in-Lag.is c.lag_run.ensures.in_step
+
+pub returns-in-PublishAs-clause-stops : goal.returns-in-PublishAs-clause-stops
+returns-in-PublishAs-clause-stops g c = rw c.in-PublishAs.is c.publish_as_run.ensures.stops
+
+pub returns-in-PublishAs-clause-over : goal.returns-in-PublishAs-clause-over
+returns-in-PublishAs-clause-over g c = rw c.in-PublishAs.is c.publish_as_run.ensures.added
+
+pub returns-in-PublishAs-clause-refuses : goal.returns-in-PublishAs-clause-refuses
+returns-in-PublishAs-clause-refuses g c = rw c.in-PublishAs.is c.publish_as_run.ensures.refuses

@@ -9,7 +9,9 @@ returns-then-len-count-gt-MAX_FILE-clause-fault g c = (
   refl,
   (
     c.loop.script.items ++ take c.in-Ok.count c.ask.new.buffer,
-    Consumes-trans (g.R.Read.remaining c.args.reader.now) (g.R.Read.remaining c.loop.reader) (g.R.Read.remaining c.ask.new.reader) c.loop.script.items (take c.in-Ok.count c.ask.new.buffer) c.loop.invariant.consumed c.in-Ok.ensures.bytes.0,
+    Consumes-trans (g.R.Read.remaining c.args.reader.now) (g.R.Read.remaining c.loop.reader)
+        (g.R.Read.remaining c.ask.new.reader) c.loop.script.items (take c.in-Ok.count c.ask.new.buffer)
+        c.loop.invariant.consumed c.in-Ok.ensures.bytes.0,
     grind (arith, common_steps),
   ),
 )

@@ -8,6 +8,9 @@ pub loop-at-preserved : goal.loop-at-preserved
 loop-at-preserved g c =
     let bound : c.in-Ok.count ≤ length (take (length c.args.text.now - c.loop-at.at) (drop c.loop-at.at c.args.text.now)) = c.in-Ok.ensures.bound in
     record {
-      appended = rw take-add (Appends-trans (g.W.Write.contents c.args.writer.now) (g.W.Write.contents c.loop-at.writer) (g.W.Write.contents c.write.new.self) (take c.loop-at.at c.args.text.now) (take c.in-Ok.count (drop c.loop-at.at c.args.text.now)) c.loop-at.invariant.appended (rw take_rest at c.in-Ok.ensures.bytes));
+      appended = rw take-add (Appends-trans (g.W.Write.contents c.args.writer.now) (g.W.Write.contents c.loop-at.writer)
+          (g.W.Write.contents c.write.new.self) (take c.loop-at.at c.args.text.now)
+          (take c.in-Ok.count (drop c.loop-at.at c.args.text.now)) c.loop-at.invariant.appended
+          (rw take_rest at c.in-Ok.ensures.bytes));
       within = grind (arith, common_steps);
     }

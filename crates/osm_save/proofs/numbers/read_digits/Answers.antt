@@ -23,13 +23,15 @@ returns-then-not-is_ascii_digit c = sym (no_decimal 15 c.args.digits.now c.loop-
 -- fourteen digits and one more fit into 64 bits
 pub overflow_mul-number : goal.overflow_mul-number
 overflow_mul-number c =
-    let short : length (take c.loop-byte.byte-index c.args.digits.now) ≤ 14 = omega (arith, length-take-le c.loop-byte.byte-index c.args.digits.now (omega arith)) in
+    let short : length (take c.loop-byte.byte-index c.args.digits.now) ≤ 14 =
+    omega (arith, length-take-le c.loop-byte.byte-index c.args.digits.now (omega arith)) in
     let small = fourteen_digits (take c.loop-byte.byte-index c.args.digits.now) c.loop-byte.invariant.digits short in
     omega (arith, small, c.loop-byte.invariant.value)
 
 pub overflow_add-number : goal.overflow_add-number
 overflow_add-number c =
-    let short : length (take c.loop-byte.byte-index c.args.digits.now) ≤ 14 = omega (arith, length-take-le c.loop-byte.byte-index c.args.digits.now (omega arith)) in
+    let short : length (take c.loop-byte.byte-index c.args.digits.now) ≤ 14 =
+    omega (arith, length-take-le c.loop-byte.byte-index c.args.digits.now (omega arith)) in
     let small = fourteen_digits (take c.loop-byte.byte-index c.args.digits.now) c.loop-byte.invariant.digits short in
     omega (arith, small, c.loop-byte.invariant.value, c.type_inv.digits c.loop-byte.byte-index)
 
@@ -37,7 +39,9 @@ pub loop-byte-preserved : goal.loop-byte-preserved
 loop-byte-preserved c =
     let low : 48 ≤ get_or c.args.digits.now c.loop-byte.byte-index 0 = grind (arith, nat_tests) in
     let high : get_or c.args.digits.now c.loop-byte.byte-index 0 ≤ 57 = grind (arith, nat_tests) in
-    let digit : digit_value (get_or c.args.digits.now c.loop-byte.byte-index 0) ≡ get_or c.args.digits.now c.loop-byte.byte-index 0 - 48 = digit_is (get_or c.args.digits.now c.loop-byte.byte-index 0) low high in
+    let digit : digit_value (get_or c.args.digits.now c.loop-byte.byte-index 0) ≡
+    get_or c.args.digits.now c.loop-byte.byte-index 0 - 48 =
+    digit_is (get_or c.args.digits.now c.loop-byte.byte-index 0) low high in
     let small : digit_value (get_or c.args.digits.now c.loop-byte.byte-index 0) < 10 = omega arith in
     record {
       digits = digits_more 10 c.args.digits.now c.loop-byte.byte-index c.loop-byte-test.true c.loop-byte.invariant.digits small;
@@ -51,4 +55,9 @@ returns c =
     let all : AllDigits 10 c.args.digits.now = rw whole at c.loop-byte.invariant.digits in
     let value : c.loop-byte.number ≡ digits_value 10 c.args.digits.now = rw whole at c.loop-byte.invariant.value in
     let some : 1 ≤ length c.args.digits.now = grind (arith, nat_tests) in
-    sym (digits_again 10 15 c.args.digits.now c.loop-byte.number (record { all = all_from_each 10 c.args.digits.now all; some = some; short = omega arith; value = value }))
+    sym (digits_again 10 15 c.args.digits.now c.loop-byte.number (record {
+      all = all_from_each 10 c.args.digits.now all;
+      some = some;
+      short = omega arith;
+      value = value;
+    }))

@@ -6,4 +6,7 @@ use Rattle.osm_save.proofs.save.write_start.Goals as goal
 
 pub returns : goal.returns
 returns c =
-    start_joined c.args.out.now.items c.extend_from_slice.new.self.items c.write_numbered.new.out.items c.write_time_line.new.out.items (codes "sequence " ++ decimal c.args.number) (codes "time " ++ maybe_time_text c.args.time) c.in_ok-extend_from_slice.ensures.items c.in_ok-write_numbered.ensures c.in_ok-write_time_line.ensures
+    start_joined c.args.out.now.items c.extend_from_slice.new.self.items c.write_numbered.new.out.items
+    c.write_time_line.new.out.items (codes "sequence " ++ decimal c.args.number)
+    (codes "time " ++ maybe_time_text c.args.time) c.in_ok-extend_from_slice.ensures.items
+    c.in_ok-write_numbered.ensures c.in_ok-write_time_line.ensures

@@ -12,8 +12,12 @@ pub loop-rest-preserved : goal.loop-rest-preserved
 loop-rest-preserved c =
     let lines = ap lines_after c.in-Some.is ∙ c.split_line.ensures.lines in
     record {
-      sequence = keeps_last sequence_key c.args.text.now c.split_line.result.0.now (lines_after c.loop-rest.rest) (lines_after c.split_line.result.1) c.loop-rest.sequence c.value_at.result c.or-sequence.result _ c.loop-rest.invariant.sequence lines c.entry-entry.ensures c.value_at.ensures c.or-sequence.ensures;
-      time = keeps_last time_key c.args.text.now c.split_line.result.0.now (lines_after c.loop-rest.rest) (lines_after c.split_line.result.1) c.loop-rest.time c.value_at-in-Some.result c.or-time.result _ c.loop-rest.invariant.time lines c.entry-entry.ensures c.value_at-in-Some.ensures c.or-time.ensures;
+      sequence = keeps_last sequence_key c.args.text.now c.split_line.result.0.now (lines_after c.loop-rest.rest)
+          (lines_after c.split_line.result.1) c.loop-rest.sequence c.value_at.result c.or-sequence.result _
+          c.loop-rest.invariant.sequence lines c.entry-entry.ensures c.value_at.ensures c.or-sequence.ensures;
+      time = keeps_last time_key c.args.text.now c.split_line.result.0.now (lines_after c.loop-rest.rest)
+          (lines_after c.split_line.result.1) c.loop-rest.time c.value_at-in-Some.result c.or-time.result _
+          c.loop-rest.invariant.time lines c.entry-entry.ensures c.value_at-in-Some.ensures c.or-time.ensures;
     }
 
 pub returns : goal.returns

@@ -1,4 +1,5 @@
 use Rattle.osm_world.specs.History.{accepted_of, published_of, start_of}
+use Rattle.osm_world.proofs.FewLemmas.{few_within}
 use Rattle.osm_world.proofs.StateLemmas.{held_exactly, held_within, missing_as_accepted}
 use Rattle.osm_world.proofs.laws.laws_of_holding.Goals as goal
 
@@ -10,6 +11,10 @@ returns-clause-held c = λ h w j s whole. held_exactly (published_of h) (start_o
 
 pub returns-clause-window : goal.returns-clause-window
 returns-clause-window c = λ h w j s whole has. held_within (published_of h) (start_of h) (accepted_of h) w.follower (s.state whole) j has
+
+pub returns-clause-few : goal.returns-clause-few
+returns-clause-few c = λ h w js s whole sorted each. few_within w.follower.number js sorted
+    (λ j has. held_within (published_of h) (start_of h) (accepted_of h) w.follower (s.state whole) j (each j has))
 
 pub returns-clause-missing : goal.returns-clause-missing
 returns-clause-missing c = λ h w top s whole. missing_as_accepted (published_of h) (start_of h) (accepted_of h) w.follower (s.state whole) top

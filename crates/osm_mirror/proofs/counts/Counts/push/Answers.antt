@@ -6,9 +6,12 @@ use Rattle.osm_mirror.proofs.EntryLemmas.{count_last, counts-insert_entry}
 use Rattle.osm_mirror.proofs.counts.Counts.push.Goals as goal
 
 pub invariant_of-self-2 : goal.invariant_of-self-2
-invariant_of-self-2 c = rw c.in_ok-insert.ensures.entries (counts-insert_entry _ _ _ (record { low = omega arith; high = omega arith }) c.requires.count c.self.invariant)
+invariant_of-self-2 c =
+    rw c.in_ok-insert.ensures.entries (counts-insert_entry _ _ _ (record { low = omega arith; high = omega arith })
+    c.requires.count c.self.invariant)
 
 pub returns-clause-pushed : goal.returns-clause-pushed
 returns-clause-pushed c =
-    let rising : IsStrictlySortedBy nat_cmp (map (λ (e : Counted). e.0) c.self.inside.counts.entries ++ c.args.number ∷ []) = rw c.self.view_is c.requires.rising in
+    let rising : IsStrictlySortedBy nat_cmp (map (λ (e : Counted). e.0) c.self.inside.counts.entries
+    ++ c.args.number ∷ []) = rw c.self.view_is c.requires.rising in
     rw (c.in_ok-insert.ensures.entries, ← c.self.view_is) (count_last c.self.inside.counts.entries c.args.number c.args.count rising)

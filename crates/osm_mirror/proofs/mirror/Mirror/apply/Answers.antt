@@ -14,6 +14,9 @@ apply_one-requires c =
 pub loop-change-preserved : goal.loop-change-preserved
 loop-change-preserved c = record {
   rest = grind (arith, common_steps);
-  applied = Applies-append c.args.self.now c.loop-change.self c.apply_one.new.self c.loop-change.yielded (c.in-Some.change ∷ []) c.loop-change.invariant.applied c.in-Ok.ensures.applied;
-  grown = GrowsBy-more c.args.self.now c.loop-change.self c.apply_one.new.self (length c.loop-change.yielded) 1 (length (c.loop-change.yielded ++ c.in-Some.change ∷ [])) c.loop-change.invariant.grown c.in-Ok.ensures.grown (length-append c.loop-change.yielded (c.in-Some.change ∷ []));
+  applied = Applies-append c.args.self.now c.loop-change.self c.apply_one.new.self c.loop-change.yielded
+      (c.in-Some.change ∷ []) c.loop-change.invariant.applied c.in-Ok.ensures.applied;
+  grown = GrowsBy-more c.args.self.now c.loop-change.self c.apply_one.new.self (length c.loop-change.yielded) 1
+      (length (c.loop-change.yielded ++ c.in-Some.change ∷ [])) c.loop-change.invariant.grown c.in-Ok.ensures.grown
+      (length-append c.loop-change.yielded (c.in-Some.change ∷ []));
 }

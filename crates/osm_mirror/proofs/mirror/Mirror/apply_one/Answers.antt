@@ -13,12 +13,22 @@ over_one false before c = refl
 
 pub add_one-requires-clause-room : goal.add_one-requires-clause-room
 add_one-requires-clause-room c =
-    let room : HasRoom 1 (record { objects = c.self.inside.objects; users = c.self.inside.users; changesets = c.self.inside.changesets }) = rw c.self.view_is c.requires in
+    let room : HasRoom 1 (record {
+      objects = c.self.inside.objects;
+      users = c.self.inside.users;
+      changesets =
+          c.self.inside.changesets;
+    }) = rw c.self.view_is c.requires in
     room.users c.uid.result
 
 pub add_one-requires-2-clause-room : goal.add_one-requires-2-clause-room
 add_one-requires-2-clause-room c =
-    let room : HasRoom 1 (record { objects = c.self.inside.objects; users = c.self.inside.users; changesets = c.self.inside.changesets }) = rw c.self.view_is c.requires in
+    let room : HasRoom 1 (record {
+      objects = c.self.inside.objects;
+      users = c.self.inside.users;
+      changesets =
+          c.self.inside.changesets;
+    }) = rw c.self.view_is c.requires in
     room.changesets c.changeset.result
 
 pub returns-clause-applied : goal.returns-clause-applied

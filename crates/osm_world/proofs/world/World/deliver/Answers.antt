@@ -13,4 +13,5 @@ pub returns : goal.returns
 returns c =
     let number : c.number.result ≡ c.self.inside.publisher.number = search rules in
     let count = c.self.invariant.archive.count in
-    rw (← c.self.view_is) (delivered_step _ _ _ _ _ _ _ (omega arith) c.index-published.ensures (omega arith) (omega arith) (omega arith) c.deliver_text.ensures refl)
+    rw (← c.self.view_is) (delivered_step _ _ _ _ _ _ _ (omega arith) c.index-published.ensures (omega arith)
+    (omega arith) (omega arith) c.deliver_text.ensures refl)

@@ -2,6 +2,7 @@ use Rattle.std.specs.Vec.Iter.{into_iter_items}
 use Rattle.std.specs.Vec.{vec_capacity}
 use Rattle.std.proofs.Common.{◌≤◌, ◌++◌, ◌≡◌, length}
 use Rattle.osm_world.specs.Correct.{IsRun}
+use Rattle.osm_world.specs.World.{new_world}
 use Rattle.osm_world.proofs.world.World.run.Given as goal
 
 abbrev pub invariant-loop-event : goal.invariant-loop-event
@@ -10,4 +11,5 @@ invariant-loop-event l = record {
   rest : l.yielded ++ into_iter_items l.event-iterator ≡ l.fn.events.items;
   many : length l.replies.items ≡ length l.yielded;
   run : IsRun l.yielded l.replies.items l.world;
+  none : length l.yielded ≡ 0 → l.world ≡ new_world;
 }

@@ -1,0 +1,98 @@
+-- Comparing changes and files of changes.
+use Rattle.std.proofs.Common.{◌≡◌, ℕ, zero, suc, ◌<◌, List, [], ◌∷◌, length, take, drop, get_or, Option, Some, None, arith, ap, subst}
+use Rattle.std.proofs.lemmas.Option.{same_Some}
+use Rattle.osm_model.specs.Limits.{max_file}
+use Rattle.osm_follow.specs.Published.{PublishedValue}
+use Rattle.osm_o5c.proofs.FrontLemmas as o5c_file
+use Rattle.osm_opl.proofs.FileLaws as opl_file
+use Rattle.osm_state.specs.declared.paths.Suffix.TheVariants.{O5c, Opl}
+use Rattle.osm_folder.specs.Files.{Files, IsOver}
+use Rattle.osm_folder.specs.Folder.{IsAbsentOr, IsFile}
+use Rattle.osm_folder.specs.Forms.{spells_of}
+use Rattle.osm_folder.specs.Names.{file_name_of}
+use Rattle.osm_folder.specs.Steps.Numbering.{BytesDiffer, CheckStops, FileDiffers, HoldsChanges, OverDiffers}
+use Rattle.osm_folder.specs.declared.fault.FileName.{FileName}
+use Rattle.osm_folder.specs.declared.fault.FileName.TheVariants.{Sequence}
+use Rattle.osm_folder.specs.declared.fault.RunFault.{RunFault}
+use Rattle.osm_folder.specs.declared.fault.RunFault.TheVariants.{WantOfMemory, ReadFault, Differs}
+use Rattle.osm_folder.specs.declared.form.Form.{Form}
+use Rattle.osm_folder.specs.declared.form.Form.TheVariants as forms
+use Rattle.osm_model.specs.Change.{ChangeValue, IsChange}
+use Rattle.osm_opl.specs.Line.{SpellsLine}
+use Rattle.osm_opl.specs.Written.{line_text}
+use Rattle.osm_opl.proofs.RoundTrip.{line_spells}
+
+-- changes that have the same text are the same
+pub line_tells : ((line : List ℕ) (a b : ChangeValue) → SpellsLine line a → SpellsLine line b → a ≡ b)
+    → (a b : ChangeValue) → IsChange a → IsChange b → line_text a ≡ line_text b → a ≡ b
+line_tells one a b is_a is_b same =
+    one (line_text b) a b (subst (λ (line : List ℕ). SpellsLine line a) same (line_spells a is_a)) (line_spells b is_b)
+
+-- ---- files
+
+-- bytes hold the changes of one batch
+pub one_batch : (form : Form) (bytes : List ℕ) (a b : List ChangeValue) → spells_of form bytes a → spells_of form bytes b → a ≡ b
+one_batch forms.Opl bytes a b p q = opl_file.one_batch bytes a b p q
+one_batch forms.O5c bytes a b p q = o5c_file.one_batch bytes a b p q
+
+o5c_of : (told : Option (List ℕ)) (p : PublishedValue) → IsAbsentOr told (IsFile O5c p) → IsAbsentOr told (HoldsChanges forms.O5c p.changes)
+o5c_of None p h = tt
+o5c_of (Some bytes) p h = h
+
+opl_of : (told : Option (List ℕ)) (p : PublishedValue) → IsAbsentOr told (IsFile Opl p) → IsAbsentOr told (HoldsChanges forms.Opl p.changes)
+opl_of None p h = tt
+opl_of (Some bytes) p h = h
+
+pub o5c_stops : (known : Type 0) (dir : List ℕ) (files : Files) (p : PublishedValue) (fault : RunFault)
+    → FileDiffers known (Sequence p.number O5c) p.number (IsAbsentOr (files (file_name_of dir p.number O5c))
+    (HoldsChanges forms.O5c p.changes)) fault → CheckStops known dir files p fault
+o5c_stops known dir files p WantOfMemory h = tt
+o5c_stops known dir files p (ReadFault file) h = (O5c, h)
+o5c_stops known dir files p (Differs k) h = (h.0, λ yes are. h.1 yes (o5c_of (files (file_name_of dir p.number O5c)) p are.o5c))
+o5c_stops known dir files p fault h = absurd h
+
+pub opl_stops : (known : Type 0) (dir : List ℕ) (files : Files) (p : PublishedValue) (fault : RunFault)
+    → FileDiffers known (Sequence p.number Opl) p.number (IsAbsentOr (files (file_name_of dir p.number Opl))
+    (HoldsChanges forms.Opl p.changes)) fault → CheckStops known dir files p fault
+opl_stops known dir files p WantOfMemory h = tt
+opl_stops known dir files p (ReadFault file) h = (Opl, h)
+opl_stops known dir files p (Differs k) h = (h.0, λ yes are. h.1 yes (opl_of (files (file_name_of dir p.number Opl)) p are.opl))
+opl_stops known dir files p fault h = absurd h
+
+-- a file over its limit holds no changes
+pub over_holds : (form : Form) (changes : List ChangeValue) (told : Option (List ℕ)) → IsOver max_file told → IsAbsentOr told (HoldsChanges form changes) → ⊥
+over_holds form changes None o h = (let e = o.there in cc)
+over_holds form changes (Some bytes) o h =
+    let long = ap length (same_Some bytes o.bytes o.there) in
+    let over = o.over in
+    let small = h.0 in
+    omega (arith, long, over, small)
+
+pub over_stops : (known : Type 0) (file : FileName) (number : ℕ) (form : Form) (changes : List ChangeValue)
+    (told : Option (List ℕ)) (fault : RunFault) → OverDiffers known file number max_file told fault
+    → FileDiffers known file number (IsAbsentOr told (HoldsChanges form changes)) fault
+over_stops known file number form changes told WantOfMemory h = tt
+over_stops known file number form changes told (ReadFault named) h = h
+over_stops known file number form changes told (Differs k) h = (h.0, λ yes. over_holds form changes told (h.1 yes))
+over_stops known file number form changes told fault h = absurd h
+
+pub bytes_stop : (known : Type 0) (file : FileName) (number : ℕ) (form : Form) (changes : List ChangeValue)
+    (told : Option (List ℕ)) (bytes : List ℕ) (fault : RunFault) → (known → told ≡ Some bytes)
+    → BytesDiffer number (HoldsChanges form changes bytes) fault
+    → FileDiffers known file number (IsAbsentOr told (HoldsChanges form changes)) fault
+bytes_stop known file number form changes told bytes WantOfMemory there h = tt
+bytes_stop known file number form changes told bytes (Differs k) there h =
+    (h.0, λ yes held. h.1 (subst (λ o. IsAbsentOr o (HoldsChanges form changes)) (there yes) held))
+bytes_stop known file number form changes told bytes fault there h = absurd h
+
+-- ---- lists
+
+pub take_more : {X : Type 0} (xs ys : List X) (n : ℕ) (d : X) → n < length xs → n < length ys → take n xs ≡ take n ys
+    → get_or xs n d ≡ get_or ys n d → take (suc n) xs ≡ take (suc n) ys
+take_more [] ys n d in_xs in_ys same at = absurd (omega arith)
+take_more (x ∷ xs) [] n d in_xs in_ys same at = absurd (omega arith)
+take_more (x ∷ xs) (y ∷ ys) zero d in_xs in_ys same at = ap (λ z. z ∷ []) at
+take_more (x ∷ xs) (y ∷ ys) (suc n) d in_xs in_ys same at =
+    let head : x ≡ y = ap (λ zs. get_or zs 0 x) same in
+    let tail : take n xs ≡ take n ys = ap (drop 1) same in
+    rw head (ap (λ zs. y ∷ zs) (take_more xs ys n d (omega arith) (omega arith) tail at))

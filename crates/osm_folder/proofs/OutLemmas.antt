@@ -1,0 +1,191 @@
+-- The call at which a store stopped: how many were left tells which file.
+use Rattle.std.proofs.Common.{◌≡◌, ◌==◌, ℕ, ◌+◌, ◌<◌, ◌≤◌, List, Option, None, Some, inl, inr, Bool, true, false, arith, ap, refl, subst, sym, ◌∙◌}
+use Rattle.std.specs.Prelude.{◌⊎◌, if◌then◌else◌}
+use Rattle.std.proofs.lemmas.Bool.Decides.{nat_tests}
+use Rattle.std.proofs.lemmas.Option.{same_Some}
+use Rattle.osm_reading.specs.Sequence.{SpellsSequence}
+use Rattle.osm_folder.specs.Files.{Files, Spends, SpendsAtMost}
+use Rattle.osm_folder.specs.Names.{top_name_of}
+use Rattle.osm_folder.specs.Numbered.{NumberedOut, SpendsExactly, calls_before, file_read_after, numbered_calls}
+use Rattle.osm_folder.specs.Publication.{GoesOnFrom, PublishOut, file_after}
+use Rattle.osm_folder.specs.Runs.{LacksCalls}
+use Rattle.osm_folder.specs.Steps.Numbering.{CheckOut, check_calls}
+use Rattle.osm_folder.specs.Steps.Numbering.{FileDiffers}
+use Rattle.osm_folder.specs.Steps.Publishing.{ChangesStop, CloseStops, ReadsOut, TopStops, WritesOut}
+use Rattle.osm_folder.specs.Steps.Reading.{PutStops}
+use Rattle.osm_follow.specs.Publisher.{PublisherValue}
+use Rattle.osm_folder.specs.declared.fault.FileName.{FileName}
+use Rattle.osm_folder.specs.declared.fault.RunFault.{RunFault}
+use Rattle.osm_folder.specs.declared.fault.RunFault.TheVariants.{WantOfMemory, ReadFault, WriteFault}
+use Rattle.osm_folder.proofs.CallLemmas.{most_both, most_none}
+use Rattle.osm_folder.proofs.FileLemmas.{spends_both, spends_none}
+
+-- how many calls were left before so many
+pub left_before : (calls count : ℕ) (a b : Option ℕ) → Spends calls a b → SpendsAtMost calls a b → b ≡ Some count → a ≡ Some (calls + count)
+left_before calls count None b least most e = absurd (let none : b ≡ None = least in cc)
+left_before calls count (Some n) b (m, is, few) (k, at, more) e =
+    let same : m ≡ count = same_Some m count (sym is ∙ e) in
+    let also : k ≡ count = same_Some k count (sym at ∙ e) in
+    ap (λ (x : ℕ). Some x) (omega (arith, same, also, few, more))
+
+-- no call was left for one read or write
+pub none_left_read : (a : Option ℕ) (file : FileName) → LacksCalls 1 a (ReadFault file) → a ≡ Some 0
+none_left_read None file h = absurd h
+none_left_read (Some n) file h = ap (λ (x : ℕ). Some x) (omega arith)
+
+pub none_left_write : (a : Option ℕ) (file : FileName) → LacksCalls 1 a (WriteFault file) → a ≡ Some 0
+none_left_write None file h = absurd h
+none_left_write (Some n) file h = ap (λ (x : ℕ). Some x) (omega arith)
+
+-- ---- one call after so many
+
+pub write_out : (number count : ℕ) (a b : Option ℕ) (fault : RunFault) → count < 4 → Spends count a b
+    → SpendsAtMost count a b → PutStops (file_after number count) fault → LacksCalls 1 b fault
+    → WritesOut number a fault
+write_out number count a b WantOfMemory few least most stops lacks = tt
+write_out number count a b (WriteFault file) few least most stops lacks =
+    (count, few, left_before count 0 a b least most (none_left_write b file lacks) ∙ ap (λ (x : ℕ). Some x) (omega arith), stops)
+write_out number count a b fault few least most stops lacks = absurd stops
+
+pub top_out : (known : Type 0) (told : Option (List ℕ)) (a : Option ℕ) (fault : RunFault) → TopStops known told fault → LacksCalls 1 a fault → ReadsOut a fault
+top_out known told a (ReadFault file) stops lacks = inl (none_left_read a file lacks, stops)
+top_out known told a (WriteFault file) stops lacks = stops
+top_out known told a fault stops lacks = tt
+
+pub changes_out : (known : Type 0) (told : Option (List ℕ)) (a b : Option ℕ) (fault : RunFault) → Spends 1 a b
+    → SpendsAtMost 1 a b → ChangesStop known told fault → LacksCalls 1 b fault → ReadsOut a fault
+changes_out known told a b (ReadFault file) least most stops lacks = inr (left_before 1 0 a b least most (none_left_read b file lacks), stops)
+changes_out known told a b (WriteFault file) least most stops lacks = stops
+changes_out known told a b fault least most stops lacks = tt
+
+pub close_reads_out : (p : PublisherValue) (time : ℕ) (a : Option ℕ) (fault : RunFault) → CloseStops p time fault → ReadsOut a fault
+close_reads_out p time a (ReadFault file) stops = absurd stops
+close_reads_out p time a (WriteFault file) stops = stops
+close_reads_out p time a fault stops = tt
+
+pub check_out : (known : Type 0) (number count : ℕ) (file : FileName) (holds : Type 0) (a b : Option ℕ)
+    (fault : RunFault) → count < 3 → file ≡ file_read_after number (2 + count) → Spends count a b
+    → SpendsAtMost count a b → FileDiffers known file number holds fault → LacksCalls 1 b fault
+    → CheckOut number a fault
+check_out known number count file holds a b (ReadFault named) few is least most stops lacks =
+    (count, few, left_before count 0 a b least most (none_left_read b named lacks) ∙ ap (λ (x : ℕ). Some x) (omega arith), stops ∙ is)
+check_out known number count file holds a b (WriteFault named) few is least most stops lacks = stops
+check_out known number count file holds a b fault few is least most stops lacks = tt
+
+pub close_check_out : (p : PublisherValue) (time number : ℕ) (a : Option ℕ) (fault : RunFault) → CloseStops p time fault → CheckOut number a fault
+close_check_out p time number a (ReadFault file) stops = absurd stops
+close_check_out p time number a (WriteFault file) stops = stops
+close_check_out p time number a fault stops = tt
+
+-- ---- a whole publication
+
+pub reads_publish_out : (dir : List ℕ) (files : Files) (a : Option ℕ) (fault : RunFault) → ReadsOut a fault → PublishOut dir files a fault
+reads_publish_out dir files a (ReadFault file) out = out
+reads_publish_out dir files a (WriteFault file) out = absurd out
+reads_publish_out dir files a fault out = tt
+
+pub writes_publish_out : (dir : List ℕ) (files : Files) (top time : ℕ) (a b : Option ℕ) (fault : RunFault)
+    → GoesOnFrom (files (top_name_of dir)) top time → Spends 2 a b → SpendsAtMost 2 a b → WritesOut (top + 1) b fault
+    → PublishOut dir files a fault
+writes_publish_out dir files top time a b (ReadFault file) goes_on least most out = absurd out
+writes_publish_out dir files top time a b (WriteFault file) goes_on least most (count, few, left, is) =
+    (top, time, count, goes_on, few, left_before 2 count a b least most left, is)
+writes_publish_out dir files top time a b fault goes_on least most out = tt
+
+pub reads_numbered_out : (dir sequence : List ℕ) (files : Files) (number : ℕ) (a : Option ℕ) (fault : RunFault)
+    → SpellsSequence sequence number → ReadsOut a fault → NumberedOut dir sequence files a fault
+reads_numbered_out dir sequence files number a (ReadFault file) spelled (inl out) = (number, 0, spelled, omega arith, out.0, out.1)
+reads_numbered_out dir sequence files number a (ReadFault file) spelled (inr out) = (number, 1, spelled, omega arith, out.0, out.1)
+reads_numbered_out dir sequence files number a (WriteFault file) spelled out = absurd out
+reads_numbered_out dir sequence files number a fault spelled out = tt
+
+pub check_numbered_out : (dir sequence : List ℕ) (files : Files) (number : ℕ) (a b : Option ℕ) (fault : RunFault)
+    → SpellsSequence sequence number → Spends 2 a b → SpendsAtMost 2 a b → CheckOut number b fault
+    → NumberedOut dir sequence files a fault
+check_numbered_out dir sequence files number a b (ReadFault file) spelled least most (count, few, left, is) =
+    (number, 2 + count, spelled, omega arith, left_before 2 count a b least most left, is)
+check_numbered_out dir sequence files number a b (WriteFault file) spelled least most out = absurd out
+check_numbered_out dir sequence files number a b fault spelled least most out = tt
+
+calls_before_is : (number top : ℕ) → 2 + check_calls number top ≡ calls_before number top
+calls_before_is number top = by_case (number == top + 1)
+  where
+    by_case : (next : Bool) → 2 + (if next then 0 else 3) ≡ (if next then 2 else 5)
+    by_case true = refl
+    by_case false = refl
+
+spends_sum : (i j : ℕ) (a b c : Option ℕ) → SpendsExactly i a b → SpendsExactly j b c → SpendsExactly (i + j) a c
+spends_sum i j a b c x y = (spends_both i j (i + j) a b c (omega arith) x.0 y.0, most_both i j (i + j) a b c (omega arith) x.1 y.1)
+
+-- the calls before the first write
+pub calls_before_write : (number top : ℕ) (a b c : Option ℕ) → SpendsExactly 2 a b
+    → SpendsExactly (check_calls number top) b c → SpendsExactly (calls_before number top) a c
+calls_before_write number top a b c x y =
+    subst (λ k. SpendsExactly k a c) (calls_before_is number top) (spends_sum 2 (check_calls number top) a b c x y)
+
+pub writes_numbered_out : (dir sequence : List ℕ) (files : Files) (number top time : ℕ) (a b : Option ℕ)
+    (fault : RunFault) → SpellsSequence sequence number → GoesOnFrom (files (top_name_of dir)) top time
+    → SpendsExactly (calls_before number top) a b → WritesOut number b fault → NumberedOut dir sequence files a fault
+writes_numbered_out dir sequence files number top time a b (ReadFault file) spelled goes_on exact out = absurd out
+writes_numbered_out dir sequence files number top time a b (WriteFault file) spelled goes_on exact (count, few, left, is) =
+    (number, top, time, count, spelled, goes_on, few, left_before (calls_before number top) count a b exact.0 exact.1 left, is)
+writes_numbered_out dir sequence files number top time a b fault spelled goes_on exact out = tt
+
+-- ---- how many calls
+
+before_most : (number top : ℕ) → calls_before number top ≤ 5
+before_most number top = by_case (number == top + 1)
+  where
+    by_case : (next : Bool) → (if next then 2 else 5) ≤ 5
+    by_case true = omega arith
+    by_case false = omega arith
+
+pub before_least : (number top : ℕ) → 2 ≤ calls_before number top
+before_least number top = by_case (number == top + 1)
+  where
+    by_case : (next : Bool) → 2 ≤ (if next then 2 else 5)
+    by_case true = omega arith
+    by_case false = omega arith
+
+-- at most eight calls come before the one that fails
+pub out_lacks : (dir sequence : List ℕ) (files : Files) (a : Option ℕ) (fault : RunFault) → NumberedOut dir sequence files a fault → LacksCalls 9 a fault
+out_lacks dir sequence files a (ReadFault file) (number, count, spelled, few, left, is) = rw left (omega arith)
+out_lacks dir sequence files a (WriteFault file) (number, top, time, count, spelled, goes_on, few, left, is) =
+    let most = before_most number top in rw left (omega (arith, most))
+out_lacks dir sequence files a fault out = tt
+
+-- the calls of a publication that writes, and of one that doesn't
+pub writing_calls : (number top : ℕ) (a b c : Option ℕ) → (number ≡ top + 1) ⊎ (number ≡ top)
+    → SpendsExactly (calls_before number top) a b → SpendsExactly 4 b c → SpendsExactly (numbered_calls number top) a c
+writing_calls number top a b c (inl next) x y =
+    let t : (number == top + 1) ≡ true = grind (arith, nat_tests) in
+    let before : calls_before number top ≡ 2 = rw t refl in
+    let all : numbered_calls number top ≡ 6 = rw t refl in
+    rw all (spends_sum 2 4 a b c (rw before at x) y)
+writing_calls number top a b c (inr newest) x y =
+    let t : (number == top + 1) ≡ false = grind (arith, nat_tests) in
+    let u : (number == top) ≡ true = grind (arith, nat_tests) in
+    let before : calls_before number top ≡ 5 = rw t refl in
+    let all : numbered_calls number top ≡ 9 = rw (t, u) refl in
+    rw all (spends_sum 5 4 a b c (rw before at x) y)
+
+pub reading_calls : (number top : ℕ) (a b : Option ℕ) → number < top → SpendsExactly (calls_before number top) a b
+    → SpendsExactly (numbered_calls number top) a b
+reading_calls number top a b below x =
+    let t : (number == top + 1) ≡ false = grind (arith, nat_tests) in
+    let u : (number == top) ≡ false = grind (arith, nat_tests) in
+    let before : calls_before number top ≡ 5 = rw t refl in
+    let all : numbered_calls number top ≡ 5 = rw (t, u) refl in
+    rw all (rw before at x)
+
+pub check_new : (number top : ℕ) (a : Option ℕ) → number ≡ top + 1 → SpendsExactly (check_calls number top) a a
+check_new number top a next =
+    let t : (number == top + 1) ≡ true = grind (arith, nat_tests) in
+    let calls : check_calls number top ≡ 0 = rw t refl in
+    rw calls (spends_none a, most_none 0 a)
+
+pub check_old : (number top : ℕ) (a b : Option ℕ) → number ≤ top → Spends 3 a b → SpendsAtMost 3 a b → SpendsExactly (check_calls number top) a b
+check_old number top a b until least most =
+    let t : (number == top + 1) ≡ false = grind (arith, nat_tests) in
+    let calls : check_calls number top ≡ 3 = rw t refl in
+    rw calls (least, most)

@@ -1,0 +1,269 @@
+//! Comparing the files of a published sequence with what it should be.
+
+ghost use Rattle.std.specs.Prelude.{◌≡◌, ◌<◌, ◌≤◌, ◌↔◌, IsTrue, IfErr, IfOk, OnOk, length};
+ghost use Rattle.std.specs.List.{AllByRecursion};
+ghost use Rattle.osm_model.specs.Batch.{IsBatch};
+ghost use Rattle.osm_model.specs.Change.{IsChange};
+ghost use Rattle.osm_model.specs.Limits.{max_file, max_sequence};
+ghost use Rattle.osm_opl.specs.Written.{line_text};
+ghost use Rattle.osm_folder.specs.Files.{IsWithin, Spends, SpendsAtMost, Tells};
+ghost use Rattle.osm_folder.specs.Folder.{IsAbsentOr, IsStateFile, IsThere, max_state};
+ghost use Rattle.osm_folder.specs.Names.{file_name_of};
+ghost use Rattle.osm_folder.specs.Numbered.{AreFilesOf};
+ghost use Rattle.osm_folder.specs.Runs.{Blames, LacksCalls};
+ghost use Rattle.osm_folder.specs.Steps.Following.{suffix_of};
+ghost use Rattle.osm_folder.specs.Steps.Numbering.{BytesDiffer, CheckOut, CheckStops, FileDiffers};
+ghost use Rattle.osm_folder.specs.Steps.Numbering.{HoldsChanges, IsCompared, OverDiffers};
+
+use crate::fault::{FileName, RunFault};
+use crate::files::{MAX_STATE, read_file};
+use crate::form::{Form, read_form};
+use crate::names::file_name;
+use crate::store::Store;
+use osm_model::batch::Batch;
+use osm_model::change::Change;
+use osm_model::form::FormError;
+use osm_model::limits::MAX_FILE;
+use osm_model::memory::WantOfMemory;
+use osm_opl::lines::write_line;
+use osm_opl::opl::laws_of_opl;
+use osm_state::laws::laws_of_state;
+use osm_state::paths::Suffix;
+use osm_state::state::State;
+use osm_state::state_text::state_read;
+use std::alloc::Global;
+
+// Refuses as `Differs` unless the files of the number are there: its state with that time, and
+// those changes in one form at least, and in the other nothing else. The first that isn't so is the
+// last that is read.
+pub(crate) fn check_published<S: Store>(
+    alloc: Global,
+    store: &mut S,
+    dir: &str,
+    number: u32,
+    time: u32,
+    batch: &Batch,
+) -> Result<(), RunFault>
+    requires { number ≤ max_sequence }
+    ensures published { OnOk result (IsTrue (S.tells store.old)
+        → AreFilesOf (S.told store.old) dir.now
+        (record { number = number; changes = batch.now; time = time })) }
+    ensures stops { IfErr result (CheckStops (IsTrue (S.tells store.old)) dir.now
+        (S.told store.old) (record { number = number; changes = batch.now; time = time })) }
+    ensures device { IfErr result (Blames (S.failures store.old) (S.failures store.new)) }
+    ensures out { IfErr result
+        (λ fault. IsTrue (S.tells store.old) → CheckOut number (S.left store.old) fault) }
+    ensures unchanged { S.told store.new ≡ S.told store.old }
+    ensures tells { S.tells store.new ≡ S.tells store.old }
+    ensures left { OnOk result (Spends 3 (S.left store.old) (S.left store.new)) }
+    ensures most { OnOk result (SpendsAtMost 3 (S.left store.old) (S.left store.new)) }
+    ensures left_after { Spends 0 (S.left store.old) (S.left store.new) }
+    ensures kept { S.failures store.old ≤ S.failures store.new }
+{
+    check_state(alloc, store, dir, number, time)?;
+    let o5c = check_changes(alloc, store, dir, number, Form::O5c, batch)?;
+    let opl = check_changes(alloc, store, dir, number, Form::Opl, batch)?;
+    if !o5c && !opl {
+        return Err(RunFault::Differs(number));
+    }
+    Ok(())
+}
+
+// Refuses unless the number's state is there and has that time.
+fn check_state<S: Store>(
+    alloc: Global,
+    store: &mut S,
+    dir: &str,
+    number: u32,
+    time: u32,
+) -> Result<(), RunFault>
+    requires { number ≤ max_sequence }
+    ensures there { OnOk result (IsTrue (S.tells store.old)
+        → IsThere (S.told store.old (file_name_of dir.now number Suffix.State))
+        (IsStateFile number time)) }
+    ensures stops { IfErr result (FileDiffers (IsTrue (S.tells store.old))
+        (FileName.Sequence number Suffix.State) number
+        (IsThere (S.told store.old (file_name_of dir.now number Suffix.State))
+        (IsStateFile number time))) }
+    ensures device { IfErr result (Blames (S.failures store.old) (S.failures store.new)) }
+    ensures lacks { IfErr result
+        (λ fault. IsTrue (S.tells store.old) → LacksCalls 1 (S.left store.old) fault) }
+    ensures unchanged { S.told store.new ≡ S.told store.old }
+    ensures tells { S.tells store.new ≡ S.tells store.old }
+    ensures left { OnOk result (Spends 1 (S.left store.old) (S.left store.new)) }
+    ensures most { OnOk result (SpendsAtMost 1 (S.left store.old) (S.left store.new)) }
+    ensures left_after { Spends 0 (S.left store.old) (S.left store.new) }
+    ensures kept { S.failures store.old ≤ S.failures store.new }
+{
+    match read_of(alloc, store, dir, number, Suffix::State, MAX_STATE) {
+        Ok(Some(text)) => check_text(text.as_slice(), number, time),
+        Ok(None) => Err(RunFault::Differs(number)),
+        Err(fault) => Err(fault),
+    }
+}
+
+fn check_text(text: &[u8], number: u32, time: u32) -> Result<(), RunFault>
+    requires { length text.now ≤ max_state }
+    ensures names { OnOk result (IsStateFile number time text.now) }
+    ensures stops { IfErr result (BytesDiffer number (IsStateFile number time text.now)) }
+{
+    laws_of_state();
+    let Ok(state) = state_read(text) else {
+        return Err(RunFault::Differs(number));
+    };
+    if !names(&state, number, time) {
+        return Err(RunFault::Differs(number));
+    }
+    Ok(())
+}
+
+// Whether a state has that number and that time.
+fn names(state: &State, number: u32, time: u32) -> bool
+    ensures { IsTrue result ↔ (state.now ≡ record { sequence = number; time = time }) }
+{
+    state.sequence() == number && state.time() == time
+}
+
+// Whether the number's file of that form is there; refuses one that holds other changes.
+fn check_changes<S: Store>(
+    alloc: Global,
+    store: &mut S,
+    dir: &str,
+    number: u32,
+    form: Form,
+    batch: &Batch,
+) -> Result<bool, RunFault>
+    requires { number ≤ max_sequence }
+    ensures there { IfOk result (λ is_there. IsTrue (S.tells store.old)
+        → IsCompared is_there (S.told store.old (file_name_of dir.now number (suffix_of form)))
+        (HoldsChanges form batch.now)) }
+    ensures stops { IfErr result (FileDiffers (IsTrue (S.tells store.old))
+        (FileName.Sequence number (suffix_of form)) number
+        (IsAbsentOr (S.told store.old (file_name_of dir.now number (suffix_of form)))
+        (HoldsChanges form batch.now))) }
+    ensures device { IfErr result (Blames (S.failures store.old) (S.failures store.new)) }
+    ensures lacks { IfErr result
+        (λ fault. IsTrue (S.tells store.old) → LacksCalls 1 (S.left store.old) fault) }
+    ensures unchanged { S.told store.new ≡ S.told store.old }
+    ensures tells { S.tells store.new ≡ S.tells store.old }
+    ensures left { OnOk result (Spends 1 (S.left store.old) (S.left store.new)) }
+    ensures most { OnOk result (SpendsAtMost 1 (S.left store.old) (S.left store.new)) }
+    ensures left_after { Spends 0 (S.left store.old) (S.left store.new) }
+    ensures kept { S.failures store.old ≤ S.failures store.new }
+{
+    let suffix = suffix(form);
+    let Some(bytes) = read_of(alloc, store, dir, number, suffix, MAX_FILE as u64)? else {
+        return Ok(false);
+    };
+    check_bytes(alloc, form, bytes.as_slice(), number, batch)?;
+    Ok(true)
+}
+
+fn suffix(form: Form) -> Suffix
+    ensures { result ≡ suffix_of form }
+{
+    match form {
+        Form::O5c => Suffix::O5c,
+        Form::Opl => Suffix::Opl,
+    }
+}
+
+fn check_bytes(
+    alloc: Global,
+    form: Form,
+    bytes: &[u8],
+    number: u32,
+    batch: &Batch,
+) -> Result<(), RunFault>
+    requires { length bytes.now ≤ max_file }
+    ensures spelled { OnOk result (HoldsChanges form batch.now bytes.now) }
+    ensures stops { IfErr result (BytesDiffer number (HoldsChanges form batch.now bytes.now)) }
+{
+    let held = match read_form(alloc, form, bytes) {
+        Ok(held) => held,
+        Err(FormError::WantOfMemory) => return Err(RunFault::WantOfMemory),
+        Err(FormError::TooLarge) => unreachable!(),
+        Err(FormError::Fault { place: _, why: _ }) => return Err(RunFault::Differs(number)),
+    };
+    if !are_same(alloc, held.changes(), batch.changes())? {
+        return Err(RunFault::Differs(number));
+    }
+    Ok(())
+}
+
+// A file of the number, if it is there; one over its limit differs.
+fn read_of<S: Store>(
+    alloc: Global,
+    store: &mut S,
+    dir: &str,
+    number: u32,
+    suffix: Suffix,
+    limit: u64,
+) -> Result<Option<Vec<u8>>, RunFault>
+    requires { number ≤ max_sequence }
+    ensures read { IfOk result (λ o. IsTrue (S.tells store.old)
+        → Tells o (S.told store.old (file_name_of dir.now number suffix))) }
+    ensures within { IfOk result (IsWithin limit) }
+    ensures stops { IfErr result (OverDiffers (IsTrue (S.tells store.old))
+        (FileName.Sequence number suffix) number limit
+        (S.told store.old (file_name_of dir.now number suffix))) }
+    ensures device { IfErr result (Blames (S.failures store.old) (S.failures store.new)) }
+    ensures lacks { IfErr result
+        (λ fault. IsTrue (S.tells store.old) → LacksCalls 1 (S.left store.old) fault) }
+    ensures unchanged { S.told store.new ≡ S.told store.old }
+    ensures tells { S.tells store.new ≡ S.tells store.old }
+    ensures left { OnOk result (Spends 1 (S.left store.old) (S.left store.new)) }
+    ensures most { OnOk result (SpendsAtMost 1 (S.left store.old) (S.left store.new)) }
+    ensures left_after { Spends 0 (S.left store.old) (S.left store.new) }
+    ensures kept { S.failures store.old ≤ S.failures store.new }
+{
+    let name = file_name(alloc, dir, number, suffix)?;
+    let file = FileName::Sequence(number, suffix);
+    match read_file(alloc, store, file, name.as_str(), limit) {
+        Ok(bytes) => Ok(bytes),
+        Err(RunFault::TooLarge(_)) => Err(RunFault::Differs(number)),
+        Err(fault) => Err(fault),
+    }
+}
+
+// Whether two lists of changes are the same, in the same order.
+fn are_same(alloc: Global, left: &[Change], right: &[Change]) -> Result<bool, WantOfMemory>
+    requires left { AllByRecursion IsChange left.now }
+    requires right { AllByRecursion IsChange right.now }
+    ensures { IfOk result (λ same. IsTrue same ↔ (left.now ≡ right.now)) }
+{
+    if left.len() != right.len() {
+        return Ok(false);
+    }
+    for at in 0..left.len() {
+        if !is_same(alloc, &left[at], &right[at])? {
+            return Ok(false);
+        }
+    }
+    Ok(true)
+}
+
+// Whether two changes are the same: the text of a line spells only one change.
+fn is_same(alloc: Global, left: &Change, right: &Change) -> Result<bool, WantOfMemory>
+    ensures { IfOk result (λ same. IsTrue same ↔ (left.now ≡ right.now)) }
+{
+    laws_of_opl();
+    let (_left, _right) = (left.key(), right.key());
+    let left = line_of(alloc, left)?;
+    let right = line_of(alloc, right)?;
+    Ok(is_same_text(left.as_slice(), right.as_slice()))
+}
+
+fn is_same_text(left: &[u8], right: &[u8]) -> bool
+    ensures { IsTrue result ↔ (left.now ≡ right.now) }
+{
+    left == right
+}
+
+fn line_of(alloc: Global, change: &Change) -> Result<Vec<u8>, WantOfMemory>
+    ensures { IfOk result (λ line. line.items ≡ line_text change.now) }
+{
+    let mut line = Vec::new(alloc);
+    write_line(change, &mut line)?;
+    Ok(line)
+}

@@ -1,0 +1,208 @@
+//! Publishing as a number that is asked for, so that the same words never publish twice.
+
+ghost use Rattle.std.specs.Prelude.{◌≡◌, ℕ, ◌+◌, ◌-◌, ◌<◌, ◌≤◌, [], List, IsTrue, IfErr, IfOk};
+ghost use Rattle.std.specs.Prelude.{OnOk, OnErr};
+ghost use Rattle.osm_model.specs.Limits.{IsPositive, max_sequence};
+ghost use Rattle.osm_follow.specs.Published.{PublishedValue};
+ghost use Rattle.osm_reading.specs.Sequence.{SpellsSequence};
+ghost use Rattle.osm_folder.specs.Files.{Spends, SpendsAtMost};
+ghost use Rattle.osm_folder.specs.Folder.{IsApart, IsFolderOf};
+ghost use Rattle.osm_folder.specs.Names.{top_name_of};
+ghost use Rattle.osm_folder.specs.Numbered.{IsAddedAs, IsAsked, IsPublishedAs, NotNumbered};
+ghost use Rattle.osm_folder.specs.Numbered.{NumberedOut, NumberedRefuses, NumberedStops};
+ghost use Rattle.osm_folder.specs.Numbered.{SpendsExactly, numbered_calls};
+ghost use Rattle.osm_folder.specs.Publication.{GoesOnFrom};
+ghost use Rattle.osm_folder.specs.Reports.{publish_report_of};
+ghost use Rattle.osm_folder.specs.Runs.{Blames, LacksCalls};
+ghost use Rattle.osm_folder.specs.Steps.Numbering.{AreReadWords, CheckOut, IsPrepared};
+ghost use Rattle.osm_folder.specs.Steps.Numbering.{PrepareStops, asked_for, check_calls};
+ghost use Rattle.osm_folder.specs.Steps.Publishing.{ReadsOut, from_top};
+
+use crate::compare::check_published;
+use crate::fault::RunFault;
+use crate::publish::{Publication, make, newest, publisher_from, read_changes, write_files};
+use crate::report::{Report, publish_report};
+use crate::store::Store;
+use osm_follow::publisher::Publisher;
+use osm_model::batch::Batch;
+use osm_model::time::time_read;
+use osm_reading::sequence::sequence_read;
+use osm_state::laws::laws_of_state;
+use osm_state::state::State;
+use std::alloc::Global;
+
+// The sequence that is asked for, and the folder's newest state.
+#[derive(Drop)]
+struct Asked {
+    number: u32,
+    time: u32,
+    batch: Batch,
+    top: Option<State>,
+}
+
+/// Publishes the changes of an OPL file as the number `sequence`, a text of 1 to 9 digits, at the
+/// time `now`, or not at all. The number after the newest one is published as `publish_run` does.
+/// A number that is published with the same changes at the same time is answered as published: the
+/// newest one's files are written again, in case the last run was cut off, and for an older one
+/// nothing is written. Any other number is refused.
+pub fn publish_as_run<S: Store>(
+    alloc: Global,
+    store: &mut S,
+    dir: &str,
+    changes: &str,
+    now: &str,
+    sequence: &str,
+) -> Result<Report, RunFault>
+    ensures published { IfOk result (λ report. IsTrue (S.tells store.old)
+        → IsPublishedAs dir.now changes.now now.now sequence.now
+        (S.told store.old) (S.told store.new) report) }
+    ensures added { IfOk result (λ report. IsTrue (S.tells store.old)
+        → (published : List PublishedValue) → IsFolderOf published (S.told store.old) dir.now
+        → IsAddedAs published dir.now changes.now now.now sequence.now
+        (S.told store.old) (S.told store.new) report) }
+    ensures report { IfOk result (λ report. (n : ℕ) × SpellsSequence sequence.now n
+        × (report ≡ publish_report_of n)) }
+    ensures stops { IfErr result (NumberedStops (IsTrue (S.tells store.old))
+        dir.now changes.now now.now sequence.now (S.told store.old) (S.told store.new)) }
+    ensures refuses { IfErr result (λ fault. IsTrue (S.tells store.old)
+        → (published : List PublishedValue) → IsFolderOf published (S.told store.old) dir.now
+        → NumberedRefuses published dir.now changes.now now.now sequence.now
+        (S.told store.old) fault) }
+    ensures device { IfErr result (Blames (S.failures store.old) (S.failures store.new)) }
+    ensures lacks { IfErr result
+        (λ fault. IsTrue (S.tells store.old) → LacksCalls 9 (S.left store.old) fault) }
+    ensures out { IfErr result (λ fault. IsTrue (S.tells store.old)
+        → NumberedOut dir.now sequence.now (S.told store.old) (S.left store.old) fault) }
+    ensures keeps { OnErr result (IsTrue (S.tells store.old)
+        → (published : List PublishedValue) → IsFolderOf published (S.told store.old) dir.now
+        → IsFolderOf published (S.told store.new) dir.now) }
+    ensures others { IsTrue (S.tells store.old) → (name : List ℕ) → IsApart dir.now name
+        → S.told store.new name ≡ S.told store.old name }
+    ensures tells { S.tells store.new ≡ S.tells store.old }
+    ensures left { OnOk result (Spends 5 (S.left store.old) (S.left store.new)) }
+    ensures most { OnOk result (SpendsAtMost 9 (S.left store.old) (S.left store.new)) }
+    ensures exact { OnOk result (IsTrue (S.tells store.old) → (number top time : ℕ)
+        → SpellsSequence sequence.now number
+        → GoesOnFrom (S.told store.old (top_name_of dir.now)) top time
+        → SpendsExactly (numbered_calls number top) (S.left store.old) (S.left store.new)) }
+    ensures left_after { Spends 0 (S.left store.old) (S.left store.new) }
+    ensures kept { S.failures store.old ≤ S.failures store.new }
+{
+    laws_of_state();
+    let asked = read_asked(alloc, store, dir, changes, now, sequence)?;
+    let number = asked.number;
+    let Some(made) = prepare(alloc, store, dir, asked)? else {
+        return Ok(publish_report(alloc, number)?);
+    };
+    write_files(alloc, store, &made.names, &made.published)?;
+    Ok(made.report)
+}
+
+// Reads the words, the newest state and the changes.
+fn read_asked<S: Store>(
+    alloc: Global,
+    store: &mut S,
+    dir: &str,
+    changes: &str,
+    now: &str,
+    sequence: &str,
+) -> Result<Asked, RunFault>
+    ensures asked { IfOk result (λ a. IsTrue (S.tells store.old)
+        → IsAsked dir.now changes.now now.now sequence.now (S.told store.old)
+        (from_top a.top).number (from_top a.top).time (asked_for a)) }
+    ensures words { IfOk result (AreReadWords now.now sequence.now) }
+    ensures stops { IfErr result (NotNumbered (IsTrue (S.tells store.old))
+        dir.now changes.now now.now sequence.now (S.told store.old)) }
+    ensures device { IfErr result (Blames (S.failures store.old) (S.failures store.new)) }
+    ensures out { IfErr result
+        (λ fault. IsTrue (S.tells store.old) → ReadsOut (S.left store.old) fault) }
+    ensures unchanged { S.told store.new ≡ S.told store.old }
+    ensures tells { S.tells store.new ≡ S.tells store.old }
+    ensures left { OnOk result (Spends 2 (S.left store.old) (S.left store.new)) }
+    ensures most { OnOk result (SpendsAtMost 2 (S.left store.old) (S.left store.new)) }
+    ensures left_after { Spends 0 (S.left store.old) (S.left store.new) }
+    ensures kept { S.failures store.old ≤ S.failures store.new }
+{
+    let Some(time) = time_read(now.as_bytes()) else {
+        return Err(RunFault::BadNow);
+    };
+    let Some(number) = sequence_read(sequence.as_bytes()) else {
+        return Err(RunFault::BadSequence);
+    };
+    let top = newest(alloc, store, dir)?;
+    let batch = read_changes(alloc, store, changes)?;
+    Ok(Asked {
+        number,
+        time,
+        batch,
+        top,
+    })
+}
+
+// Makes all that is to be written; none if the number is an old one, published as it is asked for.
+fn prepare<S: Store>(
+    alloc: Global,
+    store: &mut S,
+    dir: &str,
+    asked: Asked,
+) -> Result<Option<Publication>, RunFault>
+    requires most { asked.number ≤ max_sequence }
+    requires time { IsPositive asked.time }
+    ensures made { IfOk result (IsPrepared (IsTrue (S.tells store.old)) dir.now
+        (S.told store.old) (from_top asked.top).number (from_top asked.top).time
+        (asked_for asked)) }
+    ensures stops { IfErr result (PrepareStops (IsTrue (S.tells store.old)) dir.now
+        (S.told store.old) (from_top asked.top).number (from_top asked.top).time
+        (asked_for asked)) }
+    ensures device { IfErr result (Blames (S.failures store.old) (S.failures store.new)) }
+    ensures out { IfErr result (λ fault. IsTrue (S.tells store.old)
+        → CheckOut asked.number (S.left store.old) fault) }
+    ensures unchanged { S.told store.new ≡ S.told store.old }
+    ensures tells { S.tells store.new ≡ S.tells store.old }
+    ensures exact { OnOk result
+        (SpendsExactly (check_calls asked.number (from_top asked.top).number)
+        (S.left store.old) (S.left store.new)) }
+    ensures left_after { Spends 0 (S.left store.old) (S.left store.new) }
+    ensures kept { S.failures store.old ≤ S.failures store.new }
+{
+    let (number, time) = (asked.number, asked.time);
+    let next = publisher_from(alloc, asked.top);
+    let top = next.number();
+    if number == top + 1 {
+        return Ok(Some(make(alloc, dir, next, asked.batch, time)?));
+    }
+    if number == 0 || top < number {
+        return Err(RunFault::TopAt(top));
+    }
+    if number == top && !is_time_of(asked.top, time) {
+        return Err(RunFault::Differs(number));
+    }
+    check_published(alloc, store, dir, number, time, &asked.batch)?;
+    if number < top {
+        return Ok(None);
+    }
+    let before = publisher_before(alloc, number, time);
+    Ok(Some(make(alloc, dir, before, asked.batch, time)?))
+}
+
+// Whether the newest state has that time.
+fn is_time_of(top: Option<State>, time: u32) -> bool
+    ensures same { IsTrue result → time ≡ (from_top top).time }
+    ensures only { 0 < (from_top top).number → time ≡ (from_top top).time → IsTrue result }
+{
+    match top {
+        Some(state) => state.time() == time,
+        None => false,
+    }
+}
+
+// The publisher whose next sequence is that one.
+fn publisher_before(alloc: Global, number: u32, time: u32) -> Publisher
+    requires { (0 < number) × (number ≤ max_sequence) × IsPositive time }
+    ensures { result ≡ record { number = number - 1; time = time; pending = [] } }
+{
+    let Some(state) = State::new(number - 1, time) else {
+        unreachable!()
+    };
+    Publisher::resume(alloc, &state)
+}

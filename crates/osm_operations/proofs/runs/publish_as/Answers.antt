@@ -1,0 +1,25 @@
+use Rattle.std.proofs.Common.{None, ◌∙◌}
+use Rattle.osm_folder.specs.Stores.{files_of}
+use Rattle.osm_operations.proofs.RunLemmas.{number_is_text, number_step, ok_calls}
+use Rattle.osm_operations.proofs.runs.publish_as.Goals as goal
+
+pub returns : goal.returns
+returns c = record {
+  step = number_step None c.args.dir.now c.args.changes.now c.text_of.result.now c.as_str.result.now c.args.batch.now c.args.time c.args.number
+      (files_of c.args.store.now) (files_of c.write_changes.new.store) (files_of c.publish_as_run.new.store) c.publish_as_run.result
+      (number_is_text c.args.number c.as_str.result.now c.number_text.ensures.fits (c.as_str.ensures.value ∙ c.in_ok-sequence.ensures.text))
+      (rw c.text_of.ensures c.time_write-now.ensures.shows)
+      (λ some. rw c.text_of.ensures (c.time_write-now.ensures.text some))
+      c.in_ok-write_changes.ensures.written
+      (record {
+        published = c.publish_as_run.ensures.published;
+        added = c.publish_as_run.ensures.added;
+        exact = ok_calls c.publish_as_run.result c.args.dir.now c.as_str.result.now (files_of c.write_changes.new.store)
+            None None c.publish_as_run.ensures.exact;
+        stops = c.publish_as_run.ensures.stops;
+        refuses = c.publish_as_run.ensures.refuses;
+        keeps = c.publish_as_run.ensures.keeps;
+        out = c.publish_as_run.ensures.out;
+        others = c.publish_as_run.ensures.others;
+      });
+}

@@ -1,0 +1,26 @@
+use Rattle.std.proofs.Common.{◌≡◌, ℕ, ◌+◌, ◌<◌, ◌≤◌, ◌++◌, ap, arith, length, length-append, rules, sym, take, vec_capacity, vec_len, slice_index_or}
+use Rattle.std.specs.List.{flat_map}
+use Rattle.std.proofs.lemmas.List.Folds.{length-flat_map-take}
+use Rattle.osm_show.specs.Lines.{numbered_line}
+use Rattle.osm_show.proofs.lines.write_numbered_lines.Goals as goal
+
+pub returns-in_err-write_numbered-clause-refused : goal.returns-in_err-write_numbered-clause-refused
+returns-in_err-write_numbered-clause-refused c =
+    let part = length-flat_map-take (numbered_line c.args.name.now) c.args.numbers.now c.loop-number.number-index 0 c.loop-number-test.true in
+    let many = ap length c.loop-number.invariant.text in
+    let joined = length-append c.args.text.now.items (flat_map (numbered_line c.args.name.now) (take c.loop-number.number-index c.args.numbers.now)) in
+    let before : vec_len c.loop-number.text ≡ length c.loop-number.text.items = c.loop-number.text.ok.0 in
+    let first : vec_len c.args.text.now ≡ length c.args.text.now.items = c.args.text.now.ok.0 in
+    let fact : vec_capacity c.args.text.now < vec_len c.args.text.now
+    + length (flat_map (numbered_line c.args.name.now) c.args.numbers.now) =
+    omega (
+      arith,
+      part,
+      many,
+      joined,
+      before,
+      first,
+      c.loop-number.invariant.room,
+      c.in_err-write_numbered.ensures.refused,
+    ) in
+    search (rules, fact)
