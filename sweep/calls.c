@@ -1,9 +1,11 @@
-/* Kills the program that it is loaded into after CALLS calls of its store, at the beginning of the next one.
+/* Kills the program that it is loaded into after CALLS calls of its store, at the beginning of the next one; or, with
+   FAILING, this call and all later ones fail with EIO.
    A call reads a file, and begins with opening it, whether it is there or not; or it replaces a file, and begins
    with opening a temporary file for writing, which is opened once more if its folders had to be made. Folders
    and names that begin with a slash are no files of the store. Standard error says which call it was. */
 #define _GNU_SOURCE
 #include <dlfcn.h>
+#include <errno.h>
 #include <fcntl.h>
 #include <signal.h>
 #include <stdarg.h>
@@ -26,14 +28,19 @@ static int is_new(const char *path) {
     return 1;
 }
 
-static void before(const char *path, int flags) {
+/* Whether a call fails. It doesn't come back if the program is killed. */
+static int stops(const char *path, int flags) {
     static long calls;
     const char *most = getenv("CALLS");
     int reads = (flags & O_ACCMODE) == O_RDONLY;
-    if (!most || path[0] == '/' || !(reads ? !is_folder(path) : is_new(path))) return;
-    if (calls++ < atol(most)) return;
-    dprintf(2, "%s: %s\n", path, reads ? "read" : "write");
-    kill(getpid(), SIGKILL);
+    if (!most || path[0] == '/' || !(reads ? !is_folder(path) : is_new(path))) return 0;
+    if (calls++ < atol(most)) return 0;
+    if (!getenv("FAILING")) {
+        dprintf(2, "%s: %s\n", path, reads ? "read" : "write");
+        kill(getpid(), SIGKILL);
+    }
+    errno = EIO;
+    return 1;
 }
 
 /* A mode is passed only if a file may be made; otherwise this reads a value that no one uses. */
@@ -47,14 +54,14 @@ static void before(const char *path, int flags) {
 #define OPEN(name, real) \
     int name(const char *path, int flags, ...) { \
         MODE(mode); \
-        before(path, flags); \
+        if (stops(path, flags)) return -1; \
         return ((int (*)(const char *, int, ...))dlsym(RTLD_NEXT, real))(path, flags, mode); \
     }
 
 #define OPEN_AT(name) \
     int name(int folder, const char *path, int flags, ...) { \
         MODE(mode); \
-        before(path, flags); \
+        if (stops(path, flags)) return -1; \
         return ((int (*)(int, const char *, int, ...))dlsym(RTLD_NEXT, #name))(folder, path, flags, mode); \
     }
 

@@ -1,13 +1,15 @@
 """Tags that the o5c writer's hash puts into one bucket, or gives one hash, made from the hash's definition, and
-ordinary tags of the same sizes. A tag is a key of 6 bytes and a value of 39."""
+ordinary tags of the same sizes. A tag is a key of 6 bytes and a value of 39; a short one has 2 and 8."""
 
 import bisect
 import itertools
 import os
 import random
 import subprocess
+from collections.abc import Callable
+from typing import NamedTuple
 
-KEY = b"choice"
+KEY, SHORT_KEY = b"choice", b"ke"
 MODULUS = 1 << 64
 # The polynomial's factor, the number that spreads its high bits, and how many buckets there are.
 FACTOR = 1_099_511_628_211
@@ -36,9 +38,9 @@ def bucket(text):
     return (polynomial(text) * SPREAD % MODULUS) // (MODULUS // BUCKETS)
 
 
-def in_line(value):
-    """The string that the writer looks up: words 1 to 4 of it are the value's first 32 bytes."""
-    return b"\0" + KEY + b"\0" + value + b"\0"
+def in_line(value, key=KEY):
+    """The string that the writer looks up: with the longer key, words 1 to 4 of it are the value's first 32 bytes."""
+    return b"\0" + key + b"\0" + value + b"\0"
 
 
 def ordinary(count):
@@ -47,29 +49,50 @@ def ordinary(count):
     return [bytes(chosen.choices(LETTERS, k=32)) + LAST for _ in range(count)]
 
 
-def of_one_bucket(count):
-    """Values whose buckets agree, each hash another. Word 1 and word 2 take many values each. What they add to the
-    spread polynomial is sorted for word 2, so that for each word 1 those that reach the bucket stand together."""
-    chosen = random.Random(2)
-    many = 2 * int((count * BUCKETS) ** 0.5)
-    first = {bytes(chosen.choices(LETTERS, k=8)) for _ in range(many)}
-    second = {bytes(chosen.choices(LETTERS, k=8)) for _ in range(many)}
-    rest = b"x" * 16 + LAST
-    # Word i of 6 is multiplied by the factor 6 - i times; word 5 counts twice.
-    base = polynomial(in_line(bytes(16) + rest))
-    spread = sorted((int.from_bytes(word, "little") * FACTOR ** 4 * SPREAD % MODULUS, word) for word in second)
-    keys = [key for key, _ in spread]
+def in_one_bucket(first, second, make, key):
+    """Values `make(one, other)` whose buckets agree. What the two parts add to the spread polynomial is a sum, so that
+    it is sorted for the second, and for each first one those that reach the bucket are found by bisection."""
+    none = bytes(len(next(iter(first)))), bytes(len(next(iter(second))))
+    base = polynomial(in_line(make(*none), key))
+
+    def spread(one, other):
+        return (polynomial(in_line(make(one, other), key)) - base) * SPREAD % MODULUS
+
+    added = sorted((spread(none[0], other), other) for other in second)
+    numbers = [number for number, _ in added]
     width = MODULUS // BUCKETS
-    found = []
-    for word in first:
-        start = -(base + int.from_bytes(word, "little") * FACTOR ** 5) * SPREAD % MODULUS
-        i = bisect.bisect_left(keys, start)
-        while i < len(keys) and keys[i] < start + width:
-            found.append(word + spread[i][1] + rest)
+    for one in first:
+        start = -(base * SPREAD + spread(one, none[1])) % MODULUS
+        i = bisect.bisect_left(numbers, start)
+        while i < len(numbers) and numbers[i] < start + width:
+            yield make(one, added[i][1])
             i += 1
-        if len(found) >= count:
-            break
-    return found[:count]
+
+
+def parts(chosen, bare, size, count):
+    """So many different parts that the pairs of two such sets reach one bucket `count` times."""
+    return {bytes(chosen.choices(bare, k=size)) for _ in range(2 * int((count * BUCKETS) ** 0.5))}
+
+
+def of_one_bucket(count):
+    """Values whose buckets agree, each hash another: their first two words differ."""
+    chosen = random.Random(2)
+    first, second = (parts(chosen, LETTERS, 8, count) for _ in range(2))
+    made = in_one_bucket(first, second, lambda one, other: one + other + b"x" * 16 + LAST, KEY)
+    return list(itertools.islice(made, count))
+
+
+def short(count):
+    """Short values of random characters."""
+    chosen = random.Random(3)
+    return [bytes(chosen.choices(sorted(BARE), k=8)) for _ in range(count)]
+
+
+def short_of_one_bucket(count):
+    """Short values whose buckets agree."""
+    chosen = random.Random(4)
+    first, second = (parts(chosen, sorted(BARE), 4, count) for _ in range(2))
+    return list(itertools.islice(in_one_bucket(first, second, lambda one, other: one + other, SHORT_KEY), count))
 
 
 def pairs_of_words():
@@ -91,26 +114,42 @@ def of_one_hash(count):
     return [one + other + LAST for one, other in itertools.islice(itertools.product(pairs, pairs), count)]
 
 
-def values(sort, count):
+class Sort(NamedTuple):
+    """How values of a sort are made, how many different ones, their key and size, and the ordinary sort beside it."""
+    make: Callable
+    count: int
+    key: bytes = KEY
+    size: int = 39
+    beside: str = "ordinary"
+
+
+SORTS = {
+    "ordinary": Sort(ordinary, 16_000),
+    "of one bucket": Sort(of_one_bucket, 16_000),
+    "of one hash": Sort(of_one_hash, 16_000),
+    "short": Sort(short, 300_000, SHORT_KEY, 8, "short"),
+    "short, of one bucket": Sort(short_of_one_bucket, 300_000, SHORT_KEY, 8, "short"),
+}
+
+
+def values(name, count):
     """`count` different values of a sort, which is tested."""
-    made = {"ordinary": ordinary, "of one bucket": of_one_bucket, "of one hash": of_one_hash}[sort](count)
-    assert len(set(made)) == count and all(len(value) == 39 and BARE.issuperset(value) for value in made), sort
-    assert sort != "of one bucket" or len({bucket(in_line(value)) for value in made}) == 1
-    assert sort != "of one hash" or len({polynomial(in_line(value)) for value in made}) == 1
+    sort = SORTS[name]
+    made = sort.make(count)
+    assert len(set(made)) == count and all(len(value) == sort.size and BARE.issuperset(value) for value in made), name
+    assert "one bucket" not in name or len({bucket(in_line(value, sort.key)) for value in made}) == 1
+    assert name != "of one hash" or len({polynomial(in_line(value)) for value in made}) == 1
     return made
 
 
-SORTS = ["ordinary", "of one bucket", "of one hash"]
-
-
-def write(path, size, made):
+def write(path, size, key, made):
     """A file in OPL of about `size` bytes: nodes of 400 tags, which take the values in turn."""
     turn = itertools.cycle(value.decode("ascii") for value in made)
     with open(path, "w", encoding="ascii") as out:
         written = number = 0
         while written < size:
             number += 1
-            tags = ",".join(f"{KEY.decode()}={value}" for value in itertools.islice(turn, 400))
+            tags = ",".join(f"{key.decode()}={value}" for value in itertools.islice(turn, 400))
             written += out.write(f"n{number} v1 dV c1 t2024-01-01T00:00:00Z i1 uann T{tags} x1 y2\n")
 
 

@@ -1,20 +1,29 @@
 /* Refuses one allocation of the program that it is loaded into: the one whose number, from 1, is in
-   REFUSE. Without that variable it counts them, and writes the count to descriptor 9 at the end. */
+   REFUSE. Without that variable it counts them, and writes the count to descriptor 9 at the end. With
+   MARKED only the allocations between two writes to standard error have numbers: the first write begins,
+   the second one ends, and so on. */
 #define _GNU_SOURCE
 #include <dlfcn.h>
 #include <stddef.h>
 #include <stdio.h>
 #include <stdlib.h>
+#include <unistd.h>
 
 static long asked;
 static long refused = -1;
+static int marks;
+
+/* Whether an allocation has a number. */
+static int counts(void) {
+    return !getenv("MARKED") || marks % 2 == 1;
+}
 
 static int refuses(void) {
     if (refused < 0) {
         const char *number = getenv("REFUSE");
         refused = number ? atol(number) : 0;
     }
-    return ++asked == refused;
+    return counts() && ++asked == refused;
 }
 
 void *malloc(size_t size) {
@@ -28,6 +37,18 @@ void *realloc(void *place, size_t size) {
     if (!real) real = (void *(*)(void *, size_t))dlsym(RTLD_NEXT, "realloc");
     return refuses() ? NULL : real(place, size);
 }
+
+/* A C library has this call under its own name and under a private one, and a program may use either. */
+#define WRITE(name) \
+    ssize_t name(int descriptor, const void *bytes, size_t size) { \
+        static ssize_t (*real)(int, const void *, size_t); \
+        if (!real) real = (ssize_t (*)(int, const void *, size_t))dlsym(RTLD_NEXT, "write"); \
+        if (descriptor == 2) marks++; \
+        return real(descriptor, bytes, size); \
+    }
+
+WRITE(write)
+WRITE(__write)
 
 __attribute__((destructor)) static void count(void) {
     if (!getenv("REFUSE")) dprintf(9, "%ld\n", asked);

@@ -1,6 +1,6 @@
 //! A list of operations, read line by line.
 
-ghost use Rattle.std.specs.Prelude.{◌≡◌, [], IfSome, OnOk};
+ghost use Rattle.std.specs.Prelude.{◌≡◌, ℕ, [], Some, IfNone, IfSome, OnOk};
 ghost use Rattle.osm_reading.specs.Sequence.{SpellsSequence};
 ghost use Rattle.operations.specs.Words.{IsEdited, Says, changes_after, suffix_word};
 
@@ -120,13 +120,15 @@ impl List {
 }
 
 fn number_of(word: &str) -> Option<u32>
-    ensures { IfSome result (SpellsSequence word.now) }
+    ensures found { IfSome result (SpellsSequence word.now) }
+    ensures only { (n : ℕ) → SpellsSequence word.now n → result ≡ Some n }
 {
     sequence_read(word.as_bytes())
 }
 
 fn suffix_of(word: &str) -> Option<Suffix>
-    ensures { IfSome result (λ suffix. word.now ≡ suffix_word suffix) }
+    ensures found { IfSome result (λ suffix. word.now ≡ suffix_word suffix) }
+    ensures only { IfNone result ((suffix : Suffix) → word.now ≡ suffix_word suffix → ⊥) }
 {
     match word {
         "o5c" => Some(Suffix::O5c),

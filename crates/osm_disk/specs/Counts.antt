@@ -1,6 +1,7 @@
 -- What is known about a store: its process, and how its failures are counted.
-use Rattle.std.specs.Prelude.{◌≡◌, ℕ, ◌+◌, min}
+use Rattle.std.specs.Prelude.{◌≡◌, ℕ, ◌+◌, false, None, min}
 use Rattle.osm_disk.specs.declared.disk_store.DiskStore.{DiskStore}
+use Rattle.osm_folder.specs.Frames.{StoreState}
 use Rattle.osm_folder.specs.declared.store.StoreError.{StoreError}
 use Rattle.osm_folder.specs.declared.store.StoreError.TheVariants.{Device}
 
@@ -11,6 +12,11 @@ failures_of store = store.failures
 -- the process that names a store's temporary files
 abbrev pub process_of : {R F D : Type 0} → DiskStore R F D → ℕ
 process_of store = store.process
+
+-- what contracts see of a store: nothing is known of its files, and it never stops
+abbrev pub state_of : {R F D : Type 0} → DiskStore R F D → StoreState
+state_of store =
+    record { files = λ name. None; is_known = false; left = None; failures = store.failures }
 
 -- a failure of the device adds one to the count, up to the greatest value; no other error changes
 -- it

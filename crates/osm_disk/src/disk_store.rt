@@ -1,8 +1,9 @@
 //! A store over the files of the disk.
 
-ghost use Rattle.std.specs.Prelude.{◌≡◌, ◌≤◌, None, false, IfErr, IfOk, OnOk};
-ghost use Rattle.osm_disk.specs.Counts.{Counts};
-ghost use Rattle.osm_folder.specs.Files.{HasFailed, IsWithin, ReadStops, WriteStops};
+ghost use Rattle.std.specs.Prelude.{◌≡◌, ◌≤◌, IfErr, IfOk, OnOk};
+ghost use Rattle.osm_disk.specs.Counts.{Counts, state_of};
+ghost use Rattle.osm_folder.specs.Files.{HasFailed, IsWithin, WriteRefused};
+ghost use Rattle.osm_folder.specs.Frames.{IsDevice, ReadsBetween, ReplacesBetween};
 
 use crate::reading::{cause_of, read_file};
 use crate::replacing::write_file;
@@ -57,18 +58,12 @@ impl<R: Files> DiskStore<R> {
 }
 
 impl<R: Files> Store for DiskStore<R> {
-    ghost failures = { λ s. s.failures };
-
-    ghost left = { λ s. None };
-
-    ghost tells = { λ s. false };
-
-    ghost told = { λ s name. None };
+    ghost state = { state_of };
 
     fn read(&mut self, alloc: Global, name: &str, limit: u64) -> Result<Option<Vec<u8>>, StoreError>
         ensures within { IfOk result (IsWithin limit) }
-        ensures stops { IfErr result (ReadStops limit self.old.failures self.new.failures) }
-        ensures kept { self.old.failures ≤ self.new.failures }
+        ensures frame { ReadsBetween IsDevice 1 1
+            (state_of self.old) (state_of self.new) result }
         ensures none { OnOk result (self.new.failures ≡ self.old.failures) }
         ensures counted { IfErr result (Counts self.old.failures self.new.failures) }
     {
@@ -79,8 +74,9 @@ impl<R: Files> Store for DiskStore<R> {
     }
 
     fn write(&mut self, alloc: Global, name: &str, bytes: &[u8]) -> Result<(), StoreError>
-        ensures stops { IfErr result (WriteStops self.old.failures self.new.failures) }
-        ensures kept { self.old.failures ≤ self.new.failures }
+        ensures refused { IfErr result WriteRefused }
+        ensures frame { ReplacesBetween IsDevice 1 1
+            (state_of self.old) (state_of self.new) result }
         ensures none { OnOk result (self.new.failures ≡ self.old.failures) }
         ensures counted { IfErr result (Counts self.old.failures self.new.failures) }
     {

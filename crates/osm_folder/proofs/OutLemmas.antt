@@ -8,7 +8,7 @@ use Rattle.osm_folder.specs.Files.{Files, Spends, SpendsAtMost}
 use Rattle.osm_folder.specs.Names.{top_name_of}
 use Rattle.osm_folder.specs.Numbered.{NumberedOut, SpendsExactly, calls_before, file_read_after, numbered_calls}
 use Rattle.osm_folder.specs.Publication.{GoesOnFrom, PublishOut, file_after}
-use Rattle.osm_folder.specs.Runs.{LacksCalls}
+use Rattle.osm_folder.specs.Runs.{IsDeviceFault, LacksCalls}
 use Rattle.osm_folder.specs.Steps.Numbering.{CheckOut, check_calls}
 use Rattle.osm_folder.specs.Steps.Numbering.{FileDiffers}
 use Rattle.osm_folder.specs.Steps.Publishing.{ChangesStop, CloseStops, ReadsOut, TopStops, WritesOut}
@@ -17,8 +17,8 @@ use Rattle.osm_follow.specs.Publisher.{PublisherValue}
 use Rattle.osm_folder.specs.declared.fault.FileName.{FileName}
 use Rattle.osm_folder.specs.declared.fault.RunFault.{RunFault}
 use Rattle.osm_folder.specs.declared.fault.RunFault.TheVariants.{WantOfMemory, ReadFault, WriteFault}
-use Rattle.osm_folder.proofs.CallLemmas.{most_both, most_none}
 use Rattle.osm_folder.proofs.FileLemmas.{spends_both, spends_none}
+use Rattle.osm_folder.proofs.FrameLemmas.{most_both, most_none}
 
 -- how many calls were left before so many
 pub left_before : (calls count : ℕ) (a b : Option ℕ) → Spends calls a b → SpendsAtMost calls a b → b ≡ Some count → a ≡ Some (calls + count)
@@ -30,12 +30,12 @@ left_before calls count (Some n) b (m, is, few) (k, at, more) e =
 
 -- no call was left for one read or write
 pub none_left_read : (a : Option ℕ) (file : FileName) → LacksCalls 1 a (ReadFault file) → a ≡ Some 0
-none_left_read None file h = absurd h
-none_left_read (Some n) file h = ap (λ (x : ℕ). Some x) (omega arith)
+none_left_read None file h = absurd (h tt)
+none_left_read (Some n) file h = ap (λ (x : ℕ). Some x) (let few : n < 1 = h tt in omega (arith, few))
 
 pub none_left_write : (a : Option ℕ) (file : FileName) → LacksCalls 1 a (WriteFault file) → a ≡ Some 0
-none_left_write None file h = absurd h
-none_left_write (Some n) file h = ap (λ (x : ℕ). Some x) (omega arith)
+none_left_write None file h = absurd (h tt)
+none_left_write (Some n) file h = ap (λ (x : ℕ). Some x) (let few : n < 1 = h tt in omega (arith, few))
 
 -- ---- one call after so many
 
@@ -62,6 +62,11 @@ pub close_reads_out : (p : PublisherValue) (time : ℕ) (a : Option ℕ) (fault 
 close_reads_out p time a (ReadFault file) stops = absurd stops
 close_reads_out p time a (WriteFault file) stops = stops
 close_reads_out p time a fault stops = tt
+
+pub close_without_device : (p : PublisherValue) (time : ℕ) (fault : RunFault) → CloseStops p time fault → IsDeviceFault fault → ⊥
+close_without_device p time (ReadFault file) stops blame = absurd stops
+close_without_device p time (WriteFault file) stops blame = absurd stops
+close_without_device p time fault stops blame = blame
 
 pub check_out : (known : Type 0) (number count : ℕ) (file : FileName) (holds : Type 0) (a b : Option ℕ)
     (fault : RunFault) → count < 3 → file ≡ file_read_after number (2 + count) → Spends count a b
@@ -149,10 +154,10 @@ before_least number top = by_case (number == top + 1)
 
 -- at most eight calls come before the one that fails
 pub out_lacks : (dir sequence : List ℕ) (files : Files) (a : Option ℕ) (fault : RunFault) → NumberedOut dir sequence files a fault → LacksCalls 9 a fault
-out_lacks dir sequence files a (ReadFault file) (number, count, spelled, few, left, is) = rw left (omega arith)
+out_lacks dir sequence files a (ReadFault file) (number, count, spelled, few, left, is) = λ blame. rw left (omega arith)
 out_lacks dir sequence files a (WriteFault file) (number, top, time, count, spelled, goes_on, few, left, is) =
-    let most = before_most number top in rw left (omega (arith, most))
-out_lacks dir sequence files a fault out = tt
+    let most = before_most number top in λ blame. rw left (omega (arith, most))
+out_lacks dir sequence files a fault out = λ blame. absurd blame
 
 -- the calls of a publication that writes, and of one that doesn't
 pub writing_calls : (number top : ℕ) (a b c : Option ℕ) → (number ≡ top + 1) ⊎ (number ≡ top)

@@ -7,6 +7,10 @@ pub same_err : {T E : Type 0} (Q : E → Type 0) (r : Result T E) (x : E) → Is
 same_err Q (Ok v) x h q = tt
 same_err Q (Err y) x h q = subst Q (sym h) q
 
+pub same_result : {T E : Type 0} (P : Result T E → Type 0) (r : Result T E) (x : E) → IsErrAnd r (λ y. y ≡ x) → P (Err x) → P r
+same_result P (Ok v) x h p = absurd h
+same_result P (Err y) x h p = subst (λ z. P (Err z)) (sym h) p
+
 pub on_err : {T E P : Type 0} → (r : Result T E) → P → OnErr r P
 on_err (Ok x) p = tt
 on_err (Err e) p = p

@@ -58,6 +58,11 @@ put_save_stops known dir save files WantOfMemory has stops = inr (inr tt)
 put_save_stops known dir save files (WriteFault file) has stops = rw stops (inr (inr has))
 put_save_stops known dir save files fault has stops = absurd stops
 
+pub put_save_refuses : (ps : List PublishedValue) (told : Option (List ℕ)) (fault : RunFault) → PutStops Save fault → FollowRefuses ps told fault
+put_save_refuses ps told WantOfMemory stops = tt
+put_save_refuses ps told (WriteFault file) stops = stops
+put_save_refuses ps told fault stops = absurd stops
+
 no_bad_save : (told : Option (List ℕ)) (v : Saved) → IsSaved told v → IsBadSave told → ⊥
 no_bad_save None v s b = (let e = b.there in cc)
 no_bad_save (Some bytes) v s b = b.nothing v (rw (← same_Some bytes b.bytes b.there) s.1)

@@ -1,7 +1,7 @@
 -- What a store tells about its files: what each name holds, as bytes.
 use Rattle.std.specs.Prelude.{◌≡◌, ℕ, ◌+◌, ◌<◌, ◌≤◌, ◌⊎◌, List, length, Option, Some, None, Vec}
 use Rattle.osm_folder.specs.declared.store.StoreError.{StoreError}
-use Rattle.osm_folder.specs.declared.store.StoreError.TheVariants.{Device, TooLarge, WantOfMemory}
+use Rattle.osm_folder.specs.declared.store.StoreError.TheVariants.{TooLarge}
 
 -- what the file of each name holds, none if there is no such file
 abbrev pub Files : Type 0
@@ -47,23 +47,12 @@ HasFewer calls (Some n) = n < calls
 abbrev pub HasFailed : ℕ → ℕ → Type 0
 HasFailed old new = (old < new) ⊎ (18446744073709551615 ≤ old)
 
--- why a file isn't read: its device failed, it has more bytes than asked for, or memory was refused
-abbrev pub ReadStops : ℕ → ℕ → ℕ → StoreError → Type 0
-ReadStops limit old new Device = HasFailed old new
-ReadStops limit old new e = Unit {0}
+-- why a file isn't read: it is too large only if it has more bytes than asked for
+abbrev pub ReadRefused : Type 0 → ℕ → Option (List ℕ) → StoreError → Type 0
+ReadRefused known limit told TooLarge = known → IsOver limit told
+ReadRefused known limit told e = Unit {0}
 
--- a read is too large only if the file has more bytes than asked for
-abbrev pub IsOverOnly : ℕ → Option (List ℕ) → StoreError → Type 0
-IsOverOnly limit told TooLarge = IsOver limit told
-IsOverOnly limit told e = Unit {0}
-
--- the device is the reason only if no call is left
-abbrev pub IsOutOnly : Option ℕ → StoreError → Type 0
-IsOutOnly left Device = left ≡ Some 0
-IsOutOnly left e = Unit {0}
-
--- why a file isn't written: its device failed, or memory was refused
-abbrev pub WriteStops : ℕ → ℕ → StoreError → Type 0
-WriteStops old new Device = HasFailed old new
-WriteStops old new TooLarge = ⊥
-WriteStops old new WantOfMemory = Unit {0}
+-- why a file isn't written: never since it is too large
+abbrev pub WriteRefused : StoreError → Type 0
+WriteRefused TooLarge = ⊥
+WriteRefused e = Unit {0}

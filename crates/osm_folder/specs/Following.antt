@@ -2,7 +2,7 @@
 -- hold.
 use Rattle.std.specs.Prelude.{◌≡◌, ◌≢◌, ℕ, zero, suc, ◌+◌, ◌-◌, ◌*◌, ◌<◌, ◌≤◌, ◌⊎◌, ◌↔◌, List}
 use Rattle.std.specs.Prelude.{[], length, map, filter, min, Bool, true, false, ◌||◌, ◌&&◌, Option}
-use Rattle.std.specs.Prelude.{Some, None, is_none}
+use Rattle.std.specs.Prelude.{Some, None, is_none, Result, IfErr, IfOk}
 use Rattle.osm_model.specs.Limits.{max_file}
 use Rattle.osm_mirror.specs.Mirror.{Applies, IsMirrorOf, no_mirror}
 use Rattle.osm_save.specs.Save.{SpellsSave}
@@ -15,9 +15,11 @@ use Rattle.osm_follow.specs.Reach.{numbers}
 use Rattle.osm_folder.specs.Files.{Files, IsOver, Puts}
 use Rattle.osm_folder.specs.Folder.{IsFile, IsStateFile, IsThere, max_state}
 use Rattle.osm_folder.specs.Forms.{IsFaulty}
+use Rattle.osm_folder.specs.Frames.{StoreState}
 use Rattle.osm_folder.specs.Names.{file_name_of, top_name_of}
 use Rattle.osm_folder.specs.Publication.{IsBadState}
 use Rattle.osm_folder.specs.Reports.{ReportValue, follow_report_of}
+use Rattle.osm_folder.specs.Runs.{CallsUpTo}
 use Rattle.osm_folder.specs.declared.fault.FileName.TheVariants.{Top, Sequence, Save}
 use Rattle.osm_folder.specs.declared.fault.RunFault.{RunFault}
 use Rattle.osm_folder.specs.declared.fault.RunFault.TheVariants.{WantOfMemory, ReadFault}
@@ -302,3 +304,10 @@ abbrev pub FollowRefuses : List PublishedValue → Option (List ℕ) → RunFaul
 FollowRefuses published told (WriteFault file) = file ≡ Save
 FollowRefuses published told (TooLarge file) = (file ≡ Save) × HasBigSave published told
 FollowRefuses published told fault = StartRefuses published told fault
+
+-- what a run of the follower does over them: it goes on in step, within its calls, or is refused
+pub record FollowsOver (published : List PublishedValue) (number : ℕ) (dir save : List ℕ)
+    (old new : StoreState) (result : Result ReportValue RunFault) : Type 0 where
+  pub in_step : IfOk result (IsInStepAfter published number dir save old.files new.files)
+  pub refuses : IfErr result (FollowRefuses published (old.files save))
+  pub calls : CallsUpTo (follow_calls published number) old new result

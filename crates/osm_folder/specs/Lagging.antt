@@ -1,5 +1,6 @@
 -- How far a saved follower is behind a folder. `known` says that it is known what the files hold.
 use Rattle.std.specs.Prelude.{◌≡◌, ℕ, ◌+◌, ◌<◌, ◌≤◌, List, length, Option, Some}
+use Rattle.std.specs.Prelude.{Result, IfErr, IfOk}
 use Rattle.osm_save.specs.declared.save.Saved.{Saved}
 use Rattle.osm_state.specs.State.{StateValue}
 use Rattle.osm_follow.specs.Lag.{AreSeconds}
@@ -56,3 +57,9 @@ LagRefuses published number told TimeBehind =
     (time : ℕ) × (time_at published number ≡ Some time)
     × ((sequence_at published (length published)).time < time)
 LagRefuses published number told fault = StartRefuses published told fault
+
+-- what a run does over them: it tells the lag, or is refused
+pub record LagsOver (published : List PublishedValue) (number : ℕ) (save : Option (List ℕ))
+    (result : Result ReportValue RunFault) : Type 0 where
+  pub in_step : IfOk result (IsLagOf published number)
+  pub refuses : IfErr result (LagRefuses published number save)

@@ -4,6 +4,7 @@ pub mod Files
 pub mod Folder
 pub mod Following
 pub mod Forms
+pub mod Frames
 pub mod Lagging
 pub mod Names
 pub mod Numbered

@@ -1,7 +1,7 @@
 -- Publishing as a number that is asked for: as the next one, or once more as one that is there with
 -- the same changes at the same time. `known` says that it is known what the files hold.
 use Rattle.std.specs.Prelude.{◌≡◌, ℕ, zero, suc, ◌+◌, ◌<◌, ◌≤◌, ◌⊎◌, ◌==◌, List, Option, Some, None}
-use Rattle.std.specs.Prelude.{false, length, take, if◌then◌else◌}
+use Rattle.std.specs.Prelude.{false, length, take, if◌then◌else◌, Result, IfErr, IfOk, OnErr}
 use Rattle.osm_model.specs.Limits.{max_file}
 use Rattle.osm_model.specs.Time.{TimeText}
 use Rattle.osm_follow.specs.Published.{PublishedValue, sequence_at, written_of}
@@ -236,6 +236,14 @@ NumberedRefuses published dir changes now sequence files (Differs number) =
     SpellsSequence sequence number × (0 < number) × (number ≤ length published)
     × (IsRepeatOf files dir changes now (sequence_at published number) → ⊥)
 NumberedRefuses published dir changes now sequence files fault = ⊥
+
+-- what a publication by number into that folder does: the sequence is added or is there already, or
+-- it is refused, and the folder is still that of what was published before
+pub record PublishesAsOver (published : List PublishedValue) (dir changes now sequence : List ℕ)
+    (old new : Files) (result : Result ReportValue RunFault) : Type 0 where
+  pub added : IfOk result (IsAddedAs published dir changes now sequence old new)
+  pub refuses : IfErr result (NumberedRefuses published dir changes now sequence old)
+  pub keeps : OnErr result (IsFolderOf published new dir)
 
 -- how many calls of the store a publication by number makes if it is done
 abbrev pub numbered_calls : ℕ → ℕ → ℕ

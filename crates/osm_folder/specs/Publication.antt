@@ -1,6 +1,6 @@
 -- Publishing one more sequence in a folder. `known` says that it is known what the files hold.
 use Rattle.std.specs.Prelude.{◌≡◌, ℕ, zero, suc, ◌+◌, ◌<◌, ◌≤◌, ◌⊎◌, List, [], ◌∷◌, ◌++◌}
-use Rattle.std.specs.Prelude.{length, take, Option, Some, None}
+use Rattle.std.specs.Prelude.{length, take, Option, Some, None, Result, IfErr, IfOk, OnErr}
 use Rattle.osm_model.specs.Limits.{max_file, max_sequence}
 use Rattle.osm_model.specs.Time.{TimeText}
 use Rattle.osm_follow.specs.Published.{PublishedTexts, PublishedValue, sequence_at}
@@ -205,3 +205,11 @@ FolderRefuses published now (BadChange file place why) = file ≡ Changes
 FolderRefuses published now SequenceFull = length published ≡ max_sequence
 FolderRefuses published now TimeBack = IsBeforeLast published now
 FolderRefuses published now fault = ⊥
+
+-- what a publication into that folder does: it adds a sequence, or is refused, and the folder is
+-- still that of what was published before
+pub record PublishesOver (published : List PublishedValue) (dir changes now : List ℕ)
+    (old new : Files) (result : Result ReportValue RunFault) : Type 0 where
+  pub added : IfOk result (IsAdded published dir changes now old new)
+  pub refuses : IfErr result (FolderRefuses published now)
+  pub keeps : OnErr result (IsFolderOf published new dir)

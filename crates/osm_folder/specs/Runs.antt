@@ -1,17 +1,57 @@
 -- What all runs over a store have in common.
-use Rattle.std.specs.Prelude.{ℕ, Option}
+use Rattle.std.specs.Prelude.{◌≡◌, ℕ, Option, Result, OnErr}
 use Rattle.osm_folder.specs.Files.{HasFailed, HasFewer}
+use Rattle.osm_folder.specs.Frames.{CallsBetween, Makes, MakesAtMost, ReadsBetween, StoreState}
+use Rattle.osm_folder.specs.Frames.{ReplacesBetween}
 use Rattle.osm_folder.specs.declared.fault.RunFault.{RunFault}
 use Rattle.osm_folder.specs.declared.fault.RunFault.TheVariants.{ReadFault, WriteFault}
 
--- the device is blamed only if its count of failures rose, or was already at its greatest value
-abbrev pub Blames : ℕ → ℕ → RunFault → Type 0
-Blames old new (ReadFault file) = HasFailed old new
-Blames old new (WriteFault file) = HasFailed old new
-Blames old new fault = Unit {0}
+-- the device is the reason
+abbrev pub IsDeviceFault : RunFault → Type 0
+IsDeviceFault (ReadFault file) = Unit {0}
+IsDeviceFault (WriteFault file) = Unit {0}
+IsDeviceFault fault = ⊥
 
--- the device is blamed only if fewer than that many calls were left
+-- the device is the reason only if its count of failures rose, or was already at its greatest value
+abbrev pub Blames : ℕ → ℕ → RunFault → Type 0
+Blames old new fault = IsDeviceFault fault → HasFailed old new
+
+-- the device is the reason only if fewer than that many calls were left
 abbrev pub LacksCalls : ℕ → Option ℕ → RunFault → Type 0
-LacksCalls calls left (ReadFault file) = HasFewer calls left
-LacksCalls calls left (WriteFault file) = HasFewer calls left
-LacksCalls calls left fault = Unit {0}
+LacksCalls calls left fault = IsDeviceFault fault → HasFewer calls left
+
+-- that many calls
+abbrev pub Calls : {T : Type 0} → ℕ → StoreState → StoreState → Result T RunFault → Type 0
+Calls calls old new result = CallsBetween IsDeviceFault calls calls old new result
+
+-- from `least` to `most` calls
+abbrev pub CallsFromTo : {T : Type 0} → ℕ → ℕ → StoreState → StoreState → Result T RunFault → Type 0
+CallsFromTo least most old new result = CallsBetween IsDeviceFault least most old new result
+
+-- at most that many calls
+abbrev pub CallsUpTo : {T : Type 0} → ℕ → StoreState → StoreState → Result T RunFault → Type 0
+CallsUpTo most old new result = MakesAtMost IsDeviceFault most old new result
+
+-- that many reads
+abbrev pub Reads : {T : Type 0} → ℕ → StoreState → StoreState → Result T RunFault → Type 0
+Reads calls old new result = ReadsBetween IsDeviceFault calls calls old new result
+
+-- at most that many reads
+abbrev pub ReadsUpTo : {T : Type 0} → ℕ → StoreState → StoreState → Result T RunFault → Type 0
+ReadsUpTo most old new result = ReadsBetween IsDeviceFault 0 most old new result
+
+-- at least that many reads
+pub record ReadsAtLeast {T : Type 0} (least : ℕ) (old new : StoreState)
+    (result : Result T RunFault) : Type 0 where
+  pub files : new.files ≡ old.files
+  pub makes : Makes IsDeviceFault least old new result
+
+-- that many calls, and no file changes unless all is done
+abbrev pub Replaces : {T : Type 0} → ℕ → StoreState → StoreState → Result T RunFault → Type 0
+Replaces calls old new result = ReplacesBetween IsDeviceFault calls calls old new result
+
+-- at least that many calls, and no file changes unless all is done
+pub record ReplacesAtLeast {T : Type 0} (least : ℕ) (old new : StoreState)
+    (result : Result T RunFault) : Type 0 where
+  pub files : OnErr result (new.files ≡ old.files)
+  pub makes : Makes IsDeviceFault least old new result

@@ -6,11 +6,12 @@ ghost use Rattle.osm_model.specs.Batch.{IsBatch};
 ghost use Rattle.osm_model.specs.Change.{IsChange};
 ghost use Rattle.osm_model.specs.Limits.{max_file, max_sequence};
 ghost use Rattle.osm_opl.specs.Written.{line_text};
-ghost use Rattle.osm_folder.specs.Files.{IsWithin, Spends, SpendsAtMost, Tells};
+ghost use Rattle.osm_folder.specs.Files.{IsWithin, Tells};
 ghost use Rattle.osm_folder.specs.Folder.{IsAbsentOr, IsStateFile, IsThere, max_state};
+ghost use Rattle.osm_folder.specs.Frames.{IsKnown};
 ghost use Rattle.osm_folder.specs.Names.{file_name_of};
 ghost use Rattle.osm_folder.specs.Numbered.{AreFilesOf};
-ghost use Rattle.osm_folder.specs.Runs.{Blames, LacksCalls};
+ghost use Rattle.osm_folder.specs.Runs.{Reads};
 ghost use Rattle.osm_folder.specs.Steps.Following.{suffix_of};
 ghost use Rattle.osm_folder.specs.Steps.Numbering.{BytesDiffer, CheckOut, CheckStops, FileDiffers};
 ghost use Rattle.osm_folder.specs.Steps.Numbering.{HoldsChanges, IsCompared, OverDiffers};
@@ -45,20 +46,14 @@ pub(crate) fn check_published<S: Store>(
     batch: &Batch,
 ) -> Result<(), RunFault>
     requires { number ≤ max_sequence }
-    ensures published { OnOk result (IsTrue (S.tells store.old)
-        → AreFilesOf (S.told store.old) dir.now
+    ensures published { OnOk result (IsKnown (S.state store.old)
+        → AreFilesOf (S.state store.old).files dir.now
         (record { number = number; changes = batch.now; time = time })) }
-    ensures stops { IfErr result (CheckStops (IsTrue (S.tells store.old)) dir.now
-        (S.told store.old) (record { number = number; changes = batch.now; time = time })) }
-    ensures device { IfErr result (Blames (S.failures store.old) (S.failures store.new)) }
+    ensures stops { IfErr result (CheckStops (IsKnown (S.state store.old)) dir.now
+        (S.state store.old).files (record { number = number; changes = batch.now; time = time })) }
     ensures out { IfErr result
-        (λ fault. IsTrue (S.tells store.old) → CheckOut number (S.left store.old) fault) }
-    ensures unchanged { S.told store.new ≡ S.told store.old }
-    ensures tells { S.tells store.new ≡ S.tells store.old }
-    ensures left { OnOk result (Spends 3 (S.left store.old) (S.left store.new)) }
-    ensures most { OnOk result (SpendsAtMost 3 (S.left store.old) (S.left store.new)) }
-    ensures left_after { Spends 0 (S.left store.old) (S.left store.new) }
-    ensures kept { S.failures store.old ≤ S.failures store.new }
+        (λ fault. IsKnown (S.state store.old) → CheckOut number (S.state store.old).left fault) }
+    ensures frame { Reads 3 (S.state store.old) (S.state store.new) result }
 {
     check_state(alloc, store, dir, number, time)?;
     let o5c = check_changes(alloc, store, dir, number, Form::O5c, batch)?;
@@ -78,22 +73,14 @@ fn check_state<S: Store>(
     time: u32,
 ) -> Result<(), RunFault>
     requires { number ≤ max_sequence }
-    ensures there { OnOk result (IsTrue (S.tells store.old)
-        → IsThere (S.told store.old (file_name_of dir.now number Suffix.State))
+    ensures there { OnOk result (IsKnown (S.state store.old)
+        → IsThere ((S.state store.old).files (file_name_of dir.now number Suffix.State))
         (IsStateFile number time)) }
-    ensures stops { IfErr result (FileDiffers (IsTrue (S.tells store.old))
+    ensures stops { IfErr result (FileDiffers (IsKnown (S.state store.old))
         (FileName.Sequence number Suffix.State) number
-        (IsThere (S.told store.old (file_name_of dir.now number Suffix.State))
+        (IsThere ((S.state store.old).files (file_name_of dir.now number Suffix.State))
         (IsStateFile number time))) }
-    ensures device { IfErr result (Blames (S.failures store.old) (S.failures store.new)) }
-    ensures lacks { IfErr result
-        (λ fault. IsTrue (S.tells store.old) → LacksCalls 1 (S.left store.old) fault) }
-    ensures unchanged { S.told store.new ≡ S.told store.old }
-    ensures tells { S.tells store.new ≡ S.tells store.old }
-    ensures left { OnOk result (Spends 1 (S.left store.old) (S.left store.new)) }
-    ensures most { OnOk result (SpendsAtMost 1 (S.left store.old) (S.left store.new)) }
-    ensures left_after { Spends 0 (S.left store.old) (S.left store.new) }
-    ensures kept { S.failures store.old ≤ S.failures store.new }
+    ensures frame { Reads 1 (S.state store.old) (S.state store.new) result }
 {
     match read_of(alloc, store, dir, number, Suffix::State, MAX_STATE) {
         Ok(Some(text)) => check_text(text.as_slice(), number, time),
@@ -134,22 +121,15 @@ fn check_changes<S: Store>(
     batch: &Batch,
 ) -> Result<bool, RunFault>
     requires { number ≤ max_sequence }
-    ensures there { IfOk result (λ is_there. IsTrue (S.tells store.old)
-        → IsCompared is_there (S.told store.old (file_name_of dir.now number (suffix_of form)))
+    ensures there { IfOk result (λ is_there. IsKnown (S.state store.old)
+        → IsCompared is_there
+        ((S.state store.old).files (file_name_of dir.now number (suffix_of form)))
         (HoldsChanges form batch.now)) }
-    ensures stops { IfErr result (FileDiffers (IsTrue (S.tells store.old))
+    ensures stops { IfErr result (FileDiffers (IsKnown (S.state store.old))
         (FileName.Sequence number (suffix_of form)) number
-        (IsAbsentOr (S.told store.old (file_name_of dir.now number (suffix_of form)))
+        (IsAbsentOr ((S.state store.old).files (file_name_of dir.now number (suffix_of form)))
         (HoldsChanges form batch.now))) }
-    ensures device { IfErr result (Blames (S.failures store.old) (S.failures store.new)) }
-    ensures lacks { IfErr result
-        (λ fault. IsTrue (S.tells store.old) → LacksCalls 1 (S.left store.old) fault) }
-    ensures unchanged { S.told store.new ≡ S.told store.old }
-    ensures tells { S.tells store.new ≡ S.tells store.old }
-    ensures left { OnOk result (Spends 1 (S.left store.old) (S.left store.new)) }
-    ensures most { OnOk result (SpendsAtMost 1 (S.left store.old) (S.left store.new)) }
-    ensures left_after { Spends 0 (S.left store.old) (S.left store.new) }
-    ensures kept { S.failures store.old ≤ S.failures store.new }
+    ensures frame { Reads 1 (S.state store.old) (S.state store.new) result }
 {
     let suffix = suffix(form);
     let Some(bytes) = read_of(alloc, store, dir, number, suffix, MAX_FILE as u64)? else {
@@ -201,21 +181,13 @@ fn read_of<S: Store>(
     limit: u64,
 ) -> Result<Option<Vec<u8>>, RunFault>
     requires { number ≤ max_sequence }
-    ensures read { IfOk result (λ o. IsTrue (S.tells store.old)
-        → Tells o (S.told store.old (file_name_of dir.now number suffix))) }
+    ensures read { IfOk result (λ o. IsKnown (S.state store.old)
+        → Tells o ((S.state store.old).files (file_name_of dir.now number suffix))) }
     ensures within { IfOk result (IsWithin limit) }
-    ensures stops { IfErr result (OverDiffers (IsTrue (S.tells store.old))
+    ensures stops { IfErr result (OverDiffers (IsKnown (S.state store.old))
         (FileName.Sequence number suffix) number limit
-        (S.told store.old (file_name_of dir.now number suffix))) }
-    ensures device { IfErr result (Blames (S.failures store.old) (S.failures store.new)) }
-    ensures lacks { IfErr result
-        (λ fault. IsTrue (S.tells store.old) → LacksCalls 1 (S.left store.old) fault) }
-    ensures unchanged { S.told store.new ≡ S.told store.old }
-    ensures tells { S.tells store.new ≡ S.tells store.old }
-    ensures left { OnOk result (Spends 1 (S.left store.old) (S.left store.new)) }
-    ensures most { OnOk result (SpendsAtMost 1 (S.left store.old) (S.left store.new)) }
-    ensures left_after { Spends 0 (S.left store.old) (S.left store.new) }
-    ensures kept { S.failures store.old ≤ S.failures store.new }
+        ((S.state store.old).files (file_name_of dir.now number suffix))) }
+    ensures frame { Reads 1 (S.state store.old) (S.state store.new) result }
 {
     let name = file_name(alloc, dir, number, suffix)?;
     let file = FileName::Sequence(number, suffix);

@@ -1,10 +1,10 @@
 //! Converting a file.
 
-ghost use Rattle.std.specs.Prelude.{◌≡◌, ◌≤◌, IsTrue, IfErr, IfOk, OnOk, OnErr};
+ghost use Rattle.std.specs.Prelude.{◌≡◌, IfErr, IfOk, OnOk};
 ghost use Rattle.osm_folder.specs.Conversion.{ConvertStops, IsConverted};
-ghost use Rattle.osm_folder.specs.Files.{Spends, SpendsAtMost};
+ghost use Rattle.osm_folder.specs.Frames.{IsKnown};
 ghost use Rattle.osm_folder.specs.Reports.{convert_report_of};
-ghost use Rattle.osm_folder.specs.Runs.{Blames, LacksCalls};
+ghost use Rattle.osm_folder.specs.Runs.{Replaces};
 
 use crate::fault::{FileName, RunFault};
 use crate::files::{read_present, write_file};
@@ -23,20 +23,12 @@ pub fn convert_run<S: Store>(
     input: &str,
     output: &str,
 ) -> Result<Report, RunFault>
-    ensures converted { OnOk result (IsTrue (S.tells store.old)
-        → IsConverted input.now output.now (S.told store.old) (S.told store.new)) }
+    ensures converted { OnOk result (IsKnown (S.state store.old)
+        → IsConverted input.now output.now (S.state store.old).files (S.state store.new).files) }
     ensures report { IfOk result (λ report. report ≡ convert_report_of) }
-    ensures stops { IfErr result
-        (ConvertStops (IsTrue (S.tells store.old)) input.now output.now (S.told store.old)) }
-    ensures device { IfErr result (Blames (S.failures store.old) (S.failures store.new)) }
-    ensures lacks { IfErr result
-        (λ fault. IsTrue (S.tells store.old) → LacksCalls 2 (S.left store.old) fault) }
-    ensures unchanged { OnErr result (S.told store.new ≡ S.told store.old) }
-    ensures tells { S.tells store.new ≡ S.tells store.old }
-    ensures left { OnOk result (Spends 2 (S.left store.old) (S.left store.new)) }
-    ensures most { OnOk result (SpendsAtMost 2 (S.left store.old) (S.left store.new)) }
-    ensures left_after { Spends 0 (S.left store.old) (S.left store.new) }
-    ensures kept { S.failures store.old ≤ S.failures store.new }
+    ensures stops { IfErr result (ConvertStops (IsKnown (S.state store.old)) input.now output.now
+        (S.state store.old).files) }
+    ensures frame { Replaces 2 (S.state store.old) (S.state store.new) result }
 {
     let Some(from) = form_of(input) else {
         return Err(RunFault::UnknownForm);

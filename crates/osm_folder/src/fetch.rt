@@ -1,13 +1,14 @@
 //! Reading the files of a sequence.
 
-ghost use Rattle.std.specs.Prelude.{◌≡◌, ℕ, ◌≤◌, true, IsTrue, IfErr, IfOk, IfNone, OnOk};
+ghost use Rattle.std.specs.Prelude.{◌≡◌, ℕ, ◌≤◌, true, IfErr, IfOk, IfNone, OnOk};
 ghost use Rattle.std.specs.Prelude.{MatchOption, length};
 ghost use Rattle.osm_model.specs.Limits.{max_sequence};
-ghost use Rattle.osm_folder.specs.Files.{IsWithin, Spends, SpendsAtMost, Tells};
+ghost use Rattle.osm_folder.specs.Files.{IsWithin, Tells};
 ghost use Rattle.osm_folder.specs.Folder.{IsStateFile, max_state};
+ghost use Rattle.osm_folder.specs.Frames.{IsKnown};
 ghost use Rattle.osm_folder.specs.Following.{HasState, NumberStops, is_lost, limit_of};
 ghost use Rattle.osm_folder.specs.Names.{file_name_of};
-ghost use Rattle.osm_folder.specs.Runs.{Blames, LacksCalls};
+ghost use Rattle.osm_folder.specs.Runs.{Reads, ReadsUpTo};
 ghost use Rattle.osm_folder.specs.Steps.Following.{AreChangesRead, IsFetched, IsStateRead};
 ghost use Rattle.osm_folder.specs.Steps.Following.{StateTextStops};
 ghost use Rattle.osm_folder.specs.Steps.Reading.{FileStops};
@@ -39,19 +40,12 @@ pub(crate) fn fetch<S: Store>(
 ) -> Result<Option<Fetched>, RunFault>
     requires { number ≤ max_sequence }
     ensures fetched { IfOk result (λ o. MatchOption o
-        (IsTrue (S.tells store.old) → is_lost (S.told store.old) dir.now number ≡ true)
-        (λ a. IsFetched (IsTrue (S.tells store.old)) (S.told store.old) dir.now number
+        (IsKnown (S.state store.old) → is_lost (S.state store.old).files dir.now number ≡ true)
+        (λ a. IsFetched (IsKnown (S.state store.old)) (S.state store.old).files dir.now number
         a.state.items a.form a.changes.items)) }
     ensures stops { IfErr result
-        (NumberStops (IsTrue (S.tells store.old)) dir.now (S.told store.old) number) }
-    ensures device { IfErr result (Blames (S.failures store.old) (S.failures store.new)) }
-    ensures lacks { IfErr result
-        (λ fault. IsTrue (S.tells store.old) → LacksCalls 3 (S.left store.old) fault) }
-    ensures unchanged { S.told store.new ≡ S.told store.old }
-    ensures tells { S.tells store.new ≡ S.tells store.old }
-    ensures most { OnOk result (SpendsAtMost 3 (S.left store.old) (S.left store.new)) }
-    ensures left_after { Spends 0 (S.left store.old) (S.left store.new) }
-    ensures kept { S.failures store.old ≤ S.failures store.new }
+        (NumberStops (IsKnown (S.state store.old)) dir.now (S.state store.old).files number) }
+    ensures frame { ReadsUpTo 3 (S.state store.old) (S.state store.new) result }
 {
     let Some(state) = read_state(alloc, store, dir, number)? else {
         return Ok(None);
@@ -74,18 +68,11 @@ fn read_state<S: Store>(
     number: u32,
 ) -> Result<Option<Vec<u8>>, RunFault>
     requires { number ≤ max_sequence }
-    ensures read { IfOk result (IsStateRead (IsTrue (S.tells store.old))
-        (S.told store.old (file_name_of dir.now number Suffix.State)) number) }
+    ensures read { IfOk result (IsStateRead (IsKnown (S.state store.old))
+        ((S.state store.old).files (file_name_of dir.now number Suffix.State)) number) }
     ensures stops { IfErr result
-        (NumberStops (IsTrue (S.tells store.old)) dir.now (S.told store.old) number) }
-    ensures device { IfErr result (Blames (S.failures store.old) (S.failures store.new)) }
-    ensures lacks { IfErr result
-        (λ fault. IsTrue (S.tells store.old) → LacksCalls 1 (S.left store.old) fault) }
-    ensures unchanged { S.told store.new ≡ S.told store.old }
-    ensures tells { S.tells store.new ≡ S.tells store.old }
-    ensures most { OnOk result (SpendsAtMost 1 (S.left store.old) (S.left store.new)) }
-    ensures left_after { Spends 0 (S.left store.old) (S.left store.new) }
-    ensures kept { S.failures store.old ≤ S.failures store.new }
+        (NumberStops (IsKnown (S.state store.old)) dir.now (S.state store.old).files number) }
+    ensures frame { Reads 1 (S.state store.old) (S.state store.new) result }
 {
     let Some(text) = read_numbered(alloc, store, dir, number, Suffix::State)? else {
         return Ok(None);
@@ -114,20 +101,14 @@ fn read_changes<S: Store>(
     number: u32,
 ) -> Result<Option<(Form, Vec<u8>)>, RunFault>
     requires { number ≤ max_sequence }
-    ensures read { IfOk result (AreChangesRead (IsTrue (S.tells store.old))
-        (S.told store.old (file_name_of dir.now number Suffix.O5c))
-        (S.told store.old (file_name_of dir.now number Suffix.Opl))) }
-    ensures stops { IfErr result (λ fault.
-        (IsTrue (S.tells store.old) → HasState (S.told store.old) dir.now number)
-        → NumberStops (IsTrue (S.tells store.old)) dir.now (S.told store.old) number fault) }
-    ensures device { IfErr result (Blames (S.failures store.old) (S.failures store.new)) }
-    ensures lacks { IfErr result
-        (λ fault. IsTrue (S.tells store.old) → LacksCalls 2 (S.left store.old) fault) }
-    ensures unchanged { S.told store.new ≡ S.told store.old }
-    ensures tells { S.tells store.new ≡ S.tells store.old }
-    ensures most { OnOk result (SpendsAtMost 2 (S.left store.old) (S.left store.new)) }
-    ensures left_after { Spends 0 (S.left store.old) (S.left store.new) }
-    ensures kept { S.failures store.old ≤ S.failures store.new }
+    ensures read { IfOk result (AreChangesRead (IsKnown (S.state store.old))
+        ((S.state store.old).files (file_name_of dir.now number Suffix.O5c))
+        ((S.state store.old).files (file_name_of dir.now number Suffix.Opl))) }
+    ensures stops { IfErr result
+        (λ fault. (IsKnown (S.state store.old) → HasState (S.state store.old).files dir.now number)
+        → NumberStops (IsKnown (S.state store.old)) dir.now (S.state store.old).files
+        number fault) }
+    ensures frame { ReadsUpTo 2 (S.state store.old) (S.state store.new) result }
 {
     if let Some(bytes) = read_numbered(alloc, store, dir, number, Suffix::O5c)? {
         return Ok(Some((Form::O5c, bytes)));
@@ -147,20 +128,13 @@ fn read_numbered<S: Store>(
     suffix: Suffix,
 ) -> Result<Option<Vec<u8>>, RunFault>
     requires { number ≤ max_sequence }
-    ensures read { IfOk result (λ o. IsTrue (S.tells store.old)
-        → Tells o (S.told store.old (file_name_of dir.now number suffix))) }
+    ensures read { IfOk result (λ o. IsKnown (S.state store.old)
+        → Tells o ((S.state store.old).files (file_name_of dir.now number suffix))) }
     ensures within { IfOk result (IsWithin (limit_of suffix)) }
-    ensures stops { IfErr result (FileStops (IsTrue (S.tells store.old))
+    ensures stops { IfErr result (FileStops (IsKnown (S.state store.old))
         (FileName.Sequence number suffix) (limit_of suffix)
-        (S.told store.old (file_name_of dir.now number suffix))) }
-    ensures device { IfErr result (Blames (S.failures store.old) (S.failures store.new)) }
-    ensures lacks { IfErr result
-        (λ fault. IsTrue (S.tells store.old) → LacksCalls 1 (S.left store.old) fault) }
-    ensures unchanged { S.told store.new ≡ S.told store.old }
-    ensures tells { S.tells store.new ≡ S.tells store.old }
-    ensures most { OnOk result (SpendsAtMost 1 (S.left store.old) (S.left store.new)) }
-    ensures left_after { Spends 0 (S.left store.old) (S.left store.new) }
-    ensures kept { S.failures store.old ≤ S.failures store.new }
+        ((S.state store.old).files (file_name_of dir.now number suffix))) }
+    ensures frame { Reads 1 (S.state store.old) (S.state store.new) result }
 {
     let name = file_name(alloc, dir, number, suffix)?;
     let file = FileName::Sequence(number, suffix);

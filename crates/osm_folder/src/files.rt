@@ -1,8 +1,9 @@
 //! Reading and writing the files of a run.
 
-ghost use Rattle.std.specs.Prelude.{◌≡◌, ◌≤◌, IsTrue, Some, IfErr, IfOk, OnOk, OnErr, length};
-ghost use Rattle.osm_folder.specs.Files.{IsWithin, Puts, Spends, SpendsAtMost, Tells};
-ghost use Rattle.osm_folder.specs.Runs.{Blames, LacksCalls};
+ghost use Rattle.std.specs.Prelude.{◌≡◌, ◌≤◌, Some, IfErr, IfOk, OnOk, length};
+ghost use Rattle.osm_folder.specs.Files.{IsWithin, Puts, Tells};
+ghost use Rattle.osm_folder.specs.Frames.{IsKnown};
+ghost use Rattle.osm_folder.specs.Runs.{Reads, Replaces};
 ghost use Rattle.osm_folder.specs.Steps.Reading.{FileStops, PresentStops, PutStops};
 
 use crate::fault::{FileName, RunFault};
@@ -21,19 +22,11 @@ pub(crate) fn read_file<S: Store>(
     limit: u64,
 ) -> Result<Option<Vec<u8>>, RunFault>
     ensures read { IfOk result
-        (λ o. IsTrue (S.tells store.old) → Tells o (S.told store.old name.now)) }
+        (λ o. IsKnown (S.state store.old) → Tells o ((S.state store.old).files name.now)) }
     ensures within { IfOk result (IsWithin limit) }
     ensures stops { IfErr result
-        (FileStops (IsTrue (S.tells store.old)) file limit (S.told store.old name.now)) }
-    ensures device { IfErr result (Blames (S.failures store.old) (S.failures store.new)) }
-    ensures lacks { IfErr result
-        (λ fault. IsTrue (S.tells store.old) → LacksCalls 1 (S.left store.old) fault) }
-    ensures unchanged { S.told store.new ≡ S.told store.old }
-    ensures tells { S.tells store.new ≡ S.tells store.old }
-    ensures left { OnOk result (Spends 1 (S.left store.old) (S.left store.new)) }
-    ensures most { OnOk result (SpendsAtMost 1 (S.left store.old) (S.left store.new)) }
-    ensures left_after { Spends 0 (S.left store.old) (S.left store.new) }
-    ensures kept { S.failures store.old ≤ S.failures store.new }
+        (FileStops (IsKnown (S.state store.old)) file limit ((S.state store.old).files name.now)) }
+    ensures frame { Reads 1 (S.state store.old) (S.state store.new) result }
 {
     match store.read(alloc, name, limit) {
         Ok(bytes) => Ok(bytes),
@@ -51,20 +44,12 @@ pub(crate) fn read_present<S: Store>(
     name: &str,
     limit: u64,
 ) -> Result<Vec<u8>, RunFault>
-    ensures read { IfOk result
-        (λ bytes. IsTrue (S.tells store.old) → S.told store.old name.now ≡ Some bytes.items) }
+    ensures read { IfOk result (λ bytes. IsKnown (S.state store.old)
+        → (S.state store.old).files name.now ≡ Some bytes.items) }
     ensures within { IfOk result (λ bytes. length bytes.items ≤ limit) }
-    ensures stops { IfErr result
-        (PresentStops (IsTrue (S.tells store.old)) file limit (S.told store.old name.now)) }
-    ensures device { IfErr result (Blames (S.failures store.old) (S.failures store.new)) }
-    ensures lacks { IfErr result
-        (λ fault. IsTrue (S.tells store.old) → LacksCalls 1 (S.left store.old) fault) }
-    ensures unchanged { S.told store.new ≡ S.told store.old }
-    ensures tells { S.tells store.new ≡ S.tells store.old }
-    ensures left { OnOk result (Spends 1 (S.left store.old) (S.left store.new)) }
-    ensures most { OnOk result (SpendsAtMost 1 (S.left store.old) (S.left store.new)) }
-    ensures left_after { Spends 0 (S.left store.old) (S.left store.new) }
-    ensures kept { S.failures store.old ≤ S.failures store.new }
+    ensures stops { IfErr result (PresentStops (IsKnown (S.state store.old)) file limit
+        ((S.state store.old).files name.now)) }
+    ensures frame { Reads 1 (S.state store.old) (S.state store.new) result }
 {
     match read_file(alloc, store, file, name, limit) {
         Ok(Some(bytes)) => Ok(bytes),
@@ -81,18 +66,10 @@ pub(crate) fn write_file<S: Store>(
     name: &str,
     bytes: &[u8],
 ) -> Result<(), RunFault>
-    ensures written { OnOk result (IsTrue (S.tells store.old)
-        → Puts (S.told store.old) name.now (Some bytes.now) (S.told store.new)) }
+    ensures written { OnOk result (IsKnown (S.state store.old)
+        → Puts (S.state store.old).files name.now (Some bytes.now) (S.state store.new).files) }
     ensures stops { IfErr result (PutStops file) }
-    ensures device { IfErr result (Blames (S.failures store.old) (S.failures store.new)) }
-    ensures lacks { IfErr result
-        (λ fault. IsTrue (S.tells store.old) → LacksCalls 1 (S.left store.old) fault) }
-    ensures refused { OnErr result (S.told store.new ≡ S.told store.old) }
-    ensures tells { S.tells store.new ≡ S.tells store.old }
-    ensures left { OnOk result (Spends 1 (S.left store.old) (S.left store.new)) }
-    ensures most { OnOk result (SpendsAtMost 1 (S.left store.old) (S.left store.new)) }
-    ensures left_after { Spends 0 (S.left store.old) (S.left store.new) }
-    ensures kept { S.failures store.old ≤ S.failures store.new }
+    ensures frame { Replaces 1 (S.state store.old) (S.state store.new) result }
 {
     match store.write(alloc, name, bytes) {
         Ok(()) => Ok(()),

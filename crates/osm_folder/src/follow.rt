@@ -1,7 +1,7 @@
 //! Following a folder from a save.
 
 ghost use Rattle.std.specs.Prelude.{◌≡◌, ℕ, ◌+◌, ◌-◌, ◌*◌, ◌<◌, ◌≤◌, ◌++◌, List, None, true};
-ghost use Rattle.std.specs.Prelude.{false, IsTrue, IfErr, IfOk, OnOk, OnErr, length};
+ghost use Rattle.std.specs.Prelude.{false, IfErr, IfOk, OnOk, length};
 ghost use Rattle.osm_model.specs.Limits.{max_file, max_sequence};
 ghost use Rattle.osm_save.specs.Save.{SpellsSave};
 ghost use Rattle.osm_state.specs.State.{StateValue};
@@ -10,15 +10,13 @@ ghost use Rattle.osm_follow.specs.Follower.{held_at, is_held};
 ghost use Rattle.osm_follow.specs.Published.{PublishedValue};
 ghost use Rattle.osm_follow.specs.Reach.{missing_numbers};
 ghost use Rattle.osm_follow.specs.Restart.{saved_of};
-ghost use Rattle.osm_folder.specs.Files.{Spends, SpendsAtMost};
 ghost use Rattle.osm_folder.specs.Folder.{IsFolderOf};
-ghost use Rattle.osm_folder.specs.Following.{FollowRefuses, FollowStops, IsFollowed};
-ghost use Rattle.osm_folder.specs.Following.{IsFollowing};
-ghost use Rattle.osm_folder.specs.Following.{IsFollowReport, IsInStepAfter, IsSaveOf};
-ghost use Rattle.osm_folder.specs.Following.{NumberStops, follow_calls, max_save};
+ghost use Rattle.osm_folder.specs.Frames.{IsKnown};
+ghost use Rattle.osm_folder.specs.Following.{FollowStops, FollowsOver, IsFollowReport, IsFollowed};
+ghost use Rattle.osm_folder.specs.Following.{IsFollowing, IsSaveOf, NumberStops, max_save};
 ghost use Rattle.osm_folder.specs.Forms.{place_of, spells_of};
 ghost use Rattle.osm_folder.specs.Reports.{follow_report_of};
-ghost use Rattle.osm_folder.specs.Runs.{Blames, LacksCalls};
+ghost use Rattle.osm_folder.specs.Runs.{CallsUpTo, ReadsAtLeast, ReadsUpTo, ReplacesAtLeast};
 ghost use Rattle.osm_folder.specs.Steps.Following.{DeliverStops, IsDelivered, IsFresh};
 ghost use Rattle.osm_folder.specs.Steps.Following.{IsNoted, IsTaken, IsTakenUp, MadeStops};
 ghost use Rattle.osm_folder.specs.Steps.Following.{StopsOnTheWay, range_of, suffix_of};
@@ -62,39 +60,17 @@ pub fn follow_run<S: Store>(
     dir: &str,
     save: &str,
 ) -> Result<Report, RunFault>
-    ensures followed { IfOk result (λ report. IsTrue (S.tells store.old)
-        → IsFollowed dir.now save.now (S.told store.old) (S.told store.new) report) }
-    ensures in_step { IfOk result (λ report. IsTrue (S.tells store.old)
-        → (published : List PublishedValue) (number : ℕ)
-        → IsFolderOf published (S.told store.old) dir.now
-        → IsSaveOf published number (S.told store.old save.now)
-        → IsInStepAfter published number dir.now save.now
-        (S.told store.old) (S.told store.new) report) }
+    ensures followed { IfOk result (λ report. IsKnown (S.state store.old)
+        → IsFollowed dir.now save.now (S.state store.old).files (S.state store.new).files report) }
     ensures report { IfOk result IsFollowReport }
-    ensures stops { IfErr result (FollowStops (IsTrue (S.tells store.old))
-        dir.now save.now (S.told store.old)) }
-    ensures refuses { IfErr result (λ fault. IsTrue (S.tells store.old)
-        → (published : List PublishedValue) (number : ℕ)
-        → IsFolderOf published (S.told store.old) dir.now
-        → IsSaveOf published number (S.told store.old save.now)
-        → FollowRefuses published (S.told store.old save.now) fault) }
-    ensures device { IfErr result (Blames (S.failures store.old) (S.failures store.new)) }
-    ensures lacks { IfErr result (λ fault. IsTrue (S.tells store.old)
-        → (published : List PublishedValue) (number : ℕ)
-        → IsFolderOf published (S.told store.old) dir.now
-        → IsSaveOf published number (S.told store.old save.now)
-        → LacksCalls (follow_calls published number) (S.left store.old) fault) }
-    ensures unchanged { OnErr result (S.told store.new ≡ S.told store.old) }
-    ensures tells { S.tells store.new ≡ S.tells store.old }
-    ensures left { OnOk result (Spends 3 (S.left store.old) (S.left store.new)) }
-    ensures most { OnOk result (IsTrue (S.tells store.old)
-        → (published : List PublishedValue) (number : ℕ)
-        → IsFolderOf published (S.told store.old) dir.now
-        → IsSaveOf published number (S.told store.old save.now)
-        → SpendsAtMost (follow_calls published number)
-        (S.left store.old) (S.left store.new)) }
-    ensures left_after { Spends 0 (S.left store.old) (S.left store.new) }
-    ensures kept { S.failures store.old ≤ S.failures store.new }
+    ensures stops { IfErr result (FollowStops (IsKnown (S.state store.old))
+        dir.now save.now (S.state store.old).files) }
+    ensures over { IsKnown (S.state store.old) → (published : List PublishedValue) (number : ℕ)
+        → IsFolderOf published (S.state store.old).files dir.now
+        → IsSaveOf published number ((S.state store.old).files save.now)
+        → FollowsOver published number dir.now save.now
+        (S.state store.old) (S.state store.new) result }
+    ensures frame { ReplacesAtLeast 3 (S.state store.old) (S.state store.new) result }
 {
     laws_of_state();
     let made = prepare(alloc, store, dir, save)?;
@@ -109,29 +85,18 @@ fn prepare<S: Store>(
     dir: &str,
     save: &str,
 ) -> Result<Following, RunFault>
-    ensures made { IfOk result (λ a. IsTrue (S.tells store.old)
-        → IsFollowing dir.now save.now (S.told store.old) a.text.items a.report) }
+    ensures made { IfOk result (λ a. IsKnown (S.state store.old)
+        → IsFollowing dir.now save.now (S.state store.old).files a.text.items a.report) }
     ensures small { IfOk result (λ a. length a.text.items ≤ max_save) }
     ensures report { IfOk result (λ a. IsFollowReport a.report) }
-    ensures stops { IfErr result (FollowStops (IsTrue (S.tells store.old))
-        dir.now save.now (S.told store.old)) }
-    ensures device { IfErr result (Blames (S.failures store.old) (S.failures store.new)) }
-    ensures lacks { IfErr result (λ fault. IsTrue (S.tells store.old)
-        → (published : List PublishedValue) (number : ℕ)
-        → IsFolderOf published (S.told store.old) dir.now
-        → IsSaveOf published number (S.told store.old save.now)
-        → LacksCalls (2 + 3 * (length published - number)) (S.left store.old) fault) }
-    ensures unchanged { S.told store.new ≡ S.told store.old }
-    ensures tells { S.tells store.new ≡ S.tells store.old }
-    ensures left { OnOk result (Spends 2 (S.left store.old) (S.left store.new)) }
-    ensures most { OnOk result (IsTrue (S.tells store.old)
-        → (published : List PublishedValue) (number : ℕ)
-        → IsFolderOf published (S.told store.old) dir.now
-        → IsSaveOf published number (S.told store.old save.now)
-        → SpendsAtMost (2 + 3 * (length published - number))
-        (S.left store.old) (S.left store.new)) }
-    ensures left_after { Spends 0 (S.left store.old) (S.left store.new) }
-    ensures kept { S.failures store.old ≤ S.failures store.new }
+    ensures stops { IfErr result (FollowStops (IsKnown (S.state store.old))
+        dir.now save.now (S.state store.old).files) }
+    ensures calls { IsKnown (S.state store.old) → (published : List PublishedValue) (number : ℕ)
+        → IsFolderOf published (S.state store.old).files dir.now
+        → IsSaveOf published number ((S.state store.old).files save.now)
+        → CallsUpTo (2 + 3 * (length published - number))
+        (S.state store.old) (S.state store.new) result }
+    ensures frame { ReadsAtLeast 2 (S.state store.old) (S.state store.new) result }
 {
     let mut start = read_start(alloc, store, dir, save)?;
     if start.top.sequence() < number_of(&start.follower) {
@@ -153,19 +118,12 @@ fn take_up<S: Store>(
     requires fresh { IsFresh follower.old }
     requires from { follower.old.number ≤ top }
     requires most { top ≤ max_sequence }
-    ensures taken { IfOk result (λ applied. IsTakenUp (IsTrue (S.tells store.old))
-        (S.told store.old) dir.now follower.old top follower.new applied.items) }
-    ensures stops { IfErr result (StopsOnTheWay (IsTrue (S.tells store.old))
-        dir.now (S.told store.old) follower.old.number top) }
-    ensures device { IfErr result (Blames (S.failures store.old) (S.failures store.new)) }
-    ensures lacks { IfErr result (λ fault. IsTrue (S.tells store.old)
-        → LacksCalls (3 * (top - follower.old.number)) (S.left store.old) fault) }
-    ensures unchanged { S.told store.new ≡ S.told store.old }
-    ensures tells { S.tells store.new ≡ S.tells store.old }
-    ensures most { OnOk result (SpendsAtMost (3 * (top - follower.old.number))
-        (S.left store.old) (S.left store.new)) }
-    ensures left_after { Spends 0 (S.left store.old) (S.left store.new) }
-    ensures kept { S.failures store.old ≤ S.failures store.new }
+    ensures taken { IfOk result (λ applied. IsTakenUp (IsKnown (S.state store.old))
+        (S.state store.old).files dir.now follower.old top follower.new applied.items) }
+    ensures stops { IfErr result (StopsOnTheWay (IsKnown (S.state store.old))
+        dir.now (S.state store.old).files follower.old.number top) }
+    ensures frame { ReadsUpTo (3 * (top - follower.old.number))
+        (S.state store.old) (S.state store.new) result }
 {
     let mut applied = Vec::new(alloc);
     for before in number_of(follower)..top {
@@ -194,18 +152,11 @@ fn take<S: Store>(
     requires within { number ≤ follower.old.number + 64 }
     requires fresh { held_at follower.old number ≡ None }
     requires most { number ≤ max_sequence }
-    ensures taken { OnOk result (IsNoted (IsTrue (S.tells store.old)) (S.told store.old)
+    ensures taken { OnOk result (IsNoted (IsKnown (S.state store.old)) (S.state store.old).files
         dir.now number follower.old follower.new applied.old.items applied.new.items) }
     ensures stops { IfErr result
-        (NumberStops (IsTrue (S.tells store.old)) dir.now (S.told store.old) number) }
-    ensures device { IfErr result (Blames (S.failures store.old) (S.failures store.new)) }
-    ensures lacks { IfErr result
-        (λ fault. IsTrue (S.tells store.old) → LacksCalls 3 (S.left store.old) fault) }
-    ensures unchanged { S.told store.new ≡ S.told store.old }
-    ensures tells { S.tells store.new ≡ S.tells store.old }
-    ensures most { OnOk result (SpendsAtMost 3 (S.left store.old) (S.left store.new)) }
-    ensures left_after { Spends 0 (S.left store.old) (S.left store.new) }
-    ensures kept { S.failures store.old ≤ S.failures store.new }
+        (NumberStops (IsKnown (S.state store.old)) dir.now (S.state store.old).files number) }
+    ensures frame { ReadsUpTo 3 (S.state store.old) (S.state store.new) result }
 {
     let taken = deliver_number(alloc, store, dir, number, follower)?;
     note(taken, applied)?;
@@ -234,18 +185,12 @@ fn deliver_number<S: Store>(
     requires within { number ≤ follower.old.number + 64 }
     requires fresh { held_at follower.old number ≡ None }
     requires most { number ≤ max_sequence }
-    ensures taken { IfOk result (λ o. IsTaken (IsTrue (S.tells store.old)) (S.told store.old)
-        dir.now number follower.old o follower.new) }
+    ensures taken { IfOk result
+        (λ o. IsTaken (IsKnown (S.state store.old)) (S.state store.old).files dir.now number
+        follower.old o follower.new) }
     ensures stops { IfErr result
-        (NumberStops (IsTrue (S.tells store.old)) dir.now (S.told store.old) number) }
-    ensures device { IfErr result (Blames (S.failures store.old) (S.failures store.new)) }
-    ensures lacks { IfErr result
-        (λ fault. IsTrue (S.tells store.old) → LacksCalls 3 (S.left store.old) fault) }
-    ensures unchanged { S.told store.new ≡ S.told store.old }
-    ensures tells { S.tells store.new ≡ S.tells store.old }
-    ensures most { OnOk result (SpendsAtMost 3 (S.left store.old) (S.left store.new)) }
-    ensures left_after { Spends 0 (S.left store.old) (S.left store.new) }
-    ensures kept { S.failures store.old ≤ S.failures store.new }
+        (NumberStops (IsKnown (S.state store.old)) dir.now (S.state store.old).files number) }
+    ensures frame { ReadsUpTo 3 (S.state store.old) (S.state store.new) result }
 {
     let Some(fetched) = fetch(alloc, store, dir, number)? else {
         return Ok(None);

@@ -1,10 +1,10 @@
 //! A store that stops after a number of calls, as a killed process does.
 
-ghost use Rattle.std.specs.Prelude.{◌≡◌, ◌+◌, ◌<◌, ◌≤◌, ℕ, true, Some, IsTrue, OnOk, OnErr};
-ghost use Rattle.std.specs.Prelude.{IfErr, IfOk, Option};
-ghost use Rattle.osm_folder.specs.Files.{HasFailed, IsOutOnly, IsOverOnly, IsWithin, Puts};
-ghost use Rattle.osm_folder.specs.Files.{ReadStops, Spends, SpendsAtMost, Tells, WriteStops};
-ghost use Rattle.osm_folder.specs.Stores.{FuseStops, fewer_of};
+ghost use Rattle.std.specs.Prelude.{◌≡◌, ◌+◌, ◌≤◌, Some, OnOk, OnErr, IfErr, IfOk};
+ghost use Rattle.osm_folder.specs.Files.{HasFailed, IsWithin, Puts, ReadRefused, Tells};
+ghost use Rattle.osm_folder.specs.Files.{WriteRefused};
+ghost use Rattle.osm_folder.specs.Frames.{IsDevice, IsKnown, ReadsBetween, ReplacesBetween};
+ghost use Rattle.osm_folder.specs.Stores.{IsBlown, fuse_state};
 
 use crate::store::{Store, StoreError};
 use std::alloc::Global;
@@ -65,70 +65,32 @@ fn spend(calls: &mut u64, refused: &mut u64) -> Result<(), StoreError>
 }
 
 impl<S: Store> Store for Fuse<S> {
-    ghost failures = { λ f. S.Store.failures f.inner + f.refused };
-
-    ghost left = { λ f. fewer_of f.calls (S.Store.left f.inner) };
-
-    ghost tells = { λ f. S.Store.tells f.inner };
-
-    ghost told = { λ f. S.Store.told f.inner };
+    ghost state = { fuse_state S.Store.state };
 
     fn read(&mut self, alloc: Global, name: &str, limit: u64) -> Result<Option<Vec<u8>>, StoreError>
-        ensures read { IfOk result (λ o. IsTrue (S.Store.tells self.old.inner)
-            → Tells o (S.Store.told self.old.inner name.now)) }
+        ensures read { IfOk result (λ o. IsKnown (S.Store.state self.old.inner)
+            → Tells o ((S.Store.state self.old.inner).files name.now)) }
         ensures within { IfOk result (IsWithin limit) }
-        ensures stops { IfErr result (ReadStops limit
-            (S.Store.failures self.old.inner + self.old.refused)
-            (S.Store.failures self.new.inner + self.new.refused)) }
-        ensures blown { IfErr result (FuseStops self.old.calls
-            (S.Store.failures self.old.inner) (S.Store.failures self.new.inner)) }
-        ensures over { IfErr result (λ e. IsTrue (S.Store.tells self.old.inner)
-            → IsOverOnly limit (S.Store.told self.old.inner name.now) e) }
-        ensures unchanged { S.Store.told self.new.inner ≡ S.Store.told self.old.inner }
-        ensures tells { S.Store.tells self.new.inner ≡ S.Store.tells self.old.inner }
-        ensures left { OnOk result (Spends 1
-            (fewer_of self.old.calls (S.Store.left self.old.inner))
-            (fewer_of self.new.calls (S.Store.left self.new.inner))) }
-        ensures most { OnOk result (SpendsAtMost 1
-            (fewer_of self.old.calls (S.Store.left self.old.inner))
-            (fewer_of self.new.calls (S.Store.left self.new.inner))) }
-        ensures left_after { Spends 0
-            (fewer_of self.old.calls (S.Store.left self.old.inner))
-            (fewer_of self.new.calls (S.Store.left self.new.inner)) }
-        ensures out { IfErr result (λ e. IsTrue (S.Store.tells self.old.inner)
-            → IsOutOnly (fewer_of self.old.calls (S.Store.left self.old.inner)) e) }
-        ensures kept { S.Store.failures self.old.inner + self.old.refused
-            ≤ S.Store.failures self.new.inner + self.new.refused }
+        ensures refused { IfErr result (ReadRefused (IsKnown (S.Store.state self.old.inner)) limit
+            ((S.Store.state self.old.inner).files name.now)) }
+        ensures blown { IfErr result (IsBlown self.old.calls
+            (S.Store.state self.old.inner) (S.Store.state self.new.inner)) }
+        ensures frame { ReadsBetween IsDevice 1 1
+            (fuse_state S.Store.state self.old) (fuse_state S.Store.state self.new) result }
     {
         spend(&mut self.calls, &mut self.refused)?;
         self.inner.read(alloc, name, limit)
     }
 
     fn write(&mut self, alloc: Global, name: &str, bytes: &[u8]) -> Result<(), StoreError>
-        ensures written { OnOk result (IsTrue (S.Store.tells self.old.inner)
-            → Puts (S.Store.told self.old.inner) name.now (Some bytes.now)
-            (S.Store.told self.new.inner)) }
-        ensures stops { IfErr result (WriteStops
-            (S.Store.failures self.old.inner + self.old.refused)
-            (S.Store.failures self.new.inner + self.new.refused)) }
-        ensures blown { IfErr result (FuseStops self.old.calls
-            (S.Store.failures self.old.inner) (S.Store.failures self.new.inner)) }
-        ensures refused { OnErr result
-            (S.Store.told self.new.inner ≡ S.Store.told self.old.inner) }
-        ensures tells { S.Store.tells self.new.inner ≡ S.Store.tells self.old.inner }
-        ensures left { OnOk result (Spends 1
-            (fewer_of self.old.calls (S.Store.left self.old.inner))
-            (fewer_of self.new.calls (S.Store.left self.new.inner))) }
-        ensures most { OnOk result (SpendsAtMost 1
-            (fewer_of self.old.calls (S.Store.left self.old.inner))
-            (fewer_of self.new.calls (S.Store.left self.new.inner))) }
-        ensures left_after { Spends 0
-            (fewer_of self.old.calls (S.Store.left self.old.inner))
-            (fewer_of self.new.calls (S.Store.left self.new.inner)) }
-        ensures out { IfErr result (λ e. IsTrue (S.Store.tells self.old.inner)
-            → IsOutOnly (fewer_of self.old.calls (S.Store.left self.old.inner)) e) }
-        ensures kept { S.Store.failures self.old.inner + self.old.refused
-            ≤ S.Store.failures self.new.inner + self.new.refused }
+        ensures written { OnOk result (IsKnown (S.Store.state self.old.inner)
+            → Puts (S.Store.state self.old.inner).files name.now (Some bytes.now)
+            (S.Store.state self.new.inner).files) }
+        ensures refused { IfErr result WriteRefused }
+        ensures blown { IfErr result (IsBlown self.old.calls
+            (S.Store.state self.old.inner) (S.Store.state self.new.inner)) }
+        ensures frame { ReplacesBetween IsDevice 1 1
+            (fuse_state S.Store.state self.old) (fuse_state S.Store.state self.new) result }
     {
         spend(&mut self.calls, &mut self.refused)?;
         self.inner.write(alloc, name, bytes)

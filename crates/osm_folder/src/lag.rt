@@ -1,12 +1,12 @@
 //! How far a saved follower is behind a folder.
 
-ghost use Rattle.std.specs.Prelude.{◌≡◌, ℕ, ◌≤◌, List, false, IsTrue, IfErr, IfOk, OnOk};
+ghost use Rattle.std.specs.Prelude.{◌≡◌, ℕ, List, false, IfErr, IfOk};
 ghost use Rattle.osm_follow.specs.Published.{PublishedValue};
-ghost use Rattle.osm_folder.specs.Files.{Spends, SpendsAtMost};
 ghost use Rattle.osm_folder.specs.Folder.{IsFolderOf};
+ghost use Rattle.osm_folder.specs.Frames.{IsKnown};
 ghost use Rattle.osm_folder.specs.Following.{IsSaveOf};
-ghost use Rattle.osm_folder.specs.Lagging.{IsLag, IsLagOf, IsLagReport, LagRefuses, LagStops};
-ghost use Rattle.osm_folder.specs.Runs.{Blames, LacksCalls};
+ghost use Rattle.osm_folder.specs.Lagging.{IsLag, IsLagReport, LagStops, LagsOver};
+ghost use Rattle.osm_folder.specs.Runs.{Reads};
 ghost use Rattle.osm_folder.specs.Steps.Lagging.{IsTold, ToldStops};
 
 use crate::fault::RunFault;
@@ -25,30 +25,16 @@ pub fn lag_run<S: Store>(
     dir: &str,
     save: &str,
 ) -> Result<Report, RunFault>
-    ensures lag { IfOk result (λ report. IsTrue (S.tells store.old)
-        → IsLag dir.now save.now (S.told store.old) report) }
-    ensures in_step { IfOk result (λ report. IsTrue (S.tells store.old)
-        → (published : List PublishedValue) (number : ℕ)
-        → IsFolderOf published (S.told store.old) dir.now
-        → IsSaveOf published number (S.told store.old save.now)
-        → IsLagOf published number report) }
+    ensures lag { IfOk result (λ report. IsKnown (S.state store.old)
+        → IsLag dir.now save.now (S.state store.old).files report) }
     ensures report { IfOk result IsLagReport }
     ensures stops { IfErr result
-        (LagStops (IsTrue (S.tells store.old)) dir.now save.now (S.told store.old)) }
-    ensures refuses { IfErr result (λ fault. IsTrue (S.tells store.old)
-        → (published : List PublishedValue) (number : ℕ)
-        → IsFolderOf published (S.told store.old) dir.now
-        → IsSaveOf published number (S.told store.old save.now)
-        → LagRefuses published number (S.told store.old save.now) fault) }
-    ensures device { IfErr result (Blames (S.failures store.old) (S.failures store.new)) }
-    ensures lacks { IfErr result
-        (λ fault. IsTrue (S.tells store.old) → LacksCalls 2 (S.left store.old) fault) }
-    ensures unchanged { S.told store.new ≡ S.told store.old }
-    ensures tells { S.tells store.new ≡ S.tells store.old }
-    ensures left { OnOk result (Spends 2 (S.left store.old) (S.left store.new)) }
-    ensures most { OnOk result (SpendsAtMost 2 (S.left store.old) (S.left store.new)) }
-    ensures left_after { Spends 0 (S.left store.old) (S.left store.new) }
-    ensures kept { S.failures store.old ≤ S.failures store.new }
+        (LagStops (IsKnown (S.state store.old)) dir.now save.now (S.state store.old).files) }
+    ensures over { IsKnown (S.state store.old) → (published : List PublishedValue) (number : ℕ)
+        → IsFolderOf published (S.state store.old).files dir.now
+        → IsSaveOf published number ((S.state store.old).files save.now)
+        → LagsOver published number ((S.state store.old).files save.now) result }
+    ensures frame { Reads 2 (S.state store.old) (S.state store.new) result }
 {
     laws_of_state();
     let start = read_start(alloc, store, dir, save)?;

@@ -1,7 +1,7 @@
 //! A store in memory, which tells its files.
 
 ghost use Rattle.std.specs.Prelude.{◌≡◌, ℕ, ◌<◌, List, length, Option, Some, None, IfOk, IfErr};
-ghost use Rattle.std.specs.Prelude.{string_bytes, OnOk, OnErr, true, MatchOption};
+ghost use Rattle.std.specs.Prelude.{string_bytes, OnOk, OnErr, MatchOption};
 ghost use Rattle.osm_folder.specs.Files.{Puts, Tells, IsWithin};
 ghost use Rattle.osm_folder.specs.Steps.Copying.{CopyStops};
 
@@ -115,15 +115,9 @@ impl MemoryStore {
 }
 
 impl Store for MemoryStore {
-    ghost use Rattle.osm_folder.specs.Stores.{files_of};
+    ghost use Rattle.osm_folder.specs.Stores.{memory_state};
 
-    ghost failures = { λ s. 0 };
-
-    ghost left = { λ s. None };
-
-    ghost tells = { λ s. true };
-
-    ghost told = { files_of };
+    ghost state = { memory_state };
 
     fn read(
         &mut self,

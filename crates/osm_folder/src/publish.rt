@@ -1,19 +1,18 @@
 //! Publishing one more sequence in a folder.
 
-ghost use Rattle.std.specs.Prelude.{◌≡◌, ℕ, ◌+◌, ◌≤◌, ◌++◌, [], ◌∷◌, List, IsTrue, IfErr, IfOk};
+ghost use Rattle.std.specs.Prelude.{◌≡◌, ℕ, ◌+◌, ◌≤◌, ◌++◌, [], ◌∷◌, List, IfErr, IfOk};
 ghost use Rattle.std.specs.Prelude.{OnOk, OnErr, length};
 ghost use Rattle.osm_follow.specs.Published.{PublishedValue, written_of};
 ghost use Rattle.osm_follow.specs.Publisher.{CanClose, IsSmall, closing};
 ghost use Rattle.osm_model.specs.Limits.{max_file, max_sequence};
 ghost use Rattle.osm_opl.specs.File.{SpellsOpl};
-ghost use Rattle.osm_folder.specs.Files.{Spends, SpendsAtMost};
 ghost use Rattle.osm_folder.specs.Folder.{IsApart, IsFolderOf, IsStateFile, max_state};
+ghost use Rattle.osm_folder.specs.Frames.{IsKnown};
 ghost use Rattle.osm_folder.specs.Names.{top_name_of};
-ghost use Rattle.osm_folder.specs.Publication.{FolderRefuses, GoesOnFrom, IsAdded};
-ghost use Rattle.osm_folder.specs.Publication.{IsPublished, NotReady, PublishOut, PublishStops};
-ghost use Rattle.osm_folder.specs.Publication.{Writes};
+ghost use Rattle.osm_folder.specs.Publication.{GoesOnFrom, IsPublished, NotReady, PublishOut};
+ghost use Rattle.osm_folder.specs.Publication.{PublishStops, PublishesOver, Writes};
 ghost use Rattle.osm_folder.specs.Reports.{publish_report_of};
-ghost use Rattle.osm_folder.specs.Runs.{Blames, LacksCalls};
+ghost use Rattle.osm_folder.specs.Runs.{Calls, Reads};
 ghost use Rattle.osm_folder.specs.Steps.Following.{TopTextStops};
 ghost use Rattle.osm_folder.specs.Steps.Publishing.{AreNames, ChangesStop, CloseStops};
 ghost use Rattle.osm_folder.specs.Steps.Publishing.{IsChangesOf, IsCut, IsMade, IsMadeOf};
@@ -66,33 +65,21 @@ pub fn publish_run<S: Store>(
     changes: &str,
     now: &str,
 ) -> Result<Report, RunFault>
-    ensures published { IfOk result (λ report. IsTrue (S.tells store.old)
-        → IsPublished dir.now changes.now now.now (S.told store.old) (S.told store.new) report) }
-    ensures added { IfOk result (λ report. IsTrue (S.tells store.old)
-        → (published : List PublishedValue) → IsFolderOf published (S.told store.old) dir.now
-        → IsAdded published dir.now changes.now now.now
-        (S.told store.old) (S.told store.new) report) }
+    ensures published { IfOk result (λ report. IsKnown (S.state store.old)
+        → IsPublished dir.now changes.now now.now (S.state store.old).files
+        (S.state store.new).files report) }
     ensures report { IfOk result (λ report. (n : ℕ) × (report ≡ publish_report_of n)) }
-    ensures stops { IfErr result (PublishStops (IsTrue (S.tells store.old))
-        dir.now changes.now now.now (S.told store.old) (S.told store.new)) }
-    ensures refuses { IfErr result (λ fault. IsTrue (S.tells store.old)
-        → (published : List PublishedValue) → IsFolderOf published (S.told store.old) dir.now
-        → FolderRefuses published now.now fault) }
-    ensures device { IfErr result (Blames (S.failures store.old) (S.failures store.new)) }
-    ensures lacks { IfErr result
-        (λ fault. IsTrue (S.tells store.old) → LacksCalls 6 (S.left store.old) fault) }
-    ensures out { IfErr result (λ fault. IsTrue (S.tells store.old)
-        → PublishOut dir.now (S.told store.old) (S.left store.old) fault) }
-    ensures keeps { OnErr result (IsTrue (S.tells store.old)
-        → (published : List PublishedValue) → IsFolderOf published (S.told store.old) dir.now
-        → IsFolderOf published (S.told store.new) dir.now) }
-    ensures others { IsTrue (S.tells store.old) → (name : List ℕ) → IsApart dir.now name
-        → S.told store.new name ≡ S.told store.old name }
-    ensures tells { S.tells store.new ≡ S.tells store.old }
-    ensures left { OnOk result (Spends 6 (S.left store.old) (S.left store.new)) }
-    ensures most { OnOk result (SpendsAtMost 6 (S.left store.old) (S.left store.new)) }
-    ensures left_after { Spends 0 (S.left store.old) (S.left store.new) }
-    ensures kept { S.failures store.old ≤ S.failures store.new }
+    ensures stops { IfErr result (PublishStops (IsKnown (S.state store.old))
+        dir.now changes.now now.now (S.state store.old).files (S.state store.new).files) }
+    ensures over { IsKnown (S.state store.old) → (published : List PublishedValue)
+        → IsFolderOf published (S.state store.old).files dir.now
+        → PublishesOver published dir.now changes.now now.now
+        (S.state store.old).files (S.state store.new).files result }
+    ensures out { IfErr result (λ fault. IsKnown (S.state store.old)
+        → PublishOut dir.now (S.state store.old).files (S.state store.old).left fault) }
+    ensures others { IsKnown (S.state store.old) → (name : List ℕ) → IsApart dir.now name
+        → (S.state store.new).files name ≡ (S.state store.old).files name }
+    ensures frame { Calls 6 (S.state store.old) (S.state store.new) result }
 {
     laws_of_state();
     let made = prepare(alloc, store, dir, changes, now)?;
@@ -108,21 +95,13 @@ fn prepare<S: Store>(
     changes: &str,
     now: &str,
 ) -> Result<Publication, RunFault>
-    ensures made { IfOk result (IsMade (IsTrue (S.tells store.old))
-        dir.now changes.now now.now (S.told store.old)) }
-    ensures stops { IfErr result (NotReady (IsTrue (S.tells store.old))
-        dir.now changes.now now.now (S.told store.old)) }
-    ensures device { IfErr result (Blames (S.failures store.old) (S.failures store.new)) }
-    ensures lacks { IfErr result
-        (λ fault. IsTrue (S.tells store.old) → LacksCalls 2 (S.left store.old) fault) }
+    ensures made { IfOk result (IsMade (IsKnown (S.state store.old))
+        dir.now changes.now now.now (S.state store.old).files) }
+    ensures stops { IfErr result (NotReady (IsKnown (S.state store.old))
+        dir.now changes.now now.now (S.state store.old).files) }
     ensures out { IfErr result
-        (λ fault. IsTrue (S.tells store.old) → ReadsOut (S.left store.old) fault) }
-    ensures unchanged { S.told store.new ≡ S.told store.old }
-    ensures tells { S.tells store.new ≡ S.tells store.old }
-    ensures left { OnOk result (Spends 2 (S.left store.old) (S.left store.new)) }
-    ensures most { OnOk result (SpendsAtMost 2 (S.left store.old) (S.left store.new)) }
-    ensures left_after { Spends 0 (S.left store.old) (S.left store.new) }
-    ensures kept { S.failures store.old ≤ S.failures store.new }
+        (λ fault. IsKnown (S.state store.old) → ReadsOut (S.state store.old).left fault) }
+    ensures frame { Reads 2 (S.state store.old) (S.state store.new) result }
 {
     let Some(time) = time_read(now.as_bytes()) else {
         return Err(RunFault::BadNow);
@@ -173,20 +152,12 @@ pub(crate) fn newest<S: Store>(
     store: &mut S,
     dir: &str,
 ) -> Result<Option<State>, RunFault>
-    ensures goes_on { IfOk result (λ top. IsTrue (S.tells store.old)
-        → GoesOnFrom (S.told store.old (top_name_of dir.now))
+    ensures goes_on { IfOk result (λ top. IsKnown (S.state store.old)
+        → GoesOnFrom ((S.state store.old).files (top_name_of dir.now))
         (from_top top).number (from_top top).time) }
     ensures stops { IfErr result
-        (TopStops (IsTrue (S.tells store.old)) (S.told store.old (top_name_of dir.now))) }
-    ensures device { IfErr result (Blames (S.failures store.old) (S.failures store.new)) }
-    ensures lacks { IfErr result
-        (λ fault. IsTrue (S.tells store.old) → LacksCalls 1 (S.left store.old) fault) }
-    ensures unchanged { S.told store.new ≡ S.told store.old }
-    ensures tells { S.tells store.new ≡ S.tells store.old }
-    ensures left { OnOk result (Spends 1 (S.left store.old) (S.left store.new)) }
-    ensures most { OnOk result (SpendsAtMost 1 (S.left store.old) (S.left store.new)) }
-    ensures left_after { Spends 0 (S.left store.old) (S.left store.new) }
-    ensures kept { S.failures store.old ≤ S.failures store.new }
+        (TopStops (IsKnown (S.state store.old)) ((S.state store.old).files (top_name_of dir.now))) }
+    ensures frame { Reads 1 (S.state store.old) (S.state store.new) result }
 {
     let name = top_name(alloc, dir)?;
     match read_file(alloc, store, FileName::Top, name.as_str(), MAX_STATE) {
@@ -211,19 +182,11 @@ pub(crate) fn read_changes<S: Store>(
     store: &mut S,
     name: &str,
 ) -> Result<Batch, RunFault>
-    ensures read { IfOk result
-        (λ batch. IsTrue (S.tells store.old) → IsChangesOf (S.told store.old name.now) batch) }
+    ensures read { IfOk result (λ batch. IsKnown (S.state store.old)
+        → IsChangesOf ((S.state store.old).files name.now) batch) }
     ensures stops { IfErr result
-        (ChangesStop (IsTrue (S.tells store.old)) (S.told store.old name.now)) }
-    ensures device { IfErr result (Blames (S.failures store.old) (S.failures store.new)) }
-    ensures lacks { IfErr result
-        (λ fault. IsTrue (S.tells store.old) → LacksCalls 1 (S.left store.old) fault) }
-    ensures unchanged { S.told store.new ≡ S.told store.old }
-    ensures tells { S.tells store.new ≡ S.tells store.old }
-    ensures left { OnOk result (Spends 1 (S.left store.old) (S.left store.new)) }
-    ensures most { OnOk result (SpendsAtMost 1 (S.left store.old) (S.left store.new)) }
-    ensures left_after { Spends 0 (S.left store.old) (S.left store.new) }
-    ensures kept { S.failures store.old ≤ S.failures store.new }
+        (ChangesStop (IsKnown (S.state store.old)) ((S.state store.old).files name.now)) }
+    ensures frame { Reads 1 (S.state store.old) (S.state store.new) result }
 {
     let bytes = read_present(alloc, store, FileName::Changes, name, MAX_FILE as u64)?;
     parse(alloc, bytes.as_slice())
@@ -293,20 +256,14 @@ pub(crate) fn write_files<S: Store>(
     names: &FolderNames,
     published: &Published,
 ) -> Result<(), RunFault>
-    ensures written { OnOk result (IsTrue (S.tells store.old)
-        → Writes (writes_to names.now published.now) (S.told store.old) (S.told store.new)) }
-    ensures cut { IfErr result (IsCut (IsTrue (S.tells store.old))
-        names.now published.now (S.told store.old) (S.told store.new)) }
-    ensures device { IfErr result (Blames (S.failures store.old) (S.failures store.new)) }
-    ensures lacks { IfErr result
-        (λ fault. IsTrue (S.tells store.old) → LacksCalls 4 (S.left store.old) fault) }
-    ensures out { IfErr result (λ fault. IsTrue (S.tells store.old)
-        → WritesOut published.now.number (S.left store.old) fault) }
-    ensures tells { S.tells store.new ≡ S.tells store.old }
-    ensures left { OnOk result (Spends 4 (S.left store.old) (S.left store.new)) }
-    ensures most { OnOk result (SpendsAtMost 4 (S.left store.old) (S.left store.new)) }
-    ensures left_after { Spends 0 (S.left store.old) (S.left store.new) }
-    ensures kept { S.failures store.old ≤ S.failures store.new }
+    ensures written { OnOk result (IsKnown (S.state store.old)
+        → Writes (writes_to names.now published.now) (S.state store.old).files
+        (S.state store.new).files) }
+    ensures cut { IfErr result (IsCut (IsKnown (S.state store.old))
+        names.now published.now (S.state store.old).files (S.state store.new).files) }
+    ensures out { IfErr result (λ fault. IsKnown (S.state store.old)
+        → WritesOut published.now.number (S.state store.old).left fault) }
+    ensures frame { Calls 4 (S.state store.old) (S.state store.new) result }
 {
     let number = published.number();
     let o5c = FileName::Sequence(number, Suffix::O5c);

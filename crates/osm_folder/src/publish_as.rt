@@ -5,15 +5,15 @@ ghost use Rattle.std.specs.Prelude.{OnOk, OnErr};
 ghost use Rattle.osm_model.specs.Limits.{IsPositive, max_sequence};
 ghost use Rattle.osm_follow.specs.Published.{PublishedValue};
 ghost use Rattle.osm_reading.specs.Sequence.{SpellsSequence};
-ghost use Rattle.osm_folder.specs.Files.{Spends, SpendsAtMost};
 ghost use Rattle.osm_folder.specs.Folder.{IsApart, IsFolderOf};
+ghost use Rattle.osm_folder.specs.Frames.{IsKnown};
 ghost use Rattle.osm_folder.specs.Names.{top_name_of};
-ghost use Rattle.osm_folder.specs.Numbered.{IsAddedAs, IsAsked, IsPublishedAs, NotNumbered};
-ghost use Rattle.osm_folder.specs.Numbered.{NumberedOut, NumberedRefuses, NumberedStops};
-ghost use Rattle.osm_folder.specs.Numbered.{SpendsExactly, numbered_calls};
+ghost use Rattle.osm_folder.specs.Numbered.{IsAsked, IsPublishedAs, NotNumbered, NumberedOut};
+ghost use Rattle.osm_folder.specs.Numbered.{NumberedStops, PublishesAsOver, SpendsExactly};
+ghost use Rattle.osm_folder.specs.Numbered.{numbered_calls};
 ghost use Rattle.osm_folder.specs.Publication.{GoesOnFrom};
 ghost use Rattle.osm_folder.specs.Reports.{publish_report_of};
-ghost use Rattle.osm_folder.specs.Runs.{Blames, LacksCalls};
+ghost use Rattle.osm_folder.specs.Runs.{CallsFromTo, Reads};
 ghost use Rattle.osm_folder.specs.Steps.Numbering.{AreReadWords, CheckOut, IsPrepared};
 ghost use Rattle.osm_folder.specs.Steps.Numbering.{PrepareStops, asked_for, check_calls};
 ghost use Rattle.osm_folder.specs.Steps.Publishing.{ReadsOut, from_top};
@@ -53,40 +53,29 @@ pub fn publish_as_run<S: Store>(
     now: &str,
     sequence: &str,
 ) -> Result<Report, RunFault>
-    ensures published { IfOk result (λ report. IsTrue (S.tells store.old)
+    ensures published { IfOk result (λ report. IsKnown (S.state store.old)
         → IsPublishedAs dir.now changes.now now.now sequence.now
-        (S.told store.old) (S.told store.new) report) }
-    ensures added { IfOk result (λ report. IsTrue (S.tells store.old)
-        → (published : List PublishedValue) → IsFolderOf published (S.told store.old) dir.now
-        → IsAddedAs published dir.now changes.now now.now sequence.now
-        (S.told store.old) (S.told store.new) report) }
+        (S.state store.old).files (S.state store.new).files report) }
     ensures report { IfOk result (λ report. (n : ℕ) × SpellsSequence sequence.now n
         × (report ≡ publish_report_of n)) }
-    ensures stops { IfErr result (NumberedStops (IsTrue (S.tells store.old))
-        dir.now changes.now now.now sequence.now (S.told store.old) (S.told store.new)) }
-    ensures refuses { IfErr result (λ fault. IsTrue (S.tells store.old)
-        → (published : List PublishedValue) → IsFolderOf published (S.told store.old) dir.now
-        → NumberedRefuses published dir.now changes.now now.now sequence.now
-        (S.told store.old) fault) }
-    ensures device { IfErr result (Blames (S.failures store.old) (S.failures store.new)) }
-    ensures lacks { IfErr result
-        (λ fault. IsTrue (S.tells store.old) → LacksCalls 9 (S.left store.old) fault) }
-    ensures out { IfErr result (λ fault. IsTrue (S.tells store.old)
-        → NumberedOut dir.now sequence.now (S.told store.old) (S.left store.old) fault) }
-    ensures keeps { OnErr result (IsTrue (S.tells store.old)
-        → (published : List PublishedValue) → IsFolderOf published (S.told store.old) dir.now
-        → IsFolderOf published (S.told store.new) dir.now) }
-    ensures others { IsTrue (S.tells store.old) → (name : List ℕ) → IsApart dir.now name
-        → S.told store.new name ≡ S.told store.old name }
-    ensures tells { S.tells store.new ≡ S.tells store.old }
-    ensures left { OnOk result (Spends 5 (S.left store.old) (S.left store.new)) }
-    ensures most { OnOk result (SpendsAtMost 9 (S.left store.old) (S.left store.new)) }
-    ensures exact { OnOk result (IsTrue (S.tells store.old) → (number top time : ℕ)
+    ensures stops { IfErr result
+        (NumberedStops (IsKnown (S.state store.old)) dir.now changes.now now.now sequence.now
+        (S.state store.old).files (S.state store.new).files) }
+    ensures over { IsKnown (S.state store.old) → (published : List PublishedValue)
+        → IsFolderOf published (S.state store.old).files dir.now
+        → PublishesAsOver published dir.now changes.now now.now sequence.now
+        (S.state store.old).files (S.state store.new).files result }
+    ensures out { IfErr result (λ fault. IsKnown (S.state store.old)
+        → NumberedOut dir.now sequence.now (S.state store.old).files (S.state store.old).left
+        fault) }
+    ensures others { IsKnown (S.state store.old) → (name : List ℕ) → IsApart dir.now name
+        → (S.state store.new).files name ≡ (S.state store.old).files name }
+    ensures exact { OnOk result (IsKnown (S.state store.old) → (number top time : ℕ)
         → SpellsSequence sequence.now number
-        → GoesOnFrom (S.told store.old (top_name_of dir.now)) top time
-        → SpendsExactly (numbered_calls number top) (S.left store.old) (S.left store.new)) }
-    ensures left_after { Spends 0 (S.left store.old) (S.left store.new) }
-    ensures kept { S.failures store.old ≤ S.failures store.new }
+        → GoesOnFrom ((S.state store.old).files (top_name_of dir.now)) top time
+        → SpendsExactly (numbered_calls number top) (S.state store.old).left
+        (S.state store.new).left) }
+    ensures frame { CallsFromTo 5 9 (S.state store.old) (S.state store.new) result }
 {
     laws_of_state();
     let asked = read_asked(alloc, store, dir, changes, now, sequence)?;
@@ -107,21 +96,15 @@ fn read_asked<S: Store>(
     now: &str,
     sequence: &str,
 ) -> Result<Asked, RunFault>
-    ensures asked { IfOk result (λ a. IsTrue (S.tells store.old)
-        → IsAsked dir.now changes.now now.now sequence.now (S.told store.old)
+    ensures asked { IfOk result (λ a. IsKnown (S.state store.old)
+        → IsAsked dir.now changes.now now.now sequence.now (S.state store.old).files
         (from_top a.top).number (from_top a.top).time (asked_for a)) }
     ensures words { IfOk result (AreReadWords now.now sequence.now) }
-    ensures stops { IfErr result (NotNumbered (IsTrue (S.tells store.old))
-        dir.now changes.now now.now sequence.now (S.told store.old)) }
-    ensures device { IfErr result (Blames (S.failures store.old) (S.failures store.new)) }
+    ensures stops { IfErr result (NotNumbered (IsKnown (S.state store.old))
+        dir.now changes.now now.now sequence.now (S.state store.old).files) }
     ensures out { IfErr result
-        (λ fault. IsTrue (S.tells store.old) → ReadsOut (S.left store.old) fault) }
-    ensures unchanged { S.told store.new ≡ S.told store.old }
-    ensures tells { S.tells store.new ≡ S.tells store.old }
-    ensures left { OnOk result (Spends 2 (S.left store.old) (S.left store.new)) }
-    ensures most { OnOk result (SpendsAtMost 2 (S.left store.old) (S.left store.new)) }
-    ensures left_after { Spends 0 (S.left store.old) (S.left store.new) }
-    ensures kept { S.failures store.old ≤ S.failures store.new }
+        (λ fault. IsKnown (S.state store.old) → ReadsOut (S.state store.old).left fault) }
+    ensures frame { Reads 2 (S.state store.old) (S.state store.new) result }
 {
     let Some(time) = time_read(now.as_bytes()) else {
         return Err(RunFault::BadNow);
@@ -148,22 +131,16 @@ fn prepare<S: Store>(
 ) -> Result<Option<Publication>, RunFault>
     requires most { asked.number ≤ max_sequence }
     requires time { IsPositive asked.time }
-    ensures made { IfOk result (IsPrepared (IsTrue (S.tells store.old)) dir.now
-        (S.told store.old) (from_top asked.top).number (from_top asked.top).time
+    ensures made { IfOk result (IsPrepared (IsKnown (S.state store.old)) dir.now
+        (S.state store.old).files (from_top asked.top).number (from_top asked.top).time
         (asked_for asked)) }
-    ensures stops { IfErr result (PrepareStops (IsTrue (S.tells store.old)) dir.now
-        (S.told store.old) (from_top asked.top).number (from_top asked.top).time
+    ensures stops { IfErr result (PrepareStops (IsKnown (S.state store.old)) dir.now
+        (S.state store.old).files (from_top asked.top).number (from_top asked.top).time
         (asked_for asked)) }
-    ensures device { IfErr result (Blames (S.failures store.old) (S.failures store.new)) }
-    ensures out { IfErr result (λ fault. IsTrue (S.tells store.old)
-        → CheckOut asked.number (S.left store.old) fault) }
-    ensures unchanged { S.told store.new ≡ S.told store.old }
-    ensures tells { S.tells store.new ≡ S.tells store.old }
-    ensures exact { OnOk result
-        (SpendsExactly (check_calls asked.number (from_top asked.top).number)
-        (S.left store.old) (S.left store.new)) }
-    ensures left_after { Spends 0 (S.left store.old) (S.left store.new) }
-    ensures kept { S.failures store.old ≤ S.failures store.new }
+    ensures out { IfErr result (λ fault. IsKnown (S.state store.old)
+        → CheckOut asked.number (S.state store.old).left fault) }
+    ensures frame { Reads (check_calls asked.number (from_top asked.top).number) (S.state store.old)
+        (S.state store.new) result }
 {
     let (number, time) = (asked.number, asked.time);
     let next = publisher_from(alloc, asked.top);

@@ -1,13 +1,13 @@
 //! Showing what a save holds.
 
-ghost use Rattle.std.specs.Prelude.{◌≡◌, ℕ, ◌≤◌, List, false, IsTrue, IfErr, IfOk, OnOk};
+ghost use Rattle.std.specs.Prelude.{◌≡◌, ℕ, List, false, IfErr, IfOk};
 ghost use Rattle.osm_follow.specs.Published.{PublishedValue};
 ghost use Rattle.osm_follow.specs.Restart.{saved_of};
 ghost use Rattle.osm_follow.specs.View.{ViewValue, view_of};
-ghost use Rattle.osm_folder.specs.Files.{Spends, SpendsAtMost};
+ghost use Rattle.osm_folder.specs.Frames.{IsKnown};
 ghost use Rattle.osm_folder.specs.Following.{IsSaveOf};
 ghost use Rattle.osm_folder.specs.Reports.{show_report_of};
-ghost use Rattle.osm_folder.specs.Runs.{Blames, LacksCalls};
+ghost use Rattle.osm_folder.specs.Runs.{Reads};
 ghost use Rattle.osm_folder.specs.Showing.{IsShown, IsShownOf, ShowStops, view_of_saved};
 ghost use Rattle.osm_folder.specs.Steps.Following.{IsFresh};
 
@@ -23,24 +23,16 @@ use std::alloc::Global;
 
 /// The show text of a save, which has to be there. Changes no file.
 pub fn show_run<S: Store>(alloc: Global, store: &mut S, save: &str) -> Result<Report, RunFault>
-    ensures shown { IfOk result (λ report. IsTrue (S.tells store.old)
-        → IsShown (S.told store.old save.now) report) }
-    ensures in_step { IfOk result (λ report. IsTrue (S.tells store.old)
+    ensures shown { IfOk result (λ report. IsKnown (S.state store.old)
+        → IsShown ((S.state store.old).files save.now) report) }
+    ensures in_step { IfOk result (λ report. IsKnown (S.state store.old)
         → (published : List PublishedValue) (number : ℕ)
-        → IsSaveOf published number (S.told store.old save.now)
+        → IsSaveOf published number ((S.state store.old).files save.now)
         → IsShownOf published number report) }
     ensures report { IfOk result (λ report. (view : ViewValue) × (report ≡ show_report_of view)) }
     ensures stops { IfErr result
-        (ShowStops (IsTrue (S.tells store.old)) (S.told store.old save.now)) }
-    ensures device { IfErr result (Blames (S.failures store.old) (S.failures store.new)) }
-    ensures lacks { IfErr result
-        (λ fault. IsTrue (S.tells store.old) → LacksCalls 1 (S.left store.old) fault) }
-    ensures unchanged { S.told store.new ≡ S.told store.old }
-    ensures tells { S.tells store.new ≡ S.tells store.old }
-    ensures left { OnOk result (Spends 1 (S.left store.old) (S.left store.new)) }
-    ensures most { OnOk result (SpendsAtMost 1 (S.left store.old) (S.left store.new)) }
-    ensures left_after { Spends 0 (S.left store.old) (S.left store.new) }
-    ensures kept { S.failures store.old ≤ S.failures store.new }
+        (ShowStops (IsKnown (S.state store.old)) ((S.state store.old).files save.now)) }
+    ensures frame { Reads 1 (S.state store.old) (S.state store.new) result }
 {
     let text = read_present(alloc, store, FileName::Save, save, MAX_SAVE)?;
     let follower = restart(alloc, text.as_slice())?;

@@ -1,13 +1,13 @@
 //! What a follower's run starts from: its save and the folder's newest state.
 
-ghost use Rattle.std.specs.Prelude.{◌≡◌, ◌≤◌, IsTrue, IfErr, IfOk, OnOk, length};
+ghost use Rattle.std.specs.Prelude.{◌≡◌, ◌≤◌, IfErr, IfOk, length};
 ghost use Rattle.osm_save.specs.Save.{SpellsSave};
 ghost use Rattle.osm_follow.specs.Restart.{follower_of, saved_of};
-ghost use Rattle.osm_folder.specs.Files.{Spends, SpendsAtMost};
 ghost use Rattle.osm_folder.specs.Folder.{IsStateFile, IsThere, max_state};
+ghost use Rattle.osm_folder.specs.Frames.{IsKnown};
 ghost use Rattle.osm_folder.specs.Following.{IsSaved, IsStarted, StartStops, no_save};
 ghost use Rattle.osm_folder.specs.Names.{top_name_of};
-ghost use Rattle.osm_folder.specs.Runs.{Blames, LacksCalls};
+ghost use Rattle.osm_folder.specs.Runs.{Reads};
 ghost use Rattle.osm_folder.specs.Steps.Following.{FollowerStops, IsFresh, RestartStops};
 ghost use Rattle.osm_folder.specs.Steps.Following.{TopStateStops, TopTextStops};
 
@@ -37,20 +37,12 @@ pub(crate) fn read_start<S: Store>(
     dir: &str,
     save: &str,
 ) -> Result<Start, RunFault>
-    ensures started { IfOk result (λ a. IsTrue (S.tells store.old)
-        → IsStarted dir.now save.now (S.told store.old) (saved_of a.follower) a.top) }
+    ensures started { IfOk result (λ a. IsKnown (S.state store.old)
+        → IsStarted dir.now save.now (S.state store.old).files (saved_of a.follower) a.top) }
     ensures fresh { IfOk result (λ a. IsFresh a.follower) }
-    ensures stops { IfErr result (StartStops (IsTrue (S.tells store.old))
-        dir.now save.now (S.told store.old)) }
-    ensures device { IfErr result (Blames (S.failures store.old) (S.failures store.new)) }
-    ensures lacks { IfErr result
-        (λ fault. IsTrue (S.tells store.old) → LacksCalls 2 (S.left store.old) fault) }
-    ensures unchanged { S.told store.new ≡ S.told store.old }
-    ensures tells { S.tells store.new ≡ S.tells store.old }
-    ensures left { OnOk result (Spends 2 (S.left store.old) (S.left store.new)) }
-    ensures most { OnOk result (SpendsAtMost 2 (S.left store.old) (S.left store.new)) }
-    ensures left_after { Spends 0 (S.left store.old) (S.left store.new) }
-    ensures kept { S.failures store.old ≤ S.failures store.new }
+    ensures stops { IfErr result (StartStops (IsKnown (S.state store.old))
+        dir.now save.now (S.state store.old).files) }
+    ensures frame { Reads 2 (S.state store.old) (S.state store.new) result }
 {
     let follower = read_follower(alloc, store, save)?;
     let top = read_top(alloc, store, dir)?;
@@ -59,20 +51,12 @@ pub(crate) fn read_start<S: Store>(
 
 // The follower that goes on from a save, or from the start if there is none.
 fn read_follower<S: Store>(alloc: Global, store: &mut S, save: &str) -> Result<Follower, RunFault>
-    ensures saved { IfOk result (λ f. IsTrue (S.tells store.old)
-        → IsSaved (S.told store.old save.now) (saved_of f)) }
+    ensures saved { IfOk result (λ f. IsKnown (S.state store.old)
+        → IsSaved ((S.state store.old).files save.now) (saved_of f)) }
     ensures fresh { IfOk result IsFresh }
     ensures stops { IfErr result
-        (FollowerStops (IsTrue (S.tells store.old)) (S.told store.old save.now)) }
-    ensures device { IfErr result (Blames (S.failures store.old) (S.failures store.new)) }
-    ensures lacks { IfErr result
-        (λ fault. IsTrue (S.tells store.old) → LacksCalls 1 (S.left store.old) fault) }
-    ensures unchanged { S.told store.new ≡ S.told store.old }
-    ensures tells { S.tells store.new ≡ S.tells store.old }
-    ensures left { OnOk result (Spends 1 (S.left store.old) (S.left store.new)) }
-    ensures most { OnOk result (SpendsAtMost 1 (S.left store.old) (S.left store.new)) }
-    ensures left_after { Spends 0 (S.left store.old) (S.left store.new) }
-    ensures kept { S.failures store.old ≤ S.failures store.new }
+        (FollowerStops (IsKnown (S.state store.old)) ((S.state store.old).files save.now)) }
+    ensures frame { Reads 1 (S.state store.old) (S.state store.new) result }
 {
     match read_file(alloc, store, FileName::Save, save, MAX_SAVE) {
         Ok(Some(text)) => restart(alloc, text.as_slice()),
@@ -104,19 +88,13 @@ pub(crate) fn restart(alloc: Global, text: &[u8]) -> Result<Follower, RunFault>
 
 // The newest state of a folder.
 fn read_top<S: Store>(alloc: Global, store: &mut S, dir: &str) -> Result<State, RunFault>
-    ensures top { IfOk result (λ s. IsTrue (S.tells store.old)
-        → IsThere (S.told store.old (top_name_of dir.now)) (IsStateFile s.sequence s.time)) }
+    ensures top { IfOk result (λ s. IsKnown (S.state store.old)
+        → IsThere ((S.state store.old).files (top_name_of dir.now))
+        (IsStateFile s.sequence s.time)) }
     ensures stops { IfErr result
-        (TopStateStops (IsTrue (S.tells store.old)) (S.told store.old (top_name_of dir.now))) }
-    ensures device { IfErr result (Blames (S.failures store.old) (S.failures store.new)) }
-    ensures lacks { IfErr result
-        (λ fault. IsTrue (S.tells store.old) → LacksCalls 1 (S.left store.old) fault) }
-    ensures unchanged { S.told store.new ≡ S.told store.old }
-    ensures tells { S.tells store.new ≡ S.tells store.old }
-    ensures left { OnOk result (Spends 1 (S.left store.old) (S.left store.new)) }
-    ensures most { OnOk result (SpendsAtMost 1 (S.left store.old) (S.left store.new)) }
-    ensures left_after { Spends 0 (S.left store.old) (S.left store.new) }
-    ensures kept { S.failures store.old ≤ S.failures store.new }
+        (TopStateStops (IsKnown (S.state store.old))
+        ((S.state store.old).files (top_name_of dir.now))) }
+    ensures frame { Reads 1 (S.state store.old) (S.state store.new) result }
 {
     let name = top_name(alloc, dir)?;
     match read_present(alloc, store, FileName::Top, name.as_str(), MAX_STATE) {

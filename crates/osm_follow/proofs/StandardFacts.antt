@@ -1,6 +1,6 @@
 -- The definitions at values that a person knows: how far ahead a follower accepts sequences.
 use Rattle.std.proofs.Common.{◌≡◌, refl}
-use Rattle.std.specs.Prelude.{ℕ, ◌+◌, ◌<◌, ◌≤◌, ◌↔◌}
+use Rattle.std.specs.Prelude.{ℕ, ◌<◌, ◌≤◌, ◌↔◌}
 use Rattle.osm_holding.specs.Holding.{IsInWindow, window}
 
 -- 64 numbers, as many as a follower asks for in one go

@@ -109,7 +109,7 @@ impl Follower {
             state.now bytes.now result self.new }
 
         // If an answer is due before the bytes are read, it is given whatever they are.
-        ensures unread { (answer : Result Delivered DeliverError) →
+        ensures before_reading { (answer : Result Delivered DeliverError) →
             AnswersUnread self.old state.now answer → (result ≡ answer) × (self.new ≡ self.old) }
     {
         let state = match self.due(state) {
@@ -132,7 +132,7 @@ impl Follower {
     fn due(&self, state: &[u8]) -> Result<State, Result<Delivered, DeliverError>>
         ensures due { IfOk result (λ s. IsDue self.now state.now s) }
         ensures most { IfOk result (λ s. s.sequence ≤ max_sequence) }
-        ensures unread { IfErr result (λ answer. AnswersUnread self.now state.now answer) }
+        ensures before_reading { IfErr result (λ answer. AnswersUnread self.now state.now answer) }
         ensures only { (answer : Result Delivered DeliverError) →
             AnswersUnread self.now state.now answer → result ≡ Err answer }
     {

@@ -116,15 +116,15 @@ impl Publisher {
     {
         match self.pending.push(change) {
             Ok(()) => {
-                let _changes = self.pending.changes();
+                self.pending.limits();
                 Ok(())
             }
             Err(PushError::Full(change)) => {
-                let _changes = self.pending.changes();
+                self.pending.limits();
                 Err(EditError::BatchFull(change))
             }
             Err(PushError::WantOfMemory(change)) => {
-                let _changes = self.pending.changes();
+                self.pending.limits();
                 Err(EditError::WantOfMemory(change))
             }
         }
@@ -137,7 +137,7 @@ impl Publisher {
         ensures pending { IsBatch self.now.pending }
         ensures refused { IfErr result (CloseBarred self.now time) }
     {
-        let _changes = self.pending.changes();
+        self.pending.limits();
         if self.number >= MAX_SEQUENCE {
             return Err(CloseError::SequenceFull);
         }

@@ -105,7 +105,7 @@ impl View {
         ensures refused { OnErr result
             (HoldsSome mirror.now ⊎ (0 < length (numbers_of holding.now))) }
     {
-        mirror.lists_rise();
+        mirror.limits();
         let objects = mirror.objects(alloc)?;
         let users = mirror.users(alloc)?;
         let changesets = mirror.changesets(alloc)?;

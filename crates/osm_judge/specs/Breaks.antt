@@ -4,7 +4,7 @@ use Rattle.std.specs.Prelude.{◌≡◌, ℕ, ◌-◌, ◌≤◌, List, Some, No
 use Rattle.std.specs.Bool.{⊤}
 use Rattle.std.specs.List.{slice_get}
 use Rattle.osm_model.specs.Change.{ChangeValue}
-use Rattle.osm_model.specs.Content.{content_of, standing_of, edits_by_user, edits_by_changeset}
+use Rattle.osm_model.specs.Content.{content_of, object_after, edits_by_user, edits_by_changeset}
 use Rattle.osm_world.specs.History.{History, accepted_of, published_of}
 use Rattle.osm_follow.specs.Published.{changes_up_to}
 use Rattle.osm_follow.specs.Reach.{Reaches}
@@ -19,7 +19,7 @@ abbrev pub IsNewEntry : List ChangeValue → ChangeValue → Type 0
 IsNewEntry before c =
     (edits_by_user before c.meta.uid ≡ 0)
     ⊎ (edits_by_changeset before c.meta.changeset ≡ 0)
-    ⊎ ((standing_of c ≡ Some c) × (content_of before c.key ≡ None))
+    ⊎ ((object_after c ≡ Some c) × (content_of before c.key ≡ None))
 
 -- one of the changes after the first `old` is a new entry after those before it
 pub record HasNewEntry (old : ℕ) (changes : List ChangeValue) : Type 0 where

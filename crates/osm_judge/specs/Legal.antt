@@ -1,5 +1,5 @@
 -- When a judge doesn't say whether a reply may follow a history.
-use Rattle.std.specs.Prelude.{ℕ, ◌<◌, length}
+use Rattle.std.specs.Prelude.{◌<◌, length}
 use Rattle.osm_model.specs.Limits.{max_changes}
 use Rattle.osm_world.specs.History.{History, pending_of}
 use Rattle.osm_judge.specs.declared.legal.Unjudged.{Unjudged}

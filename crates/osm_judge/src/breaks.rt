@@ -1,7 +1,7 @@
 //! Whether a follower broke only if a change needed memory for a new entry.
 
 ghost use Rattle.std.specs.Prelude.{◌≡◌, IfOk, IsTrue, Some, None};
-ghost use Rattle.osm_model.specs.Content.{content_of, standing_of};
+ghost use Rattle.osm_model.specs.Content.{content_of, object_after};
 ghost use Rattle.osm_judge.specs.Breaks.{AreBreaksNeeded, BreaksAtNewEntry, HasNewEntry};
 ghost use Rattle.osm_judge.specs.Breaks.{IsNeededBreak, IsNewEntry};
 
@@ -78,7 +78,7 @@ fn is_new_entry(before: &[Change], change: &Change) -> bool
 }
 
 fn is_new_object(before: &[Change], change: &Change) -> bool
-    ensures { IsTrue result → (standing_of change.now ≡ Some change.now)
+    ensures { IsTrue result → (object_after change.now ≡ Some change.now)
         × (content_of before.now change.now.key ≡ None) }
 {
     !change.is_deletion() && plain_content_of(before, change.key()).is_none()

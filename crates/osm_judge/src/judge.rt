@@ -9,7 +9,7 @@ ghost use Rattle.osm_judge.specs.Judge.{MayAnswer};
 use crate::breaks::are_breaks_needed;
 use crate::history::Pair;
 use crate::legal::is_legal;
-use crate::reading::{Unread, read_reply};
+use crate::reading::{NotAReply, read_reply};
 use osm_folder::fault::RunFault;
 use osm_model::memory::WantOfMemory;
 use osm_repl::replies::write_replies;
@@ -27,8 +27,8 @@ pub fn may_answer(alloc: Global, script: &[u8], text: &[u8]) -> Result<bool, Run
     let events = parse_script(alloc, script)?;
     let replies = match read_replies(alloc, text, events.len()) {
         Ok(replies) => replies,
-        Err(Unread::NoReply) => return Ok(false),
-        Err(Unread::WantOfMemory) => return Err(RunFault::WantOfMemory),
+        Err(NotAReply::NoReply) => return Ok(false),
+        Err(NotAReply::WantOfMemory) => return Err(RunFault::WantOfMemory),
     };
     if replies.len() != events.len() {
         return Ok(false);
@@ -52,7 +52,7 @@ fn is_right(alloc: Global, history: &[Pair]) -> Result<bool, WantOfMemory>
     Ok(is_legal(alloc, history)? && are_breaks_needed(alloc, history)?)
 }
 
-fn read_replies(alloc: Global, text: &[u8], count: usize) -> Result<Vec<Reply>, Unread> {
+fn read_replies(alloc: Global, text: &[u8], count: usize) -> Result<Vec<Reply>, NotAReply> {
     let mut replies = Vec::new(alloc);
     let mut rest = text;
     for _ in 0..count {

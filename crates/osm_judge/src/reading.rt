@@ -11,40 +11,40 @@ use std::alloc::{AllocError, AllocFailed, Global};
 
 /// Why a text can't be read.
 #[derive(Clone, Copy, Debug, PartialEq, Eq)]
-pub enum Unread {
+pub enum NotAReply {
     WantOfMemory,
     NoReply,
 }
 
-impl From<AllocError> for Unread {
-    fn from(_error: AllocError) -> Unread {
-        Unread::WantOfMemory
+impl From<AllocError> for NotAReply {
+    fn from(_error: AllocError) -> NotAReply {
+        NotAReply::WantOfMemory
     }
 }
 
-impl<T: Drop> From<AllocFailed<T>> for Unread {
-    fn from(_error: AllocFailed<T>) -> Unread {
-        Unread::WantOfMemory
+impl<T: Drop> From<AllocFailed<T>> for NotAReply {
+    fn from(_error: AllocFailed<T>) -> NotAReply {
+        NotAReply::WantOfMemory
     }
 }
 
-impl From<WantOfMemory> for Unread {
-    fn from(_error: WantOfMemory) -> Unread {
-        Unread::WantOfMemory
+impl From<WantOfMemory> for NotAReply {
+    fn from(_error: WantOfMemory) -> NotAReply {
+        NotAReply::WantOfMemory
     }
 }
 
-impl From<LineError> for Unread {
-    fn from(error: LineError) -> Unread {
+impl From<LineError> for NotAReply {
+    fn from(error: LineError) -> NotAReply {
         match error {
-            LineError::WantOfMemory => Unread::WantOfMemory,
-            LineError::Fault(_) => Unread::NoReply,
+            LineError::WantOfMemory => NotAReply::WantOfMemory,
+            LineError::Fault(_) => NotAReply::NoReply,
         }
     }
 }
 
 /// Reads a reply, and gives the text after it.
-pub fn read_reply(alloc: Global, text: &[u8]) -> Result<(Reply, &[u8]), Unread> {
+pub fn read_reply(alloc: Global, text: &[u8]) -> Result<(Reply, &[u8]), NotAReply> {
     let (line, rest) = next_line(text)?;
     let reply = match line {
         b"edited" => Reply::Edited,
@@ -65,7 +65,7 @@ pub fn read_reply(alloc: Global, text: &[u8]) -> Result<(Reply, &[u8]), Unread> 
     Ok((reply, rest))
 }
 
-fn read_longer(alloc: Global, text: &[u8]) -> Result<(Reply, &[u8]), Unread> {
+fn read_longer(alloc: Global, text: &[u8]) -> Result<(Reply, &[u8]), NotAReply> {
     let (line, rest) = next_line(text)?;
     if let Some(number) = line.strip_prefix(b"closed ") {
         return Ok((Reply::Closed(small(number)?), rest));
@@ -86,7 +86,7 @@ fn read_longer(alloc: Global, text: &[u8]) -> Result<(Reply, &[u8]), Unread> {
     Ok((Reply::Shown(view), rest))
 }
 
-fn read_view(alloc: Global, text: &[u8]) -> Result<(View, &[u8]), Unread> {
+fn read_view(alloc: Global, text: &[u8]) -> Result<(View, &[u8]), NotAReply> {
     let (line, rest) = next_line(text)?;
     let number = small(after_prefix(line, b"number ")?)?;
     let (line, rest) = next_line(rest)?;
@@ -117,7 +117,7 @@ fn read_counts<'a>(
     alloc: Global,
     text: &'a [u8],
     name: &[u8],
-) -> Result<(Vec<(u32, u64)>, &'a [u8]), Unread> {
+) -> Result<(Vec<(u32, u64)>, &'a [u8]), NotAReply> {
     let (line, mut rest) = next_line(text)?;
     let mut counts = Vec::new(alloc);
     for _ in 0..count(after_prefix(line, name)?)? {
@@ -129,29 +129,29 @@ fn read_counts<'a>(
     Ok((counts, rest))
 }
 
-fn next_line(text: &[u8]) -> Result<(&[u8], &[u8]), Unread> {
+fn next_line(text: &[u8]) -> Result<(&[u8], &[u8]), NotAReply> {
     match split_line(text) {
         (line, Some(rest)) => Ok((line, rest)),
-        (_, None) => Err(Unread::NoReply),
+        (_, None) => Err(NotAReply::NoReply),
     }
 }
 
-fn after_prefix<'a>(line: &'a [u8], prefix: &[u8]) -> Result<&'a [u8], Unread> {
-    line.strip_prefix(prefix).ok_or(Unread::NoReply)
+fn after_prefix<'a>(line: &'a [u8], prefix: &[u8]) -> Result<&'a [u8], NotAReply> {
+    line.strip_prefix(prefix).ok_or(NotAReply::NoReply)
 }
 
-fn halves(line: &[u8], at: u8) -> Result<(&[u8], &[u8]), Unread> {
+fn halves(line: &[u8], at: u8) -> Result<(&[u8], &[u8]), NotAReply> {
     match line.iter().position(|byte| *byte == at) {
         Some(index) => Ok((&line[..index], &line[index + 1..])),
-        None => Err(Unread::NoReply),
+        None => Err(NotAReply::NoReply),
     }
 }
 
-fn count(digits: &[u8]) -> Result<u64, Unread> {
-    let text = str::from_utf8(digits).map_err(|_| Unread::NoReply)?;
-    text.parse::<u64>().map_err(|_| Unread::NoReply)
+fn count(digits: &[u8]) -> Result<u64, NotAReply> {
+    let text = str::from_utf8(digits).map_err(|_| NotAReply::NoReply)?;
+    text.parse::<u64>().map_err(|_| NotAReply::NoReply)
 }
 
-fn small(digits: &[u8]) -> Result<u32, Unread> {
-    u32::try_from(count(digits)?).map_err(|_| Unread::NoReply)
+fn small(digits: &[u8]) -> Result<u32, NotAReply> {
+    u32::try_from(count(digits)?).map_err(|_| NotAReply::NoReply)
 }

@@ -243,7 +243,8 @@ fn object_with<'a>(objects: &'a [Change], key: Key) -> Option<&'a Change>
 fn is_same(alloc: Global, change: &Change, other: &Change) -> Result<bool, WantOfMemory>
     ensures { IfOk result (λ b. IsTrue b ↔ (change.now ≡ other.now)) }
 {
-    let _keys = (change.key(), other.key());
+    change.limits();
+    other.limits();
     let mut line = Vec::new(alloc);
     write_line(change, &mut line)?;
     let mut other_line = Vec::new(alloc);

@@ -3,7 +3,7 @@ use Rattle.std.proofs.Common.{◌≡◌, List, [], ◌∷◌, refl, sym, ◌∙�
 use Rattle.std.specs.Prelude.{Contains, IsSome, if◌then◌else◌}
 use Rattle.std.proofs.lemmas.List.Elements.{Contains-append_left, Contains-append_right}
 use Rattle.osm_model.specs.Change.{ChangeValue}
-use Rattle.osm_model.specs.Content.{last_of, later_of, over_at, standing_of}
+use Rattle.osm_model.specs.Content.{last_of, later_of, over_at, object_after}
 use Rattle.osm_model.specs.KeyOrder.{same_key}
 use Rattle.osm_model.specs.declared.kind.Key.{Key}
 use Rattle.osm_mirror.specs.Mirror.{MirrorValue, NeedsMemory, NeedsNewEntry, IsKnownDeletion, IsKnownEdit, object_at}
@@ -23,7 +23,7 @@ deletions_need_none m changes each needs =
     by_entry d (inl user) = let above = d.known.user in omega arith
     by_entry d (inr (inl changeset)) = let above = d.known.changeset in omega arith
     by_entry d (inr (inr object)) =
-        let gone : standing_of needs.change ≡ None = rw d.deletes refl in
+        let gone : object_after needs.change ≡ None = rw d.deletes refl in
         let bad : None ≡ Some needs.change = sym gone ∙ object.0 in cc
 
 -- the last change of a key is one of the changes
@@ -45,7 +45,7 @@ none_is_none some = let bad : false ≡ true = some in cc
 
 -- an object that the mirror has and no change deletes is still there
 still_there : (before : Option ChangeValue) (o : Option ChangeValue) → IsSome before
-    → ((d : ChangeValue) → o ≡ Some d → standing_of d ≡ Some d) → over_at before o ≡ None → ⊥
+    → ((d : ChangeValue) → o ≡ Some d → object_after d ≡ Some d) → over_at before o ≡ None → ⊥
 still_there (Some b) None some each e = let bad : None ≡ Some b = sym e in cc
 still_there None None some each e = absurd (none_is_none some)
 still_there before (Some d) some each e = let bad : None ≡ Some d = sym e ∙ each d refl in cc
@@ -54,7 +54,7 @@ pub edits_need_none : (m : MirrorValue) (changes : List ChangeValue) → ((c : C
 edits_need_none m changes each needs =
     by_entry (each needs.change (needing m changes needs)) needs.entry
   where
-    of_before : (d : ChangeValue) → last_of needs.before needs.change.key ≡ Some d → standing_of d ≡ Some d
+    of_before : (d : ChangeValue) → last_of needs.before needs.change.key ≡ Some d → object_after d ≡ Some d
     of_before d e =
         let there : Contains changes d =
         rw needs.is (Contains-append_left needs.before (needs.change ∷ needs.after) d

@@ -8,7 +8,7 @@ use Rattle.std.specs.List.Sorted.{IsStrictlySortedBy}
 use Rattle.std.specs.Map.{lookup}
 use Rattle.std.specs.Ordering.{nat_cmp}
 use Rattle.osm_model.specs.Change.{ChangeValue, IsChange}
-use Rattle.osm_model.specs.Content.{content_of, over, standing_of}
+use Rattle.osm_model.specs.Content.{content_of, over, object_after}
 use Rattle.osm_model.specs.Content.{edits_by_user, edits_by_changeset}
 use Rattle.osm_model.specs.KeyOrder.{key_cmp, same_key}
 use Rattle.osm_model.specs.Limits.{IsPositive}
@@ -55,7 +55,7 @@ pub record IsOrderly (m : MirrorValue) : Type 0 where
 -- an object within the limits that isn't deleted
 pub record IsObject (c : ChangeValue) : Type 0 where
   pub limits : IsChange c
-  pub stands : standing_of c ≡ Some c
+  pub is_left : object_after c ≡ Some c
 
 -- a user id or a changeset within the limits
 abbrev pub HasNumber : Counted → Type 0
@@ -91,7 +91,7 @@ abbrev pub NeedsNewEntry : MirrorValue → List ChangeValue → ChangeValue → 
 NeedsNewEntry m before c =
     (count_at m.users c.meta.uid ≡ 0)
     ⊎ (count_at m.changesets c.meta.changeset ≡ 0)
-    ⊎ ((standing_of c ≡ Some c) × (over (object_at m.objects) before c.key ≡ None))
+    ⊎ ((object_after c ≡ Some c) × (over (object_at m.objects) before c.key ≡ None))
 
 -- some change needs a new entry, after those before it
 pub record NeedsMemory (m : MirrorValue) (changes : List ChangeValue) : Type 0 where
@@ -114,7 +114,7 @@ pub record IsKnownDeletion (m : MirrorValue) (c : ChangeValue) : Type 0 where
 -- such a change that edits an object of the mirror and doesn't delete it: it needs none either
 pub record IsKnownEdit (m : MirrorValue) (c : ChangeValue) : Type 0 where
   pub known : IsByKnown m c
-  pub edits : standing_of c ≡ Some c
+  pub edits : object_after c ≡ Some c
   pub there : IsSome (object_at m.objects c.key)
 
 -- the empty mirror

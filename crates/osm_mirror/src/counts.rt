@@ -92,7 +92,7 @@ impl Counts {
     }
 
     /// Tells the prover that the numbers rise and no count is 0; does nothing at run time.
-    pub fn counts_rise(&self)
+    pub fn limits(&self)
         ensures counts { AreCountsAboveZero self.now }
         ensures numbers { AllByRecursion HasNumber self.now }
     {

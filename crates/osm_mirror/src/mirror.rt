@@ -54,7 +54,7 @@ impl Mirror {
         ensures grown { OnOk result (GrowsBy (length changes.items) self.old self.new) }
         ensures refused { OnErr result (NeedsMemory self.old changes.items) }
     {
-        self.lists_rise();
+        self.limits();
         for change in changes {
             let Ok(()) = self.apply_one(change) else {
                 return Err(WantOfMemory);
@@ -69,7 +69,7 @@ impl Mirror {
         ensures grown { OnOk result (GrowsBy 1 self.old self.new) }
         ensures refused { OnErr result (NeedsNewEntry self.old [] change) }
     {
-        let _version = change.meta().version();
+        change.meta().limits();
         let Ok(()) = self.users.add_one(change.meta().uid()) else {
             return Err(WantOfMemory);
         };
@@ -79,17 +79,17 @@ impl Mirror {
         let Ok(()) = self.objects.put(change) else {
             return Err(WantOfMemory);
         };
-        self.lists_rise();
+        self.limits();
         Ok(())
     }
 
     /// Tells the prover what holds of every mirror; does nothing at run time.
-    pub fn lists_rise(&self)
+    pub fn limits(&self)
         ensures { IsMirror self.now }
     {
-        self.objects.keys_rise();
-        self.users.counts_rise();
-        self.changesets.counts_rise();
+        self.objects.limits();
+        self.users.limits();
+        self.changesets.limits();
     }
 
     /// The mirror with these parts.

@@ -6,7 +6,7 @@ ghost use Rattle.std.specs.BTreeMap.{insert_entry};
 ghost use Rattle.std.specs.List.{AllByRecursion};
 ghost use Rattle.std.specs.Map.Iter.{ShowsInOrder, deref};
 ghost use Rattle.osm_model.specs.Change.{ChangeValue};
-ghost use Rattle.osm_model.specs.Content.{standing_of};
+ghost use Rattle.osm_model.specs.Content.{object_after};
 ghost use Rattle.osm_model.specs.KeyOrder.{key_cmp, same_key};
 ghost use Rattle.osm_model.specs.declared.kind.Key.{Key};
 ghost use Rattle.osm_mirror.specs.Steps.Entries.{AreObjects, objects_of};
@@ -62,10 +62,10 @@ impl Objects {
     /// After a refusal nothing has changed.
     pub fn put(&mut self, change: Change) -> Result<(), WantOfMemory>
         ensures put { OnOk result ((k : Key) → object_at self.new k
-            ≡ (if same_key change.key k then standing_of change else object_at self.old k)) }
+            ≡ (if same_key change.key k then object_after change else object_at self.old k)) }
         ensures grown { length self.new ≤ length self.old + 1 }
         ensures refused { OnErr result
-            ((standing_of change ≡ Some change) × (object_at self.old change.key ≡ None)) }
+            ((object_after change ≡ Some change) × (object_at self.old change.key ≡ None)) }
         ensures unchanged { OnErr result (self.new ≡ self.old) }
     {
         if change.is_deletion() {
@@ -79,7 +79,7 @@ impl Objects {
     /// Adds an object whose key is above all others. After a refusal nothing has changed.
     pub fn push(&mut self, change: Change) -> Result<(), WantOfMemory>
         requires rising { AreRising (self.old ++ change ∷ []) }
-        requires stands { standing_of change ≡ Some change }
+        requires is_left { object_after change ≡ Some change }
         ensures pushed { OnOk result (self.new ≡ self.old ++ change ∷ []) }
         ensures unchanged { OnErr result (self.new ≡ self.old) }
     {
@@ -104,7 +104,7 @@ impl Objects {
 
     /// Tells the prover that the keys rise and that no object is a deletion; does nothing at run
     /// time.
-    pub fn keys_rise(&self)
+    pub fn limits(&self)
         ensures keys { AreRising self.now }
         ensures objects { AllByRecursion IsObject self.now }
     {
@@ -144,7 +144,7 @@ fn take_out(objects: &mut BTreeMap<Key, Change>, key: Key)
 
 fn enter(objects: &mut BTreeMap<Key, Change>, change: Change) -> Result<(), WantOfMemory>
     requires objects { AreObjects objects.old.entries }
-    requires stands { standing_of change ≡ Some change }
+    requires is_left { object_after change ≡ Some change }
     ensures objects { AreObjects objects.new.entries }
     ensures inserted { OnOk result
         (objects.new.entries ≡ insert_entry key_cmp objects.old.entries change.key change) }

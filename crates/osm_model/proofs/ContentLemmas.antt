@@ -8,7 +8,7 @@ use Rattle.std.specs.declared.cmp.Ordering.TheVariants.{Less, Equal, Greater}
 use Rattle.std.proofs.lemmas.List.Sums.{sum_by-append}
 use Rattle.std.proofs.lemmas.Map.Lookups.{exact_signed}
 use Rattle.osm_model.specs.Change.{ChangeValue}
-use Rattle.osm_model.specs.Content.{last_of, later_of, over_at, over, nothing, content_of, standing_of, edits_by_user, edits_by_changeset}
+use Rattle.osm_model.specs.Content.{last_of, later_of, over_at, over, nothing, content_of, object_after, edits_by_user, edits_by_changeset}
 use Rattle.osm_model.specs.ContentLaws.{KindsAreOrdered, KeysAreTold, ContentsJoin, EditsAdd}
 use Rattle.osm_model.specs.KeyOrder.{key_cmp, same_key}
 use Rattle.osm_model.specs.declared.kind.Key.{Key}
@@ -69,10 +69,10 @@ pub content_of-append : (a b : List ChangeValue) (k : Key) → content_of (a ++ 
 content_of-append a b k = over-append nothing a b k
 
 -- one change over what was there before
-pub over-one : (before : Key → Option ChangeValue) (c : ChangeValue) (k : Key) → over before (c ∷ []) k ≡ (if same_key c.key k then standing_of c else before k)
+pub over-one : (before : Key → Option ChangeValue) (c : ChangeValue) (k : Key) → over before (c ∷ []) k ≡ (if same_key c.key k then object_after c else before k)
 over-one before c k = by_test (same_key c.key k)
   where
-    by_test : (b : Bool) → over_at (before k) (later_of (if b then Some c else None) None) ≡ (if b then standing_of c else before k)
+    by_test : (b : Bool) → over_at (before k) (later_of (if b then Some c else None) None) ≡ (if b then object_after c else before k)
     by_test true = refl
     by_test false = refl
 

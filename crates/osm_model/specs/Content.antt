@@ -19,17 +19,17 @@ last_of [] k = None
 last_of (c ∷ cs) k = later_of (if same_key c.key k then Some c else None) (last_of cs k)
 
 -- what is left of an object after a change: nothing after a deletion
-abbrev pub standing_as : ChangeValue → What → Option ChangeValue
-standing_as c Deleted = None
-standing_as c what = Some c
+abbrev pub object_as : ChangeValue → What → Option ChangeValue
+object_as c Deleted = None
+object_as c what = Some c
 
-abbrev pub standing_of : ChangeValue → Option ChangeValue
-standing_of c = standing_as c c.what
+abbrev pub object_after : ChangeValue → Option ChangeValue
+object_after c = object_as c c.what
 
 -- what the last change leaves, or what was there before if there is no change
 abbrev pub over_at : Option ChangeValue → Option ChangeValue → Option ChangeValue
 over_at before None = before
-over_at before (Some c) = standing_of c
+over_at before (Some c) = object_after c
 
 -- the objects after the changes, over what was there before them
 abbrev pub over : (Key → Option ChangeValue) → List ChangeValue → Key → Option ChangeValue

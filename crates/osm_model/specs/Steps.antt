@@ -1,4 +1,4 @@
 -- No clause of a public function cites anything here.
 pub mod Clock
-pub mod Kept
+pub mod Stored
 pub mod Parts

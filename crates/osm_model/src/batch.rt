@@ -62,11 +62,18 @@ impl Batch {
         if self.changes.len() >= MAX_CHANGES {
             return Err(PushError::Full(change));
         }
-        let _key = change.key();
+        change.limits();
         match self.changes.push(change) {
             Ok(()) => Ok(()),
             Err(refused) => Err(PushError::WantOfMemory(refused.value)),
         }
+    }
+
+    /// Tells the prover that the batch is within its limits; does nothing at run time.
+    pub fn limits(&self)
+        ensures { IsBatch self.now }
+    {
+        let _changes = self.changes();
     }
 
     pub fn changes(&self) -> &[Change]

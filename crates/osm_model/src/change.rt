@@ -5,7 +5,7 @@ ghost use Rattle.std.specs.Prelude.{None};
 ghost use Rattle.std.specs.List.{AllByRecursion};
 ghost use Rattle.osm_model.specs.Limits.{IsId, IsLocation, max_tags, max_refs};
 ghost use Rattle.osm_model.specs.Change.{IsChange, IsWhat, HasMemberId};
-ghost use Rattle.osm_model.specs.Content.{standing_of};
+ghost use Rattle.osm_model.specs.Content.{object_after};
 ghost use Rattle.osm_model.specs.Steps.Parts.{HasParts};
 
 use crate::kind::{Key, Kind};
@@ -154,7 +154,7 @@ impl Change {
           what = What.Node lon lat tags;
         }) }
     {
-        let _version = meta.version();
+        meta.limits();
         if !is_id(id) || !is_location(lon, lat) {
             return Err(ChangeError::OutOfRange);
         }
@@ -186,7 +186,7 @@ impl Change {
           what = What.Way refs tags;
         }) }
     {
-        let _version = meta.version();
+        meta.limits();
         if !is_id(id) || !are_ids(refs.as_slice()) {
             return Err(ChangeError::OutOfRange);
         }
@@ -226,7 +226,7 @@ impl Change {
           what = What.Relation members tags;
         }) }
     {
-        let _version = meta.version();
+        meta.limits();
         if !is_id(id) || !have_ids(members.as_slice()) {
             return Err(ChangeError::OutOfRange);
         }
@@ -254,7 +254,7 @@ impl Change {
         ensures value { IfOk result (λ c.
             c ≡ record { key = key; meta = meta; what = What.Deleted }) }
     {
-        let _version = meta.version();
+        meta.limits();
         if !is_id(key.id) {
             return Err(ChangeError::OutOfRange);
         }
@@ -270,12 +270,19 @@ impl Change {
         requires { IsId key.id × IsWhat key.kind what }
         ensures { result ≡ record { key = key; meta = meta; what = what } }
     {
-        let _version = meta.version();
+        meta.limits();
         Change {
             key,
             meta,
             what: what.fitted(),
         }
+    }
+
+    /// Tells the prover that the change is within its limits; does nothing at run time.
+    pub fn limits(&self)
+        ensures { IsChange self.now }
+    {
+        let _key = self.key();
     }
 
     pub fn key(&self) -> Key
@@ -293,8 +300,8 @@ impl Change {
 
     /// Whether the change is a deletion, which leaves nothing of the object.
     pub fn is_deletion(&self) -> bool
-        ensures deletion { IsTrue result → standing_of self.now ≡ None }
-        ensures other { ¬ IsTrue result → standing_of self.now ≡ Some self.now }
+        ensures deletion { IsTrue result → object_after self.now ≡ None }
+        ensures other { ¬ IsTrue result → object_after self.now ≡ Some self.now }
     {
         matches!(self.what, What::Deleted)
     }

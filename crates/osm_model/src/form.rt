@@ -113,7 +113,7 @@ pub fn there_and_back<F: ChangeForm>(alloc: Global, batch: &Batch) -> Result<Bat
     ensures refused { IfErr result (WriteRefused (F.text batch.now)) }
 {
     F::laws();
-    let _changes = batch.changes();
+    batch.limits();
     let bytes = F::write(alloc, batch)?;
     F::read(alloc, bytes.as_slice())
 }

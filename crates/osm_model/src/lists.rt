@@ -39,8 +39,8 @@ impl Part for Tag {
     ghost within_limits = { IsTag };
 
     fn limits(&self) {
-        let _key = self.key.as_str();
-        let _value = self.value.as_str();
+        self.key.limits();
+        self.value.limits();
     }
 
     fn copy(&self, alloc: Global) -> Result<Tag, WantOfMemory> {
@@ -83,7 +83,7 @@ impl Part for Member {
     ghost within_limits = { IsRole };
 
     fn limits(&self) {
-        let _role = self.role.as_str();
+        self.role.limits();
     }
 
     fn copy(&self, alloc: Global) -> Result<Member, WantOfMemory> {

@@ -74,7 +74,7 @@ impl Meta {
         }) }
         ensures limits { IfOk result (λ m. IsMeta m) }
     {
-        let _name = user.as_str();
+        user.limits();
         if version == 0 || time == 0 || changeset == 0 || uid == 0 {
             return Err(OutOfRange);
         }
@@ -85,6 +85,13 @@ impl Meta {
             uid,
             user,
         })
+    }
+
+    /// Tells the prover that the metadata are within their limits; does nothing at run time.
+    pub fn limits(&self)
+        ensures { IsMeta self.now }
+    {
+        let _version = self.version();
     }
 
     pub fn version(&self) -> u32

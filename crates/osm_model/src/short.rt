@@ -18,7 +18,7 @@ pub(crate) struct ShortText {
 }
 
 impl ShortText {
-    ghost use Rattle.osm_model.specs.Steps.Kept.{short_bytes};
+    ghost use Rattle.osm_model.specs.Steps.Stored.{short_bytes};
 
     /// Those characters, if they are at most 22 bytes.
     pub(crate) fn new(text: &str) -> Option<ShortText>

@@ -2,7 +2,7 @@
 
 ghost use Rattle.std.specs.Prelude.{◌≡◌, ◌<◌, ◌≤◌, ◌↔◌, length, IfOk, IsErrOf, OnOk, OnErr};
 ghost use Rattle.std.specs.Prelude.{Contains, string_bytes};
-ghost use Rattle.osm_model.specs.Steps.Kept.{kept_bytes};
+ghost use Rattle.osm_model.specs.Steps.Stored.{stored_bytes};
 ghost use Rattle.osm_model.specs.Text.{IsText};
 ghost use Rattle.osm_model.specs.declared.text.TextError.TheVariants.{WantOfMemory};
 
@@ -19,11 +19,11 @@ use thiserror::Error;
 /// stored in the value itself, which has 24 bytes; only a longer text is on the heap.
 #[derive(Drop)]
 pub struct Text {
-    kept: Kept,
+    stored: Stored,
 }
 
 #[derive(Drop)]
-enum Kept {
+enum Stored {
     Short(ShortText),
     Long(Box<String>),
 }
@@ -33,13 +33,13 @@ const _: () = prove!(size_of::<Text>() == 24);
 impl Model for Text {
     ghost use Rattle.std.specs.Prelude.{ℕ, List};
     ghost use Rattle.osm_model.specs.Text.{IsText};
-    ghost use Rattle.osm_model.specs.Steps.Kept.{kept_bytes};
+    ghost use Rattle.osm_model.specs.Steps.Stored.{stored_bytes};
 
     ghost Value = { List ℕ };
 
-    ghost view = { λ a. kept_bytes a.kept };
+    ghost view = { λ a. stored_bytes a.stored };
 
-    ghost invariant = { λ a. IsText (kept_bytes a.kept) };
+    ghost invariant = { λ a. IsText (stored_bytes a.stored) };
 }
 
 /// Why a text is refused.
@@ -73,8 +73,8 @@ impl Text {
             ↔ (¬ Contains text.now 0 × (1020 < length text.now)) }
     {
         check(text)?;
-        let kept = keep(alloc, text)?;
-        Ok(Text { kept })
+        let stored = store(alloc, text)?;
+        Ok(Text { stored })
     }
 
     /// The text of characters that are known to be one. They aren't tested again. Memory is refused
@@ -84,26 +84,33 @@ impl Text {
         ensures ok { IfOk result (λ t. t ≡ text.now) }
         ensures refused { OnErr result (22 < length text.now) }
     {
-        let kept = keep(alloc, text)?;
-        Ok(Text { kept })
+        let stored = store(alloc, text)?;
+        Ok(Text { stored })
     }
 
     pub fn as_str(&self) -> &str
         ensures text { result.now ≡ self.now }
         ensures limits { IsText self.now }
     {
-        match &self.kept {
-            Kept::Short(short) => short.as_str(),
-            Kept::Long(text) => text.as_str(),
+        match &self.stored {
+            Stored::Short(short) => short.as_str(),
+            Stored::Long(text) => text.as_str(),
         }
+    }
+
+    /// Tells the prover that the text is within its limits; does nothing at run time.
+    pub fn limits(&self)
+        ensures { IsText self.now }
+    {
+        let _text = self.as_str();
     }
 
     /// An equal text.
     pub fn copy(&self, alloc: Global) -> Result<Text, WantOfMemory>
         ensures { IfOk result (λ t. t ≡ self.now) }
     {
-        let kept = self.kept.copy(alloc)?;
-        Ok(Text { kept })
+        let stored = self.stored.copy(alloc)?;
+        Ok(Text { stored })
     }
 }
 
@@ -124,25 +131,25 @@ fn check(text: &str) -> Result<(), TextError>
     Ok(())
 }
 
-fn keep(alloc: Global, text: &str) -> Result<Kept, AllocError>
-    ensures ok { IfOk result (λ kept. kept_bytes kept ≡ text.now) }
+fn store(alloc: Global, text: &str) -> Result<Stored, AllocError>
+    ensures ok { IfOk result (λ stored. stored_bytes stored ≡ text.now) }
     ensures refused { OnErr result (22 < length text.now) }
 {
     if let Some(short) = ShortText::new(text) {
-        return Ok(Kept::Short(short));
+        return Ok(Stored::Short(short));
     }
     let text = Box::new(alloc, String::from_str(alloc, text)?)?;
-    Ok(Kept::Long(text))
+    Ok(Stored::Long(text))
 }
 
-impl Kept {
-    fn copy(&self, alloc: Global) -> Result<Kept, AllocError>
-        ensures ok { IfOk result (λ kept. kept_bytes kept ≡ kept_bytes self.now) }
-        ensures refused { OnErr result (22 < length (kept_bytes self.now)) }
+impl Stored {
+    fn copy(&self, alloc: Global) -> Result<Stored, AllocError>
+        ensures ok { IfOk result (λ stored. stored_bytes stored ≡ stored_bytes self.now) }
+        ensures refused { OnErr result (22 < length (stored_bytes self.now)) }
     {
         match self {
-            Kept::Short(short) => Ok(Kept::Short(*short)),
-            Kept::Long(text) => keep(alloc, text.as_str()),
+            Stored::Short(short) => Ok(Stored::Short(*short)),
+            Stored::Long(text) => store(alloc, text.as_str()),
         }
     }
 }

@@ -13,7 +13,7 @@ use Rattle.std.proofs.lemmas.Slice.Eq.{bytes_eq-Decides}
 use Rattle.std.proofs.Math.Seq.{drop-append_seam, get_or-append_seam}
 use Rattle.osm_o5c.specs.Written.{last_equal, reference_of}
 use Rattle.osm_o5c.specs.Steps.Index.{hash_of, bucket_of, string_of, strings_of, string_at, no_slot, links_of, Chained}
-use Rattle.osm_o5c.specs.Steps.Index.{Leads, IsStored, IsLastIn, IsRecent, AreLed, IsLatest, IsIndexed}
+use Rattle.osm_o5c.specs.Steps.Index.{Leads, IsStored, IsLastIn, IsRecent, AreLed, IsLatest}
 use Rattle.osm_o5c.specs.Steps.Index.{string_named, IsLeast}
 use Rattle.osm_o5c.specs.declared.chains.Slot.{Slot}
 

@@ -1,9 +1,8 @@
 -- A publication by number that stopped.
-use Rattle.std.proofs.Common.{◌≡◌, ℕ, zero, suc, ◌+◌, ◌<◌, ◌≤◌, List, [], ◌∷◌, ◌++◌, length, take, Bool, true, false}
+use Rattle.std.proofs.Common.{◌≡◌, ℕ, ◌<◌, ◌≤◌, List, length, take, Bool, true, false}
 use Rattle.std.proofs.Common.{Option, Some, None, inl, inr, arith, refl, sym, ap, subst, ◌∙◌}
-use Rattle.std.specs.Prelude.{◌⊎◌, ◌&&◌, ◌||◌, ◌==◌, not, is_none, if◌then◌else◌, IsTrue}
-use Rattle.std.proofs.lemmas.Bool.{cases_Bool, cases_lt, eqb-true, eq-eqb, ne_eqb}
-use Rattle.std.proofs.lemmas.Option.{same_Some}
+use Rattle.std.specs.Prelude.{◌⊎◌, ◌&&◌, not, is_none, if◌then◌else◌}
+use Rattle.std.proofs.lemmas.Bool.{eq-eqb, ne_eqb}
 use Rattle.std.proofs.lemmas.Str.Parse.{digits_value_short, numerals_by_value, tells_digits}
 use Rattle.std.specs.Str.Parse.{AllDigits}
 use Rattle.osm_model.specs.Change.{ChangeValue}
@@ -14,18 +13,17 @@ use Rattle.osm_state.specs.declared.paths.Suffix.{Suffix}
 use Rattle.osm_state.specs.declared.paths.Suffix.TheVariants.{O5c, Opl, State}
 use Rattle.osm_follow.specs.Published.{PublishedValue, sequence_at, written_of}
 use Rattle.osm_folder.specs.Files.{Files}
-use Rattle.osm_folder.specs.Folder.{IsFolderOf}
 use Rattle.osm_folder.specs.Following.{is_lost}
 use Rattle.osm_folder.specs.Names.{file_name_of, top_name_of}
-use Rattle.osm_folder.specs.Numbered.{IsNumberedCutOff, IsPublishedIn, IsToWrite, NumberedStops}
+use Rattle.osm_folder.specs.Numbered.{IsNumberedCutOff, IsPublishedIn}
 use Rattle.osm_folder.specs.Publication.{CutsOff, Writes, writes_of}
 use Rattle.osm_folder.specs.declared.fault.RunFault.{RunFault}
 use Rattle.osm_folder.proofs.FolderLemmas.{goes_on_number}
 use Rattle.osm_folder.proofs.NumberedLemmas as folder_numbers
 use Rattle.osm_operations.specs.Allowed.{place_of}
-use Rattle.osm_operations.specs.Correct.{AreApart, IsOther}
+use Rattle.osm_operations.specs.Correct.{AreApart}
 use Rattle.osm_operations.specs.History.{same_file, same_suffix, text_of, unless_lost}
-use Rattle.osm_operations.specs.Steps.Stepping.{AreChangesPut, IsPublishRun, ReturnForms, StopsPublishingAs, form_back, named}
+use Rattle.osm_operations.specs.Steps.Stepping.{IsPublishRun, ReturnForms, StopsPublishingAs, form_back, named}
 use Rattle.osm_operations.proofs.AgreeLemmas.{Agrees, changes_put, few, untouched, writes_before}
 use Rattle.osm_operations.proofs.FollowLemmas.{lost_same, number_lost}
 use Rattle.osm_operations.proofs.NumberLemmas.{AreBack, AreGone, WasBack, are_back, named_is, named_least, named_most}

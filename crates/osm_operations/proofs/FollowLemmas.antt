@@ -181,8 +181,8 @@ pub stopped_follow : (p : List PublishedValue) (m calls : ℕ) (told : Option (L
     → LacksCalls (follow_calls p m) (Some calls) fault → IsSaveOf p m told → FollowRefuses p told fault
     → KilledFollowingRefused p m calls fault
 stopped_follow p m calls told WantOfMemory lacks s r = tt
-stopped_follow p m calls told (ReadFault file) lacks s r = lacks
-stopped_follow p m calls told (WriteFault file) lacks s r = (r, lacks)
+stopped_follow p m calls told (ReadFault file) lacks s r = lacks tt
+stopped_follow p m calls told (WriteFault file) lacks s r = (r, lacks tt)
 stopped_follow p m calls told (Absent file) lacks s r = r
 stopped_follow p m calls told (TooLarge file) lacks s r = (
   r.0,

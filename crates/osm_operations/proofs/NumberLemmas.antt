@@ -1,22 +1,21 @@
 -- Publications by number over the folder of published sequences, some of whose files may be lost.
-use Rattle.std.proofs.Common.{◌≡◌, ℕ, zero, suc, ◌+◌, ◌<◌, ◌≤◌, List, [], ◌∷◌, ◌++◌, length, take, Bool, true, false}
+use Rattle.std.proofs.Common.{◌≡◌, ℕ, zero, suc, ◌<◌, ◌≤◌, List, [], ◌∷◌, length, take, Bool, true, false}
 use Rattle.std.proofs.Common.{Option, Some, None, inl, inr, arith, refl, sym, ap, subst, ◌∙◌}
-use Rattle.std.specs.Prelude.{◌⊎◌, ◌&&◌, ◌||◌, ◌==◌, not, is_none, if◌then◌else◌, max, min}
+use Rattle.std.specs.Prelude.{◌⊎◌, ◌==◌, not, is_none}
 use Rattle.std.specs.List.{AllByRecursion}
 use Rattle.std.proofs.lemmas.Bool.{cases_Bool, cases_lt, eqb-true, eq-eqb}
-use Rattle.osm_model.specs.Change.{ChangeValue}
 use Rattle.osm_model.specs.Limits.{max_sequence}
 use Rattle.osm_state.specs.declared.paths.Suffix.{Suffix}
 use Rattle.osm_state.specs.declared.paths.Suffix.TheVariants.{O5c, Opl, State}
 use Rattle.osm_follow.specs.Published.{PublishedTexts, PublishedValue, sequence_at, written_of}
-use Rattle.osm_folder.specs.Files.{Files, Puts}
-use Rattle.osm_folder.specs.Folder.{IsApart, IsFolderOf}
+use Rattle.osm_folder.specs.Files.{Files}
+use Rattle.osm_folder.specs.Folder.{IsFolderOf}
 use Rattle.osm_folder.specs.Names.{file_name_of, top_name_of}
 use Rattle.osm_folder.specs.Publication.{Writes, writes_of}
 use Rattle.osm_folder.proofs.NameLemmas.{one_file, top_is_no_file}
 use Rattle.osm_operations.specs.Allowed.{place_of}
-use Rattle.osm_operations.specs.Correct.{AreApart, IsOther}
-use Rattle.osm_operations.specs.History.{same_file, same_suffix, text_of, unless_lost}
+use Rattle.osm_operations.specs.Correct.{IsOther}
+use Rattle.osm_operations.specs.History.{text_of, unless_lost}
 use Rattle.osm_operations.specs.Steps.Stepping.{ReturnForms, Returns, named}
 use Rattle.osm_operations.proofs.AgreeLemmas.{Agrees, few, leaves, save_same, take_apart, text_in}
 

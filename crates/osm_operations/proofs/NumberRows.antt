@@ -1,15 +1,14 @@
 -- Why a publication by number stops, from what its run said.
-use Rattle.std.proofs.Common.{◌≡◌, ℕ, zero, suc, ◌+◌, ◌<◌, ◌≤◌, List, length, true, false, Option, None, Some, inl, inr, arith, refl, sym, ap, subst, ◌∙◌}
+use Rattle.std.proofs.Common.{◌≡◌, ℕ, zero, suc, ◌+◌, ◌<◌, ◌≤◌, List, length, true, false, None, Some, inl, inr, arith, refl, sym, ap, subst, ◌∙◌}
 use Rattle.std.specs.Prelude.{◌⊎◌, ◌==◌, if◌then◌else◌, IsTrue}
-use Rattle.std.proofs.lemmas.Bool.{cases_lt, eq-eqb, ne_eqb}
+use Rattle.std.proofs.lemmas.Bool.{cases_lt, ne_eqb}
 use Rattle.std.proofs.lemmas.Option.{same_Some}
 use Rattle.osm_model.specs.Change.{ChangeValue}
 use Rattle.osm_model.specs.Limits.{max_sequence}
-use Rattle.osm_model.specs.Time.{Shows, TimeText}
+use Rattle.osm_model.specs.Time.{TimeText}
 use Rattle.osm_opl.proofs.RoundTrip as opl_trip
 use Rattle.osm_opl.specs.File.{SpellsOpl}
 use Rattle.osm_opl.specs.Written.{opl_text}
-use Rattle.osm_state.specs.declared.paths.Suffix.{Suffix}
 use Rattle.osm_state.specs.declared.paths.Suffix.TheVariants.{O5c, Opl, State}
 use Rattle.osm_follow.specs.Published.{PublishedValue, sequence_at}
 use Rattle.osm_follow.specs.Publisher.{IsTooLarge}
@@ -18,22 +17,22 @@ use Rattle.osm_folder.specs.Files.{Files}
 use Rattle.osm_folder.specs.Folder.{IsFolderOf, IsThere}
 use Rattle.osm_folder.specs.Following.{is_lost}
 use Rattle.osm_folder.specs.Names.{top_name_of}
-use Rattle.osm_folder.specs.Numbered.{IsAskedWith, IsFileOfNumber, IsOld, IsRepeatOf, NotNumbered, NumberedOut}
+use Rattle.osm_folder.specs.Numbered.{IsFileOfNumber, IsRepeatOf, NumberedOut}
 use Rattle.osm_folder.specs.Numbered.{NumberedRefuses, NumberedStops, calls_before, file_read_after}
 use Rattle.osm_folder.specs.Publication.{CutsOff, file_after}
 use Rattle.osm_folder.specs.declared.fault.FileName.{FileName}
 use Rattle.osm_folder.specs.declared.fault.FileName.TheVariants.{Changes, Sequence, Top}
 use Rattle.osm_folder.specs.declared.fault.RunFault.{RunFault}
 use Rattle.osm_folder.specs.declared.fault.RunFault.TheVariants.{WantOfMemory, ReadFault, WriteFault, TooLarge, Absent}
-use Rattle.osm_folder.specs.declared.fault.RunFault.TheVariants.{BadState, BadChange, TimeBack, BadNow, BadSequence}
+use Rattle.osm_folder.specs.declared.fault.RunFault.TheVariants.{BadChange, TimeBack, BadNow, BadSequence}
 use Rattle.osm_folder.specs.declared.fault.RunFault.TheVariants.{Differs, TopAt}
 use Rattle.osm_folder.proofs.FolderLemmas.{goes_on_number}
 use Rattle.osm_operations.specs.Allowed.{CutsAfter, IsRepeat, KilledNumberedRefused, NumberedRefused}
 use Rattle.osm_operations.specs.History as hist
-use Rattle.osm_operations.specs.Steps.Stepping.{AreChangesPut, ChangesStop, IsNoDevice, IsNumberText, IsPublishRun, StopsPublishingAs}
-use Rattle.osm_operations.proofs.AgreeLemmas.{Agrees, few, one_shown}
+use Rattle.osm_operations.specs.Steps.Stepping.{ChangesStop, IsNoDevice, IsNumberText, IsPublishRun, StopsPublishingAs}
+use Rattle.osm_operations.proofs.AgreeLemmas.{Agrees, one_shown}
 use Rattle.osm_operations.proofs.FollowLemmas.{lost_same}
-use Rattle.osm_operations.proofs.NumberedLemmas.{asked_is, value_of}
+use Rattle.osm_operations.proofs.NumberedLemmas.{asked_is}
 
 -- the file of changes wasn't written
 pub unwritten_number : (h : hist.History) (batch : List ChangeValue) (time n calls : ℕ) (fault : RunFault)

@@ -1,9 +1,8 @@
 -- What a publication by number leaves of the folder of published sequences, some of whose files may be lost.
-use Rattle.std.proofs.Common.{◌≡◌, ℕ, zero, suc, ◌+◌, ◌<◌, ◌≤◌, List, [], ◌∷◌, ◌++◌, length, take, Bool, true, false}
+use Rattle.std.proofs.Common.{◌≡◌, ℕ, ◌+◌, ◌<◌, ◌≤◌, List, [], ◌∷◌, ◌++◌, length, Bool, true, false}
 use Rattle.std.proofs.Common.{Option, Some, None, inl, inr, arith, refl, sym, ap, subst, ◌∙◌, length-append}
-use Rattle.std.specs.Prelude.{◌⊎◌, ◌&&◌, ◌||◌, ◌==◌, not, is_none, if◌then◌else◌, IsTrue}
+use Rattle.std.specs.Prelude.{◌⊎◌, ◌&&◌, ◌||◌, ◌==◌, not, if◌then◌else◌}
 use Rattle.std.proofs.lemmas.Bool.{cases_Bool, cases_lt, eqb-true, eq-eqb, ne_eqb}
-use Rattle.std.proofs.lemmas.Option.{same_Some}
 use Rattle.osm_model.specs.Change.{ChangeValue}
 use Rattle.osm_model.specs.Limits.{max_sequence}
 use Rattle.osm_model.specs.Time.{Shows}
@@ -19,19 +18,18 @@ use Rattle.osm_folder.specs.Files.{Files}
 use Rattle.osm_folder.specs.Folder.{IsFolderOf, IsThere}
 use Rattle.osm_folder.specs.Following.{is_lost}
 use Rattle.osm_folder.specs.Names.{file_name_of, top_name_of}
-use Rattle.osm_folder.specs.Numbered.{IsAsked, IsNumberedCutOff, IsPublishedIn, IsRepeated, IsToWrite, PutsSequence, numbered_calls}
-use Rattle.osm_folder.specs.Publication.{CutsOff, GoesOnFrom, IsAdded, Writes, writes_of}
+use Rattle.osm_folder.specs.Numbered.{IsAsked, IsPublishedIn, IsRepeated, PutsSequence, numbered_calls}
+use Rattle.osm_folder.specs.Publication.{GoesOnFrom, IsAdded, Writes, writes_of}
 use Rattle.osm_folder.specs.Reports.{ReportValue, publish_report_of}
-use Rattle.osm_folder.specs.declared.fault.RunFault.{RunFault}
 use Rattle.osm_folder.proofs.FolderLemmas.{goes_on_number}
 use Rattle.osm_folder.proofs.NumberedLemmas as folder_numbers
 use Rattle.osm_operations.specs.Allowed.{place_of}
-use Rattle.osm_operations.specs.Correct.{AreApart, IsOther}
-use Rattle.osm_operations.specs.History.{same_file, same_suffix, text_of, unless_lost, wrote}
+use Rattle.osm_operations.specs.Correct.{AreApart}
+use Rattle.osm_operations.specs.History.{text_of, unless_lost, wrote}
 use Rattle.osm_operations.specs.Steps.Stepping.{AreChangesPut, HasCalls, IsNumberText, IsPublishRun, PublishesAs}
-use Rattle.osm_operations.specs.Steps.Stepping.{ReturnForms, StopsPublishingAs, form_back, named}
+use Rattle.osm_operations.specs.Steps.Stepping.{ReturnForms, named}
 use Rattle.osm_operations.proofs.AgreeLemmas.{Agrees, agrees_more, changes_put, few, one_shown, read_batch}
-use Rattle.osm_operations.proofs.AgreeLemmas.{same_sequence, sequence_last, text_in, writes_before}
+use Rattle.osm_operations.proofs.AgreeLemmas.{same_sequence, sequence_last}
 use Rattle.osm_operations.proofs.FollowLemmas.{lost_same, number_lost}
 use Rattle.osm_operations.proofs.NumberLemmas.{AreBack, AreGone, WasBack, are_back, lost_alike, named_is, named_least}
 use Rattle.osm_operations.proofs.NumberLemmas.{named_most, none_back, rewritten, text_same, unless_back, written_so_far}

@@ -1,5 +1,5 @@
 -- Which runs of a history published a number, and which answered it.
-use Rattle.std.proofs.Common.{◌≡◌, ℕ, zero, suc, ◌+◌, ◌<◌, ◌≤◌, List, [], ◌∷◌, ◌++◌, length, true, false, inl, inr}
+use Rattle.std.proofs.Common.{◌≡◌, ℕ, ◌+◌, ◌<◌, ◌≤◌, List, [], ◌∷◌, ◌++◌, length, inl, inr}
 use Rattle.std.proofs.Common.{arith, refl, sym, ap, subst, ◌∙◌, append_assoc, append-nil, length-append}
 use Rattle.std.specs.Prelude.{◌⊎◌, ◌==◌, if◌then◌else◌}
 use Rattle.std.proofs.lemmas.Bool.{cases_Bool, cases_lt, eq-eqb, eqb-true, ne_eqb}
@@ -7,7 +7,7 @@ use Rattle.osm_follow.proofs.PublishedLemmas.{sequence_within}
 use Rattle.osm_follow.specs.Published.{PublishedValue, sequence_at}
 use Rattle.osm_operations.specs.Allowed.{Allowed, AreAllowed, NumberedDone}
 use Rattle.osm_operations.specs.History as hist
-use Rattle.osm_operations.specs.Publications.{Answers, AreOfNumber, IsAnswered, IsCut, IsFirst, IsOfNumber, IsPublishedOnce, Says}
+use Rattle.osm_operations.specs.Publications.{Answers, AreOfNumber, IsAnswered, IsOfNumber, IsPublishedOnce, Says}
 use Rattle.osm_operations.specs.declared.operation.Operation.{Operation}
 use Rattle.osm_operations.specs.declared.operation.Operation.TheVariants.{Publish, KilledPublish, PublishAs, KilledPublishAs}
 use Rattle.osm_operations.specs.declared.operation.Reply.{Reply}

@@ -1,6 +1,6 @@
 -- What the reports of followers say is applied.
 use Rattle.std.proofs.Common.{◌≡◌, ℕ, zero, suc, ◌+◌, ◌-◌, ◌^◌, ◌<◌, ◌≤◌, List, [], ◌∷◌, ◌++◌, length, drop, Bool, true}
-use Rattle.std.proofs.Common.{false, arith, refl, sym, ap, subst, ◌∙◌, append_assoc, append-nil, inl, inr, Some}
+use Rattle.std.proofs.Common.{false, arith, refl, sym, ap, ◌∙◌, append_assoc, append-nil, inl, inr, Some}
 use Rattle.std.specs.Prelude.{codes, decimal, map, ◌==◌}
 use Rattle.std.specs.Char.{digit_value, is_ascii_digit}
 use Rattle.std.specs.List.{AllByRecursion, flat_map}

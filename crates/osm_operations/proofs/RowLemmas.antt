@@ -92,9 +92,9 @@ unwritten_no_device batch fault h = absurd h
 
 -- the device wasn't to blame
 pub no_device_lacks : (k : ℕ) (left : Option ℕ) (fault : RunFault) → IsNoDevice fault → LacksCalls k left fault
-no_device_lacks k left (ReadFault file) none = absurd none
-no_device_lacks k left (WriteFault file) none = absurd none
-no_device_lacks k left fault none = tt
+no_device_lacks k left (ReadFault file) none = λ blame. absurd none
+no_device_lacks k left (WriteFault file) none = λ blame. absurd none
+no_device_lacks k left fault none = λ blame. absurd blame
 
 pub not_killed : (p : List PublishedValue) (batch : List ChangeValue) (time calls : ℕ) (fault : RunFault)
     → IsNoDevice fault → KilledPublicationRefused p batch time calls fault → PublicationRefused p batch time fault

@@ -177,7 +177,7 @@ fn write_changes(
     ensures stops { IfErr result (ChangesStop batch.now) }
     ensures refused { OnErr result (files_of store.new ≡ files_of store.old) }
 {
-    let _changes = batch.changes();
+    batch.limits();
     let text = match Opl::write(alloc, batch) {
         Ok(text) => text,
         Err(FormError::WantOfMemory) => return Err(RunFault::WantOfMemory),

@@ -15,7 +15,7 @@ ghost use Rattle.osm_reading.specs.Refusal.{IsWant};
 ghost use Rattle.osm_reading.specs.Steps.Answers.{Finds, Gives};
 
 use crate::lists::read_kind;
-use crate::metadata::{read_head, write_head};
+use crate::metadata::{read_head, write_key_and_head};
 use crate::numbers::read_id;
 use crate::objects::{read_what, write_what};
 use crate::plain::leading_id;
@@ -53,7 +53,7 @@ fn append_line(change: &Change, out: &mut Vec<u8>) -> Result<(), WantOfMemory>
 {
     let key = change.key();
     let is_visible = !matches!(change.what(), What::Deleted);
-    write_head(key, is_visible, change.meta(), out)?;
+    write_key_and_head(key, is_visible, change.meta(), out)?;
     write_what(key.kind, change.what(), out)?;
     Ok(())
 }
@@ -85,7 +85,7 @@ fn read_key(line: &[u8]) -> Result<(Key, Option<&[u8]>), Why>
 {
     match plain_key(line) {
         Some(found) => Ok(found),
-        None => any_key(line),
+        None => cut_key(line),
     }
 }
 
@@ -106,7 +106,7 @@ fn plain_key(line: &[u8]) -> Option<(Key, Option<&[u8]>)>
 }
 
 #[tactic(auto, unfolding(crate::specs::Steps::Reading::key_at))]
-fn any_key(line: &[u8]) -> Result<(Key, Option<&[u8]>), Why>
+fn cut_key(line: &[u8]) -> Result<(Key, Option<&[u8]>), Why>
     ensures value { Finds (λ r. (r.0, pieces_after 32 r.1)) result (key_at (pieces 32 line.now)) }
     ensures limit { IfOk result (λ r. IsId r.0.id) }
 {

@@ -122,7 +122,7 @@ fn next_ref(items: &[u8]) -> Result<(i64, Option<&[u8]>), Why>
 {
     match plain_ref(items) {
         Some(found) => Ok(found),
-        None => any_ref(items),
+        None => cut_ref(items),
     }
 }
 
@@ -138,7 +138,7 @@ fn plain_ref(items: &[u8]) -> Option<(i64, Option<&[u8]>)>
     }
 }
 
-fn any_ref(items: &[u8]) -> Result<(i64, Option<&[u8]>), Why>
+fn cut_ref(items: &[u8]) -> Result<(i64, Option<&[u8]>), Why>
     ensures value { Finds (λ r. (r.0, pieces_after 44 r.1)) result
         (first_at ref_at (pieces 44 items.now)) }
     ensures shorter { IfOk result (λ r.

@@ -64,7 +64,7 @@ fn positive_field<'a>(rest: Option<&'a [u8]>, letter: u8) -> Result<(u32, Option
 {
     match plain_field(rest, letter) {
         Some(found) => Ok(found),
-        None => any_field(rest, letter),
+        None => cut_field(rest, letter),
     }
 }
 
@@ -92,7 +92,7 @@ fn plain_field<'a>(rest: Option<&'a [u8]>, letter: u8) -> Option<(u32, Option<&'
 }
 
 #[tactic(auto, unfolding(crate::specs::Steps::Reading::positive_field_at))]
-fn any_field<'a>(rest: Option<&'a [u8]>, letter: u8) -> Result<(u32, Option<&'a [u8]>), Why>
+fn cut_field<'a>(rest: Option<&'a [u8]>, letter: u8) -> Result<(u32, Option<&'a [u8]>), Why>
     ensures value { Finds (λ r. (r.0, pieces_after 32 r.1)) result
         (positive_field_at letter (pieces_after 32 rest.entry)) }
     ensures limit { IfOk result (λ r. 0 < r.0) }
@@ -159,7 +159,7 @@ fn read_time(bytes: &[u8]) -> Result<u32, Why>
 
 /// Writes the kind and the id of a change, and the same fields, each after a space.
 #[tactic(auto, using(crate::proofs::WrittenLemmas::starts_back, crate::proofs::RoomLemmas::lacks))]
-pub(crate) fn write_head(
+pub(crate) fn write_key_and_head(
     key: Key,
     is_visible: bool,
     meta: &Meta,

@@ -114,7 +114,7 @@ fn read_batch(alloc: Global, bytes: &[u8]) -> Result<Batch, FormError>
         }
         rest = after;
     }
-    let _changes = batch.changes();
+    batch.limits();
     Ok(batch)
 }
 

@@ -8,7 +8,7 @@ use Rattle.osm_reading.specs.Lines.{lines_of, is_skipped}
 use Rattle.osm_repl.specs.Replay.{IsWriteFault, ReplayFault, ReplayLeaves, RepliesTo}
 use Rattle.osm_repl.specs.Replies.{reply_text}
 use Rattle.osm_repl.specs.Steps.Replaying.{IsAnswered, AnswerRefused}
-use Rattle.osm_repl.specs.Script.{IsEventLine, ScriptOf, IsBadLine, said_of}
+use Rattle.osm_repl.specs.Script.{IsEventLine, ScriptOf, IsBadLine, unskipped}
 use Rattle.std.proofs.lemmas.List.{flat_map_more}
 use Rattle.osm_world.specs.Correct.{IsRun}
 use Rattle.osm_world.specs.Step.{Step}
@@ -28,9 +28,9 @@ at_line (l ∷ ls) after line (e ∷ es) h = at_line ls after line es h.1
 -- so a text with a bad line is no script
 pub bad_line_none : (script : List ℕ) (number : ℕ) → IsBadLine script number → (events : List Event) → ScriptOf script events → ⊥
 bad_line_none script number bad events is =
-    let said : said_of (lines_of script) ≡ said_of bad.before ++ bad.line ∷ said_of bad.after = ap said_of bad.parts
+    let said : unskipped (lines_of script) ≡ unskipped bad.before ++ bad.line ∷ unskipped bad.after = ap unskipped bad.parts
     ∙ rw (filter-append (λ (l : List ℕ). not (is_skipped l)) bad.before (bad.line ∷ bad.after), bad.said) refl in
-    let here : (e : Event) × IsEventLine bad.line e = at_line (said_of bad.before) (said_of bad.after) bad.line events (rw said at is) in
+    let here : (e : Event) × IsEventLine bad.line e = at_line (unskipped bad.before) (unskipped bad.after) bad.line events (rw said at is) in
     bad.none here.0 here.1
 
 -- what was read to the end is all that the reader had

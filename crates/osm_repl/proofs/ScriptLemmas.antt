@@ -11,8 +11,8 @@ use Rattle.osm_reading.specs.Sequence.{SpellsSequence}
 use Rattle.std.specs.Borrow.{Bor}
 use Rattle.std.specs.List.{AllZip}
 use Rattle.std.specs.Prelude.{IfSome, nat_eq, not, codes, Result, Ok, Err, IfErr}
-use Rattle.osm_repl.specs.Steps.Parsing.{IsEditOf, IsCloseOf, IsDeliverOf, Refused, IsSaid}
-use Rattle.osm_repl.specs.Script.{IsEventLine, ScriptOf, form_text, AreEvents, said_of}
+use Rattle.osm_repl.specs.Steps.Parsing.{IsEditOf, IsCloseOf, IsDeliverOf, Refused, IsTakenAs}
+use Rattle.osm_repl.specs.Script.{IsEventLine, ScriptOf, form_text, AreEvents, unskipped}
 use Rattle.osm_world.specs.declared.event.Event.{Event}
 use Rattle.osm_world.specs.declared.event.Event.TheVariants.{Edit, Close, Deliver, Show, Save, Restart}
 use Rattle.osm_world.specs.declared.event.Form.{Form}
@@ -146,7 +146,7 @@ pub AreEvents-more : (lines : List (List ℕ)) (events : List Event) (line : Lis
 AreEvents-more lines events line e h said is = rw (
   filter-append (λ (l : List ℕ). not (is_skipped l)) lines (line ∷ []),
   said,
-) (zip-push (said_of lines) events line e h is)
+) (zip-push (unskipped lines) events line e h is)
 
 -- the length of what is left to read, and one more for its first line
 abbrev pub left_of : Option (Bor (List ℕ)) → ℕ
@@ -196,7 +196,7 @@ read_skipped script bytes line after number events i split skipped =
 
 -- one more line is passed, which is an event
 pub read_event : (script : List ℕ) (bytes : Bor (List ℕ)) (line : List ℕ) (after : Option (Bor (List ℕ))) (number : ℕ) (events : List Event) (event : Event)
-    → IsReadTo script (Some bytes) number events → IsSplit bytes.now line after → IsSaid line (Some event)
+    → IsReadTo script (Some bytes) number events → IsSplit bytes.now line after → IsTakenAs line (Some event)
     → IsReadTo script after (number + 1) (events ++ event ∷ [])
 read_event script bytes line after number events event i split said =
     let less : left_of after ≤ length bytes.now = left_after after (length bytes.now) split.shorter in

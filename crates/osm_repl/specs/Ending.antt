@@ -7,20 +7,20 @@ use Rattle.clap.specs.declared.error.Error.{Error as ClapError}
 use Rattle.clap.specs.declared.error.kind.ErrorKind.{ErrorKind}
 use Rattle.clap.specs.declared.error.kind.ErrorKind.TheVariants as kinds
 use Rattle.osm_repl.specs.declared.ending.Ending.{Ending}
-use Rattle.osm_repl.specs.declared.ending.Said.{Said}
-use Rattle.osm_repl.specs.declared.ending.Said.TheVariants.{ByClap, Fault, NotText}
+use Rattle.osm_repl.specs.declared.ending.Message.{Message}
+use Rattle.osm_repl.specs.declared.ending.Message.TheVariants.{ByClap, Fault, NotText}
 use Rattle.osm_repl.specs.declared.ending.Stream.TheVariants.{Output, Error}
 use Rattle.osm_folder.specs.Faults.{status_of}
 use Rattle.osm_folder.specs.declared.fault.RunFault.{RunFault}
 use Rattle.osm_folder.specs.declared.fault.RunFault.TheVariants.{WantOfMemory}
 
 -- words that aren't taken end the program with status 2
-abbrev pub refused_words : Said → Ending
-refused_words said = record { said = said; stream = Error; status = 2 }
+abbrev pub refused_words : Message → Ending
+refused_words message = record { message = message; stream = Error; status = 2 }
 
 -- a fault is said on standard error, and the status is that of the fault
 abbrev pub ending_of_fault : RunFault → Ending
-ending_of_fault fault = record { said = Fault fault; stream = Error; status = status_of fault }
+ending_of_fault fault = record { message = Fault fault; stream = Error; status = status_of fault }
 
 -- an error of clap of that kind: help and the version go to standard output, and the status is 0;
 -- if clap is out of memory, that is a fault; for any other kind clap's text goes to standard error,
@@ -28,9 +28,9 @@ ending_of_fault fault = record { said = Fault fault; stream = Error; status = st
 abbrev pub ending_by_kind : ErrorKind → Bor ClapError → Ending
 ending_by_kind kinds.OutOfMemory error = ending_of_fault WantOfMemory
 ending_by_kind kinds.DisplayHelp error =
-    record { said = ByClap error; stream = Output; status = 0 }
+    record { message = ByClap error; stream = Output; status = 0 }
 ending_by_kind kinds.DisplayVersion error =
-    record { said = ByClap error; stream = Output; status = 0 }
+    record { message = ByClap error; stream = Output; status = 0 }
 ending_by_kind kind error = refused_words (ByClap error)
 
 -- an error of clap, by its kind

@@ -47,20 +47,20 @@ IsEventLine line Save = line ≡ codes "save"
 IsEventLine line Restart = line ≡ codes "restart"
 
 -- the lines that aren't skipped
-abbrev pub said_of : List (List ℕ) → List (List ℕ)
-said_of lines = filter (λ line. not (is_skipped line)) lines
+abbrev pub unskipped : List (List ℕ) → List (List ℕ)
+unskipped lines = filter (λ line. not (is_skipped line)) lines
 
 -- those lines are the events, one by one
 abbrev pub AreEvents : List (List ℕ) → List Event → Type 0
-AreEvents lines events = AllZip IsEventLine (said_of lines) events
+AreEvents lines events = AllZip IsEventLine (unskipped lines) events
 
 -- the text is a script of those events
 abbrev pub ScriptOf : List ℕ → List Event → Type 0
 ScriptOf script events = AreEvents (lines_of script) events
 
 -- a text with a line that isn't skipped
-abbrev pub SaysSome : List ℕ → Type 0
-SaysSome script = 0 < length (said_of (lines_of script))
+abbrev pub HasUnskipped : List ℕ → Type 0
+HasUnskipped script = 0 < length (unskipped (lines_of script))
 
 -- the line of that number, counted from 1 over all lines, is the first that is neither skipped nor
 -- an event
@@ -78,6 +78,6 @@ pub record IsBadLine (script : List ℕ) (number : ℕ) : Type 0 where
 -- a script with a line that isn't skipped may be refused for memory, and any script at its first
 -- line that is no event
 abbrev pub ScriptRefused : List ℕ → RunFault → Type 0
-ScriptRefused script WantOfMemory = SaysSome script
+ScriptRefused script WantOfMemory = HasUnskipped script
 ScriptRefused script (BadScript line) = IsBadLine script line
 ScriptRefused script fault = ⊥

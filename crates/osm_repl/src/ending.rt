@@ -17,7 +17,7 @@ pub enum Stream {
 
 /// What is said last.
 #[derive(Clone, Copy)]
-pub enum Said<'a> {
+pub enum Message<'a> {
     /// The text that `clap` made about the words.
     ByClap(&'a Error),
     /// One line, `osmrepl: ` and the fault.
@@ -29,25 +29,25 @@ pub enum Said<'a> {
 /// How a run ends that has nothing to print, or can't print it.
 #[derive(Clone, Copy)]
 pub struct Ending<'a> {
-    pub said: Said<'a>,
+    pub message: Message<'a>,
     pub stream: Stream,
     pub status: u8,
 }
 
 /// The ending if `clap` answers the words with that error: help and the version go to standard
 /// output with status 0, a refusal of the words to standard error with 2.
-pub fn explained<'a>(error: &'a Error) -> Ending<'a>
+pub fn ending_of_error<'a>(error: &'a Error) -> Ending<'a>
     ensures { result ≡ ending_of_error error.entry }
 {
     match error.kind() {
-        ErrorKind::OutOfMemory => reported(RunFault::WantOfMemory),
+        ErrorKind::OutOfMemory => ending_of_fault(RunFault::WantOfMemory),
         ErrorKind::DisplayHelp | ErrorKind::DisplayVersion => Ending {
-            said: Said::ByClap(error),
+            message: Message::ByClap(error),
             stream: Stream::Output,
             status: 0,
         },
         _ => Ending {
-            said: Said::ByClap(error),
+            message: Message::ByClap(error),
             stream: Stream::Error,
             status: 2,
         },
@@ -56,13 +56,13 @@ pub fn explained<'a>(error: &'a Error) -> Ending<'a>
 
 /// The ending if reading the words of the command line fails with an error of that kind: unless
 /// memory was refused, one of them isn't text, which is a refusal of the words.
-pub fn unread<'a>(kind: io::ErrorKind) -> Ending<'a>
+pub fn ending_of_unread<'a>(kind: io::ErrorKind) -> Ending<'a>
     ensures { result ≡ ending_of_unread kind }
 {
     match kind {
-        io::ErrorKind::OutOfMemory => reported(RunFault::WantOfMemory),
+        io::ErrorKind::OutOfMemory => ending_of_fault(RunFault::WantOfMemory),
         _ => Ending {
-            said: Said::NotText,
+            message: Message::NotText,
             stream: Stream::Error,
             status: 2,
         },
@@ -70,11 +70,11 @@ pub fn unread<'a>(kind: io::ErrorKind) -> Ending<'a>
 }
 
 /// The ending after a fault.
-pub fn reported<'a>(fault: RunFault) -> Ending<'a>
+pub fn ending_of_fault<'a>(fault: RunFault) -> Ending<'a>
     ensures { result ≡ ending_of_fault fault }
 {
     Ending {
-        said: Said::Fault(fault),
+        message: Message::Fault(fault),
         stream: Stream::Error,
         status: fault.status(),
     }

@@ -1,7 +1,8 @@
 //! Carrying out what the words of the command line ask for.
 
-ghost use Rattle.std.specs.Prelude.{◌≡◌, ℕ, ◌≤◌, List, IsTrue, IfOk, IfErr, OnOk, OnErr};
+ghost use Rattle.std.specs.Prelude.{◌≡◌, ℕ, ◌≤◌, List, IfOk, IfErr, OnOk, OnErr};
 ghost use Rattle.osm_folder.specs.Files.{Spends};
+ghost use Rattle.osm_folder.specs.Frames.{IsKnown};
 ghost use Rattle.osm_folder.specs.Runs.{Blames};
 ghost use Rattle.osm_repl.specs.Execution.{Does, DoesOver, IsDone, IsNotDone, IsNotReplayed};
 ghost use Rattle.osm_repl.specs.Execution.{IsOverFiles, IsReplayed, IsReportOf, IsUntouched};
@@ -33,13 +34,13 @@ pub fn execute<S: Store, R: Read, W: Write>(
     reader: &mut R,
     writer: &mut W,
 ) -> Result<u8, RunFault>
-    ensures done { IsOverFiles order.entry → IfOk result
-        (IsDone (IsTrue (S.tells store.old)) order.entry (S.told store.old) (S.told store.new)
-        (W.contents writer.old) (W.contents writer.new)) }
-    ensures not_done { IsOverFiles order.entry → IfErr result
-        (IsNotDone (IsTrue (S.tells store.old)) order.entry (S.told store.old) (S.told store.new)
-        (S.failures store.old) (S.failures store.new)
-        (W.contents writer.old) (W.contents writer.new)) }
+    ensures done { IsOverFiles order.entry
+        → IfOk result (IsDone (IsKnown (S.state store.old)) order.entry (S.state store.old).files
+        (S.state store.new).files (W.contents writer.old) (W.contents writer.new)) }
+    ensures not_done { IsOverFiles order.entry
+        → IfErr result (IsNotDone (IsKnown (S.state store.old)) order.entry
+        (S.state store.old).files (S.state store.new).files (S.state store.old).failures
+        (S.state store.new).failures (W.contents writer.old) (W.contents writer.new)) }
     ensures silent { IsOverFiles order.entry → reader.new ≡ reader.old }
     ensures replayed { order.entry ≡ Order.Replay → IfOk result (IsReplayed (R.remaining reader.old)
         (W.contents writer.old) (W.contents writer.new)) }
@@ -47,13 +48,13 @@ pub fn execute<S: Store, R: Read, W: Write>(
         (IsNotReplayed (R.remaining reader.old) (R.remaining reader.new)
         (W.contents writer.old) (W.contents writer.new)) }
     ensures idle { order.entry ≡ Order.Replay → store.new ≡ store.old }
-    ensures untouched { IsTrue (S.tells store.old) → (name : List ℕ) → IsUntouched order.entry name
-        → S.told store.new name ≡ S.told store.old name }
-    ensures tells { S.tells store.new ≡ S.tells store.old }
+    ensures untouched { IsKnown (S.state store.old) → (name : List ℕ) → IsUntouched order.entry name
+        → (S.state store.new).files name ≡ (S.state store.old).files name }
+    ensures known { (S.state store.new).is_known ≡ (S.state store.old).is_known }
     ensures left { OnOk result
-        (Spends (calls_of order.entry) (S.left store.old) (S.left store.new)) }
-    ensures left_after { Spends 0 (S.left store.old) (S.left store.new) }
-    ensures kept { S.failures store.old ≤ S.failures store.new }
+        (Spends (calls_of order.entry) (S.state store.old).left (S.state store.new).left) }
+    ensures left_after { Spends 0 (S.state store.old).left (S.state store.new).left }
+    ensures kept { (S.state store.old).failures ≤ (S.state store.new).failures }
 {
     match order {
         Order::Replay => replay(alloc, reader, writer),
@@ -79,20 +80,19 @@ fn run_and_print<S: Store, W: Write>(
     writer: &mut W,
 ) -> Result<u8, RunFault>
     requires { IsOverFiles order }
-    ensures done { IfOk result
-        (IsDone (IsTrue (S.tells store.old)) order.entry (S.told store.old) (S.told store.new)
-        (W.contents writer.old) (W.contents writer.new)) }
-    ensures not_done { IfErr result
-        (IsNotDone (IsTrue (S.tells store.old)) order.entry (S.told store.old) (S.told store.new)
-        (S.failures store.old) (S.failures store.new)
-        (W.contents writer.old) (W.contents writer.new)) }
-    ensures untouched { IsTrue (S.tells store.old) → (name : List ℕ) → IsUntouched order.entry name
-        → S.told store.new name ≡ S.told store.old name }
-    ensures tells { S.tells store.new ≡ S.tells store.old }
+    ensures done { IfOk result (IsDone (IsKnown (S.state store.old)) order.entry
+        (S.state store.old).files (S.state store.new).files (W.contents writer.old)
+        (W.contents writer.new)) }
+    ensures not_done { IfErr result (IsNotDone (IsKnown (S.state store.old)) order.entry
+        (S.state store.old).files (S.state store.new).files (S.state store.old).failures
+        (S.state store.new).failures (W.contents writer.old) (W.contents writer.new)) }
+    ensures untouched { IsKnown (S.state store.old) → (name : List ℕ) → IsUntouched order.entry name
+        → (S.state store.new).files name ≡ (S.state store.old).files name }
+    ensures known { (S.state store.new).is_known ≡ (S.state store.old).is_known }
     ensures left { OnOk result
-        (Spends (calls_of order.entry) (S.left store.old) (S.left store.new)) }
-    ensures left_after { Spends 0 (S.left store.old) (S.left store.new) }
-    ensures kept { S.failures store.old ≤ S.failures store.new }
+        (Spends (calls_of order.entry) (S.state store.old).left (S.state store.new).left) }
+    ensures left_after { Spends 0 (S.state store.old).left (S.state store.new).left }
+    ensures kept { (S.state store.old).failures ≤ (S.state store.new).failures }
 {
     let report = run(alloc, order, store)?;
     write_text(writer, report.text())?;
@@ -102,25 +102,26 @@ fn run_and_print<S: Store, W: Write>(
 // The report of an order's run.
 fn run<S: Store>(alloc: Global, order: Order<'_>, store: &mut S) -> Result<Report, RunFault>
     requires { IsOverFiles order }
-    ensures does { IfOk result (λ report. IsTrue (S.tells store.old)
-        → Does order.entry (S.told store.old) (S.told store.new) report) }
-    ensures over { IfOk result (λ report. IsTrue (S.tells store.old)
-        → DoesOver order.entry (S.told store.old) (S.told store.new) report) }
+    ensures does { IfOk result (λ report. IsKnown (S.state store.old)
+        → Does order.entry (S.state store.old).files (S.state store.new).files report) }
+    ensures over { IfOk result (λ report. IsKnown (S.state store.old)
+        → DoesOver order.entry (S.state store.old).files (S.state store.new).files report) }
     ensures report { IfOk result (IsReportOf order.entry) }
-    ensures stops { IfErr result
-        (RunStops (IsTrue (S.tells store.old)) order.entry (S.told store.old) (S.told store.new)) }
-    ensures refuses { IfErr result (λ fault. IsTrue (S.tells store.old)
-        → StopsOver order.entry (S.told store.old) (S.told store.new) fault) }
-    ensures leaves { OnErr result
-        (Leaves (IsTrue (S.tells store.old)) order.entry (S.told store.old) (S.told store.new)) }
-    ensures device { IfErr result (Blames (S.failures store.old) (S.failures store.new)) }
-    ensures untouched { IsTrue (S.tells store.old) → (name : List ℕ) → IsUntouched order.entry name
-        → S.told store.new name ≡ S.told store.old name }
-    ensures tells { S.tells store.new ≡ S.tells store.old }
+    ensures stops { IfErr result (RunStops (IsKnown (S.state store.old)) order.entry
+        (S.state store.old).files (S.state store.new).files) }
+    ensures refuses { IfErr result (λ fault. IsKnown (S.state store.old)
+        → StopsOver order.entry (S.state store.old).files (S.state store.new).files fault) }
+    ensures leaves { OnErr result (Leaves (IsKnown (S.state store.old)) order.entry
+        (S.state store.old).files (S.state store.new).files) }
+    ensures device { IfErr result
+        (Blames (S.state store.old).failures (S.state store.new).failures) }
+    ensures untouched { IsKnown (S.state store.old) → (name : List ℕ) → IsUntouched order.entry name
+        → (S.state store.new).files name ≡ (S.state store.old).files name }
+    ensures known { (S.state store.new).is_known ≡ (S.state store.old).is_known }
     ensures left { OnOk result
-        (Spends (calls_of order.entry) (S.left store.old) (S.left store.new)) }
-    ensures left_after { Spends 0 (S.left store.old) (S.left store.new) }
-    ensures kept { S.failures store.old ≤ S.failures store.new }
+        (Spends (calls_of order.entry) (S.state store.old).left (S.state store.new).left) }
+    ensures left_after { Spends 0 (S.state store.old).left (S.state store.new).left }
+    ensures kept { (S.state store.old).failures ≤ (S.state store.new).failures }
 {
     match order {
         Order::Publish { dir, changes, now } => publish_run(alloc, store, dir, changes, now),

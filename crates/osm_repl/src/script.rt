@@ -8,7 +8,7 @@ ghost use Rattle.osm_repl.specs.Script.{IsEventLine, ScriptOf, ScriptRefused, fo
 ghost use Rattle.osm_world.specs.declared.event.Event.{Event};
 ghost use Rattle.osm_world.specs.declared.event.Form.{Form};
 ghost use Rattle.osm_repl.specs.Steps.Parsing.{AllAreTaken, IsCloseOf, IsDeliverOf, IsEditOf};
-ghost use Rattle.osm_repl.specs.Steps.Parsing.{IsSaid, LineRefused, Refused};
+ghost use Rattle.osm_repl.specs.Steps.Parsing.{IsTakenAs, LineRefused, Refused};
 
 use osm_folder::fault::RunFault;
 use osm_model::memory::WantOfMemory;
@@ -93,7 +93,7 @@ pub(crate) fn send_events<S: EventSink>(
 
 // The event of the line with that number; None if it is skipped.
 fn line_event(alloc: Global, line: &[u8], number: u64) -> Result<Option<Event>, RunFault>
-    ensures said { IfOk result (IsSaid line.now) }
+    ensures taken { IfOk result (IsTakenAs line.now) }
     ensures refused { IfErr result (LineRefused line.now number) }
 {
     if is_skipped_line(line) {

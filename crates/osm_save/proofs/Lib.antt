@@ -6,6 +6,7 @@ pub mod TextLemmas
 pub mod LineLemmas
 pub mod ListLemmas
 pub mod MirrorLemmas
+pub mod HeadLemmas
 pub mod SaveLemmas
 pub mod StandardFacts
 pub mod LengthLemmas

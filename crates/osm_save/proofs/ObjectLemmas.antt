@@ -5,7 +5,7 @@ use Rattle.std.specs.Str.{bytes_eq}
 use Rattle.std.proofs.lemmas.Option.{same_Some}
 use Rattle.std.proofs.lemmas.Slice.Eq.{bytes_eq-Decides}
 use Rattle.osm_model.specs.Change.{ChangeValue}
-use Rattle.osm_model.specs.Content.{standing_as, standing_of}
+use Rattle.osm_model.specs.Content.{object_as, object_after}
 use Rattle.osm_model.specs.KeyOrder.{key_cmp}
 use Rattle.osm_model.specs.declared.change.What.{What}
 use Rattle.osm_model.specs.declared.change.What.TheVariants.{Deleted, Node, Relation, Way}
@@ -28,7 +28,7 @@ no_change line none = by_reading (line_at line) refl
     by_reading (Some c) e = absurd (none c (line_takes line c e))
 
 abbrev is_kept : Option Key → List ℕ → ChangeValue → Bool
-is_kept last line c = bytes_eq (line_text c) line && is_some (standing_of c) && is_above key_cmp last c.key
+is_kept last line c = bytes_eq (line_text c) line && is_some (object_after c) && is_above key_cmp last c.key
 
 -- what is read from a line
 pub record TakesObject (last : Option Key) (line : List ℕ) (c : ChangeValue) : Type 0 where
@@ -36,22 +36,22 @@ pub record TakesObject (last : Option Key) (line : List ℕ) (c : ChangeValue) :
   pub object : IsObject c
   pub above : is_above key_cmp last c.key ≡ true
 
-stands_as : (c : ChangeValue) (w : What) → is_some (standing_as c w) ≡ true → standing_as c w ≡ Some c
-stands_as c Deleted e = absurd cc
-stands_as c (Node lon lat tags) e = refl
-stands_as c (Way refs tags) e = refl
-stands_as c (Relation members tags) e = refl
+left_as : (c : ChangeValue) (w : What) → is_some (object_as c w) ≡ true → object_as c w ≡ Some c
+left_as c Deleted e = absurd cc
+left_as c (Node lon lat tags) e = refl
+left_as c (Way refs tags) e = refl
+left_as c (Relation members tags) e = refl
 
 pub object_takes : (last : Option Key) (line : List ℕ) (c : ChangeValue) → object_at last line ≡ Some c → TakesObject last line c
 unfolding object_at
 object_takes last line c e =
     let r = some_then (line_at line) (λ (d : ChangeValue). if is_kept last line d then Some d else None) c e in
     let g = guard_some (is_kept last line r.0) (Some r.0) c r.2 in
-    let p = both_held (bytes_eq (line_text r.0) line && is_some (standing_of r.0)) (is_above key_cmp last r.0.key) g.0 in
-    let q = both_held (bytes_eq (line_text r.0) line) (is_some (standing_of r.0)) p.0 in
+    let p = both_held (bytes_eq (line_text r.0) line && is_some (object_after r.0)) (is_above key_cmp last r.0.key) g.0 in
+    let q = both_held (bytes_eq (line_text r.0) line) (is_some (object_after r.0)) p.0 in
     subst (λ (d : ChangeValue). TakesObject last line d) (same_Some r.0 c g.1) (record {
       text = sym ((bytes_eq-Decides (line_text r.0) line).0 q.0);
-      object = record { limits = (line_takes line r.0 r.1).limits; stands = stands_as r.0 r.0.what q.1 };
+      object = record { limits = (line_takes line r.0 r.1).limits; is_left = left_as r.0 r.0.what q.1 };
       above = p.1;
     })
 
@@ -61,5 +61,5 @@ unfolding object_at
 object_again last c is above =
     let line : line_at (line_text c) ≡ Some c = line_again (line_text c) c (line_spells c is.limits) in
     let same : bytes_eq (line_text c) (line_text c) ≡ true = (bytes_eq-Decides (line_text c) (line_text c)).1 refl in
-    let stands : is_some (standing_of c) ≡ true = ap is_some is.stands in
-    rw (line, same, stands, above) refl
+    let is_left : is_some (object_after c) ≡ true = ap is_some is.is_left in
+    rw (line, same, is_left, above) refl

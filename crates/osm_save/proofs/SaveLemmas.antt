@@ -1,6 +1,6 @@
 -- What is read from a save text is what it saves, and what a save text saves is read from it.
 use Rattle.std.proofs.Common.{◌≡◌, ℕ, ◌*◌, ◌<◌, ◌≤◌, List, [], ◌∷◌, ◌++◌, length, refl, ap, sym, ◌∙◌, true, Some, None, Option, subst, arith}
-use Rattle.std.specs.Prelude.{◌==◌, if◌then◌else◌, codes, decimal}
+use Rattle.std.specs.Prelude.{◌==◌, if◌then◌else◌, codes}
 use Rattle.std.proofs.lemmas.Bool.Decides.{nat_tests}
 use Rattle.std.proofs.lemmas.Option.{same_Some}
 use Rattle.osm_model.specs.Change.{ChangeValue}
@@ -9,11 +9,14 @@ use Rattle.osm_mirror.specs.Mirror.{Counted, IsMirror, IsWithin}
 use Rattle.osm_reading.specs.Pieces.{Lacks}
 use Rattle.osm_reading.specs.Steps.Answers.{and_then}
 use Rattle.osm_reading.proofs.StepLemmas.{guard_some, some_then}
-use Rattle.osm_save.specs.Save.{IsSavable, IsTimeOf, SpellsSave, count_text, ended, list_lines, maybe_time_text, save_text}
+use Rattle.osm_save.specs.Save.{IsSavable, IsTimeOf, SpellsSave, count_text, ended, list_lines, save_text}
 use Rattle.osm_opl.specs.Written.{line_text}
-use Rattle.osm_save.specs.Steps.Reading.{counts_at, fixed_at, mirror_at, numbered_at, objects_at, save_at, time_line_at}
+use Rattle.osm_save.specs.Head.{head_of}
+use Rattle.osm_save.specs.Steps.Reading.{counts_at, fixed_at, head_at, mirror_at, objects_at, save_at}
+use Rattle.osm_save.specs.declared.head.Head.{Head}
 use Rattle.osm_save.specs.declared.save.Saved.{Saved}
-use Rattle.osm_save.proofs.LineLemmas.{fixed_again, fixed_takes, numbered_again, numbered_takes, time_line_again, time_line_takes}
+use Rattle.osm_save.proofs.HeadLemmas.{head_again, head_before, head_takes}
+use Rattle.osm_save.proofs.LineLemmas.{fixed_again, fixed_takes}
 use Rattle.osm_save.proofs.MirrorLemmas.{TakesCounts, TakesObjects, above_of, counts_again, counts_most, counts_take}
 use Rattle.osm_save.proofs.MirrorLemmas.{each_within, numbers_of, objects_again, objects_take}
 use Rattle.osm_save.proofs.TextLemmas.{mirror_text, save_text_is}
@@ -104,94 +107,29 @@ mirror_takes number time bytes v few e =
     (counts_take (codes "changesets ") (100000 * number) u.0.1 s.0 small s.1)
     (fixed_takes (codes "end") s.0.1 f.0 f.1) (nothing_left f.0 g.0))
 
-lines_joined : (bytes first n t : List ℕ) (number : ℕ) (time : Option ℕ) (v : Saved) → bytes ≡ codes "osmrepl-save 1"
-    ++ 10 ∷ first → first ≡ (codes "sequence " ++ decimal number) ++ 10 ∷ n
-    → n ≡ (codes "time " ++ maybe_time_text time) ++ 10 ∷ t → TakesMirror number time t v → bytes ≡ save_text v
-lines_joined bytes first n t number time v p q r m =
-    p ∙ (ap (λ (l : List ℕ). codes "osmrepl-save 1" ++ 10 ∷ l)
-    (q ∙ rw (← m.number_is) (ap (λ (l : List ℕ). (codes "sequence " ++ decimal v.number) ++ 10 ∷ l)
-    (r ∙ rw (← m.time_is) (ap (λ (l : List ℕ). (codes "time " ++ maybe_time_text v.time) ++ 10 ∷ l) m.text))))
-    ∙ sym (save_text_is v))
+lines_joined : (bytes rest : List ℕ) (head : Head) (v : Saved) → bytes ≡ head_before head rest
+    → TakesMirror head.number head.time rest v → bytes ≡ save_text v
+lines_joined bytes rest head v p m =
+    p ∙ (rw (← m.number_is, ← m.time_is) (ap (head_before (head_of v)) m.text) ∙ sym (save_text_is v))
 
 pub save_takes : (bytes : List ℕ) (v : Saved) → save_at bytes ≡ Some v → SpellsSave bytes v
 unfolding save_at
 save_takes bytes v e =
-    let f = some_then (fixed_at (codes "osmrepl-save 1") bytes) (λ (first : List ℕ). and_then {A = ℕ × List ℕ} {B =
-    Saved} (numbered_at (codes "sequence ") max_sequence first)
-    (λ (n : ℕ × List ℕ). and_then {A = Option ℕ × List ℕ} {B = Saved} (time_line_at n.0 n.1)
-    (λ (t : Option ℕ × List ℕ). mirror_at n.0 t.0 t.1))) v e in
-    let n = some_then (numbered_at (codes "sequence ") max_sequence f.0)
-    (λ (n : ℕ × List ℕ). and_then {A = Option ℕ × List ℕ} {B = Saved} (time_line_at n.0 n.1)
-    (λ (t : Option ℕ × List ℕ). mirror_at n.0 t.0 t.1)) v f.2 in
-    let t = some_then (time_line_at n.0.0 n.0.1) (λ (t : Option ℕ × List ℕ). mirror_at n.0.0 t.0 t.1) v n.2 in
-    let sequence = numbered_takes (codes "sequence ") max_sequence f.0 n.0 n.1 in
-    let time = time_line_takes n.0.0 n.0.1 t.0 t.1 in
-    let m = mirror_takes n.0.0 t.0.0 t.0.1 v sequence.few t.2 in
+    let h = some_then (head_at bytes) (λ (h : Head × List ℕ). mirror_at h.0.number h.0.time h.1) v e in
+    let head = head_takes bytes h.0 h.1 in
+    let m = mirror_takes h.0.0.number h.0.0.time h.0.1 v head.few h.2 in
     record {
       savable = record {
-        number = subst (λ (k : ℕ). k ≤ max_sequence) (sym m.number_is) sequence.few;
-        time = subst (λ (k : ℕ). IsTimeOf k v.time) (sym m.number_is) (subst (λ (o : Option ℕ). IsTimeOf n.0.0 o) (sym m.time_is) time.is_time);
+        number = subst (λ (k : ℕ). k ≤ max_sequence) (sym m.number_is) head.few;
+        time = subst (λ (k : ℕ). IsTimeOf k v.time) (sym m.number_is)
+            (subst (λ (o : Option ℕ). IsTimeOf h.0.0.number o) (sym m.time_is) head.is_time);
         mirror = m.mirror;
         within = subst (λ (k : ℕ). IsWithin (100000 * k) v.mirror) (sym m.number_is) m.within;
       };
-      text = lines_joined bytes f.0 n.0.1 t.0.1 n.0.0 t.0.0 v (fixed_takes (codes "osmrepl-save 1") bytes f.0 f.1) sequence.text time.is_text m;
+      text = lines_joined bytes h.0.1 h.0.0 v head.text m;
     }
 
 -- ---- what is saved is read
-
-first_lacks : Lacks 10 (codes "osmrepl-save 1")
-first_lacks = (
-  (λ e. omega (arith, e)),
-  (
-    (λ e. omega (arith, e)),
-    (
-      (λ e. omega (arith, e)),
-      (
-        (λ e. omega (arith, e)),
-        (
-          (λ e. omega (arith, e)),
-          (
-            (λ e. omega (arith, e)),
-            (
-              (λ e. omega (arith, e)),
-              (
-                (λ e. omega (arith, e)),
-                (
-                  (λ e. omega (arith, e)),
-                  (
-                    (λ e. omega (arith, e)),
-                    (
-                      (λ e. omega (arith, e)),
-                      ((λ e. omega (arith, e)), ((λ e. omega (arith, e)), ((λ e. omega (arith, e)), tt))),
-                    ),
-                  ),
-                ),
-              ),
-            ),
-          ),
-        ),
-      ),
-    ),
-  ),
-)
-
-sequence_lacks : Lacks 10 (codes "sequence ")
-sequence_lacks = (
-  (λ e. omega (arith, e)),
-  (
-    (λ e. omega (arith, e)),
-    (
-      (λ e. omega (arith, e)),
-      (
-        (λ e. omega (arith, e)),
-        (
-          (λ e. omega (arith, e)),
-          ((λ e. omega (arith, e)), ((λ e. omega (arith, e)), ((λ e. omega (arith, e)), ((λ e. omega (arith, e)), tt)))),
-        ),
-      ),
-    ),
-  ),
-)
 
 users_lack : Lacks 10 (codes "users ")
 users_lack = (
@@ -254,13 +192,9 @@ mirror_again v is =
 pub save_again : (v : Saved) → IsSavable v → save_at (save_text v) ≡ Some v
 unfolding save_at
 save_again v is =
-    let few : v.number ≤ max_sequence = is.number in
-    let first = fixed_again (codes "osmrepl-save 1") ((codes "sequence " ++ decimal v.number)
-    ++ 10 ∷ ((codes "time " ++ maybe_time_text v.time) ++ 10 ∷ mirror_text v.mirror)) first_lacks in
-    let sequence = numbered_again (codes "sequence ") max_sequence v.number ((codes "time " ++ maybe_time_text v.time)
-    ++ 10 ∷ mirror_text v.mirror) sequence_lacks is.number (omega (arith, few)) in
-    let time = time_line_again v.number v.time (mirror_text v.mirror) is.time in
-    rw (save_text_is v, first, sequence, time) (mirror_again v is)
+    let head : head_at (head_before (head_of v) (mirror_text v.mirror)) ≡ Some (head_of v, mirror_text v.mirror) =
+    head_again (head_of v) (mirror_text v.mirror) is.number is.time in
+    rw (save_text_is v, head) (mirror_again v is)
 
 pub save_found : (bytes : List ℕ) (v : Saved) → SpellsSave bytes v → save_at bytes ≡ Some v
 save_found bytes v s = ap save_at s.text ∙ save_again v s.savable

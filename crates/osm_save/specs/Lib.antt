@@ -1,3 +1,4 @@
 pub mod Save
+pub mod Head
 pub mod Refusal
 pub mod Steps

@@ -2,6 +2,7 @@
 #![tactic(auto)]
 
 mod counts;
+pub mod head;
 mod lines;
 mod numbers;
 mod objects;

@@ -71,3 +71,14 @@ pub(crate) fn write_numbered(
     out.push(b'\n')?;
     Ok(())
 }
+
+/// The number, counted from 1, of the line at whose start `left` bytes are left.
+pub(crate) fn line_number(bytes: &[u8], left: usize) -> u64 {
+    let mut number: u64 = 1;
+    for byte in bytes.iter().take(bytes.len().saturating_sub(left)) {
+        if *byte == b'\n' {
+            number = number.saturating_add(1);
+        }
+    }
+    number
+}

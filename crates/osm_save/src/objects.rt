@@ -4,7 +4,7 @@ ghost use Rattle.std.specs.Prelude.{◌≡◌, ◌++◌, ◌∷◌, ◌&&◌, []
 ghost use Rattle.std.specs.Prelude.{is_some, IfOk, OnOk};
 ghost use Rattle.std.specs.Str.{bytes_eq};
 ghost use Rattle.osm_model.specs.Change.{ChangeValue};
-ghost use Rattle.osm_model.specs.Content.{standing_of};
+ghost use Rattle.osm_model.specs.Content.{object_after};
 ghost use Rattle.osm_model.specs.KeyOrder.{key_cmp};
 ghost use Rattle.osm_opl.specs.Steps.Reading.{line_at};
 ghost use Rattle.osm_opl.specs.Written.{line_text};
@@ -117,7 +117,7 @@ fn is_next(
     written: &mut Vec<u8>,
 ) -> Result<bool, WantOfMemory>
     ensures { IfOk result (λ r. r ≡ (bytes_eq (line_text change.now) line.now
-        && is_some (standing_of change.now) && is_above key_cmp last change.now.key)) }
+        && is_some (object_after change.now) && is_above key_cmp last change.now.key)) }
 {
     written.clear();
     write_line(change, written)?;
@@ -126,7 +126,7 @@ fn is_next(
 
 // Whether the change leaves an object: it isn't a deletion.
 fn leaves_object(change: &Change) -> bool
-    ensures { result ≡ is_some (standing_of change.now) }
+    ensures { result ≡ is_some (object_after change.now) }
 {
     !change.is_deletion()
 }

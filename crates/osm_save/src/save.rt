@@ -13,25 +13,23 @@
 //! end
 //! ```
 
-ghost use Rattle.std.specs.Prelude.{◌≡◌, ◌*◌, ◌<◌, ◌≤◌, ◌++◌, ◌∷◌, [], List, ℕ, Option, codes};
-ghost use Rattle.std.specs.Prelude.{decimal, length, vec_capacity, IfOk, IfErr, OnErr, OnOk};
+ghost use Rattle.std.specs.Prelude.{◌≡◌, ◌*◌, ◌<◌, ◌≤◌, [], List, ℕ, Option, length};
+ghost use Rattle.std.specs.Prelude.{vec_capacity, IfOk, IfErr, OnErr};
 ghost use Rattle.osm_model.specs.Limits.{max_sequence};
 ghost use Rattle.osm_mirror.specs.Mirror.{HoldsSome, IsWithin};
-ghost use Rattle.osm_opl.specs.Steps.Reading.{time_at};
 ghost use Rattle.osm_save.specs.Refusal.{SaveRefused};
-ghost use Rattle.osm_save.specs.Save.{IsSavable, IsTimeOf, SpellsSave, ended, maybe_time_text};
-ghost use Rattle.osm_save.specs.Save.{save_text};
-ghost use Rattle.osm_save.specs.Steps.Answers.{Finds, Gives};
-ghost use Rattle.osm_save.specs.Steps.Reading.{mirror_at, save_at, time_line_at};
+ghost use Rattle.osm_save.specs.Save.{IsSavable, IsTimeOf, SpellsSave, save_text};
+ghost use Rattle.osm_save.specs.Steps.Answers.{Gives};
+ghost use Rattle.osm_save.specs.Steps.Reading.{mirror_at, save_at};
 
 use crate::counts::{read_counts, write_counts};
-use crate::lines::{fixed_line, next_line, numbered_line, write_numbered};
+use crate::head::{Head, read_head, write_head};
+use crate::lines::{fixed_line, line_number};
 use crate::objects::{read_objects, write_objects};
 use crate::stop::Stop;
 use osm_mirror::mirror::Mirror;
-use osm_model::limits::{MAX_CHANGES, MAX_SEQUENCE};
+use osm_model::limits::MAX_CHANGES;
 use osm_model::memory::WantOfMemory;
-use osm_model::time::{time_read, time_write};
 use std::alloc::Global;
 use thiserror::Error;
 
@@ -78,9 +76,9 @@ pub fn save_write(
           mirror = mirror.now;
         })) }
 {
-    mirror.lists_rise();
+    mirror.limits();
     let mut text = room_for_text(alloc, mirror)?;
-    write_start(number, time, &mut text)?;
+    write_head(Head { number, time }, &mut text)?;
     write_objects(mirror.objects_by_key(), &mut text)?;
     write_counts(b"users ", mirror.user_counts(), &mut text)?;
     write_counts(b"changesets ", mirror.changeset_counts(), &mut text)?;
@@ -118,35 +116,6 @@ fn least_length(mirror: &Mirror) -> usize
     objects.saturating_add(users).saturating_add(changesets)
 }
 
-// Appends the lines before the lists.
-fn write_start(number: u32, time: Option<u32>, out: &mut Vec<u8>) -> Result<(), WantOfMemory>
-    ensures { OnOk result (out.new.items ≡ out.old.items ++ ended (codes "osmrepl-save 1"
-        ∷ (codes "sequence " ++ decimal number) ∷ (codes "time " ++ maybe_time_text time) ∷ [])) }
-{
-    out.extend_from_slice(b"osmrepl-save 1\n")?;
-    write_numbered(b"sequence ", number as u64, out)?;
-    write_time_line(time, out)?;
-    Ok(())
-}
-
-fn write_time_line(time: Option<u32>, out: &mut Vec<u8>) -> Result<(), WantOfMemory>
-    ensures { OnOk result (out.new.items ≡ out.old.items
-        ++ ended ((codes "time " ++ maybe_time_text time) ∷ [])) }
-{
-    match time {
-        None => {
-            out.extend_from_slice(b"time none\n")?;
-            Ok(())
-        }
-        Some(time) => {
-            out.extend_from_slice(b"time ")?;
-            out.extend_from_slice(&time_write(time))?;
-            out.push(b'\n')?;
-            Ok(())
-        }
-    }
-}
-
 /// Reads what a save text saves.
 pub fn save_read(alloc: Global, bytes: &[u8]) -> Result<Saved, SaveError>
     ensures spelled { IfOk result (λ saved. SpellsSave bytes.now saved) }
@@ -161,60 +130,21 @@ pub fn save_read(alloc: Global, bytes: &[u8]) -> Result<Saved, SaveError>
     }
 }
 
-// The number, counted from 1, of the line at whose start `left` bytes are left.
-fn line_number(bytes: &[u8], left: usize) -> u64 {
-    let mut number: u64 = 1;
-    for byte in bytes.iter().take(bytes.len().saturating_sub(left)) {
-        if *byte == b'\n' {
-            number = number.saturating_add(1);
-        }
-    }
-    number
-}
-
 #[tactic(auto, unfolding(crate::specs::Steps::Reading::save_at))]
 fn read_save(alloc: Global, bytes: &[u8]) -> Result<Saved, Stop>
     ensures { Gives (λ saved. saved) result (save_at bytes.now) }
 {
-    let rest = fixed_line(b"osmrepl-save 1", bytes)?;
-    let (number, rest) = numbered_line(b"sequence ", MAX_SEQUENCE as u64, rest)?;
-    let (time, rest) = time_line(number, rest)?;
-    read_mirror(alloc, number, time, rest)
-}
-
-// Reads the line with the time of a number.
-#[tactic(auto, unfolding(crate::specs::Steps::Reading::time_line_at))]
-fn time_line(number: u64, rest: &[u8]) -> Result<(Option<u32>, &[u8]), Stop>
-    ensures { Finds (λ r. (r.0, r.1.now)) result (time_line_at number rest.now) }
-{
-    if number == 0 {
-        let after = fixed_line(b"time none", rest)?;
-        return Ok((None, after));
-    }
-    let (line, after) = next_line(rest)?;
-    let Some(text) = line.strip_prefix(b"time ") else {
-        return Err(Stop::Wrong(rest.len()));
-    };
-    let Some(time) = read_time(text) else {
-        return Err(Stop::Wrong(rest.len()));
-    };
-    Ok((Some(time), after))
-}
-
-// The time with this text.
-fn read_time(text: &[u8]) -> Option<u32>
-    ensures { result ≡ time_at text.now }
-{
-    time_read(text)
+    let (head, rest) = read_head(bytes)?;
+    read_mirror(alloc, head, rest)
 }
 
 // Reads the lists and the line `end`.
 #[tactic(auto, unfolding(crate::specs::Steps::Reading::mirror_at))]
-fn read_mirror(alloc: Global, number: u64, time: Option<u32>, rest: &[u8]) -> Result<Saved, Stop>
-    requires { number ≤ max_sequence }
-    ensures { Gives (λ saved. saved) result (mirror_at number time rest.now) }
+fn read_mirror(alloc: Global, head: Head, rest: &[u8]) -> Result<Saved, Stop>
+    requires { head.number ≤ max_sequence }
+    ensures { Gives (λ saved. saved) result (mirror_at head.number head.time rest.now) }
 {
-    let most = MAX_CHANGES as u64 * number;
+    let most = MAX_CHANGES as u64 * head.number as u64;
     let (objects, rest) = read_objects(alloc, most, rest)?;
     let (users, rest) = read_counts(alloc, b"users ", most, rest)?;
     let (changesets, rest) = read_counts(alloc, b"changesets ", most, rest)?;
@@ -223,8 +153,8 @@ fn read_mirror(alloc: Global, number: u64, time: Option<u32>, rest: &[u8]) -> Re
         return Err(Stop::Wrong(rest.len()));
     }
     Ok(Saved {
-        number: number as u32,
-        time,
+        number: head.number,
+        time: head.time,
         mirror: Mirror::from_parts(objects, users, changesets),
     })
 }

@@ -6,7 +6,9 @@ use osm_disk::disk_store::DiskStore;
 use osm_folder::fault::{FileName, RunFault};
 use osm_repl::command_line::order;
 use osm_repl::echo::echoes;
-use osm_repl::ending::{Ending, Said, Stream, explained, reported, unread};
+use osm_repl::ending::{
+    Ending, Message, Stream, ending_of_error, ending_of_fault, ending_of_unread,
+};
 use osm_repl::execution::execute;
 use osm_repl::orders::Order;
 use std::process::ExitCode;
@@ -23,7 +25,7 @@ fn run(rt: &HostRuntime) -> u8 {
     let alloc = rt.alloc();
     let given = match env::args(rt) {
         Ok(given) => given,
-        Err(error) => return end(rt, unread(error.kind())),
+        Err(error) => return end(rt, ending_of_unread(error.kind())),
     };
     let Ok(arguments) = given.collect::<Vec<String>>(alloc) else {
         return report(rt, RunFault::WantOfMemory);
@@ -71,35 +73,35 @@ fn explain(rt: &HostRuntime, error: &Error, words: &[&str]) -> u8 {
         return report(rt, RunFault::WantOfMemory);
     };
     match order(alloc, echoed.as_slice()) {
-        Ok(_) => end(rt, explained(error)),
-        Err(shown) => end(rt, explained(&shown)),
+        Ok(_) => end(rt, ending_of_error(error)),
+        Err(shown) => end(rt, ending_of_error(&shown)),
     }
 }
 
 fn report(rt: &HostRuntime, fault: RunFault) -> u8 {
-    end(rt, reported(fault))
+    end(rt, ending_of_fault(fault))
 }
 
 // Prints the text of the ending, and gives its status. It is a fault if standard output doesn't
 // take the text.
 fn end(rt: &HostRuntime, ending: Ending) -> u8 {
-    match (say(rt, ending.said, ending.stream), ending.stream) {
+    match (say(rt, ending.message, ending.stream), ending.stream) {
         (Err(_), Stream::Output) => {
-            let fault = reported(RunFault::WriteFault(FileName::Output));
-            let _ = say(rt, fault.said, fault.stream);
+            let fault = ending_of_fault(RunFault::WriteFault(FileName::Output));
+            let _ = say(rt, fault.message, fault.stream);
             fault.status
         }
         _ => ending.status,
     }
 }
 
-fn say(rt: &HostRuntime, said: Said, stream: Stream) -> io::Result<()> {
-    match (said, stream) {
-        (Said::ByClap(error), Stream::Output) => print!(rt; "{error}"),
-        (Said::ByClap(error), Stream::Error) => eprint!(rt; "{error}"),
-        (Said::Fault(fault), Stream::Output) => println!(rt; "osmrepl: {fault}"),
-        (Said::Fault(fault), Stream::Error) => eprintln!(rt; "osmrepl: {fault}"),
-        (Said::NotText, Stream::Output) => println!(rt; "osmrepl: {NOT_TEXT}"),
-        (Said::NotText, Stream::Error) => eprintln!(rt; "osmrepl: {NOT_TEXT}"),
+fn say(rt: &HostRuntime, message: Message, stream: Stream) -> io::Result<()> {
+    match (message, stream) {
+        (Message::ByClap(error), Stream::Output) => print!(rt; "{error}"),
+        (Message::ByClap(error), Stream::Error) => eprint!(rt; "{error}"),
+        (Message::Fault(fault), Stream::Output) => println!(rt; "osmrepl: {fault}"),
+        (Message::Fault(fault), Stream::Error) => eprintln!(rt; "osmrepl: {fault}"),
+        (Message::NotText, Stream::Output) => println!(rt; "osmrepl: {NOT_TEXT}"),
+        (Message::NotText, Stream::Error) => eprintln!(rt; "osmrepl: {NOT_TEXT}"),
     }
 }

@@ -5,6 +5,7 @@ use osm_mirror::mirror::Mirror;
 use osm_model::form::ChangeForm;
 use osm_model::kind::{Key, Kind};
 use osm_opl::opl::Opl;
+use osm_save::head::{BadHead, Head, head_read};
 use osm_save::save::{SaveError, Saved, save_read, save_write};
 use std::alloc::Global;
 
@@ -88,8 +89,45 @@ fn what_was_saved_is_read_again(rt: HostRuntime) {
     assert!(rt; reads_nothing(rt.alloc()));
 }
 
+fn has_head(bytes: &[u8], head: Head) -> bool {
+    match head_read(bytes) {
+        Ok(found) => found == head,
+        Err(_) => false,
+    }
+}
+
+fn stops_at(bytes: &[u8], line: u64) -> bool {
+    match head_read(bytes) {
+        Ok(_) => false,
+        Err(bad) => bad.line == line,
+    }
+}
+
+#[test]
+fn a_head_is_read_from_the_first_lines(rt: HostRuntime) {
+    let new_year = Head {
+        number: 1,
+        time: Some(NEW_YEAR),
+    };
+    let start = Head {
+        number: 0,
+        time: None,
+    };
+    assert!(rt; has_head(ONE_NODE, new_year));
+    assert!(rt;
+        has_head(
+            b"osmrepl-save 1\nsequence 1\ntime 2024-01-01T00:00:00Z\nobj",
+            new_year
+        )
+    );
+    assert!(rt; has_head(NOTHING, start));
+    assert!(rt; stops_at(b"osmrepl-save 1\nsequence 1\ntime none\n", 3));
+    assert!(rt; stops_at(b"osmrepl-save 1\nsequence 1\n", 3));
+}
+
 #[test]
 fn errors_of_saves_print_their_names(rt: HostRuntime) {
     assert!(rt; is_shown(rt.alloc(), &SaveError::BadSave { line: 7 }, "BadSave"));
     assert!(rt; is_shown(rt.alloc(), &SaveError::WantOfMemory, "WantOfMemory"));
+    assert!(rt; is_shown(rt.alloc(), &BadHead { line: 3 }, "BadHead"));
 }

@@ -40,9 +40,9 @@ Refused IsIt WantOfMemory = Unit {0}
 Refused IsIt NoEvent = (e : Event) → IsIt e → ⊥
 
 -- a line is skipped, or is that event
-abbrev pub IsSaid : List ℕ → Option Event → Type 0
-IsSaid line None = is_skipped line ≡ true
-IsSaid line (Some event) = (is_skipped line ≡ false) × IsEventLine line event
+abbrev pub IsTakenAs : List ℕ → Option Event → Type 0
+IsTakenAs line None = is_skipped line ≡ true
+IsTakenAs line (Some event) = (is_skipped line ≡ false) × IsEventLine line event
 
 -- a line that isn't skipped is no event, or memory was refused
 abbrev pub LineRefused : List ℕ → ℕ → RunFault → Type 0

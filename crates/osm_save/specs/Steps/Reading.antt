@@ -6,7 +6,7 @@ use Rattle.std.specs.Ordering.{is_lt, nat_cmp}
 use Rattle.std.specs.Str.{bytes_eq}
 use Rattle.std.specs.declared.cmp.Ordering.{Ordering}
 use Rattle.osm_model.specs.Change.{ChangeValue}
-use Rattle.osm_model.specs.Content.{standing_of}
+use Rattle.osm_model.specs.Content.{object_after}
 use Rattle.osm_model.specs.KeyOrder.{key_cmp}
 use Rattle.osm_model.specs.Limits.{max_sequence}
 use Rattle.osm_model.specs.declared.kind.Key.{Key}
@@ -15,6 +15,7 @@ use Rattle.osm_opl.specs.Steps.Reading.{digits_at, line_at, time_at}
 use Rattle.osm_opl.specs.Written.{line_text}
 use Rattle.osm_reading.specs.Pieces.{cut_at}
 use Rattle.osm_reading.specs.Steps.Answers.{and_then}
+use Rattle.osm_save.specs.declared.head.Head.{Head}
 use Rattle.osm_save.specs.declared.save.Saved.{Saved}
 
 -- the number with exactly this text, of at most 15 digits
@@ -63,7 +64,7 @@ items_at key item (suc k) last bytes =
 unfoldable pub object_at : Option Key → List ℕ → Option ChangeValue
 object_at last line =
     and_then (line_at line) (λ c.
-    if bytes_eq (line_text c) line && is_some (standing_of c) && is_above key_cmp last c.key
+    if bytes_eq (line_text c) line && is_some (object_after c) && is_above key_cmp last c.key
     then Some c else None)
 
 -- a number and its count, with a number above the one before it
@@ -98,9 +99,14 @@ mirror_at number time bytes =
       mirror = record { objects = o.0; users = u.0; changesets = s.0 };
     }) else None))))
 
--- what the bytes save
-unfoldable pub save_at : List ℕ → Option Saved
-save_at bytes =
+-- the head, and the bytes after it
+unfoldable pub head_at : List ℕ → Option (Head × List ℕ)
+head_at bytes =
     and_then (fixed_at (codes "osmrepl-save 1") bytes) (λ first.
     and_then (numbered_at (codes "sequence ") max_sequence first) (λ n.
-    and_then (time_line_at n.0 n.1) (λ t. mirror_at n.0 t.0 t.1)))
+    and_then (time_line_at n.0 n.1) (λ t.
+    Some (record { number = n.0; time = t.0 }, t.1))))
+
+-- what the bytes save
+unfoldable pub save_at : List ℕ → Option Saved
+save_at bytes = and_then (head_at bytes) (λ h. mirror_at h.0.number h.0.time h.1)

@@ -1,4 +1,4 @@
-use Rattle.std.specs.Prelude.{IsTrue}
+use Rattle.osm_folder.specs.Frames.{IsKnown}
 use Rattle.osm_folder.proofs.CompareLemmas.{o5c_stops, opl_stops}
 use Rattle.osm_folder.proofs.ResultLemmas.{same_err}
 use Rattle.osm_folder.proofs.compare.check_published.Goals as goal
@@ -6,18 +6,18 @@ use Rattle.osm_folder.proofs.compare.check_published.Goals as goal
 pub returns-in_err-o5c-clause-stops : goal.returns-in_err-o5c-clause-stops
 returns-in_err-o5c-clause-stops g c =
     same_err _ c.from_residual-in_err-o5c.result _ c.from_residual-in_err-o5c.ensures.1
-    (o5c_stops (IsTrue (g.S.Store.tells c.args.store.now)) c.args.dir.now (g.S.Store.told c.args.store.now)
+    (o5c_stops (IsKnown (g.S.Store.state c.args.store.now)) c.args.dir.now (g.S.Store.state c.args.store.now).files
     (record { number = c.args.number; changes = c.args.batch.now; time = c.args.time }) _
-    (rw (c.check_state.ensures.tells, c.check_state.ensures.unchanged) at c.in_err-o5c.ensures.stops))
+    (rw (c.check_state.ensures.frame.makes.known, c.check_state.ensures.frame.files) at c.in_err-o5c.ensures.stops))
 
 pub returns-in_err-opl-clause-stops : goal.returns-in_err-opl-clause-stops
 returns-in_err-opl-clause-stops g c =
     same_err _ c.from_residual-in_err-opl.result _ c.from_residual-in_err-opl.ensures.1
-    (opl_stops (IsTrue (g.S.Store.tells c.args.store.now)) c.args.dir.now (g.S.Store.told c.args.store.now)
+    (opl_stops (IsKnown (g.S.Store.state c.args.store.now)) c.args.dir.now (g.S.Store.state c.args.store.now).files
     (record { number = c.args.number; changes = c.args.batch.now; time = c.args.time }) _
     (rw (
-      c.check_changes.ensures.tells,
-      c.check_changes.ensures.unchanged,
-      c.check_state.ensures.tells,
-      c.check_state.ensures.unchanged,
+      c.check_changes.ensures.frame.makes.known,
+      c.check_changes.ensures.frame.files,
+      c.check_state.ensures.frame.makes.known,
+      c.check_state.ensures.frame.files,
     ) at c.in_err-opl.ensures.stops))

@@ -1,5 +1,5 @@
 use Rattle.std.proofs.Common.{subst}
-use Rattle.std.specs.Prelude.{IsTrue}
+use Rattle.osm_folder.specs.Frames.{IsKnown}
 use Rattle.osm_state.specs.declared.paths.Suffix.TheVariants.{State}
 use Rattle.osm_folder.specs.Names.{file_name_of}
 use Rattle.osm_folder.specs.Steps.Following.{IsStateRead}
@@ -10,8 +10,8 @@ use Rattle.osm_folder.proofs.fetch.fetch.Goals as goal
 pub returns-in_err-form-clause-stops : goal.returns-in_err-form-clause-stops
 returns-in_err-form-clause-stops g c =
     same_err _ c.from_residual-in_err-form.result _ c.from_residual-in_err-form.ensures.1
-    ((rw (c.read_state.ensures.tells, c.read_state.ensures.unchanged) at c.in_err-form.ensures.stops)
-    (λ yes. has_state (IsTrue (g.S.Store.tells c.args.store.now)) c.args.dir.now (g.S.Store.told c.args.store.now) c.args.number c.in-Some.state.items
-    (subst (λ o. IsStateRead (IsTrue (g.S.Store.tells c.args.store.now))
-    (g.S.Store.told c.args.store.now (file_name_of c.args.dir.now c.args.number State)) c.args.number o)
+    ((rw (c.read_state.ensures.frame.makes.known, c.read_state.ensures.frame.files) at c.in_err-form.ensures.stops)
+    (λ yes. has_state (IsKnown (g.S.Store.state c.args.store.now)) c.args.dir.now (g.S.Store.state c.args.store.now).files c.args.number c.in-Some.state.items
+    (subst (λ o. IsStateRead (IsKnown (g.S.Store.state c.args.store.now))
+    ((g.S.Store.state c.args.store.now).files (file_name_of c.args.dir.now c.args.number State)) c.args.number o)
     c.in-Some.is c.in_ok-state.ensures.read) yes))

@@ -1,46 +1,58 @@
 use Rattle.std.proofs.Common.{◌+◌, ◌-◌, ◌*◌, Some, arith, length, subst, sym}
 use Rattle.std.specs.Prelude.{IsTrue}
 use Rattle.osm_folder.specs.Files.{Puts}
-use Rattle.osm_folder.proofs.CallLemmas.{lacks_after, lacks_more, most_both}
+use Rattle.osm_folder.specs.Following.{FollowsOver}
+use Rattle.osm_folder.specs.Frames.{IsKnown}
+use Rattle.osm_folder.specs.Runs.{IsDeviceFault}
+use Rattle.osm_folder.proofs.FrameLemmas.{at_most_both, at_most_more, most_both}
 use Rattle.osm_folder.proofs.InStepLemmas.{in_step_after}
-use Rattle.osm_folder.proofs.ResultLemmas.{same_err}
-use Rattle.osm_folder.proofs.StopLemmas.{follow_refuses}
+use Rattle.osm_folder.proofs.ResultLemmas.{same_result}
+use Rattle.osm_folder.proofs.StopLemmas.{follow_refuses, put_save_refuses}
 use Rattle.osm_folder.proofs.follow.follow_run.Goals as goal
 
-pub returns-in_err-made-clause-refuses : goal.returns-in_err-made-clause-refuses
-returns-in_err-made-clause-refuses g c =
-    same_err _ c.from_residual.result _ c.from_residual.ensures.1
-    (λ yes p n is s. follow_refuses c.laws_of_state.ensures.no_fault_beside_state
-    (IsTrue (g.S.Store.tells c.args.store.now)) p n c.args.dir.now c.args.save.now (g.S.Store.told c.args.store.now)
-    _ yes is s c.in_err-made.ensures.stops)
-
-pub returns-clause-in_step : goal.returns-clause-in_step
-returns-clause-in_step g c = λ yes p n is s.
-    let then : IsTrue (g.S.Store.tells c.prepare.new.store) = subst IsTrue (sym c.prepare.ensures.tells) yes in
-    in_step_after p n c.args.dir.now c.args.save.now (g.S.Store.told c.args.store.now)
-    (g.S.Store.told c.write_file.new.store) c.in_ok-made.made.report is s (record {
-      text = c.in_ok-made.made.text.items;
-      following = c.in_ok-made.ensures.made yes;
-      small = c.in_ok-made.ensures.small;
-      put = subst (λ f. Puts f c.args.save.now (Some c.in_ok-made.made.text.items) (g.S.Store.told c.write_file.new.store)) c.prepare.ensures.unchanged
-          (subst (λ xs. Puts (g.S.Store.told c.prepare.new.store) c.args.save.now (Some xs)
-          (g.S.Store.told c.write_file.new.store)) c.as_slice.ensures.value
-          (c.in_ok-write_file.ensures.written then));
+pub returns-in_err-made-clause-over : goal.returns-in_err-made-clause-over
+returns-in_err-made-clause-over g c = λ yes p n is s.
+    same_result (FollowsOver p n c.args.dir.now c.args.save.now (g.S.Store.state c.args.store.now)
+    (g.S.Store.state c.prepare.new.store)) c.from_residual.result _ c.from_residual.ensures.1 (record {
+      in_step = tt;
+      refuses = follow_refuses c.laws_of_state.ensures.no_fault_beside_state
+          (IsKnown (g.S.Store.state c.args.store.now)) p n c.args.dir.now c.args.save.now
+          (g.S.Store.state c.args.store.now).files _ yes is s c.in_err-made.ensures.stops;
+      calls = at_most_more IsDeviceFault (2 + 3 * (length p - n)) (3 + 3 * (length p - n)) _ _ _ (omega arith)
+          (record { spent = tt; lacks = (c.in_err-made.ensures.calls yes p n is s).lacks });
     })
 
-pub returns-in_err-made-clause-lacks : goal.returns-in_err-made-clause-lacks
-returns-in_err-made-clause-lacks g c =
-    same_err _ c.from_residual.result _ c.from_residual.ensures.1 (λ yes p n folder saved.
-    lacks_more (2 + 3 * (length p - n)) (3 + 3 * (length p - n)) _ _ (omega arith) (c.in_err-made.ensures.lacks yes p n folder saved))
+pub returns-in_err-write_file-clause-over : goal.returns-in_err-write_file-clause-over
+returns-in_err-write_file-clause-over g c = λ yes p n is s.
+    same_result (FollowsOver p n c.args.dir.now c.args.save.now (g.S.Store.state c.args.store.now)
+    (g.S.Store.state c.write_file.new.store)) c.from_residual-in_err-write_file.result _
+    c.from_residual-in_err-write_file.ensures.1 (record {
+      in_step = tt;
+      refuses = put_save_refuses p _ _ c.in_err-write_file.ensures.stops;
+      calls = (let all = at_most_both IsDeviceFault (2 + 3 * (length p - n)) 1 (3 + 3 * (length p - n)) _ _ _ _ _ (omega arith)
+          c.prepare.ensures.frame.makes.known (c.in_ok-made.ensures.calls yes p n is s) c.in_err-write_file.ensures.frame.at_most in
+          record { spent = tt; lacks = all.lacks });
+    })
 
-pub returns-in_err-write_file-clause-lacks : goal.returns-in_err-write_file-clause-lacks
-returns-in_err-write_file-clause-lacks g c =
-    same_err _ c.from_residual-in_err-write_file.result _ c.from_residual-in_err-write_file.ensures.1 (λ yes p n folder saved.
-    (let then : IsTrue (g.S.Store.tells c.prepare.new.store) = subst IsTrue (sym c.prepare.ensures.tells) yes in
-    lacks_after (2 + 3 * (length p - n)) 1 (3 + 3 * (length p - n)) (g.S.Store.left c.args.store.now) (g.S.Store.left c.prepare.new.store) _ (omega arith)
-    (c.in_ok-made.ensures.most yes p n folder saved) (c.in_err-write_file.ensures.lacks then)))
-
-pub returns-clause-most : goal.returns-clause-most
-returns-clause-most g c = λ yes p n folder saved.
-    most_both (2 + 3 * (length p - n)) 1 (3 + 3 * (length p - n)) _ _ _ (omega arith)
-    (c.in_ok-made.ensures.most yes p n folder saved) c.in_ok-write_file.ensures.most
+pub returns-clause-over : goal.returns-clause-over
+returns-clause-over g c = λ yes p n is s.
+    let then : IsKnown (g.S.Store.state c.prepare.new.store) = subst IsTrue (sym c.prepare.ensures.frame.makes.known) yes in
+    record {
+      in_step = in_step_after p n c.args.dir.now c.args.save.now (g.S.Store.state c.args.store.now).files
+          (g.S.Store.state c.write_file.new.store).files c.in_ok-made.made.report is s (record {
+            text = c.in_ok-made.made.text.items;
+            following = c.in_ok-made.ensures.made yes;
+            small = c.in_ok-made.ensures.small;
+            put = subst (λ f. Puts f c.args.save.now (Some c.in_ok-made.made.text.items)
+                (g.S.Store.state c.write_file.new.store).files) c.prepare.ensures.frame.files
+                (subst (λ xs. Puts (g.S.Store.state c.prepare.new.store).files c.args.save.now (Some xs)
+                (g.S.Store.state c.write_file.new.store).files) c.as_slice.ensures.value
+                (c.in_ok-write_file.ensures.written then));
+          });
+      refuses = tt;
+      calls = record {
+        spent = most_both (2 + 3 * (length p - n)) 1 (3 + 3 * (length p - n)) _ _ _ (omega arith)
+            (c.in_ok-made.ensures.calls yes p n is s).spent c.in_ok-write_file.ensures.frame.at_most.spent;
+        lacks = tt;
+      };
+    }

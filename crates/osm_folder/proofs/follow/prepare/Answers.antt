@@ -1,12 +1,14 @@
-use Rattle.std.proofs.Common.{subst, sym}
-use Rattle.std.specs.Prelude.{IsTrue}
+use Rattle.std.proofs.Common.{◌+◌, ◌-◌, ◌*◌, arith, length, sym}
+use Rattle.osm_folder.specs.Frames.{IsKnown}
 use Rattle.osm_folder.specs.Reports.{follow_report_of}
 use Rattle.osm_follow.specs.Follower.{is_held}
 use Rattle.osm_follow.specs.Reach.{missing_numbers}
 use Rattle.osm_follow.specs.Restart.{saved_of}
-use Rattle.osm_folder.proofs.CallLemmas.{way_lacks, way_most}
+use Rattle.osm_folder.specs.Runs.{CallsUpTo, IsDeviceFault}
+use Rattle.osm_folder.proofs.CallLemmas.{made_without_device, way_calls}
+use Rattle.osm_folder.proofs.FrameLemmas.{at_most_done, fewer_more}
 use Rattle.osm_folder.proofs.ReportLemmas.{follow_report_is, following}
-use Rattle.osm_folder.proofs.ResultLemmas.{err_map, ok_map, on_ok, same_err}
+use Rattle.osm_folder.proofs.ResultLemmas.{err_map, ok_map, same_result}
 use Rattle.osm_folder.proofs.StopLemmas.{made_stops}
 use Rattle.osm_folder.proofs.follow.prepare.Goals as goal
 
@@ -18,9 +20,9 @@ returns-clause-report g c =
 
 pub returns-clause-stops : goal.returns-clause-stops
 returns-clause-stops g c =
-    let taken = rw (c.read_start.ensures.tells, c.read_start.ensures.unchanged) at c.in_ok-applied.ensures.taken in
+    let taken = rw (c.read_start.ensures.frame.makes.known, c.read_start.ensures.frame.files) at c.in_ok-applied.ensures.taken in
     err_map _ _ c.make.result c.make.ensures.stops (λ fault stops.
-    made_stops (IsTrue (g.S.Store.tells c.args.store.now)) c.args.dir.now c.args.save.now (g.S.Store.told c.args.store.now) c.take_up.new.follower fault
+    made_stops (IsKnown (g.S.Store.state c.args.store.now)) c.args.dir.now c.args.save.now (g.S.Store.state c.args.store.now).files c.take_up.new.follower fault
     (λ yes text spelled. (
       follow_report_of c.in_ok-applied.applied.items
           (missing_numbers (is_held c.take_up.new.follower) c.take_up.new.follower.number c.sequence-2.result)
@@ -30,19 +32,34 @@ returns-clause-stops g c =
     ))
     stops)
 
-pub returns-in_err-applied-clause-lacks : goal.returns-in_err-applied-clause-lacks
-returns-in_err-applied-clause-lacks g c =
-    same_err _ c.from_residual-in_err-applied.result _ c.from_residual-in_err-applied.ensures.1 (λ yes p n folder saved.
-    (let then : IsTrue (g.S.Store.tells c.read_start.new.store) = subst IsTrue (sym c.read_start.ensures.tells) yes in
-    way_lacks p n c.args.dir.now c.args.save.now (g.S.Store.told c.args.store.now)
-    (saved_of c.in_ok-start.start.follower) c.in_ok-start.start.top c.sequence-2.result
-    (g.S.Store.left c.args.store.now) (g.S.Store.left c.read_start.new.store) _ c.sequence-2.ensures.sequence folder saved
-    (c.in_ok-start.ensures.started yes) c.in_ok-start.ensures.most (c.in_err-applied.ensures.lacks then)))
+pub returns-in_err-start-clause-calls : goal.returns-in_err-start-clause-calls
+returns-in_err-start-clause-calls g c = λ yes p n folder saved.
+    same_result (CallsUpTo (2 + 3 * (length p - n)) (g.S.Store.state c.args.store.now)
+    (g.S.Store.state c.read_start.new.store)) c.from_residual.result _ c.from_residual.ensures.1
+    (record {
+      spent = tt;
+      lacks = λ sure blame. fewer_more 2 (2 + 3 * (length p - n)) _ (omega arith)
+          (c.in_err-start.ensures.frame.at_most.lacks sure blame);
+    })
 
-pub returns-clause-most : goal.returns-clause-most
-returns-clause-most g c =
-    on_ok c.make.result (λ yes p n folder saved.
-    way_most p n c.args.dir.now c.args.save.now (g.S.Store.told c.args.store.now)
+pub returns-in_err-applied-clause-calls : goal.returns-in_err-applied-clause-calls
+returns-in_err-applied-clause-calls g c = λ yes p n folder saved.
+    same_result (CallsUpTo (2 + 3 * (length p - n)) (g.S.Store.state c.args.store.now)
+    (g.S.Store.state c.take_up.new.store)) c.from_residual-in_err-applied.result _ c.from_residual-in_err-applied.ensures.1
+    (let way = way_calls p n c.args.dir.now c.args.save.now (g.S.Store.state c.args.store.now).files
     (saved_of c.in_ok-start.start.follower) c.in_ok-start.start.top c.sequence-2.result
-    (g.S.Store.left c.args.store.now) (g.S.Store.left c.read_start.new.store) (g.S.Store.left c.take_up.new.store) c.sequence-2.ensures.sequence folder saved
-    (c.in_ok-start.ensures.started yes) c.in_ok-start.ensures.most c.in_ok-applied.ensures.most)
+    (g.S.Store.state c.args.store.now) (g.S.Store.state c.read_start.new.store) (g.S.Store.state c.take_up.new.store) _ _
+    c.sequence-2.ensures.sequence folder saved (c.in_ok-start.ensures.started yes)
+    c.read_start.ensures.frame.makes.known c.in_ok-start.ensures.frame.at_most c.in_err-applied.ensures.frame.at_most in
+    record { spent = tt; lacks = way.lacks })
+
+pub returns-clause-calls : goal.returns-clause-calls
+returns-clause-calls g c = λ yes p n folder saved.
+    at_most_done IsDeviceFault (2 + 3 * (length p - n)) (g.S.Store.state c.args.store.now)
+    (g.S.Store.state c.take_up.new.store) _ c.make.result
+    (err_map _ _ c.make.result c.make.ensures.stops (made_without_device c.take_up.new.follower))
+    (way_calls p n c.args.dir.now c.args.save.now (g.S.Store.state c.args.store.now).files
+    (saved_of c.in_ok-start.start.follower) c.in_ok-start.start.top c.sequence-2.result
+    (g.S.Store.state c.args.store.now) (g.S.Store.state c.read_start.new.store) (g.S.Store.state c.take_up.new.store) _ _
+    c.sequence-2.ensures.sequence folder saved (c.in_ok-start.ensures.started yes)
+    c.read_start.ensures.frame.makes.known c.in_ok-start.ensures.frame.at_most c.in_ok-applied.ensures.frame.at_most)

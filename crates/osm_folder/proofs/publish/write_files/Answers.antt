@@ -1,5 +1,6 @@
 use Rattle.std.proofs.Common.{subst, sym, arith}
 use Rattle.std.specs.Prelude.{IsTrue}
+use Rattle.osm_folder.specs.Frames.{IsKnown}
 use Rattle.osm_folder.specs.Steps.Publishing.{IsCut}
 use Rattle.osm_folder.specs.Steps.Reading.{PutStops}
 use Rattle.osm_folder.specs.declared.fault.FileName.TheVariants.{Top}
@@ -14,9 +15,9 @@ returns-in_err-write_file-2-clause-cut g c =
       few = omega arith;
       cut = cut_at _ _ 1 _ c.number-number.ensures c.in_err-write_file-2.ensures.stops;
       written = λ yes. (
-        g.S.Store.told c.write_file.new.store,
+        (g.S.Store.state c.write_file.new.store).files,
         renamed _ _ _ _ _ _ c.as_str.ensures.value c.o5c.ensures (c.in_ok-write_file.ensures.written yes),
-        c.in_err-write_file-2.ensures.refused,
+        c.in_err-write_file-2.ensures.frame.files,
       );
     })
 
@@ -27,35 +28,35 @@ returns-in_err-write_file-3-clause-cut g c =
       few = omega arith;
       cut = cut_at _ _ 2 _ c.number-number.ensures c.in_err-write_file-3.ensures.stops;
       written = λ yes.
-          (let then : IsTrue (g.S.Store.tells c.write_file.new.store) = subst IsTrue (sym c.write_file.ensures.tells) yes in (
-            g.S.Store.told c.write_file.new.store,
+          (let then : IsKnown (g.S.Store.state c.write_file.new.store) = subst IsTrue (sym c.write_file.ensures.frame.makes.known) yes in (
+            (g.S.Store.state c.write_file.new.store).files,
             renamed _ _ _ _ _ _ c.as_str.ensures.value c.o5c.ensures (c.in_ok-write_file.ensures.written yes),
             (
-              g.S.Store.told c.write_file-2.new.store,
+              (g.S.Store.state c.write_file-2.new.store).files,
               renamed _ _ _ _ _ _ c.as_str-2.ensures.value c.opl.ensures (c.in_ok-write_file-2.ensures.written then),
-              c.in_err-write_file-3.ensures.refused,
+              c.in_err-write_file-3.ensures.frame.files,
             ),
           ));
     })
 
 pub returns-clause-cut : goal.returns-clause-cut
 returns-clause-cut g c =
-    err_both (PutStops Top) (IsCut (IsTrue (g.S.Store.tells c.args.store.now)) c.args.names.now c.args.published.now
-    (g.S.Store.told c.args.store.now) (g.S.Store.told c.write_file-4.new.store))
-    c.write_file-4.result c.write_file-4.ensures.stops c.write_file-4.ensures.refused (λ fault stops same. record {
+    err_both (PutStops Top) (IsCut (IsKnown (g.S.Store.state c.args.store.now)) c.args.names.now c.args.published.now
+    (g.S.Store.state c.args.store.now).files (g.S.Store.state c.write_file-4.new.store).files)
+    c.write_file-4.result c.write_file-4.ensures.stops c.write_file-4.ensures.frame.files (λ fault stops same. record {
       count = 3;
       few = omega arith;
       cut = cut_at c.number-number.result _ 3 fault c.number-number.ensures stops;
       written = λ yes.
-          (let then : IsTrue (g.S.Store.tells c.write_file.new.store) = subst IsTrue (sym c.write_file.ensures.tells) yes in
-          let later : IsTrue (g.S.Store.tells c.write_file-2.new.store) = subst IsTrue (sym c.write_file-2.ensures.tells) then in (
-            g.S.Store.told c.write_file.new.store,
+          (let then : IsKnown (g.S.Store.state c.write_file.new.store) = subst IsTrue (sym c.write_file.ensures.frame.makes.known) yes in
+          let later : IsKnown (g.S.Store.state c.write_file-2.new.store) = subst IsTrue (sym c.write_file-2.ensures.frame.makes.known) then in (
+            (g.S.Store.state c.write_file.new.store).files,
             renamed _ _ _ _ _ _ c.as_str.ensures.value c.o5c.ensures (c.in_ok-write_file.ensures.written yes),
             (
-              g.S.Store.told c.write_file-2.new.store,
+              (g.S.Store.state c.write_file-2.new.store).files,
               renamed _ _ _ _ _ _ c.as_str-2.ensures.value c.opl.ensures (c.in_ok-write_file-2.ensures.written then),
               (
-                g.S.Store.told c.write_file-3.new.store,
+                (g.S.Store.state c.write_file-3.new.store).files,
                 renamed _ _ _ _ _ _ c.as_str-3.ensures.value c.state.ensures (c.in_ok-write_file-3.ensures.written later),
                 same,
               ),

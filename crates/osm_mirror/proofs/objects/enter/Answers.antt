@@ -12,7 +12,7 @@ use Rattle.osm_mirror.proofs.objects.enter.Goals as goal
 pub returns-clause-objects : goal.returns-clause-objects
 returns-clause-objects c =
     rw c.in-Ok.ensures.entries (objects-insert_entry _ _ _ c.key.ensures.key
-    (record { limits = c.key.ensures.limits; stands = c.requires.stands }) c.requires.objects)
+    (record { limits = c.key.ensures.limits; is_left = c.requires.is_left }) c.requires.objects)
 
 pub returns-clause-inserted : goal.returns-clause-inserted
 returns-clause-inserted c = c.in-Ok.ensures.entries ∙ ap (λ (q : Key). insert_entry key_cmp c.args.objects.now.entries q c.args.change) c.key.ensures.key
@@ -22,7 +22,7 @@ pub returns-clause-entered : goal.returns-clause-entered
 returns-clause-entered c = λ k.
     let all : AreObjects c.insert.new.self.entries =
     rw c.in-Ok.ensures.entries (objects-insert_entry _ _ _ c.key.ensures.key
-    (record { limits = c.key.ensures.limits; stands = c.requires.stands }) c.requires.objects) in
+    (record { limits = c.key.ensures.limits; is_left = c.requires.is_left }) c.requires.objects) in
     object_at-objects_of c.insert.new.self.entries k all.own
     ∙ (c.in-Ok.ensures.updates.0 k
     ∙ (ap (λ (q : Key). if same_key q k then Some c.args.change else lookup (is_at (key_cmp k)) c.args.objects.now.entries) c.key.ensures.key

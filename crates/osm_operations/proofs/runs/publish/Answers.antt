@@ -1,5 +1,6 @@
 use Rattle.std.proofs.Common.{None}
 use Rattle.osm_folder.specs.Stores.{files_of}
+use Rattle.osm_folder.proofs.OverLemmas.{publish_refuses, publish_keeps}
 use Rattle.osm_operations.proofs.RunLemmas.{run_step}
 use Rattle.osm_operations.proofs.runs.publish.Goals as goal
 
@@ -14,8 +15,8 @@ returns c =
           (record {
             published = c.publish_run.ensures.published;
             stops = c.publish_run.ensures.stops;
-            refuses = c.publish_run.ensures.refuses;
-            keeps = c.publish_run.ensures.keeps;
+            refuses = publish_refuses _ _ _ _ _ _ c.publish_run.result c.publish_run.ensures.over;
+            keeps = publish_keeps _ _ _ _ _ _ c.publish_run.result c.publish_run.ensures.over;
             out = c.publish_run.ensures.out;
             others = c.publish_run.ensures.others;
           });

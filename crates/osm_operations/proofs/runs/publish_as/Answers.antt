@@ -1,5 +1,6 @@
 use Rattle.std.proofs.Common.{None, ◌∙◌}
 use Rattle.osm_folder.specs.Stores.{files_of}
+use Rattle.osm_folder.proofs.OverLemmas.{number_adds, number_refuses, number_keeps}
 use Rattle.osm_operations.proofs.RunLemmas.{number_is_text, number_step, ok_calls}
 use Rattle.osm_operations.proofs.runs.publish_as.Goals as goal
 
@@ -13,12 +14,12 @@ returns c = record {
       c.in_ok-write_changes.ensures.written
       (record {
         published = c.publish_as_run.ensures.published;
-        added = c.publish_as_run.ensures.added;
+        added = number_adds _ _ _ _ _ _ _ c.publish_as_run.result c.publish_as_run.ensures.over;
         exact = ok_calls c.publish_as_run.result c.args.dir.now c.as_str.result.now (files_of c.write_changes.new.store)
             None None c.publish_as_run.ensures.exact;
         stops = c.publish_as_run.ensures.stops;
-        refuses = c.publish_as_run.ensures.refuses;
-        keeps = c.publish_as_run.ensures.keeps;
+        refuses = number_refuses _ _ _ _ _ _ _ c.publish_as_run.result c.publish_as_run.ensures.over;
+        keeps = number_keeps _ _ _ _ _ _ _ c.publish_as_run.result c.publish_as_run.ensures.over;
         out = c.publish_as_run.ensures.out;
         others = c.publish_as_run.ensures.others;
       });

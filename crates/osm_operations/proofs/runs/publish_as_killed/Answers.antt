@@ -1,5 +1,6 @@
 use Rattle.std.proofs.Common.{Some, ap, ◌∙◌}
 use Rattle.osm_folder.specs.Stores.{files_of}
+use Rattle.osm_folder.proofs.OverLemmas.{number_adds, number_refuses, number_keeps}
 use Rattle.osm_operations.proofs.RunLemmas.{number_is_text, number_step_over, ok_calls}
 use Rattle.osm_operations.proofs.runs.publish_as_killed.Goals as goal
 
@@ -18,12 +19,12 @@ returns c = record {
       c.in_ok-write_changes.ensures.written
       (record {
         published = c.publish_as_run-answer.ensures.published;
-        added = c.publish_as_run-answer.ensures.added;
+        added = number_adds _ _ _ _ _ _ _ c.publish_as_run-answer.result c.publish_as_run-answer.ensures.over;
         exact = ok_calls c.publish_as_run-answer.result c.args.dir.now c.as_str.result.now (files_of c.fuse_over-fuse.result.inner)
             (Some c.fuse_over-fuse.result.calls) (Some c.publish_as_run-answer.new.store.calls) c.publish_as_run-answer.ensures.exact;
         stops = c.publish_as_run-answer.ensures.stops;
-        refuses = c.publish_as_run-answer.ensures.refuses;
-        keeps = c.publish_as_run-answer.ensures.keeps;
+        refuses = number_refuses _ _ _ _ _ _ _ c.publish_as_run-answer.result c.publish_as_run-answer.ensures.over;
+        keeps = number_keeps _ _ _ _ _ _ _ c.publish_as_run-answer.result c.publish_as_run-answer.ensures.over;
         out = c.publish_as_run-answer.ensures.out;
         others = c.publish_as_run-answer.ensures.others;
       });

@@ -1,5 +1,6 @@
 use Rattle.std.proofs.Common.{Some, ap}
 use Rattle.osm_folder.specs.Stores.{files_of}
+use Rattle.osm_folder.proofs.OverLemmas.{publish_refuses, publish_keeps}
 use Rattle.osm_operations.proofs.RunLemmas.{run_step_over}
 use Rattle.osm_operations.proofs.runs.publish_killed.Goals as goal
 
@@ -18,8 +19,8 @@ returns-clause-step c =
     (record {
       published = c.publish_run-answer.ensures.published;
       stops = c.publish_run-answer.ensures.stops;
-      refuses = c.publish_run-answer.ensures.refuses;
-      keeps = c.publish_run-answer.ensures.keeps;
+      refuses = publish_refuses _ _ _ _ _ _ c.publish_run-answer.result c.publish_run-answer.ensures.over;
+      keeps = publish_keeps _ _ _ _ _ _ c.publish_run-answer.result c.publish_run-answer.ensures.over;
       out = c.publish_run-answer.ensures.out;
       others = c.publish_run-answer.ensures.others;
     })

@@ -1,3 +1,5 @@
+use Rattle.osm_folder.proofs.OverLemmas.{follow_in_step, follow_over_refuses, lag_in_step, lag_over_refuses, number_adds}
+use Rattle.osm_folder.proofs.OverLemmas.{number_keeps, number_refuses, publish_adds, publish_keeps, publish_refuses}
 use Rattle.osm_repl.proofs.execution.run.Goals as goal
 
 -- what each run ensures is what its order asks for
@@ -5,19 +7,34 @@ pub returns-in-Publish-clause-stops : goal.returns-in-Publish-clause-stops
 returns-in-Publish-clause-stops g c = rw c.in-Publish.is c.publish_run.ensures.stops
 
 pub returns-in-Follow-clause-over : goal.returns-in-Follow-clause-over
-returns-in-Follow-clause-over g c = rw c.in-Follow.is c.follow_run.ensures.in_step
+returns-in-Follow-clause-over g c = rw c.in-Follow.is (follow_in_step _ _ _ _ c.follow_run.result c.follow_run.ensures.over)
 
 pub returns-in-Follow-clause-refuses : goal.returns-in-Follow-clause-refuses
-returns-in-Follow-clause-refuses g c = rw c.in-Follow.is c.follow_run.ensures.refuses
+returns-in-Follow-clause-refuses g c = rw c.in-Follow.is (follow_over_refuses _ _ _ _ c.follow_run.result c.follow_run.ensures.over)
 
 pub returns-in-Lag-clause-over : goal.returns-in-Lag-clause-over
-returns-in-Lag-clause-over g c = rw c.in-Lag.is c.lag_run.ensures.in_step
+returns-in-Lag-clause-over g c = rw c.in-Lag.is (lag_in_step _ _ _ _ c.lag_run.result c.lag_run.ensures.over)
 
 pub returns-in-PublishAs-clause-stops : goal.returns-in-PublishAs-clause-stops
 returns-in-PublishAs-clause-stops g c = rw c.in-PublishAs.is c.publish_as_run.ensures.stops
 
 pub returns-in-PublishAs-clause-over : goal.returns-in-PublishAs-clause-over
-returns-in-PublishAs-clause-over g c = rw c.in-PublishAs.is c.publish_as_run.ensures.added
+returns-in-PublishAs-clause-over g c = rw c.in-PublishAs.is (number_adds _ _ _ _ _ _ _ c.publish_as_run.result c.publish_as_run.ensures.over)
 
 pub returns-in-PublishAs-clause-refuses : goal.returns-in-PublishAs-clause-refuses
-returns-in-PublishAs-clause-refuses g c = rw c.in-PublishAs.is c.publish_as_run.ensures.refuses
+returns-in-PublishAs-clause-refuses g c = rw c.in-PublishAs.is (number_refuses _ _ _ _ _ _ _ c.publish_as_run.result c.publish_as_run.ensures.over)
+
+pub returns-in-Lag-clause-refuses : goal.returns-in-Lag-clause-refuses
+returns-in-Lag-clause-refuses g c = rw c.in-Lag.is (lag_over_refuses _ _ _ _ c.lag_run.result c.lag_run.ensures.over)
+
+pub returns-in-Publish-clause-over : goal.returns-in-Publish-clause-over
+returns-in-Publish-clause-over g c = rw c.in-Publish.is (publish_adds _ _ _ _ _ _ c.publish_run.result c.publish_run.ensures.over)
+
+pub returns-in-Publish-clause-refuses : goal.returns-in-Publish-clause-refuses
+returns-in-Publish-clause-refuses g c = rw c.in-Publish.is (publish_refuses _ _ _ _ _ _ c.publish_run.result c.publish_run.ensures.over)
+
+pub returns-in-Publish-clause-leaves : goal.returns-in-Publish-clause-leaves
+returns-in-Publish-clause-leaves g c = rw c.in-Publish.is (publish_keeps _ _ _ _ _ _ c.publish_run.result c.publish_run.ensures.over)
+
+pub returns-in-PublishAs-clause-leaves : goal.returns-in-PublishAs-clause-leaves
+returns-in-PublishAs-clause-leaves g c = rw c.in-PublishAs.is (number_keeps _ _ _ _ _ _ _ c.publish_as_run.result c.publish_as_run.ensures.over)

@@ -28,12 +28,12 @@ push-requires-clause-rising c =
     (sym (sym c.in-Ok-Some.field-0-is ∙ c.in-Ok-Some.ensures)) in
     rw (map-append) (c.loop.invariant.below c.in-Ok-Some.object.key taken.above)
 
-pub push-requires-clause-stands : goal.push-requires-clause-stands
-push-requires-clause-stands c =
+pub push-requires-clause-is_left : goal.push-requires-clause-is_left
+push-requires-clause-is_left c =
     let taken : TakesObject c.loop.last c.in-Ok.cut.0.now c.in-Ok-Some.object =
     object_takes c.loop.last c.in-Ok.cut.0.now c.in-Ok-Some.object
     (sym (sym c.in-Ok-Some.field-0-is ∙ c.in-Ok-Some.ensures)) in
-    taken.object.stands
+    taken.object.is_left
 
 pub loop-preserved : goal.loop-preserved
 loop-preserved c =

@@ -7,9 +7,9 @@ use Rattle.osm_save.proofs.save.save_write.Goals as goal
 
 pub returns-clause-text : goal.returns-clause-text
 returns-clause-text c =
-    let start = rw c.in_ok-text.ensures.empty at c.in_ok-write_start.ensures in
+    let start = rw c.in_ok-text.ensures.empty at c.in_ok-write_head.ensures in
     let objects = c.in_ok-write_objects.ensures
-    ∙ ap (λ cs. c.write_start.new.out.items ++ ended (list_lines (codes "objects ") line_text cs))
+    ∙ ap (λ cs. c.write_head.new.out.items ++ ended (list_lines (codes "objects ") line_text cs))
     c.objects_by_key.ensures in
     let users = c.in_ok-write_counts.ensures
     ∙ ap (λ es. c.write_objects.new.out.items ++ ended (list_lines (codes "users ") count_text es))
@@ -18,12 +18,12 @@ returns-clause-text c =
     ∙ ap (λ es. c.write_counts.new.out.items ++ ended (list_lines (codes "changesets ") count_text es))
     c.changeset_counts.ensures in
     save_written (record { number = c.args.number; time = c.args.time; mirror = c.args.mirror.now })
-    c.write_start.new.out.items c.write_objects.new.out.items c.write_counts.new.out.items
+    c.write_head.new.out.items c.write_objects.new.out.items c.write_counts.new.out.items
     c.write_counts-2.new.out.items c.extend_from_slice.new.self.items start objects users changesets
     c.in_ok-extend_from_slice.ensures.items
 
 pub returns-clause-spelled : goal.returns-clause-spelled
 returns-clause-spelled c = λ number time within. record {
-  savable = record { number = number; time = time; mirror = c.lists_rise.ensures; within = within };
+  savable = record { number = number; time = time; mirror = c.limits.ensures; within = within };
   text = returns-clause-text c;
 }

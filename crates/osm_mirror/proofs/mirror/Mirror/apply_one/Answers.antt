@@ -1,13 +1,13 @@
 use Rattle.std.proofs.Common.{◌≡◌, ◌∙◌, refl, rules, Bool, true, false, Option, Some, None, if◌then◌else◌}
 use Rattle.osm_mirror.specs.Room.{HasRoom}
 use Rattle.osm_model.specs.Change.{ChangeValue}
-use Rattle.osm_model.specs.Content.{over_at, standing_of}
+use Rattle.osm_model.specs.Content.{over_at, object_after}
 use Rattle.osm_model.specs.KeyOrder.{same_key}
 use Rattle.osm_mirror.specs.Mirror.{object_at}
 use Rattle.osm_mirror.proofs.mirror.Mirror.apply_one.Goals as goal
 
 -- one change over what was there before
-over_one : (b : Bool) (before : Option ChangeValue) (c : ChangeValue) → (if b then standing_of c else before) ≡ over_at before (if b then Some c else None)
+over_one : (b : Bool) (before : Option ChangeValue) (c : ChangeValue) → (if b then object_after c else before) ≡ over_at before (if b then Some c else None)
 over_one true before c = refl
 over_one false before c = refl
 

@@ -21,6 +21,6 @@ invariant_of-result c =
     let few : length c.args.tags ≤ max_tags = search rules in
     simp to_z-of_z (record {
       id = id;
-      meta = c.version-version.ensures.limits;
+      meta = c.limits.ensures;
       what = (refl, location, record { few = few; each = c.as_slice.ensures.limits });
     })

@@ -1,4 +1,4 @@
-use Rattle.std.proofs.Common.{rules, ◌≡◌, ◌-◌, ◌+◌, ◌/◌, ◌<◌, ◌≤◌, length, get_or, ap, sym, ◌∙◌, arith}
+use Rattle.std.proofs.Common.{rules, ◌≡◌, ◌-◌, ◌+◌, ◌/◌, ◌<◌, ◌≤◌, length, get_or, ap, ◌∙◌, arith}
 use Rattle.std.specs.Prelude.{◌≢◌}
 use Rattle.osm_o5c.specs.Steps.Index.{strings_of, links_of, string_at, bucket_of, no_slot, Chained}
 use Rattle.osm_o5c.specs.declared.chains.Slot.{Slot}

@@ -1,4 +1,4 @@
-use Rattle.std.proofs.Common.{rules, ◌≡◌, ◌<◌, ◌≤◌, ℕ, length, get_or, ap, sym, ◌∙◌, arith}
+use Rattle.std.proofs.Common.{rules, ◌≡◌, ◌<◌, length, get_or, ap, sym, ◌∙◌, arith}
 use Rattle.osm_o5c.specs.Steps.Index.{strings_of, no_slot}
 use Rattle.osm_o5c.specs.declared.chains.Slot.{Slot}
 use Rattle.osm_o5c.proofs.IndexLemmas.{strings_length, links_at, any_default}

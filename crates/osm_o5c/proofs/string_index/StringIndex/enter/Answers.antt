@@ -1,5 +1,5 @@
-use Rattle.std.proofs.Common.{rules, ◌≡◌, ◌+◌, ◌≤◌, length, ap, refl, sym, ◌∙◌, arith, w64, Fits}
-use Rattle.osm_o5c.specs.Steps.Index.{Chained, IsIndexed}
+use Rattle.std.proofs.Common.{rules, ◌≡◌, ◌+◌, length}
+use Rattle.osm_o5c.specs.Steps.Index.{IsIndexed}
 use Rattle.osm_o5c.proofs.IndexLemmas.{pushed, linked}
 use Rattle.osm_o5c.proofs.LatestLemmas.{indexed_linked, indexed_forgotten, indexed_kept, indexed_refused}
 use Rattle.osm_o5c.proofs.string_index.StringIndex.enter.Goals as goal

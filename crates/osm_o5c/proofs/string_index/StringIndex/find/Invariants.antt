@@ -1,5 +1,4 @@
 use Rattle.osm_o5c.proofs.IndexLemmas.{IsAhead}
-use Rattle.osm_o5c.specs.Steps.Latest.{latest_of}
 use Rattle.osm_o5c.proofs.string_index.StringIndex.find.Given as goal
 
 abbrev pub invariant-loop-at : goal.invariant-loop-at

@@ -1,4 +1,4 @@
-use Rattle.std.proofs.Common.{None, Some, refl}
+use Rattle.std.proofs.Common.{Some, refl}
 use Rattle.std.specs.Prelude.{string_bytes}
 use Rattle.osm_operations.proofs.RunLemmas.{answer_to}
 use Rattle.osm_operations.proofs.world.World.publish_as_killed.Goals as goal

@@ -1,0 +1,92 @@
+//! Calls of a follower.
+
+use crate::answers::{put_or, write_bytes_or, write_done};
+use crate::commands::Command;
+use crate::subject::Subject;
+use anyhow::{Context, Result, bail};
+use osm_follow::follower::Follower;
+use osm_model::form::ChangeForm;
+use osm_model::memory::WantOfMemory;
+use osm_o5c::o5c::O5c;
+use osm_opl::opl::Opl;
+use osm_reading::pieces::cut;
+use osm_show::show::write_view;
+use osm_state::state_text::state_read;
+use std::alloc::Global;
+use std::io::Write;
+
+/// A follower.
+#[derive(Drop)]
+pub(crate) struct Following {
+    follower: Follower,
+}
+
+impl Following {
+    pub(crate) fn new(alloc: Global) -> Result<Following, WantOfMemory> {
+        let follower = Follower::new(alloc)?;
+        Ok(Following { follower })
+    }
+}
+
+impl Subject for Following {
+    fn take(&mut self, alloc: Global, command: &Command<'_>, out: &mut Vec<u8>) -> Result<()> {
+        let given = command.given;
+        let follower = &mut self.follower;
+        match command.word {
+            b"show" => show(alloc, follower, out),
+            b"mend" => mend(alloc, follower, given, out),
+            b"Follower::new" => put_or(Follower::new(alloc), follower, out),
+            b"Follower::deliver::<Opl>" => deliver::<Opl>(alloc, follower, given, out),
+            b"Follower::deliver::<O5c>" => deliver::<O5c>(alloc, follower, given, out),
+            b"Follower::missing" => missing(alloc, follower, given, out),
+            b"Follower::view" => show(alloc, follower, out),
+            b"Follower::save" => write_bytes_or(follower.save(alloc), out),
+            b"Follower::restart" => write_done(follower.restart(alloc, Some(given)), out),
+            b"restart-from-nothing" => write_done(follower.restart(alloc, None), out),
+            _ => bail!("no such call"),
+        }
+    }
+}
+
+/// The show text of a follower, or why it has no view.
+pub(crate) fn show(alloc: Global, follower: &Follower, out: &mut Vec<u8>) -> Result<()> {
+    match follower.view(alloc) {
+        Ok(view) => write_view(&view, out)?,
+        Err(error) => writeln!(out, "{error:?}")?,
+    }
+    Ok(())
+}
+
+// Restarts a follower that is broken from the save.
+fn mend(alloc: Global, follower: &mut Follower, save: &[u8], out: &mut Vec<u8>) -> Result<()> {
+    if follower.is_broken() {
+        return write_done(follower.restart(alloc, Some(save)), out);
+    }
+    Ok(writeln!(out, "whole")?)
+}
+
+// Delivers a state text and a change file, which has a byte 0 before it.
+fn deliver<F: ChangeForm>(
+    alloc: Global,
+    follower: &mut Follower,
+    given: &[u8],
+    out: &mut Vec<u8>,
+) -> Result<()> {
+    let (state, file) = cut(given, 0);
+    let file = file.context("no change file")?;
+    match follower.deliver::<F>(alloc, state, file) {
+        Ok(delivered) => writeln!(out, "{delivered:?}")?,
+        Err(error) => writeln!(out, "{error:?}")?,
+    }
+    Ok(())
+}
+
+// The numbers that are missing up to that of a state text.
+fn missing(alloc: Global, follower: &Follower, state: &[u8], out: &mut Vec<u8>) -> Result<()> {
+    let state = state_read(state)?;
+    match follower.missing(alloc, &state) {
+        Ok(missing) => writeln!(out, "{:?}", missing.as_slice())?,
+        Err(error) => writeln!(out, "{error:?}")?,
+    }
+    Ok(())
+}

@@ -1,0 +1,128 @@
+//! Calls that make a value from what they are given: paths and state texts, texts of objects, and
+//! what the words of the command line ask for.
+
+use crate::answers::{put_some, write_bytes_or};
+use crate::commands::Command;
+use crate::subject::Subject;
+use anyhow::{Context, Result, bail};
+use osm_model::limits::MAX_SEQUENCE;
+use osm_model::text::Text;
+use osm_reading::sequence::sequence_read;
+use osm_repl::command_line::order;
+use osm_repl::echo::echoes;
+use osm_state::paths::{Suffix, path};
+use osm_state::state::State;
+use osm_state::state_text::state_write;
+use std::alloc::Global;
+use std::fmt::Debug;
+use std::io::Write;
+
+/// A text that may be copied.
+#[derive(Drop)]
+pub(crate) struct Texts {
+    text: Option<Text>,
+}
+
+impl Texts {
+    pub(crate) fn new() -> Texts {
+        Texts { text: None }
+    }
+
+    fn text(&self) -> Result<&Text> {
+        Ok(self.text.as_ref().context("no text")?)
+    }
+
+    fn write_within_limits(&self, alloc: Global, out: &mut Vec<u8>) -> Result<()> {
+        let text = self.text()?;
+        write_text_or(Text::within_limits(alloc, text.as_str()), out)
+    }
+
+    fn write_copy(&self, alloc: Global, out: &mut Vec<u8>) -> Result<()> {
+        let text = self.text()?;
+        write_text_or(text.copy(alloc), out)
+    }
+}
+
+impl Subject for Texts {
+    fn take(&mut self, alloc: Global, command: &Command<'_>, out: &mut Vec<u8>) -> Result<()> {
+        let given = str::from_utf8(command.given)?;
+        match command.word {
+            b"text" => put_some(Text::new(alloc, given), &mut self.text),
+            b"show" => Ok(()),
+            b"Text::new" => write_text_or(Text::new(alloc, given), out),
+            b"Text::within_limits" => self.write_within_limits(alloc, out),
+            b"Text::copy" => self.write_copy(alloc, out),
+            b"path" => write_path(alloc, given, out),
+            b"state_write" => write_state(alloc, given, out),
+            b"order" => write_order(alloc, given, out),
+            b"echoes" => write_echoes(alloc, given, out),
+            _ => bail!("no such call"),
+        }
+    }
+}
+
+fn write_text_or<E: Debug + Drop>(answer: Result<Text, E>, out: &mut Vec<u8>) -> Result<()> {
+    match answer {
+        Ok(text) => writeln!(out, "{}", text.as_str())?,
+        Err(error) => writeln!(out, "{error:?}")?,
+    }
+    Ok(())
+}
+
+// The path of the OPL file of a number.
+fn write_path(alloc: Global, given: &str, out: &mut Vec<u8>) -> Result<()> {
+    let number = sequence_read(given.as_bytes())
+        .context("no number")?
+        .min(MAX_SEQUENCE);
+    match path(alloc, number, Suffix::Opl) {
+        Ok(path) => writeln!(out, "{path}")?,
+        Err(error) => writeln!(out, "{error:?}")?,
+    }
+    Ok(())
+}
+
+// The state text of a number at the first second.
+fn write_state(alloc: Global, given: &str, out: &mut Vec<u8>) -> Result<()> {
+    let number = sequence_read(given.as_bytes()).context("no number")?;
+    let state = State::new(number, 1).context("no state")?;
+    write_bytes_or(state_write(alloc, &state), out)
+}
+
+const MOST_WORDS: usize = 8;
+
+// The words of a text that stand between single blanks, and how many there are, at most eight.
+fn words_of(text: &str) -> ([&str; MOST_WORDS], usize) {
+    let mut words = [""; MOST_WORDS];
+    let mut count = 0usize;
+    for word in text.split(' ') {
+        if let Some(place) = words.get_mut(count) {
+            *place = word;
+            count = count.saturating_add(1);
+        }
+    }
+    (words, count)
+}
+
+fn write_order(alloc: Global, given: &str, out: &mut Vec<u8>) -> Result<()> {
+    let (words, count) = words_of(given);
+    let words = words.get(..count).context("too many words")?;
+    match order(alloc, words) {
+        Ok(order) => writeln!(out, "{order:?}")?,
+        Err(error) => writeln!(out, "{:?}", error.kind())?,
+    }
+    Ok(())
+}
+
+fn write_echoes(alloc: Global, given: &str, out: &mut Vec<u8>) -> Result<()> {
+    let (words, count) = words_of(given);
+    let words = words.get(..count).context("too many words")?;
+    match echoes(alloc, words) {
+        Ok(echoes) => {
+            for echo in &echoes {
+                writeln!(out, "{echo}")?;
+            }
+        }
+        Err(error) => writeln!(out, "{error:?}")?,
+    }
+    Ok(())
+}

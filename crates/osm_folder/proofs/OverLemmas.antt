@@ -1,0 +1,100 @@
+-- What runs do over the folder of published sequences, a clause at a time.
+use Rattle.std.proofs.Common.{ℕ, List}
+use Rattle.std.specs.Prelude.{Result, Ok, Err, IfErr, IfOk, OnErr}
+use Rattle.osm_follow.specs.Published.{PublishedValue}
+use Rattle.osm_folder.specs.Files.{Files}
+use Rattle.osm_folder.specs.Folder.{IsFolderOf}
+use Rattle.osm_folder.specs.Following.{FollowRefuses, FollowsOver, IsInStepAfter, IsSaveOf, follow_calls}
+use Rattle.osm_folder.specs.Frames.{IsKnown, StoreState}
+use Rattle.osm_folder.specs.Lagging.{IsLagOf, LagRefuses, LagsOver}
+use Rattle.osm_folder.specs.Numbered.{IsAddedAs, NumberedRefuses, PublishesAsOver}
+use Rattle.osm_folder.specs.Publication.{FolderRefuses, IsAdded, PublishesOver}
+use Rattle.osm_folder.specs.Reports.{ReportValue}
+use Rattle.osm_folder.specs.Runs.{LacksCalls}
+use Rattle.osm_folder.specs.declared.fault.RunFault.{RunFault}
+
+-- ---- a publication
+
+pub publish_adds : (known : Type 0) (dir changes now : List ℕ) (old new : Files) (r : Result ReportValue RunFault)
+    → (known → (p : List PublishedValue) → IsFolderOf p old dir → PublishesOver p dir changes now old new r)
+    → IfOk r (λ report. known → (p : List PublishedValue) → IsFolderOf p old dir → IsAdded p dir changes now old new report)
+publish_adds known dir changes now old new (Ok report) over = λ sure p is. (over sure p is).added
+publish_adds known dir changes now old new (Err fault) over = tt
+
+pub publish_refuses : (known : Type 0) (dir changes now : List ℕ) (old new : Files) (r : Result ReportValue RunFault)
+    → (known → (p : List PublishedValue) → IsFolderOf p old dir → PublishesOver p dir changes now old new r)
+    → IfErr r (λ fault. known → (p : List PublishedValue) → IsFolderOf p old dir → FolderRefuses p now fault)
+publish_refuses known dir changes now old new (Ok report) over = tt
+publish_refuses known dir changes now old new (Err fault) over = λ sure p is. (over sure p is).refuses
+
+pub publish_keeps : (known : Type 0) (dir changes now : List ℕ) (old new : Files) (r : Result ReportValue RunFault)
+    → (known → (p : List PublishedValue) → IsFolderOf p old dir → PublishesOver p dir changes now old new r)
+    → OnErr r (known → (p : List PublishedValue) → IsFolderOf p old dir → IsFolderOf p new dir)
+publish_keeps known dir changes now old new (Ok report) over = tt
+publish_keeps known dir changes now old new (Err fault) over = λ sure p is. (over sure p is).keeps
+
+-- ---- a publication by number
+
+pub number_adds : (known : Type 0) (dir changes now sequence : List ℕ) (old new : Files) (r : Result ReportValue RunFault)
+    → (known → (p : List PublishedValue) → IsFolderOf p old dir → PublishesAsOver p dir changes now sequence old new r)
+    → IfOk r (λ report. known → (p : List PublishedValue) → IsFolderOf p old dir
+    → IsAddedAs p dir changes now sequence old new report)
+number_adds known dir changes now sequence old new (Ok report) over = λ sure p is. (over sure p is).added
+number_adds known dir changes now sequence old new (Err fault) over = tt
+
+pub number_refuses : (known : Type 0) (dir changes now sequence : List ℕ) (old new : Files) (r : Result ReportValue RunFault)
+    → (known → (p : List PublishedValue) → IsFolderOf p old dir → PublishesAsOver p dir changes now sequence old new r)
+    → IfErr r (λ fault. known → (p : List PublishedValue) → IsFolderOf p old dir
+    → NumberedRefuses p dir changes now sequence old fault)
+number_refuses known dir changes now sequence old new (Ok report) over = tt
+number_refuses known dir changes now sequence old new (Err fault) over = λ sure p is. (over sure p is).refuses
+
+pub number_keeps : (known : Type 0) (dir changes now sequence : List ℕ) (old new : Files) (r : Result ReportValue RunFault)
+    → (known → (p : List PublishedValue) → IsFolderOf p old dir → PublishesAsOver p dir changes now sequence old new r)
+    → OnErr r (known → (p : List PublishedValue) → IsFolderOf p old dir → IsFolderOf p new dir)
+number_keeps known dir changes now sequence old new (Ok report) over = tt
+number_keeps known dir changes now sequence old new (Err fault) over = λ sure p is. (over sure p is).keeps
+
+-- ---- a run of the follower
+
+pub follow_in_step : (dir save : List ℕ) (a b : StoreState) (r : Result ReportValue RunFault)
+    → (IsKnown a → (p : List PublishedValue) (n : ℕ) → IsFolderOf p a.files dir → IsSaveOf p n (a.files save)
+    → FollowsOver p n dir save a b r)
+    → IfOk r (λ report. IsKnown a → (p : List PublishedValue) (n : ℕ) → IsFolderOf p a.files dir
+    → IsSaveOf p n (a.files save) → IsInStepAfter p n dir save a.files b.files report)
+follow_in_step dir save a b (Ok report) over = λ sure p n is s. (over sure p n is s).in_step
+follow_in_step dir save a b (Err fault) over = tt
+
+pub follow_over_refuses : (dir save : List ℕ) (a b : StoreState) (r : Result ReportValue RunFault)
+    → (IsKnown a → (p : List PublishedValue) (n : ℕ) → IsFolderOf p a.files dir → IsSaveOf p n (a.files save)
+    → FollowsOver p n dir save a b r)
+    → IfErr r (λ fault. IsKnown a → (p : List PublishedValue) (n : ℕ) → IsFolderOf p a.files dir
+    → IsSaveOf p n (a.files save) → FollowRefuses p (a.files save) fault)
+follow_over_refuses dir save a b (Ok report) over = tt
+follow_over_refuses dir save a b (Err fault) over = λ sure p n is s. (over sure p n is s).refuses
+
+pub follow_lacks : (dir save : List ℕ) (a b : StoreState) (r : Result ReportValue RunFault)
+    → (IsKnown a → (p : List PublishedValue) (n : ℕ) → IsFolderOf p a.files dir → IsSaveOf p n (a.files save)
+    → FollowsOver p n dir save a b r)
+    → IfErr r (λ fault. IsKnown a → (p : List PublishedValue) (n : ℕ) → IsFolderOf p a.files dir
+    → IsSaveOf p n (a.files save) → LacksCalls (follow_calls p n) a.left fault)
+follow_lacks dir save a b (Ok report) over = tt
+follow_lacks dir save a b (Err fault) over = λ sure p n is s. (over sure p n is s).calls.lacks sure
+
+-- ---- a lag
+
+pub lag_in_step : (known : Type 0) (dir save : List ℕ) (files : Files) (r : Result ReportValue RunFault)
+    → (known → (p : List PublishedValue) (n : ℕ) → IsFolderOf p files dir → IsSaveOf p n (files save)
+    → LagsOver p n (files save) r)
+    → IfOk r (λ report. known → (p : List PublishedValue) (n : ℕ) → IsFolderOf p files dir → IsSaveOf p n (files save)
+    → IsLagOf p n report)
+lag_in_step known dir save files (Ok report) over = λ sure p n is s. (over sure p n is s).in_step
+lag_in_step known dir save files (Err fault) over = tt
+
+pub lag_over_refuses : (known : Type 0) (dir save : List ℕ) (files : Files) (r : Result ReportValue RunFault)
+    → (known → (p : List PublishedValue) (n : ℕ) → IsFolderOf p files dir → IsSaveOf p n (files save)
+    → LagsOver p n (files save) r)
+    → IfErr r (λ fault. known → (p : List PublishedValue) (n : ℕ) → IsFolderOf p files dir → IsSaveOf p n (files save)
+    → LagRefuses p n (files save) fault)
+lag_over_refuses known dir save files (Ok report) over = tt
+lag_over_refuses known dir save files (Err fault) over = λ sure p n is s. (over sure p n is s).refuses

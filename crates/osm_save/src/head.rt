@@ -1,0 +1,127 @@
+//! The head of a save text: the lines before its lists.
+
+ghost use Rattle.std.specs.Prelude.{◌≡◌, ℕ, List, ◌∷◌, [], ◌++◌, ◌≤◌, codes, take};
+ghost use Rattle.std.specs.Prelude.{IfOk, OnErr, OnOk};
+ghost use Rattle.osm_model.specs.Limits.{max_sequence};
+ghost use Rattle.osm_opl.specs.Steps.Reading.{time_at};
+ghost use Rattle.osm_save.specs.Head.{BeginsSave, head_lines, head_of, max_head};
+ghost use Rattle.osm_save.specs.Save.{SpellsSave, ended, maybe_time_text};
+ghost use Rattle.osm_save.specs.Steps.Answers.{Finds};
+ghost use Rattle.osm_save.specs.Steps.Reading.{head_at, time_line_at};
+ghost use Rattle.osm_save.specs.declared.save.Saved.{Saved};
+
+use crate::lines::{fixed_line, line_number, next_line, numbered_line, write_numbered};
+use crate::stop::Stop;
+use osm_model::limits::MAX_SEQUENCE;
+use osm_model::memory::WantOfMemory;
+use osm_model::time::{time_read, time_write};
+use thiserror::Error;
+
+/// What the head of a save text says.
+#[derive(Clone, Copy, Debug, PartialEq, Eq)]
+pub struct Head {
+    /// The number of the last sequence that was applied; 0 at the start.
+    pub number: u32,
+    /// The time of that sequence, in seconds since 1970-01-01T00:00:00Z; none at number 0.
+    pub time: Option<u32>,
+}
+
+/// The bytes begin with the head of no save text.
+#[derive(Clone, Copy, Debug, PartialEq, Eq, Error)]
+#[error("BadHead")]
+pub struct BadHead {
+    /// The line, counted from 1, that can't follow those before it, or one past the last line if
+    /// the bytes end too early.
+    pub line: u64,
+}
+
+/// Reads the head of a save text. The bytes are that text, or its beginning: 60 are enough. What
+/// follows the head isn't looked at.
+pub fn head_read(bytes: &[u8]) -> Result<Head, BadHead>
+    ensures begins { IfOk result (BeginsSave bytes.now) }
+    ensures refused { OnErr result ((head : Head) → BeginsSave bytes.now head → ⊥) }
+{
+    match read_head(bytes) {
+        Ok((head, _rest)) => Ok(head),
+        Err(Stop::Wrong(left)) => Err(BadHead {
+            line: line_number(bytes, left),
+        }),
+        Err(Stop::WantOfMemory) => unreachable!(),
+    }
+}
+
+// Reads the head, and gives the bytes after it.
+#[tactic(auto, unfolding(crate::specs::Steps::Reading::head_at))]
+pub(crate) fn read_head(bytes: &[u8]) -> Result<(Head, &[u8]), Stop>
+    ensures value { Finds (λ r. (r.0, r.1.now)) result (head_at bytes.now) }
+    ensures limit { IfOk result (λ r. r.0.number ≤ max_sequence) }
+{
+    let rest = fixed_line(b"osmrepl-save 1", bytes)?;
+    let (number, rest) = numbered_line(b"sequence ", MAX_SEQUENCE as u64, rest)?;
+    let (time, rest) = time_line(number, rest)?;
+    let number = number as u32;
+    Ok((Head { number, time }, rest))
+}
+
+// Reads the line with the time of a number.
+#[tactic(auto, unfolding(crate::specs::Steps::Reading::time_line_at))]
+fn time_line(number: u64, rest: &[u8]) -> Result<(Option<u32>, &[u8]), Stop>
+    ensures { Finds (λ r. (r.0, r.1.now)) result (time_line_at number rest.now) }
+{
+    if number == 0 {
+        let after = fixed_line(b"time none", rest)?;
+        return Ok((None, after));
+    }
+    let (line, after) = next_line(rest)?;
+    let Some(text) = line.strip_prefix(b"time ") else {
+        return Err(Stop::Wrong(rest.len()));
+    };
+    let Some(time) = read_time(text) else {
+        return Err(Stop::Wrong(rest.len()));
+    };
+    Ok((Some(time), after))
+}
+
+// The time with this text.
+fn read_time(text: &[u8]) -> Option<u32>
+    ensures { result ≡ time_at text.now }
+{
+    time_read(text)
+}
+
+// Appends the head.
+pub(crate) fn write_head(head: Head, out: &mut Vec<u8>) -> Result<(), WantOfMemory>
+    ensures { OnOk result (out.new.items ≡ out.old.items ++ ended (head_lines head)) }
+{
+    out.extend_from_slice(b"osmrepl-save 1\n")?;
+    write_numbered(b"sequence ", head.number as u64, out)?;
+    write_time_line(head.time, out)?;
+    Ok(())
+}
+
+fn write_time_line(time: Option<u32>, out: &mut Vec<u8>) -> Result<(), WantOfMemory>
+    ensures { OnOk result (out.new.items ≡ out.old.items
+        ++ ended ((codes "time " ++ maybe_time_text time) ∷ [])) }
+{
+    match time {
+        None => {
+            out.extend_from_slice(b"time none\n")?;
+            Ok(())
+        }
+        Some(time) => {
+            out.extend_from_slice(b"time ")?;
+            out.extend_from_slice(&time_write(time))?;
+            out.push(b'\n')?;
+            Ok(())
+        }
+    }
+}
+
+/// Laws of heads: bytes begin with at most one, and the first 60 bytes or more of a save text with
+/// the head of what it saves. Does nothing at run time.
+pub fn laws_of_heads()
+    ensures one_head { (bytes : List ℕ) (a b : Head)
+        → BeginsSave bytes a → BeginsSave bytes b → a ≡ b }
+    ensures begins { (bytes : List ℕ) (v : Saved) (most : ℕ)
+        → SpellsSave bytes v → max_head ≤ most → BeginsSave (take most bytes) (head_of v) }
+{}

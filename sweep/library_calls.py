@@ -1,0 +1,32 @@
+"""What the built program `library_calls` answers to commands."""
+
+import subprocess
+from pathlib import Path
+
+PROGRAM = Path(__file__).resolve().parent.parent / "crates" / "library_calls" / "out" / "library_calls"
+MARK = ("mark", b"")
+
+
+class Wrong(Exception):
+    """An answer that should have been another one."""
+
+
+def start(on, commands, environment=None, **options):
+    """Runs the program on these commands, the first of which names what the calls are made on."""
+    text = b"".join(b"%s %d\n%s\n" % (word.encode(), len(given), given) for word, given in [(on, b""), *commands])
+    return subprocess.run([PROGRAM], input=text, capture_output=True, env=environment, **options)
+
+
+def answers(on, commands, environment=None):
+    """What each command but the marks is answered."""
+    done = start(on, commands, environment)
+    marks = commands.count(MARK)
+    found = done.stdout.split(b"--\n")
+    if (done.returncode, done.stderr) != (0, b"mark\n" * marks) or len(found) != len(commands) - marks + 1:
+        raise Wrong(f"status {done.returncode}, {done.stderr!r}: {done.stdout!r}")
+    return found[:-1]
+
+
+def expect(what, found, wanted):
+    if found != wanted:
+        raise Wrong(f"{what} is {found!r}, where it should be {wanted!r}")

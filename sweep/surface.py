@@ -1,0 +1,78 @@
+"""The public functions of the libraries, as their sources declare them, and those that take no memory."""
+
+import re
+
+# The libraries, lowest first.
+LIBRARIES = ("osm_model osm_reading osm_opl osm_o5c osm_state osm_holding osm_mirror osm_save osm_follow osm_world "
+             "osm_show osm_repl").split()
+MODULE = re.compile(r"^pub mod (\w+);", re.MULTILINE)
+BLOCK = re.compile(r"impl(?:<.*?>)? (?:(\w+)(?:<[^>]*>)? for )?(\w+)")
+FUNCTION = re.compile(r"( *)(pub )?(?:const |unsafe )*fn (\w+)")
+TRAIT = re.compile(r"^pub trait (\w+)", re.MULTILINE)
+
+# A value is taken apart, made of parts that it gets, or looked up; a number is read or written in place; or nothing is
+# done at all, by those that begin with `laws`.
+TAKE_NO_MEMORY = set("""
+    Batch::new Batch::limits Batch::changes Batch::into_changes
+    Change::node Change::way Change::relation Change::deleted Change::limits Change::key Change::meta
+    Change::is_deletion Change::what
+    Tag::limits Member::limits i64::limits i64::copy Parts::new Parts::from_vec Parts::into_vec Parts::as_slice
+    Meta::new Meta::limits Meta::version Meta::time Meta::changeset Meta::uid Meta::user
+    Text::as_str Text::limits time_read time_write
+    split_line is_skipped_line cut sequence_read
+    path_number State::new State::sequence State::time state_read
+    HoldingArea::base HoldingArea::is_held HoldingArea::hold HoldingArea::take_next HoldingArea::advance
+    HoldingArea::reset
+    Counts::new Counts::get Counts::len Counts::iter Counts::limits
+    Mirror::new Mirror::limits Mirror::from_parts Mirror::objects_by_key Mirror::user_counts
+    Mirror::changeset_counts Mirror::get Mirror::user_count Mirror::changeset_count
+    Objects::new Objects::get Objects::len Objects::iter Objects::limits
+    Publisher::new Publisher::resume Publisher::number Publisher::pending Publisher::check_close
+    Published::number Published::state Published::o5c Published::opl
+    Follower::is_broken Follower::number Follower::time Follower::get Follower::user_count Follower::changeset_count
+    Follower::is_held Follower::lag
+    View::new View::number View::time View::objects View::users View::changesets View::held
+    World::publisher World::follower World::published
+    ending_of_error ending_of_unread ending_of_fault head_read
+    Opl::laws O5c::laws laws_of_content laws_of_opl laws_of_o5c laws_of_state laws_of_holding laws_of_mirrors
+    laws_of_saves laws_of_heads laws_of_deliveries laws_of_restarts laws_of_runs laws_of_replies laws_of_histories
+    laws_of_progress laws_of_archives laws_of_views laws_of_order laws_of_replays
+""".split())
+
+# These want a key or a number above all others. They are tried by a call that gives them such ones.
+TRIED_BY = {"Objects::push": "save_read", "Counts::push": "save_read"}
+
+
+def name_of(call):
+    """The function that a command of the program calls: without its type, and without words after it."""
+    return re.sub(r"::<\w+>$", "", call).split("-")[0]
+
+
+def modules(crates):
+    """The sources of the public modules."""
+    for crate in LIBRARIES:
+        source = crates / crate / "src"
+        for module in MODULE.findall((source / "lib.rt").read_text()):
+            yield (source / f"{module}.rt").read_text()
+
+
+def functions_of(source, traits):
+    """The public functions of a module: free ones, those of a type, and those of a type by one of the traits."""
+    owner, is_public = None, False
+    for line in source.split("\n"):
+        if block := BLOCK.match(line):
+            owner, is_public = block[2], block[1] in traits
+        elif line == "}":
+            owner = None
+        elif function := FUNCTION.match(line):
+            if not function[1] and function[2]:
+                yield function[3]
+            elif len(function[1]) == 4 and owner and (function[2] or is_public):
+                yield f"{owner}::{function[3]}"
+
+
+def surface(crates):
+    """The public functions of all libraries, but for those of a trait of std, which compare, convert or show."""
+    sources = list(modules(crates))
+    traits = {trait for source in sources for trait in TRAIT.findall(source)}
+    return {name for source in sources for name in functions_of(source, traits)}
