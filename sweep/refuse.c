@@ -1,7 +1,7 @@
 /* Refuses one allocation of the program that it is loaded into: the one whose number, from 1, is in
-   REFUSE. Without that variable it counts them, and writes the count to descriptor 9 at the end. With
-   MARKED only the allocations between two writes to standard error have numbers: the first write begins,
-   the second one ends, and so on. */
+   REFUSE. Without that variable it counts them, and writes the count to the descriptor in COUNTS, or else
+   to 9, at the end. With MARKED only the allocations between two writes to standard error have numbers:
+   the first write begins, the second one ends, and so on. */
 #define _GNU_SOURCE
 #include <dlfcn.h>
 #include <stddef.h>
@@ -51,5 +51,6 @@ WRITE(write)
 WRITE(__write)
 
 __attribute__((destructor)) static void count(void) {
-    if (!getenv("REFUSE")) dprintf(9, "%ld\n", asked);
+    const char *descriptor = getenv("COUNTS");
+    if (!getenv("REFUSE")) dprintf(descriptor ? atoi(descriptor) : 9, "%ld\n", asked);
 }
