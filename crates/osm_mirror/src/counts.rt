@@ -35,7 +35,7 @@ impl Model for Counts {
 }
 
 impl Counts {
-    /// No counts.
+    /// Empty; takes no memory.
     pub fn new(alloc: Global) -> Counts
         ensures { result ≡ [] }
     {

@@ -40,7 +40,7 @@ impl Model for Objects {
 }
 
 impl Objects {
-    /// No objects.
+    /// Empty; takes no memory.
     pub fn new(alloc: Global) -> Objects
         ensures { result ≡ [] }
     {

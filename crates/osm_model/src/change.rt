@@ -312,7 +312,7 @@ impl Change {
         &self.what
     }
 
-    /// An equal change.
+    /// A copy, with memory of its own.
     pub fn copy(&self, alloc: Global) -> Result<Change, WantOfMemory>
         ensures { IfOk result (λ c. c ≡ self.now) }
     {

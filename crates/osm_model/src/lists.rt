@@ -19,7 +19,7 @@ pub trait Part: Drop {
     fn limits(&self)
         ensures { within_limits self.now };
 
-    /// An equal part.
+    /// A copy, with memory of its own.
     fn copy(&self, alloc: Global) -> Result<Self, WantOfMemory>
     where
         Self: Sized,
@@ -119,7 +119,7 @@ impl<T: Part> Model for Parts<T> {
 }
 
 impl<T: Part> Parts<T> {
-    /// No parts.
+    /// Empty; takes no memory.
     pub fn new(alloc: Global) -> Parts<T>
         ensures { result ≡ [] }
     {
@@ -128,7 +128,7 @@ impl<T: Part> Parts<T> {
         }
     }
 
-    /// Takes no memory.
+    /// The list of these parts; takes no memory.
     pub fn from_vec(parts: Vec<T>) -> Parts<T>
         ensures { result ≡ parts.items }
     {
@@ -136,14 +136,14 @@ impl<T: Part> Parts<T> {
         Parts { parts }
     }
 
-    /// Takes no memory.
+    /// The parts of the list; takes no memory.
     pub fn into_vec(self) -> Vec<T>
         ensures { result.items ≡ self }
     {
         self.parts
     }
 
-    /// Adds a part at the end.
+    /// Adds a part at the end; after a refusal the list is as before.
     pub fn push(&mut self, part: T) -> Result<(), WantOfMemory>
         ensures ok { OnOk result (self.new ≡ self.old ++ part ∷ []) }
         ensures err { OnErr result (self.new ≡ self.old) }

@@ -128,7 +128,7 @@ impl Meta {
         &self.user
     }
 
-    /// Equal metadata.
+    /// A copy, with memory of its own.
     pub fn copy(&self, alloc: Global) -> Result<Meta, WantOfMemory>
         ensures { IfOk result (λ m. m ≡ self.now) }
     {

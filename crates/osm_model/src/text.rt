@@ -105,7 +105,7 @@ impl Text {
         let _text = self.as_str();
     }
 
-    /// An equal text.
+    /// A copy. Only a text of more than 22 bytes takes memory for it.
     pub fn copy(&self, alloc: Global) -> Result<Text, WantOfMemory>
         ensures { IfOk result (λ t. t ≡ self.now) }
     {

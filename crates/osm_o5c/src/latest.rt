@@ -30,7 +30,7 @@ fn room_for_copy(alloc: Global, text: &[u8]) -> Result<Vec<u8>, WantOfMemory>
 }
 
 impl Latest {
-    /// No strings.
+    /// Empty; takes no memory.
     pub fn new(alloc: Global) -> Latest
         ensures { result.numbers.entries ≡ [] }
     {

@@ -90,7 +90,7 @@ pub fn write_number(number: u64, text: &mut Vec<u8>) -> Result<(), WantOfMemory>
     write_bytes(buffer.format(number).as_bytes(), text)
 }
 
-/// Appends the bytes.
+/// Appends the bytes as they are.
 pub fn write_bytes(bytes: &[u8], text: &mut Vec<u8>) -> Result<(), WantOfMemory>
     ensures appended { OnOk result (text.new.items ≡ text.old.items ++ bytes.now) }
     ensures room { vec_capacity text.old ≤ vec_capacity text.new }
