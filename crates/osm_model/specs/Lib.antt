@@ -11,4 +11,5 @@ pub mod KeyOrder
 pub mod Content
 pub mod ContentLaws
 pub mod ChangeForm
+pub mod Data
 pub mod Steps

@@ -52,6 +52,14 @@ impl Batch {
         }
     }
 
+    /// The batch of changes that are known to be no more than 100,000. They aren't counted again.
+    pub fn within_limits(changes: Vec<Change>) -> Batch
+        requires { IsBatch changes.items }
+        ensures { result ≡ changes.items }
+    {
+        Batch { changes }
+    }
+
     /// Adds a change at the end; after a refusal the batch is as before.
     pub fn push(&mut self, change: Change) -> Result<(), PushError>
         ensures ok { OnOk result (self.new ≡ self.old ++ change ∷ []) }

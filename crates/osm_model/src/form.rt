@@ -58,6 +58,12 @@ pub enum Why {
     /// Bytes follow the end byte of an o5c file.
     #[error("TrailingBytes")]
     TrailingBytes,
+    /// The key of an object in a data file isn't above the one before it.
+    #[error("OutOfOrder")]
+    OutOfOrder,
+    /// An object in a data file is deleted.
+    #[error("Deleted")]
+    Deleted,
 }
 
 /// Why a change file can't be read or written.

@@ -5,6 +5,7 @@
 pub mod batch;
 pub mod change;
 pub mod content;
+pub mod data;
 pub mod form;
 pub mod kind;
 pub mod limits;
