@@ -1,11 +1,14 @@
 -- The definitions at values that a person knows: the limits, and the order of keys.
 use Rattle.std.proofs.Common.{◌≡◌, refl}
-use Rattle.std.specs.Prelude.{ℕ, ◌-◌, ◌*◌, ◌^◌, ◌≤◌, ℤ, pos, negsuc, neg_ℤ, ◌≤ℤ◌, List, length, Contains, ◌↔◌}
+use Rattle.std.specs.Prelude.{ℕ, ◌-◌, ◌*◌, ◌^◌, ◌≤◌, ℤ, pos, negsuc, neg_ℤ, ◌≤ℤ◌, List, [], ◌∷◌, Some, length, Contains, ◌↔◌}
 use Rattle.std.specs.List.{AllByRecursion}
+use Rattle.std.specs.List.Sorted.{IsStrictlySortedBy}
 use Rattle.std.specs.Str.{IsUtf8}
 use Rattle.std.specs.declared.cmp.Ordering.TheVariants.{Less}
 use Rattle.osm_model.specs.Batch.{IsBatch}
 use Rattle.osm_model.specs.Change.{AreMembers, AreRefs, AreTags, ChangeValue, HasMemberId, IsChange}
+use Rattle.osm_model.specs.Content.{object_after}
+use Rattle.osm_model.specs.Data.{IsData}
 use Rattle.osm_model.specs.KeyOrder.{key_cmp}
 use Rattle.osm_model.specs.Limits.{IsId, IsLatitude, IsLongitude, max_file, max_sequence}
 use Rattle.osm_model.specs.Lists.{IsRole, IsTag}
@@ -48,6 +51,20 @@ members_of_relations members =
 changes_of_batches : (changes : List ChangeValue) → IsBatch changes
     ↔ ((length changes ≤ 100000) × AllByRecursion IsChange changes)
 changes_of_batches changes = ((λ b. (b.few, b.each)), (λ p. record { few = p.0; each = p.1 }))
+
+-- a data file has no limit on its number of objects: two of them are data exactly if both are objects that aren't
+-- deleted and the first key comes before the second, so a key that stands twice is refused
+two_of_data : (a b : ChangeValue) → IsData (a ∷ b ∷ [])
+    ↔ (((IsChange a × IsChange b) × ((object_after a ≡ Some a) × (object_after b ≡ Some b))) × (key_cmp a.key b.key ≡ Less))
+unfolding IsStrictlySortedBy
+two_of_data a b = (
+  (λ d. (((d.limits.0, d.limits.1.0), (d.left.0, d.left.1.0)), d.rising.0.0)),
+  (λ p. record {
+    limits = (p.0.0.0, (p.0.0.1, tt));
+    left = (p.0.1.0, (p.0.1.1, tt));
+    rising = ((p.1, tt), (tt, tt));
+  }),
+)
 
 -- a change file has up to 64 MiB
 mebibytes_of_files : max_file ≡ 64 * 1024 * 1024
