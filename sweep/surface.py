@@ -13,7 +13,7 @@ TRAIT = re.compile(r"^pub trait (\w+)", re.MULTILINE)
 # A value is taken apart, made of parts that it gets, or looked up; a number is read or written in place; or nothing is
 # done at all, by those that begin with `laws`.
 TAKE_NO_MEMORY = set("""
-    Batch::new Batch::limits Batch::changes Batch::into_changes
+    Batch::new Batch::within_limits Batch::limits Batch::changes Batch::into_changes check_next first_fault
     Change::node Change::way Change::relation Change::deleted Change::limits Change::key Change::meta
     Change::is_deletion Change::what
     Tag::limits Member::limits i64::limits i64::copy Parts::new Parts::from_vec Parts::into_vec Parts::as_slice
@@ -34,9 +34,9 @@ TAKE_NO_MEMORY = set("""
     View::new View::number View::time View::objects View::users View::changesets View::held
     World::publisher World::follower World::published
     ending_of_error ending_of_unread ending_of_fault head_read
-    Opl::laws O5c::laws laws_of_content laws_of_opl laws_of_o5c laws_of_state laws_of_holding laws_of_mirrors
-    laws_of_saves laws_of_heads laws_of_deliveries laws_of_restarts laws_of_runs laws_of_replies laws_of_histories
-    laws_of_progress laws_of_archives laws_of_views laws_of_order laws_of_replays
+    Opl::laws O5c::laws laws_of_content laws_of_opl laws_of_data laws_of_o5c laws_of_state laws_of_holding
+    laws_of_mirrors laws_of_saves laws_of_heads laws_of_deliveries laws_of_restarts laws_of_runs laws_of_replies
+    laws_of_histories laws_of_progress laws_of_archives laws_of_views laws_of_order laws_of_replays
 """.split())
 
 # These want a key or a number above all others. They are tried by a call that gives them such ones.

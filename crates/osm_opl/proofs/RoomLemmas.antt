@@ -3,7 +3,6 @@ use Rattle.std.proofs.Common.{◌≡◌, ℕ, zero, suc, ◌+◌, ◌/◌, ◌%�
 use Rattle.std.proofs.Common.{get_or, drop, refl, sym, ap, ◌∙◌, arith, vec_capacity}
 use Rattle.std.specs.Prelude.{Vec}
 use Rattle.std.specs.Char.{digit_char, encode_utf8}
-use Rattle.std.specs.Str.{chars}
 use Rattle.std.proofs.lemmas.List.{drop_more, length-append}
 use Rattle.std.proofs.lemmas.Str.{chars_past_char}
 use Rattle.osm_opl.specs.Room.{LacksRoom}

@@ -6,11 +6,12 @@ use Rattle.std.specs.List.{AllByRecursion}
 use Rattle.std.proofs.lemmas.Bool.Decides.{nat_tests}
 use Rattle.osm_model.specs.Batch.{IsBatch}
 use Rattle.osm_model.specs.Change.{ChangeValue, IsChange}
+use Rattle.osm_model.specs.Data.{IsData}
 use Rattle.osm_model.specs.Meta.{IsMeta}
 use Rattle.osm_model.specs.declared.kind.Kind.{Kind}
 use Rattle.osm_model.specs.declared.kind.Kind.TheVariants.{Node, Way, Relation}
 use Rattle.osm_model.specs.CivilTime.{time_text}
-use Rattle.osm_opl.specs.File.{SpellsLines, SpellsOpl, none, skipped, change}
+use Rattle.osm_opl.specs.File.{SpellsData, SpellsFile, SpellsLines, SpellsOpl, none, skipped, change}
 use Rattle.osm_opl.specs.Line.{SpellsLine}
 use Rattle.osm_reading.specs.Lines.{is_skipped, lines_of, without_cr}
 use Rattle.osm_opl.specs.Lists.{letter_of}
@@ -76,5 +77,12 @@ lines_spell (c ∷ cs) is =
     let kept : without_cr (line_text c) ≡ line_text c = no_cr (line_text c) (line_lacks 13 carriage_return (line_text c) c (λ e. omega (arith, e)) line) in
     rw (cut, kept) (change (line_text c) (lines_of (opl_text cs)) c cs (counts c) line (lines_spell cs is.1))
 
+written_spells : (Limits : List ChangeValue → Type 0) (changes : List ChangeValue) → AllByRecursion IsChange changes
+    → Limits changes → SpellsFile Limits (opl_text changes) changes
+written_spells Limits changes are limits = record { lines = lines_spell changes are; limits = limits }
+
 pub text_spells : (batch : List ChangeValue) → IsBatch batch → SpellsOpl (opl_text batch) batch
-text_spells batch is = record { lines = lines_spell batch is.each; limits = is }
+text_spells batch is = written_spells IsBatch batch is.each is
+
+pub data_spells : (objects : List ChangeValue) → IsData objects → SpellsData (opl_text objects) objects
+data_spells objects is = written_spells IsData objects is.limits is

@@ -2,8 +2,10 @@
 #![tactic(auto)]
 
 mod coordinates;
+pub mod data;
 mod escapes;
 mod fields;
+mod files;
 pub mod lines;
 mod lists;
 mod metadata;

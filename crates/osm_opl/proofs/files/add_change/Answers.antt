@@ -3,7 +3,7 @@ use Rattle.osm_opl.specs.Room.{LacksRoom}
 use Rattle.osm_opl.specs.Written.{line_text}
 use Rattle.osm_opl.proofs.RoomLemmas.{lacks_after}
 use Rattle.osm_opl.proofs.WrittenLemmas.{on_err}
-use Rattle.osm_opl.proofs.opl.add_change.Goals as goal
+use Rattle.osm_opl.proofs.files.add_change.Goals as goal
 
 pub returns-in_err-push-clause-refused : goal.returns-in_err-push-clause-refused
 returns-in_err-push-clause-refused c =
