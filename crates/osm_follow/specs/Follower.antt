@@ -53,7 +53,7 @@ new_follower = record {
   number = 0;
   time = None;
   mirror = no_mirror;
-  holding = record { base = 0; entries = [] };
+  holding = record { reached = 0; entries = [] };
   is_broken = false;
 }
 
@@ -64,7 +64,7 @@ pub record IsWhole (f : FollowerValue) : Type 0 where
   pub counts : IsWithin (max_changes * f.number) f.mirror
   pub timed : (f.time ≡ None) ↔ (f.number ≡ 0)
   pub time : IfSome f.time IsPositive
-  pub base : f.holding.base ≡ f.number
+  pub reached : f.holding.reached ≡ f.number
   pub next : held_at f (f.number + 1) ≡ None
   pub times : (j : ℕ) → IfSome (held_at f j) (λ p. IsPositive p.time)
 

@@ -185,7 +185,7 @@ impl Follower {
             self.is_broken = true;
             return Err(DeliverError::Broke);
         };
-        let high = self.holding.base();
+        let high = self.holding.reached();
         self.number = high;
         self.time = Some(last);
         Ok(Delivered::Applied { low, high })
@@ -397,7 +397,7 @@ impl Follower {
     fn drop_all(&mut self, alloc: Global)
         ensures { self.new ≡ record self.old {
           mirror = no_mirror;
-          holding = record { base = 0; entries = [] };
+          holding = record { reached = 0; entries = [] };
           is_broken = true;
         } }
     {
