@@ -1,5 +1,5 @@
 -- One more held sequence, and what is left when held ones are applied.
-use Rattle.std.proofs.Common.{◌≡◌, ℕ, ◌+◌, ◌-◌, ◌*◌, ◌<◌, ◌≤◌, List, [], ◌∷◌, ◌++◌, refl, ap, sym, ◌∙◌, true, false}
+use Rattle.std.proofs.Common.{◌≡◌, ℕ, ◌+◌, ◌-◌, ◌*◌, ◌<◌, ◌≤◌, List, [], ◌∷◌, ◌++◌, length, refl, ap, sym, ◌∙◌, true, false}
 use Rattle.std.proofs.Common.{arith, None, Some, Option, append-nil, append_assoc, inl, inr}
 use Rattle.std.specs.Map.{lookup}
 use Rattle.std.specs.Option.{option_map, option_map_or}
@@ -39,6 +39,7 @@ pub record IsDrained (m : MirrorValue) (holding : HoldingValue) (first : Held) (
   pub all : (j : ℕ) → holding.reached + 1 < j → j ≤ left.reached → is_in holding j ≡ true
   pub applied : Applies m (first.batch ++ between (changes_in holding) (holding.reached + 1) count) n
   pub within : IsWithin (max_changes * left.reached) n
+  pub objects : length n.objects ≤ max_changes * left.reached
   pub time : last ≡ time_in holding left.reached first.time
   pub rest : (j : ℕ) → left.reached < j → sequence_in left j ≡ sequence_in holding j
 
@@ -46,8 +47,8 @@ pub record IsDrained (m : MirrorValue) (holding : HoldingValue) (first : Held) (
 pub drained_first : (m n : MirrorValue) (holding left : HoldingValue) (first : Held)
     → sequence_in holding (holding.reached + 1) ≡ None → Applies m first.batch n
     → left ≡ record holding { reached = holding.reached + 1 } → IsWithin (max_changes * left.reached) n
-    → IsDrained m holding first n left first.time
-drained_first m n holding left first free applied moved within =
+    → length n.objects ≤ max_changes * left.reached → IsDrained m holding first n left first.time
+drained_first m n holding left first free applied moved within objects =
     let reached : left.reached ≡ holding.reached + 1 = ap (λ (h : HoldingValue). h.reached) moved in
     record {
       count = 0;
@@ -55,6 +56,7 @@ drained_first m n holding left first free applied moved within =
       all = λ j above below. absurd (omega arith);
       applied = rw (append-nil first.batch) applied;
       within = within;
+      objects = objects;
       time = rw (reached, free) refl;
       rest = λ j above. ap (λ (h : HoldingValue). sequence_in h j) moved;
     }
@@ -79,8 +81,9 @@ changes_more holding count k first held is there =
 pub drained_more : (m n o : MirrorValue) (holding left mid next : HoldingValue) (first held : Held) (last : ℕ)
     → IsDrained m holding first n left last → area.held_at left (left.reached + 1) ≡ Some held
     → ChangesAt left mid (left.reached + 1) None → Applies n held.batch o → next ≡ record mid { reached = mid.reached + 1 }
-    → IsWithin (max_changes * next.reached) o → IsDrained m holding first o next held.time
-drained_more m n o holding left mid next first held last i value taken applied moved within =
+    → IsWithin (max_changes * next.reached) o → length o.objects ≤ max_changes * next.reached
+    → IsDrained m holding first o next held.time
+drained_more m n o holding left mid next first held last i value taken applied moved within objects =
     let k : ℕ = left.reached + 1 in
     let there : sequence_in holding k ≡ Some (numbered k held) = next_held m n holding left first held last i value in
     let reached : next.reached ≡ k = ap (λ (h : HoldingValue). h.reached) moved ∙ ap (λ (b : ℕ). b + 1) taken.reached in
@@ -93,6 +96,7 @@ drained_more m n o holding left mid next first held last i value taken applied m
           (Applies-append m n o (first.batch ++ between (changes_in holding) (holding.reached + 1) i.count) held.batch
           i.applied applied);
       within = within;
+      objects = objects;
       time = rw (reached, there) refl;
       rest = λ j above. ap (λ (h : HoldingValue). sequence_in h j) moved
           ∙ (ap (option_map (numbered j)) (taken.others j (λ e. omega arith)) ∙ i.rest j (omega arith));
@@ -112,6 +116,7 @@ drained_all m n holding left mid first last i value taken =
       reach = rw reached (record { from = omega arith; all = i.all; next = ap is_some none });
       applied = i.applied;
       within = rw reached i.within;
+      objects = rw reached i.objects;
       time = rw reached i.time;
       rest = λ j above. elim (cases_eq j (left.reached + 1)) [
         | inl same ↦ rw same (ap (option_map (numbered (left.reached + 1))) taken.changed ∙ sym none)
@@ -226,6 +231,7 @@ still_whole f g first last w positive d is at timed =
     let reached = d.reached in
     record {
       counts = rw at d.within;
+      objects = rw at d.objects;
       timed = rw timed (λ none. absurd (let bad : Some last ≡ None = none in cc), λ zero_is. absurd (omega arith));
       time = rw (timed, d.time) (timed_one (sequence_in f.holding g.holding.reached) first.time (w.times g.holding.reached) positive);
       reached = sym at;

@@ -1,5 +1,5 @@
 -- What the application of the next sequence answers, and what is left when held ones are applied.
-use Rattle.std.specs.Prelude.{◌≡◌, ℕ, ◌+◌, ◌*◌, ◌<◌, ◌≤◌, ◌++◌, Result, Ok, Err, true}
+use Rattle.std.specs.Prelude.{◌≡◌, ℕ, ◌+◌, ◌*◌, ◌<◌, ◌≤◌, ◌++◌, length, Result, Ok, Err, true}
 use Rattle.osm_holding.specs.Holding.{HoldingValue}
 use Rattle.osm_holding.specs.declared.holding.Held.{Held}
 use Rattle.osm_mirror.specs.Mirror.{Applies, IsWithin, MirrorValue, NeedsMemory}
@@ -30,6 +30,7 @@ pub record Drains (m : MirrorValue) (holding : HoldingValue) (first : Held)
   pub applied :
       Applies m (first.batch ++ between (changes_in holding) (holding.reached + 1) count) n
   pub within : IsWithin (max_changes * left.reached) n
+  pub objects : length n.objects ≤ max_changes * left.reached
   pub time : last ≡ time_in holding left.reached first.time
   pub rest : (j : ℕ) → left.reached < j → sequence_in left j ≡ sequence_in holding j
 
