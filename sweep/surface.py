@@ -21,7 +21,7 @@ TAKE_NO_MEMORY = set("""
     Text::as_str Text::limits time_read time_write
     split_line is_skipped_line cut sequence_read
     path_number State::new State::sequence State::time state_read
-    HoldingArea::base HoldingArea::is_held HoldingArea::hold HoldingArea::take_next HoldingArea::advance
+    HoldingArea::reached HoldingArea::is_held HoldingArea::hold HoldingArea::take_next HoldingArea::advance
     HoldingArea::reset
     Counts::new Counts::get Counts::len Counts::iter Counts::limits
     Mirror::new Mirror::limits Mirror::from_parts Mirror::objects_by_key Mirror::user_counts

@@ -68,8 +68,8 @@ step_in_step ps files dir old new folder within add step =
     let changes : add.next.changes ≡ changes_at ps add.next.number =
     same_changes _ _ add.next (sequence_at ps add.next.number) add.there.changes
     (folder.each add.next.number O5c above at) (folder.each add.next.number Opl above at) in
-    let grown : IsMirrorOf (changes_up_to ps old.number ++ add.next.changes) new.mirror =
-    mirror_grown old.mirror new.mirror (changes_up_to ps old.number) add.next.changes step.mirror add.applied in
+    let grown : IsMirrorOf (changes_up_to ps old.number ++ add.next.changes) (changes_up_to ps old.number ++ add.next.changes) new.mirror =
+    mirror_grown old.mirror new.mirror (changes_up_to ps old.number) (changes_up_to ps old.number) add.next.changes step.mirror add.applied in
     let joined : changes_up_to ps add.next.number ≡ changes_up_to ps old.number ++ add.next.changes =
     changes_next ps old.number add.next.number is at ∙ ap (λ cs. changes_up_to ps old.number ++ cs) (sym changes) in
     record {

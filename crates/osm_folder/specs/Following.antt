@@ -254,7 +254,8 @@ FollowStops known dir save files fault =
 -- exactly the mirror, the counts and the time of published sequences 1 to the number
 pub record IsInStep (published : List PublishedValue) (v : Saved) : Type 0 where
   pub within : v.number ≤ length published
-  pub mirror : IsMirrorOf (changes_up_to published v.number) v.mirror
+  pub mirror :
+      IsMirrorOf (changes_up_to published v.number) (changes_up_to published v.number) v.mirror
   pub time : v.time ≡ time_at published v.number
 
 -- the save is that of the published sequences 1 to that number; no save is that of 0

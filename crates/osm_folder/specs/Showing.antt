@@ -33,7 +33,8 @@ pub record IsShownOf (published : List PublishedValue) (number : ℕ) (report : 
   pub view : ViewValue
   pub number_is : view.number ≡ number
   pub time : view.time ≡ time_at published number
-  pub mirror : IsMirrorOf (changes_up_to published number) view.mirror
+  pub mirror :
+      IsMirrorOf (changes_up_to published number) (changes_up_to published number) view.mirror
   pub held : view.held ≡ []
   pub report_is : report ≡ show_report_of view
 

@@ -1,5 +1,5 @@
 -- One more held sequence, and what is left when held ones are applied.
-use Rattle.std.proofs.Common.{◌≡◌, ℕ, ◌+◌, ◌-◌, ◌*◌, ◌<◌, ◌≤◌, List, [], ◌∷◌, ◌++◌, refl, ap, sym, ◌∙◌, true, false}
+use Rattle.std.proofs.Common.{◌≡◌, ℕ, ◌+◌, ◌-◌, ◌*◌, ◌<◌, ◌≤◌, List, [], ◌∷◌, ◌++◌, length, refl, ap, sym, ◌∙◌, true, false}
 use Rattle.std.proofs.Common.{arith, None, Some, Option, append-nil, append_assoc, inl, inr}
 use Rattle.std.specs.Map.{lookup}
 use Rattle.std.specs.Option.{option_map, option_map_or}
@@ -35,86 +35,91 @@ none_is (Some h) number is = let bad : Some (numbered number h) ≡ None = is in
 -- what was applied so far
 pub record IsDrained (m : MirrorValue) (holding : HoldingValue) (first : Held) (n : MirrorValue) (left : HoldingValue) (last : ℕ) : Type 0 where
   pub count : ℕ
-  pub base : left.base ≡ holding.base + 1 + count
-  pub all : (j : ℕ) → holding.base + 1 < j → j ≤ left.base → is_in holding j ≡ true
-  pub applied : Applies m (first.batch ++ between (changes_in holding) (holding.base + 1) count) n
-  pub within : IsWithin (max_changes * left.base) n
-  pub time : last ≡ time_in holding left.base first.time
-  pub rest : (j : ℕ) → left.base < j → sequence_in left j ≡ sequence_in holding j
+  pub reached : left.reached ≡ holding.reached + 1 + count
+  pub all : (j : ℕ) → holding.reached + 1 < j → j ≤ left.reached → is_in holding j ≡ true
+  pub applied : Applies m (first.batch ++ between (changes_in holding) (holding.reached + 1) count) n
+  pub within : IsWithin (max_changes * left.reached) n
+  pub objects : length n.objects ≤ max_changes * left.reached
+  pub time : last ≡ time_in holding left.reached first.time
+  pub rest : (j : ℕ) → left.reached < j → sequence_in left j ≡ sequence_in holding j
 
 -- the first sequence was applied
 pub drained_first : (m n : MirrorValue) (holding left : HoldingValue) (first : Held)
-    → sequence_in holding (holding.base + 1) ≡ None → Applies m first.batch n
-    → left ≡ record holding { base = holding.base + 1 } → IsWithin (max_changes * left.base) n
-    → IsDrained m holding first n left first.time
-drained_first m n holding left first free applied moved within =
-    let base : left.base ≡ holding.base + 1 = ap (λ (h : HoldingValue). h.base) moved in
+    → sequence_in holding (holding.reached + 1) ≡ None → Applies m first.batch n
+    → left ≡ record holding { reached = holding.reached + 1 } → IsWithin (max_changes * left.reached) n
+    → length n.objects ≤ max_changes * left.reached → IsDrained m holding first n left first.time
+drained_first m n holding left first free applied moved within objects =
+    let reached : left.reached ≡ holding.reached + 1 = ap (λ (h : HoldingValue). h.reached) moved in
     record {
       count = 0;
-      base = omega arith;
+      reached = omega arith;
       all = λ j above below. absurd (omega arith);
       applied = rw (append-nil first.batch) applied;
       within = within;
-      time = rw (base, free) refl;
+      objects = objects;
+      time = rw (reached, free) refl;
       rest = λ j above. ap (λ (h : HoldingValue). sequence_in h j) moved;
     }
 
 -- the next sequence was held from the start
 next_held : (m n : MirrorValue) (holding left : HoldingValue) (first held : Held) (last : ℕ)
-    → IsDrained m holding first n left last → area.held_at left (left.base + 1) ≡ Some held
-    → sequence_in holding (left.base + 1) ≡ Some (numbered (left.base + 1) held)
+    → IsDrained m holding first n left last → area.held_at left (left.reached + 1) ≡ Some held
+    → sequence_in holding (left.reached + 1) ≡ Some (numbered (left.reached + 1) held)
 next_held m n holding left first held last i value =
-    sym (i.rest (left.base + 1) (omega arith)) ∙ ap (option_map (numbered (left.base + 1))) value
+    sym (i.rest (left.reached + 1) (omega arith)) ∙ ap (option_map (numbered (left.reached + 1))) value
 
-changes_more : (holding : HoldingValue) (count : ℕ) (k : ℕ) (first held : Held) → k ≡ holding.base + 1 + count + 1
-    → sequence_in holding k ≡ Some (numbered k held) → first.batch ++ between (changes_in holding) (holding.base + 1)
-    (count + 1) ≡ (first.batch ++ between (changes_in holding) (holding.base + 1) count) ++ held.batch
+changes_more : (holding : HoldingValue) (count : ℕ) (k : ℕ) (first held : Held) → k ≡ holding.reached + 1 + count + 1
+    → sequence_in holding k ≡ Some (numbered k held) → first.batch ++ between (changes_in holding) (holding.reached + 1)
+    (count + 1) ≡ (first.batch ++ between (changes_in holding) (holding.reached + 1) count) ++ held.batch
 changes_more holding count k first held is there =
     let here : changes_in holding k ≡ held.batch = ap (λ (o : Option PublishedValue). option_map_or (λ (p : PublishedValue). p.changes) o []) there in
-    ap (λ (cs : List ChangeValue). first.batch ++ cs) (between-suc (changes_in holding) (holding.base + 1) count k is
-    ∙ ap (λ (cs : List ChangeValue). between (changes_in holding) (holding.base + 1) count ++ cs) here)
-    ∙ sym (append_assoc first.batch (between (changes_in holding) (holding.base + 1) count) held.batch)
+    ap (λ (cs : List ChangeValue). first.batch ++ cs) (between-suc (changes_in holding) (holding.reached + 1) count k is
+    ∙ ap (λ (cs : List ChangeValue). between (changes_in holding) (holding.reached + 1) count ++ cs) here)
+    ∙ sym (append_assoc first.batch (between (changes_in holding) (holding.reached + 1) count) held.batch)
 
 -- one more held sequence was applied
 pub drained_more : (m n o : MirrorValue) (holding left mid next : HoldingValue) (first held : Held) (last : ℕ)
-    → IsDrained m holding first n left last → area.held_at left (left.base + 1) ≡ Some held
-    → ChangesAt left mid (left.base + 1) None → Applies n held.batch o → next ≡ record mid { base = mid.base + 1 }
-    → IsWithin (max_changes * next.base) o → IsDrained m holding first o next held.time
-drained_more m n o holding left mid next first held last i value taken applied moved within =
-    let k : ℕ = left.base + 1 in
+    → IsDrained m holding first n left last → area.held_at left (left.reached + 1) ≡ Some held
+    → ChangesAt left mid (left.reached + 1) None → Applies n held.batch o → next ≡ record mid { reached = mid.reached + 1 }
+    → IsWithin (max_changes * next.reached) o → length o.objects ≤ max_changes * next.reached
+    → IsDrained m holding first o next held.time
+drained_more m n o holding left mid next first held last i value taken applied moved within objects =
+    let k : ℕ = left.reached + 1 in
     let there : sequence_in holding k ≡ Some (numbered k held) = next_held m n holding left first held last i value in
-    let base : next.base ≡ k = ap (λ (h : HoldingValue). h.base) moved ∙ ap (λ (b : ℕ). b + 1) taken.base in
-    let at : left.base ≡ holding.base + 1 + i.count = i.base in
+    let reached : next.reached ≡ k = ap (λ (h : HoldingValue). h.reached) moved ∙ ap (λ (b : ℕ). b + 1) taken.reached in
+    let at : left.reached ≡ holding.reached + 1 + i.count = i.reached in
     record {
       count = i.count + 1;
-      base = omega arith;
-      all = λ j above below. all_more (is_in holding) (holding.base + 1) left.base i.all (ap is_some there) j above (omega arith);
+      reached = omega arith;
+      all = λ j above below. all_more (is_in holding) (holding.reached + 1) left.reached i.all (ap is_some there) j above (omega arith);
       applied = rw (changes_more holding i.count k first held (omega arith) there)
-          (Applies-append m n o (first.batch ++ between (changes_in holding) (holding.base + 1) i.count) held.batch
+          (Applies-append m n o (first.batch ++ between (changes_in holding) (holding.reached + 1) i.count) held.batch
           i.applied applied);
       within = within;
-      time = rw (base, there) refl;
+      objects = objects;
+      time = rw (reached, there) refl;
       rest = λ j above. ap (λ (h : HoldingValue). sequence_in h j) moved
           ∙ (ap (option_map (numbered j)) (taken.others j (λ e. omega arith)) ∙ i.rest j (omega arith));
     }
 
 -- no more sequences are held without a gap
 pub drained_all : (m n : MirrorValue) (holding left mid : HoldingValue) (first : Held) (last : ℕ)
-    → IsDrained m holding first n left last → area.held_at left (left.base + 1) ≡ None
-    → ChangesAt left mid (left.base + 1) None → Drains m holding first n mid last
+    → IsDrained m holding first n left last → area.held_at left (left.reached + 1) ≡ None
+    → ChangesAt left mid (left.reached + 1) None → Drains m holding first n mid last
 drained_all m n holding left mid first last i value taken =
-    let base : mid.base ≡ left.base = taken.base in
-    let at : left.base ≡ holding.base + 1 + i.count = i.base in
-    let none : sequence_in holding (left.base + 1) ≡ None = sym (i.rest (left.base + 1) (omega arith)) ∙ ap (option_map (numbered (left.base + 1))) value in
+    let reached : mid.reached ≡ left.reached = taken.reached in
+    let at : left.reached ≡ holding.reached + 1 + i.count = i.reached in
+    let none : sequence_in holding (left.reached + 1) ≡ None = sym (i.rest (left.reached + 1) (omega arith)) ∙ ap (option_map (numbered (left.reached + 1))) value in
     record {
       count = i.count;
-      base = omega arith;
-      reach = rw base (record { from = omega arith; all = i.all; next = ap is_some none });
+      reached = omega arith;
+      reach = rw reached (record { from = omega arith; all = i.all; next = ap is_some none });
       applied = i.applied;
-      within = rw base i.within;
-      time = rw base i.time;
-      rest = λ j above. elim (cases_eq j (left.base + 1)) [
-        | inl same ↦ rw same (ap (option_map (numbered (left.base + 1))) taken.changed ∙ sym none)
+      within = rw reached i.within;
+      objects = rw reached i.objects;
+      time = rw reached i.time;
+      rest = λ j above. elim (cases_eq j (left.reached + 1)) [
+        | inl same ↦ rw same (ap (option_map (numbered (left.reached + 1))) taken.changed ∙ sym none)
         | inr apart ↦ ap (option_map (numbered j)) (taken.others j apart) ∙ i.rest j (omega arith)
       ];
     }
@@ -128,17 +133,17 @@ stopped_first m holding first needs = record {
 }
 
 pub stopped_later : (m n : MirrorValue) (holding left : HoldingValue) (first held : Held) (last : ℕ)
-    → IsDrained m holding first n left last → area.held_at left (left.base + 1) ≡ Some held → NeedsMemory n held.batch
+    → IsDrained m holding first n left last → area.held_at left (left.reached + 1) ≡ Some held → NeedsMemory n held.batch
     → Stops m holding first
 stopped_later m n holding left first held last i value needs =
-    let k : ℕ = left.base + 1 in
-    let at : left.base ≡ holding.base + 1 + i.count = i.base in
+    let k : ℕ = left.reached + 1 in
+    let at : left.reached ≡ holding.reached + 1 + i.count = i.reached in
     let there : sequence_in holding k ≡ Some (numbered k held) = next_held m n holding left first held last i value in
     record {
       count = i.count + 1;
-      all = λ j above below. all_more (is_in holding) (holding.base + 1) left.base i.all (ap is_some there) j above (omega arith);
+      all = λ j above below. all_more (is_in holding) (holding.reached + 1) left.reached i.all (ap is_some there) j above (omega arith);
       needs = rw (changes_more holding i.count k first held (omega arith) there)
-          (NeedsMemory-after m n (first.batch ++ between (changes_in holding) (holding.base + 1) i.count) held.batch
+          (NeedsMemory-after m n (first.batch ++ between (changes_in holding) (holding.reached + 1) i.count) held.batch
           i.applied needs);
     }
 
@@ -152,7 +157,7 @@ highest (e ∷ entries) = let rest = highest entries in (
 )
 
 -- what stops within some of the held sequences stops within all that are reached without a gap
-pub breaks : (f g : FollowerValue) (p : PublishedValue) (time : ℕ) → p.number ≡ f.holding.base + 1
+pub breaks : (f g : FollowerValue) (p : PublishedValue) (time : ℕ) → p.number ≡ f.holding.reached + 1
     → Stops f.mirror f.holding (record { batch = p.changes; time = time }) → g ≡ record f {
       mirror = g.mirror;
       holding =
@@ -188,8 +193,8 @@ breaks f g p time number stops rest =
       rest = rest;
     }
 
--- nothing is held up to the base
-none_below : (holding : HoldingValue) (j : ℕ) → IsHolding holding → j ≤ holding.base → sequence_in holding j ≡ None
+-- nothing is held up to the number reached
+none_below : (holding : HoldingValue) (j : ℕ) → IsHolding holding → j ≤ holding.reached → sequence_in holding j ≡ None
 none_below holding j is below = by_slot (area.held_at holding j) refl
   where
     by_slot : (o : Option Held) → area.held_at holding j ≡ o → option_map (numbered j) o ≡ None
@@ -197,13 +202,13 @@ none_below holding j is below = by_slot (area.held_at holding j) refl
     by_slot (Some h) e = absurd (let there : IsTrue (is_some (area.held_at holding j)) = ap is_some e in
         let window = is.within j there in let above = window.above in omega arith)
 
-pub takes : (f g : FollowerValue) (p : PublishedValue) (time last : ℕ) → p.number ≡ f.holding.base + 1
+pub takes : (f g : FollowerValue) (p : PublishedValue) (time last : ℕ) → p.number ≡ f.holding.reached + 1
     → Drains f.mirror f.holding (record { batch = p.changes; time = p.time }) g.mirror g.holding last
-    → IsHolding g.holding → g.number ≡ g.holding.base → g.time ≡ Some last → g.is_broken ≡ false
-    → Takes f p g.holding.base g
+    → IsHolding g.holding → g.number ≡ g.holding.reached → g.time ≡ Some last → g.is_broken ≡ false
+    → Takes f p g.holding.reached g
 takes f g p time last number d is at timed whole = record {
   count = d.count;
-  high_is = (let base = d.base in omega arith);
+  high_is = (let reached = d.reached in omega arith);
   reach = rw number d.reach;
   applied = rw number d.applied;
   number = at;
@@ -220,17 +225,18 @@ timed_one (Some p) other one positive = one
 
 -- a follower is whole after the application
 pub still_whole : (f g : FollowerValue) (first : Held) (last : ℕ) → IsWhole f → IsPositive first.time
-    → Drains f.mirror f.holding first g.mirror g.holding last → IsHolding g.holding → g.number ≡ g.holding.base
+    → Drains f.mirror f.holding first g.mirror g.holding last → IsHolding g.holding → g.number ≡ g.holding.reached
     → g.time ≡ Some last → IsWhole g
 still_whole f g first last w positive d is at timed =
-    let base = d.base in
+    let reached = d.reached in
     record {
       counts = rw at d.within;
+      objects = rw at d.objects;
       timed = rw timed (λ none. absurd (let bad : Some last ≡ None = none in cc), λ zero_is. absurd (omega arith));
-      time = rw (timed, d.time) (timed_one (sequence_in f.holding g.holding.base) first.time (w.times g.holding.base) positive);
-      base = sym at;
-      next = rw at (d.rest (g.holding.base + 1) (omega arith) ∙ is_none (sequence_in f.holding (g.holding.base + 1)) d.reach.next);
-      times = λ j. elim (cases_lt g.holding.base j) [
+      time = rw (timed, d.time) (timed_one (sequence_in f.holding g.holding.reached) first.time (w.times g.holding.reached) positive);
+      reached = sym at;
+      next = rw at (d.rest (g.holding.reached + 1) (omega arith) ∙ is_none (sequence_in f.holding (g.holding.reached + 1)) d.reach.next);
+      times = λ j. elim (cases_lt g.holding.reached j) [
         | inl past ↦ rw (d.rest j past) (w.times j)
         | inr below ↦ rw (none_below g.holding j is below) tt
       ];

@@ -117,7 +117,7 @@ follows_taken ps k high f g s next there number t =
     ] in
     record {
       within = rw t.number within;
-      mirror = rw (t.number, joined) (mirror_grown f.mirror g.mirror (changes_up_to ps f.number) (changes_at ps k
+      mirror = rw (t.number, joined) (mirror_grown f.mirror g.mirror (changes_up_to ps f.number) (changes_up_to ps f.number) (changes_at ps k
           ++ between (changes_held f) k t.count) s.mirror (rw number at t.applied));
       time = t.time ∙ (ap (λ (n : ℕ). Some n) time ∙ rw t.number (sym (time_next ps (high - 1) high (omega arith))));
       held = λ j p e. elim (cases_lt high j) [

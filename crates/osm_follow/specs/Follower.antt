@@ -53,18 +53,23 @@ new_follower = record {
   number = 0;
   time = None;
   mirror = no_mirror;
-  holding = record { base = 0; entries = [] };
+  holding = record { reached = 0; entries = [] };
   is_broken = false;
 }
 
--- a follower that isn't broken: each count, and the number of its objects, users and changesets, is
--- at most 100,000 times its number; it has a time except at 0; it holds sequences after its number,
--- but not the next one; all times are within the limits
+-- the most edits that the sequences up to a follower's number can have
+abbrev pub most_edits : FollowerValue → ℕ
+most_edits f = max_changes * f.number
+
+-- a follower that isn't broken: each count, and the number of its users, of its changesets and of
+-- its objects, is at most 100,000 times its number; it has a time except at 0; it holds sequences
+-- after its number, but not the next one; all times are within the limits
 pub record IsWhole (f : FollowerValue) : Type 0 where
-  pub counts : IsWithin (max_changes * f.number) f.mirror
+  pub counts : IsWithin (most_edits f) f.mirror
+  pub objects : length f.mirror.objects ≤ most_edits f
   pub timed : (f.time ≡ None) ↔ (f.number ≡ 0)
   pub time : IfSome f.time IsPositive
-  pub base : f.holding.base ≡ f.number
+  pub reached : f.holding.reached ≡ f.number
   pub next : held_at f (f.number + 1) ≡ None
   pub times : (j : ℕ) → IfSome (held_at f j) (λ p. IsPositive p.time)
 
@@ -77,7 +82,8 @@ pub record IsFollower (f : FollowerValue) : Type 0 where
 -- number; what it holds is a published sequence that comes after the next, within its window
 pub record Follows (published : List PublishedValue) (f : FollowerValue) : Type 0 where
   pub within : f.number ≤ length published
-  pub mirror : IsMirrorOf (changes_up_to published f.number) f.mirror
+  pub mirror :
+      IsMirrorOf (changes_up_to published f.number) (changes_up_to published f.number) f.mirror
   pub time : f.time ≡ time_at published f.number
   pub held : (j : ℕ) (p : PublishedValue) → held_at f j ≡ Some p →
       (f.number + 1 < j) × (j ≤ f.number + window) × (j ≤ length published)

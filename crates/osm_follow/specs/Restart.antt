@@ -19,7 +19,7 @@ follower_of v = record {
   number = v.number;
   time = v.time;
   mirror = v.mirror;
-  holding = record { base = v.number; entries = [] };
+  holding = record { reached = v.number; entries = [] };
   is_broken = false;
 }
 

@@ -39,6 +39,7 @@ pub record IsView (published : List PublishedValue) (start : ℕ) (is_accepted :
     (v : ViewValue) : Type 0 where
   pub reach : Reaches is_accepted start v.number
   pub time : v.time ≡ time_at published v.number
-  pub mirror : IsMirrorOf (changes_up_to published v.number) v.mirror
+  pub mirror :
+      IsMirrorOf (changes_up_to published v.number) (changes_up_to published v.number) v.mirror
   pub rising : IsStrictlySortedBy nat_cmp v.held
   pub held : (j : ℕ) → Contains v.held j ↔ ((v.number < j) × (is_accepted j ≡ true))

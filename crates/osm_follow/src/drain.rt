@@ -1,6 +1,6 @@
 //! Applies consecutive sequences.
 
-ghost use Rattle.std.specs.Prelude.{◌≡◌, ◌+◌, ◌*◌, ◌<◌, None, OnOk, OnErr, IfOk};
+ghost use Rattle.std.specs.Prelude.{◌≡◌, ◌+◌, ◌*◌, ◌<◌, ◌≤◌, length, None, OnOk, OnErr, IfOk};
 ghost use Rattle.osm_follow.specs.Follower.{sequence_in};
 ghost use Rattle.osm_follow.specs.Steps.Taking.{Drains, Stops};
 ghost use Rattle.osm_mirror.specs.Mirror.{Applies, IsWithin, NeedsMemory};
@@ -11,16 +11,17 @@ use osm_mirror::mirror::Mirror;
 use osm_model::batch::Batch;
 use osm_model::memory::WantOfMemory;
 
-/// Applies the sequence after the area's base, and then those that the area holds, up to the first
-/// gap. Gives the time of the last one applied, in seconds since 1970-01-01T00:00:00Z.
+/// Applies the sequence after the number reached, and then those that the area holds, up to the
+/// first gap. Gives the time of the last one applied, in seconds since 1970-01-01T00:00:00Z.
 pub(crate) fn drain(
     mirror: &mut Mirror,
     holding: &mut HoldingArea,
     first: Held,
 ) -> Result<u32, WantOfMemory>
-    requires room { holding.old.base < max_sequence }
-    requires next { sequence_in holding.old (holding.old.base + 1) ≡ None }
-    requires counts { IsWithin (max_changes * holding.old.base) mirror.old }
+    requires room { holding.old.reached < max_sequence }
+    requires next { sequence_in holding.old (holding.old.reached + 1) ≡ None }
+    requires counts { IsWithin (max_changes * holding.old.reached) mirror.old }
+    requires objects { length mirror.old.objects ≤ max_changes * holding.old.reached }
     ensures drained { IfOk result (λ time.
         Drains mirror.old holding.old first mirror.new holding.new time) }
     ensures stopped { OnErr result (Stops mirror.old holding.old first) }
@@ -34,19 +35,22 @@ pub(crate) fn drain(
     Ok(time)
 }
 
-// Applies the sequence after the area's base, which the area doesn't hold, and advances the base.
+// Applies the sequence after the number reached, which the area doesn't hold, and advances it.
 fn apply_next(
     mirror: &mut Mirror,
     holding: &mut HoldingArea,
     batch: Batch,
 ) -> Result<(), WantOfMemory>
-    requires room { holding.old.base < max_sequence }
-    requires next { sequence_in holding.old (holding.old.base + 1) ≡ None }
-    requires counts { IsWithin (max_changes * holding.old.base) mirror.old }
+    requires room { holding.old.reached < max_sequence }
+    requires next { sequence_in holding.old (holding.old.reached + 1) ≡ None }
+    requires counts { IsWithin (max_changes * holding.old.reached) mirror.old }
+    requires objects { length mirror.old.objects ≤ max_changes * holding.old.reached }
     ensures applied { OnOk result (Applies mirror.old batch mirror.new) }
     ensures moved { OnOk result (holding.new
-        ≡ record holding.old { base = holding.old.base + 1 }) }
-    ensures within { OnOk result (IsWithin (max_changes * holding.new.base) mirror.new) }
+        ≡ record holding.old { reached = holding.old.reached + 1 }) }
+    ensures within { OnOk result (IsWithin (max_changes * holding.new.reached) mirror.new) }
+    ensures objects { OnOk result
+        (length mirror.new.objects ≤ max_changes * holding.new.reached) }
     ensures refused { OnErr result (NeedsMemory mirror.old batch) }
 {
     mirror.apply(batch.into_changes())?;

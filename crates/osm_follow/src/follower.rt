@@ -8,7 +8,7 @@ ghost use Rattle.std.specs.List.Sorted.{IsStrictlySortedBy};
 ghost use Rattle.std.specs.Ordering.{nat_cmp};
 ghost use Rattle.osm_model.specs.Limits.{max_changes, max_sequence};
 ghost use Rattle.osm_follow.specs.Delivery.{AnswersUnread, Delivers, Holds, IsDue, sequence_of};
-ghost use Rattle.osm_follow.specs.Follower.{held_at, is_held, new_follower};
+ghost use Rattle.osm_follow.specs.Follower.{held_at, is_held, most_edits, new_follower};
 ghost use Rattle.osm_follow.specs.Lag.{Lags, MissingRefused};
 ghost use Rattle.osm_holding.specs.Holding.{window};
 ghost use Rattle.osm_mirror.specs.Mirror.{IsOrderly, IsWithin, count_at, no_mirror, object_at};
@@ -185,7 +185,7 @@ impl Follower {
             self.is_broken = true;
             return Err(DeliverError::Broke);
         };
-        let high = self.holding.base();
+        let high = self.holding.reached();
         self.number = high;
         self.time = Some(last);
         Ok(Delivered::Applied { low, high })
@@ -204,7 +204,8 @@ impl Follower {
     pub fn number(&self) -> Result<u32, Broken>
         ensures broken { IsErr result ↔ (self.now.is_broken ≡ true) }
         ensures number { IfOk result (λ n. n ≡ self.now.number) }
-        ensures bounded { OnOk result (IsWithin (max_changes * self.now.number) self.now.mirror) }
+        ensures bounded { OnOk result (IsWithin (most_edits self.now) self.now.mirror) }
+        ensures objects { OnOk result (length self.now.mirror.objects ≤ most_edits self.now) }
     {
         self.check_whole()?;
         Ok(self.number)
@@ -234,7 +235,7 @@ impl Follower {
     pub fn user_count(&self, uid: u32) -> Result<u64, Broken>
         ensures broken { IsErr result ↔ (self.now.is_broken ≡ true) }
         ensures count { IfOk result (λ n. n ≡ count_at self.now.mirror.users uid) }
-        ensures bounded { IfOk result (λ n. n ≤ max_changes * self.now.number) }
+        ensures bounded { IfOk result (λ n. n ≤ most_edits self.now) }
     {
         self.check_whole()?;
         Ok(self.mirror.user_count(uid))
@@ -244,7 +245,7 @@ impl Follower {
     pub fn changeset_count(&self, id: u32) -> Result<u64, Broken>
         ensures broken { IsErr result ↔ (self.now.is_broken ≡ true) }
         ensures count { IfOk result (λ n. n ≡ count_at self.now.mirror.changesets id) }
-        ensures bounded { IfOk result (λ n. n ≤ max_changes * self.now.number) }
+        ensures bounded { IfOk result (λ n. n ≤ most_edits self.now) }
     {
         self.check_whole()?;
         Ok(self.mirror.changeset_count(id))
@@ -334,7 +335,8 @@ impl Follower {
 
     fn check_whole(&self) -> Result<(), Broken>
         ensures broken { IsErr result ↔ (self.now.is_broken ≡ true) }
-        ensures bounded { OnOk result (IsWithin (max_changes * self.now.number) self.now.mirror) }
+        ensures bounded { OnOk result (IsWithin (most_edits self.now) self.now.mirror) }
+        ensures objects { OnOk result (length self.now.mirror.objects ≤ most_edits self.now) }
     {
         if self.is_broken {
             return Err(Broken);
@@ -397,7 +399,7 @@ impl Follower {
     fn drop_all(&mut self, alloc: Global)
         ensures { self.new ≡ record self.old {
           mirror = no_mirror;
-          holding = record { base = 0; entries = [] };
+          holding = record { reached = 0; entries = [] };
           is_broken = true;
         } }
     {
@@ -425,6 +427,7 @@ impl Follower {
         requires most { number ≤ max_sequence }
         requires time { IsTimeOf number time }
         requires within { IsWithin (max_changes * number) mirror }
+        requires objects { length mirror.objects ≤ max_changes * number }
         ensures { self.new ≡ follower_of (record {
           number = number;
           time = time;

@@ -108,16 +108,16 @@ same_entries least low (e ∷ es) (f ∷ fs) up over same = elim (cases_lt e.0 f
     ]
 
 made : ℕ → List (ℕ × Held) → HoldingValue
-made base entries = record { base = base; entries = entries }
+made reached entries = record { reached = reached; entries = entries }
 
-pub one_area : (a b : HoldingValue) → IsHolding a → IsHolding b → a.base ≡ b.base → ((number : ℕ) → held_at a number ≡ held_at b number) → a ≡ b
+pub one_area : (a b : HoldingValue) → IsHolding a → IsHolding b → a.reached ≡ b.reached → ((number : ℕ) → held_at a number ≡ held_at b number) → a ≡ b
 unfolding made
-one_area a b holds_a holds_b base same =
+one_area a b holds_a holds_b reached same =
     let entries : a.entries ≡ b.entries =
     same_entries 0 0 a.entries b.entries
     (rises a.entries (sorted_from_strictly_increasing (keys_of a.entries) holds_a.rising))
     (rises b.entries (sorted_from_strictly_increasing (keys_of b.entries) holds_b.rising)) same in
-    ap (λ (n : ℕ). made n a.entries) base ∙ ap (λ (es : List (ℕ × Held)). made b.base es) entries
+    ap (λ (n : ℕ). made n a.entries) reached ∙ ap (λ (es : List (ℕ × Held)). made b.reached es) entries
 
 -- the numbers of an area are those at which it holds something
 pub exactly_held : (area : HoldingValue) (number : ℕ) → Contains (numbers_of area) number ↔ IsSome (held_at area number)
@@ -127,62 +127,62 @@ exactly_held area number = (
 )
 
 -- the area of slots is within its limits
-pub is_holding : (base : ℕ) (slots : Buffer (Option Held)) → AreSlots base slots → IsHolding (area_of base slots.items)
-is_holding base slots are = record {
-  base = are.limit;
-  rising = slots_rise (base + 1) slots.items;
-  within = λ number some. in_window base slots.items number are.full some;
+pub is_holding : (reached : ℕ) (slots : Buffer (Option Held)) → AreSlots reached slots → IsHolding (area_of reached slots.items)
+is_holding reached slots are = record {
+  reached = are.limit;
+  rising = slots_rise (reached + 1) slots.items;
+  within = λ number some. in_window reached slots.items number are.full some;
   limit = are.sequences;
 }
 
 -- the slots after a write
-pub are_written : (base : ℕ) (slots : Buffer (Option Held)) (i number : ℕ) (now : Option Held) → AreSlots base slots
-    → number ≡ base + 1 + i → i < length slots.items → (IsSome now → number ≤ max_sequence)
-    → AreSlots base (buffer (slice_set slots.items i now) slots.capacity)
-are_written base slots i number now are is within limit = record {
+pub are_written : (reached : ℕ) (slots : Buffer (Option Held)) (i number : ℕ) (now : Option Held) → AreSlots reached slots
+    → number ≡ reached + 1 + i → i < length slots.items → (IsSome now → number ≤ max_sequence)
+    → AreSlots reached (buffer (slice_set slots.items i now) slots.capacity)
+are_written reached slots i number now are is within limit = record {
   limit = are.limit;
   full = length-set slots.items i now ∙ are.full;
   room = are.room;
   sequences = λ other some. elim (cases_eq other number) [
     | inl same ↦ (let there : IsSome now = subst (λ (o : Option Held). IsSome o) changes.changed
-        (subst (λ (n : ℕ). IsSome (found (entries_from (base + 1) (slice_set slots.items i now)) n)) same some) in
+        (subst (λ (n : ℕ). IsSome (found (entries_from (reached + 1) (slice_set slots.items i now)) n)) same some) in
         omega (arith, limit there, same))
     | inr apart ↦ are.sequences other (subst (λ (o : Option Held). IsSome o) (changes.others other apart) some)
   ];
 }
   where
-    changes : ChangesAt (area_of base slots.items) (area_of base (slice_set slots.items i now)) number now
-    changes = slot_changes base slots.items i number now is within
+    changes : ChangesAt (area_of reached slots.items) (area_of reached (slice_set slots.items i now)) number now
+    changes = slot_changes reached slots.items i number now is within
 
 -- a ring that has moved on shows the same after the next number
-pub moved_slots : (base : ℕ) (old new : Buffer (Option Held)) → AreSlots base old
+pub moved_slots : (reached : ℕ) (old new : Buffer (Option Held)) → AreSlots reached old
     → new ≡ buffer (keep_last old.capacity (old.items ++ None ∷ [])) old.capacity
-    → held_at (area_of base old.items) (base + 1) ≡ None → entries_from (base + 1 + 1) new.items ≡ entries_from
-    (base + 1) old.items
-moved_slots base old new are is free =
+    → held_at (area_of reached old.items) (reached + 1) ≡ None → entries_from (reached + 1 + 1) new.items ≡ entries_from
+    (reached + 1) old.items
+moved_slots reached old new are is free =
     let items : new.items ≡ keep_last 64 (old.items ++ None ∷ []) = ap (λ (b : Buffer (Option Held)). b.items) is
     ∙ ap (λ n. keep_last n (old.items ++ None ∷ [])) are.room in
-    ap (λ s. entries_from (base + 1 + 1) s) items ∙ moved (base + 1) old.items are.full free
+    ap (λ s. entries_from (reached + 1 + 1) s) items ∙ moved (reached + 1) old.items are.full free
 
-pub are_moved : (base : ℕ) (old new : Buffer (Option Held)) → AreSlots base old → base < max_sequence
+pub are_moved : (reached : ℕ) (old new : Buffer (Option Held)) → AreSlots reached old → reached < max_sequence
     → new ≡ buffer (keep_last old.capacity (old.items ++ None ∷ [])) old.capacity
-    → held_at (area_of base old.items) (base + 1) ≡ None → AreSlots (base + 1) new
-are_moved base old new are room is free =
+    → held_at (area_of reached old.items) (reached + 1) ≡ None → AreSlots (reached + 1) new
+are_moved reached old new are room is free =
     let items : new.items ≡ keep_last 64 (old.items ++ None ∷ []) = ap (λ (b : Buffer (Option Held)). b.items) is
     ∙ ap (λ n. keep_last n (old.items ++ None ∷ [])) are.room in
     record {
       limit = omega arith;
       full = ap (λ (s : List (Option Held)). length s) items ∙ moved_length old.items are.full;
       room = ap (λ (b : Buffer (Option Held)). b.capacity) is ∙ are.room;
-      sequences = λ number some. are.sequences number (subst (λ (es : List (ℕ × Held)). IsSome (found es number)) (moved_slots base old new are is free) some);
+      sequences = λ number some. are.sequences number (subst (λ (es : List (ℕ × Held)). IsSome (found es number)) (moved_slots reached old new are is free) some);
     }
 
-pub moved_area : (base : ℕ) (old new : Buffer (Option Held)) → AreSlots base old
+pub moved_area : (reached : ℕ) (old new : Buffer (Option Held)) → AreSlots reached old
     → new ≡ buffer (keep_last old.capacity (old.items ++ None ∷ [])) old.capacity
-    → held_at (area_of base old.items) (base + 1) ≡ None → area_of (base + 1) new.items ≡ record {
-      base = base + 1;
-      entries = entries_from (base + 1) old.items;
+    → held_at (area_of reached old.items) (reached + 1) ≡ None → area_of (reached + 1) new.items ≡ record {
+      reached = reached + 1;
+      entries = entries_from (reached + 1) old.items;
     }
 unfolding made
-moved_area base old new are is free =
-    ap (λ es. made (base + 1) es) (moved_slots base old new are is free)
+moved_area reached old new are is free =
+    ap (λ es. made (reached + 1) es) (moved_slots reached old new are is free)

@@ -39,32 +39,32 @@ rises_from least [] up above = tt
 rises_from least (e ∷ es) up above = (above e.0 (first_is_there e es), up.1)
 
 count_of : (area : HoldingValue) (least : ℕ) → IsHolding area → ((number : ℕ) → IsSome (found area.entries number)
-    → least ≤ number) → least ≤ area.base + 65 → least + length area.entries ≤ area.base + 65
+    → least ≤ number) → least ≤ area.reached + 65 → least + length area.entries ≤ area.reached + 65
 count_of area least is above le =
     let sorted = sorted_from_strictly_increasing (keys_of area.entries) is.rising in
-    let many : least + length area.entries ≤ (area.base + 64) + 1 = count_to least (area.base + 64) area.entries
+    let many : least + length area.entries ≤ (area.reached + 64) + 1 = count_to least (area.reached + 64) area.entries
     (rises_from least area.entries (rises area.entries sorted) above)
     (λ number some. (let w = is.within number some in w.within)) (omega arith) in
     omega arith
 
 pub at_most_window : AtMostWindow
 at_most_window area is =
-    let many : (area.base + 1) + length area.entries ≤ area.base + 65 =
-    count_of area (area.base + 1) is (λ number some. (let w = is.within number some in let past = w.above in
+    let many : (area.reached + 1) + length area.entries ≤ area.reached + 65 =
+    count_of area (area.reached + 1) is (λ number some. (let w = is.within number some in let past = w.above in
     omega arith)) (omega arith) in
     let same : length (numbers_of area) ≡ length area.entries = length-map area.entries (λ e. e.0) in
     omega arith
 
 pub fewer_than_window : FewerThanWindow
 fewer_than_window area is free =
-    let many : (area.base + 2) + length area.entries ≤ area.base + 65 = count_of area (area.base + 2) is later (omega arith) in
+    let many : (area.reached + 2) + length area.entries ≤ area.reached + 65 = count_of area (area.reached + 2) is later (omega arith) in
     let same : length (numbers_of area) ≡ length area.entries = length-map area.entries (λ e. e.0) in
     omega arith
   where
-    later : (number : ℕ) → IsSome (found area.entries number) → area.base + 2 ≤ number
-    later number some = elim (cases_eq number (area.base + 1)) [
+    later : (number : ℕ) → IsSome (found area.entries number) → area.reached + 2 ≤ number
+    later number some = elim (cases_eq number (area.reached + 1)) [
       | inl next ↦ absurd (
-          let there : IsSome (found area.entries (area.base + 1)) = subst (λ (n : ℕ). IsSome (found area.entries n)) next some in
+          let there : IsSome (found area.entries (area.reached + 1)) = subst (λ (n : ℕ). IsSome (found area.entries n)) next some in
           let bad : true ≡ false = sym there ∙ ap is_some free in cc)
       | inr ne ↦ (let w = is.within number some in let past = w.above in omega (arith, ne))
     ]

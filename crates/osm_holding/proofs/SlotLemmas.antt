@@ -54,18 +54,18 @@ slice_get-set_other (s ∷ slots) (suc i) zero now apart = refl
 slice_get-set_other (s ∷ slots) (suc i) (suc j) now apart = slice_get-set_other slots i j now (λ e. apart (ap suc e))
 
 -- a write to a slot changes what is held at its number, and nothing else
-pub slot_changes : (base : ℕ) (slots : List (Option Held)) (i number : ℕ) (now : Option Held) → number ≡ base + 1 + i
-    → i < length slots → ChangesAt (area_of base slots) (area_of base (slice_set slots i now)) number now
-slot_changes base slots i number now is within = record {
-  base = refl;
-  changed = found_at (base + 1) (slice_set slots i now) number i is ∙ ap option_flatten (slice_get-set_same slots i now within);
-  others = λ other apart. elim (cases_lt base other) [
-    | inl above ↦ (let j : ℕ = other - base - 1 in
+pub slot_changes : (reached : ℕ) (slots : List (Option Held)) (i number : ℕ) (now : Option Held) → number ≡ reached + 1 + i
+    → i < length slots → ChangesAt (area_of reached slots) (area_of reached (slice_set slots i now)) number now
+slot_changes reached slots i number now is within = record {
+  reached = refl;
+  changed = found_at (reached + 1) (slice_set slots i now) number i is ∙ ap option_flatten (slice_get-set_same slots i now within);
+  others = λ other apart. elim (cases_lt reached other) [
+    | inl above ↦ (let j : ℕ = other - reached - 1 in
         let apart_too : j ≢ i = λ e. apart (omega arith) in
-        found_at (base + 1) (slice_set slots i now) other j (omega arith)
+        found_at (reached + 1) (slice_set slots i now) other j (omega arith)
         ∙ (ap option_flatten (slice_get-set_other slots i j now apart_too)
-        ∙ sym (found_at (base + 1) slots other j (omega arith))))
-    | inr below ↦ found_below (base + 1) (slice_set slots i now) other (omega arith) ∙ sym (found_below (base + 1) slots other (omega arith))
+        ∙ sym (found_at (reached + 1) slots other j (omega arith))))
+    | inr below ↦ found_below (reached + 1) (slice_set slots i now) other (omega arith) ∙ sym (found_below (reached + 1) slots other (omega arith))
   ];
 }
 
@@ -96,15 +96,15 @@ none_is_not_some : (o : Option Held) → o ≡ None → IsSome o → ⊥
 none_is_not_some None is some = cc
 none_is_not_some (Some held) is some = cc
 
-pub in_window : (base : ℕ) (slots : List (Option Held)) (number : ℕ) → length slots ≡ 64
-    → IsSome (found (entries_from (base + 1) slots) number) → IsInWindow base number
-in_window base slots number full some = elim (cases_lt base number) [
-  | inl above ↦ elim (cases_lt (base + 64) number) [
-    | inl past ↦ (let i : ℕ = number - base - 1 in
-        absurd (none_is_not_some _ (found_at (base + 1) slots number i (omega arith) ∙ ap option_flatten (slice_get_past slots i (omega arith))) some))
+pub in_window : (reached : ℕ) (slots : List (Option Held)) (number : ℕ) → length slots ≡ 64
+    → IsSome (found (entries_from (reached + 1) slots) number) → IsInWindow reached number
+in_window reached slots number full some = elim (cases_lt reached number) [
+  | inl above ↦ elim (cases_lt (reached + 64) number) [
+    | inl past ↦ (let i : ℕ = number - reached - 1 in
+        absurd (none_is_not_some _ (found_at (reached + 1) slots number i (omega arith) ∙ ap option_flatten (slice_get_past slots i (omega arith))) some))
     | inr within ↦ record { above = above; within = within }
   ]
-  | inr below ↦ absurd (none_is_not_some _ (found_below (base + 1) slots number (omega arith)) some)
+  | inr below ↦ absurd (none_is_not_some _ (found_below (reached + 1) slots number (omega arith)) some)
 ]
 
 -- the number of a slot, if it holds something

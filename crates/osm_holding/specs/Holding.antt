@@ -7,7 +7,7 @@ use Rattle.osm_holding.specs.declared.holding.Held.{Held}
 
 -- the number that a follower has reached, and the sequences that it holds, each with its number
 pub record HoldingValue : Type 0 where
-  pub base : ℕ
+  pub reached : ℕ
   pub entries : List (ℕ × Held)
 
 -- the sequence that an area holds at a number
@@ -22,21 +22,21 @@ numbers_of area = map (λ e. e.0) area.entries
 abbrev pub window : ℕ
 window = 64
 
--- the number is after the base and within the window
-pub record IsInWindow (base number : ℕ) : Type 0 where
-  pub above : base < number
-  pub within : number ≤ base + window
+-- the number is after the one reached and within the window
+pub record IsInWindow (reached number : ℕ) : Type 0 where
+  pub above : reached < number
+  pub within : number ≤ reached + window
 
--- a holding area: its base is a sequence number, what it holds is in the order of its numbers, and
--- each number at which it holds something is a sequence number within the window
+-- a holding area: the number reached is a sequence number, what it holds is in the order of its
+-- numbers, and each number at which it holds something is a sequence number within the window
 pub record IsHolding (area : HoldingValue) : Type 0 where
-  pub base : area.base ≤ max_sequence
+  pub reached : area.reached ≤ max_sequence
   pub rising : IsStrictlyIncreasing (numbers_of area)
-  pub within : (number : ℕ) → IsSome (held_at area number) → IsInWindow area.base number
+  pub within : (number : ℕ) → IsSome (held_at area number) → IsInWindow area.reached number
   pub limit : (number : ℕ) → IsSome (held_at area number) → number ≤ max_sequence
 
 -- the new area holds `now` at the number, and is like the old one everywhere else
 pub record ChangesAt (old new : HoldingValue) (number : ℕ) (now : Option Held) : Type 0 where
-  pub base : new.base ≡ old.base
+  pub reached : new.reached ≡ old.reached
   pub changed : held_at new number ≡ now
   pub others : (other : ℕ) → other ≢ number → held_at new other ≡ held_at old other

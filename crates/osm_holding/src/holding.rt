@@ -23,16 +23,16 @@ pub struct Held {
     pub time: u32,
 }
 
-/// For how many numbers after its base an area has room: `window` of the definitions.
+/// For how many numbers after the one reached an area has room: `window` of the definitions.
 pub const WINDOW: u32 = 64;
 
-/// Room for the 64 sequences after a number, its base. `new` allocates all of it; afterwards only
-/// `numbers` takes memory. Except for `new`, `reset` and `numbers`, no call looks at more than one
-/// slot.
+/// Room for the 64 sequences after the number that a follower has reached. `new` allocates all of
+/// it; afterwards only `numbers` takes memory. Except for `new`, `reset` and `numbers`, no call looks
+/// at more than one slot.
 #[derive(Debug, Drop)]
 pub struct HoldingArea {
-    base: u32,
-    // The slot at index i is for the number base + 1 + i.
+    reached: u32,
+    // The slot at index i is for the number reached + 1 + i.
     slots: HeapCircularBuffer<Option<Held>>,
 }
 
@@ -43,28 +43,28 @@ impl Model for HoldingArea {
 
     ghost use Rattle.osm_holding.specs.Steps.Slots.{area_of, AreSlots};
 
-    ghost view = { λ a. area_of a.base a.slots.items };
+    ghost view = { λ a. area_of a.reached a.slots.items };
 
-    ghost invariant = { λ a. AreSlots a.base a.slots };
+    ghost invariant = { λ a. AreSlots a.reached a.slots };
 }
 
 impl HoldingArea {
     /// An area that holds nothing.
-    pub fn new(alloc: Global, base: u32) -> Result<HoldingArea, WantOfMemory>
-        requires { base ≤ max_sequence }
-        ensures { IfOk result (λ area. area ≡ record { base = base; entries = [] }) }
+    pub fn new(alloc: Global, reached: u32) -> Result<HoldingArea, WantOfMemory>
+        requires { reached ≤ max_sequence }
+        ensures { IfOk result (λ area. area ≡ record { reached = reached; entries = [] }) }
     {
         let mut slots = HeapCircularBuffer::with_capacity(alloc, WINDOW as usize)?;
         fill(&mut slots);
-        Ok(HoldingArea { base, slots })
+        Ok(HoldingArea { reached, slots })
     }
 
     /// The number of the last sequence that was applied; 0 before the first.
-    pub fn base(&self) -> u32
-        ensures base { result ≡ self.now.base }
+    pub fn reached(&self) -> u32
+        ensures reached { result ≡ self.now.reached }
         ensures limits { IsHolding self.now }
     {
-        self.base
+        self.reached
     }
 
     /// Whether a sequence with that number is held.
@@ -72,10 +72,10 @@ impl HoldingArea {
         ensures held { IsTrue result ↔ IsSome (held_at self.now number) }
         ensures free { OnFalse result (held_at self.now number ≡ None) }
     {
-        if number <= self.base {
+        if number <= self.reached {
             return false;
         }
-        match self.slots.get((number - self.base - 1) as usize) {
+        match self.slots.get((number - self.reached - 1) as usize) {
             Some(slot) => slot.is_some(),
             None => false,
         }
@@ -83,8 +83,8 @@ impl HoldingArea {
 
     /// Keeps a sequence until the sequences before it are applied. Takes no memory.
     pub fn hold(&mut self, number: u32, held: Held)
-        requires early { self.old.base + 2 ≤ number }
-        requires within { number ≤ self.old.base + window }
+        requires early { self.old.reached + 2 ≤ number }
+        requires within { number ≤ self.old.reached + window }
         requires limit { number ≤ max_sequence }
         requires free { held_at self.old number ≡ None }
         ensures { ChangesAt self.old self.new number (Some held) }
@@ -92,47 +92,47 @@ impl HoldingArea {
         let _free = self.replace(number, Some(held));
     }
 
-    /// Takes out the sequence after the base, if it is held.
+    /// Takes out the sequence after the number reached, if it is held.
     pub fn take_next(&mut self) -> Option<Held>
-        ensures value { result ≡ held_at self.old (self.old.base + 1) }
-        ensures taken { ChangesAt self.old self.new (self.old.base + 1) None }
-        ensures room { OnSome result (self.old.base < max_sequence) }
+        ensures value { result ≡ held_at self.old (self.old.reached + 1) }
+        ensures taken { ChangesAt self.old self.new (self.old.reached + 1) None }
+        ensures room { OnSome result (self.old.reached < max_sequence) }
     {
-        let next = self.base + 1;
+        let next = self.reached + 1;
         self.replace(next, None)
     }
 
     // Writes the slot of a number, and gives what the slot held before.
     fn replace(&mut self, number: u32, now: Option<Held>) -> Option<Held>
-        requires window { IsInWindow self.old.base number }
+        requires window { IsInWindow self.old.reached number }
         requires limit { IsSome now → number ≤ max_sequence }
         ensures value { result ≡ held_at self.old number }
         ensures changed { ChangesAt self.old self.new number now }
     {
-        match self.slots.get_mut((number - self.base - 1) as usize) {
+        match self.slots.get_mut((number - self.reached - 1) as usize) {
             Some(slot) => mem::replace(slot, now),
             None => None,
         }
     }
 
-    /// Moves the base, and with it the window, to the next number.
+    /// Moves the number reached, and with it the window, to the next one.
     pub fn advance(&mut self)
-        requires room { self.old.base < max_sequence }
-        requires free { held_at self.old (self.old.base + 1) ≡ None }
-        ensures { self.new ≡ record self.old { base = self.old.base + 1 } }
+        requires room { self.old.reached < max_sequence }
+        requires free { held_at self.old (self.old.reached + 1) ≡ None }
+        ensures { self.new ≡ record self.old { reached = self.old.reached + 1 } }
     {
-        self.base += 1;
+        self.reached += 1;
         self.slots.push_back(None);
     }
 
-    /// Drops all that is held, and starts again at the given base. Takes no memory.
-    pub fn reset(&mut self, base: u32)
-        requires { base ≤ max_sequence }
-        ensures { self.new ≡ record { base = base; entries = [] } }
+    /// Drops all that is held, and starts again at the given number. Takes no memory.
+    pub fn reset(&mut self, reached: u32)
+        requires { reached ≤ max_sequence }
+        ensures { self.new ≡ record { reached = reached; entries = [] } }
     {
         self.slots.clear();
         fill(&mut self.slots);
-        self.base = base;
+        self.reached = reached;
     }
 
     /// The numbers of the sequences that are held, rising.
@@ -146,7 +146,7 @@ impl HoldingArea {
     {
         let mut numbers = self.room_for_numbers(alloc)?;
         for index in 0..WINDOW {
-            let number = self.base + 1 + index;
+            let number = self.reached + 1 + index;
             if self.is_held(number) {
                 numbers.push(number)?;
             }
@@ -168,7 +168,7 @@ impl HoldingArea {
     {
         let mut count = 0;
         for index in 0..WINDOW {
-            if self.is_held(self.base + 1 + index) {
+            if self.is_held(self.reached + 1 + index) {
                 count += 1;
             }
         }

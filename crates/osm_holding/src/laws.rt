@@ -2,7 +2,7 @@
 
 ghost use Rattle.osm_holding.specs.HoldingLaws.{AtMostWindow, FewerThanWindow, OneArea};
 
-/// Two areas with the same base that hold the same at each number are equal. An area holds at most
+/// Two areas at the same number that hold the same at each number are equal. An area holds at most
 /// 64 sequences, and at most 63 if it doesn't hold the next one. Does nothing at run time.
 pub fn laws_of_holding()
     ensures one_area { OneArea }

@@ -166,7 +166,7 @@ all_held Q held exact = recursion_from_All Q held (λ k d within. (exact (slice_
 
 -- number, time and mirror are those that the history asks for, so that the held numbers decide
 pub view_row : (h : History) (v : ViewValue) (n : ℕ) (r : Bool) → Reaches (accepted_of h) (start_of h) n → v.number ≡ n
-    → v.time ≡ time_at (published_of h) n → IsMirrorOf (changes_up_to (published_of h) n) v.mirror
+    → v.time ≡ time_at (published_of h) n → IsMirrorOf (changes_up_to (published_of h) n) (changes_up_to (published_of h) n) v.mirror
     → IsTrue r ↔ (IsStrictlySortedBy nat_cmp v.held
     × ((j : ℕ) → Contains v.held j ↔ ((n < j) × (accepted_of h j ≡ true)))) → IsTrue r ↔ IsView (published_of h)
     (start_of h) (accepted_of h) v

@@ -45,7 +45,7 @@ pub fn is_view(alloc: Global, history: &[Pair], view: &View) -> Result<bool, Wan
 }
 
 fn is_mirror_of(alloc: Global, view: &View, changes: &[Change]) -> Result<bool, WantOfMemory>
-    ensures { IfOk result (λ b. IsTrue b ↔ IsMirrorOf changes.now view.now.mirror) }
+    ensures { IfOk result (λ b. IsTrue b ↔ IsMirrorOf changes.now changes.now view.now.mirror) }
 {
     let is_orderly = are_rising(view.objects())
         && are_counts(view.users())

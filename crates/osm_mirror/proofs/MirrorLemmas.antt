@@ -17,7 +17,7 @@ unfolding IsStrictlySortedBy
 rising-nil cmp = tt
 
 -- the empty mirror is that of no changes
-pub mirror_of-nil : IsMirrorOf [] no_mirror
+pub mirror_of-nil : IsMirrorOf [] [] no_mirror
 mirror_of-nil = record {
   orderly = record {
     objects = rising-nil key_cmp;
@@ -72,26 +72,24 @@ needs_memory a b before after c f entry = record { before = before; change = c; 
     by_entry (inr (inr object)) = inr (inr (object.0, sym (f.objects c.key) ∙ object.1))
 
 -- the mirror of some changes, with more applied, is the mirror of them all
-pub mirror_grown : (a b : MirrorValue) (xs ys : List ChangeValue) → IsMirrorOf xs a → Applies a ys b → IsMirrorOf (xs ++ ys) b
-mirror_grown a b xs ys m f = record {
+pub mirror_grown : (a b : MirrorValue) (xs counted ys : List ChangeValue) → IsMirrorOf xs counted a → Applies a ys b
+    → IsMirrorOf (xs ++ ys) (counted ++ ys) b
+mirror_grown a b xs counted ys m f = record {
   orderly = f.orderly;
   objects = λ k. f.objects k ∙ (ap (λ (o : Option ChangeValue). over_at o (last_of ys k)) (m.objects k) ∙ sym (over-append (λ key. None) xs ys k));
-  users = λ uid. (let p = f.users uid in let q = m.users uid in let r = edits_by_user-append xs ys uid in omega arith);
-  changesets = λ id. (let p = f.changesets id in let q = m.changesets id in let r = edits_by_changeset-append xs ys id in omega arith);
+  users = λ uid. (let p = f.users uid in let q = m.users uid in let r = edits_by_user-append counted ys uid in omega arith);
+  changesets = λ id. (let p = f.changesets id in let q = m.changesets id in let r = edits_by_changeset-append counted ys id in omega arith);
 }
 
 -- the bounds of a number, for the next number
 pub within_more : (a b : MirrorValue) (ys : List ChangeValue) (n most : ℕ) → IsWithin (100000 * n) a → Applies a ys b
     → GrowsBy (length ys) a b → length ys ≤ 100000 → most ≡ 100000 * (n + 1) → IsWithin most b
 within_more a b ys n most w f g few is =
-    let o = w.objects in
     let u = w.users in
     let s = w.changesets in
-    let go = g.objects in
     let gu = g.users in
     let gs = g.changesets in
     record {
-      objects = omega arith;
       users = omega arith;
       changesets = omega arith;
       user_counts = λ uid. (let p = f.users uid in let q = w.user_counts uid in let r = edits_by_user-most ys uid in omega arith);

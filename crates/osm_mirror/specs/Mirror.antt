@@ -69,12 +69,12 @@ pub record IsMirror (m : MirrorValue) : Type 0 where
   pub users : AllByRecursion HasNumber m.users
   pub changesets : AllByRecursion HasNumber m.changesets
 
--- the mirror has exactly the objects that the changes leave, and counts exactly their edits
-pub record IsMirrorOf (changes : List ChangeValue) (m : MirrorValue) : Type 0 where
+-- the mirror has exactly the objects that `changes` leave, and counts exactly the edits of `counted`
+pub record IsMirrorOf (changes counted : List ChangeValue) (m : MirrorValue) : Type 0 where
   pub orderly : IsOrderly m
   pub objects : (k : Key) → object_at m.objects k ≡ content_of changes k
-  pub users : (uid : ℕ) → count_at m.users uid ≡ edits_by_user changes uid
-  pub changesets : (id : ℕ) → count_at m.changesets id ≡ edits_by_changeset changes id
+  pub users : (uid : ℕ) → count_at m.users uid ≡ edits_by_user counted uid
+  pub changesets : (id : ℕ) → count_at m.changesets id ≡ edits_by_changeset counted id
 
 -- the new mirror is the old one with the changes applied in order, each counted once
 pub record Applies (old : MirrorValue) (changes : List ChangeValue) (new : MirrorValue)
@@ -125,9 +125,8 @@ no_mirror = record { objects = []; users = []; changesets = [] }
 abbrev pub HoldsSome : MirrorValue → Type 0
 HoldsSome m = 0 < length m.objects + length m.users + length m.changesets
 
--- every count, and the number of objects, of users and of changesets, is at most `most`
+-- every count, and the number of users and of changesets, is at most `most`
 pub record IsWithin (most : ℕ) (m : MirrorValue) : Type 0 where
-  pub objects : length m.objects ≤ most
   pub users : length m.users ≤ most
   pub changesets : length m.changesets ≤ most
   pub user_counts : (uid : ℕ) → count_at m.users uid ≤ most

@@ -31,6 +31,7 @@ pub record TakesMirror (number : ℕ) (time : Option ℕ) (bytes : List ℕ) (v 
   pub time_is : v.time ≡ time
   pub mirror : IsMirror v.mirror
   pub within : IsWithin (100000 * number) v.mirror
+  pub objects : length v.mirror.objects ≤ 100000 * number
   pub text : bytes ≡ mirror_text v.mirror
 
 abbrev saved : ℕ → Option ℕ → List ChangeValue → List Counted → List Counted → Saved
@@ -66,12 +67,12 @@ mirror_taken number time bytes o u s rest objects users changesets end done = re
     changesets = numbers_of (100000 * number) s.0 changesets.good;
   };
   within = record {
-    objects = objects.few;
     users = users.few;
     changesets = changesets.few;
     user_counts = counts_most (100000 * number) u.0 users.good;
     changeset_counts = counts_most (100000 * number) s.0 changesets.good;
   };
+  objects = objects.few;
   text = parts_joined bytes (ended (list_lines (codes "objects ") line_text o.0)) o.1
       (ended (list_lines (codes "users ") count_text u.0)) u.1 (ended (list_lines (codes "changesets ") count_text s.0))
       s.1 (codes "end" ++ 10 ∷ []) objects.is_text users.is_text changesets.is_text
@@ -125,6 +126,7 @@ save_takes bytes v e =
             (subst (λ (o : Option ℕ). IsTimeOf h.0.0.number o) (sym m.time_is) head.is_time);
         mirror = m.mirror;
         within = subst (λ (k : ℕ). IsWithin (100000 * k) v.mirror) (sym m.number_is) m.within;
+        objects = subst (λ (k : ℕ). length v.mirror.objects ≤ 100000 * k) (sym m.number_is) m.objects;
       };
       text = lines_joined bytes h.0.1 h.0.0 v head.text m;
     }
@@ -186,7 +188,7 @@ mirror_again v is =
     let objects = objects_again (100000 * v.number) v.mirror.objects
     (ended (list_lines (codes "users ") count_text v.mirror.users)
     ++ (ended (list_lines (codes "changesets ") count_text v.mirror.changesets) ++ (codes "end" ++ 10 ∷ [])))
-    is.within.objects small is.mirror.objects is.mirror.orderly.objects in
+    is.objects small is.mirror.objects is.mirror.orderly.objects in
     rw (objects, users, changesets, end) refl
 
 pub save_again : (v : Saved) → IsSavable v → save_at (save_text v) ≡ Some v

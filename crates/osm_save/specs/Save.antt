@@ -52,6 +52,7 @@ pub record IsSavable (v : Saved) : Type 0 where
   pub time : IsTimeOf v.number v.time
   pub mirror : IsMirror v.mirror
   pub within : IsWithin (100000 * v.number) v.mirror
+  pub objects : length v.mirror.objects ≤ 100000 * v.number
 
 -- the bytes are the save text of something that a follower can have
 pub record SpellsSave (bytes : List ℕ) (v : Saved) : Type 0 where

@@ -70,6 +70,7 @@ pub fn save_write(
     })) }
     ensures spelled { number ≤ max_sequence → IsTimeOf number time
         → IsWithin (100000 * number) mirror.now
+        → length mirror.now.objects ≤ 100000 * number
         → IfOk result (λ text. SpellsSave text.items (record {
           number = number;
           time = time;

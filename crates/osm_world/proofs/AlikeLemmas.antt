@@ -110,10 +110,10 @@ one_objects a b p q same =
 made : List ChangeValue → List Counted → List Counted → MirrorValue
 made objects users changesets = record { objects = objects; users = users; changesets = changesets }
 
--- a list of changes has only one mirror
-pub one_mirror : (cs : List ChangeValue) (a b : MirrorValue) → IsMirrorOf cs a → IsMirrorOf cs b → a ≡ b
+-- two lists of changes have only one mirror
+pub one_mirror : (cs counted : List ChangeValue) (a b : MirrorValue) → IsMirrorOf cs counted a → IsMirrorOf cs counted b → a ≡ b
 unfolding made
-one_mirror cs a b p q =
+one_mirror cs counted a b p q =
     let objects : a.objects ≡ b.objects = one_objects a.objects b.objects p.orderly.objects q.orderly.objects (λ k. p.objects k ∙ sym (q.objects k)) in
     let users : a.users ≡ b.users = one_counts a.users b.users p.orderly.users q.orderly.users (λ n. p.users n ∙ sym (q.users n)) in
     let changesets : a.changesets ≡ b.changesets =
@@ -176,7 +176,7 @@ state_alike ps start acc acd f g same s t =
     record {
       number = number;
       time = s.follows.time ∙ (ap (time_at ps) number ∙ sym t.follows.time);
-      mirror = one_mirror (changes_up_to ps g.number) f.mirror g.mirror (rw number at s.follows.mirror) t.follows.mirror;
+      mirror = one_mirror (changes_up_to ps g.number) (changes_up_to ps g.number) f.mirror g.mirror (rw number at s.follows.mirror) t.follows.mirror;
       held = λ j. elim (cases_lt f.number j) [
         | inl above ↦ s.held j above ∙ (ap (λ b. if b then Some (sequence_at ps j) else None) (same j) ∙ sym (t.held j (omega arith)))
         | inr below ↦ none_held f s j below ∙ sym (none_held g t j (omega arith))
@@ -199,7 +199,7 @@ unfolding made_view
 one_view ps start acc acd v w same s t =
     let number : v.number ≡ w.number = one_number acc acd start v.number w.number same s.reach t.reach in
     let time : v.time ≡ w.time = s.time ∙ (ap (time_at ps) number ∙ sym t.time) in
-    let mirror : v.mirror ≡ w.mirror = one_mirror (changes_up_to ps w.number) v.mirror w.mirror (rw number at s.mirror) t.mirror in
+    let mirror : v.mirror ≡ w.mirror = one_mirror (changes_up_to ps w.number) (changes_up_to ps w.number) v.mirror w.mirror (rw number at s.mirror) t.mirror in
     let held : v.held ≡ w.held = one_rising v.held w.held s.rising t.rising (λ j. (
       λ has. (let both = (s.held j).0 has in (t.held j).1 (rw number at both.0, sym (same j) ∙ both.1)),
       λ has. (let both = (t.held j).0 has in (s.held j).1 (rw number both.0, same j ∙ both.1)),

@@ -315,7 +315,7 @@ starts_new ps = record {
 }
 
 starts_saved : (ps : List PublishedValue) (n : ℕ) (v : SavedValue) → v.number ≡ n → n ≤ length ps
-    → IsMirrorOf (changes_up_to ps n) v.mirror → v.time ≡ time_at ps n → StartsAt ps n (follower_of v)
+    → IsMirrorOf (changes_up_to ps n) (changes_up_to ps n) v.mirror → v.time ≡ time_at ps n → StartsAt ps n (follower_of v)
 starts_saved ps n v number within mirror time = record {
   number = number;
   whole = refl;

@@ -31,7 +31,8 @@ pub record IsSaveOf (published : List PublishedValue) (number : ℕ) (bytes : Li
   pub spells : SpellsSave bytes value
   pub number_is : value.number ≡ number
   pub within : number ≤ length published
-  pub mirror : IsMirrorOf (changes_up_to published number) value.mirror
+  pub mirror :
+      IsMirrorOf (changes_up_to published number) (changes_up_to published number) value.mirror
   pub time : value.time ≡ time_at published number
 
 -- the bytes saved last: there are some exactly if a number was saved, and then they are its save

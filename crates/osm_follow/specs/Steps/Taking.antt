@@ -1,5 +1,5 @@
 -- What the application of the next sequence answers, and what is left when held ones are applied.
-use Rattle.std.specs.Prelude.{◌≡◌, ℕ, ◌+◌, ◌*◌, ◌<◌, ◌≤◌, ◌++◌, Result, Ok, Err, true}
+use Rattle.std.specs.Prelude.{◌≡◌, ℕ, ◌+◌, ◌*◌, ◌<◌, ◌≤◌, ◌++◌, length, Result, Ok, Err, true}
 use Rattle.osm_holding.specs.Holding.{HoldingValue}
 use Rattle.osm_holding.specs.declared.holding.Held.{Held}
 use Rattle.osm_mirror.specs.Mirror.{Applies, IsWithin, MirrorValue, NeedsMemory}
@@ -20,23 +20,24 @@ TakeAnswers f p (Ok (Applied low high)) g = (low ≡ p.number) × Takes f p high
 TakeAnswers f p (Err Broke) g = Breaks f p g
 TakeAnswers f p answer g = ⊥
 
--- the sequence after the base of an area was applied, and after it what the area held without a
--- gap: the new base and `last` are the number and the time of the last sequence that was applied
+-- the sequence after the number reached was applied, and after it what the area held without a gap:
+-- the new number reached and `last` are the number and the time of the last sequence applied
 pub record Drains (m : MirrorValue) (holding : HoldingValue) (first : Held)
     (n : MirrorValue) (left : HoldingValue) (last : ℕ) : Type 0 where
   pub count : ℕ
-  pub base : left.base ≡ holding.base + 1 + count
-  pub reach : Reaches (is_in holding) (holding.base + 1) left.base
+  pub reached : left.reached ≡ holding.reached + 1 + count
+  pub reach : Reaches (is_in holding) (holding.reached + 1) left.reached
   pub applied :
-      Applies m (first.batch ++ between (changes_in holding) (holding.base + 1) count) n
-  pub within : IsWithin (max_changes * left.base) n
-  pub time : last ≡ time_in holding left.base first.time
-  pub rest : (j : ℕ) → left.base < j → sequence_in left j ≡ sequence_in holding j
+      Applies m (first.batch ++ between (changes_in holding) (holding.reached + 1) count) n
+  pub within : IsWithin (max_changes * left.reached) n
+  pub objects : length n.objects ≤ max_changes * left.reached
+  pub time : last ≡ time_in holding left.reached first.time
+  pub rest : (j : ℕ) → left.reached < j → sequence_in left j ≡ sequence_in holding j
 
 -- a change of the first sequence, or of the next `count`, all of them held, needs a new entry
 pub record Stops (m : MirrorValue) (holding : HoldingValue) (first : Held) : Type 0 where
   pub count : ℕ
-  pub all : (j : ℕ) → holding.base + 1 < j → j ≤ holding.base + 1 + count →
+  pub all : (j : ℕ) → holding.reached + 1 < j → j ≤ holding.reached + 1 + count →
       is_in holding j ≡ true
   pub needs :
-      NeedsMemory m (first.batch ++ between (changes_in holding) (holding.base + 1) count)
+      NeedsMemory m (first.batch ++ between (changes_in holding) (holding.reached + 1) count)

@@ -12,14 +12,14 @@ entries_from first [] = []
 entries_from first (None ∷ slots) = entries_from (first + 1) slots
 entries_from first (Some held ∷ slots) = (first, held) ∷ entries_from (first + 1) slots
 
--- the area that a base and the slots after it show
+-- the area that a number and the slots after it show
 abbrev pub area_of : ℕ → List (Option Held) → HoldingValue
-area_of base slots = record { base = base; entries = entries_from (base + 1) slots }
+area_of reached slots = record { reached = reached; entries = entries_from (reached + 1) slots }
 
--- the slots of the window, in a ring with room for no more, after a base within the limits
-pub record AreSlots (base : ℕ) (slots : Buffer (Option Held)) : Type 0 where
-  pub limit : base ≤ max_sequence
+-- the slots of the window, in a ring with room for no more, after a number within the limits
+pub record AreSlots (reached : ℕ) (slots : Buffer (Option Held)) : Type 0 where
+  pub limit : reached ≤ max_sequence
   pub full : length slots.items ≡ window
   pub room : slots.capacity ≡ window
   pub sequences :
-      (number : ℕ) → IsSome (held_at (area_of base slots.items) number) → number ≤ max_sequence
+      (number : ℕ) → IsSome (held_at (area_of reached slots.items) number) → number ≤ max_sequence

@@ -14,7 +14,7 @@ fn has(alloc: Global, area: &HoldingArea, numbers: &[u32]) -> bool {
 
 // Whether that number of the window after number 1 is free at first, and is held after `hold`.
 fn holds(alloc: Global, area: &mut HoldingArea, number: u32, time: u32) -> bool {
-    if area.base() != 1 || number < 3 || 65 < number || area.is_held(number) {
+    if area.reached() != 1 || number < 3 || 65 < number || area.is_held(number) {
         return false;
     }
     let batch = Batch::new(alloc);
@@ -22,10 +22,10 @@ fn holds(alloc: Global, area: &mut HoldingArea, number: u32, time: u32) -> bool 
     area.is_held(number)
 }
 
-// Whether the base goes from that number to the next one, which is free.
+// Whether the area goes on from that number to the next one, which is free.
 fn advances_from(area: &mut HoldingArea, number: u32) -> bool {
-    let base = area.base();
-    if base != number || base >= 999_999_999 || area.is_held(base + 1) {
+    let reached = area.reached();
+    if reached != number || reached >= 999_999_999 || area.is_held(reached + 1) {
         return false;
     }
     area.advance();
@@ -45,7 +45,7 @@ fn keeps_early_sequences(alloc: Global, area: &mut HoldingArea) -> bool {
     let is_new = has(alloc, area, [].as_slice());
     let are_held = holds(alloc, area, 65, 165) && holds(alloc, area, 3, 103);
     let are_listed = has(alloc, area, [3, 65].as_slice());
-    let is_moved = advances_from(area, 1) && area.base() == 2;
+    let is_moved = advances_from(area, 1) && area.reached() == 2;
     let is_taken = next_time(area) == Some(103) && next_time(area).is_none();
     let is_left = has(alloc, area, [65].as_slice());
     is_new && are_held && are_listed && is_moved && is_taken && is_left
@@ -54,7 +54,7 @@ fn keeps_early_sequences(alloc: Global, area: &mut HoldingArea) -> bool {
 // Whether a reset drops what is held.
 fn is_reset(alloc: Global, area: &mut HoldingArea) -> bool {
     area.reset(999_999_999);
-    area.base() == 999_999_999 && has(alloc, area, [].as_slice())
+    area.reached() == 999_999_999 && has(alloc, area, [].as_slice())
 }
 
 fn is_an_area(alloc: Global) -> bool {

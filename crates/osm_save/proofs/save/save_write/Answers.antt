@@ -23,7 +23,7 @@ returns-clause-text c =
     c.in_ok-extend_from_slice.ensures.items
 
 pub returns-clause-spelled : goal.returns-clause-spelled
-returns-clause-spelled c = λ number time within. record {
-  savable = record { number = number; time = time; mirror = c.limits.ensures; within = within };
+returns-clause-spelled c = λ number time within objects. record {
+  savable = record { number = number; time = time; mirror = c.limits.ensures; within = within; objects = objects };
   text = returns-clause-text c;
 }

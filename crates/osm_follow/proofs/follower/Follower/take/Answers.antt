@@ -6,20 +6,20 @@ use Rattle.osm_follow.proofs.follower.Follower.take.Goals as goal
 pub returns-in_default : goal.returns-in_default
 returns-in_default c =
     let broken : ¬ IsTrue c.self.inside.is_broken = search rules in
-    let next : c.args.state.now.sequence ≡ c.self.inside.holding.base + 1 =
-    (let base = (c.self.invariant.whole broken).base in let is : c.args.state.now.sequence ≡ c.self.inside.number
+    let next : c.args.state.now.sequence ≡ c.self.inside.holding.reached + 1 =
+    (let reached = (c.self.invariant.whole broken).reached in let is : c.args.state.now.sequence ≡ c.self.inside.number
     + 1 = rw (← c.self.view_is) at c.requires.next in omega arith) in
     rw (← c.self.view_is) (breaks _ _ _ c.time-time.result next (search rules) refl)
 
 pub returns : goal.returns
 returns c =
     let broken : ¬ IsTrue c.self.inside.is_broken = search rules in
-    let next : c.args.state.now.sequence ≡ c.self.inside.holding.base + 1 =
-    (let base = (c.self.invariant.whole broken).base in let is : c.args.state.now.sequence ≡ c.self.inside.number
+    let next : c.args.state.now.sequence ≡ c.self.inside.holding.reached + 1 =
+    (let reached = (c.self.invariant.whole broken).reached in let is : c.args.state.now.sequence ≡ c.self.inside.number
     + 1 = rw (← c.self.view_is) at c.requires.next in omega arith) in
     rw (← c.self.view_is) (
       c.sequence-low.ensures.sequence,
-      rw c.base-high.ensures.base
-          (takes _ _ _ c.time-time.result c.in-Ok.last next (search rules) c.base-high.ensures.limits refl refl
+      rw c.reached-high.ensures.reached
+          (takes _ _ _ c.time-time.result c.in-Ok.last next (search rules) c.reached-high.ensures.limits refl refl
           (search rules)),
     )

@@ -11,15 +11,15 @@ loop-index-preserved c =
     elim c.if-is_held.branch [
       | then-is_held w ↦ record {
         shown = w.count-is ∙ (ap (λ (n : ℕ). n + 1) c.loop-index.invariant.shown
-            ∙ sym (count_before_held (c.self.inside.base + 1) c.self.inside.slots.items c.loop-index.index
-            (c.self.inside.base + 1 + c.loop-index.index) refl (tells.0 w.if-is_held.true)));
+            ∙ sym (count_before_held (c.self.inside.reached + 1) c.self.inside.slots.items c.loop-index.index
+            (c.self.inside.reached + 1 + c.loop-index.index) refl (tells.0 w.if-is_held.true)));
         few = omega (arith, w.count-is, c.loop-index.invariant.few);
       }
       | else-is_held w ↦ record {
         shown = w.count-is
             ∙ (c.loop-index.invariant.shown
-            ∙ sym (count_before_free (c.self.inside.base + 1) c.self.inside.slots.items c.loop-index.index
-            (c.self.inside.base + 1 + c.loop-index.index) refl
+            ∙ sym (count_before_free (c.self.inside.reached + 1) c.self.inside.slots.items c.loop-index.index
+            (c.self.inside.reached + 1 + c.loop-index.index) refl
             (λ some. false≢true (sym w.if-is_held.false ∙ tells.1 some))));
         few = omega (arith, w.count-is, c.loop-index.invariant.few);
       }
