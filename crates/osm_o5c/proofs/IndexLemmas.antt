@@ -14,7 +14,7 @@ use Rattle.std.proofs.Math.Seq.{drop-append_seam, get_or-append_seam}
 use Rattle.osm_o5c.specs.Written.{last_equal, reference_of}
 use Rattle.osm_o5c.specs.Steps.Index.{hash_of, bucket_of, string_of, strings_of, string_at, no_slot, links_of, Chained}
 use Rattle.osm_o5c.specs.Steps.Index.{Leads, IsStored, IsLastIn, IsRecent, AreLed, IsLatest}
-use Rattle.osm_o5c.specs.Steps.Index.{string_named, IsLeast}
+use Rattle.osm_o5c.specs.Steps.Index.{string_named, IsLeast, AreBelow, IsLeftOut}
 use Rattle.osm_o5c.specs.declared.chains.Slot.{Slot}
 
 -- ---- the strings of slots
@@ -464,10 +464,6 @@ ahead_next c latest text at next some led a other is back =
           ];
     }
 
--- every string that equals the text and can be named is before the number
-abbrev AreBelow : List (List ℕ) → List ℕ → ℕ → Type 0
-AreBelow strings text at = (j : ℕ) → j < length strings → IsRecent strings j → string_at strings j ≡ text → j < at
-
 below_at : (strings : List (List ℕ)) (text : List ℕ) (kept at : ℕ) → IsAhead strings text kept at → kept < at → AreBelow strings text at
 below_at strings text kept at a less j h r e =
     elim (cases_lt j kept) [
@@ -482,7 +478,21 @@ below_kept strings text kept at a less j h r e =
       | inr late ↦ let after : j < at = (a.leads j h r e (omega arith)).after in omega arith
     ]
 
-none_below : (strings : List (List ℕ)) (text : List ℕ) (at : ℕ) → AreBelow strings text at
+-- a chain that was walked to its end leads to no string that equals the text
+pub below_latest : (c : Chained) (text : List ℕ) (at : ℕ)
+    → ((latest : List ℕ → ℕ) → AreLed c latest → IsAhead c.strings text (latest text) at)
+    → (0 < at → at ≤ length c.strings → length c.strings < at + 15000 → ⊥) → IsLeftOut c text
+below_latest c text at ahead ends latest led j less recent equal =
+    let a : IsAhead c.strings text (latest text) at = ahead latest led in
+    elim (cases_lt j (latest text)) [
+      | inl before ↦ before
+      | inr late ↦
+          let l : Leads c.strings j at = a.leads j less recent equal late in
+          let after : j < at = l.after in
+          absurd (ends (omega arith) l.within (omega arith))
+    ]
+
+pub none_below : (strings : List (List ℕ)) (text : List ℕ) (at : ℕ) → AreBelow strings text at
     → (0 < at → 15000 < length strings - (at - 1)) → reference_of strings text ≡ None
 none_below strings text at below far =
     elim (cases_lt (last_equal strings text) 1) [
@@ -500,7 +510,7 @@ none_below strings text at below far =
           ]
     ]
 
-found_below : (strings : List (List ℕ)) (text : List ℕ) (at number : ℕ) → AreBelow strings text at → 0 < at
+pub found_below : (strings : List (List ℕ)) (text : List ℕ) (at number : ℕ) → AreBelow strings text at → 0 < at
     → at ≤ length strings → string_at strings (at - 1) ≡ text → number ≡ length strings - (at - 1) → number ≤ 15000
     → reference_of strings text ≡ Some number
 found_below strings text at number below some within e is few =

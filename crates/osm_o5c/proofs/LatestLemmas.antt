@@ -1,7 +1,7 @@
 -- The map of strings that no chain leads to.
 use Rattle.std.proofs.Common.{◌≡◌, ◌⊎◌, inl, inr, ℕ, ◌+◌, ◌-◌, ◌<◌, ◌≤◌, true, false, Bool, List, [], ◌∷◌, ◌++◌, length}
-use Rattle.std.proofs.Common.{get_or, Option, Some, None, refl, sym, ap, subst, ◌∙◌, arith, Vec}
-use Rattle.std.specs.Prelude.{if◌then◌else◌, nat_lt, filter}
+use Rattle.std.proofs.Common.{Option, Some, None, refl, sym, ap, subst, ◌∙◌, arith, Vec}
+use Rattle.std.specs.Prelude.{if◌then◌else◌, nat_lt, filter, unwrap_or}
 use Rattle.std.specs.List.{AllByRecursion}
 use Rattle.std.specs.List.Sorted.{IsStrictlySortedBy}
 use Rattle.std.specs.BTreeMap.{insert_entry}
@@ -21,10 +21,11 @@ use Rattle.std.proofs.lemmas.Map.Lookups.{exact_bytes}
 use Rattle.std.proofs.lemmas.Map.Text.{is_eq-slice_cmp}
 use Rattle.std.proofs.lemmas.Slice.Eq.{bytes_eq-Decides}
 use Rattle.std.proofs.Math.Seq.{get_or-append_seam}
-use Rattle.osm_o5c.specs.Steps.Index.{string_at, bucket_of, Chained, IsLastIn, IsRecent, IsLatest, IsIndexed}
+use Rattle.osm_o5c.specs.Written.{reference_of}
+use Rattle.osm_o5c.specs.Steps.Index.{string_at, bucket_of, Chained, IsLastIn, IsRecent, IsLatest, IsIndexed, AreBelow}
 use Rattle.osm_o5c.specs.Steps.Latest.{place_in, number_or_zero, latest_of, MayHaveForgotten}
 use Rattle.osm_o5c.specs.declared.latest.Latest.{Latest}
-use Rattle.osm_o5c.proofs.IndexLemmas.{pushed, linked, led_linked, led_kept, led_again}
+use Rattle.osm_o5c.proofs.IndexLemmas.{pushed, linked, led_linked, led_kept, led_again, none_below, found_below}
 
 Entries : Type 0
 Entries = List (Vec ℕ Global × ℕ)
@@ -114,6 +115,19 @@ latest_of-insert es fs k n is t = rw (is, place_in-insert es k n t) (either (byt
     either : (b : Bool) → number_or_zero (if b then Some n else place_in es t) ≡ (if b then n else number_or_zero (place_in es t))
     either true = refl
     either false = refl
+
+-- the number that a string has after `keep`
+pub number_kept : (place : Option ℕ) (last number kept newest : ℕ) → kept ≡ unwrap_or place number
+    → newest ≡ (if nat_lt last kept then kept else number)
+    → newest ≡ (if nat_lt last (number_or_zero place) then number_or_zero place else number)
+number_kept None last number kept newest is by =
+    let none : nat_lt last 0 ≡ false = grind (arith, nat_tests) in
+    rw none (by ∙ ap (λ (k : ℕ). if nat_lt last k then k else number) is ∙ same (nat_lt last number))
+  where
+    same : (b : Bool) → (if b then number else number) ≡ number
+    same true = refl
+    same false = refl
+number_kept (Some n) last number kept newest is by = by ∙ ap (λ (k : ℕ). if nat_lt last k then k else number) is
 
 -- ---- strings that are forgotten
 
@@ -262,15 +276,100 @@ indexed_kept c before after text previous number bucket bucket_is is last put x 
         let same : latest_of after t ≡ latest_of before t = put_other before after text number put t other in
         rw same ((latest_more c.strings text (latest_of before) x.latest).equal t (subst (λ (n : ℕ). 0 < n) same some))
 
+-- a map with the same numbers
+indexed_same : (c : Chained) (before after : Latest) → ((t : List ℕ) → latest_of after t ≡ latest_of before t)
+    → IsIndexed c before → IsIndexed c after
+indexed_same c before after is x = record {
+  led = led_again c (latest_of before) (latest_of after) (λ t j h r late. omega (arith, is t, late)) x.led;
+  latest = still_latest c.strings (latest_of before) (latest_of after) (λ t. inl (is t)) x.latest;
+}
+
 -- a map that refused a string
 pub indexed_refused : (c : Chained) (before after : Latest) → after.numbers.entries ≡ before.numbers.entries
     → IsIndexed c before → IsIndexed c after
-indexed_refused c before after same x =
-    let is : (t : List ℕ) → latest_of after t ≡ latest_of before t = λ t. rw same refl in
-    record {
-      led = led_again c (latest_of before) (latest_of after) (λ t j h r late. omega (arith, is t, late)) x.led;
-      latest = still_latest c.strings (latest_of before) (latest_of after) (λ t. inl (is t)) x.latest;
-    }
+indexed_refused c before after same x = indexed_same c before after (λ t. rw same refl) x
+
+-- ---- a string that the map alone can have
+
+-- `number` is the text's next number, `n` the one that it has once it is kept, and `last` the last that can't be named
+pub record IsNext (c : Chained) (before : Latest) (text : List ℕ) (last number n : ℕ) : Type 0 where
+  pub indexed : IsIndexed c before
+  pub below : AreBelow c.strings text (latest_of before text)
+  pub next : number ≡ length c.strings + 1
+  pub far : last ≡ length c.strings - 15000
+  pub is : n ≡ (if nat_lt last (latest_of before text) then latest_of before text else number)
+
+-- the map had a number that names the text
+record HadNumber (c : Chained) (before : Latest) (text : List ℕ) (last n : ℕ) : Type 0 where
+  same : n ≡ latest_of before text
+  near : last < n
+
+had_number : (c : Chained) (before : Latest) (text : List ℕ) (last number n : ℕ) → IsNext c before text last number n
+    → n ≤ length c.strings → HadNumber c before text last n
+had_number c before text last number n x few = elim (cases_lt last (latest_of before text)) [
+  | inl near ↦
+      let yes : nat_lt last (latest_of before text) ≡ true = grind (arith, nat_tests) in
+      let same : n ≡ latest_of before text = rw yes at x.is in
+      record { same = same; near = omega (arith, same, near) }
+  | inr past ↦
+      let no : nat_lt last (latest_of before text) ≡ false = grind (arith, nat_tests) in
+      let same : n ≡ number = rw no at x.is in
+      absurd (omega (arith, same, few, x.next))
+]
+
+pub reference_had : (c : Chained) (before : Latest) (text : List ℕ) (last number n r : ℕ) → IsNext c before text last number n
+    → n ≤ length c.strings → r ≡ length c.strings - (n - 1) → reference_of c.strings text ≡ Some r
+reference_had c before text last number n r x few is =
+    let had : HadNumber c before text last n = had_number c before text last number n x few in
+    let near : last < n = had.near in
+    let far : last ≡ length c.strings - 15000 = x.far in
+    let below : AreBelow c.strings text n = subst (λ (k : ℕ). AreBelow c.strings text k) (sym had.same) x.below in
+    let some : 0 < latest_of before text = omega (arith, had.same, near) in
+    let equal : string_at c.strings (n - 1) ≡ text = rw had.same (x.indexed.latest.equal text some) in
+    found_below c.strings text n r below (omega arith) few equal is (omega arith)
+
+pub indexed_had : (c : Chained) (before after : Latest) (text : List ℕ) (last number n : ℕ) → IsNext c before text last number n
+    → n ≤ length c.strings → HasPut before after text n → IsIndexed c after
+indexed_had c before after text last number n x few put = indexed_same c before after (λ t. same t (bytes_eq text t) refl) x.indexed
+  where
+    had : HadNumber c before text last n
+    had = had_number c before text last number n x few
+
+    same : (t : List ℕ) (b : Bool) → bytes_eq text t ≡ b → latest_of after t ≡ latest_of before t
+    same t true is = put t ∙ rw is (had.same ∙ ap (latest_of before) ((bytes_eq-Decides text t).0 is))
+    same t false other = put_other before after text n put t other
+
+-- the map had none
+record HadNone (c : Chained) (before : Latest) (text : List ℕ) (last number n : ℕ) : Type 0 where
+  same : n ≡ number
+  past : latest_of before text ≤ last
+
+had_none : (c : Chained) (before : Latest) (text : List ℕ) (last number n : ℕ) → IsNext c before text last number n
+    → length c.strings < n → HadNone c before text last number n
+had_none c before text last number n x more = elim (cases_lt last (latest_of before text)) [
+  | inl near ↦
+      let yes : nat_lt last (latest_of before text) ≡ true = grind (arith, nat_tests) in
+      let same : n ≡ latest_of before text = rw yes at x.is in
+      absurd (omega (arith, same, more, x.indexed.latest.within text))
+  | inr past ↦
+      let no : nat_lt last (latest_of before text) ≡ false = grind (arith, nat_tests) in
+      let same : n ≡ number = rw no at x.is in
+      record { same = same; past = past }
+]
+
+pub reference_lacked : (c : Chained) (before : Latest) (text : List ℕ) (last number n : ℕ) → IsNext c before text last number n
+    → length c.strings < n → reference_of c.strings text ≡ None
+reference_lacked c before text last number n x more =
+    let past : latest_of before text ≤ last = (had_none c before text last number n x more).past in
+    let far : last ≡ length c.strings - 15000 = x.far in
+    none_below c.strings text (latest_of before text) x.below (λ some. omega arith)
+
+pub indexed_lacked : (c : Chained) (before after : Latest) (text : List ℕ) (last number n previous bucket : ℕ)
+    → IsNext c before text last number n → length c.strings < n → bucket ≡ bucket_of text → IsLastIn c bucket previous
+    → HasPut before after text n → IsIndexed (pushed c text previous) after
+indexed_lacked c before after text last number n previous bucket x more bucket_is last_is put =
+    let same : n ≡ number = (had_none c before text last number n x more).same in
+    indexed_kept c before after text previous n bucket bucket_is (same ∙ x.next) last_is put x.indexed
 
 -- no strings
 pub indexed_empty : (c : Chained) (l : Latest) → c.strings ≡ [] → c.links ≡ [] → length c.heads ≡ 32768

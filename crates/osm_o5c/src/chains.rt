@@ -6,7 +6,7 @@
 ghost use Rattle.std.specs.Prelude.{◌≡◌, ◌⊎◌, [], ◌∷◌, ◌++◌, ◌<◌, ◌≤◌, ◌+◌, ◌/◌, ◌↔◌, take, drop};
 ghost use Rattle.std.specs.Prelude.{length, get_or, slice_set, ◌^◌, ◌*◌, IfOk, OnOk, OnErr, IsTrue};
 ghost use Rattle.std.specs.Prelude.{vec_capacity};
-ghost use Rattle.osm_o5c.specs.Steps.Index.{IsLastIn, has_links, string_at, hash_of};
+ghost use Rattle.osm_o5c.specs.Steps.Index.{IsLastIn, IsLeftOut, has_links, string_at, hash_of};
 
 use crate::hashed_string::{BUCKETS, HashedString, bucket_for};
 use crate::strings::MAX_ENTRIES;
@@ -216,6 +216,23 @@ impl Chains {
             return false;
         }
         self.has_links(self.previous(at - 1), count - 1)
+    }
+
+    /// Whether the chain of the string's bucket has at least `count` strings that can be named, of
+    /// which none is this one.
+    pub fn is_full_without(&self, text: &HashedString, count: usize) -> bool
+        ensures { IsTrue result → IsLeftOut self.now text.now }
+    {
+        let mut links = 0usize;
+        let mut at = self.last_in(text.bucket());
+        while is_recent(at, self.len()) {
+            if self.is_at(at - 1, text) {
+                return false;
+            }
+            at = self.previous(at - 1);
+            links = links.saturating_add(1);
+        }
+        links >= count
     }
 
     /// Adds a string that is linked to `previous`; no head leads to it yet. Also out of memory if

@@ -1,7 +1,7 @@
 //! Strings that no chain leads to, each with the number at which it was entered last.
 
 ghost use Rattle.std.specs.Prelude.{◌≡◌, ◌≤◌, ℕ, List, [], length, IfOk, OnOk, OnErr};
-ghost use Rattle.std.specs.Prelude.{if◌then◌else◌, vec_capacity};
+ghost use Rattle.std.specs.Prelude.{if◌then◌else◌, nat_lt, vec_capacity};
 ghost use Rattle.std.specs.Str.{bytes_eq};
 ghost use Rattle.osm_o5c.specs.Steps.Latest.{latest_of, MayHaveForgotten};
 
@@ -29,6 +29,13 @@ fn room_for_copy(alloc: Global, text: &[u8]) -> Result<Vec<u8>, WantOfMemory>
     Ok(Vec::with_capacity(alloc, text.len())?)
 }
 
+// The number that a string has from now on, if it has had `kept`.
+fn newest_of(kept: u32, last: usize, number: u32) -> u32
+    ensures { result ≡ (if nat_lt last kept then kept else number) }
+{
+    if last < kept as usize { kept } else { number }
+}
+
 impl Latest {
     /// Empty; takes no memory.
     pub fn new(alloc: Global) -> Latest
@@ -47,6 +54,11 @@ impl Latest {
     {
         self.numbers.clear();
         self.since = 0;
+    }
+
+    /// Whether no string is here, as for most files.
+    pub fn is_empty(&self) -> bool {
+        self.numbers.is_empty()
     }
 
     /// The number of a string, or 0 if it isn't here.
@@ -89,5 +101,25 @@ impl Latest {
             return Err(WantOfMemory);
         };
         Ok(())
+    }
+
+    /// Gives a string a number, unless it has one above `last`; the number that it has then. After
+    /// a refusal nothing has changed.
+    pub fn keep(&mut self, text: &[u8], last: usize, number: u32) -> Result<usize, WantOfMemory>
+        ensures number { IfOk result (λ n. n ≡ (if nat_lt last (latest_of self.old text.now)
+            then latest_of self.old text.now else number)) }
+        ensures kept { IfOk result (λ n. (t : List ℕ) → latest_of self.new t
+            ≡ (if bytes_eq text.now t then n else latest_of self.old t)) }
+        ensures unchanged { OnErr result (self.new.numbers.entries ≡ self.old.numbers.entries) }
+    {
+        let mut key = room_for_copy(self.alloc, text)?;
+        key.extend_from_slice(text)?;
+        let Ok(entry) = self.numbers.entry(key) else {
+            return Err(WantOfMemory);
+        };
+        let kept = entry.or_insert(number);
+        let newest = newest_of(*kept, last, number);
+        *kept = newest;
+        Ok(newest as usize)
     }
 }

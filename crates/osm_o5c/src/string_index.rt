@@ -6,7 +6,7 @@
 
 ghost use Rattle.std.specs.Prelude.{◌≡◌, [], ◌∷◌, ◌++◌, ◌<◌, ◌≤◌, length, IfOk, OnOk};
 ghost use Rattle.osm_o5c.specs.Steps.Index.{IsLeast};
-ghost use Rattle.osm_o5c.specs.Written.{reference_of};
+ghost use Rattle.osm_o5c.specs.Written.{reference_of, entered_by};
 
 use crate::chains::{Chains, is_recent, narrow};
 use crate::hashed_string::HashedString;
@@ -77,6 +77,50 @@ impl StringIndex {
             return None;
         }
         Some(self.chains.len() - (kept - 1))
+    }
+
+    // The least number that names the string, or `None` if no number does; then enters the string.
+    fn find_and_enter(&mut self, text: &HashedString) -> Result<Option<usize>, WantOfMemory>
+        ensures number { IfOk result (λ r. r ≡ reference_of self.old text.now) }
+        ensures strings { IfOk result (λ r. self.new ≡ entered_by r self.old text.now 0) }
+    {
+        match self.find(text) {
+            Some(number) => Ok(Some(number)),
+            None => {
+                self.enter(text)?;
+                Ok(None)
+            }
+        }
+    }
+
+    /// The least number that names the string, or `None` if no number does; then enters the string.
+    // A string that only the map can have is found and entered by one search of the map.
+    pub fn find_or_enter(&mut self, text: &HashedString) -> Result<Option<usize>, WantOfMemory>
+        ensures number { IfOk result (λ r. r ≡ reference_of self.old text.now) }
+        ensures strings { IfOk result (λ r. self.new ≡ entered_by r self.old text.now 0) }
+    {
+        if !self.latest.is_empty() && self.chains.is_full_without(text, MAX_LINKS) {
+            let count = self.chains.len();
+            let number = narrow(count + 1)?;
+            let last = count.saturating_sub(MAX_ENTRIES);
+            self.latest.forget_old(count);
+            let Ok(kept) = self.latest.keep(text.as_slice(), last, number) else {
+                // Without memory for the map, the chain gets another link.
+                return self.find_and_enter(text);
+            };
+            if kept <= count {
+                return Ok(Some(count - (kept - 1)));
+            }
+            let previous = self.chains.last_in(text.bucket());
+            let Ok(()) = self.chains.push(text, previous) else {
+                // The map has the number of a string that was not entered.
+                self.chains.clear();
+                self.latest.clear();
+                return Err(WantOfMemory);
+            };
+            return Ok(None);
+        }
+        self.find_and_enter(text)
     }
 
     /// Enters a string. Also out of memory if an offset, a size or an index needs more than 32

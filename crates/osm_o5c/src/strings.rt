@@ -242,15 +242,10 @@ fn find_or_enter(
         ≡ entered_by (reference_of strings.old text.now) strings.old text.now size) }
 {
     let text = HashedString::new(text);
-    match strings.find(&text) {
-        Some(number) => Ok(Some(number)),
-        None => {
-            if size <= MAX_SIZE {
-                strings.enter(&text)?;
-            }
-            Ok(None)
-        }
+    if size <= MAX_SIZE {
+        return strings.find_or_enter(&text);
     }
+    Ok(strings.find(&text))
 }
 
 /// Replaces the in-line string that begins at `start` with the least number that names it, if there

@@ -120,6 +120,17 @@ pub record AreLed (chained : Chained) (latest : List ℕ → ℕ) : Type 0 where
       → latest (string_at chained.strings j) ≤ j
       → Leads chained.strings j (get_or chained.links i 0)
 
+-- every string that equals the text and can be named is before the number
+abbrev pub AreBelow : List (List ℕ) → List ℕ → ℕ → Type 0
+AreBelow strings text at = (j : ℕ) → j < length strings → IsRecent strings j
+    → string_at strings j ≡ text → j < at
+
+-- no chain leads to a string that equals the text and can be named, so that it has a later number in
+-- `latest`, if there is such a string
+abbrev pub IsLeftOut : Chained → List ℕ → Type 0
+IsLeftOut chained text = (latest : List ℕ → ℕ) → AreLed chained latest
+    → AreBelow chained.strings text (latest text)
+
 -- a number of `latest` is one more than the index of its string
 pub record IsLatest (strings : List (List ℕ)) (latest : List ℕ → ℕ) : Type 0 where
   pub within : (t : List ℕ) → latest t ≤ length strings

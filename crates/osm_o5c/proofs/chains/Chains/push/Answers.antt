@@ -1,4 +1,4 @@
-use Rattle.std.proofs.Common.{rules, ◌≡◌, ◌≤◌, [], ◌∷◌, ◌++◌, ◌+◌, length, ap, refl, arith}
+use Rattle.std.proofs.Common.{rules, ◌≡◌, ◌≤◌, [], ◌∷◌, ◌++◌, length, ap, refl, arith}
 use Rattle.osm_o5c.specs.Steps.Index.{hash_of, strings_of, links_of}
 use Rattle.osm_o5c.proofs.IndexLemmas.{strings_entered, strings_kept, strings_length, stored_more, stored_pushed, links_push}
 use Rattle.osm_o5c.proofs.chains.Chains.push.Goals as goal
