@@ -30,7 +30,7 @@ TAKE_NO_MEMORY = set("""
     Publisher::new Publisher::resume Publisher::number Publisher::pending Publisher::check_close
     Published::number Published::state Published::o5c Published::opl
     Follower::is_broken Follower::number Follower::time Follower::get Follower::user_count Follower::changeset_count
-    Follower::is_held Follower::lag
+    Follower::is_held Follower::lag lag_from
     View::new View::number View::time View::objects View::users View::changesets View::held
     World::publisher World::follower World::published
     ending_of_error ending_of_unread ending_of_fault head_read

@@ -2,10 +2,10 @@
 
 ghost use Rattle.std.specs.Prelude.{◌≡◌, ◌≤◌, IfErr, IfOk, OnOk};
 ghost use Rattle.osm_disk.specs.Counts.{Counts, state_of};
-ghost use Rattle.osm_folder.specs.Files.{HasFailed, IsWithin, WriteRefused};
+ghost use Rattle.osm_folder.specs.Files.{HasFailed, IsWithin, NeverTooLarge};
 ghost use Rattle.osm_folder.specs.Frames.{IsDevice, ReadsBetween, ReplacesBetween};
 
-use crate::reading::{cause_of, read_file};
+use crate::reading::{cause_of, read_file, read_prefix};
 use crate::replacing::write_file;
 use osm_folder::store::{Store, StoreError};
 use std::alloc::Global;
@@ -73,8 +73,27 @@ impl<R: Files> Store for DiskStore<R> {
         }
     }
 
+    fn read_prefix(
+        &mut self,
+        alloc: Global,
+        name: &str,
+        most: u64,
+    ) -> Result<Option<Vec<u8>>, StoreError>
+        ensures within { IfOk result (IsWithin most) }
+        ensures refused { IfErr result NeverTooLarge }
+        ensures frame { ReadsBetween IsDevice 1 1
+            (state_of self.old) (state_of self.new) result }
+        ensures none { OnOk result (self.new.failures ≡ self.old.failures) }
+        ensures counted { IfErr result (Counts self.old.failures self.new.failures) }
+    {
+        match read_prefix(alloc, &self.files, name, most) {
+            Ok(found) => Ok(found),
+            Err(error) => Err(self.count_failure(error)),
+        }
+    }
+
     fn write(&mut self, alloc: Global, name: &str, bytes: &[u8]) -> Result<(), StoreError>
-        ensures refused { IfErr result WriteRefused }
+        ensures refused { IfErr result NeverTooLarge }
         ensures frame { ReplacesBetween IsDevice 1 1
             (state_of self.old) (state_of self.new) result }
         ensures none { OnOk result (self.new.failures ≡ self.old.failures) }

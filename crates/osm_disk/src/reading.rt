@@ -1,8 +1,8 @@
-//! Reading a file whole, up to a limit.
+//! Reading a file whole, up to a limit, and reading a prefix of one.
 
-ghost use Rattle.std.specs.Prelude.{◌≡◌, ℕ, ◌≤◌, ◌<◌, length, IfErr, IfOk, IfSome};
+ghost use Rattle.std.specs.Prelude.{◌≡◌, ℕ, ◌≤◌, ◌<◌, length, take, IfErr, IfOk, IfSome};
 ghost use Rattle.osm_disk.specs.Reading.{IsTooLongOnly, cause};
-ghost use Rattle.osm_folder.specs.Files.{IsWithin};
+ghost use Rattle.osm_folder.specs.Files.{IsWithin, NeverTooLarge};
 
 use osm_folder::store::StoreError;
 use std::alloc::Global;
@@ -25,6 +25,55 @@ pub fn read_file<R: Files>(
             ErrorKind::NotFound => Ok(None),
             _ => Err(cause_of(&error)),
         },
+    }
+}
+
+/// The first bytes of a file, at most so many; None if there is no such file.
+pub fn read_prefix<R: Files>(
+    alloc: Global,
+    files: &R,
+    path: &str,
+    most: u64,
+) -> Result<Option<Vec<u8>>, StoreError>
+    ensures within { IfOk result (IsWithin most) }
+    ensures refused { IfErr result NeverTooLarge }
+{
+    match fs::open(files, path) {
+        Ok(file) => Ok(Some(read_first(alloc, file, most)?)),
+        Err(error) => match error.kind() {
+            ErrorKind::NotFound => Ok(None),
+            _ => Err(cause_of(&error)),
+        },
+    }
+}
+
+/// The first bytes that the reader has, at most so many. Reads no more, and asks for memory as the
+/// bytes come.
+pub fn read_first<R: Read + Drop>(
+    alloc: Global,
+    reader: R,
+    most: u64,
+) -> Result<Vec<u8>, StoreError>
+    ensures read { IfOk result
+        (λ bytes. IfSome (R.remaining reader) (λ all. bytes.items ≡ take most all)) }
+    ensures within { IfOk result (λ bytes. length bytes.items ≤ most) }
+    ensures refused { IfErr result NeverTooLarge }
+{
+    let mut bytes = Vec::new(alloc);
+    if let Err(error) = reader.take(most).read_to_end(&mut bytes) {
+        return Err(cause_of(&error));
+    }
+    cut(&mut bytes, most);
+    Ok(bytes)
+}
+
+// Leaves the first bytes, at most so many.
+fn cut(bytes: &mut Vec<u8>, most: u64)
+    ensures whole { length bytes.old.items ≤ most → bytes.new.items ≡ bytes.old.items }
+    ensures within { length bytes.new.items ≤ most }
+{
+    if bytes.len() as u64 > most {
+        bytes.truncate(most as usize);
     }
 }
 

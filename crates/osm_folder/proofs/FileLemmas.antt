@@ -1,12 +1,17 @@
 -- Writes into a store, and calls that are left.
-use Rattle.std.proofs.Common.{◌+◌, ◌≤◌, None, Some, arith, subst, ◌≡◌, ℕ, List, Option, refl, sym}
+use Rattle.std.proofs.Common.{◌+◌, ◌≤◌, None, Some, arith, subst, ◌≡◌, ℕ, List, Option, length, take, refl, sym}
 use Rattle.std.proofs.Common.{◌∙◌}
 use Rattle.std.specs.Map.{update}
 use Rattle.std.specs.Str.{bytes_eq}
 use Rattle.std.proofs.lemmas.Slice.Eq.{bytes_eq-Decides}
 use Rattle.std.proofs.lemmas.Map.{update_same, update_other}
 use Rattle.std.proofs.lemmas.Bool.{false_from_ne_true}
+use Rattle.std.proofs.lemmas.List.{take_all}
 use Rattle.osm_folder.specs.Files.{Files, Puts, Spends}
+
+-- a short list is its own prefix
+pub take_whole : (n : ℕ) (xs : List ℕ) → length xs ≤ n → xs ≡ take n xs
+take_whole n xs short = sym (take_all n xs short)
 
 pub puts_from_update : (f g : Files) (name : List ℕ) (w : Option (List ℕ)) → ((q : List ℕ) → g q ≡ update bytes_eq f name w q) → Puts f name w g
 puts_from_update f g name w h =

@@ -1,30 +1,62 @@
 -- A lag that is told, and why one isn't.
-use Rattle.std.proofs.Common.{◌≡◌, ℕ, List, length, Option, Some, None, inl, inr, sym, ap, ◌∙◌}
+use Rattle.std.proofs.Common.{◌≡◌, ℕ, ◌≤◌, List, length, take, Option, Some, None, inl, inr, arith, refl, sym, ap, ◌∙◌}
+use Rattle.std.proofs.lemmas.Option.{same_Some}
+use Rattle.osm_save.specs.Head.{BeginsSave, head_of}
+use Rattle.osm_save.specs.declared.head.Head.{Head}
 use Rattle.osm_save.specs.declared.save.Saved.{Saved}
 use Rattle.osm_state.proofs.StateLemmas.{one_state}
 use Rattle.osm_state.specs.State.{StateValue}
 use Rattle.osm_state.specs.StateLaws.{NoFaultBesideState}
-use Rattle.osm_follow.specs.Follower.{FollowerValue}
 use Rattle.osm_follow.specs.Published.{PublishedValue, sequence_at, time_at}
-use Rattle.osm_follow.specs.Restart.{saved_of}
-use Rattle.osm_folder.specs.Files.{Files}
+use Rattle.osm_folder.specs.Files.{Files, prefix_of}
 use Rattle.osm_folder.specs.Folder.{IsFolderOf, IsStateFile, IsThere, IsTop}
-use Rattle.osm_folder.specs.Following.{IsSaveOf, IsStarted, StartStops}
-use Rattle.osm_folder.specs.Lagging.{IsLag, IsLagOf, LagRefuses, LagStops}
+use Rattle.osm_folder.specs.Following.{IsSaveOf, IsSaved}
+use Rattle.osm_folder.specs.Lagging.{IsBadHead, IsBegun, IsHead, IsLag, IsLagOf, LagRefuses, LagStops}
 use Rattle.osm_folder.specs.Names.{top_name_of}
 use Rattle.osm_folder.specs.Reports.{ReportValue}
-use Rattle.osm_folder.specs.Steps.Lagging.{IsTold, ToldStops}
+use Rattle.osm_folder.specs.Steps.Following.{TopStateStops}
+use Rattle.osm_folder.specs.Steps.Lagging.{HeadStops, HeadTextStops, IsTold, ToldStops}
+use Rattle.osm_folder.specs.declared.fault.FileName.TheVariants.{Top}
 use Rattle.osm_folder.specs.declared.fault.RunFault.{RunFault}
-use Rattle.osm_folder.specs.declared.fault.RunFault.TheVariants.{WantOfMemory, TopBehind, TimeBehind}
-use Rattle.osm_folder.proofs.InStepLemmas.{one_saved, top_number}
-use Rattle.osm_folder.proofs.StopLemmas.{start_refuses}
+use Rattle.osm_folder.specs.declared.fault.RunFault.TheVariants.{WantOfMemory, ReadFault, TooLarge, Absent}
+use Rattle.osm_folder.specs.declared.fault.RunFault.TheVariants.{BadState, BadSave, TopBehind, TimeBehind}
+use Rattle.osm_folder.proofs.HeadLemmas.{begins_first, begins_more, head_is, save_has_head}
+use Rattle.osm_folder.proofs.InStepLemmas.{top_number}
+use Rattle.osm_folder.proofs.RefusalLemmas.{good_top, small_top}
+use Rattle.osm_folder.proofs.StopLemmas.{none_published}
 
-pub is_lag : (dir save : List ℕ) (files : Files) (f : FollowerValue) (top : StateValue) (report : ReportValue)
-    → IsStarted dir save files (saved_of f) top → IsTold f top report → IsLag dir save files report
-is_lag dir save files f top report started told = record {
-  start = saved_of f;
+-- ---- the head of a save, from its first bytes
+
+pub head_there : (told : Option (List ℕ)) (most : ℕ) (bytes : List ℕ) (head : Head) → prefix_of most told ≡ Some bytes
+    → BeginsSave bytes head → IsHead told head
+head_there None most bytes head is b = absurd (let e = is in cc)
+head_there (Some all) most bytes head is b =
+    begins_more most all head (let same : take most all ≡ bytes = same_Some (take most all) bytes is in rw same b)
+
+pub bad_head : (told : Option (List ℕ)) (most : ℕ) (bytes : List ℕ) → 60 ≤ most → prefix_of most told ≡ Some bytes
+    → ((head : Head) → BeginsSave bytes head → ⊥) → IsBadHead told
+bad_head None most bytes enough is nothing = absurd (let e = is in cc)
+bad_head (Some all) most bytes enough is nothing = record {
+  bytes = all;
+  there = refl;
+  nothing = λ head b. nothing head (let same : take most all ≡ bytes = same_Some (take most all) bytes is in
+      rw (← same) (begins_first most all head enough b));
+}
+
+pub head_text_stops : (known : Type 0) (told : Option (List ℕ)) (most : ℕ) (bytes : List ℕ) (fault : RunFault) → 60 ≤ most
+    → (known → prefix_of most told ≡ Some bytes) → HeadTextStops bytes fault → HeadStops known told fault
+head_text_stops known told most bytes (BadSave line) enough is h = λ yes. bad_head told most bytes enough (is yes) h
+head_text_stops known told most bytes fault enough is h = absurd h
+
+-- ---- a lag, and why there is none
+
+pub is_lag : (dir save : List ℕ) (files : Files) (start : Head) (top : StateValue) (report : ReportValue)
+    → IsBegun dir save files start top → IsTold start top report → IsLag dir save files report
+is_lag dir save files start top report begun told = record {
+  start = start;
   top = top;
-  started = started;
+  begun = begun;
+  saved = λ v saved. head_is (files save) start v begun.head saved;
   behind = told.behind;
   seconds = told.seconds;
   behind_is = told.behind_is;
@@ -32,22 +64,40 @@ is_lag dir save files f top report started told = record {
   report_is = told.report_is;
 }
 
-pub told_stops : (known : Type 0) (dir save : List ℕ) (files : Files) (f : FollowerValue) (top : StateValue)
-    (fault : RunFault) → (known → IsStarted dir save files (saved_of f) top) → ToldStops f top fault
+pub head_lags : (known : Type 0) (dir save : List ℕ) (files : Files) (fault : RunFault)
+    → HeadStops known (files save) fault → LagStops known dir save files fault
+head_lags known dir save files WantOfMemory h = tt
+head_lags known dir save files (ReadFault file) h = rw h tt
+head_lags known dir save files (BadSave line) h = h
+head_lags known dir save files fault h = absurd h
+
+pub top_lags : (known : Type 0) (dir save : List ℕ) (files : Files) (start : Head) (fault : RunFault)
+    → (known → IsHead (files save) start) → TopStateStops known (files (top_name_of dir)) fault
     → LagStops known dir save files fault
-told_stops known dir save files f top WantOfMemory started h = tt
-told_stops known dir save files f top TopBehind started h = λ yes. record { start = saved_of f; top = top; started = started yes; below = h }
-told_stops known dir save files f top TimeBehind started h = λ yes. record {
-  start = saved_of f;
+top_lags known dir save files start WantOfMemory head h = tt
+top_lags known dir save files start (ReadFault file) head h = rw h (λ yes. (start, head yes))
+top_lags known dir save files start (Absent file) head h = rw h.0 (λ yes. ((start, head yes), h.1 yes))
+top_lags known dir save files start (TooLarge file) head h = rw h.0 (λ yes. ((start, head yes), h.1 yes))
+top_lags known dir save files start (BadState file cause) head h = rw h.0 (λ yes. ((start, head yes), h.1 yes))
+top_lags known dir save files start fault head h = absurd h
+
+pub told_lags : (known : Type 0) (dir save : List ℕ) (files : Files) (start : Head) (top : StateValue)
+    (fault : RunFault) → (known → IsBegun dir save files start top) → ToldStops start top fault
+    → LagStops known dir save files fault
+told_lags known dir save files start top WantOfMemory begun h = tt
+told_lags known dir save files start top TopBehind begun h = λ yes. record { start = start; top = top; begun = begun yes; below = h }
+told_lags known dir save files start top TimeBehind begun h = λ yes. record {
+  start = start;
   top = top;
-  started =
-      started yes;
+  begun = begun yes;
   reached = h.0;
   time = h.1.0;
   time_is = h.1.1;
   below = h.1.2;
 }
-told_stops known dir save files f top fault started h = absurd h
+told_lags known dir save files start top fault begun h = absurd h
+
+-- ---- over the folder of what was published
 
 top_time : (ps : List PublishedValue) (told : Option (List ℕ)) (top : StateValue) → IsTop ps told
     → IsThere told (IsStateFile top.sequence top.time) → top.time ≡ (sequence_at ps (length ps)).time
@@ -61,11 +111,11 @@ start_time ps number told saved = saved.in_step.time ∙ ap (time_at ps) saved.n
 pub lag_of : (ps : List PublishedValue) (number : ℕ) (dir save : List ℕ) (files : Files) (report : ReportValue)
     → IsFolderOf ps files dir → IsSaveOf ps number (files save) → IsLag dir save files report → IsLagOf ps number report
 lag_of ps number dir save files report folder saved lag =
-    let same : lag.start ≡ saved.value = one_saved (files save) lag.start saved.value lag.started.saved saved.saved in
-    let start_is : lag.start.number ≡ number = ap (λ (v : Saved). v.number) same ∙ saved.number_is in
-    let time_is : lag.start.time ≡ time_at ps number = ap (λ (v : Saved). v.time) same ∙ start_time ps number (files save) saved in
-    let top_is : lag.top.sequence ≡ length ps = top_number ps (files (top_name_of dir)) lag.top folder.sequences folder.top lag.started.top_is in
-    let top_at : lag.top.time ≡ (sequence_at ps (length ps)).time = top_time ps (files (top_name_of dir)) lag.top folder.top lag.started.top_is in
+    let same : lag.start ≡ head_of saved.value = lag.saved saved.value saved.saved in
+    let start_is : lag.start.number ≡ number = ap (λ (h : Head). h.number) same ∙ saved.number_is in
+    let time_is : lag.start.time ≡ time_at ps number = ap (λ (h : Head). h.time) same ∙ start_time ps number (files save) saved in
+    let top_is : lag.top.sequence ≡ length ps = top_number ps (files (top_name_of dir)) lag.top folder.sequences folder.top lag.begun.top_is in
+    let top_at : lag.top.time ≡ (sequence_at ps (length ps)).time = top_time ps (files (top_name_of dir)) lag.top folder.top lag.begun.top_is in
     record {
       behind = lag.behind;
       seconds = lag.seconds;
@@ -74,18 +124,33 @@ lag_of ps number dir save files report folder saved lag =
       report_is = lag.report_is;
     }
 
+no_bad_head : (told : Option (List ℕ)) (v : Saved) → IsSaved told v → IsBadHead told → ⊥
+no_bad_head None v s b = (let e = b.there in cc)
+no_bad_head (Some bytes) v s b = b.nothing (head_of v) (rw (← same_Some bytes b.bytes b.there) (save_has_head bytes v s.1))
+
 pub lag_refuses : (ps : List PublishedValue) (number : ℕ) (dir save : List ℕ) (files : Files) (known : Type 0)
     (fault : RunFault) → NoFaultBesideState → known → IsFolderOf ps files dir → IsSaveOf ps number (files save)
-    → LagStops known dir save files fault → LagRefuses ps number (files save) fault
+    → LagStops known dir save files fault → LagRefuses ps number fault
+lag_refuses ps number dir save files known WantOfMemory law sure folder saved h = tt
+lag_refuses ps number dir save files known (ReadFault file) law sure folder saved h = tt
+lag_refuses ps number dir save files known (BadSave line) law sure folder saved h = no_bad_head (files save) saved.value saved.saved (h sure)
+lag_refuses ps number dir save files known (Absent Top) law sure folder saved h =
+    (refl, none_published ps (files (top_name_of dir)) folder.top (h sure).1)
+lag_refuses ps number dir save files known (TooLarge Top) law sure folder saved h = small_top ps (files (top_name_of dir)) folder.top (h sure).1
+lag_refuses ps number dir save files known (BadState Top cause) law sure folder saved h =
+    good_top law ps (files (top_name_of dir)) cause folder.top (h sure).1
+lag_refuses ps number dir save files known TopBehind law sure folder saved h =
+    let b = h sure in
+    let same : b.start ≡ head_of saved.value = head_is (files save) b.start saved.value b.begun.head saved.saved in
+    let start_is = ap (λ (h : Head). h.number) same in
+    let top_is = top_number ps (files (top_name_of dir)) b.top folder.sequences folder.top b.begun.top_is in
+    let within = saved.in_step.within in
+    let below = b.below in
+    omega (arith, start_is, top_is, within, below)
 lag_refuses ps number dir save files known TimeBehind law sure folder saved h =
     let b = h sure in
-    let same : b.start ≡ saved.value = one_saved (files save) b.start saved.value b.started.saved saved.saved in
-    let time_is : b.start.time ≡ time_at ps number = ap (λ (v : Saved). v.time) same ∙ start_time ps number (files save) saved in
-    let top_at : b.top.time ≡ (sequence_at ps (length ps)).time = top_time ps (files (top_name_of dir)) b.top folder.top b.started.top_is in
+    let same : b.start ≡ head_of saved.value = head_is (files save) b.start saved.value b.begun.head saved.saved in
+    let time_is : b.start.time ≡ time_at ps number = ap (λ (h : Head). h.time) same ∙ start_time ps number (files save) saved in
+    let top_at : b.top.time ≡ (sequence_at ps (length ps)).time = top_time ps (files (top_name_of dir)) b.top folder.top b.begun.top_is in
     (b.time, sym time_is ∙ b.time_is, rw (← top_at) b.below)
-lag_refuses ps number dir save files known fault law sure folder saved h = start_refuses law known ps number dir save files fault sure folder saved h
-
-pub start_lags : (known : Type 0) (dir save : List ℕ) (files : Files) (fault : RunFault)
-    → StartStops known dir save files fault → LagStops known dir save files fault
-start_lags known dir save files TimeBehind h = absurd h
-start_lags known dir save files fault h = h
+lag_refuses ps number dir save files known fault law sure folder saved h = absurd h

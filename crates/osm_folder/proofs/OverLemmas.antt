@@ -85,7 +85,7 @@ follow_lacks dir save a b (Err fault) over = λ sure p n is s. (over sure p n is
 
 pub lag_in_step : (known : Type 0) (dir save : List ℕ) (files : Files) (r : Result ReportValue RunFault)
     → (known → (p : List PublishedValue) (n : ℕ) → IsFolderOf p files dir → IsSaveOf p n (files save)
-    → LagsOver p n (files save) r)
+    → LagsOver p n r)
     → IfOk r (λ report. known → (p : List PublishedValue) (n : ℕ) → IsFolderOf p files dir → IsSaveOf p n (files save)
     → IsLagOf p n report)
 lag_in_step known dir save files (Ok report) over = λ sure p n is s. (over sure p n is s).in_step
@@ -93,8 +93,8 @@ lag_in_step known dir save files (Err fault) over = tt
 
 pub lag_over_refuses : (known : Type 0) (dir save : List ℕ) (files : Files) (r : Result ReportValue RunFault)
     → (known → (p : List PublishedValue) (n : ℕ) → IsFolderOf p files dir → IsSaveOf p n (files save)
-    → LagsOver p n (files save) r)
+    → LagsOver p n r)
     → IfErr r (λ fault. known → (p : List PublishedValue) (n : ℕ) → IsFolderOf p files dir → IsSaveOf p n (files save)
-    → LagRefuses p n (files save) fault)
+    → LagRefuses p n fault)
 lag_over_refuses known dir save files (Ok report) over = tt
 lag_over_refuses known dir save files (Err fault) over = λ sure p n is s. (over sure p n is s).refuses

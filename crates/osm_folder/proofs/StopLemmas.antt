@@ -67,7 +67,7 @@ no_bad_save : (told : Option (List ℕ)) (v : Saved) → IsSaved told v → IsBa
 no_bad_save None v s b = (let e = b.there in cc)
 no_bad_save (Some bytes) v s b = b.nothing v (rw (← same_Some bytes b.bytes b.there) s.1)
 
-none_published : (ps : List PublishedValue) (told : Option (List ℕ)) → IsTop ps told → told ≡ None → length ps ≡ 0
+pub none_published : (ps : List PublishedValue) (told : Option (List ℕ)) → IsTop ps told → told ≡ None → length ps ≡ 0
 none_published ps None (inl a) e = a.0
 none_published ps None (inr a) e = absurd a.1
 none_published ps (Some bytes) t e = (let bad : Some bytes ≡ None = e in cc)

@@ -1,5 +1,6 @@
 -- What a store tells about its files: what each name holds, as bytes.
-use Rattle.std.specs.Prelude.{◌≡◌, ℕ, ◌+◌, ◌<◌, ◌≤◌, ◌⊎◌, List, length, Option, Some, None, Vec}
+use Rattle.std.specs.Prelude.{◌≡◌, ℕ, ◌+◌, ◌<◌, ◌≤◌, ◌⊎◌, List, length, take, Option, Some, None}
+use Rattle.std.specs.Prelude.{Vec}
 use Rattle.osm_folder.specs.declared.store.StoreError.{StoreError}
 use Rattle.osm_folder.specs.declared.store.StoreError.TheVariants.{TooLarge}
 
@@ -11,6 +12,11 @@ Files = List ℕ → Option (List ℕ)
 abbrev pub Tells : {Z : Type 0} → Option (Vec ℕ Z) → Option (List ℕ) → Type 0
 Tells None told = told ≡ None
 Tells (Some bytes) told = told ≡ Some bytes.items
+
+-- the first bytes of a file, at most that many, or none if there is no such file
+abbrev pub prefix_of : ℕ → Option (List ℕ) → Option (List ℕ)
+prefix_of most None = None
+prefix_of most (Some bytes) = Some (take most bytes)
 
 -- a file that was read, if it is there, has at most that many bytes
 abbrev pub IsWithin : {Z : Type 0} → ℕ → Option (Vec ℕ Z) → Type 0
@@ -52,7 +58,7 @@ abbrev pub ReadRefused : Type 0 → ℕ → Option (List ℕ) → StoreError →
 ReadRefused known limit told TooLarge = known → IsOver limit told
 ReadRefused known limit told e = Unit {0}
 
--- why a file isn't written: never since it is too large
-abbrev pub WriteRefused : StoreError → Type 0
-WriteRefused TooLarge = ⊥
-WriteRefused e = Unit {0}
+-- why a prefix isn't read, or a file isn't written: never since it is too large
+abbrev pub NeverTooLarge : StoreError → Type 0
+NeverTooLarge TooLarge = ⊥
+NeverTooLarge e = Unit {0}

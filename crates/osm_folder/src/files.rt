@@ -1,10 +1,10 @@
 //! Reading and writing the files of a run.
 
 ghost use Rattle.std.specs.Prelude.{◌≡◌, ◌≤◌, Some, IfErr, IfOk, OnOk, length};
-ghost use Rattle.osm_folder.specs.Files.{IsWithin, Puts, Tells};
+ghost use Rattle.osm_folder.specs.Files.{IsWithin, Puts, Tells, prefix_of};
 ghost use Rattle.osm_folder.specs.Frames.{IsKnown};
 ghost use Rattle.osm_folder.specs.Runs.{Reads, Replaces};
-ghost use Rattle.osm_folder.specs.Steps.Reading.{FileStops, PresentStops, PutStops};
+ghost use Rattle.osm_folder.specs.Steps.Reading.{FileStops, PrefixStops, PresentStops, PutStops};
 
 use crate::fault::{FileName, RunFault};
 use crate::store::{Store, StoreError};
@@ -36,7 +36,28 @@ pub(crate) fn read_file<S: Store>(
     }
 }
 
-// The same for a file that has to be there.
+// The first bytes of a file, at most so many; None if there is no such file.
+pub(crate) fn read_prefix<S: Store>(
+    alloc: Global,
+    store: &mut S,
+    file: FileName,
+    name: &str,
+    most: u64,
+) -> Result<Option<Vec<u8>>, RunFault>
+    ensures read { IfOk result (λ o. IsKnown (S.state store.old)
+        → Tells o (prefix_of most ((S.state store.old).files name.now))) }
+    ensures stops { IfErr result (PrefixStops file) }
+    ensures frame { Reads 1 (S.state store.old) (S.state store.new) result }
+{
+    match store.read_prefix(alloc, name, most) {
+        Ok(bytes) => Ok(bytes),
+        Err(StoreError::Device) => Err(RunFault::ReadFault(file)),
+        Err(StoreError::TooLarge) => unreachable!(),
+        Err(StoreError::WantOfMemory) => Err(RunFault::WantOfMemory),
+    }
+}
+
+// All bytes of a file that has to be there, or `TooLarge` above the limit.
 pub(crate) fn read_present<S: Store>(
     alloc: Global,
     store: &mut S,

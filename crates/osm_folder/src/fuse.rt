@@ -1,8 +1,8 @@
 //! A store that stops after a number of calls, as a killed process does.
 
 ghost use Rattle.std.specs.Prelude.{◌≡◌, ◌+◌, ◌≤◌, Some, OnOk, OnErr, IfErr, IfOk};
-ghost use Rattle.osm_folder.specs.Files.{HasFailed, IsWithin, Puts, ReadRefused, Tells};
-ghost use Rattle.osm_folder.specs.Files.{WriteRefused};
+ghost use Rattle.osm_folder.specs.Files.{HasFailed, IsWithin, NeverTooLarge, Puts, ReadRefused};
+ghost use Rattle.osm_folder.specs.Files.{Tells, prefix_of};
 ghost use Rattle.osm_folder.specs.Frames.{IsDevice, IsKnown, ReadsBetween, ReplacesBetween};
 ghost use Rattle.osm_folder.specs.Stores.{IsBlown, fuse_state};
 
@@ -82,11 +82,30 @@ impl<S: Store> Store for Fuse<S> {
         self.inner.read(alloc, name, limit)
     }
 
+    fn read_prefix(
+        &mut self,
+        alloc: Global,
+        name: &str,
+        most: u64,
+    ) -> Result<Option<Vec<u8>>, StoreError>
+        ensures read { IfOk result (λ o. IsKnown (S.Store.state self.old.inner)
+            → Tells o (prefix_of most ((S.Store.state self.old.inner).files name.now))) }
+        ensures within { IfOk result (IsWithin most) }
+        ensures refused { IfErr result NeverTooLarge }
+        ensures blown { IfErr result (IsBlown self.old.calls
+            (S.Store.state self.old.inner) (S.Store.state self.new.inner)) }
+        ensures frame { ReadsBetween IsDevice 1 1
+            (fuse_state S.Store.state self.old) (fuse_state S.Store.state self.new) result }
+    {
+        spend(&mut self.calls, &mut self.refused)?;
+        self.inner.read_prefix(alloc, name, most)
+    }
+
     fn write(&mut self, alloc: Global, name: &str, bytes: &[u8]) -> Result<(), StoreError>
         ensures written { OnOk result (IsKnown (S.Store.state self.old.inner)
             → Puts (S.Store.state self.old.inner).files name.now (Some bytes.now)
             (S.Store.state self.new.inner).files) }
-        ensures refused { IfErr result WriteRefused }
+        ensures refused { IfErr result NeverTooLarge }
         ensures blown { IfErr result (IsBlown self.old.calls
             (S.Store.state self.old.inner) (S.Store.state self.new.inner)) }
         ensures frame { ReplacesBetween IsDevice 1 1

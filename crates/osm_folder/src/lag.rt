@@ -1,24 +1,32 @@
 //! How far a saved follower is behind a folder.
 
-ghost use Rattle.std.specs.Prelude.{◌≡◌, ℕ, List, false, IfErr, IfOk};
+ghost use Rattle.std.specs.Prelude.{◌≡◌, ℕ, List, IfErr, IfOk};
+ghost use Rattle.osm_save.specs.Head.{BeginsSave};
 ghost use Rattle.osm_follow.specs.Published.{PublishedValue};
 ghost use Rattle.osm_folder.specs.Folder.{IsFolderOf};
 ghost use Rattle.osm_folder.specs.Frames.{IsKnown};
 ghost use Rattle.osm_folder.specs.Following.{IsSaveOf};
-ghost use Rattle.osm_folder.specs.Lagging.{IsLag, IsLagReport, LagStops, LagsOver};
+ghost use Rattle.osm_folder.specs.Lagging.{IsHead, IsLag, IsLagReport, LagStops, LagsOver};
 ghost use Rattle.osm_folder.specs.Runs.{Reads};
-ghost use Rattle.osm_folder.specs.Steps.Lagging.{IsTold, ToldStops};
+ghost use Rattle.osm_folder.specs.Steps.Lagging.{HeadStops, HeadTextStops, IsTold, ToldStops};
 
-use crate::fault::RunFault;
+use crate::fault::{FileName, RunFault};
+use crate::files::read_prefix;
 use crate::report::{Report, lag_report};
-use crate::start::{Start, read_start};
+use crate::start::read_top;
 use crate::store::Store;
-use osm_follow::lag::LagError;
+use osm_follow::lag::{LagError, lag_from};
+use osm_save::head::{BadHead, Head, head_read};
 use osm_state::laws::laws_of_state;
+use osm_state::state::State;
 use std::alloc::Global;
 
+// How many bytes of a save are read. A head has at most 60.
+const HEAD: u64 = 1024;
+
 /// How many numbers and seconds a save, or the start if there is none, is behind the folder's
-/// newest state. Changes no file.
+/// newest state. Changes no file. Of the save only the head is read, so a fault after it isn't
+/// found.
 pub fn lag_run<S: Store>(
     alloc: Global,
     store: &mut S,
@@ -33,20 +41,48 @@ pub fn lag_run<S: Store>(
     ensures over { IsKnown (S.state store.old) → (published : List PublishedValue) (number : ℕ)
         → IsFolderOf published (S.state store.old).files dir.now
         → IsSaveOf published number ((S.state store.old).files save.now)
-        → LagsOver published number ((S.state store.old).files save.now) result }
+        → LagsOver published number result }
     ensures frame { Reads 2 (S.state store.old) (S.state store.new) result }
 {
     laws_of_state();
-    let start = read_start(alloc, store, dir, save)?;
-    tell(alloc, &start)
+    let start = read_start(alloc, store, save)?;
+    let top = read_top(alloc, store, dir)?;
+    tell(alloc, start, &top)
 }
 
-fn tell(alloc: Global, start: &Start) -> Result<Report, RunFault>
-    requires { start.now.follower.is_broken ≡ false }
-    ensures told { IfOk result (IsTold start.now.follower start.now.top) }
-    ensures stops { IfErr result (ToldStops start.now.follower start.now.top) }
+// The head of a save, or that of the start if there is none.
+fn read_start<S: Store>(alloc: Global, store: &mut S, save: &str) -> Result<Head, RunFault>
+    ensures head { IfOk result (λ head. IsKnown (S.state store.old)
+        → IsHead ((S.state store.old).files save.now) head) }
+    ensures stops { IfErr result
+        (HeadStops (IsKnown (S.state store.old)) ((S.state store.old).files save.now)) }
+    ensures frame { Reads 1 (S.state store.old) (S.state store.new) result }
 {
-    match start.follower.lag(&start.top) {
+    match read_prefix(alloc, store, FileName::Save, save, HEAD) {
+        Ok(Some(bytes)) => read_head(bytes.as_slice()),
+        Ok(None) => Ok(Head {
+            number: 0,
+            time: None,
+        }),
+        Err(fault) => Err(fault),
+    }
+}
+
+fn read_head(bytes: &[u8]) -> Result<Head, RunFault>
+    ensures begins { IfOk result (BeginsSave bytes.now) }
+    ensures stops { IfErr result (HeadTextStops bytes.now) }
+{
+    match head_read(bytes) {
+        Ok(head) => Ok(head),
+        Err(BadHead { line }) => Err(RunFault::BadSave(line)),
+    }
+}
+
+fn tell(alloc: Global, start: Head, top: &State) -> Result<Report, RunFault>
+    ensures told { IfOk result (IsTold start top.now) }
+    ensures stops { IfErr result (ToldStops start top.now) }
+{
+    match lag_from(start.number, start.time, top) {
         Ok(lag) => Ok(lag_report(alloc, lag.behind, lag.seconds)?),
         Err(LagError::TopBehind) => Err(RunFault::TopBehind),
         Err(LagError::TimeBehind) => Err(RunFault::TimeBehind),

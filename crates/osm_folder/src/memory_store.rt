@@ -1,8 +1,8 @@
 //! A store in memory, which tells its files.
 
-ghost use Rattle.std.specs.Prelude.{◌≡◌, ℕ, ◌<◌, List, length, Option, Some, None, IfOk, IfErr};
-ghost use Rattle.std.specs.Prelude.{string_bytes, OnOk, OnErr, MatchOption};
-ghost use Rattle.osm_folder.specs.Files.{Puts, Tells, IsWithin};
+ghost use Rattle.std.specs.Prelude.{◌≡◌, ℕ, ◌<◌, ◌≤◌, List, length, take, Option, Some, None};
+ghost use Rattle.std.specs.Prelude.{IfOk, IfErr, string_bytes, OnOk, OnErr, MatchOption};
+ghost use Rattle.osm_folder.specs.Files.{Puts, Tells, IsWithin, prefix_of};
 ghost use Rattle.osm_folder.specs.Steps.Copying.{CopyStops};
 
 use crate::store::{Store, StoreError};
@@ -112,6 +112,35 @@ impl MemoryStore {
             Err(_) => Err(StoreError::WantOfMemory),
         }
     }
+
+    // A copy of the first bytes of a file, at most so many; None if there is no such file.
+    fn copy_of_prefix(
+        &self,
+        alloc: Global,
+        name: &str,
+        most: u64,
+    ) -> Result<Option<Vec<u8>>, WantOfMemory>
+        ensures read { IfOk result (λ o. Tells o (prefix_of most (files_of self.now name.now))) }
+        ensures within { IfOk result (λ o. IsWithin most o) }
+    {
+        let Some(bytes) = self.get(name) else {
+            return Ok(None);
+        };
+        let copy = Vec::from_slice(alloc, first(bytes, most))?;
+        Ok(Some(copy))
+    }
+}
+
+// The first bytes, at most so many.
+#[tactic(auto, using(crate::proofs::FileLemmas::take_whole))]
+fn first(bytes: &[u8], most: u64) -> &[u8]
+    ensures first { result.now ≡ take most bytes.now }
+    ensures within { length result.now ≤ most }
+{
+    if bytes.len() as u64 <= most {
+        return bytes;
+    }
+    &bytes[..most as usize]
 }
 
 impl Store for MemoryStore {
@@ -126,6 +155,18 @@ impl Store for MemoryStore {
         limit: u64,
     ) -> Result<Option<Vec<u8>>, StoreError> {
         self.copy_of(alloc, name, limit)
+    }
+
+    fn read_prefix(
+        &mut self,
+        alloc: Global,
+        name: &str,
+        most: u64,
+    ) -> Result<Option<Vec<u8>>, StoreError> {
+        match self.copy_of_prefix(alloc, name, most) {
+            Ok(found) => Ok(found),
+            Err(WantOfMemory) => Err(StoreError::WantOfMemory),
+        }
     }
 
     fn write(&mut self, alloc: Global, name: &str, bytes: &[u8]) -> Result<(), StoreError> {

@@ -87,7 +87,7 @@ pub(crate) fn restart(alloc: Global, text: &[u8]) -> Result<Follower, RunFault>
 }
 
 // The newest state of a folder.
-fn read_top<S: Store>(alloc: Global, store: &mut S, dir: &str) -> Result<State, RunFault>
+pub(crate) fn read_top<S: Store>(alloc: Global, store: &mut S, dir: &str) -> Result<State, RunFault>
     ensures top { IfOk result (λ s. IsKnown (S.state store.old)
         → IsThere ((S.state store.old).files (top_name_of dir.now))
         (IsStateFile s.sequence s.time)) }

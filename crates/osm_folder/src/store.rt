@@ -1,7 +1,8 @@
 //! Files behind a trait.
 
 ghost use Rattle.std.specs.Prelude.{Some, IfErr, IfOk, OnOk};
-ghost use Rattle.osm_folder.specs.Files.{IsWithin, Puts, ReadRefused, Tells, WriteRefused};
+ghost use Rattle.osm_folder.specs.Files.{IsWithin, NeverTooLarge, Puts, ReadRefused, Tells};
+ghost use Rattle.osm_folder.specs.Files.{prefix_of};
 ghost use Rattle.osm_folder.specs.Frames.{IsDevice, IsKnown, ReadsBetween, ReplacesBetween};
 ghost use Rattle.osm_folder.specs.Frames.{StoreState};
 
@@ -41,10 +42,24 @@ pub trait Store {
             (ReadRefused (IsKnown (state self.old)) limit ((state self.old).files name.now)) }
         ensures frame { ReadsBetween IsDevice 1 1 (state self.old) (state self.new) result };
 
+    /// The first bytes of a file, at most so many: all of it if it has fewer. None if there is no
+    /// such file.
+    fn read_prefix(
+        &mut self,
+        alloc: Global,
+        name: &str,
+        most: u64,
+    ) -> Result<Option<Vec<u8>>, StoreError>
+        ensures read { IfOk result (λ o. IsKnown (state self.old)
+            → Tells o (prefix_of most ((state self.old).files name.now))) }
+        ensures within { IfOk result (λ o. IsWithin most o) }
+        ensures refused { IfErr result NeverTooLarge }
+        ensures frame { ReadsBetween IsDevice 1 1 (state self.old) (state self.new) result };
+
     /// Replaces the whole file with the bytes, and makes the folders that it needs.
     fn write(&mut self, alloc: Global, name: &str, bytes: &[u8]) -> Result<(), StoreError>
         ensures written { OnOk result (IsKnown (state self.old)
             → Puts (state self.old).files name.now (Some bytes.now) (state self.new).files) }
-        ensures refused { IfErr result WriteRefused }
+        ensures refused { IfErr result NeverTooLarge }
         ensures frame { ReplacesBetween IsDevice 1 1 (state self.old) (state self.new) result };
 }

@@ -4,4 +4,5 @@ pub mod DrainLemmas
 pub mod DeliveryLemmas
 pub mod FollowLemmas
 pub mod RestartLemmas
+pub mod LagLemmas
 pub mod StandardFacts

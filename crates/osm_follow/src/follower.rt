@@ -22,7 +22,7 @@ ghost use Rattle.osm_follow.specs.declared.delivery.DeliverError.{DeliverError};
 
 use crate::delivery::{DeliverError, Delivered};
 use crate::drain::drain;
-use crate::lag::{Lag, LagError};
+use crate::lag::{Lag, LagError, lag_from};
 use crate::restart::RestartError;
 use crate::view::{View, ViewError};
 use osm_holding::holding::{Held, HoldingArea, WINDOW};
@@ -266,18 +266,7 @@ impl Follower {
         if self.is_broken {
             return Err(LagError::Broken);
         }
-        if state.sequence() < self.number {
-            return Err(LagError::TopBehind);
-        }
-        let seconds = match self.time {
-            None => None,
-            Some(time) if time <= state.time() => Some(state.time() - time),
-            Some(_) => return Err(LagError::TimeBehind),
-        };
-        Ok(Lag {
-            behind: state.sequence() - self.number,
-            seconds,
-        })
+        lag_from(self.number, self.time, state)
     }
 
     /// The numbers to fetch, rising: of the 64 after the follower's, those up to the state's

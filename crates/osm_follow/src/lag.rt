@@ -1,5 +1,8 @@
 //! How far a follower is behind what was published.
 
+ghost use Rattle.osm_follow.specs.Lag.{LagsFrom};
+
+use osm_state::state::State;
 use thiserror::Error;
 
 /// What a follower still has to apply to reach a state.
@@ -23,4 +26,23 @@ pub enum LagError {
     /// The state's time is before the follower's.
     #[error("TimeBehind")]
     TimeBehind,
+}
+
+/// How far a follower at that number and time is behind that state. It isn't broken. Takes no
+/// memory.
+pub fn lag_from(number: u32, time: Option<u32>, state: &State) -> Result<Lag, LagError>
+    ensures { LagsFrom number time state.now result }
+{
+    if state.sequence() < number {
+        return Err(LagError::TopBehind);
+    }
+    let seconds = match time {
+        None => None,
+        Some(time) if time <= state.time() => Some(state.time() - time),
+        Some(_) => return Err(LagError::TimeBehind),
+    };
+    Ok(Lag {
+        behind: state.sequence() - number,
+        seconds,
+    })
 }

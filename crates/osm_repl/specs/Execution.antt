@@ -109,8 +109,7 @@ StopsOver (Follow dir save) old new fault =
     → IsSaveOf published number (old save.now) → FollowRefuses published (old save.now) fault
 StopsOver (Lag dir save) old new fault =
     (published : List PublishedValue) (number : ℕ) → IsFolderOf published old dir.now
-    → IsSaveOf published number (old save.now)
-    → LagRefuses published number (old save.now) fault
+    → IsSaveOf published number (old save.now) → LagRefuses published number fault
 StopsOver order old new fault = Unit {0}
 
 -- what a run that stops leaves: all files as they were, or, for a publication, which may be cut

@@ -83,7 +83,8 @@ pub(crate) const LAGGING: &str = "As in
   osmrepl lag folder follower.save
 
 It prints 'behind B', the numbers after the save's, and 'seconds S', the time from the save's
-sequence to the folder's newest, or 'seconds none' if nothing was followed yet.
+sequence to the folder's newest, or 'seconds none' if nothing was followed yet. Of SAVE it reads the
+first three lines alone.
 
 A fault names DIR/state.txt as state.txt, and SAVE as save.";
 

@@ -56,6 +56,52 @@ fn a_file_is_read_whole_or_refused(rt: HostRuntime) -> Result<(), Fail> {
     Ok(())
 }
 
+// Whether reading so many of the first bytes answers as expected, and only a failing device is
+// counted.
+fn is_prefix_read<R: Files>(
+    alloc: Global,
+    store: &mut DiskStore<R>,
+    (path, most): (&str, u64),
+    expected: Result<Option<&[u8]>, StoreError>,
+) -> bool {
+    let failures = store.failures();
+    let answer = store.read_prefix(alloc, path, most);
+    let is_counted = store.failures() - failures == u64::from(expected == Err(StoreError::Device));
+    let is_expected = match answer {
+        Ok(Some(bytes)) => expected == Ok(Some(bytes.as_slice())),
+        Ok(None) => expected == Ok(None),
+        Err(error) => expected == Err(error),
+    };
+    is_counted && is_expected
+}
+
+#[test]
+fn the_first_bytes_of_a_file_are_read(rt: HostRuntime) -> Result<(), Fail> {
+    let alloc = rt.alloc();
+    let folder = scratch(alloc, &rt, process::id(rt.process()), "prefix")?;
+    let path = format!(in alloc; "{folder}save")?;
+    let below = format!(in alloc; "{folder}save/below")?;
+    let absent = format!(in alloc; "{folder}absent/save")?;
+    fs::write(&rt, path.as_str(), "old")?;
+    let mut store = DiskStore::new(rt.clone()?, 7);
+    for (request, expected) in [
+        ((path.as_str(), 3), Ok(Some(b"old".as_slice()))),
+        ((path.as_str(), 2), Ok(Some(b"ol".as_slice()))),
+        ((path.as_str(), 0), Ok(Some(b"".as_slice()))),
+        ((path.as_str(), u64::MAX), Ok(Some(b"old".as_slice()))),
+        ((absent.as_str(), 3), Ok(None)),
+        ((below.as_str(), 3), Err(StoreError::Device)),
+        ((folder.as_str(), 3), Err(StoreError::Device)),
+        (("/dev/zero", 2), Ok(Some(b"\0\0".as_slice()))),
+    ] {
+        assert!(rt;
+            is_prefix_read(alloc, &mut store, request, expected),
+            "{request:?}"
+        );
+    }
+    Ok(())
+}
+
 // Whether a read whose call after that many fails is refused because of the device.
 fn fails<R: Files + Clone + Drop>(
     alloc: Global,

@@ -128,6 +128,30 @@ fn each_run_prints_and_writes_what_a_person_expects(rt: HostRuntime) {
     }
 }
 
+// Saves that begin with a head, and what comes after it is wrong.
+const HEADS: [&[u8]; 3] = [
+    b"osmrepl-save 1\nsequence 1\ntime 2024-01-01T00:00:00Z\n",
+    b"osmrepl-save 1\nsequence 1\ntime 2024-01-01T00:00:00Z\nobj",
+    b"osmrepl-save 1\nsequence 1\ntime 2024-01-01T00:00:00Z\nobjects x\nend\n",
+];
+
+// Whether the lag of that save is told, though it isn't shown.
+fn is_lag_of_head(alloc: Global, save: &[u8]) -> bool {
+    let Ok(mut store) = store_with(alloc, FOUR) else {
+        return false;
+    };
+    let is_there = is_put(alloc, &mut store, "save", save);
+    let is_told = reports(alloc, &mut store, Run::Lag, (0, "behind 3\nseconds 180\n"));
+    is_there && is_told && refusal(alloc, &mut store, Run::Show) == Some(RunFault::BadSave(4))
+}
+
+#[test]
+fn a_lag_reads_the_head_of_a_save_alone(rt: HostRuntime) {
+    for save in HEADS {
+        assert!(rt; is_lag_of_head(rt.alloc(), save), "{save:?}");
+    }
+}
+
 // Whether a follower of the four sequences stops at a lost number and says so, and goes on once its
 // files are back.
 fn goes_on_after_a_loss(alloc: Global) -> bool {

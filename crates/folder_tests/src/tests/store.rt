@@ -28,6 +28,20 @@ fn is_read<S: Store>(
     }
 }
 
+// Whether reading so many of the first bytes of the file answers as expected.
+fn is_prefix_read<S: Store>(
+    alloc: Global,
+    store: &mut S,
+    (name, most): (&str, u64),
+    expected: Result<Option<&[u8]>, StoreError>,
+) -> bool {
+    match store.read_prefix(alloc, name, most) {
+        Ok(Some(bytes)) => expected == Ok(Some(bytes.as_slice())),
+        Ok(None) => expected == Ok(None),
+        Err(error) => expected == Err(error),
+    }
+}
+
 // Whether a store of two files holds what was put, and no longer what was removed.
 fn holds_what_was_put(alloc: Global, store: &mut MemoryStore) -> bool {
     let is_put = store.put(alloc, "a", b"three").is_ok();
@@ -44,10 +58,26 @@ fn reads_and_writes(alloc: Global, store: &mut MemoryStore) -> bool {
     is_whole && is_too_large && is_gone && is_written
 }
 
+fn reads_prefixes(alloc: Global, store: &mut MemoryStore) -> bool {
+    for (name, most, expected) in [
+        ("a", 0, Some(b"".as_slice())),
+        ("a", 2, Some(b"th".as_slice())),
+        ("a", 5, Some(b"three".as_slice())),
+        ("a", u64::MAX, Some(b"three".as_slice())),
+        ("c", 2, None),
+    ] {
+        if !is_prefix_read(alloc, store, (name, most), Ok(expected)) {
+            return false;
+        }
+    }
+    true
+}
+
 fn is_a_store(alloc: Global) -> bool {
     match store_with(alloc, &[("a", b"one"), ("b", b"two")]) {
         Ok(mut store) => {
-            holds_what_was_put(alloc, &mut store) && reads_and_writes(alloc, &mut store)
+            let holds = holds_what_was_put(alloc, &mut store);
+            holds && reads_prefixes(alloc, &mut store) && reads_and_writes(alloc, &mut store)
         }
         Err(_) => false,
     }
@@ -58,21 +88,23 @@ fn a_store_in_memory_holds_what_was_put(rt: HostRuntime) {
     assert!(rt; is_a_store(rt.alloc()));
 }
 
-// Whether a fuse with two calls left passes them on, and no more.
-fn passes_two_calls(alloc: Global, fuse: &mut Fuse<MemoryStore>) -> bool {
+// Whether a fuse with three calls left passes them on, and no more.
+fn passes_three_calls(alloc: Global, fuse: &mut Fuse<MemoryStore>) -> bool {
     let is_first = is_read(alloc, fuse, ("a", 3), Ok(Some(b"one".as_slice())));
-    let is_second = fuse.write(alloc, "a", b"two") == Ok(());
+    let is_prefix = is_prefix_read(alloc, fuse, ("a", 2), Ok(Some(b"on".as_slice())));
+    let is_third = fuse.write(alloc, "a", b"two") == Ok(());
     let is_refused = fuse.write(alloc, "a", b"three") == Err(StoreError::Device);
     let is_unread = is_read(alloc, fuse, ("a", 3), Err(StoreError::Device));
-    is_first && is_second && is_refused && is_unread
+    let is_no_prefix = is_prefix_read(alloc, fuse, ("a", 2), Err(StoreError::Device));
+    is_first && is_prefix && is_third && is_refused && is_unread && is_no_prefix
 }
 
 fn is_a_fuse(alloc: Global) -> bool {
     let Ok(store) = store_with(alloc, &[("a", b"one")]) else {
         return false;
     };
-    let mut fuse = Fuse::new(store, 2);
-    let is_passing = passes_two_calls(alloc, &mut fuse);
+    let mut fuse = Fuse::new(store, 3);
+    let is_passing = passes_three_calls(alloc, &mut fuse);
     is_passing && is_file(&fuse.into_inner(), "a", b"two")
 }
 

@@ -13,6 +13,12 @@ FileStops known file limit told (ReadFault named) = named ≡ file
 FileStops known file limit told (TooLarge named) = (named ≡ file) × (known → IsOver limit told)
 FileStops known file limit told fault = ⊥
 
+-- why the first bytes of a file aren't read
+abbrev pub PrefixStops : FileName → RunFault → Type 0
+PrefixStops file WantOfMemory = Unit {0}
+PrefixStops file (ReadFault named) = named ≡ file
+PrefixStops file fault = ⊥
+
 -- why a file that has to be there isn't read
 abbrev pub PresentStops : Type 0 → FileName → ℕ → Option (List ℕ) → RunFault → Type 0
 PresentStops known file limit told (Absent named) = (named ≡ file) × (known → told ≡ None)
