@@ -49,7 +49,11 @@ pub fn read_prefix<R: Files>(
 
 /// The first bytes that the reader has, at most so many. Reads no more, and asks for memory as the
 /// bytes come.
-pub fn read_first<R: Read + Drop>(alloc: Global, reader: R, most: u64) -> Result<Vec<u8>, StoreError>
+pub fn read_first<R: Read + Drop>(
+    alloc: Global,
+    reader: R,
+    most: u64,
+) -> Result<Vec<u8>, StoreError>
     ensures read { IfOk result
         (λ bytes. IfSome (R.remaining reader) (λ all. bytes.items ≡ take most all)) }
     ensures within { IfOk result (λ bytes. length bytes.items ≤ most) }
@@ -59,7 +63,18 @@ pub fn read_first<R: Read + Drop>(alloc: Global, reader: R, most: u64) -> Result
     if let Err(error) = reader.take(most).read_to_end(&mut bytes) {
         return Err(cause_of(&error));
     }
+    cut(&mut bytes, most);
     Ok(bytes)
+}
+
+// Leaves the first bytes, at most so many.
+fn cut(bytes: &mut Vec<u8>, most: u64)
+    ensures whole { length bytes.old.items ≤ most → bytes.new.items ≡ bytes.old.items }
+    ensures within { length bytes.new.items ≤ most }
+{
+    if bytes.len() as u64 > most {
+        bytes.truncate(most as usize);
+    }
 }
 
 /// All bytes that the reader has, or `TooLarge` if there are more than the limit. Reads at most one
