@@ -109,7 +109,8 @@ pub drained_all : (m n : MirrorValue) (holding left mid : HoldingValue) (first :
 drained_all m n holding left mid first last i value taken =
     let reached : mid.reached ≡ left.reached = taken.reached in
     let at : left.reached ≡ holding.reached + 1 + i.count = i.reached in
-    let none : sequence_in holding (left.reached + 1) ≡ None = sym (i.rest (left.reached + 1) (omega arith)) ∙ ap (option_map (numbered (left.reached + 1))) value in
+    let none : sequence_in holding (left.reached + 1) ≡ None =
+    sym (i.rest (left.reached + 1) (omega arith)) ∙ ap (option_map (numbered (left.reached + 1))) value in
     record {
       count = i.count;
       reached = omega arith;

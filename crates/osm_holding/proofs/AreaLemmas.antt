@@ -174,7 +174,8 @@ are_moved reached old new are room is free =
       limit = omega arith;
       full = ap (λ (s : List (Option Held)). length s) items ∙ moved_length old.items are.full;
       room = ap (λ (b : Buffer (Option Held)). b.capacity) is ∙ are.room;
-      sequences = λ number some. are.sequences number (subst (λ (es : List (ℕ × Held)). IsSome (found es number)) (moved_slots reached old new are is free) some);
+      sequences = λ number some. are.sequences number (subst (λ (es : List (ℕ × Held)). IsSome (found es number))
+          (moved_slots reached old new are is free) some);
     }
 
 pub moved_area : (reached : ℕ) (old new : Buffer (Option Held)) → AreSlots reached old

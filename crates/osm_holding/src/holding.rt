@@ -27,8 +27,8 @@ pub struct Held {
 pub const WINDOW: u32 = 64;
 
 /// Room for the 64 sequences after the number that a follower has reached. `new` allocates all of
-/// it; afterwards only `numbers` takes memory. Except for `new`, `reset` and `numbers`, no call looks
-/// at more than one slot.
+/// it; afterwards only `numbers` takes memory. Except for `new`, `reset` and `numbers`, no call
+/// looks at more than one slot.
 #[derive(Debug, Drop)]
 pub struct HoldingArea {
     reached: u32,

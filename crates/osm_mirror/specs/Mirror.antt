@@ -69,7 +69,8 @@ pub record IsMirror (m : MirrorValue) : Type 0 where
   pub users : AllByRecursion HasNumber m.users
   pub changesets : AllByRecursion HasNumber m.changesets
 
--- the mirror has exactly the objects that `changes` leave, and counts exactly the edits of `counted`
+-- the mirror has exactly the objects that `changes` leave, and counts exactly the edits of
+-- `counted`
 pub record IsMirrorOf (changes counted : List ChangeValue) (m : MirrorValue) : Type 0 where
   pub orderly : IsOrderly m
   pub objects : (k : Key) → object_at m.objects k ≡ content_of changes k
