@@ -85,6 +85,9 @@ fn refusal(alloc: Global, bytes: &[u8]) -> Option<DataError> {
 fn changes_that_are_no_data_are_not_written(rt: HostRuntime) {
     let cases: [(&[u8], u64); 3] = [(DELETION_FIRST, 1), (EQUAL_KEYS, 2), (DELETION_LAST, 2)];
     for (bytes, index) in cases {
-        assert_eq!(rt; refusal(rt.alloc(), bytes), Some(DataError::NotData { index }));
+        assert_eq!(rt;
+            refusal(rt.alloc(), bytes),
+            Some(DataError::NotData { index })
+        );
     }
 }
