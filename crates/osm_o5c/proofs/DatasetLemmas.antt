@@ -2,7 +2,6 @@
 use Rattle.std.proofs.Common.{◌≡◌, ℕ, ◌<◌, ◌≤◌, true, false, cond, eqb, ltb, List, [], ◌∷◌, ◌++◌, length, Option, Some, None, refl, sym, ap, subst, ◌∙◌, arith}
 use Rattle.std.proofs.lemmas.Bool.Decides.{nat_tests}
 use Rattle.std.proofs.lemmas.Option.{same_Some}
-use Rattle.std.proofs.lemmas.List.{length-append}
 use Rattle.osm_model.specs.Change.{ChangeValue}
 use Rattle.osm_model.specs.declared.kind.Kind.{Kind}
 use Rattle.osm_model.specs.declared.kind.Kind.TheVariants.{Node, Way, Relation}
@@ -14,7 +13,7 @@ use Rattle.osm_o5c.specs.Steps.FileReading.{new_reader, kind_of_byte, object_dat
 use Rattle.osm_o5c.specs.Steps.FileReading.{dataset_at, Position, position, with_found, step}
 use Rattle.osm_reading.specs.Steps.Answers.{and_then}
 use Rattle.osm_o5c.specs.declared.reader.Reader.{Reader}
-use Rattle.osm_reading.proofs.StepLemmas.{some_then, some_when, chosen}
+use Rattle.osm_reading.proofs.StepLemmas.{some_then, chosen}
 use Rattle.osm_o5c.proofs.NumberLemmas.{part_takes, part_again}
 use Rattle.osm_o5c.proofs.FieldLemmas.{reader_of}
 use Rattle.osm_o5c.proofs.ObjectLemmas.{object_takes, object_again}
@@ -196,51 +195,21 @@ pub record TakesStep (C : Context) (p q : Position) : Type 0 where
   pub after : Context
   pub parts : p.rest ≡ prefix ++ q.rest
   pub spelled : Dataset C prefix found after
-  pub few : length p.changes ≤ 100000 → length (changes_with p.changes found) ≤ 100000
   pub changes : q.changes ≡ changes_with p.changes found
   pub same : q.reader ≡ reader_of after
-
-found_takes : (C : Context) (xs : List ChangeValue) (rest : List ℕ) (x : Option ChangeValue × Reader × List ℕ)
-    (q : Position) → TakesDataset C rest x.0 x.1 x.2 → with_found xs x ≡ Some q
-    → TakesStep C (position (reader_of C) xs rest) q
-found_takes C xs rest (None, s, more) q t e =
-    subst (λ (q : Position). TakesStep C (position (reader_of C) xs rest) q) (same_Some (position s xs more) q e)
-    (record { prefix = t.prefix; found = None; after = t.after; parts = t.parts; spelled = t.spelled; few = λ h. h; changes = refl; same = t.same })
-found_takes C xs rest (Some c, s, more) q t e =
-    let g = some_when (ltb (length xs) 100000) (Some (position s (xs ++ c ∷ []) more)) q e in
-    let room : length xs < 100000 = let w : ltb (length xs) 100000 ≡ true = g.0 in grind (arith, nat_tests) in
-    subst (λ (q : Position). TakesStep C (position (reader_of C) xs rest) q) (same_Some (position s (xs ++ c ∷ []) more) q g.1)
-    (record {
-      prefix = t.prefix;
-      found = Some c;
-      after = t.after;
-      parts = t.parts;
-      spelled = t.spelled;
-      few =
-          λ h. omega (arith, length-append xs (c ∷ []));
-      changes = refl;
-      same = t.same;
-    })
 
 pub step_takes : (C : Context) (xs : List ChangeValue) (rest : List ℕ) (q : Position)
     → step (position (reader_of C) xs rest) ≡ Some q → TakesStep C (position (reader_of C) xs rest) q
 unfolding step
 step_takes C xs rest q e =
     let x = some_then (dataset_at (reader_of C) rest) (with_found xs) q e in
-    found_takes C xs rest x.0 q (dataset_takes C rest x.0 x.1) x.2
-
-found_again : (s : Reader) (xs : List ChangeValue) (found : Option ChangeValue) (more : List ℕ)
-    → length (changes_with xs found) ≤ 100000 → with_found xs (found, s, more) ≡
-    Some (position s (changes_with xs found) more)
-found_again s xs None more few = refl
-found_again s xs (Some c) more few =
-    let room : ltb (length xs) 100000 ≡ true = let o : length xs < 100000 = omega (arith, length-append xs (c ∷ [])) in grind (arith, nat_tests) in
-    rw room refl
+    let t = dataset_takes C rest x.0 x.1 in
+    subst (λ (q : Position). TakesStep C (position (reader_of C) xs rest) q)
+    (same_Some (position x.0.1 (changes_with xs x.0.0) x.0.2) q x.2)
+    (record { prefix = t.prefix; found = x.0.0; after = t.after; parts = t.parts; spelled = t.spelled; changes = refl; same = t.same })
 
 pub step_again : (C : Context) (xs : List ChangeValue) (dataset : List ℕ) (found : Option ChangeValue) (after : Context)
-    (more : List ℕ) → Dataset C dataset found after → length (changes_with xs found) ≤ 100000
-    → step (position (reader_of C) xs (dataset ++ more)) ≡
+    (more : List ℕ) → Dataset C dataset found after → step (position (reader_of C) xs (dataset ++ more)) ≡
     Some (position (reader_of after) (changes_with xs found) more)
 unfolding step
-step_again C xs dataset found after more s few =
-    rw (dataset_again C dataset found after more s) (found_again (reader_of after) xs found more few)
+step_again C xs dataset found after more s = rw (dataset_again C dataset found after more s) refl

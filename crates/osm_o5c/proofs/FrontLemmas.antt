@@ -1,21 +1,24 @@
 -- A valid prefix is read step by step, so there is one longest valid prefix, with one list of changes.
-use Rattle.std.proofs.Common.{◌≡◌, ℕ, zero, suc, ◌<◌, ◌≤◌, List, [], ◌∷◌, ◌++◌, length, get_or, take, drop, Option}
+use Rattle.std.proofs.Common.{◌≡◌, ℕ, zero, suc, ◌+◌, ◌-◌, ◌<◌, ◌≤◌, List, [], ◌∷◌, ◌++◌, length, get_or, take, drop, Option}
 use Rattle.std.proofs.Common.{Some, None, refl, sym, ap, subst, ◌∙◌, append_assoc, arith, inl, inr}
-use Rattle.std.specs.List.{AllByRecursion}
-use Rattle.std.proofs.lemmas.Bool.{cases_lt, cases_eq}
+use Rattle.std.proofs.lemmas.Bool.{cases_lt}
 use Rattle.std.proofs.lemmas.Option.{same_Some}
-use Rattle.std.proofs.lemmas.List.{length-append, take_at}
+use Rattle.std.proofs.lemmas.List.{append-nil, length-append, take_at}
 use Rattle.osm_model.specs.Batch.{IsBatch}
-use Rattle.osm_model.specs.Change.{ChangeValue, IsChange}
+use Rattle.osm_model.specs.Change.{ChangeValue}
 use Rattle.osm_model.specs.declared.kind.Kind.{Kind}
 use Rattle.osm_model.specs.declared.kind.Kind.TheVariants.{Node, Way, Relation}
 use Rattle.osm_o5c.specs.Context.{Context, fresh}
-use Rattle.osm_o5c.specs.File.{beginning, kind_byte, Dataset, object, skipped, lone, reset, changes_with, Front, begin, next, SpellsO5c, Longest}
-use Rattle.osm_o5c.specs.Steps.FileReading.{new_reader, Position, position, step}
+use Rattle.osm_o5c.specs.File.{beginning, kind_byte, Dataset, object, skipped, lone, reset, changes_with, Front, begin, next}
+use Rattle.osm_o5c.specs.File.{SpellsFile, SpellsO5c, Longest}
+use Rattle.osm_o5c.specs.Steps.FileReading.{new_reader, Position, position, dataset_at, with_found, step, Stops}
+use Rattle.osm_o5c.specs.Steps.Files.{AreLimits}
 use Rattle.osm_reading.specs.Steps.Answers.{and_then}
+use Rattle.osm_reading.proofs.StepLemmas.{some_then}
 use Rattle.osm_o5c.specs.declared.reader.Reader.{Reader}
 use Rattle.osm_o5c.proofs.FieldLemmas.{reader_of}
 use Rattle.osm_o5c.proofs.DatasetLemmas.{fresh_reader, TakesStep, step_takes, step_again, dataset_some}
+use Rattle.osm_o5c.proofs.FileLimitLemmas.{batch_limits}
 
 -- ---- many steps
 
@@ -25,110 +28,164 @@ walk zero bytes = Some (position new_reader [] bytes)
 walk (suc k) bytes = and_then (walk k bytes) step
 
 -- a valid prefix leads to the position that a number of steps after the beginning reaches
-pub record Walked (prefix : List ℕ) (rest : List ℕ) (p : Position) : Type 0 where
+pub record Walked (start prefix rest : List ℕ) (p : Position) : Type 0 where
   pub behind : List ℕ
-  pub begins : prefix ≡ beginning ++ behind
+  pub begins : prefix ≡ start ++ behind
   pub count : ℕ
   pub leads : walk count (behind ++ rest) ≡ Some p
 
-pub front_walks : (prefix : List ℕ) (C : Context) (xs : List ChangeValue) (rest : List ℕ) → Front prefix C xs
-    → Walked prefix rest (position (reader_of C) xs rest)
-front_walks _ _ _ rest begin = record { behind = []; begins = refl; count = 0; leads = ap (λ (r : Reader). Some (position r [] rest)) fresh_reader }
-front_walks _ _ _ rest (next prefix C xs d found after f s few) =
-    let before : Walked prefix (d ++ rest) (position (reader_of C) xs (d ++ rest)) = front_walks prefix C xs (d ++ rest) f in
+pub front_walks : (start : List ℕ) (Limits : List ChangeValue → Type 0) (prefix : List ℕ) (C : Context)
+    (xs : List ChangeValue) (rest : List ℕ) → Front start Limits prefix C xs
+    → Walked start prefix rest (position (reader_of C) xs rest)
+front_walks start _ _ _ _ rest begin = record {
+  behind = [];
+  begins = sym (append-nil start);
+  count = 0;
+  leads = ap (λ (r : Reader). Some (position r [] rest)) fresh_reader;
+}
+front_walks start Limits _ _ _ rest (next prefix C xs d found after f s right) =
+    let before : Walked start prefix (d ++ rest) (position (reader_of C) xs (d ++ rest)) =
+    front_walks start Limits prefix C xs (d ++ rest) f in
     record {
       behind = before.behind ++ d;
-      begins = ap (λ (l : List ℕ). l ++ d) before.begins;
+      begins = ap (λ (l : List ℕ). l ++ d) before.begins ∙ append_assoc start before.behind d;
       count = suc before.count;
-      leads = rw (append_assoc before.behind d rest, before.leads) (step_again C xs d found after rest s few);
+      leads = rw (append_assoc before.behind d rest, before.leads) (step_again C xs d found after rest s);
     }
 
-pub front_few : (prefix : List ℕ) (C : Context) (xs : List ChangeValue) → Front prefix C xs → length xs ≤ 100000
-front_few _ _ _ begin = omega arith
-front_few _ _ _ (next prefix C xs d found after f s few) = few
-
-each_push : (xs : List ChangeValue) (c : ChangeValue) → AllByRecursion IsChange xs → IsChange c → AllByRecursion IsChange (xs ++ c ∷ [])
-each_push [] c h i = (i, tt)
-each_push (x ∷ xs) c h i = (h.0, each_push xs c h.1 i)
-
-found_each : (C : Context) (d : List ℕ) (found : Option ChangeValue) (after : Context) (xs : List ChangeValue)
-    → Dataset C d found after → AllByRecursion IsChange xs → AllByRecursion IsChange (changes_with xs found)
-found_each _ _ _ _ xs (object C length_bytes content c after n s) h = each_push xs c h s.limits
-found_each _ _ _ _ xs (skipped C t length_bytes content low other n) h = h
-found_each _ _ _ _ xs (lone C t big small) h = h
-found_each _ _ _ _ xs (reset C) h = h
-
-front_each : (prefix : List ℕ) (C : Context) (xs : List ChangeValue) → Front prefix C xs → AllByRecursion IsChange xs
-front_each _ _ _ begin = tt
-front_each _ _ _ (next prefix C xs d found after f s few) = found_each C d found after xs s (front_each prefix C xs f)
+-- the changes of a valid prefix are within the limits
+pub front_right : (start : List ℕ) (Limits : List ChangeValue → Type 0) → AreLimits Limits → (prefix : List ℕ) (C : Context)
+    (xs : List ChangeValue) → Front start Limits prefix C xs → Limits xs
+front_right start Limits are _ _ _ begin = are.none
+front_right start Limits are _ _ _ (next prefix C xs d found after f s right) = right
 
 -- what is spelled is within the limits
+pub spelled_right : (start : List ℕ) (Limits : List ChangeValue → Type 0) → AreLimits Limits → (bytes : List ℕ)
+    (changes : List ChangeValue) → SpellsFile start Limits bytes changes → Limits changes
+spelled_right start Limits are bytes changes s = front_right start Limits are s.prefix s.context changes s.is_front
+
 pub spelled_limits : (bytes : List ℕ) (batch : List ChangeValue) → SpellsO5c bytes batch → IsBatch batch
-spelled_limits bytes batch s = record { few = front_few s.prefix s.context batch s.is_front; each = front_each s.prefix s.context batch s.is_front }
+spelled_limits = spelled_right beginning IsBatch batch_limits
+
+-- a list goes on from another
+pub record GoesOn (xs ys : List ChangeValue) : Type 0 where
+  pub more : List ChangeValue
+  pub whole : ys ≡ xs ++ more
+
+goes_on : (xs ys zs : List ChangeValue) → GoesOn xs ys → GoesOn ys zs → GoesOn xs zs
+goes_on xs ys zs a b = record {
+  more = a.more ++ b.more;
+  whole = b.whole ∙ ap (λ (l : List ChangeValue). l ++ b.more) a.whole ∙ append_assoc xs a.more b.more;
+}
+
+found_on : (xs : List ChangeValue) (found : Option ChangeValue) → GoesOn xs (changes_with xs found)
+found_on xs None = record { more = []; whole = sym (append-nil xs) }
+found_on xs (Some c) = record { more = c ∷ []; whole = refl }
+
+-- changes are only added
+pub step_on : (p q : Position) → step p ≡ Some q → GoesOn p.changes q.changes
+unfolding step
+step_on p q e =
+    let x = some_then (dataset_at p.reader p.rest) (with_found p.changes) q e in
+    subst (λ (q : Position). GoesOn p.changes q.changes) (same_Some (position x.0.1 (changes_with p.changes x.0.0) x.0.2) q x.2)
+    (found_on p.changes x.0.0)
+
+-- many steps pass every number of steps below theirs
+pub record Passed (bytes : List ℕ) (k : ℕ) (q : Position) : Type 0 where
+  pub at : Position
+  pub leads : walk k bytes ≡ Some at
+  pub on : GoesOn at.changes q.changes
+
+pub walk_passes : (bytes : List ℕ) (k j : ℕ) (q : Position) → walk (k + j) bytes ≡ Some q → Passed bytes k q
+walk_passes bytes k zero q e = record {
+  at = q;
+  leads = subst (λ (i : ℕ). walk i bytes ≡ Some q) (let z : k + 0 ≡ k = omega arith in z) e;
+  on = record { more = []; whole = sym (append-nil q.changes) };
+}
+walk_passes bytes k (suc j) q e =
+    let last : walk (suc (k + j)) bytes ≡ Some q = subst (λ (i : ℕ). walk i bytes ≡ Some q) (let z : k + suc j ≡ suc (k + j) = omega arith in z) e in
+    let r = some_then (walk (k + j) bytes) step q last in
+    let before : Passed bytes k r.0 = walk_passes bytes k j r.0 r.1 in
+    record {
+      at = before.at;
+      leads = before.leads;
+      on = goes_on before.at.changes r.0.changes q.changes before.on (step_on r.0 q r.2);
+    }
+
+-- the same for a number that is known to be less
+pub passes : (bytes : List ℕ) (k n : ℕ) (q : Position) → k ≤ n → walk n bytes ≡ Some q → Passed bytes k q
+passes bytes k n q le e = walk_passes bytes k (n - k) q
+    (subst (λ (i : ℕ). walk i bytes ≡ Some q) (let z : n ≡ k + (n - k) = omega arith in z) e)
+
+-- the step from one position to the one that the next number of steps reaches
+pub step_of : (bytes : List ℕ) (k : ℕ) (p q : Position) → walk k bytes ≡ Some p → walk (suc k) bytes ≡ Some q → step p ≡ Some q
+step_of bytes k p q here e =
+    let r = some_then (walk k bytes) step q e in
+    let same : r.0 ≡ p = same_Some r.0 p (sym r.1 ∙ here) in
+    subst (λ (x : Position). step x ≡ Some q) same r.2
 
 -- ---- the last step
 
--- a number of steps leads to this position, and none leads on
-pub record Ends (bytes : List ℕ) (p : Position) : Type 0 where
+-- a number of steps leads to this position, and none leads on within the limits
+pub record Ends (Limits : List ChangeValue → Type 0) (bytes : List ℕ) (p : Position) : Type 0 where
   pub count : ℕ
   pub leads : walk count bytes ≡ Some p
-  pub stuck : step p ≡ None
+  pub right : Limits p.changes
+  pub stuck : Stops Limits (step p)
 
-pub none_later : (bytes : List ℕ) (k i : ℕ) (p : Position) → i < k → walk i bytes ≡ Some p → step p ≡ None → walk k bytes ≡ None
-none_later bytes zero i p lt e s = absurd (omega arith)
-none_later bytes (suc k) i p lt e s =
-    elim (cases_eq i k) [
-      | inl same ↦ let here : walk k bytes ≡ Some p = subst (λ (j : ℕ). walk j bytes ≡ Some p) same e in rw here s
-      | inr other ↦ let before : walk k bytes ≡ None = none_later bytes k i p (omega arith) e s in rw before refl
-    ]
+-- no more steps lead to a position within the limits
+pub not_after : (Limits : List ChangeValue → Type 0) → AreLimits Limits → (bytes : List ℕ) (k n : ℕ) (p q : Position)
+    → walk k bytes ≡ Some p → Stops Limits (step p) → walk n bytes ≡ Some q → Limits q.changes → k < n → ⊥
+not_after Limits are bytes k n p q here stuck there right lt =
+    let passed : Passed bytes (suc k) q = passes bytes (suc k) n q (omega arith) there in
+    stuck passed.at (step_of bytes k p passed.at here passed.leads)
+    (are.first passed.at.changes passed.on.more (subst (λ l. Limits l) passed.on.whole right))
 
-pub apart : {A P : Type 0} (o : Option A) (x : A) → o ≡ None → o ≡ Some x → P
-apart o x a b = absurd cc
-
-pub one_end : (bytes : List ℕ) (p q : Position) → Ends bytes p → Ends bytes q → p ≡ q
-one_end bytes p q a b =
+pub one_end : (Limits : List ChangeValue → Type 0) → AreLimits Limits → (bytes : List ℕ) (p q : Position)
+    → Ends Limits bytes p → Ends Limits bytes q → p ≡ q
+one_end Limits are bytes p q a b =
     elim (cases_lt a.count b.count) [
-      | inl less ↦ apart (walk b.count bytes) q (none_later bytes b.count a.count p less a.leads a.stuck) b.leads
+      | inl less ↦ absurd (not_after Limits are bytes a.count b.count p q a.leads a.stuck b.leads b.right less)
       | inr more ↦ elim (cases_lt b.count a.count) [
-        | inl less ↦ apart (walk a.count bytes) p (none_later bytes a.count b.count q less b.leads b.stuck) a.leads
+        | inl less ↦ absurd (not_after Limits are bytes b.count a.count q p b.leads b.stuck a.leads a.right less)
         | inr same ↦ same_Some p q (sym a.leads ∙ subst (λ (j : ℕ). walk j bytes ≡ Some q) (let e : b.count ≡ a.count = omega arith in e) b.leads)
       ]
     ]
 
-none_or_some : {A : Type 0} (o : Option A) → ((x : A) → o ≡ Some x → ⊥) → o ≡ None
-none_or_some None h = refl
-none_or_some (Some x) h = absurd (h x refl)
-
 -- ---- the longest valid prefix
 
 -- the bytes have the beginning, and the steps after it end at this position
-pub record EndsAt (bytes : List ℕ) (p : Position) : Type 0 where
+pub record EndsAt (start : List ℕ) (Limits : List ChangeValue → Type 0) (bytes : List ℕ) (p : Position) : Type 0 where
   pub behind : List ℕ
-  pub begins : bytes ≡ beginning ++ behind
-  pub ends : Ends behind p
+  pub begins : bytes ≡ start ++ behind
+  pub ends : Ends Limits behind p
 
-pub longest_ends : (bytes prefix rest : List ℕ) (l : Longest bytes prefix rest) → EndsAt bytes (position (reader_of l.context) l.changes rest)
-longest_ends bytes prefix rest l =
-    let w = front_walks prefix l.context l.changes rest l.is_front in
+pub longest_ends : (start : List ℕ) (Limits : List ChangeValue → Type 0) → AreLimits Limits → (bytes prefix rest : List ℕ)
+    (l : Longest start Limits bytes prefix rest) → EndsAt start Limits bytes (position (reader_of l.context) l.changes rest)
+longest_ends start Limits are bytes prefix rest l =
+    let w = front_walks start Limits prefix l.context l.changes rest l.is_front in
     record {
       behind = w.behind ++ rest;
-      begins = l.whole ∙ ap (λ (b : List ℕ). b ++ rest) w.begins;
+      begins = l.whole ∙ ap (λ (b : List ℕ). b ++ rest) w.begins ∙ append_assoc start w.behind rest;
       ends = record {
         count = w.count;
         leads = w.leads;
-        stuck = none_or_some (step (position (reader_of l.context) l.changes rest)) (λ q e.
+        right = front_right start Limits are prefix l.context l.changes l.is_front;
+        stuck = λ q e right.
             let t : TakesStep l.context (position (reader_of l.context) l.changes rest) q = step_takes l.context l.changes rest q e in
-            l.last t.prefix t.found t.after q.rest t.spelled (t.few (front_few prefix l.context l.changes l.is_front)) t.parts);
+            l.last t.prefix t.found t.after q.rest t.spelled (subst (λ xs. Limits xs) t.changes right) t.parts;
       };
     }
 
-pub same_behind : (a b : List ℕ) → beginning ++ a ≡ beginning ++ b → a ≡ b
-same_behind a b e = ap (drop 7) e
+pub same_behind : (start a b : List ℕ) → start ++ a ≡ start ++ b → a ≡ b
+same_behind [] a b e = e
+same_behind (x ∷ start) a b e = same_behind start a b (ap (drop 1) e)
 
-pub one_end_at : (bytes : List ℕ) (p q : Position) → EndsAt bytes p → EndsAt bytes q → p ≡ q
-one_end_at bytes p q a b =
-    let same : b.behind ≡ a.behind = same_behind b.behind a.behind (sym b.begins ∙ a.begins) in
-    one_end a.behind p q a.ends (subst (λ (l : List ℕ). Ends l q) same b.ends)
+pub one_end_at : (start : List ℕ) (Limits : List ChangeValue → Type 0) → AreLimits Limits → (bytes : List ℕ) (p q : Position)
+    → EndsAt start Limits bytes p → EndsAt start Limits bytes q → p ≡ q
+one_end_at start Limits are bytes p q a b =
+    let same : b.behind ≡ a.behind = same_behind start b.behind a.behind (sym b.begins ∙ a.begins) in
+    one_end Limits are a.behind p q a.ends (subst (λ (l : List ℕ). Ends Limits l q) same b.ends)
 
 pub heads : (a b : ℕ) (x y : List ℕ) → a ∷ x ≡ b ∷ y → a ≡ b
 heads a b x y e = ap (λ (l : List ℕ). get_or l 0 0) e
@@ -148,92 +205,108 @@ end_last _ _ _ _ rest more (lone C t big small) e = let q : 254 ≡ t = heads 25
 end_last _ _ _ _ rest more (reset C) e = let q : ◌≡◌ {A = ℕ} 254 255 = heads 254 255 rest more e in omega arith
 
 -- a valid prefix before the end byte is the longest one
-pub ended_longest : (bytes prefix rest : List ℕ) (C : Context) (xs : List ChangeValue) → Front prefix C xs
-    → bytes ≡ prefix ++ 254 ∷ rest → Longest bytes prefix (254 ∷ rest)
-ended_longest bytes prefix rest C xs f whole = record {
+pub ended_longest : (start : List ℕ) (Limits : List ChangeValue → Type 0) (bytes prefix rest : List ℕ) (C : Context)
+    (xs : List ChangeValue) → Front start Limits prefix C xs → bytes ≡ prefix ++ 254 ∷ rest
+    → Longest start Limits bytes prefix (254 ∷ rest)
+ended_longest start Limits bytes prefix rest C xs f whole = record {
   context = C;
   changes = xs;
   is_front = f;
   whole = whole;
-  last = λ d found after more spelled few is. end_last C d found after rest more spelled is;
+  last = λ d found after more spelled right is. end_last C d found after rest more spelled is;
 }
 
-ended_ends : (bytes prefix rest : List ℕ) (C : Context) (xs : List ChangeValue) → Front prefix C xs → bytes ≡ prefix
-    ++ 254 ∷ rest → EndsAt bytes (position (reader_of C) xs (254 ∷ rest))
+ended_ends : (start : List ℕ) (Limits : List ChangeValue → Type 0) → AreLimits Limits → (bytes prefix rest : List ℕ)
+    (C : Context) (xs : List ChangeValue) → Front start Limits prefix C xs → bytes ≡ prefix ++ 254 ∷ rest
+    → EndsAt start Limits bytes (position (reader_of C) xs (254 ∷ rest))
 unfolding ended_longest
-ended_ends bytes prefix rest C xs f whole = longest_ends bytes prefix (254 ∷ rest) (ended_longest bytes prefix rest C xs f whole)
+ended_ends start Limits are bytes prefix rest C xs f whole =
+    longest_ends start Limits are bytes prefix (254 ∷ rest) (ended_longest start Limits bytes prefix rest C xs f whole)
 
-pub spelled_ends : (bytes : List ℕ) (batch : List ChangeValue) (s : SpellsO5c bytes batch) → EndsAt bytes (position (reader_of s.context) batch (254 ∷ []))
-spelled_ends bytes batch s = ended_ends bytes s.prefix [] s.context batch s.is_front s.whole
+pub spelled_ends : (start : List ℕ) (Limits : List ChangeValue → Type 0) → AreLimits Limits → (bytes : List ℕ)
+    (changes : List ChangeValue) (s : SpellsFile start Limits bytes changes)
+    → EndsAt start Limits bytes (position (reader_of s.context) changes (254 ∷ []))
+spelled_ends start Limits are bytes changes s =
+    ended_ends start Limits are bytes s.prefix [] s.context changes s.is_front s.whole
 
--- bytes spell at most one batch
+-- bytes spell at most one list of changes
+pub one_list : (start : List ℕ) (Limits : List ChangeValue → Type 0) → AreLimits Limits → (bytes : List ℕ)
+    (a b : List ChangeValue) → SpellsFile start Limits bytes a → SpellsFile start Limits bytes b → a ≡ b
+one_list start Limits are bytes a b s t =
+    ap (λ (p : Position). p.changes) (one_end_at start Limits are bytes (position (reader_of s.context) a (254 ∷ []))
+    (position (reader_of t.context) b (254 ∷ [])) (spelled_ends start Limits are bytes a s)
+    (spelled_ends start Limits are bytes b t))
+
 pub one_batch : (bytes : List ℕ) (a b : List ChangeValue) → SpellsO5c bytes a → SpellsO5c bytes b → a ≡ b
-one_batch bytes a b s t =
-    ap (λ (p : Position). p.changes) (one_end_at bytes (position (reader_of s.context) a (254 ∷ []))
-    (position (reader_of t.context) b (254 ∷ [])) (spelled_ends bytes a s) (spelled_ends bytes b t))
+one_batch = one_list beginning IsBatch batch_limits
 
--- no spelling of a batch is a prefix of another one
-pub no_longer : (bytes more : List ℕ) (a b : List ChangeValue) → SpellsO5c bytes a → SpellsO5c (bytes ++ more) b → more ≡ []
-no_longer bytes more a b s t =
+-- no spelling is a prefix of another one
+pub no_longer : (start : List ℕ) (Limits : List ChangeValue → Type 0) → AreLimits Limits → (bytes more : List ℕ)
+    (a b : List ChangeValue) → SpellsFile start Limits bytes a → SpellsFile start Limits (bytes ++ more) b → more ≡ []
+no_longer start Limits are bytes more a b s t =
     let whole : bytes ++ more ≡ s.prefix ++ 254 ∷ more = ap (λ (l : List ℕ). l ++ more) s.whole ∙ append_assoc s.prefix (254 ∷ []) more in
     let same : position (reader_of s.context) a (254 ∷ more) ≡ position (reader_of t.context) b (254 ∷ []) =
-    one_end_at (bytes ++ more) (position (reader_of s.context) a (254 ∷ more))
-    (position (reader_of t.context) b (254 ∷ [])) (ended_ends (bytes ++ more) s.prefix more s.context a s.is_front
-    whole) (spelled_ends (bytes ++ more) b t) in
+    one_end_at start Limits are (bytes ++ more) (position (reader_of s.context) a (254 ∷ more))
+    (position (reader_of t.context) b (254 ∷ []))
+    (ended_ends start Limits are (bytes ++ more) s.prefix more s.context a s.is_front whole)
+    (spelled_ends start Limits are (bytes ++ more) b t) in
     ap (λ (p : Position). drop 1 p.rest) same
 
 -- ---- how far a reader has come
 
-pub record IsReached (bytes : List ℕ) (p : Position) : Type 0 where
+pub record IsReached (start : List ℕ) (Limits : List ChangeValue → Type 0) (bytes : List ℕ) (p : Position) : Type 0 where
   pub prefix : List ℕ
   pub context : Context
-  pub is_front : Front prefix context p.changes
+  pub is_front : Front start Limits prefix context p.changes
   pub whole : bytes ≡ prefix ++ p.rest
   pub same : p.reader ≡ reader_of context
 
-pub reached_first : (bytes rest : List ℕ) → bytes ≡ beginning ++ rest → IsReached bytes (position new_reader [] rest)
-reached_first bytes rest e = record { prefix = beginning; context = fresh; is_front = begin; whole = e; same = fresh_reader }
+pub reached_first : (start : List ℕ) (Limits : List ChangeValue → Type 0) (bytes rest : List ℕ) → bytes ≡ start ++ rest
+    → IsReached start Limits bytes (position new_reader [] rest)
+reached_first start Limits bytes rest e = record { prefix = start; context = fresh; is_front = begin; whole = e; same = fresh_reader }
 
 pub step_from : (C : Context) (p q : Position) → p.reader ≡ reader_of C → step p ≡ Some q → TakesStep C p q
 step_from C p q same e = subst (λ (r : Reader). step (position r p.changes p.rest) ≡ Some q
     → TakesStep C (position r p.changes p.rest) q) (sym same) (step_takes C p.changes p.rest q) e
 
-pub reached_more : (bytes : List ℕ) (p q : Position) → IsReached bytes p → step p ≡ Some q → IsReached bytes q
-reached_more bytes p q s e =
+pub reached_more : (start : List ℕ) (Limits : List ChangeValue → Type 0) (bytes : List ℕ) (p q : Position)
+    → IsReached start Limits bytes p → step p ≡ Some q → Limits q.changes → IsReached start Limits bytes q
+reached_more start Limits bytes p q s e right =
     let t : TakesStep s.context p q = step_from s.context p q s.same e in
     record {
       prefix = s.prefix ++ t.prefix;
       context = t.after;
-      is_front = subst (λ (xs : List ChangeValue). Front (s.prefix ++ t.prefix) t.after xs) (sym t.changes)
+      is_front = subst (λ (xs : List ChangeValue). Front start Limits (s.prefix ++ t.prefix) t.after xs) (sym t.changes)
           (next s.prefix s.context p.changes t.prefix t.found t.after s.is_front t.spelled
-          (t.few (front_few s.prefix s.context p.changes s.is_front)));
+          (subst (λ xs. Limits xs) t.changes right));
       whole = s.whole ∙ ap (λ (l : List ℕ). s.prefix ++ l) t.parts ∙ sym (append_assoc s.prefix t.prefix q.rest);
       same = t.same;
     }
 
-pub step_shorter : (bytes : List ℕ) (p q : Position) → IsReached bytes p → step p ≡ Some q → length q.rest < length p.rest
-step_shorter bytes p q s e =
+pub step_shorter : (start : List ℕ) (Limits : List ChangeValue → Type 0) (bytes : List ℕ) (p q : Position)
+    → IsReached start Limits bytes p → step p ≡ Some q → length q.rest < length p.rest
+step_shorter start Limits bytes p q s e =
     let t : TakesStep s.context p q = step_from s.context p q s.same e in
     omega (arith, dataset_some s.context t.prefix t.found t.after t.spelled, ap length t.parts, length-append t.prefix q.rest)
 
-some_never : {A : Type 0} (o : Option A) (x : A) → o ≡ None → o ≡ Some x → ⊥
-some_never o x a b = cc
-
-pub reached_longest : (bytes : List ℕ) (p : Position) (s : IsReached bytes p) → step p ≡ None → Longest bytes s.prefix p.rest
-reached_longest bytes p s e = record {
+pub reached_longest : (start : List ℕ) (Limits : List ChangeValue → Type 0) (bytes : List ℕ) (p : Position)
+    (s : IsReached start Limits bytes p) → Stops Limits (step p) → Longest start Limits bytes s.prefix p.rest
+reached_longest start Limits bytes p s stuck = record {
   context = s.context;
   changes = p.changes;
   is_front = s.is_front;
   whole = s.whole;
-  last = λ d found after more spelled few is.
+  last = λ d found after more spelled right is.
       let again : step (position (reader_of s.context) p.changes (d ++ more)) ≡
       Some (position (reader_of after) (changes_with p.changes found) more) =
-      step_again s.context p.changes d found after more spelled few in
-      let same : step (position (reader_of s.context) p.changes p.rest) ≡ None = subst (λ (r : Reader). step (position r p.changes p.rest) ≡ None) s.same e in
-      some_never (step (position (reader_of s.context) p.changes p.rest))
-      (position (reader_of after) (changes_with p.changes found) more) same
-      (subst (λ (l : List ℕ). step (position (reader_of s.context) p.changes l) ≡
-      Some (position (reader_of after) (changes_with p.changes found) more)) (sym is) again);
+      step_again s.context p.changes d found after more spelled in
+      let here : step (position (reader_of s.context) p.changes p.rest) ≡
+      Some (position (reader_of after) (changes_with p.changes found) more) =
+      subst (λ (l : List ℕ). step (position (reader_of s.context) p.changes l) ≡
+      Some (position (reader_of after) (changes_with p.changes found) more)) (sym is) again in
+      stuck (position (reader_of after) (changes_with p.changes found) more)
+      (subst (λ (r : Reader). step (position r p.changes p.rest) ≡
+      Some (position (reader_of after) (changes_with p.changes found) more)) (sym s.same) here) right;
 }
 
 pub same_front : (prefix rest other more : List ℕ) → rest ≡ more → prefix ++ rest ≡ other ++ more → prefix ≡ other
@@ -243,9 +316,11 @@ same_front prefix rest other more e w =
     sym (take_at prefix rest (length prefix) refl) ∙ ap (take (length prefix)) whole ∙ take_at other rest (length prefix) (sym size)
 
 -- there is one longest valid prefix
-pub one_front : (bytes prefix rest other more : List ℕ) → Longest bytes prefix rest → Longest bytes other more → prefix ≡ other
-one_front bytes prefix rest other more l k =
+pub one_front : (start : List ℕ) (Limits : List ChangeValue → Type 0) → AreLimits Limits → (bytes prefix rest other more : List ℕ)
+    → Longest start Limits bytes prefix rest → Longest start Limits bytes other more → prefix ≡ other
+one_front start Limits are bytes prefix rest other more l k =
     let same : position (reader_of l.context) l.changes rest ≡ position (reader_of k.context) k.changes more =
-    one_end_at bytes (position (reader_of l.context) l.changes rest) (position (reader_of k.context) k.changes more)
-    (longest_ends bytes prefix rest l) (longest_ends bytes other more k) in
+    one_end_at start Limits are bytes (position (reader_of l.context) l.changes rest)
+    (position (reader_of k.context) k.changes more) (longest_ends start Limits are bytes prefix rest l)
+    (longest_ends start Limits are bytes other more k) in
     same_front prefix rest other more (ap (λ (p : Position). p.rest) same) (sym l.whole ∙ k.whole)

@@ -9,12 +9,12 @@ pub mod ManyLemmas
 pub mod FieldLemmas
 pub mod ObjectLemmas
 pub mod DatasetLemmas
+pub mod FileLimitLemmas
 pub mod FrontLemmas
 pub mod LoopLemmas
 pub mod LimitLemmas
 pub mod PlaceLemmas
 pub mod LongestLemmas
-pub mod FormLemmas
 pub mod WrittenNumbers
 pub mod KnownLemmas
 pub mod WrittenLists

@@ -1,19 +1,20 @@
 -- A valid prefix that no dataset extends is the longest of all; no spelling of a number is a prefix of another.
 use Rattle.std.proofs.Common.{◌≡◌, ℕ, zero, suc, ◌+◌, ◌-◌, ◌≤◌, cond, eqb, ltb, List, [], ◌∷◌, ◌++◌, length, Option}
-use Rattle.std.proofs.Common.{Some, None, sym, ap, subst, ◌∙◌, arith, inl, inr}
+use Rattle.std.proofs.Common.{Some, None, sym, ap, subst, ◌∙◌, append_assoc, arith, inl, inr}
 use Rattle.std.proofs.lemmas.Bool.{cases_lt}
 use Rattle.std.proofs.lemmas.Option.{same_Some, some_pair_parts}
 use Rattle.std.proofs.lemmas.List.{length-append}
 use Rattle.osm_model.specs.Change.{ChangeValue}
 use Rattle.osm_model.specs.declared.kind.Kind.{Kind}
 use Rattle.osm_o5c.specs.Context.{Context}
-use Rattle.osm_o5c.specs.File.{Front, Longest}
+use Rattle.osm_o5c.specs.File.{changes_with, Front, Longest}
 use Rattle.osm_o5c.specs.Steps.FileReading.{new_reader, Position, position, step, dataset_at, dataset_of}
 use Rattle.osm_o5c.specs.Steps.FileReading.{object_dataset_at, other_dataset_at, with_found, kind_of_byte}
 use Rattle.osm_o5c.proofs.FieldLemmas.{reader_of}
-use Rattle.osm_o5c.proofs.FrontLemmas.{walk, Ends, apart, front_walks, longest_ends, none_later, same_behind, same_front}
+use Rattle.osm_o5c.specs.Steps.Files.{AreLimits}
+use Rattle.osm_o5c.proofs.FrontLemmas.{walk, Ends, front_right, front_walks, longest_ends, not_after, same_behind, same_front}
 use Rattle.osm_o5c.proofs.NumberLemmas.{part_takes, unsigned_again}
-use Rattle.osm_reading.proofs.StepLemmas.{chosen, some_then, some_when}
+use Rattle.osm_reading.proofs.StepLemmas.{chosen, some_then}
 use Rattle.osm_o5c.specs.Number.{SpellsNumber}
 use Rattle.osm_o5c.specs.Steps.NumberReading.{part_at, unsigned_at}
 use Rattle.osm_o5c.specs.Steps.ObjectReading.{object_at}
@@ -58,17 +59,12 @@ unfolding dataset_at
 dataset_shrinks s [] x e = absurd cc
 dataset_shrinks s (t ∷ bytes) x e = omega (arith, of_shrinks (kind_of_byte t) t s bytes x e)
 
-found_shrinks : (xs : List ChangeValue) (x : Option ChangeValue × Reader × List ℕ) (q : Position) → with_found xs x ≡ Some q → length q.rest ≤ length x.2
-found_shrinks xs (None, s, more) q e = subst (λ (p : Position). length p.rest ≤ length more) (same_Some (position s xs more) q e) (omega arith)
-found_shrinks xs (Some c, s, more) q e =
-    let g = some_when (ltb (length xs) 100000) (Some (position s (xs ++ c ∷ []) more)) q e in
-    subst (λ (p : Position). length p.rest ≤ length more) (same_Some (position s (xs ++ c ∷ []) more) q g.1) (omega arith)
-
 step_shrinks : (p q : Position) → step p ≡ Some q → length q.rest ≤ length p.rest
 unfolding step
 step_shrinks p q e =
     let x = some_then (dataset_at p.reader p.rest) (with_found p.changes) q e in
-    omega (arith, found_shrinks p.changes x.0 q x.2, dataset_shrinks p.reader p.rest x.0 x.1)
+    subst (λ (q : Position). length q.rest ≤ length p.rest)
+    (same_Some (position x.0.1 (changes_with p.changes x.0.0) x.0.2) q x.2) (dataset_shrinks p.reader p.rest x.0 x.1)
 
 walk_shrinks : (bytes : List ℕ) (k j : ℕ) (p q : Position) → walk k bytes ≡ Some p → walk (k + j) bytes ≡ Some q → length q.rest ≤ length p.rest
 walk_shrinks bytes k zero p q a b =
@@ -79,24 +75,28 @@ walk_shrinks bytes k (suc j) p q a b =
     let r = some_then (walk (k + j) bytes) step q last in
     omega (arith, walk_shrinks bytes k j p r.0 a r.1, step_shrinks r.0 q r.2)
 
-walked_back : (bytes : List ℕ) (k : ℕ) (p q : Position) → walk k bytes ≡ Some p → Ends bytes q → length q.rest ≤ length p.rest
-walked_back bytes k p q here ends =
+walked_back : (Limits : List ChangeValue → Type 0) → AreLimits Limits → (bytes : List ℕ) (k : ℕ) (p q : Position)
+    → walk k bytes ≡ Some p → Limits p.changes → Ends Limits bytes q → length q.rest ≤ length p.rest
+walked_back Limits are bytes k p q here right ends =
     elim (cases_lt ends.count k) [
-      | inl less ↦ apart (walk k bytes) p (none_later bytes k ends.count q less ends.leads ends.stuck) here
+      | inl less ↦ absurd (not_after Limits are bytes ends.count k q p ends.leads ends.stuck here right less)
       | inr most ↦ walk_shrinks bytes k (ends.count - k) p q here (subst (λ (i : ℕ). walk i bytes ≡ Some q)
           (let z : ends.count ≡ k + (ends.count - k) = omega arith in z) ends.leads)
     ]
 
 -- every valid prefix of the bytes is at most as long
-pub longest_of_all : (bytes prefix rest other more : List ℕ) (C : Context) (xs : List ChangeValue)
-    → Longest bytes prefix rest → Front other C xs → bytes ≡ other ++ more → length other ≤ length prefix
-longest_of_all bytes prefix rest other more C xs l f whole =
-    let w = front_walks other C xs more f in
-    let end = longest_ends bytes prefix rest l in
-    let same : end.behind ≡ w.behind ++ more = same_behind end.behind (w.behind ++ more) (sym end.begins ∙ whole ∙ ap (λ (b : List ℕ). b ++ more) w.begins) in
-    let back : length rest ≤ length more = walked_back (w.behind ++ more) w.count (position (reader_of C) xs more)
-    (position (reader_of l.context) l.changes rest) w.leads
-    (subst (λ (b : List ℕ). Ends b (position (reader_of l.context) l.changes rest)) same end.ends) in
+pub longest_of_all : (start : List ℕ) (Limits : List ChangeValue → Type 0) → AreLimits Limits
+    → (bytes prefix rest other more : List ℕ) (C : Context) (xs : List ChangeValue)
+    → Longest start Limits bytes prefix rest → Front start Limits other C xs → bytes ≡ other ++ more → length other ≤ length prefix
+longest_of_all start Limits are bytes prefix rest other more C xs l f whole =
+    let w = front_walks start Limits other C xs more f in
+    let end = longest_ends start Limits are bytes prefix rest l in
+    let begins : bytes ≡ start ++ (w.behind ++ more) =
+    whole ∙ ap (λ (b : List ℕ). b ++ more) w.begins ∙ append_assoc start w.behind more in
+    let same : end.behind ≡ w.behind ++ more = same_behind start end.behind (w.behind ++ more) (sym end.begins ∙ begins) in
+    let back : length rest ≤ length more = walked_back Limits are (w.behind ++ more) w.count (position (reader_of C) xs more)
+    (position (reader_of l.context) l.changes rest) w.leads (front_right start Limits are other C xs f)
+    (subst (λ (b : List ℕ). Ends Limits b (position (reader_of l.context) l.changes rest)) same end.ends) in
     omega (arith, ap length whole, ap length l.whole, length-append prefix rest, length-append other more)
 
 -- two spellings at the start of the same bytes are the same, of the same number

@@ -10,7 +10,7 @@ use Rattle.osm_model.specs.declared.change.What.TheVariants.{Node, Way, Relation
 use Rattle.osm_o5c.specs.Number.{SpellsNumber}
 use Rattle.osm_o5c.specs.Context.{IsWrapped}
 use Rattle.osm_o5c.specs.Entries.{entries_of, named}
-use Rattle.osm_o5c.specs.Written.{after_object, new_state, varint_text, number_text, signed_text, dataset_text, o5c_text}
+use Rattle.osm_o5c.specs.Written.{after_object, new_state, varint_text, number_text, signed_text, dataset_text, o5c_text, o5m_text}
 use Rattle.osm_o5c.specs.Written.{last_equal, reference_of, entered_by, reset_text, state_before}
 use Rattle.osm_o5c.specs.declared.strings.Entry.{Entry}
 use Rattle.osm_o5c.specs.declared.strings.Entry.TheVariants.{Pair, Single}
@@ -148,6 +148,16 @@ deletion_dataset = refl
 
 empty_batch : o5c_text [] ≡ 0xff ∷ 0xe0 ∷ 0x04 ∷ 0x6f ∷ 0x35 ∷ 0x63 ∷ 0x32 ∷ 0xfe ∷ []
 empty_batch = refl
+
+no_objects : o5m_text [] ≡ 0xff ∷ 0xe0 ∷ 0x04 ∷ 0x6f ∷ 0x35 ∷ 0x6d ∷ 0x32 ∷ 0xfe ∷ []
+no_objects = refl
+
+-- node 1 alone as a data file
+one_node : o5m_text (record { key = record { kind = kinds.Node; id = pos 1 }; meta = ann; what = Node (pos 10000000) (pos 20000000) [] } ∷ [])
+    ≡ 0xff ∷ 0xe0 ∷ 0x04 ∷ 0x6f ∷ 0x35 ∷ 0x6d ∷ 0x32 ∷ with_meta (0x10 ∷ 0x17 ∷ 0x02 ∷ [])
+    (0x80 ∷ 0xda ∷ 0xc4 ∷ 0x09 ∷ 0x80 ∷ 0xb4 ∷ 0x89 ∷ 0x13 ∷ 0xfe ∷ [])
+unfolding varint_text ann
+one_node = refl
 
 -- ---- limits, at the last value within and at the first one beyond
 

@@ -9,8 +9,7 @@ use Rattle.std.proofs.lemmas.List.{append-nil, length-append}
 use Rattle.osm_o5c.specs.Number.{zigzag}
 use Rattle.osm_model.specs.Change.{ChangeValue}
 use Rattle.osm_model.specs.declared.kind.Kind.{Kind}
-use Rattle.osm_o5c.specs.Written.{new_state, varint_text, change_text, after_change, objects_text, o5c_text}
-use Rattle.osm_o5c.specs.File.{beginning}
+use Rattle.osm_o5c.specs.Written.{new_state, varint_text, change_text, after_change, objects_text, file_text}
 use Rattle.osm_o5c.specs.declared.writer.State.{State}
 
 -- what holds if a call succeeds
@@ -98,7 +97,7 @@ objects_more before kind s t cs i c old new whole h is w e state_is k =
     (sym (objects_from before s cs i c h is)) ∙ w)
 
 -- what is written is no longer than the whole text
-pub written_short : (cs : List ChangeValue) (out left : List ℕ) (most : ℕ) → out ++ left ≡ beginning
-    ++ objects_text None new_state cs → most < length out → most < length (o5c_text cs)
-written_short cs out left most e h =
-    omega (arith, ap length e, length-append out left, length-append (beginning ++ objects_text None new_state cs) (254 ∷ []))
+pub written_short : (start : List ℕ) (cs : List ChangeValue) (out left : List ℕ) (most : ℕ) → out ++ left ≡ start
+    ++ objects_text None new_state cs → most < length out → most < length (file_text start cs)
+written_short start cs out left most e h =
+    omega (arith, ap length e, length-append out left, length-append (start ++ objects_text None new_state cs) (254 ∷ []))

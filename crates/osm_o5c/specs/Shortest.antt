@@ -18,7 +18,8 @@ use Rattle.osm_o5c.specs.Many.{SpellsMany, none, more}
 use Rattle.osm_o5c.specs.Object.{SpellsMeta, SpellsTags, SpellsRefs}
 use Rattle.osm_o5c.specs.Object.{SpellsMember, SpellsMembers, SpellsNode, SpellsWay}
 use Rattle.osm_o5c.specs.Object.{SpellsRelation, SpellsWhat, SpellsObject}
-use Rattle.osm_o5c.specs.File.{Dataset, object, skipped, lone, reset, Front, begin, next, SpellsO5c}
+use Rattle.osm_o5c.specs.File.{Dataset, object, skipped, lone, reset, Front, begin, next}
+use Rattle.osm_o5c.specs.File.{SpellsFile}
 use Rattle.osm_o5c.specs.Written.{is_other}
 use Rattle.osm_o5c.specs.declared.strings.Entry.{Entry}
 use Rattle.osm_o5c.specs.declared.strings.Entry.TheVariants.{Pair, Single}
@@ -143,10 +144,11 @@ is_reset (skipped C kind length_bytes content k other n) = false
 is_reset (lone C kind low high) = false
 is_reset (reset C) = true
 
-abbrev pub ends_in_reset : {bytes : List ℕ} {C : Context} {changes : List ChangeValue}
-    → Front bytes C changes → Bool
+abbrev pub ends_in_reset : {start : List ℕ} {Limits : List ChangeValue → Type 0}
+    {bytes : List ℕ} {C : Context} {changes : List ChangeValue}
+    → Front start Limits bytes C changes → Bool
 ends_in_reset begin = false
-ends_in_reset (next prefix C changes dataset found after f s few) = is_reset s
+ends_in_reset (next prefix C changes dataset found after f s right) = is_reset s
 
 -- a dataset of a shortest file, after these changes, directly after a reset or not: an object,
 -- which follows a reset exactly if its kind differs from that of the last change; or a reset, which
@@ -161,13 +163,14 @@ IsShortestDataset changes after_reset (skipped C kind length_bytes content k oth
 IsShortestDataset changes after_reset (lone C kind low high) = ⊥
 IsShortestDataset changes after_reset (reset C) = after_reset ≡ false
 
-abbrev pub IsShortestFront : {bytes : List ℕ} {C : Context} {changes : List ChangeValue}
-    → Front bytes C changes → Type 0
+abbrev pub IsShortestFront : {start : List ℕ} {Limits : List ChangeValue → Type 0}
+    {bytes : List ℕ} {C : Context} {changes : List ChangeValue}
+    → Front start Limits bytes C changes → Type 0
 IsShortestFront begin = Unit {0}
-IsShortestFront (next prefix C changes dataset found after f s few) =
+IsShortestFront (next prefix C changes dataset found after f s right) =
     IsShortestFront f × IsShortestDataset changes (ends_in_reset f) s
 
--- a spelling of a batch as it is written: no dataset is skipped, and the last one isn't a reset
-abbrev pub IsShortest : {bytes : List ℕ} {batch : List ChangeValue}
-    → SpellsO5c bytes batch → Type 0
+-- a spelling of changes as they are written: no dataset is skipped, and the last one isn't a reset
+abbrev pub IsShortest : {start : List ℕ} {Limits : List ChangeValue → Type 0}
+    {bytes : List ℕ} {changes : List ChangeValue} → SpellsFile start Limits bytes changes → Type 0
 IsShortest s = IsShortestFront s.is_front × (ends_in_reset s.is_front ≡ false)

@@ -5,5 +5,6 @@ pub mod NumberReading
 pub mod StringReading
 pub mod ObjectReading
 pub mod FileReading
+pub mod Files
 pub mod Latest
 pub mod Index

@@ -1,4 +1,4 @@
--- The written text of a batch (our choice of spelling): every number in its fewest bytes, exact
+-- The written text of changes (our choice of spelling): every number in its fewest bytes, exact
 -- differences, every string by the least number that names it or else in line, a reset exactly if
 -- the kind changes.
 use Rattle.std.specs.Prelude.{ℕ, zero, suc, ◌+◌, ◌/◌, ◌%◌, List, [], ◌∷◌, ◌++◌, length, Option}
@@ -16,7 +16,7 @@ use Rattle.osm_model.specs.declared.lists.Tag.{Tag}
 use Rattle.osm_o5c.specs.Number.{zigzag}
 use Rattle.osm_o5c.specs.Entries.{max_size, max_entries}
 use Rattle.osm_o5c.specs.Context.{kind_digit}
-use Rattle.osm_o5c.specs.File.{beginning, kind_byte, end_byte}
+use Rattle.osm_o5c.specs.File.{beginning, data_beginning, kind_byte, end_byte}
 use Rattle.osm_o5c.specs.declared.counters.Counters.{Counters}
 use Rattle.osm_o5c.specs.declared.writer.State.{State}
 
@@ -257,6 +257,14 @@ objects_text before s [] = []
 objects_text before s (c ∷ cs) =
     change_text before s c ++ objects_text (Some c.key.kind) (after_change before s c) cs
 
+-- the written text of a file with this beginning
+abbrev pub file_text : List ℕ → List ChangeValue → List ℕ
+file_text start changes = start ++ objects_text None new_state changes ++ end_byte ∷ []
+
 -- the written text of a batch
 abbrev pub o5c_text : List ChangeValue → List ℕ
-o5c_text batch = beginning ++ objects_text None new_state batch ++ end_byte ∷ []
+o5c_text batch = file_text beginning batch
+
+-- the written text of the objects of a data file
+abbrev pub o5m_text : List ChangeValue → List ℕ
+o5m_text objects = file_text data_beginning objects

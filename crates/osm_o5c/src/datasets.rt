@@ -1,30 +1,28 @@
 //! Datasets: objects with their lengths, resets, and datasets that are skipped.
 
-ghost use Rattle.std.specs.Prelude.{◌≡◌, ◌≤◌, ◌++◌, length, Option, OnOk, IfOk, IfErr};
+ghost use Rattle.std.specs.Prelude.{◌≡◌, ◌∷◌, [], ◌++◌, Option, OnOk, IfOk, IfErr};
 ghost use Rattle.osm_o5c.specs.Steps.FileReading.{kind_of_byte, object_dataset_at};
-ghost use Rattle.osm_o5c.specs.Steps.FileReading.{other_dataset_at, dataset_at};
-ghost use Rattle.osm_o5c.specs.Steps.FileReading.{position, with_found};
-ghost use Rattle.osm_o5c.specs.Steps.FileReading.{FileRefused, WantsAt};
-ghost use Rattle.osm_model.specs.ChangeForm.{WriteRefused};
-ghost use Rattle.osm_model.specs.Limits.{max_file};
+ghost use Rattle.osm_o5c.specs.Steps.FileReading.{other_dataset_at};
+ghost use Rattle.osm_o5c.specs.Steps.FileReading.{position, with_found, step};
+ghost use Rattle.osm_o5c.specs.Steps.FileReading.{ChangeRefused, ObjectRefused, StepRefused};
 ghost use Rattle.osm_o5c.specs.Written.{is_other, reset_text, state_before, dataset_text};
-ghost use Rattle.osm_o5c.specs.Written.{after_object, change_text, after_change, o5c_text};
-ghost use Rattle.osm_o5c.specs.File.{kind_byte, SpellsO5c};
-ghost use Rattle.osm_reading.specs.Steps.Answers.{Gives, Finds, and_then};
+ghost use Rattle.osm_o5c.specs.Written.{after_object, change_text, after_change};
+ghost use Rattle.osm_o5c.specs.File.{kind_byte};
+ghost use Rattle.osm_reading.specs.Steps.Answers.{Finds, and_then};
 
+use crate::files::FileLimits;
 use crate::numbers::{part, write_unsigned};
 use crate::reader::Reader;
-use crate::writer::{BEGINNING, Writer};
-use osm_model::batch::{Batch, PushError};
+use crate::writer::Writer;
 use osm_model::change::Change;
-use osm_model::form::{FormError, Why};
+use osm_model::form::Why;
 use osm_model::kind::Kind;
-use osm_model::limits::MAX_FILE;
 use osm_model::memory::WantOfMemory;
 use osm_reading::refusal::Refusal;
 use std::alloc::Global;
 
-const END: u8 = 0xfe;
+/// The byte at the end of a file.
+pub const END: u8 = 0xfe;
 
 const RESET: u8 = 0xff;
 
@@ -39,25 +37,54 @@ fn kind_of(byte: u8) -> Option<Kind>
     }
 }
 
+fn append(change: Change, changes: &mut Vec<Change>) -> Result<(), WantOfMemory>
+    ensures { OnOk result (changes.new.items ≡ changes.old.items ++ change ∷ []) }
+{
+    changes.push(change)?;
+    Ok(())
+}
+
+// Adds a change to the others, if it may follow them.
+fn add<F: FileLimits>(change: Change, changes: &mut Vec<Change>) -> Result<(), Refusal>
+    requires { F.limits changes.old.items }
+    ensures added { OnOk result (changes.new.items ≡ changes.old.items ++ change ∷ []) }
+    ensures right { OnOk result (F.limits changes.new.items) }
+    ensures refused { IfErr result (ChangeRefused F.limits changes.old.items change) }
+{
+    match F::check_next(changes.as_slice(), &change) {
+        Ok(()) => {}
+        Err(why) => return Err(Refusal::Fault(why)),
+    }
+    match append(change, changes) {
+        Ok(()) => Ok(()),
+        Err(WantOfMemory) => Err(Refusal::WantOfMemory),
+    }
+}
+
 impl<'a> Reader<'a> {
-    // Reads an object, adds its change to the batch, and returns what follows it.
+    // Reads an object, adds its change to the others, and returns what follows it.
     #[tactic(auto, unfolding(crate::specs::Steps::FileReading::object_dataset_at))]
-    fn object_dataset(
+    fn object_dataset<F: FileLimits>(
         &mut self,
         alloc: Global,
-        batch: &mut Batch,
+        changes: &mut Vec<Change>,
         kind: Kind,
         bytes: &'a [u8],
     ) -> Result<&'a [u8], Refusal>
-        ensures { Gives (λ r. position self.new batch.new r.now) result
-            (and_then (object_dataset_at kind self.old bytes.now) (with_found batch.old)) }
+        requires { F.limits changes.old.items }
+        ensures ok { IfOk result (λ r.
+            and_then (object_dataset_at kind self.old bytes.now) (with_found changes.old.items)
+            ≡ Option.Some (position self.new changes.new.items r.now)) }
+        ensures right { OnOk result (F.limits changes.new.items) }
+        ensures refused { IfErr result (ObjectRefused F.limits
+            (and_then (object_dataset_at kind self.old bytes.now)
+            (with_found changes.old.items))) }
     {
         let (content, rest) = part(bytes, Why::Truncated)?;
         let change = self.object(alloc, kind, content)?;
-        match batch.push(change) {
+        match add::<F>(change, changes) {
             Ok(()) => Ok(rest),
-            Err(PushError::Full(_)) => Err(Refusal::Fault(Why::TooMany)),
-            Err(PushError::WantOfMemory(_)) => Err(Refusal::WantOfMemory),
+            Err(refusal) => Err(refusal),
         }
     }
 
@@ -81,71 +108,32 @@ impl<'a> Reader<'a> {
         Err(Why::Truncated)
     }
 
-    // Reads one dataset, adds its change to the batch if it has one, and returns what follows it.
-    #[tactic(auto, unfolding(crate::specs::Steps::FileReading::dataset_at))]
-    fn next(
+    /// Reads one dataset, adds its change to the others if it has one, and returns what follows it.
+    #[tactic(auto, unfolding(crate::specs::Steps::FileReading::dataset_at, crate::specs::Steps::FileReading::step))]
+    pub fn next<F: FileLimits>(
         &mut self,
         alloc: Global,
-        batch: &mut Batch,
+        changes: &mut Vec<Change>,
         bytes: &'a [u8],
     ) -> Result<&'a [u8], Refusal>
-        ensures gives { Gives (λ r. position self.new batch.new r.now) result
-            (and_then (dataset_at self.old bytes.now) (with_found batch.old)) }
-        ensures memory { IfErr result (WantsAt bytes.now) }
+        requires { F.limits changes.old.items }
+        ensures ok { IfOk result (λ r. step (position self.old changes.old.items bytes.now)
+            ≡ Option.Some (position self.new changes.new.items r.now)) }
+        ensures right { OnOk result (F.limits changes.new.items) }
+        ensures refused { IfErr result
+            (StepRefused F.limits (position self.old changes.old.items bytes.now)) }
     {
         let Some((first, rest)) = bytes.split_first() else {
             return Err(Refusal::Fault(Why::Truncated));
         };
         match kind_of(*first) {
-            Some(kind) => self.object_dataset(alloc, batch, kind, rest),
+            Some(kind) => self.object_dataset::<F>(alloc, changes, kind, rest),
             None => match self.other_dataset(*first, rest) {
                 Ok(after) => Ok(after),
                 Err(why) => Err(Refusal::Fault(why)),
             },
         }
     }
-}
-
-/// The batch that a file holds.
-pub fn read_file(alloc: Global, bytes: &[u8]) -> Result<Batch, FormError>
-    ensures spelled { IfOk result (λ b. SpellsO5c bytes.now b) }
-    ensures refused { IfErr result (FileRefused bytes.now) }
-{
-    let Some(mut rest) = bytes.strip_prefix(&BEGINNING) else {
-        return Err(FormError::Fault {
-            place: 0,
-            why: Why::BadHeader,
-        });
-    };
-    let mut reader = Reader::new();
-    let mut batch = Batch::new(alloc);
-    'datasets: while !rest.is_empty() && rest[0] != END {
-        match reader.next(alloc, &mut batch, rest) {
-            Ok(after) => {
-                rest = after;
-            }
-            Err(Refusal::WantOfMemory) => return Err(FormError::WantOfMemory),
-            Err(Refusal::Fault(why)) => {
-                let place = (bytes.len() - rest.len()) as u64;
-                return Err(FormError::Fault { place, why });
-            }
-        }
-    }
-    if rest.is_empty() {
-        let place = bytes.len() as u64;
-        return Err(FormError::Fault {
-            place,
-            why: Why::Truncated,
-        });
-    }
-    if rest.len() == 1 {
-        return Ok(batch);
-    }
-    let place = (bytes.len() - rest.len()) as u64 + 1;
-    Err(FormError::Fault {
-        place,
-        why: Why::TrailingBytes,
-    })
 }
 
 fn byte_of(kind: Kind) -> u8
@@ -197,8 +185,8 @@ impl Writer {
         Ok(())
     }
 
-    // Appends an object, after a reset if its kind differs from that of the object before it.
-    fn write_change(&mut self, change: &Change) -> Result<(), WantOfMemory>
+    /// Appends an object, after a reset if its kind differs from that of the object before it.
+    pub fn write_change(&mut self, change: &Change) -> Result<(), WantOfMemory>
         ensures text { OnOk result
             (self.new.out.items ≡ self.old.out.items
             ++ change_text self.old.kind self.old.state change.now) }
@@ -212,31 +200,4 @@ impl Writer {
         self.kind = Some(kind);
         Ok(())
     }
-}
-
-/// The written text of a batch; stops as too large soon after the text passes 64 MiB.
-pub fn write_file(alloc: Global, batch: &Batch) -> Result<Vec<u8>, FormError>
-    ensures text { IfOk result (λ v. v.items ≡ o5c_text batch.now) }
-    ensures small { IfOk result (λ v. length v.items ≤ max_file) }
-    ensures refused { IfErr result (WriteRefused (o5c_text batch.now)) }
-{
-    let changes = batch.changes();
-    let Ok(mut writer) = Writer::new(alloc, changes.len()) else {
-        return Err(FormError::WantOfMemory);
-    };
-    for change in changes {
-        if writer.write_change(change).is_err() {
-            return Err(FormError::WantOfMemory);
-        }
-        if writer.out.len() > MAX_FILE {
-            return Err(FormError::TooLarge);
-        }
-    }
-    if writer.out.push(END).is_err() {
-        return Err(FormError::WantOfMemory);
-    }
-    if writer.out.len() > MAX_FILE {
-        return Err(FormError::TooLarge);
-    }
-    Ok(writer.out)
 }

@@ -1,10 +1,12 @@
-//! Change files in the form o5c (OSM wiki, O5m).
+//! Change files in the form o5c and data files in the form o5m (OSM wiki, O5m).
 #![tactic(auto)]
 
 mod chains;
 mod counters;
+pub mod data;
 mod datasets;
 mod file_string;
+mod files;
 mod hashed_string;
 mod latest;
 mod metadata;

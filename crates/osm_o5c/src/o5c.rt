@@ -6,15 +6,19 @@ ghost use Rattle.osm_model.specs.Change.{ChangeValue};
 ghost use Rattle.osm_model.specs.ChangeForm.{SpellsNothing};
 ghost use Rattle.osm_o5c.specs.Context.{Context};
 ghost use Rattle.osm_o5c.specs.Number.{SpellsNumber, SpellsSigned};
-ghost use Rattle.osm_o5c.specs.File.{SpellsO5c, Front, Longest, FaultPlace};
+ghost use Rattle.osm_o5c.specs.File.{SpellsO5c, Front, Longest, FaultPlace, beginning};
 ghost use Rattle.osm_o5c.specs.Written.{number_text, signed_text, o5c_text};
 ghost use Rattle.osm_o5c.specs.Shortest.{IsShortest};
 
-use crate::datasets::{read_file, write_file};
+use crate::files::{FileLimits, read_changes, write_changes};
 use osm_model::batch::Batch;
-use osm_model::form::{ChangeForm, FormError};
-use osm_model::limits::MAX_FILE;
+use osm_model::change::Change;
+use osm_model::form::{ChangeForm, FormError, Why};
+use osm_model::limits::MAX_CHANGES;
 use std::alloc::Global;
+
+// Reset, header, length 4, `o5c2`.
+const BEGINNING: [u8; 7] = [0xff, 0xe0, 4, 0x6f, 0x35, 0x63, 0x32];
 
 /// The form o5c: binary datasets, with differences for numbers and references for strings.
 ///
@@ -35,14 +39,31 @@ impl ChangeForm for O5c {
     ghost fault_place = { FaultPlace };
 
     fn write(alloc: Global, batch: &Batch) -> Result<Vec<u8>, FormError> {
-        write_file(alloc, batch)
+        Ok(write_changes(alloc, &BEGINNING, batch.changes())?)
     }
 
     fn read(alloc: Global, bytes: &[u8]) -> Result<Batch, FormError> {
-        if bytes.len() > MAX_FILE {
-            return Err(FormError::TooLarge);
+        let changes = read_changes::<ChangeFile>(alloc, &BEGINNING, bytes)?;
+        Ok(Batch::within_limits(changes))
+    }
+
+    fn laws() {}
+}
+
+// The limits of a batch.
+struct ChangeFile;
+
+impl FileLimits for ChangeFile {
+    ghost use Rattle.osm_model.specs.Batch.{IsBatch};
+
+    ghost limits = { IsBatch };
+
+    fn check_next(changes: &[Change], change: &Change) -> Result<(), Why> {
+        change.limits();
+        if changes.len() >= MAX_CHANGES {
+            return Err(Why::TooMany);
         }
-        read_file(alloc, bytes)
+        Ok(())
     }
 
     fn laws() {}
@@ -74,11 +95,12 @@ pub fn laws_of_o5c()
     ensures written { (batch : List ChangeValue) → IsBatch batch
         → (s : SpellsO5c (o5c_text batch) batch) × IsShortest s }
     ensures one_front { (bytes front rest other more : List ℕ)
-        → Longest bytes front rest → Longest bytes other more → front ≡ other }
+        → Longest beginning IsBatch bytes front rest → Longest beginning IsBatch bytes other more
+        → front ≡ other }
     ensures longest { (bytes front rest other more : List ℕ)
         (C : Context) (changes : List ChangeValue)
-        → Longest bytes front rest → Front other C changes → bytes ≡ other ++ more
-        → length other ≤ length front }
+        → Longest beginning IsBatch bytes front rest → Front beginning IsBatch other C changes
+        → bytes ≡ other ++ more → length other ≤ length front }
     ensures one_number { (prefix rest other more : List ℕ) (n m : ℕ)
         → SpellsNumber prefix n → SpellsNumber other m → prefix ++ rest ≡ other ++ more
         → (n ≡ m) × (prefix ≡ other) }

@@ -1,17 +1,15 @@
 //! What a writer keeps between datasets.
 
 ghost use Rattle.std.specs.Prelude.{◌≡◌, ◌≤◌, ◌*◌, [], Option, IfOk, vec_capacity};
-ghost use Rattle.osm_o5c.specs.File.{beginning};
+ghost use Rattle.osm_model.specs.Limits.{max_file};
 ghost use Rattle.osm_o5c.specs.Written.{new_state};
 
 use crate::counters::Counters;
 use crate::string_index::StringIndex;
 use osm_model::kind::Kind;
+use osm_model::limits::{MAX_CHANGES, MAX_FILE};
 use osm_model::memory::WantOfMemory;
 use std::alloc::Global;
-
-/// Reset, header, length 4, `o5c2`.
-pub const BEGINNING: [u8; 7] = [0xff, 0xe0, 4, 0x6f, 0x35, 0x63, 0x32];
 
 /// The counters and the entered strings since the last reset.
 #[derive(Drop)]
@@ -58,28 +56,27 @@ impl State {
     }
 }
 
-// An empty file with room for `changes` changes of the usual size.
+// An empty file with room for `changes` changes of the usual size, and for no more than a file has.
 fn room_for_file(alloc: Global, changes: usize) -> Result<Vec<u8>, WantOfMemory>
-    requires { changes ≤ 100000 }
     ensures empty { IfOk result (λ v. v.items ≡ []) }
     ensures room { IfOk result (λ v. vec_capacity v ≤ 32 * changes) }
+    ensures most { IfOk result (λ v. vec_capacity v ≤ max_file) }
 {
-    Ok(Vec::with_capacity(alloc, 32 * changes)?)
+    Ok(Vec::with_capacity(alloc, changes.saturating_mul(32).min(MAX_FILE))?)
 }
 
 impl Writer {
     /// A file with only its beginning, and room for `changes` changes of the usual size.
-    pub fn new(alloc: Global, changes: usize) -> Result<Writer, WantOfMemory>
-        requires { changes ≤ 100000 }
-        ensures { IfOk result (λ w. (w.out.items ≡ beginning) × (w.state ≡ new_state)
+    pub fn new(alloc: Global, start: &[u8], changes: usize) -> Result<Writer, WantOfMemory>
+        ensures { IfOk result (λ w. (w.out.items ≡ start.now) × (w.state ≡ new_state)
             × (w.kind ≡ Option.None)) }
     {
         let mut out = room_for_file(alloc, changes)?;
-        out.extend_from_slice(&BEGINNING)?;
+        out.extend_from_slice(start)?;
         Ok(Writer {
             out,
             buffers: Buffers::new(alloc),
-            state: State::new(alloc, 2 * changes)?,
+            state: State::new(alloc, 2 * changes.min(MAX_CHANGES))?,
             kind: None,
         })
     }

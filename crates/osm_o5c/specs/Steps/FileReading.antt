@@ -1,17 +1,14 @@
 -- The dataset at the start of bytes, and how far a file has been read.
-use Rattle.std.specs.Prelude.{ℕ, ◌==◌, List, [], ◌∷◌, ◌++◌, length, Option, Some, None, IsSome}
+use Rattle.std.specs.Prelude.{◌≡◌, ℕ, ◌==◌, List, [], ◌∷◌, ◌++◌, Option, Some, None, IsSome}
 use Rattle.std.specs.Prelude.{if◌then◌else◌, nat_lt}
 use Rattle.osm_model.specs.Change.{ChangeValue}
-use Rattle.osm_model.specs.Limits.{max_changes}
 use Rattle.osm_model.specs.declared.kind.Kind.{Kind}
 use Rattle.osm_model.specs.declared.kind.Kind.TheVariants as kinds
-use Rattle.osm_reading.specs.Steps.Answers.{and_then, when}
+use Rattle.osm_reading.specs.Steps.Answers.{and_then}
 use Rattle.osm_o5c.specs.Written.{no_counters}
 use Rattle.osm_o5c.specs.Steps.NumberReading.{part_at}
 use Rattle.osm_o5c.specs.Steps.ObjectReading.{object_at}
-use Rattle.osm_o5c.specs.File.{SpellsO5c, FaultPlace}
-use Rattle.osm_model.specs.declared.form.FormError.{FormError}
-use Rattle.osm_model.specs.declared.form.FormError.TheVariants as errors
+use Rattle.osm_o5c.specs.File.{changes_with}
 use Rattle.osm_reading.specs.declared.refusal.Refusal.{Refusal}
 use Rattle.osm_reading.specs.declared.refusal.Refusal.TheVariants.{WantOfMemory, Fault}
 use Rattle.osm_o5c.specs.declared.reader.Reader.{Reader}
@@ -53,11 +50,6 @@ abbrev pub BeginsObject : List ℕ → Type 0
 BeginsObject [] = ⊥
 BeginsObject (t ∷ bytes) = IsSome (kind_of_byte t)
 
--- out of memory only at an object
-abbrev pub WantsAt : List ℕ → Refusal → Type 0
-WantsAt bytes WantOfMemory = BeginsObject bytes
-WantsAt bytes (Fault why) = Unit {0}
-
 -- where a reader is in its file
 pub record Position : Type 0 where
   pub reader : Reader
@@ -67,19 +59,30 @@ pub record Position : Type 0 where
 abbrev pub position : Reader → List ChangeValue → List ℕ → Position
 position reader changes rest = record { reader = reader; changes = changes; rest = rest }
 
--- the position after a dataset: its change is added if it holds one and the batch isn't full
+-- the position after a dataset: its change is added if it holds one
 abbrev pub with_found : List ChangeValue → Option ChangeValue × Reader × List ℕ → Option Position
-with_found changes (None, reader, rest) = Some (position reader changes rest)
-with_found changes (Some c, reader, rest) =
-    when (nat_lt (length changes) max_changes) (Some (position reader (changes ++ c ∷ []) rest))
+with_found changes x = Some (position x.1 (changes_with changes x.0) x.2)
 
--- the position after one more dataset
+-- the position after one more dataset, whatever the limits of the changes
 unfoldable pub step : Position → Option Position
 step p = and_then (dataset_at p.reader p.rest) (with_found p.changes)
 
--- why a file that isn't too large is refused: out of memory, only if it doesn't spell the empty
--- batch; or a fault, at its place
-abbrev pub FileRefused : List ℕ → FormError → Type 0
-FileRefused bytes errors.WantOfMemory = SpellsO5c bytes [] → ⊥
-FileRefused bytes errors.TooLarge = ⊥
-FileRefused bytes (errors.Fault place why) = FaultPlace bytes place
+-- there is no next position, or its changes aren't within the limits
+abbrev pub Stops : (List ChangeValue → Type 0) → Option Position → Type 0
+Stops Limits next = (q : Position) → next ≡ Some q → Limits q.changes → ⊥
+
+-- no dataset is added: for a fault, none may come next; out of memory only at an object
+abbrev pub StepRefused : (List ChangeValue → Type 0) → Position → Refusal → Type 0
+StepRefused Limits p WantOfMemory = BeginsObject p.rest
+StepRefused Limits p (Fault why) = Stops Limits (step p)
+
+-- a change isn't added: for a fault, it may not follow the others
+abbrev pub ChangeRefused : (List ChangeValue → Type 0) → List ChangeValue → ChangeValue → Refusal
+    → Type 0
+ChangeRefused Limits changes c WantOfMemory = Unit {0}
+ChangeRefused Limits changes c (Fault why) = Limits (changes ++ c ∷ []) → ⊥
+
+-- an object isn't added: for a fault, there is none, or it may not come next
+abbrev pub ObjectRefused : (List ChangeValue → Type 0) → Option Position → Refusal → Type 0
+ObjectRefused Limits next WantOfMemory = Unit {0}
+ObjectRefused Limits next (Fault why) = Stops Limits next

@@ -1,0 +1,81 @@
+//! Data files in the form o5m: the objects of a mirror, by rising keys (OSM wiki, O5m).
+
+ghost use Rattle.std.specs.Prelude.{◌≡◌, ℕ, List, ◌≤◌, length, IfOk, OnOk, IfErr};
+ghost use Rattle.osm_model.specs.Change.{ChangeValue};
+ghost use Rattle.osm_model.specs.ChangeForm.{ReadRefused, SpellsNothing};
+ghost use Rattle.osm_model.specs.Data.{DataRefused, IsData};
+ghost use Rattle.osm_model.specs.Limits.{max_file};
+ghost use Rattle.osm_o5c.specs.File.{DataFaultPlace, SpellsData, SpellsO5c};
+ghost use Rattle.osm_o5c.specs.Shortest.{IsShortest};
+ghost use Rattle.osm_o5c.specs.Written.{o5m_text};
+
+use crate::files::{FileLimits, read_changes, write_changes};
+use osm_model::change::Change;
+use osm_model::data::{DataError, check_next, first_fault};
+use osm_model::form::{FormError, Why};
+use std::alloc::Global;
+
+// Reset, header, length 4, `o5m2`.
+const DATA_BEGINNING: [u8; 7] = [0xff, 0xe0, 4, 0x6f, 0x35, 0x6d, 0x32];
+
+// The limits of the objects of a mirror. Their number is limited by the size of the file alone.
+struct DataFile;
+
+impl FileLimits for DataFile {
+    ghost use Rattle.osm_model.specs.Data.{IsData};
+
+    ghost limits = { IsData };
+
+    fn check_next(changes: &[Change], change: &Change) -> Result<(), Why> {
+        check_next(changes, change)
+    }
+
+    fn laws() {}
+}
+
+/// Reads the objects of a data file: a change file that begins with `o5m2` in place of `o5c2`, of
+/// any number of objects, none of them deleted, their keys rising.
+///
+/// The place of a fault is the offset of the first dataset that doesn't fit, as in a change file.
+/// That of a change file is 0.
+pub fn read_data(alloc: Global, bytes: &[u8]) -> Result<Vec<Change>, FormError>
+    ensures spelled { IfOk result (λ v. SpellsData bytes.now v.items) }
+    ensures small { OnOk result (length bytes.now ≤ max_file) }
+    ensures refused { IfErr result (ReadRefused SpellsData DataFaultPlace bytes.now) }
+{
+    read_changes::<DataFile>(alloc, &DATA_BEGINNING, bytes)
+}
+
+/// Writes the objects, if they are data, in the spelling of change files.
+pub fn write_data(alloc: Global, objects: &[Change]) -> Result<Vec<u8>, DataError>
+    ensures text { IfOk result (λ v. v.items ≡ o5m_text objects.now) }
+    ensures small { IfOk result (λ v. length v.items ≤ max_file) }
+    ensures data { OnOk result (IsData objects.now) }
+    ensures refused { IfErr result (DataRefused o5m_text objects.now) }
+{
+    if let Some(index) = first_fault(objects) {
+        return Err(DataError::NotData { index });
+    }
+    Ok(write_changes(alloc, &DATA_BEGINNING, objects)?)
+}
+
+/// Tells the prover the laws of data files: objects that bytes spell are data; bytes spell at most
+/// one list of objects; they have at most one place of a fault, and have one exactly if they spell
+/// no objects; the written text of data spells exactly these objects, as `IsShortest` says; bytes
+/// never spell both a batch and objects. Does nothing at run time.
+pub fn laws_of_data()
+    ensures limits { (bytes : List ℕ) (objects : List ChangeValue)
+        → SpellsData bytes objects → IsData objects }
+    ensures one_list { (bytes : List ℕ) (a b : List ChangeValue)
+        → SpellsData bytes a → SpellsData bytes b → a ≡ b }
+    ensures apart { (bytes : List ℕ) (objects : List ChangeValue) (place : ℕ)
+        → SpellsData bytes objects → DataFaultPlace bytes place → ⊥ }
+    ensures one_place { (bytes : List ℕ) (a b : ℕ)
+        → DataFaultPlace bytes a → DataFaultPlace bytes b → a ≡ b }
+    ensures has_place { (bytes : List ℕ)
+        → SpellsNothing SpellsData bytes → (place : ℕ) × DataFaultPlace bytes place }
+    ensures written { (objects : List ChangeValue) → IsData objects
+        → (s : SpellsData (o5m_text objects) objects) × IsShortest s }
+    ensures no_change_file { (bytes : List ℕ) (batch objects : List ChangeValue)
+        → SpellsO5c bytes batch → SpellsData bytes objects → ⊥ }
+{}
