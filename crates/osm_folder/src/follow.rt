@@ -19,8 +19,8 @@ ghost use Rattle.osm_folder.specs.Following.{is_lost, lost_numbers, max_save};
 ghost use Rattle.osm_folder.specs.Forms.{place_of, spells_of};
 ghost use Rattle.osm_folder.specs.Reports.{follow_report_of};
 ghost use Rattle.osm_folder.specs.Runs.{CallsUpTo, ReadsAtLeast, ReadsUpTo, ReplacesAtLeast};
-ghost use Rattle.osm_folder.specs.Steps.Following.{DeliverStops, IsDelivered, IsFresh};
-ghost use Rattle.osm_folder.specs.Steps.Following.{IsNoted, IsTaken, IsTakenUp, LookStops};
+ghost use Rattle.osm_folder.specs.Steps.Following.{DeliverStops, GoOnStops, IsDelivered, IsFresh};
+ghost use Rattle.osm_folder.specs.Steps.Following.{IsMade, IsNoted, IsTaken, IsTakenUp, LookStops};
 ghost use Rattle.osm_folder.specs.Steps.Following.{MadeStops, MissingStops};
 ghost use Rattle.osm_folder.specs.Steps.Following.{StopsOnTheWay, range_of, suffix_of};
 
@@ -102,13 +102,37 @@ fn prepare<S: Store>(
     ensures frame { ReadsAtLeast 2 (S.state store.old) (S.state store.new) result }
 {
     let mut start = read_start(alloc, store, dir, save)?;
-    if start.top.sequence() < number_of(&start.follower) {
+    let top = start.top.sequence();
+    if top < number_of(&start.follower) {
         return Err(RunFault::TopBehind);
     }
-    let top = start.top.sequence();
-    let applied = take_up(alloc, store, dir, top, &mut start.follower)?;
-    let missing = missing(alloc, store, dir, number_of(&start.follower), top)?;
-    make(alloc, &start.follower, missing.as_slice(), applied.as_slice())
+    go_on(alloc, store, dir, top, &mut start.follower)
+}
+
+// Goes on from the start, up to the top or to the first lost number.
+fn go_on<S: Store>(
+    alloc: Global,
+    store: &mut S,
+    dir: &str,
+    top: u32,
+    follower: &mut Follower,
+) -> Result<Following, RunFault>
+    requires fresh { IsFresh follower.old }
+    requires from { follower.old.number ≤ top }
+    requires most { top ≤ max_sequence }
+    ensures made { IfOk result (λ a. IsKnown (S.state store.old)
+        → IsMade (S.state store.old).files dir.now (saved_of follower.old) top
+        a.text.items a.report) }
+    ensures small { IfOk result (λ a. length a.text.items ≤ max_save) }
+    ensures report { IfOk result (λ a. IsFollowReport a.report) }
+    ensures stops { IfErr result (GoOnStops (IsKnown (S.state store.old))
+        dir.now (S.state store.old).files (saved_of follower.old) top) }
+    ensures frame { ReadsUpTo (3 * (top - follower.old.number))
+        (S.state store.old) (S.state store.new) result }
+{
+    let applied = take_up(alloc, store, dir, top, follower)?;
+    let missing = missing(alloc, store, dir, number_of(follower), top)?;
+    make(alloc, follower, missing.as_slice(), applied.as_slice())
 }
 
 // Takes the numbers after the follower's, up to the top or to the first lost one, and gives the
@@ -307,18 +331,33 @@ fn missing<S: Store>(
     ensures frame { ReadsUpTo (3 * (top - (reached + 1)))
         (S.state store.old) (S.state store.new) result }
 {
-    let mut missing = Vec::new(alloc);
     if reached == top {
-        return Ok(missing);
+        return Ok(Vec::new(alloc));
     }
-    missing.push(reached + 1)?;
-    let last = top.min(reached + WINDOW);
+    let mut missing = first_lost(alloc, reached + 1)?;
+    let last = window_end(reached, top);
     for before in reached + 1..last {
         match look(alloc, store, dir, before + 1, &mut missing) {
             Ok(()) => {}
             Err(stop) => return Err(stop),
         }
     }
+    Ok(missing)
+}
+
+// The last number that is looked for.
+fn window_end(reached: u32, top: u32) -> u32
+    requires { reached ≤ max_sequence }
+    ensures { result ≡ min top (reached + 64) }
+{
+    top.min(reached + WINDOW)
+}
+
+fn first_lost(alloc: Global, number: u32) -> Result<Vec<u32>, WantOfMemory>
+    ensures { IfOk result (λ missing. missing.items ≡ number ∷ []) }
+{
+    let mut missing = Vec::new(alloc);
+    missing.push(number)?;
     Ok(missing)
 }
 

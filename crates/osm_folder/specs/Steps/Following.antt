@@ -1,6 +1,6 @@
 -- Steps of a run of the follower. `known` says that it is known what the files hold.
 use Rattle.std.specs.Prelude.{◌≡◌, ℕ, ◌+◌, ◌<◌, ◌≤◌, ◌⊎◌, List, [], ◌∷◌, ◌++◌, length, true, false}
-use Rattle.std.specs.Prelude.{Bool, Option, Some, None, is_some, Vec, Ok}
+use Rattle.std.specs.Prelude.{suc, filter, Bool, Option, Some, None, is_some, Vec, Ok}
 use Rattle.osm_model.specs.ChangeForm.{SpellsNothing}
 use Rattle.osm_model.specs.Limits.{max_file}
 use Rattle.osm_save.specs.Save.{SpellsSave}
@@ -11,15 +11,18 @@ use Rattle.osm_state.specs.declared.paths.Suffix.TheVariants as suffixes
 use Rattle.osm_follow.specs.Delivery.{Delivers, FaultPlaces, Holds, Spelling, Takes}
 use Rattle.osm_follow.specs.Follower.{FollowerValue, held_at}
 use Rattle.osm_follow.specs.Published.{PublishedValue}
+use Rattle.osm_follow.specs.Reach.{numbers}
 use Rattle.osm_follow.specs.Restart.{follower_of, saved_of}
 use Rattle.osm_follow.specs.declared.delivery.Delivered.{Delivered}
 use Rattle.osm_follow.specs.declared.delivery.Delivered.TheVariants.{Old, Again, Held, Applied}
 use Rattle.osm_folder.specs.Files.{Files, IsOver}
 use Rattle.osm_folder.specs.Folder.{IsStateFile, max_state}
 use Rattle.osm_folder.specs.Following.{AddsAll, GoesOn, HasFiles, IsBadSave, IsLookedFor}
-use Rattle.osm_folder.specs.Following.{IsReadable, NumberStops, is_lost, max_save, ranges}
+use Rattle.osm_folder.specs.Following.{IsReached, IsReadable, NumberStops, is_lost, lost_numbers}
+use Rattle.osm_folder.specs.Following.{max_save, ranges}
 use Rattle.osm_folder.specs.Names.{file_name_of}
 use Rattle.osm_folder.specs.Publication.{IsBadState}
+use Rattle.osm_folder.specs.Reports.{ReportValue, follow_report_of}
 use Rattle.osm_folder.specs.declared.fault.FileName.{FileName}
 use Rattle.osm_folder.specs.declared.fault.FileName.TheVariants.{Top, Sequence, Save}
 use Rattle.osm_folder.specs.declared.fault.RunFault.{RunFault}
@@ -181,6 +184,15 @@ pub record IsBeyond (reached top number : ℕ) : Type 0 where
   pub within : number ≤ reached + 64
   pub until : number ≤ top
 
+-- the lost ones of the numbers after the one that was reached are named, up to the last one
+pub record AreNamed (known : Type 0) (files : Files) (dir : List ℕ) (reached top last : ℕ)
+    (missing : List ℕ) : Type 0 where
+  pub count : ℕ
+  pub last_is : last ≡ reached + suc count
+  pub some : 0 < length missing
+  pub named : known → IsReached files dir reached top
+      → missing ≡ filter (is_lost files dir) (numbers reached (suc count))
+
 -- why the lost numbers beyond the first aren't named
 abbrev pub MissingStops : Type 0 → List ℕ → Files → ℕ → ℕ → RunFault → Type 0
 MissingStops known dir files reached top WantOfMemory = Unit {0}
@@ -206,3 +218,42 @@ abbrev pub MadeStops : FollowerValue → RunFault → Type 0
 MadeStops f WantOfMemory = Unit {0}
 MadeStops f (TooLarge file) = (file ≡ Save) × IsBigSave f
 MadeStops f fault = ⊥
+
+-- the text to save and the report of a run that goes on from the start
+pub record IsMade (files : Files) (dir : List ℕ) (start : Saved) (top : ℕ) (text : List ℕ)
+    (report : ReportValue) : Type 0 where
+  pub count : ℕ
+  pub reached : Saved
+  pub goes_on : GoesOn files dir start top count reached
+  pub spelled : SpellsSave text reached
+  pub report_is : report ≡ follow_report_of (ranges start.number count)
+      (lost_numbers files dir reached.number top) reached.number
+
+-- the lost numbers beyond the first aren't named
+pub record StopsBeyond (known : Type 0) (dir : List ℕ) (files : Files) (start : Saved) (top : ℕ)
+    (fault : RunFault) : Type 0 where
+  pub count : ℕ
+  pub reached : Saved
+  pub goes_on : known → GoesOn files dir start top count reached
+  pub stops : MissingStops known dir files reached.number top fault
+
+-- the text to save passes 1 GiB
+pub record IsBig (files : Files) (dir : List ℕ) (start : Saved) (top : ℕ) : Type 0 where
+  pub text : List ℕ
+  pub report : ReportValue
+  pub made : IsMade files dir start top text report
+  pub over : max_save < length text
+
+-- why what was reached from the start isn't saved
+abbrev pub TextStops : Type 0 → List ℕ → Files → Saved → ℕ → RunFault → Type 0
+TextStops known dir files start top WantOfMemory = Unit {0}
+TextStops known dir files start top (TooLarge file) =
+    (file ≡ Save) × (known → IsBig files dir start top)
+TextStops known dir files start top fault = ⊥
+
+-- why a run doesn't go on from the start
+abbrev pub GoOnStops : Type 0 → List ℕ → Files → Saved → ℕ → RunFault → Type 0
+GoOnStops known dir files start top fault =
+    StopsOnTheWay known dir files start.number top fault
+    ⊎ StopsBeyond known dir files start top fault
+    ⊎ TextStops known dir files start top fault
