@@ -5,7 +5,7 @@ ghost use Rattle.osm_disk.specs.Counts.{Counts, state_of};
 ghost use Rattle.osm_folder.specs.Files.{HasFailed, IsWithin, NeverTooLarge};
 ghost use Rattle.osm_folder.specs.Frames.{IsDevice, ReadsBetween, ReplacesBetween};
 
-use crate::reading::{cause_of, read_file, read_prefix};
+use crate::reading::{cause_of, is_there, read_file, read_prefix};
 use crate::replacing::write_file;
 use osm_folder::store::{Store, StoreError};
 use std::alloc::Global;
@@ -88,6 +88,19 @@ impl<R: Files> Store for DiskStore<R> {
     {
         match read_prefix(alloc, &self.files, name, most) {
             Ok(found) => Ok(found),
+            Err(error) => Err(self.count_failure(error)),
+        }
+    }
+
+    fn is_there(&mut self, name: &str) -> Result<bool, StoreError>
+        ensures refused { IfErr result NeverTooLarge }
+        ensures frame { ReadsBetween IsDevice 1 1
+            (state_of self.old) (state_of self.new) result }
+        ensures none { OnOk result (self.new.failures ≡ self.old.failures) }
+        ensures counted { IfErr result (Counts self.old.failures self.new.failures) }
+    {
+        match is_there(&self.files, name) {
+            Ok(is_there) => Ok(is_there),
             Err(error) => Err(self.count_failure(error)),
         }
     }

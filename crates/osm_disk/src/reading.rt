@@ -1,4 +1,4 @@
-//! Reading a file whole, up to a limit, and reading a prefix of one.
+//! Reading a file whole, up to a limit, reading a prefix of one, and asking whether one is there.
 
 ghost use Rattle.std.specs.Prelude.{◌≡◌, ℕ, ◌≤◌, ◌<◌, length, take, IfErr, IfOk, IfSome};
 ghost use Rattle.osm_disk.specs.Reading.{IsTooLongOnly, cause};
@@ -74,6 +74,16 @@ fn cut(bytes: &mut Vec<u8>, most: u64)
 {
     if bytes.len() as u64 > most {
         bytes.truncate(most as usize);
+    }
+}
+
+/// Whether there is a file or a folder at the path. Links are followed.
+pub fn is_there<R: Files>(files: &R, path: &str) -> Result<bool, StoreError>
+    ensures refused { IfErr result NeverTooLarge }
+{
+    match fs::exists(files, path) {
+        Ok(is_there) => Ok(is_there),
+        Err(error) => Err(cause_of(&error)),
     }
 }
 

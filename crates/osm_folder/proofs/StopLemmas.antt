@@ -1,21 +1,19 @@
 -- Why a run of the follower stops, and what the folder of published sequences refuses.
-use Rattle.std.proofs.Common.{◌≡◌, ℕ, ◌<◌, ◌≤◌, List, length, Option, Some, None, inl, inr, arith, refl, ap}
+use Rattle.std.specs.Prelude.{◌⊎◌}
+use Rattle.std.proofs.Common.{◌≡◌, ℕ, ◌<◌, ◌≤◌, List, length, Option, Some, None, inl, inr, arith, refl, ap, subst}
 use Rattle.std.proofs.lemmas.Option.{same_Some}
 use Rattle.osm_save.specs.Save.{SpellsSave}
 use Rattle.osm_save.specs.declared.save.Saved.{Saved}
 use Rattle.osm_state.specs.State.{StateValue}
 use Rattle.osm_state.specs.StateLaws.{NoFaultBesideState}
 use Rattle.osm_state.specs.declared.paths.Suffix.TheVariants.{O5c, Opl, State}
-use Rattle.osm_follow.specs.Follower.{FollowerValue}
 use Rattle.osm_follow.specs.Published.{PublishedValue, sequence_at}
-use Rattle.osm_follow.specs.Restart.{saved_of}
 use Rattle.osm_folder.specs.Files.{Files}
 use Rattle.osm_folder.specs.Folder.{IsFolderOf, IsTop}
-use Rattle.osm_folder.specs.Following.{FollowRefuses, FollowStops, HasText, IsBadSave, IsFollowing, IsSaveOf, IsSaved}
+use Rattle.osm_folder.specs.Following.{BeyondStops, FollowRefuses, FollowStops, GoesOn, HasText, IsBadSave, IsFollowing, IsSaveOf, IsSaved}
 use Rattle.osm_folder.specs.Following.{IsStarted, NumberStops, SaveStops, StartRefuses, StartStops, max_save}
 use Rattle.osm_folder.specs.Names.{file_name_of, top_name_of}
-use Rattle.osm_folder.specs.Reports.{ReportValue}
-use Rattle.osm_folder.specs.Steps.Following.{MadeStops, StopsOnTheWay}
+use Rattle.osm_folder.specs.Steps.Following.{GoOnStops, MissingStops, StopsOnTheWay, TextStops}
 use Rattle.osm_folder.specs.Steps.Reading.{PutStops}
 use Rattle.osm_folder.specs.declared.fault.FileName.TheVariants.{Top, Sequence, Save}
 use Rattle.osm_folder.specs.declared.fault.RunFault.{RunFault}
@@ -23,9 +21,10 @@ use Rattle.osm_folder.specs.declared.fault.RunFault.TheVariants.{WantOfMemory, R
 use Rattle.osm_folder.specs.declared.fault.RunFault.TheVariants.{BadState, Mismatch, BadChange, BadSave, TopBehind}
 use Rattle.osm_folder.proofs.InStepLemmas.{not_bad, not_faulty, not_faulty_opl, not_other, not_over, one_saved, reached_of, top_number}
 use Rattle.osm_folder.proofs.RefusalLemmas.{good_top, small_top}
+use Rattle.osm_folder.proofs.ReportLemmas.{following}
 
 -- a number on the way
-pub way_stops : (known : Type 0) (dir save : List ℕ) (files : Files) (start : Saved) (top : StateValue)
+way_stops : (known : Type 0) (dir save : List ℕ) (files : Files) (start : Saved) (top : StateValue)
     (fault : RunFault) → (known → IsStarted dir save files start top)
     → StopsOnTheWay known dir files start.number top.sequence fault → FollowStops known dir save files fault
 way_stops known dir save files start top fault started way = inr (inl (record {
@@ -37,25 +36,63 @@ way_stops known dir save files start top fault started way = inr (inl (record {
     above = next.above;
     until = next.until;
     each = next.each;
-    window = next.window;
   });
   stops = way.stops;
 }))
 
+-- a number beyond the first lost one
+beyond_stops : (known : Type 0) (dir save : List ℕ) (files : Files) (start : Saved) (top : StateValue) (fault : RunFault)
+    → (known → IsStarted dir save files start top) → (count : ℕ) (reached : Saved)
+    → (known → GoesOn files dir start top.sequence count reached)
+    → MissingStops known dir files reached.number top.sequence fault → BeyondStops known dir save files fault
+beyond_stops known dir save files start top WantOfMemory started count reached goes_on stops = tt
+beyond_stops known dir save files start top (ReadFault (Sequence number suffix)) started count reached goes_on stops =
+    λ yes. (
+      record {
+        start = start;
+        top = top;
+        started = started yes;
+        count = count;
+        reached = reached;
+        goes_on = goes_on yes;
+        beyond = stops.0.beyond;
+        within = stops.0.within;
+        until = stops.0.until;
+      },
+      stops.1 yes,
+    )
+beyond_stops known dir save files start top fault started count reached goes_on stops = absurd stops
+
 -- the save that is to be written
-pub made_stops : (known : Type 0) (dir save : List ℕ) (files : Files) (f : FollowerValue) (fault : RunFault)
-    → (known → (text : List ℕ) → SpellsSave text (saved_of f) → (report : ReportValue)
-    × IsFollowing dir save files text report) → MadeStops f fault → FollowStops known dir save files fault
-made_stops known dir save files f WantOfMemory run stops = inr (inr tt)
-made_stops known dir save files f (TooLarge file) run (is, big) =
-    rw is (inr (inr (λ yes. (let r = run yes big.text big.spelled in (big.text, r.0, r.1, big.over)))))
-made_stops known dir save files f fault run stops = absurd stops
+text_stops : (known : Type 0) (dir save : List ℕ) (files : Files) (start : Saved) (top : StateValue) (fault : RunFault)
+    → (known → IsStarted dir save files start top) → TextStops known dir files start top.sequence fault
+    → SaveStops known dir save files fault
+text_stops known dir save files start top WantOfMemory started stops = tt
+text_stops known dir save files start top (TooLarge file) started stops =
+    rw stops.0 (λ yes. (let big = stops.1 yes in
+        (
+          big.text,
+          big.report,
+          following dir save files start top top.sequence big.text big.report (started yes) refl big.made,
+          big.over,
+        )))
+text_stops known dir save files start top fault started stops = absurd stops
+
+pub go_on_stops : (known : Type 0) (dir save : List ℕ) (files : Files) (start : Saved) (top : StateValue) (last : ℕ)
+    (fault : RunFault) → (known → IsStarted dir save files start top) → last ≡ top.sequence
+    → GoOnStops known dir files start last fault → FollowStops known dir save files fault
+go_on_stops known dir save files start top last fault started same stops = by_reason (subst (λ n. GoOnStops known dir files start n fault) same stops)
+  where
+    by_reason : GoOnStops known dir files start top.sequence fault → FollowStops known dir save files fault
+    by_reason (inl way) = way_stops known dir save files start top fault started way
+    by_reason (inr (inl b)) = inr (inr (inl (beyond_stops known dir save files start top fault started b.count b.reached b.goes_on b.stops)))
+    by_reason (inr (inr t)) = inr (inr (inr (text_stops known dir save files start top fault started t)))
 
 pub put_save_stops : (known : Type 0) (dir save : List ℕ) (files : Files) (fault : RunFault)
     → (known → HasText dir save files (λ text. length text ≤ max_save)) → PutStops Save fault
     → FollowStops known dir save files fault
-put_save_stops known dir save files WantOfMemory has stops = inr (inr tt)
-put_save_stops known dir save files (WriteFault file) has stops = rw stops (inr (inr has))
+put_save_stops known dir save files WantOfMemory has stops = inr (inr (inr tt))
+put_save_stops known dir save files (WriteFault file) has stops = rw stops (inr (inr (inr has)))
 put_save_stops known dir save files fault has stops = absurd stops
 
 pub put_save_refuses : (ps : List PublishedValue) (told : Option (List ℕ)) (fault : RunFault) → PutStops Save fault → FollowRefuses ps told fault
@@ -118,6 +155,12 @@ number_refuses law known ps dir files told k (BadChange (Sequence j Opl) place w
     (h.1 sure).1
 number_refuses law known ps dir files told k fault sure folder above within h = absurd h
 
+beyond_refuses : (known : Type 0) (dir save : List ℕ) (ps : List PublishedValue) (files : Files) (told : Option (List ℕ))
+    (fault : RunFault) → BeyondStops known dir save files fault → FollowRefuses ps told fault
+beyond_refuses known dir save ps files told WantOfMemory h = tt
+beyond_refuses known dir save ps files told (ReadFault (Sequence k s)) h = tt
+beyond_refuses known dir save ps files told fault h = absurd h
+
 save_refuses : (known : Type 0) (ps : List PublishedValue) (number : ℕ) (dir save : List ℕ) (files : Files)
     (fault : RunFault) → known → IsFolderOf ps files dir → IsSaveOf ps number (files save)
     → SaveStops known dir save files fault → FollowRefuses ps (files save) fault
@@ -140,4 +183,5 @@ follow_refuses law known ps number dir save files fault sure folder saved (inr (
     let until = c.until in
     let top_is = top_number ps (files (top_name_of dir)) c.top folder.sequences folder.top c.started.top_is in
     number_refuses law known ps dir files (files save) h.number fault sure folder (omega arith) (omega (arith, top_is)) h.stops
-follow_refuses law known ps number dir save files fault sure folder saved (inr (inr h)) = save_refuses known ps number dir save files fault sure folder saved h
+follow_refuses law known ps number dir save files fault sure folder saved (inr (inr (inl h))) = beyond_refuses known dir save ps files (files save) fault h
+follow_refuses law known ps number dir save files fault sure folder saved (inr (inr (inr h))) = save_refuses known ps number dir save files fault sure folder saved h

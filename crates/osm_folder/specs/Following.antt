@@ -58,10 +58,9 @@ pub record HasFiles (files : Files) (dir : List ℕ) (p : PublishedValue) : Type
   pub changes : AreChanges (files (file_name_of dir p.number O5c))
       (files (file_name_of dir p.number Opl)) p
 
--- a number is lost, or its files are there and right
+-- the files of a number are there and right
 abbrev pub IsReadable : Files → List ℕ → ℕ → Type 0
-IsReadable files dir k =
-    (is_lost files dir k ≡ true) ⊎ ((p : PublishedValue) × (p.number ≡ k) × HasFiles files dir p)
+IsReadable files dir k = (p : PublishedValue) × (p.number ≡ k) × HasFiles files dir p
 
 -- the next number's changes are applied
 pub record Adds (files : Files) (dir : List ℕ) (old new : Saved) : Type 0 where
@@ -86,17 +85,18 @@ ranges n count = map (λ k. (k, k)) (numbers n count)
 abbrev pub lost_numbers : Files → List ℕ → ℕ → ℕ → List ℕ
 lost_numbers files dir n top = filter (is_lost files dir) (numbers n (min 64 (top - n)))
 
+-- a number is the top, or comes before a lost one
+abbrev pub IsReached : Files → List ℕ → ℕ → ℕ → Type 0
+IsReached files dir number top = (number ≡ top) ⊎ (is_lost files dir (number + 1) ≡ true)
+
 -- what was reached from the start: the changes of `count` numbers after it are applied, up to the
--- top or to a lost number. The numbers after that, up to the top and within the window, are lost or
--- right
+-- top or to a lost number. Nothing is asked of the files beyond that one
 pub record GoesOn (files : Files) (dir : List ℕ) (start : Saved) (top count : ℕ) (reached : Saved) :
     Type 0 where
   pub added : AddsAll files dir count start reached
   pub number : reached.number ≡ start.number + count
   pub until : reached.number ≤ top
-  pub far : (reached.number ≡ top) ⊎ (is_lost files dir (reached.number + 1) ≡ true)
-  pub each : (k : ℕ) → reached.number < k → k ≤ top → k ≤ reached.number + 64
-      → IsReadable files dir k
+  pub far : IsReached files dir reached.number top
 
 -- the save and the top state were read
 pub record IsStarted (dir save : List ℕ) (files : Files) (start : Saved) (top : StateValue) :
@@ -169,8 +169,8 @@ StartStops known dir save files (BadState Top cause) =
 StartStops known dir save files TopBehind = known → IsTopBehind dir save files
 StartStops known dir save files fault = ⊥
 
--- a number is read: it is after the save's and at most the top's, those between are lost or right,
--- and those 64 or more below it aren't lost
+-- a number is read: it is after the save's and at most the top's, and those between are right, so
+-- none of them is lost
 pub record ComesTo (dir save : List ℕ) (files : Files) (number : ℕ) : Type 0 where
   pub start : Saved
   pub top : StateValue
@@ -178,7 +178,6 @@ pub record ComesTo (dir save : List ℕ) (files : Files) (number : ℕ) : Type 0
   pub above : start.number < number
   pub until : number ≤ top.sequence
   pub each : (k : ℕ) → start.number < k → k < number → IsReadable files dir k
-  pub window : (k : ℕ) → start.number < k → k + 64 ≤ number → is_lost files dir k ≡ false
 
 -- the state of a number is right
 abbrev pub HasState : Files → List ℕ → ℕ → Type 0
@@ -231,6 +230,35 @@ pub record StopsAt (known : Type 0) (dir save : List ℕ) (files : Files) (fault
   pub comes : known → ComesTo dir save files number
   pub stops : NumberStops known dir files number fault
 
+-- a number beyond the first lost one is looked for: up to the top, and to 64 after the number that
+-- was reached
+pub record LooksFor (dir save : List ℕ) (files : Files) (number : ℕ) : Type 0 where
+  pub start : Saved
+  pub top : StateValue
+  pub started : IsStarted dir save files start top
+  pub count : ℕ
+  pub reached : Saved
+  pub goes_on : GoesOn files dir start top.sequence count reached
+  pub beyond : reached.number + 1 < number
+  pub within : number ≤ reached.number + 64
+  pub until : number ≤ top.sequence
+
+-- when a file of a number is looked for: a change file only if the state is there, and the OPL file
+-- only if there is no o5c file
+abbrev pub IsLookedFor : Files → List ℕ → ℕ → Suffix → Type 0
+IsLookedFor files dir number State = Unit {0}
+IsLookedFor files dir number O5c = is_none (files (file_name_of dir number State)) ≡ false
+IsLookedFor files dir number Opl =
+    (is_none (files (file_name_of dir number State)) ≡ false)
+    × (files (file_name_of dir number O5c) ≡ None)
+
+-- why the lost numbers beyond the first aren't named: never for what a file there holds
+abbrev pub BeyondStops : Type 0 → List ℕ → List ℕ → Files → RunFault → Type 0
+BeyondStops known dir save files WantOfMemory = Unit {0}
+BeyondStops known dir save files (ReadFault (Sequence number suffix)) =
+    known → LooksFor dir save files number × IsLookedFor files dir number suffix
+BeyondStops known dir save files fault = ⊥
+
 -- everything was read, and this holds of the text to save
 abbrev pub HasText : List ℕ → List ℕ → Files → (List ℕ → Type 0) → Type 0
 HasText dir save files holds =
@@ -245,11 +273,12 @@ SaveStops known dir save files (WriteFault Save) =
     known → HasText dir save files (λ text. length text ≤ max_save)
 SaveStops known dir save files fault = ⊥
 
--- why a run of the follower stops: at the save or the top state, at a number, or at what it saves
+-- why a run of the follower stops: at the save or the top state, at a number up to the first lost
+-- one, beyond it, or at what it saves
 abbrev pub FollowStops : Type 0 → List ℕ → List ℕ → Files → RunFault → Type 0
 FollowStops known dir save files fault =
     StartStops known dir save files fault ⊎ StopsAt known dir save files fault
-    ⊎ SaveStops known dir save files fault
+    ⊎ BeyondStops known dir save files fault ⊎ SaveStops known dir save files fault
 
 -- exactly the mirror, the counts and the time of published sequences 1 to the number
 pub record IsInStep (published : List PublishedValue) (v : Saved) : Type 0 where

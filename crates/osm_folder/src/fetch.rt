@@ -1,7 +1,7 @@
 //! Reading the files of a sequence.
 
 ghost use Rattle.std.specs.Prelude.{◌≡◌, ℕ, ◌≤◌, true, IfErr, IfOk, IfNone, OnOk};
-ghost use Rattle.std.specs.Prelude.{MatchOption, length};
+ghost use Rattle.std.specs.Prelude.{MatchOption, is_some, length};
 ghost use Rattle.osm_model.specs.Limits.{max_sequence};
 ghost use Rattle.osm_folder.specs.Files.{IsWithin, Tells};
 ghost use Rattle.osm_folder.specs.Folder.{IsStateFile, max_state};
@@ -11,10 +11,11 @@ ghost use Rattle.osm_folder.specs.Names.{file_name_of};
 ghost use Rattle.osm_folder.specs.Runs.{Reads, ReadsUpTo};
 ghost use Rattle.osm_folder.specs.Steps.Following.{AreChangesRead, IsFetched, IsStateRead};
 ghost use Rattle.osm_folder.specs.Steps.Following.{StateTextStops};
-ghost use Rattle.osm_folder.specs.Steps.Reading.{FileStops};
+ghost use Rattle.osm_folder.specs.Steps.Following.{LookStops};
+ghost use Rattle.osm_folder.specs.Steps.Reading.{FileStops, PrefixStops};
 
 use crate::fault::{FileName, RunFault};
-use crate::files::{MAX_STATE, read_file};
+use crate::files::{MAX_STATE, is_there, read_file};
 use crate::form::Form;
 use crate::names::file_name;
 use crate::store::Store;
@@ -139,6 +140,51 @@ fn read_numbered<S: Store>(
     let name = file_name(alloc, dir, number, suffix)?;
     let file = FileName::Sequence(number, suffix);
     read_file(alloc, store, file, name.as_str(), limit(suffix))
+}
+
+// Whether a number is lost, from which of its files are there. The OPL file is looked for only if
+// the state is there and the o5c file isn't.
+pub(crate) fn lacks_files<S: Store>(
+    alloc: Global,
+    store: &mut S,
+    dir: &str,
+    number: u32,
+) -> Result<bool, RunFault>
+    requires { number ≤ max_sequence }
+    ensures lost { IfOk result (λ lost. IsKnown (S.state store.old)
+        → lost ≡ is_lost (S.state store.old).files dir.now number) }
+    ensures stops { IfErr result
+        (LookStops (IsKnown (S.state store.old)) dir.now (S.state store.old).files number) }
+    ensures frame { ReadsUpTo 3 (S.state store.old) (S.state store.new) result }
+{
+    let has_state = has_file(alloc, store, dir, number, Suffix::State)?;
+    if !has_state {
+        return Ok(true);
+    }
+    let has_o5c = has_file(alloc, store, dir, number, Suffix::O5c)?;
+    if has_o5c {
+        return Ok(false);
+    }
+    let has_opl = has_file(alloc, store, dir, number, Suffix::Opl)?;
+    Ok(!has_opl)
+}
+
+// Whether a file of a number is there.
+fn has_file<S: Store>(
+    alloc: Global,
+    store: &mut S,
+    dir: &str,
+    number: u32,
+    suffix: Suffix,
+) -> Result<bool, RunFault>
+    requires { number ≤ max_sequence }
+    ensures there { IfOk result (λ is_there. IsKnown (S.state store.old)
+        → is_there ≡ is_some ((S.state store.old).files (file_name_of dir.now number suffix))) }
+    ensures stops { IfErr result (PrefixStops (FileName.Sequence number suffix)) }
+    ensures frame { Reads 1 (S.state store.old) (S.state store.new) result }
+{
+    let name = file_name(alloc, dir, number, suffix)?;
+    is_there(store, FileName::Sequence(number, suffix), name.as_str())
 }
 
 fn limit(suffix: Suffix) -> u64

@@ -1,6 +1,6 @@
 //! Reading and writing the files of a run.
 
-ghost use Rattle.std.specs.Prelude.{◌≡◌, ◌≤◌, Some, IfErr, IfOk, OnOk, length};
+ghost use Rattle.std.specs.Prelude.{◌≡◌, ◌≤◌, Some, IfErr, IfOk, OnOk, is_some, length};
 ghost use Rattle.osm_folder.specs.Files.{IsWithin, Puts, Tells, prefix_of};
 ghost use Rattle.osm_folder.specs.Frames.{IsKnown};
 ghost use Rattle.osm_folder.specs.Runs.{Reads, Replaces};
@@ -76,6 +76,25 @@ pub(crate) fn read_present<S: Store>(
         Ok(Some(bytes)) => Ok(bytes),
         Ok(None) => Err(RunFault::Absent(file)),
         Err(fault) => Err(fault),
+    }
+}
+
+// Whether a file is there.
+pub(crate) fn is_there<S: Store>(
+    store: &mut S,
+    file: FileName,
+    name: &str,
+) -> Result<bool, RunFault>
+    ensures there { IfOk result (λ is_there. IsKnown (S.state store.old)
+        → is_there ≡ is_some ((S.state store.old).files name.now)) }
+    ensures stops { IfErr result (PrefixStops file) }
+    ensures frame { Reads 1 (S.state store.old) (S.state store.new) result }
+{
+    match store.is_there(name) {
+        Ok(is_there) => Ok(is_there),
+        Err(StoreError::Device) => Err(RunFault::ReadFault(file)),
+        Err(StoreError::TooLarge) => unreachable!(),
+        Err(StoreError::WantOfMemory) => Err(RunFault::WantOfMemory),
     }
 }
 

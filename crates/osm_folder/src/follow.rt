@@ -1,28 +1,31 @@
 //! Following a folder from a save.
 
-ghost use Rattle.std.specs.Prelude.{◌≡◌, ℕ, ◌+◌, ◌-◌, ◌*◌, ◌<◌, ◌≤◌, ◌++◌, List, None, true};
-ghost use Rattle.std.specs.Prelude.{false, IfErr, IfOk, OnOk, length};
+ghost use Rattle.std.specs.Prelude.{◌≡◌, ℕ, ◌+◌, ◌-◌, ◌*◌, ◌<◌, ◌≤◌, ◌↔◌, ◌++◌, ◌∷◌, [], List};
+ghost use Rattle.std.specs.Prelude.{None, true, false, IfErr, IfOk, OnOk, cond, filter, length};
+ghost use Rattle.std.specs.Prelude.{min};
 ghost use Rattle.osm_model.specs.Limits.{max_file, max_sequence};
 ghost use Rattle.osm_save.specs.Save.{SpellsSave};
 ghost use Rattle.osm_state.specs.State.{StateValue};
 ghost use Rattle.osm_follow.specs.Delivery.{IsDue};
-ghost use Rattle.osm_follow.specs.Follower.{held_at, is_held};
+ghost use Rattle.osm_follow.specs.Follower.{held_at};
 ghost use Rattle.osm_follow.specs.Published.{PublishedValue};
-ghost use Rattle.osm_follow.specs.Reach.{missing_numbers};
 ghost use Rattle.osm_follow.specs.Restart.{saved_of};
+ghost use Rattle.osm_folder.specs.Files.{SpendsAtMost};
 ghost use Rattle.osm_folder.specs.Folder.{IsFolderOf};
 ghost use Rattle.osm_folder.specs.Frames.{IsKnown};
 ghost use Rattle.osm_folder.specs.Following.{FollowStops, FollowsOver, IsFollowReport, IsFollowed};
-ghost use Rattle.osm_folder.specs.Following.{IsFollowing, IsSaveOf, NumberStops, max_save};
+ghost use Rattle.osm_folder.specs.Following.{IsFollowing, IsReached, IsSaveOf, NumberStops};
+ghost use Rattle.osm_folder.specs.Following.{is_lost, lost_numbers, max_save};
 ghost use Rattle.osm_folder.specs.Forms.{place_of, spells_of};
 ghost use Rattle.osm_folder.specs.Reports.{follow_report_of};
 ghost use Rattle.osm_folder.specs.Runs.{CallsUpTo, ReadsAtLeast, ReadsUpTo, ReplacesAtLeast};
-ghost use Rattle.osm_folder.specs.Steps.Following.{DeliverStops, IsDelivered, IsFresh};
-ghost use Rattle.osm_folder.specs.Steps.Following.{IsNoted, IsTaken, IsTakenUp, MadeStops};
+ghost use Rattle.osm_folder.specs.Steps.Following.{DeliverStops, GoOnStops, IsDelivered, IsFresh};
+ghost use Rattle.osm_folder.specs.Steps.Following.{IsMade, IsNoted, IsTaken, IsTakenUp, LookStops};
+ghost use Rattle.osm_folder.specs.Steps.Following.{MadeStops, MissingStops};
 ghost use Rattle.osm_folder.specs.Steps.Following.{StopsOnTheWay, range_of, suffix_of};
 
 use crate::fault::{FileName, RunFault};
-use crate::fetch::{Fetched, fetch};
+use crate::fetch::{Fetched, fetch, lacks_files};
 use crate::files::write_file;
 use crate::form::Form;
 use crate::report::{Report, follow_report};
@@ -37,10 +40,9 @@ use osm_o5c::o5c::O5c;
 use osm_opl::opl::Opl;
 use osm_state::laws::laws_of_state;
 use osm_state::paths::Suffix;
-use osm_state::state::State;
 use std::alloc::Global;
 
-// How many numbers after its own a follower may hold.
+// How far after the number that was reached lost numbers are named.
 const WINDOW: u32 = 64;
 
 // What a run saves and prints.
@@ -52,8 +54,9 @@ struct Following {
 
 /// Follows a folder from a save, or from the start if there is none, up to the folder's newest
 /// state or to the first lost number, and writes the save. A number is lost if its state isn't
-/// there, or its changes in neither form; numbers after it are read up to the end of the follower's
-/// window, but not saved. A refusal leaves all files as they were.
+/// there, or its changes in neither form. The lost numbers are named, up to 64 after the one that
+/// was reached: of those beyond the first it is asked only which files are there, so a faulty file
+/// there is no fault of the run. A refusal leaves all files as they were.
 pub fn follow_run<S: Store>(
     alloc: Global,
     store: &mut S,
@@ -99,14 +102,40 @@ fn prepare<S: Store>(
     ensures frame { ReadsAtLeast 2 (S.state store.old) (S.state store.new) result }
 {
     let mut start = read_start(alloc, store, dir, save)?;
-    if start.top.sequence() < number_of(&start.follower) {
+    let top = start.top.sequence();
+    if top < number_of(&start.follower) {
         return Err(RunFault::TopBehind);
     }
-    let applied = take_up(alloc, store, dir, start.top.sequence(), &mut start.follower)?;
-    make(alloc, &start.follower, &start.top, applied.as_slice())
+    go_on(alloc, store, dir, top, &mut start.follower)
 }
 
-// Takes the numbers after the follower's, up to the top or to the end of its window, and gives the
+// Goes on from the start, up to the top or to the first lost number.
+fn go_on<S: Store>(
+    alloc: Global,
+    store: &mut S,
+    dir: &str,
+    top: u32,
+    follower: &mut Follower,
+) -> Result<Following, RunFault>
+    requires fresh { IsFresh follower.old }
+    requires from { follower.old.number ≤ top }
+    requires most { top ≤ max_sequence }
+    ensures made { IfOk result (λ a. IsKnown (S.state store.old)
+        → IsMade (S.state store.old).files dir.now (saved_of follower.old) top
+        a.text.items a.report) }
+    ensures small { IfOk result (λ a. length a.text.items ≤ max_save) }
+    ensures report { IfOk result (λ a. IsFollowReport a.report) }
+    ensures stops { IfErr result (GoOnStops (IsKnown (S.state store.old))
+        dir.now (S.state store.old).files (saved_of follower.old) top) }
+    ensures frame { ReadsUpTo (3 * (top - follower.old.number))
+        (S.state store.old) (S.state store.new) result }
+{
+    let applied = take_up(alloc, store, dir, top, follower)?;
+    let missing = missing(alloc, store, dir, number_of(follower), top)?;
+    make(alloc, follower, missing.as_slice(), applied.as_slice())
+}
+
+// Takes the numbers after the follower's, up to the top or to the first lost one, and gives the
 // ranges that were applied.
 fn take_up<S: Store>(
     alloc: Global,
@@ -124,21 +153,23 @@ fn take_up<S: Store>(
         dir.now (S.state store.old).files follower.old.number top) }
     ensures frame { ReadsUpTo (3 * (top - follower.old.number))
         (S.state store.old) (S.state store.new) result }
+    ensures spent { OnOk result (SpendsAtMost
+        (3 * (min top (follower.new.number + 1) - follower.old.number))
+        (S.state store.old).left (S.state store.new).left) }
 {
     let mut applied = Vec::new(alloc);
     for before in number_of(follower)..top {
-        if before >= number_of(follower) + WINDOW {
-            return Ok(applied);
-        }
         match take(alloc, store, dir, before + 1, follower, &mut applied) {
-            Ok(()) => {}
+            Ok(true) => {}
+            Ok(false) => return Ok(applied),
             Err(fault) => return Err(fault),
         }
     }
     Ok(applied)
 }
 
-// Takes a number's files, unless it is lost, and adds the range that was applied.
+// Takes a number's files, unless it is lost, and adds the range that was applied. Tells whether it
+// was taken.
 fn take<S: Store>(
     alloc: Global,
     store: &mut S,
@@ -146,21 +177,23 @@ fn take<S: Store>(
     number: u32,
     follower: &mut Follower,
     applied: &mut Vec<(u32, u32)>,
-) -> Result<(), RunFault>
+) -> Result<bool, RunFault>
     requires whole { follower.old.is_broken ≡ false }
     requires above { follower.old.number < number }
     requires within { number ≤ follower.old.number + 64 }
     requires fresh { held_at follower.old number ≡ None }
     requires most { number ≤ max_sequence }
-    ensures taken { OnOk result (IsNoted (IsKnown (S.state store.old)) (S.state store.old).files
-        dir.now number follower.old follower.new applied.old.items applied.new.items) }
+    ensures taken { IfOk result (λ is_taken. IsNoted (IsKnown (S.state store.old))
+        (S.state store.old).files dir.now number follower.old follower.new
+        applied.old.items applied.new.items is_taken) }
     ensures stops { IfErr result
         (NumberStops (IsKnown (S.state store.old)) dir.now (S.state store.old).files number) }
     ensures frame { ReadsUpTo 3 (S.state store.old) (S.state store.new) result }
 {
     let taken = deliver_number(alloc, store, dir, number, follower)?;
+    let is_taken = taken.is_some();
     note(taken, applied)?;
-    Ok(())
+    Ok(is_taken)
 }
 
 fn note(taken: Option<Delivered>, applied: &mut Vec<(u32, u32)>) -> Result<(), WantOfMemory>
@@ -258,37 +291,105 @@ fn deliver<F: ChangeForm>(
     }
 }
 
-// The save and the report of a follower that took all it could up to the top.
+// The save of a follower, and the report of the ranges that it applied and the numbers that are
+// missing after it.
 fn make(
     alloc: Global,
     follower: &Follower,
-    top: &State,
+    missing: &[u32],
     applied: &[(u32, u32)],
 ) -> Result<Following, RunFault>
     requires whole { follower.now.is_broken ≡ false }
     ensures spelled { IfOk result (λ a. SpellsSave a.text.items (saved_of follower.now)) }
     ensures small { IfOk result (λ a. length a.text.items ≤ max_save) }
-    ensures report { IfOk result (λ a. a.report ≡ follow_report_of applied.now
-        (missing_numbers (is_held follower.now) follower.now.number top.now.sequence)
-        follower.now.number) }
+    ensures report { IfOk result (λ a.
+        a.report ≡ follow_report_of applied.now missing.now follower.now.number) }
     ensures stops { IfErr result (MadeStops follower.now) }
 {
-    let missing = missing(alloc, follower, top)?;
-    let report = follow_report(alloc, applied, missing.as_slice(), number_of(follower))?;
+    let report = follow_report(alloc, applied, missing, number_of(follower))?;
     let text = save(alloc, follower)?;
     Ok(Following { text, report })
 }
 
-fn missing(alloc: Global, follower: &Follower, top: &State) -> Result<Vec<u32>, WantOfMemory>
-    requires { follower.now.is_broken ≡ false }
-    ensures { IfOk result (λ missing. missing.items
-        ≡ missing_numbers (is_held follower.now) follower.now.number top.now.sequence) }
+// The lost numbers of the window after the one that was reached, which is the top or comes before a
+// lost one. It asks only which files are there.
+fn missing<S: Store>(
+    alloc: Global,
+    store: &mut S,
+    dir: &str,
+    reached: u32,
+    top: u32,
+) -> Result<Vec<u32>, RunFault>
+    requires until { reached ≤ top }
+    requires most { top ≤ max_sequence }
+    ensures missing { IfOk result (λ missing. IsKnown (S.state store.old)
+        → IsReached (S.state store.old).files dir.now reached top
+        → missing.items ≡ lost_numbers (S.state store.old).files dir.now reached top) }
+    ensures gap { IfOk result (λ missing. (missing.items ≡ []) ↔ (reached ≡ top)) }
+    ensures stops { IfErr result (MissingStops (IsKnown (S.state store.old))
+        dir.now (S.state store.old).files reached top) }
+    ensures frame { ReadsUpTo (3 * (top - (reached + 1)))
+        (S.state store.old) (S.state store.new) result }
 {
-    match follower.missing(alloc, top) {
-        Ok(missing) => Ok(missing),
-        Err(ViewError::WantOfMemory) => Err(WantOfMemory),
-        Err(ViewError::Broken) => unreachable!(),
+    if reached == top {
+        return Ok(Vec::new(alloc));
     }
+    let mut missing = first_lost(alloc, reached + 1)?;
+    let last = window_end(reached, top);
+    for before in reached + 1..last {
+        match look(alloc, store, dir, before + 1, &mut missing) {
+            Ok(()) => {}
+            Err(stop) => return Err(stop),
+        }
+    }
+    Ok(missing)
+}
+
+// The last number that is looked for.
+fn window_end(reached: u32, top: u32) -> u32
+    requires { reached ≤ max_sequence }
+    ensures { result ≡ min top (reached + 64) }
+{
+    top.min(reached + WINDOW)
+}
+
+fn first_lost(alloc: Global, number: u32) -> Result<Vec<u32>, WantOfMemory>
+    ensures { IfOk result (λ missing. missing.items ≡ number ∷ []) }
+{
+    let mut missing = Vec::new(alloc);
+    missing.push(number)?;
+    Ok(missing)
+}
+
+// Adds the number if it is lost.
+fn look<S: Store>(
+    alloc: Global,
+    store: &mut S,
+    dir: &str,
+    number: u32,
+    missing: &mut Vec<u32>,
+) -> Result<(), RunFault>
+    requires most { number ≤ max_sequence }
+    ensures looked { OnOk result (IsKnown (S.state store.old) → missing.new.items
+        ≡ missing.old.items ++ filter (is_lost (S.state store.old).files dir.now) (number ∷ [])) }
+    ensures more { OnOk result (length missing.old.items ≤ length missing.new.items) }
+    ensures stops { IfErr result
+        (LookStops (IsKnown (S.state store.old)) dir.now (S.state store.old).files number) }
+    ensures frame { ReadsUpTo 3 (S.state store.old) (S.state store.new) result }
+{
+    let lost = lacks_files(alloc, store, dir, number)?;
+    note_lost(lost, number, missing)?;
+    Ok(())
+}
+
+fn note_lost(lost: bool, number: u32, missing: &mut Vec<u32>) -> Result<(), WantOfMemory>
+    ensures { OnOk result
+        (missing.new.items ≡ missing.old.items ++ cond lost (number ∷ []) []) }
+{
+    if lost {
+        missing.push(number)?;
+    }
+    Ok(())
 }
 
 fn save(alloc: Global, follower: &Follower) -> Result<Vec<u8>, RunFault>

@@ -1,6 +1,6 @@
 //! A store that stops after a number of calls, as a killed process does.
 
-ghost use Rattle.std.specs.Prelude.{◌≡◌, ◌+◌, ◌≤◌, Some, OnOk, OnErr, IfErr, IfOk};
+ghost use Rattle.std.specs.Prelude.{◌≡◌, ◌+◌, ◌≤◌, Some, OnOk, OnErr, IfErr, IfOk, is_some};
 ghost use Rattle.osm_folder.specs.Files.{HasFailed, IsWithin, NeverTooLarge, Puts, ReadRefused};
 ghost use Rattle.osm_folder.specs.Files.{Tells, prefix_of};
 ghost use Rattle.osm_folder.specs.Frames.{IsDevice, IsKnown, ReadsBetween, ReplacesBetween};
@@ -99,6 +99,19 @@ impl<S: Store> Store for Fuse<S> {
     {
         spend(&mut self.calls, &mut self.refused)?;
         self.inner.read_prefix(alloc, name, most)
+    }
+
+    fn is_there(&mut self, name: &str) -> Result<bool, StoreError>
+        ensures there { IfOk result (λ is_there. IsKnown (S.Store.state self.old.inner)
+            → is_there ≡ is_some ((S.Store.state self.old.inner).files name.now)) }
+        ensures refused { IfErr result NeverTooLarge }
+        ensures blown { IfErr result (IsBlown self.old.calls
+            (S.Store.state self.old.inner) (S.Store.state self.new.inner)) }
+        ensures frame { ReadsBetween IsDevice 1 1
+            (fuse_state S.Store.state self.old) (fuse_state S.Store.state self.new) result }
+    {
+        spend(&mut self.calls, &mut self.refused)?;
+        self.inner.is_there(name)
     }
 
     fn write(&mut self, alloc: Global, name: &str, bytes: &[u8]) -> Result<(), StoreError>

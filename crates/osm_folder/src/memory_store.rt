@@ -169,6 +169,10 @@ impl Store for MemoryStore {
         }
     }
 
+    fn is_there(&mut self, name: &str) -> Result<bool, StoreError> {
+        Ok(self.get(name).is_some())
+    }
+
     fn write(&mut self, alloc: Global, name: &str, bytes: &[u8]) -> Result<(), StoreError> {
         match self.put(alloc, name, bytes) {
             Ok(()) => Ok(()),

@@ -1,6 +1,6 @@
 //! Files behind a trait.
 
-ghost use Rattle.std.specs.Prelude.{Some, IfErr, IfOk, OnOk};
+ghost use Rattle.std.specs.Prelude.{◌≡◌, Some, IfErr, IfOk, OnOk, is_some};
 ghost use Rattle.osm_folder.specs.Files.{IsWithin, NeverTooLarge, Puts, ReadRefused, Tells};
 ghost use Rattle.osm_folder.specs.Files.{prefix_of};
 ghost use Rattle.osm_folder.specs.Frames.{IsDevice, IsKnown, ReadsBetween, ReplacesBetween};
@@ -53,6 +53,14 @@ pub trait Store {
         ensures read { IfOk result (λ o. IsKnown (state self.old)
             → Tells o (prefix_of most ((state self.old).files name.now))) }
         ensures within { IfOk result (λ o. IsWithin most o) }
+        ensures refused { IfErr result NeverTooLarge }
+        ensures frame { ReadsBetween IsDevice 1 1 (state self.old) (state self.new) result };
+
+    /// Whether a file of that name is there, without opening it. Links are followed, and a folder
+    /// is there too. A name that isn't found, or in a folder that isn't there, is absent.
+    fn is_there(&mut self, name: &str) -> Result<bool, StoreError>
+        ensures there { IfOk result (λ is_there. IsKnown (state self.old)
+            → is_there ≡ is_some ((state self.old).files name.now)) }
         ensures refused { IfErr result NeverTooLarge }
         ensures frame { ReadsBetween IsDevice 1 1 (state self.old) (state self.new) result };
 

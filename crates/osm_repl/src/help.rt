@@ -66,10 +66,10 @@ pub(crate) const FOLLOWING: &str = "As in
 
 Each number after the save's is taken from its .o5c file, or if there is none, from its .opl file.
 A number is missing if it has no state file, or neither change file: SAVE goes up to the number
-before it.
+before the first missing one. After that one it is only asked which files are there.
 After SAVE is written, this is printed:
   applied LOW..HIGH  for each step
-  missing K          for each missing number; the status is then 1
+  missing K          for each missing number, up to N + 64; the status is then 1
   number N           the number that SAVE is at
 
 A file that is there but faulty stops the run at its number, with the place and the cause, and SAVE

@@ -1,8 +1,9 @@
-//! Tests of reads: of whole files, and of what is absent, too large or failing.
+//! Tests of reads: of whole files, of what is absent, too large or failing, and of what is there.
 
 use super::failing::{Countdown, Failing};
 use super::scratch::scratch;
 use osm_disk::disk_store::DiskStore;
+use osm_folder::follow::follow_run;
 use osm_folder::store::{Store, StoreError};
 use std::alloc::Global;
 use std::fs::{self, Files};
@@ -99,6 +100,77 @@ fn the_first_bytes_of_a_file_are_read(rt: HostRuntime) -> Result<(), Fail> {
             "{request:?}"
         );
     }
+    Ok(())
+}
+
+// Whether asking for the file answers as expected, and only a failing device is counted.
+fn is_there<R: Files>(
+    store: &mut DiskStore<R>,
+    path: &str,
+    expected: Result<bool, StoreError>,
+) -> bool {
+    let failures = store.failures();
+    let answer = store.is_there(path);
+    let is_counted = store.failures() - failures == u64::from(expected == Err(StoreError::Device));
+    is_counted && answer == expected
+}
+
+#[test]
+fn it_is_asked_what_is_there(rt: HostRuntime) -> Result<(), Fail> {
+    let alloc = rt.alloc();
+    let folder = scratch(alloc, &rt, process::id(rt.process()), "there")?;
+    let path = format!(in alloc; "{folder}save")?;
+    let below = format!(in alloc; "{folder}save/below")?;
+    let absent = format!(in alloc; "{folder}absent/save")?;
+    let link = format!(in alloc; "{folder}link")?;
+    let dangling = format!(in alloc; "{folder}dangling")?;
+    fs::write(&rt, path.as_str(), "old")?;
+    rt.symlink("save", link.as_str())?;
+    rt.symlink("absent", dangling.as_str())?;
+    let mut store = DiskStore::new(rt.clone()?, 7);
+    for (name, expected) in [
+        (path.as_str(), Ok(true)),
+        (link.as_str(), Ok(true)),
+        (folder.as_str(), Ok(true)),
+        (dangling.as_str(), Ok(false)),
+        (absent.as_str(), Ok(false)),
+        (below.as_str(), Err(StoreError::Device)),
+    ] {
+        assert!(rt; is_there(&mut store, name, expected), "{name}");
+    }
+    Ok(())
+}
+
+// Whether a follower of the folder, in which folders are in the place of the files of number 3, finds
+// the first two numbers missing.
+fn finds_two_missing<R: Files>(
+    alloc: Global,
+    store: &mut DiskStore<R>,
+    folder: &str,
+    save: &str,
+) -> bool {
+    match follow_run(alloc, store, folder, save) {
+        Ok(report) => report.text() == b"missing 1\nmissing 2\nnumber 0\n",
+        Err(_) => false,
+    }
+}
+
+#[test]
+fn a_folder_past_a_lost_number_is_there(rt: HostRuntime) -> Result<(), Fail> {
+    let alloc = rt.alloc();
+    let folder = scratch(alloc, &rt, process::id(rt.process()), "gap")?;
+    let top = format!(in alloc; "{folder}state.txt")?;
+    let save = format!(in alloc; "{folder}save")?;
+    fs::write(
+        &rt,
+        top.as_str(),
+        "sequenceNumber=3\ntimestamp=2024-01-01T00\\:02\\:00Z\n",
+    )?;
+    for name in ["000", "000/000", "000/000/003.state.txt", "000/000/003.opl"] {
+        rt.create_dir(format!(in alloc; "{folder}{name}")?.as_str())?;
+    }
+    let mut store = DiskStore::new(rt.clone()?, 7);
+    assert!(rt; finds_two_missing(alloc, &mut store, folder.as_str(), save.as_str()));
     Ok(())
 }
 

@@ -357,6 +357,92 @@ fn no_number_past_the_window_is_asked_for(rt: HostRuntime) {
     assert!(rt; asks_for_the_window(rt.alloc()));
 }
 
+// A folder of four sequences of which the second is lost, and what is wrong with the third: nothing,
+// no state, a junk file of changes, a junk state, or no changes.
+const NOTHING_WRONG: &[(&str, &[u8])] = &[
+    ("dir/000/000/003.state.txt", STATE_3),
+    ("dir/000/000/003.opl", b""),
+];
+
+const NO_STATE: &[(&str, &[u8])] = &[("dir/000/000/003.opl", b"")];
+
+const JUNK_CHANGES: &[(&str, &[u8])] = &[
+    ("dir/000/000/003.state.txt", STATE_3),
+    ("dir/000/000/003.o5c", b"junk"),
+];
+
+const JUNK_STATE: &[(&str, &[u8])] = &[
+    ("dir/000/000/003.state.txt", STATE_4),
+    ("dir/000/000/003.opl", b"junk"),
+];
+
+const NO_CHANGES: &[(&str, &[u8])] = &[("dir/000/000/003.state.txt", STATE_3)];
+
+const ONE_MISSING: &str = "applied 1..1\nmissing 2\nnumber 1\n";
+
+const TWO_MISSING: &str = "applied 1..1\nmissing 2\nmissing 3\nnumber 1\n";
+
+// The folder with those files of the third sequence.
+fn with_third(alloc: Global, third: &[(&str, &[u8])]) -> Option<MemoryStore> {
+    let mut store = store_with(alloc, FOUR).ok()?;
+    for name in LOST {
+        store.remove(name);
+    }
+    store.remove("dir/000/000/003.state.txt");
+    store.remove("dir/000/000/003.o5c");
+    for (name, bytes) in third {
+        store.put(alloc, *name, *bytes).ok()?;
+    }
+    Some(store)
+}
+
+fn reports_over(alloc: Global, third: &[(&str, &[u8])], text: &str) -> bool {
+    match with_third(alloc, third) {
+        Some(mut store) => reports(alloc, &mut store, Run::Follow, (1, text)),
+        None => false,
+    }
+}
+
+#[test]
+fn past_a_lost_number_it_is_asked_only_what_is_there(rt: HostRuntime) {
+    for (third, text) in [
+        (NOTHING_WRONG, ONE_MISSING),
+        (NO_STATE, TWO_MISSING),
+        (JUNK_CHANGES, ONE_MISSING),
+        (JUNK_STATE, ONE_MISSING),
+        (NO_CHANGES, TWO_MISSING),
+    ] {
+        assert!(rt; reports_over(rt.alloc(), third, text), "{third:?}");
+    }
+}
+
+// Why a run over the folder that stops after that many calls isn't done, and whether it makes them
+// all.
+fn stop_over_a_gap(alloc: Global, calls: u64) -> Option<(Option<RunFault>, bool)> {
+    let mut fuse = Fuse::new(with_third(alloc, NOTHING_WRONG)?, calls);
+    let fault = refusal(alloc, &mut fuse, Run::Follow);
+    Some((fault, fuse.calls() == 0))
+}
+
+#[test]
+fn each_store_call_over_a_gap_failing_in_turn(rt: HostRuntime) {
+    for (calls, fault) in [
+        (4, read_fault(2, Suffix::State)),
+        (5, read_fault(3, Suffix::State)),
+        (6, read_fault(3, Suffix::O5c)),
+        (7, read_fault(3, Suffix::Opl)),
+        (8, read_fault(4, Suffix::State)),
+        (9, read_fault(4, Suffix::O5c)),
+        (10, Some(RunFault::WriteFault(FileName::Save))),
+        (11, None),
+    ] {
+        assert!(rt;
+            stop_over_a_gap(rt.alloc(), calls) == Some((fault, true)),
+            "{calls}"
+        );
+    }
+}
+
 // Why a publication at a wrong time is refused, over a store that takes no call.
 fn refusal_at_no_time(alloc: Global) -> Option<RunFault> {
     let mut fuse = Fuse::new(MemoryStore::new(alloc), 0);

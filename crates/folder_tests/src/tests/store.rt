@@ -73,10 +73,14 @@ fn reads_prefixes(alloc: Global, store: &mut MemoryStore) -> bool {
     true
 }
 
+fn knows_what_is_there(store: &mut MemoryStore) -> bool {
+    store.is_there("a") == Ok(true) && store.is_there("b") == Ok(false)
+}
+
 fn is_a_store(alloc: Global) -> bool {
     match store_with(alloc, &[("a", b"one"), ("b", b"two")]) {
         Ok(mut store) => {
-            let holds = holds_what_was_put(alloc, &mut store);
+            let holds = holds_what_was_put(alloc, &mut store) && knows_what_is_there(&mut store);
             holds && reads_prefixes(alloc, &mut store) && reads_and_writes(alloc, &mut store)
         }
         Err(_) => false,
@@ -88,23 +92,26 @@ fn a_store_in_memory_holds_what_was_put(rt: HostRuntime) {
     assert!(rt; is_a_store(rt.alloc()));
 }
 
-// Whether a fuse with three calls left passes them on, and no more.
-fn passes_three_calls(alloc: Global, fuse: &mut Fuse<MemoryStore>) -> bool {
+// Whether a fuse with four calls left passes them on, and no more.
+fn passes_four_calls(alloc: Global, fuse: &mut Fuse<MemoryStore>) -> bool {
     let is_first = is_read(alloc, fuse, ("a", 3), Ok(Some(b"one".as_slice())));
     let is_prefix = is_prefix_read(alloc, fuse, ("a", 2), Ok(Some(b"on".as_slice())));
-    let is_third = fuse.write(alloc, "a", b"two") == Ok(());
+    let is_there = fuse.is_there("a") == Ok(true);
+    let is_fourth = fuse.write(alloc, "a", b"two") == Ok(());
     let is_refused = fuse.write(alloc, "a", b"three") == Err(StoreError::Device);
     let is_unread = is_read(alloc, fuse, ("a", 3), Err(StoreError::Device));
     let is_no_prefix = is_prefix_read(alloc, fuse, ("a", 2), Err(StoreError::Device));
-    is_first && is_prefix && is_third && is_refused && is_unread && is_no_prefix
+    let is_unknown = fuse.is_there("a") == Err(StoreError::Device);
+    let is_passing = is_first && is_prefix && is_there && is_fourth;
+    is_passing && is_refused && is_unread && is_no_prefix && is_unknown
 }
 
 fn is_a_fuse(alloc: Global) -> bool {
     let Ok(store) = store_with(alloc, &[("a", b"one")]) else {
         return false;
     };
-    let mut fuse = Fuse::new(store, 3);
-    let is_passing = passes_three_calls(alloc, &mut fuse);
+    let mut fuse = Fuse::new(store, 4);
+    let is_passing = passes_four_calls(alloc, &mut fuse);
     is_passing && is_file(&fuse.into_inner(), "a", b"two")
 }
 

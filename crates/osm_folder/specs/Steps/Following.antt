@@ -1,6 +1,6 @@
 -- Steps of a run of the follower. `known` says that it is known what the files hold.
 use Rattle.std.specs.Prelude.{◌≡◌, ℕ, ◌+◌, ◌<◌, ◌≤◌, ◌⊎◌, List, [], ◌∷◌, ◌++◌, length, true, false}
-use Rattle.std.specs.Prelude.{not, Option, Some, None, Vec, Ok}
+use Rattle.std.specs.Prelude.{suc, filter, Bool, Option, Some, None, is_some, Vec, Ok}
 use Rattle.osm_model.specs.ChangeForm.{SpellsNothing}
 use Rattle.osm_model.specs.Limits.{max_file}
 use Rattle.osm_save.specs.Save.{SpellsSave}
@@ -9,19 +9,20 @@ use Rattle.osm_state.specs.StateFault.{FaultOf}
 use Rattle.osm_state.specs.declared.paths.Suffix.{Suffix}
 use Rattle.osm_state.specs.declared.paths.Suffix.TheVariants as suffixes
 use Rattle.osm_follow.specs.Delivery.{Delivers, FaultPlaces, Holds, Spelling, Takes}
-use Rattle.osm_follow.specs.Follower.{FollowerValue, held_at, is_held}
+use Rattle.osm_follow.specs.Follower.{FollowerValue, held_at}
 use Rattle.osm_follow.specs.Published.{PublishedValue}
-use Rattle.osm_follow.specs.Reach.{missing_numbers}
+use Rattle.osm_follow.specs.Reach.{numbers}
 use Rattle.osm_follow.specs.Restart.{follower_of, saved_of}
 use Rattle.osm_follow.specs.declared.delivery.Delivered.{Delivered}
 use Rattle.osm_follow.specs.declared.delivery.Delivered.TheVariants.{Old, Again, Held, Applied}
 use Rattle.osm_folder.specs.Files.{Files, IsOver}
 use Rattle.osm_folder.specs.Folder.{IsStateFile, max_state}
-use Rattle.osm_folder.specs.Following.{AddsAll, GoesOn, HasFiles, IsBadSave}
-use Rattle.osm_folder.specs.Following.{IsReadable, NumberStops, is_lost, lost_numbers, max_save}
-use Rattle.osm_folder.specs.Following.{ranges}
+use Rattle.osm_folder.specs.Following.{AddsAll, GoesOn, HasFiles, IsBadSave, IsLookedFor}
+use Rattle.osm_folder.specs.Following.{IsReached, IsReadable, NumberStops, is_lost, lost_numbers}
+use Rattle.osm_folder.specs.Following.{max_save, ranges}
 use Rattle.osm_folder.specs.Names.{file_name_of}
 use Rattle.osm_folder.specs.Publication.{IsBadState}
+use Rattle.osm_folder.specs.Reports.{ReportValue, follow_report_of}
 use Rattle.osm_folder.specs.declared.fault.FileName.{FileName}
 use Rattle.osm_folder.specs.declared.fault.FileName.TheVariants.{Top, Sequence, Save}
 use Rattle.osm_folder.specs.declared.fault.RunFault.{RunFault}
@@ -136,53 +137,68 @@ abbrev pub range_of : Option Delivered → List (ℕ × ℕ)
 range_of (Some (Applied low high)) = (low, high) ∷ []
 range_of answer = []
 
--- a number was taken, and the range that was applied is reported
+-- a number was taken, unless it is lost, and the range that was applied is reported
 pub record IsNoted (known : Type 0) (files : Files) (dir : List ℕ) (number : ℕ)
-    (f g : FollowerValue) (old new : List (ℕ × ℕ)) : Type 0 where
+    (f g : FollowerValue) (old new : List (ℕ × ℕ)) (is_taken : Bool) : Type 0 where
   pub answer : Option Delivered
   pub taken : IsTaken known files dir number f answer g
   pub noted : new ≡ old ++ range_of answer
+  pub is_so : is_taken ≡ is_some answer
 
--- what the files say about the numbers up to `last`
-pub record AreTaken (files : Files) (dir : List ℕ) (f : FollowerValue) (last count : ℕ)
-    (g : FollowerValue) : Type 0 where
-  pub added : AddsAll files dir count (saved_of f) (saved_of g)
-  pub far : (g.number ≡ last) ⊎ (is_lost files dir (g.number + 1) ≡ true)
-  pub each : (k : ℕ) → g.number < k → k ≤ last → IsReadable files dir k
-  pub held : (k : ℕ) → g.number < k → k ≤ last → is_held g k ≡ not (is_lost files dir k)
-
--- the numbers after the follower's, up to `last`, were taken or are lost
-pub record IsTakenTo (known : Type 0) (files : Files) (dir : List ℕ) (f : FollowerValue)
-    (last : ℕ) (g : FollowerValue) (applied : List (ℕ × ℕ)) : Type 0 where
+-- the numbers after the follower's were taken, one after the other
+pub record IsTakenTo (known : Type 0) (files : Files) (dir : List ℕ) (f g : FollowerValue)
+    (applied : List (ℕ × ℕ)) : Type 0 where
   pub whole : g.is_broken ≡ false
   pub count : ℕ
   pub number : g.number ≡ f.number + count
-  pub until : g.number ≤ last
-  pub next : held_at g (g.number + 1) ≡ None
-  pub none : (k : ℕ) → last < k → held_at g k ≡ None
+  pub none : (k : ℕ) → held_at g k ≡ None
   pub applied_are : applied ≡ ranges f.number count
-  pub taken : known → AreTaken files dir f last count g
+  pub added : known → AddsAll files dir count (saved_of f) (saved_of g)
 
--- the numbers after the follower's, up to the top or to the end of the window, were taken or are
--- lost
+-- the numbers after the follower's were taken, up to the top or to a lost one
 pub record IsTakenUp (known : Type 0) (files : Files) (dir : List ℕ) (f : FollowerValue)
     (top : ℕ) (g : FollowerValue) (applied : List (ℕ × ℕ)) : Type 0 where
   pub whole : g.is_broken ≡ false
   pub count : ℕ
   pub number : g.number ≡ f.number + count
   pub until : g.number ≤ top
-  pub next : is_held g (g.number + 1) ≡ false
   pub applied_are : applied ≡ ranges f.number count
   pub goes_on : known → GoesOn files dir (saved_of f) top count (saved_of g)
-  pub missing : known
-      → missing_numbers (is_held g) g.number top ≡ lost_numbers files dir g.number top
 
 -- a number on the way from the start to the top is read
 pub record IsNext (files : Files) (dir : List ℕ) (start top number : ℕ) : Type 0 where
   pub above : start < number
   pub until : number ≤ top
   pub each : (k : ℕ) → start < k → k < number → IsReadable files dir k
-  pub window : (k : ℕ) → start < k → k + 64 ≤ number → is_lost files dir k ≡ false
+
+-- why a number isn't looked for
+abbrev pub LookStops : Type 0 → List ℕ → Files → ℕ → RunFault → Type 0
+LookStops known dir files number WantOfMemory = Unit {0}
+LookStops known dir files number (ReadFault (Sequence k suffix)) =
+    (k ≡ number) × (known → IsLookedFor files dir number suffix)
+LookStops known dir files number fault = ⊥
+
+-- a number beyond the first lost one
+pub record IsBeyond (reached top number : ℕ) : Type 0 where
+  pub beyond : reached + 1 < number
+  pub within : number ≤ reached + 64
+  pub until : number ≤ top
+
+-- the lost ones of the numbers after the one that was reached are named, up to the last one
+pub record AreNamed (known : Type 0) (files : Files) (dir : List ℕ) (reached top last : ℕ)
+    (missing : List ℕ) : Type 0 where
+  pub count : ℕ
+  pub last_is : last ≡ reached + suc count
+  pub some : 0 < length missing
+  pub named : known → IsReached files dir reached top
+      → missing ≡ filter (is_lost files dir) (numbers reached (suc count))
+
+-- why the lost numbers beyond the first aren't named
+abbrev pub MissingStops : Type 0 → List ℕ → Files → ℕ → ℕ → RunFault → Type 0
+MissingStops known dir files reached top WantOfMemory = Unit {0}
+MissingStops known dir files reached top (ReadFault (Sequence number suffix)) =
+    IsBeyond reached top number × (known → IsLookedFor files dir number suffix)
+MissingStops known dir files reached top fault = ⊥
 
 -- a number on the way from the start to the top isn't taken
 pub record StopsOnTheWay (known : Type 0) (dir : List ℕ) (files : Files) (start top : ℕ)
@@ -202,3 +218,42 @@ abbrev pub MadeStops : FollowerValue → RunFault → Type 0
 MadeStops f WantOfMemory = Unit {0}
 MadeStops f (TooLarge file) = (file ≡ Save) × IsBigSave f
 MadeStops f fault = ⊥
+
+-- the text to save and the report of a run that goes on from the start
+pub record IsMade (files : Files) (dir : List ℕ) (start : Saved) (top : ℕ) (text : List ℕ)
+    (report : ReportValue) : Type 0 where
+  pub count : ℕ
+  pub reached : Saved
+  pub goes_on : GoesOn files dir start top count reached
+  pub spelled : SpellsSave text reached
+  pub report_is : report ≡ follow_report_of (ranges start.number count)
+      (lost_numbers files dir reached.number top) reached.number
+
+-- the lost numbers beyond the first aren't named
+pub record StopsBeyond (known : Type 0) (dir : List ℕ) (files : Files) (start : Saved) (top : ℕ)
+    (fault : RunFault) : Type 0 where
+  pub count : ℕ
+  pub reached : Saved
+  pub goes_on : known → GoesOn files dir start top count reached
+  pub stops : MissingStops known dir files reached.number top fault
+
+-- the text to save passes 1 GiB
+pub record IsBig (files : Files) (dir : List ℕ) (start : Saved) (top : ℕ) : Type 0 where
+  pub text : List ℕ
+  pub report : ReportValue
+  pub made : IsMade files dir start top text report
+  pub over : max_save < length text
+
+-- why what was reached from the start isn't saved
+abbrev pub TextStops : Type 0 → List ℕ → Files → Saved → ℕ → RunFault → Type 0
+TextStops known dir files start top WantOfMemory = Unit {0}
+TextStops known dir files start top (TooLarge file) =
+    (file ≡ Save) × (known → IsBig files dir start top)
+TextStops known dir files start top fault = ⊥
+
+-- why a run doesn't go on from the start
+abbrev pub GoOnStops : Type 0 → List ℕ → Files → Saved → ℕ → RunFault → Type 0
+GoOnStops known dir files start top fault =
+    StopsOnTheWay known dir files start.number top fault
+    ⊎ StopsBeyond known dir files start top fault
+    ⊎ TextStops known dir files start top fault

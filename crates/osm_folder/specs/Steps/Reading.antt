@@ -13,7 +13,7 @@ FileStops known file limit told (ReadFault named) = named ≡ file
 FileStops known file limit told (TooLarge named) = (named ≡ file) × (known → IsOver limit told)
 FileStops known file limit told fault = ⊥
 
--- why the first bytes of a file aren't read
+-- why the first bytes of a file aren't read, or it isn't known whether it is there
 abbrev pub PrefixStops : FileName → RunFault → Type 0
 PrefixStops file WantOfMemory = Unit {0}
 PrefixStops file (ReadFault named) = named ≡ file
