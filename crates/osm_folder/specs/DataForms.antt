@@ -1,7 +1,6 @@
 -- The two forms of data files, the names that tell the form, and the objects of a save as one.
-use Rattle.std.specs.Prelude.{◌≡◌, ℕ, ◌<◌, ◌≤◌, List, ◌++◌, length, codes}
+use Rattle.std.specs.Prelude.{◌≡◌, ℕ, List, ◌++◌, codes}
 use Rattle.osm_model.specs.Change.{ChangeValue}
-use Rattle.osm_model.specs.Limits.{max_file}
 use Rattle.osm_opl.specs.Written.{opl_text}
 use Rattle.osm_folder.specs.declared.data_form.DataForm.{DataForm}
 use Rattle.osm_folder.specs.declared.data_form.DataForm.TheVariants.{Opl, O5m}

@@ -49,8 +49,8 @@ pub fn export_run<S: Store>(
     let Some(form) = data_form_of(output) else {
         return Err(RunFault::UnknownForm);
     };
-    let save = read_present(alloc, store, FileName::Save, save, MAX_SAVE)?;
-    let objects = read_objects(alloc, save)?;
+    let saved = read_present(alloc, store, FileName::Save, save, MAX_SAVE)?;
+    let objects = read_objects(alloc, saved)?;
     let text = data_text(alloc, form, objects)?;
     let report = convert_report(alloc);
     write_file(alloc, store, FileName::Output, output, text.as_slice())?;
