@@ -1,4 +1,6 @@
 pub mod Conversion
+pub mod DataForms
+pub mod Exporting
 pub mod Faults
 pub mod Files
 pub mod Folder

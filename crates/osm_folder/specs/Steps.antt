@@ -1,5 +1,6 @@
 -- Definitions that only clauses of private functions cite.
 pub mod Copying
+pub mod Exporting
 pub mod Following
 pub mod Lagging
 pub mod Numbering

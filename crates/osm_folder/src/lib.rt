@@ -3,6 +3,8 @@
 
 mod compare;
 pub mod convert;
+pub mod data_form;
+pub mod export;
 pub mod fault;
 mod fetch;
 mod files;

@@ -293,10 +293,13 @@ is_command p f fine (inr (inr (inr (inr (inl h))))) =
     let has = entered_with p.0 p.1 f _ (built_word (codes "SAVE") 1 ∷ built_help 2 ∷ []) refl (good_word (codes "SAVE") 1, (good_help 2, tt)) h in
     named (codes "show") f has.0 (inr (inr (inr (inr (inl refl)))), (has_word f.1 (codes "SAVE") refl (has.1.0 refl), tt), tt)
 is_command p f fine (inr (inr (inr (inr (inr (inl h)))))) =
+    let has = pair_with p.0 p.1 f _ (codes "SAVE") (codes "OUT") refl refl refl h in
+    named (codes "export") f has.0 (inr (inr (inr (inr (inr (inl refl))))), has.1, tt)
+is_command p f fine (inr (inr (inr (inr (inr (inr (inl h))))))) =
     let has = pair_with p.0 p.1 f _ (codes "IN") (codes "OUT") refl refl refl h in
-    named (codes "convert") f has.0 (inr (inr (inr (inr (inr refl)))), has.1, tt)
-is_command p f fine (inr (inr (inr (inr (inr (inr (inl h))))))) = absurd (two_ways p.0 fine h.1)
-is_command p f fine (inr (inr (inr (inr (inr (inr (inr h))))))) = absurd h
+    named (codes "convert") f has.0 (inr (inr (inr (inr (inr (inr refl))))), has.1, tt)
+is_command p f fine (inr (inr (inr (inr (inr (inr (inr (inl h)))))))) = absurd (two_ways p.0 fine h.1)
+is_command p f fine (inr (inr (inr (inr (inr (inr (inr (inr h)))))))) = absurd h
 
 entered_command : (o : Option (Text × List Text)) → IsNoHelp o → is_some (entered (built osmrepl_app) o) ≡ true → entered_fault (built osmrepl_app) o ≡ []
     → IsCommand (entered (built osmrepl_app) o)

@@ -5,7 +5,7 @@ use Rattle.clap.specs.Words.{with_rule, with_subcommand}
 use Rattle.clap.specs.declared.builder.value_parser.ValueParser.TheVariants.{NonEmptyString}
 use Rattle.osm_repl.specs.declared.orders.Order.{Order}
 use Rattle.osm_repl.specs.declared.orders.Order.TheVariants.{Replay, Publish, Follow, Lag, Show}
-use Rattle.osm_repl.specs.declared.orders.Order.TheVariants.{Convert, PublishAs}
+use Rattle.osm_repl.specs.declared.orders.Order.TheVariants.{Convert, Export, PublishAs}
 
 -- a word that isn't empty
 abbrev pub filled_rule : Text → Rule
@@ -53,6 +53,10 @@ lag_app = with_word (with_word (new_app (codes "lag")) (codes "DIR")) (codes "SA
 abbrev pub show_app : App
 show_app = with_word (new_app (codes "show")) (codes "SAVE")
 
+-- `export SAVE OUT`
+abbrev pub export_app : App
+export_app = with_word (with_word (new_app (codes "export")) (codes "SAVE")) (codes "OUT")
+
 -- `convert IN OUT`
 abbrev pub convert_app : App
 convert_app = with_word (with_word (new_app (codes "convert")) (codes "IN")) (codes "OUT")
@@ -67,8 +71,8 @@ program_app =
 abbrev pub osmrepl_app : App
 osmrepl_app =
     with_subcommand (with_subcommand (with_subcommand (with_subcommand (with_subcommand
-    (with_subcommand program_app replay_app.top) publish_app.top) follow_app.top) lag_app.top)
-    show_app.top) convert_app.top
+    (with_subcommand (with_subcommand program_app replay_app.top) publish_app.top) follow_app.top)
+    lag_app.top) show_app.top) export_app.top) convert_app.top
 
 -- those are the values of those words
 abbrev pub AreValues : List Row → List (Text × Text) → Type 0
@@ -101,6 +105,8 @@ IsOrderIn found (Follow dir save) =
 IsOrderIn found (Lag dir save) =
     IsFound found (codes "lag") ((codes "DIR", dir.now) ∷ (codes "SAVE", save.now) ∷ [])
 IsOrderIn found (Show save) = IsFound found (codes "show") ((codes "SAVE", save.now) ∷ [])
+IsOrderIn found (Export save output) =
+    IsFound found (codes "export") ((codes "SAVE", save.now) ∷ (codes "OUT", output.now) ∷ [])
 IsOrderIn found (Convert input output) =
     IsFound found (codes "convert") ((codes "IN", input.now) ∷ (codes "OUT", output.now) ∷ [])
 
@@ -117,4 +123,5 @@ HasNoEmptyWord (PublishAs dir changes now sequence) =
 HasNoEmptyWord (Follow dir save) = (dir.now ≡ [] → ⊥) × (save.now ≡ [] → ⊥)
 HasNoEmptyWord (Lag dir save) = (dir.now ≡ [] → ⊥) × (save.now ≡ [] → ⊥)
 HasNoEmptyWord (Show save) = save.now ≡ [] → ⊥
+HasNoEmptyWord (Export save output) = (save.now ≡ [] → ⊥) × (output.now ≡ [] → ⊥)
 HasNoEmptyWord (Convert input output) = (input.now ≡ [] → ⊥) × (output.now ≡ [] → ⊥)

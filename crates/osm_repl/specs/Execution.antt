@@ -6,6 +6,7 @@ use Rattle.osm_follow.specs.Published.{PublishedValue}
 use Rattle.osm_follow.specs.View.{ViewValue}
 use Rattle.osm_reading.specs.Sequence.{SpellsSequence}
 use Rattle.osm_folder.specs.Conversion.{ConvertStops, IsConverted}
+use Rattle.osm_folder.specs.Exporting.{ExportStops, IsExported, IsExportOf}
 use Rattle.osm_folder.specs.Files.{Files}
 use Rattle.osm_folder.specs.Folder.{IsApart, IsFolderOf}
 use Rattle.osm_folder.specs.Following.{FollowRefuses, FollowStops, IsFollowReport, IsFollowed}
@@ -23,7 +24,7 @@ use Rattle.osm_folder.specs.declared.fault.RunFault.TheVariants.{WriteFault}
 use Rattle.osm_repl.specs.Replay.{ReplayFault, ReplayLeaves, Replays}
 use Rattle.osm_repl.specs.declared.orders.Order.{Order}
 use Rattle.osm_repl.specs.declared.orders.Order.TheVariants.{Replay, Publish, Follow, Lag, Show}
-use Rattle.osm_repl.specs.declared.orders.Order.TheVariants.{Convert, PublishAs}
+use Rattle.osm_repl.specs.declared.orders.Order.TheVariants.{Convert, Export, PublishAs}
 
 -- the order is a run over the files: each is, except a replay
 abbrev pub IsOverFiles : Order → Type 0
@@ -37,6 +38,7 @@ calls_of (PublishAs dir changes now sequence) = 5
 calls_of (Follow dir save) = 3
 calls_of (Lag dir save) = 2
 calls_of (Show save) = 1
+calls_of (Export save output) = 2
 calls_of (Convert input output) = 2
 calls_of Replay = 0
 
@@ -49,6 +51,7 @@ Does (PublishAs dir changes now sequence) old new report =
 Does (Follow dir save) old new report = IsFollowed dir.now save.now old new report
 Does (Lag dir save) old new report = IsLag dir.now save.now old report
 Does (Show save) old new report = IsShown (old save.now) report
+Does (Export save output) old new report = IsExported save.now output.now old new
 Does (Convert input output) old new report = IsConverted input.now output.now old new
 Does Replay old new report = ⊥
 
@@ -70,6 +73,9 @@ DoesOver (Lag dir save) old new report =
 DoesOver (Show save) old new report =
     (published : List PublishedValue) (number : ℕ)
     → IsSaveOf published number (old save.now) → IsShownOf published number report
+DoesOver (Export save output) old new report =
+    (published : List PublishedValue) (number : ℕ) → IsSaveOf published number (old save.now)
+    → IsExportOf published number output.now (new output.now)
 DoesOver order old new report = Unit {0}
 
 -- the report of such a run, whatever is known of the files
@@ -80,6 +86,7 @@ IsReportOf (PublishAs dir changes now sequence) report =
 IsReportOf (Follow dir save) report = IsFollowReport report
 IsReportOf (Lag dir save) report = IsLagReport report
 IsReportOf (Show save) report = (view : ViewValue) × (report ≡ show_report_of view)
+IsReportOf (Export save output) report = report ≡ convert_report_of
 IsReportOf (Convert input output) report = report ≡ convert_report_of
 IsReportOf Replay report = ⊥
 
@@ -92,6 +99,8 @@ RunStops known (PublishAs dir changes now sequence) old new fault =
 RunStops known (Follow dir save) old new fault = FollowStops known dir.now save.now old fault
 RunStops known (Lag dir save) old new fault = LagStops known dir.now save.now old fault
 RunStops known (Show save) old new fault = ShowStops known (old save.now) fault
+RunStops known (Export save output) old new fault =
+    ExportStops known save.now output.now old fault
 RunStops known (Convert input output) old new fault =
     ConvertStops known input.now output.now old fault
 RunStops known Replay old new fault = ⊥
@@ -131,6 +140,7 @@ IsUntouched (PublishAs dir changes now sequence) name = IsApart dir.now name
 IsUntouched (Follow dir save) name = name ≡ save.now → ⊥
 IsUntouched (Lag dir save) name = Unit {0}
 IsUntouched (Show save) name = Unit {0}
+IsUntouched (Export save output) name = name ≡ output.now → ⊥
 IsUntouched (Convert input output) name = name ≡ output.now → ⊥
 
 -- a run was done, and gave that report

@@ -6,8 +6,9 @@ ghost use Rattle.clap.specs.Words.{FailsBy, HasMatchesOf, app_of, fault_of, foun
 ghost use Rattle.clap.specs.Words.{first_of, rows_of, rule_of, subcommand_rows_of, takes};
 ghost use Rattle.clap.specs.declared.builder.Command.TheViews.{out-Command as fields_of};
 ghost use Rattle.osm_repl.specs.CommandLine.{HasNoEmptyWord, IsOrderIn, IsOrderOf, convert_app};
-ghost use Rattle.osm_repl.specs.CommandLine.{filled_rule, follow_app, lag_app, osmrepl_app};
-ghost use Rattle.osm_repl.specs.CommandLine.{program_app, publish_app, publish_next_app};
+ghost use Rattle.osm_repl.specs.CommandLine.{export_app, filled_rule, follow_app, lag_app};
+ghost use Rattle.osm_repl.specs.CommandLine.{osmrepl_app, program_app, publish_app};
+ghost use Rattle.osm_repl.specs.CommandLine.{publish_next_app};
 ghost use Rattle.osm_repl.specs.CommandLine.{replay_app, sequence_rule, show_app, time_rule};
 ghost use Rattle.osm_repl.specs.CommandLine.{word_rule};
 ghost use Rattle.osm_repl.specs.Steps.Commands.{HasValue, HasValues, HasWord, HasWords, IsCommand};
@@ -48,6 +49,7 @@ fn order_of<'a>(matches: &ArgMatches<'a>) -> Order<'a>
         "follow" => follow_of(given),
         "lag" => lag_of(given),
         "show" => show_of(given),
+        "export" => export_of(given),
         "convert" => convert_of(given),
         _ => unreachable!(),
     }
@@ -101,6 +103,17 @@ fn show_of<'a>(given: &ArgMatches<'a>) -> Order<'a>
 {
     Order::Show {
         save: nonempty(given, "SAVE"),
+    }
+}
+
+fn export_of<'a>(given: &ArgMatches<'a>) -> Order<'a>
+    requires { HasWords (rows_of (found_of given.now)) (words_of (codes "export")) }
+    ensures order { IsOrderIn (Some (codes "export", rows_of (found_of given.now))) result }
+    ensures not_empty { HasNoEmptyWord result }
+{
+    Order::Export {
+        save: nonempty(given, "SAVE"),
+        output: nonempty(given, "OUT"),
     }
 }
 
@@ -162,6 +175,7 @@ fn command<'a>(alloc: Global) -> Result<Command<'a>, AllocError>
         .subcommand(follow(alloc)?)?
         .subcommand(lag(alloc)?)?
         .subcommand(show(alloc)?)?
+        .subcommand(export(alloc)?)?
         .subcommand(convert(alloc)?)
 }
 
@@ -242,6 +256,17 @@ fn show<'a>(alloc: Global) -> Result<Command<'a>, AllocError>
         .about(help::SHOW)
         .after_help(help::SHOWING)
         .arg(word(alloc, "SAVE", "The save"))
+}
+
+fn export<'a>(alloc: Global) -> Result<Command<'a>, AllocError>
+    ensures app { IfOk result (λ c. app_of c ≡ export_app) }
+    ensures local { IfOk result (λ c. (fields_of c).has_globals ≡ false) }
+{
+    Command::new(alloc, "export")
+        .about(help::EXPORT)
+        .after_help(help::EXPORTING)
+        .arg(word(alloc, "SAVE", "The save"))?
+        .arg(word(alloc, "OUT", "The data file that is written"))
 }
 
 fn convert<'a>(alloc: Global) -> Result<Command<'a>, AllocError>

@@ -12,6 +12,7 @@ use crate::orders::Order;
 use crate::replay::replay_run;
 use crate::writing::write_text;
 use osm_folder::convert::convert_run;
+use osm_folder::export::export_run;
 use osm_folder::fault::RunFault;
 use osm_folder::follow::follow_run;
 use osm_folder::lag::lag_run;
@@ -134,6 +135,7 @@ fn run<S: Store>(alloc: Global, order: Order<'_>, store: &mut S) -> Result<Repor
         Order::Follow { dir, save } => follow_run(alloc, store, dir, save),
         Order::Lag { dir, save } => lag_run(alloc, store, dir, save),
         Order::Show { save } => show_run(alloc, store, save),
+        Order::Export { save, output } => export_run(alloc, store, save, output),
         Order::Convert { input, output } => convert_run(alloc, store, input, output),
         Order::Replay => unreachable!(),
     }

@@ -8,6 +8,7 @@ pub(crate) const EXAMPLES: &str = "Examples:
   osmrepl follow folder follower.save
   osmrepl lag folder follower.save
   osmrepl show follower.save
+  osmrepl export follower.save objects.o5m
   osmrepl convert changes.opl changes.o5c
   osmrepl replay <script.txt >replies.txt
 
@@ -97,6 +98,17 @@ It prints the number and the time, the objects as lines of an OPL file, and the 
 changesets with their counts of edits.
 
 A fault names SAVE as save.";
+
+pub(crate) const EXPORT: &str = "Writes the objects of a save as a data file; the ending of OUT says the form";
+
+pub(crate) const EXPORTING: &str = "As in
+  osmrepl export follower.save objects.o5m
+
+The objects are written by rising keys: nodes, ways and relations, each by their ids. A name that
+ends in .opl is that of an OPL file, and one that ends in .o5m that of an o5m file, which has at most
+64 MiB. The number, the time and the counts of edits aren't written. Nothing is printed.
+
+A fault names SAVE as save, and OUT as output.";
 
 pub(crate) const CONVERT: &str = "Converts a change file; the ending of OUT says the form";
 

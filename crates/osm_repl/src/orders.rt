@@ -32,6 +32,11 @@ pub enum Order<'a> {
     Show {
         save: &'a str,
     },
+    /// Writes the objects of a save as a data file.
+    Export {
+        save: &'a str,
+        output: &'a str,
+    },
     /// Writes the changes of a file in the form of another's name.
     Convert {
         input: &'a str,

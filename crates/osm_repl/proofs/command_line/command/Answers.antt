@@ -1,7 +1,7 @@
 use Rattle.std.proofs.Common.{◌≡◌, ap, ap₂, ◌∙◌}
 use Rattle.std.proofs.lemmas.Result.{IfOk-weaker}
 use Rattle.clap.specs.Words.{App, app_of, with_subcommand}
-use Rattle.osm_repl.specs.CommandLine.{follow_app, lag_app, program_app, publish_app, replay_app, show_app}
+use Rattle.osm_repl.specs.CommandLine.{export_app, follow_app, lag_app, program_app, publish_app, replay_app, show_app}
 use Rattle.osm_repl.proofs.command_line.command.Goals as goal
 
 pub returns : goal.returns
@@ -21,5 +21,10 @@ returns c =
     (with_subcommand (with_subcommand (with_subcommand (with_subcommand program_app replay_app.top) publish_app.top)
     follow_app.top) lag_app.top) show_app.top =
     c.in_ok-subcommand-5.ensures.shape c.in_ok-show.ensures.local ∙ ap₂ with_subcommand with_lag (ap (λ (a : App). a.top) c.in_ok-show.ensures.app) in
-    IfOk-weaker c.subcommand-6.result _ _ (λ r h. h.shape c.in_ok-convert.ensures.local
-    ∙ ap₂ with_subcommand with_show (ap (λ (a : App). a.top) c.in_ok-convert.ensures.app)) c.subcommand-6.ensures
+    let with_export : app_of c.in_ok-subcommand-6.field-0 ≡ with_subcommand
+    (with_subcommand (with_subcommand (with_subcommand (with_subcommand (with_subcommand program_app replay_app.top)
+    publish_app.top) follow_app.top) lag_app.top) show_app.top) export_app.top =
+    c.in_ok-subcommand-6.ensures.shape c.in_ok-export.ensures.local
+    ∙ ap₂ with_subcommand with_show (ap (λ (a : App). a.top) c.in_ok-export.ensures.app) in
+    IfOk-weaker c.subcommand-7.result _ _ (λ r h. h.shape c.in_ok-convert.ensures.local
+    ∙ ap₂ with_subcommand with_export (ap (λ (a : App). a.top) c.in_ok-convert.ensures.app)) c.subcommand-7.ensures

@@ -1,0 +1,25 @@
+-- The two forms of data files, the names that tell the form, and the objects of a save as one.
+use Rattle.std.specs.Prelude.{◌≡◌, ℕ, List, ◌++◌, codes}
+use Rattle.osm_model.specs.Change.{ChangeValue}
+use Rattle.osm_opl.specs.Written.{opl_text}
+use Rattle.osm_folder.specs.declared.data_form.DataForm.{DataForm}
+use Rattle.osm_folder.specs.declared.data_form.DataForm.TheVariants.{Opl, O5m}
+
+-- how the names of data files of a form end
+abbrev pub data_end_of : DataForm → List ℕ
+data_end_of Opl = codes ".opl"
+data_end_of O5m = codes ".o5m"
+
+-- the name ends as those of data files of the form do
+pub record HasDataEnd (name : List ℕ) (form : DataForm) : Type 0 where
+  pub start : List ℕ
+  pub name_is : name ≡ start ++ data_end_of form
+
+-- the name ends in neither form
+abbrev pub HasNoDataForm : List ℕ → Type 0
+HasNoDataForm name = (form : DataForm) → HasDataEnd name form → ⊥
+
+-- the written text of objects in that form
+abbrev pub data_text_of : DataForm → List ChangeValue → List ℕ
+data_text_of Opl = opl_text
+data_text_of O5m = opl_text
