@@ -14,6 +14,7 @@ O5C_WAY = b"\x11\x21\x14" + META + b"\x03\x02\x02\x06\x00highway\x00path\x00"
 O5C_RELATION = b"\x12\x1f\x06" + META + b"\x0f\x02\x000\x00\x14\x001outer\x00\x06\x02"
 OPL_FILE = NODE + b"\n" + WAY + b"\n" + RELATION + b"\n"
 O5C_FILE = BEGINNING + O5C_NODE + b"\xff" + O5C_WAY + b"\xff" + O5C_RELATION + b"\xfe"
+DATA_FILE = O5C_FILE.replace(b"o5c2", b"o5m2")
 WANT, BROKE, BROKEN = b"WantOfMemory\n", b"Broke\n", b"Broken\n"
 
 
@@ -146,6 +147,11 @@ FORMS = [
     Case("forms", "Opl::read", lines(NAMED, TAGGED, JOINED), lines(NAMED, TAGGED, JOINED), left=b"\n"),
     Case("forms", "O5c::write", answer=O5C_FILE + b"\n", before=(("batch", OPL_FILE),), left=b"\n"),
     Case("forms", "O5c::read", O5C_FILE, OPL_FILE, left=b"\n"),
+    Case("forms", "write_data-opl", answer=OPL_FILE + b"\n", before=(("batch", OPL_FILE),), left=b"\n"),
+    Case("forms", "read_data-opl", OPL_FILE, OPL_FILE, left=b"\n"),
+    Case("forms", "read_data-opl", lines(NAMED, TAGGED, JOINED), lines(NAMED, TAGGED, JOINED), left=b"\n"),
+    Case("forms", "write_data-o5c", answer=DATA_FILE + b"\n", before=(("batch", OPL_FILE),), left=b"\n"),
+    Case("forms", "read_data-o5c", DATA_FILE, OPL_FILE, left=b"\n"),
     *[Case("forms", f"there_and_back::<{form}>", answer=lines(NAMED, TAGGED, JOINED),
            before=(("batch", lines(NAMED, TAGGED, JOINED)),), left=b"\n") for form in ("Opl", "O5c")],
 ]

@@ -42,9 +42,6 @@ TAKE_NO_MEMORY = set("""
 # These want a key or a number above all others. They are tried by a call that gives them such ones.
 TRIED_BY = {"Objects::push": "save_read", "Counts::push": "save_read"}
 
-# No case of their own calls these yet: the loops over lines in which they ask for memory are those of a change file.
-TRIED_BY |= {"read_data": "Opl::read", "write_data": "Opl::write"}
-
 
 def name_of(call):
     """The function that a command of the program calls: without its type, and without words after it."""

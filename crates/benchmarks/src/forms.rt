@@ -1,7 +1,9 @@
 //! Change files that are written and read. The functions have no clauses, since nothing but the
 //! safety of a benchmark is proved.
 
+use made_changes::MakeError;
 use osm_model::batch::Batch;
+use osm_model::change::Change;
 use osm_model::form::{ChangeForm, FormError};
 use std::alloc::Global;
 
@@ -27,4 +29,13 @@ pub fn there_and_back<F: ChangeForm>(
 fn is_read<F: ChangeForm>(alloc: Global, bytes: &[u8], batch: &Batch) -> Result<bool, FormError> {
     let read = read::<F>(alloc, bytes)?;
     Ok(read == *batch)
+}
+
+/// A batch of copies of the changes.
+pub fn batch_of(alloc: Global, changes: &[Change]) -> Result<Batch, MakeError> {
+    let mut batch = Batch::new(alloc);
+    for change in changes {
+        batch.push(change.copy(alloc)?)?;
+    }
+    Ok(batch)
 }

@@ -1,9 +1,10 @@
-//! Benchmarks on made-up changes. `benchmarks WORD N`, where the word is `opl`, `o5c`, `follow` or
-//! `save`, takes N changes and prints times. Without N it takes a few and prints fixed lines, and
-//! without a word it does so for each of the four.
+//! Benchmarks on made-up changes. `benchmarks WORD N`, where the word is `opl`, `o5c`, `follow`,
+//! `save` or `data`, takes N changes and prints times. Without N it takes a few and prints fixed
+//! lines, and without a word it does so for each of the five.
 #![tactic(auto)]
 
 mod clock;
+mod data;
 mod follow;
 mod forms;
 mod o5c;
@@ -30,6 +31,7 @@ fn measure(rt: &HostRuntime, benchmark: Benchmark, count: u32) -> Result<()> {
         Benchmark::O5c => o5c::measure(rt, rt.alloc(), count),
         Benchmark::Follow => follow::measure(rt, rt.alloc(), count),
         Benchmark::Save => save::measure(rt, rt.alloc(), count),
+        Benchmark::Data => data::measure(rt, rt.alloc(), count),
     }
 }
 
@@ -39,6 +41,7 @@ fn check(rt: &HostRuntime, benchmark: Benchmark) -> Result<()> {
         Benchmark::O5c => o5c::check(rt, rt.alloc()),
         Benchmark::Follow => follow::check(rt, rt.alloc()),
         Benchmark::Save => save::check(rt, rt.alloc()),
+        Benchmark::Data => data::check(rt, rt.alloc()),
     }
 }
 
@@ -46,5 +49,6 @@ fn check_all(rt: &HostRuntime) -> Result<()> {
     check(rt, Benchmark::Opl)?;
     check(rt, Benchmark::O5c)?;
     check(rt, Benchmark::Follow)?;
-    check(rt, Benchmark::Save)
+    check(rt, Benchmark::Save)?;
+    check(rt, Benchmark::Data)
 }

@@ -71,3 +71,29 @@ fn deliver_file(
         Err(error) => Err(error),
     }
 }
+
+/// A follower to which five sequences of `count` mixed changes each were delivered.
+pub fn follower_of_five(alloc: Global, count: u32) -> Result<Follower> {
+    let mut follower = Follower::new(alloc)?;
+    follow(alloc, &mut follower, count)?;
+    Ok(follower)
+}
+
+fn follow(alloc: Global, follower: &mut Follower, count: u32) -> Result<()> {
+    let mut publisher = Publisher::new(alloc);
+    for index in 0..5 {
+        take_turn(alloc, &mut publisher, follower, index, count)?;
+    }
+    Ok(())
+}
+
+fn take_turn(
+    alloc: Global,
+    publisher: &mut Publisher,
+    follower: &mut Follower,
+    index: u32,
+    count: u32,
+) -> Result<()> {
+    let sequence = publish(alloc, publisher, index, count)?;
+    deliver(alloc, follower, &sequence)
+}

@@ -1,12 +1,10 @@
 //! How fast a follower is saved and restarted, beside writing and reading the same objects as OPL.
 
 use crate::clock::{megabytes_per_second, micros_since};
-use crate::forms::{read, write};
-use crate::publishing::{deliver, publish};
+use crate::forms::{batch_of, read, write};
+use crate::publishing::follower_of_five;
 use anyhow::Result;
-use made_changes::MakeError;
 use osm_follow::follower::Follower;
-use osm_follow::publisher::Publisher;
 use osm_model::batch::Batch;
 use osm_model::change::Change;
 use osm_opl::opl::Opl;
@@ -14,13 +12,10 @@ use std::alloc::Global;
 use std::io::Print;
 use std::time::{Clock, Instant};
 
-const SEQUENCES: u32 = 5;
-
 /// Saves a follower of sequences of 24 changes, restarts it from the text and saves it again, and
 /// prints one line.
 pub fn check<R: Print>(rt: &R, alloc: Global) -> Result<()> {
-    let mut follower = Follower::new(alloc)?;
-    follow(alloc, &mut follower, 24)?;
+    let mut follower = follower_of_five(alloc, 24)?;
     let (size, is_same) = save_twice(alloc, &mut follower)?;
     println!(rt; "{size} bytes, same: {is_same}")?;
     Ok(())
@@ -41,8 +36,7 @@ fn saves_again(alloc: Global, follower: &mut Follower, text: &[u8]) -> Result<bo
 /// Publishes and follows sequences of `count` changes, and prints how fast the first 100,000 of the
 /// objects are written and read as OPL, and all of them as a save.
 pub fn measure<R: Print + Clock>(rt: &R, alloc: Global, count: u32) -> Result<()> {
-    let mut follower = Follower::new(alloc)?;
-    follow(alloc, &mut follower, count)?;
+    let mut follower = follower_of_five(alloc, count)?;
     measure_follower(rt, alloc, &mut follower)
 }
 
@@ -68,17 +62,8 @@ fn measure_objects<R: Print + Clock>(rt: &R, alloc: Global, objects: &[Change]) 
 }
 
 fn write_objects<R: Print + Clock>(rt: &R, alloc: Global, objects: &[Change]) -> Result<Vec<u8>> {
-    let batch = batch_of(alloc, objects)?;
+    let batch = batch_of(alloc, &objects[..objects.len().min(100_000)])?;
     write_batch(rt, alloc, &batch)
-}
-
-// The first 100,000 objects as a batch.
-fn batch_of(alloc: Global, objects: &[Change]) -> Result<Batch, MakeError> {
-    let mut batch = Batch::new(alloc);
-    for change in &objects[..objects.len().min(100_000)] {
-        batch.push(change.copy(alloc)?)?;
-    }
-    Ok(batch)
 }
 
 fn write_batch<R: Print + Clock>(rt: &R, alloc: Global, batch: &Batch) -> Result<Vec<u8>> {
@@ -127,26 +112,6 @@ fn read_save<R: Print + Clock>(
     let start = Instant::now(rt)?;
     follower.restart(alloc, Some(text))?;
     report(rt, start, "save read", objects, text.len())
-}
-
-// Publishes five sequences of `count` changes each and delivers them to the follower.
-fn follow(alloc: Global, follower: &mut Follower, count: u32) -> Result<()> {
-    let mut publisher = Publisher::new(alloc);
-    for index in 0..SEQUENCES {
-        take_turn(alloc, &mut publisher, follower, index, count)?;
-    }
-    Ok(())
-}
-
-fn take_turn(
-    alloc: Global,
-    publisher: &mut Publisher,
-    follower: &mut Follower,
-    index: u32,
-    count: u32,
-) -> Result<()> {
-    let sequence = publish(alloc, publisher, index, count)?;
-    deliver(alloc, follower, &sequence)
 }
 
 // Prints how long it took since `start`.

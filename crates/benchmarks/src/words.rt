@@ -10,6 +10,7 @@ pub enum Benchmark {
     O5c,
     Follow,
     Save,
+    Data,
 }
 
 /// The benchmark that the first word names, if there is a word.
@@ -19,7 +20,7 @@ pub fn benchmark_given(rt: &HostRuntime) -> Result<Option<Benchmark>> {
     };
     match benchmark_of(word.as_str()) {
         Some(benchmark) => Ok(Some(benchmark)),
-        None => bail!("the first word is opl, o5c, follow or save"),
+        None => bail!("the first word is opl, o5c, follow, save or data"),
     }
 }
 
@@ -29,6 +30,7 @@ fn benchmark_of(word: &str) -> Option<Benchmark> {
         "o5c" => Some(Benchmark::O5c),
         "follow" => Some(Benchmark::Follow),
         "save" => Some(Benchmark::Save),
+        "data" => Some(Benchmark::Data),
         _ => None,
     }
 }

@@ -89,6 +89,17 @@ pub(crate) fn write_batch_or<E: Debug + Drop>(
     }
 }
 
+/// A line of OPL for each object, or the error.
+pub(crate) fn write_objects_or<E: Debug + Drop>(
+    answer: Result<Vec<Change>, E>,
+    out: &mut Vec<u8>,
+) -> Result<()> {
+    match answer {
+        Ok(objects) => write_changes(objects.as_slice(), out),
+        Err(error) => Ok(writeln!(out, "{error:?}")?),
+    }
+}
+
 /// A line of OPL for each change.
 pub(crate) fn write_changes(changes: &[Change], out: &mut Vec<u8>) -> Result<()> {
     for change in changes {

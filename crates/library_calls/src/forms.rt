@@ -1,10 +1,13 @@
-//! Calls of the two forms of change files, and of lines of OPL.
+//! Calls of the two forms of change files and of data files, and of lines of OPL.
 
-use crate::answers::{put, write_batch_or, write_bytes_or, write_change_or, write_done};
+use crate::answers::{
+    put, write_batch_or, write_bytes_or, write_change_or, write_done, write_objects_or,
+};
 use crate::commands::Command;
 use crate::subject::Subject;
 use anyhow::{Context, Result, bail};
 use osm_model::batch::Batch;
+use osm_model::data::DataError;
 use osm_model::form::{ChangeForm, there_and_back};
 use osm_o5c::o5c::O5c;
 use osm_opl::lines::{read_line, write_line};
@@ -39,6 +42,16 @@ impl Forms {
     }
 }
 
+// The changes of a batch as a data file of OPL.
+fn opl_data(alloc: Global, batch: &Batch) -> Result<Vec<u8>, DataError> {
+    osm_opl::data::write_data(alloc, batch.changes())
+}
+
+// The changes of a batch as a data file of o5c.
+fn o5c_data(alloc: Global, batch: &Batch) -> Result<Vec<u8>, DataError> {
+    osm_o5c::data::write_data(alloc, batch.changes())
+}
+
 impl Subject for Forms {
     fn take(&mut self, alloc: Global, command: &Command<'_>, out: &mut Vec<u8>) -> Result<()> {
         let given = command.given;
@@ -52,6 +65,10 @@ impl Subject for Forms {
             b"Opl::read" => write_batch_or(Opl::read(alloc, given), out),
             b"O5c::write" => write_bytes_or(O5c::write(alloc, &self.batch), out),
             b"O5c::read" => write_batch_or(O5c::read(alloc, given), out),
+            b"write_data-opl" => write_bytes_or(opl_data(alloc, &self.batch), out),
+            b"read_data-opl" => write_objects_or(osm_opl::data::read_data(alloc, given), out),
+            b"write_data-o5c" => write_bytes_or(o5c_data(alloc, &self.batch), out),
+            b"read_data-o5c" => write_objects_or(osm_o5c::data::read_data(alloc, given), out),
             b"there_and_back::<Opl>" => {
                 write_batch_or(there_and_back::<Opl>(alloc, &self.batch), out)
             }

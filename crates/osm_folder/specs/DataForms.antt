@@ -1,6 +1,7 @@
 -- The two forms of data files, the names that tell the form, and the objects of a save as one.
 use Rattle.std.specs.Prelude.{◌≡◌, ℕ, List, ◌++◌, codes}
 use Rattle.osm_model.specs.Change.{ChangeValue}
+use Rattle.osm_o5c.specs.Written.{o5m_text}
 use Rattle.osm_opl.specs.Written.{opl_text}
 use Rattle.osm_folder.specs.declared.data_form.DataForm.{DataForm}
 use Rattle.osm_folder.specs.declared.data_form.DataForm.TheVariants.{Opl, O5m}
@@ -22,4 +23,4 @@ HasNoDataForm name = (form : DataForm) → HasDataEnd name form → ⊥
 -- the written text of objects in that form
 abbrev pub data_text_of : DataForm → List ChangeValue → List ℕ
 data_text_of Opl = opl_text
-data_text_of O5m = opl_text
+data_text_of O5m = o5m_text

@@ -48,6 +48,6 @@ pub(crate) fn write_data(
 {
     match form {
         DataForm::Opl => osm_opl::data::write_data(alloc, objects),
-        DataForm::O5m => osm_opl::data::write_data(alloc, objects),
+        DataForm::O5m => osm_o5c::data::write_data(alloc, objects),
     }
 }
