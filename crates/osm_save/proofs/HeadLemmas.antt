@@ -5,7 +5,7 @@ use Rattle.std.specs.Str.{bytes_eq}
 use Rattle.std.proofs.Math.Seq.{take-append-add}
 use Rattle.std.proofs.lemmas.Bool.Decides.{nat_tests}
 use Rattle.std.proofs.lemmas.Fmt.{length-decimal-le}
-use Rattle.std.proofs.lemmas.List.{append_assoc, length-append}
+use Rattle.std.proofs.lemmas.List.{length-append}
 use Rattle.std.proofs.lemmas.Option.{same_Some}
 use Rattle.std.proofs.lemmas.Slice.Eq.{bytes_eq-Decides}
 use Rattle.osm_model.specs.CivilTime.{time_text}
@@ -14,7 +14,7 @@ use Rattle.osm_reading.specs.Pieces.{cut_at}
 use Rattle.osm_reading.specs.Steps.Answers.{and_then}
 use Rattle.osm_reading.proofs.PieceLemmas.{cut_again, cut_takes}
 use Rattle.osm_reading.proofs.StepLemmas.{chosen, guard_some, some_then}
-use Rattle.osm_save.specs.Head.{BeginsSave, IsHeadIn, IsTimeOf, TellsBase, ended, head_lines, head_of, max_head}
+use Rattle.osm_save.specs.Head.{BeginsSave, IsHeadIn, TellsBase, ended, head_lines, head_of, max_head}
 use Rattle.osm_save.specs.Head.{maybe_time_text}
 use Rattle.osm_save.specs.Save.{SpellsSave}
 use Rattle.osm_save.specs.Steps.Reading.{base_at, head_at, numbered_at, sequence_at, time_line_at, version_at}

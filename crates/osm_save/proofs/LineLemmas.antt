@@ -1,6 +1,6 @@
 -- Lines of a save text: what is read is written that way, and what is written that way is read.
 use Rattle.std.proofs.Common.{◌≡◌, ℕ, ◌<◌, ◌≤◌, ◌/◌, ◌^◌, List, ◌∷◌, ◌++◌, length, take, drop, refl, ap, sym, ◌∙◌, true}
-use Rattle.std.proofs.Common.{Bool, ◌&&◌, not, false, Some, None, Option, subst, arith}
+use Rattle.std.proofs.Common.{Bool, [], ◌&&◌, not, false, Some, None, Option, subst, arith}
 use Rattle.std.specs.Prelude.{◌≢◌, ◌==◌, nat_le, if◌then◌else◌, codes, decimal}
 use Rattle.std.specs.Str.{bytes_eq}
 use Rattle.std.proofs.lemmas.Bool.Decides.{nat_tests}

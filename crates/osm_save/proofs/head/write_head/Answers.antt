@@ -1,4 +1,4 @@
-use Rattle.std.proofs.Common.{◌≡◌, [], ◌∷◌, ◌++◌, List, ℕ}
+use Rattle.std.proofs.Common.{[], ◌∷◌, ◌++◌, List, ℕ}
 use Rattle.std.specs.Prelude.{codes, decimal}
 use Rattle.osm_save.specs.Head.{maybe_time_text}
 use Rattle.osm_save.proofs.TextLemmas.{lines_more}

@@ -21,5 +21,5 @@ returns c =
       c.sequence-low.ensures.sequence,
       rw c.reached-high.ensures.reached
           (takes _ _ _ c.time-time.result c.in-Ok.last next (search rules) c.reached-high.ensures.limits refl refl
-          (search rules)),
+          refl (search rules)),
     )
