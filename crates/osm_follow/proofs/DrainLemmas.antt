@@ -14,10 +14,10 @@ use Rattle.osm_mirror.specs.Mirror.{Applies, IsWithin, MirrorValue, NeedsMemory}
 use Rattle.osm_model.specs.Change.{ChangeValue}
 use Rattle.osm_model.specs.Limits.{IsPositive, max_changes}
 use Rattle.osm_follow.specs.Delivery.{Breaks, Takes}
-use Rattle.osm_follow.specs.Follower.{FollowerValue, IsWhole, changes_in, is_in, sequence_in, time_in}
+use Rattle.osm_follow.specs.Follower.{FollowerValue, IsWhole, changes_in, is_in, most_edits, sequence_in, time_in}
 use Rattle.osm_follow.specs.Published.{PublishedValue}
 use Rattle.osm_follow.specs.Reach.{Reaches, between}
-use Rattle.osm_follow.specs.Steps.Taking.{Drains, Stops}
+use Rattle.osm_follow.specs.Steps.Taking.{Drains, Stops, WidensBy}
 use Rattle.osm_follow.proofs.ReachLemmas.{all_more, between-append, between-suc, reaches_some}
 
 -- a held sequence, with its number
@@ -39,16 +39,22 @@ pub record IsDrained (m : MirrorValue) (holding : HoldingValue) (first : Held) (
   pub all : (j : ℕ) → holding.reached + 1 < j → j ≤ left.reached → is_in holding j ≡ true
   pub applied : Applies m (first.batch ++ between (changes_in holding) (holding.reached + 1) count) n
   pub within : IsWithin (max_changes * left.reached) n
-  pub objects : length n.objects ≤ max_changes * left.reached
+  pub widened : WidensBy (max_changes * (count + 1)) m n
   pub time : last ≡ time_in holding left.reached first.time
   pub rest : (j : ℕ) → left.reached < j → sequence_in left j ≡ sequence_in holding j
+
+-- growing twice
+widened_more : (a b c : ℕ) (m n o : MirrorValue) → WidensBy a m n → WidensBy b n o → c ≡ a + b → WidensBy c m o
+widened_more a b c m n o first second sum = record {
+  within = λ most w. (let all : most + c ≡ most + a + b = omega (arith, sum) in rw all (second.within (most + a) (first.within most w)));
+}
 
 -- the first sequence was applied
 pub drained_first : (m n : MirrorValue) (holding left : HoldingValue) (first : Held)
     → sequence_in holding (holding.reached + 1) ≡ None → Applies m first.batch n
     → left ≡ record holding { reached = holding.reached + 1 } → IsWithin (max_changes * left.reached) n
-    → length n.objects ≤ max_changes * left.reached → IsDrained m holding first n left first.time
-drained_first m n holding left first free applied moved within objects =
+    → WidensBy max_changes m n → IsDrained m holding first n left first.time
+drained_first m n holding left first free applied moved within widened =
     let reached : left.reached ≡ holding.reached + 1 = ap (λ (h : HoldingValue). h.reached) moved in
     record {
       count = 0;
@@ -56,7 +62,7 @@ drained_first m n holding left first free applied moved within objects =
       all = λ j above below. absurd (omega arith);
       applied = rw (append-nil first.batch) applied;
       within = within;
-      objects = objects;
+      widened = widened;
       time = rw (reached, free) refl;
       rest = λ j above. ap (λ (h : HoldingValue). sequence_in h j) moved;
     }
@@ -81,9 +87,9 @@ changes_more holding count k first held is there =
 pub drained_more : (m n o : MirrorValue) (holding left mid next : HoldingValue) (first held : Held) (last : ℕ)
     → IsDrained m holding first n left last → area.held_at left (left.reached + 1) ≡ Some held
     → ChangesAt left mid (left.reached + 1) None → Applies n held.batch o → next ≡ record mid { reached = mid.reached + 1 }
-    → IsWithin (max_changes * next.reached) o → length o.objects ≤ max_changes * next.reached
+    → IsWithin (max_changes * next.reached) o → WidensBy max_changes n o
     → IsDrained m holding first o next held.time
-drained_more m n o holding left mid next first held last i value taken applied moved within objects =
+drained_more m n o holding left mid next first held last i value taken applied moved within widened =
     let k : ℕ = left.reached + 1 in
     let there : sequence_in holding k ≡ Some (numbered k held) = next_held m n holding left first held last i value in
     let reached : next.reached ≡ k = ap (λ (h : HoldingValue). h.reached) moved ∙ ap (λ (b : ℕ). b + 1) taken.reached in
@@ -96,7 +102,7 @@ drained_more m n o holding left mid next first held last i value taken applied m
           (Applies-append m n o (first.batch ++ between (changes_in holding) (holding.reached + 1) i.count) held.batch
           i.applied applied);
       within = within;
-      objects = objects;
+      widened = widened_more (max_changes * (i.count + 1)) max_changes (max_changes * (i.count + 1 + 1)) m n o i.widened widened (omega arith);
       time = rw (reached, there) refl;
       rest = λ j above. ap (λ (h : HoldingValue). sequence_in h j) moved
           ∙ (ap (option_map (numbered j)) (taken.others j (λ e. omega arith)) ∙ i.rest j (omega arith));
@@ -116,8 +122,7 @@ drained_all m n holding left mid first last i value taken =
       reached = omega arith;
       reach = rw reached (record { from = omega arith; all = i.all; next = ap is_some none });
       applied = i.applied;
-      within = rw reached i.within;
-      objects = rw reached i.objects;
+      widened = i.widened;
       time = rw reached i.time;
       rest = λ j above. elim (cases_eq j (left.reached + 1)) [
         | inl same ↦ rw same (ap (option_map (numbered (left.reached + 1))) taken.changed ∙ sym none)
@@ -205,14 +210,15 @@ none_below holding j is below = by_slot (area.held_at holding j) refl
 
 pub takes : (f g : FollowerValue) (p : PublishedValue) (time last : ℕ) → p.number ≡ f.holding.reached + 1
     → Drains f.mirror f.holding (record { batch = p.changes; time = p.time }) g.mirror g.holding last
-    → IsHolding g.holding → g.number ≡ g.holding.reached → g.time ≡ Some last → g.is_broken ≡ false
+    → IsHolding g.holding → g.number ≡ g.holding.reached → g.base ≡ f.base → g.time ≡ Some last → g.is_broken ≡ false
     → Takes f p g.holding.reached g
-takes f g p time last number d is at timed whole = record {
+takes f g p time last number d is at base timed whole = record {
   count = d.count;
   high_is = (let reached = d.reached in omega arith);
   reach = rw number d.reach;
   applied = rw number d.applied;
   number = at;
+  base = base;
   time = timed ∙ ap (λ (t : ℕ). Some t) d.time;
   whole = whole;
   gone = λ j below. none_below g.holding j is below;
@@ -227,12 +233,15 @@ timed_one (Some p) other one positive = one
 -- a follower is whole after the application
 pub still_whole : (f g : FollowerValue) (first : Held) (last : ℕ) → IsWhole f → IsPositive first.time
     → Drains f.mirror f.holding first g.mirror g.holding last → IsHolding g.holding → g.number ≡ g.holding.reached
-    → g.time ≡ Some last → IsWhole g
-still_whole f g first last w positive d is at timed =
+    → g.base ≡ f.base → g.time ≡ Some last → IsWhole g
+still_whole f g first last w positive d is at base timed =
     let reached = d.reached in
+    let from : f.holding.reached ≡ f.number = w.reached in
+    let below : f.base ≤ f.number = w.base in
+    let most : most_edits g ≡ most_edits f + max_changes * (d.count + 1) = omega arith in
     record {
-      counts = rw at d.within;
-      objects = rw at d.objects;
+      base = omega arith;
+      counts = rw most (d.widened.within (most_edits f) w.counts);
       timed = rw timed (λ none. absurd (let bad : Some last ≡ None = none in cc), λ zero_is. absurd (omega arith));
       time = rw (timed, d.time) (timed_one (sequence_in f.holding g.holding.reached) first.time (w.times g.holding.reached) positive);
       reached = sym at;

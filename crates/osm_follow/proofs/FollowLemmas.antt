@@ -8,7 +8,7 @@ use Rattle.osm_model.specs.Change.{ChangeValue}
 use Rattle.osm_state.specs.StateText.{StateOf}
 use Rattle.osm_follow.specs.Delivery as table
 use Rattle.osm_follow.specs.Follower.{FollowerValue, Follows, IsState, changes_held, held_at, is_held}
-use Rattle.osm_follow.specs.Published.{PublishedValue, AreSequences, sequence_at, changes_at, changes_up_to}
+use Rattle.osm_follow.specs.Published.{PublishedValue, AreSequences, sequence_at, changes_after, changes_at, changes_up_to}
 use Rattle.osm_follow.specs.Reach.{Reaches, between}
 use Rattle.osm_follow.specs.declared.delivery.Delivered.{Delivered}
 use Rattle.osm_follow.specs.declared.delivery.Delivered.TheVariants.{Old, Again, Held, Applied}
@@ -17,25 +17,25 @@ use Rattle.osm_follow.specs.declared.delivery.DeliverError.TheVariants.{Broken, 
 use Rattle.osm_follow.proofs.DeliveryLemmas.{OneBatch, NoFaultBeside, FollowerStep, read_as, state_of}
 use Rattle.osm_follow.proofs.ReachLemmas.{between_same, reaches_same}
 use Rattle.osm_mirror.proofs.MirrorLemmas.{mirror_grown}
-use Rattle.osm_follow.proofs.PublishedLemmas.{changes_within, changes_next, changes_run, sequence_within, time_within, time_next}
+use Rattle.osm_follow.proofs.PublishedLemmas.{after_next, after_run, after_within, changes_within, sequence_within, time_within, time_next}
 
 -- above its number a follower holds exactly what was accepted
-pub held_accepted : (ps : List PublishedValue) (start : ℕ) (acc : ℕ → Bool) (f : FollowerValue) → IsState ps start acc f
+pub held_accepted : (ps : List PublishedValue) (base start : ℕ) (acc : ℕ → Bool) (f : FollowerValue) → IsState ps base start acc f
     → (j : ℕ) → f.number < j → is_held f j ≡ acc j
-held_accepted ps start acc f s j past = ap is_some (s.held j past) ∙ by_test (acc j)
+held_accepted ps base start acc f s j past = ap is_some (s.held j past) ∙ by_test (acc j)
   where
     by_test : (b : Bool) → is_some (if b then Some (sequence_at ps j) else None) ≡ b
     by_test true = refl
     by_test false = refl
 
 -- so the held numbers reach as far as the accepted ones
-pub reaches_accepted : (ps : List PublishedValue) (start : ℕ) (acc : ℕ → Bool) (f : FollowerValue) (k high : ℕ)
-    → IsState ps start acc f → f.number < k → Reaches (is_held f) k high → Reaches acc k high
-reaches_accepted ps start acc f k high s above r = reaches_same (is_held f) acc k high (λ j past. held_accepted ps start acc f s j (omega arith)) r
+pub reaches_accepted : (ps : List PublishedValue) (base start : ℕ) (acc : ℕ → Bool) (f : FollowerValue) (k high : ℕ)
+    → IsState ps base start acc f → f.number < k → Reaches (is_held f) k high → Reaches acc k high
+reaches_accepted ps base start acc f k high s above r = reaches_same (is_held f) acc k high (λ j past. held_accepted ps base start acc f s j (omega arith)) r
 
-pub reaches_held : (ps : List PublishedValue) (start : ℕ) (acc : ℕ → Bool) (f : FollowerValue) (k high : ℕ)
-    → IsState ps start acc f → f.number < k → Reaches acc k high → Reaches (is_held f) k high
-reaches_held ps start acc f k high s above r = reaches_same acc (is_held f) k high (λ j past. sym (held_accepted ps start acc f s j (omega arith))) r
+pub reaches_held : (ps : List PublishedValue) (base start : ℕ) (acc : ℕ → Bool) (f : FollowerValue) (k high : ℕ)
+    → IsState ps base start acc f → f.number < k → Reaches acc k high → Reaches (is_held f) k high
+reaches_held ps base start acc f k high s above r = reaches_same acc (is_held f) k high (λ j past. sym (held_accepted ps base start acc f s j (omega arith))) r
 
 -- a number for which nothing is held
 none_held : (f : FollowerValue) (j : ℕ) → ((p : PublishedValue) → held_at f j ≡ Some p → ⊥) → held_at f j ≡ None
@@ -59,8 +59,9 @@ held_as ps f j s has = by_case (held_at f j) refl
 
 pub follows_grown : (ps more : List PublishedValue) (f : FollowerValue) → Follows ps f → Follows (ps ++ more) f
 follows_grown ps more f s = record {
+  base = s.base;
   within = rw length-append (let w = s.within in omega arith);
-  mirror = rw (changes_within ps more f.number s.within) s.mirror;
+  mirror = rw (changes_within ps more f.number s.within, after_within ps more f.base f.number s.within) s.mirror;
   time = s.time ∙ sym (time_within ps more f.number s.within);
   held = λ j p e. (let h = s.held j p e in
       let past : f.number + 1 < j = h.0 in
@@ -73,11 +74,13 @@ pub follows_held : (ps : List PublishedValue) (k : ℕ) (f g : FollowerValue) �
     → Follows ps g
 follows_held ps k f g s early within there number h =
     let same : g.number ≡ f.number = ap (λ (x : FollowerValue). x.number) h.rest in
+    let base : g.base ≡ f.base = ap (λ (x : FollowerValue). x.base) h.rest in
     let mirror : g.mirror ≡ f.mirror = ap (λ (x : FollowerValue). x.mirror) h.rest in
     let time : g.time ≡ f.time = ap (λ (x : FollowerValue). x.time) h.rest in
     record {
+      base = rw (same, base) s.base;
       within = rw same s.within;
-      mirror = rw (same, mirror) s.mirror;
+      mirror = rw (same, base, mirror) s.mirror;
       time = rw (same, time) s.time;
       held = λ j p e. elim (cases_eq j k) [
         | inl is ↦ (let here : held_at g k ≡ Some (sequence_at ps k) = rw number at h.here in
@@ -102,12 +105,14 @@ follows_taken ps k high f g s next there number t =
     between_same (changes_held f) (changes_at ps) k t.count
     (λ j above below. ap (λ (o : Option PublishedValue). option_map_or (λ (p : PublishedValue). p.changes) o [])
     (each j above (omega arith)).is) in
-    let joined : changes_up_to ps high ≡ changes_up_to ps f.number ++ (changes_at ps k ++ between (changes_held f) k t.count) =
-    ap (changes_up_to ps) high_is
-    ∙ (changes_run ps k t.count (omega arith)
-    ∙ (ap (λ (cs : List ChangeValue). cs ++ between (changes_at ps) k t.count) (changes_next ps f.number k next there)
-    ∙ (append_assoc (changes_up_to ps f.number) (changes_at ps k) (between (changes_at ps) k t.count)
-    ∙ ap (λ (cs : List ChangeValue). changes_up_to ps f.number ++ (changes_at ps k ++ cs)) (sym changes)))) in
+    let below : f.base ≤ f.number = s.base in
+    let joined : (base : ℕ) → base ≤ f.number → changes_after ps base high ≡ changes_after ps base f.number
+    ++ (changes_at ps k ++ between (changes_held f) k t.count) =
+    λ base under. ap (changes_after ps base) high_is
+    ∙ (after_run ps base k t.count (omega arith) (omega arith)
+    ∙ (ap (λ (cs : List ChangeValue). cs ++ between (changes_at ps) k t.count) (after_next ps base f.number k next under there)
+    ∙ (append_assoc (changes_after ps base f.number) (changes_at ps k) (between (changes_at ps) k t.count)
+    ∙ ap (λ (cs : List ChangeValue). changes_after ps base f.number ++ (changes_at ps k ++ cs)) (sym changes)))) in
     let time : (option_map_or (λ (p : PublishedValue). p.time) (held_at f high) (sequence_at ps k).time) ≡ (sequence_at ps high).time = elim (cases_lt k high) [
       | inl past ↦ ap (λ (o : Option PublishedValue). option_map_or (λ (p : PublishedValue). p.time) o
           (sequence_at ps k).time) (each high past (omega arith)).is
@@ -116,9 +121,11 @@ follows_taken ps k high f g s next there number t =
           (sequence_at ps k).time) (none_held f k (λ p e. (let past = (s.held k p e).0 in omega arith)))))
     ] in
     record {
+      base = rw (t.number, t.base) (let from_it : k ≤ high = from in omega arith);
       within = rw t.number within;
-      mirror = rw (t.number, joined) (mirror_grown f.mirror g.mirror (changes_up_to ps f.number) (changes_up_to ps f.number) (changes_at ps k
-          ++ between (changes_held f) k t.count) s.mirror (rw number at t.applied));
+      mirror = rw (t.number, t.base, joined 0 (omega arith), joined f.base s.base) (mirror_grown f.mirror g.mirror
+          (changes_up_to ps f.number) (changes_after ps f.base f.number)
+          (changes_at ps k ++ between (changes_held f) k t.count) s.mirror (rw number at t.applied));
       time = t.time ∙ (ap (λ (n : ℕ). Some n) time ∙ rw t.number (sym (time_next ps (high - 1) high (omega arith))));
       held = λ j p e. elim (cases_lt high j) [
         | inr below ↦ absurd (let bad : Some p ≡ None = sym e ∙ t.gone j below in cc)
@@ -132,14 +139,15 @@ follows_taken ps k high f g s next there number t =
     }
 
 -- what a follower is after it has accepted one more number
-state_parts : (ps : List PublishedValue) (start : ℕ) (acc more : ℕ → Bool) (k : ℕ) (f g : FollowerValue)
-    → IsState ps start acc f → ((j : ℕ) → more j ≡ ((k == j) || acc j)) → f.number < k → Follows ps g
+state_parts : (ps : List PublishedValue) (base start : ℕ) (acc more : ℕ → Bool) (k : ℕ) (f g : FollowerValue)
+    → IsState ps base start acc f → g.base ≡ f.base → ((j : ℕ) → more j ≡ ((k == j) || acc j)) → f.number < k → Follows ps g
     → f.number ≤ g.number → ((j : ℕ) → f.number < j → j ≤ g.number → more j ≡ true) → more (g.number + 1) ≡ false
     → ((j : ℕ) → g.number < j → held_at g j ≡ (if more j then Some (sequence_at ps j) else None))
-    → IsState ps start more g
-state_parts ps start acc more k f g s is above follows onward all next held =
+    → IsState ps base start more g
+state_parts ps base start acc more k f g s same is above follows onward all next held =
     let from = s.reach.from in
     record {
+      base_is = same ∙ s.base_is;
       reach = record {
         from = omega arith;
         all = λ j past below. elim (cases_lt f.number j) [
@@ -159,12 +167,12 @@ more_here acc more k j is same = is j ∙ or_left (k == j) (acc j) (eq-eqb k j s
 more_other : (acc more : ℕ → Bool) (k j : ℕ) → ((i : ℕ) → more i ≡ ((k == i) || acc i)) → (k ≡ j → ⊥) → more j ≡ acc j
 more_other acc more k j is apart = is j ∙ ap (λ (b : Bool). b || acc j) (ne_eqb k j apart)
 
-pub state_held : (ps : List PublishedValue) (start : ℕ) (acc more : ℕ → Bool) (k : ℕ) (f g : FollowerValue)
-    → IsState ps start acc f → ((j : ℕ) → more j ≡ ((k == j) || acc j)) → f.number + 1 < k → k ≤ f.number + 64
-    → k ≤ length ps → (sequence_at ps k).number ≡ k → table.Holds f (sequence_at ps k) g → IsState ps start more g
-state_held ps start acc more k f g s is early within there number h =
+pub state_held : (ps : List PublishedValue) (base start : ℕ) (acc more : ℕ → Bool) (k : ℕ) (f g : FollowerValue)
+    → IsState ps base start acc f → ((j : ℕ) → more j ≡ ((k == j) || acc j)) → f.number + 1 < k → k ≤ f.number + 64
+    → k ≤ length ps → (sequence_at ps k).number ≡ k → table.Holds f (sequence_at ps k) g → IsState ps base start more g
+state_held ps base start acc more k f g s is early within there number h =
     let same : g.number ≡ f.number = ap (λ (x : FollowerValue). x.number) h.rest in
-    state_parts ps start acc more k f g s is (omega arith) (follows_held ps k f g s.follows early within there number h) (omega arith)
+    state_parts ps base start acc more k f g s (ap (λ (x : FollowerValue). x.base) h.rest) is (omega arith) (follows_held ps k f g s.follows early within there number h) (omega arith)
     (λ j above below. absurd (omega arith))
     (rw same (more_other acc more k (f.number + 1) is (λ e. omega arith) ∙ s.reach.next))
     (λ j past. elim (cases_eq k j) [
@@ -175,14 +183,14 @@ state_held ps start acc more k f g s is early within there number h =
           rw was (h.others j (λ d. apart (sym (d ∙ number))) ∙ s.held j (omega arith)))
     ])
 
-pub state_taken : (ps : List PublishedValue) (start : ℕ) (acc more : ℕ → Bool) (k high : ℕ) (f g : FollowerValue)
-    → IsState ps start acc f → ((j : ℕ) → more j ≡ ((k == j) || acc j)) → k ≡ f.number + 1 → k ≤ length ps
-    → (sequence_at ps k).number ≡ k → table.Takes f (sequence_at ps k) high g → IsState ps start more g
-state_taken ps start acc more k high f g s is next there number t =
-    let reach : Reaches acc k high = reaches_accepted ps start acc f k high s (omega arith) (rw number at t.reach) in
+pub state_taken : (ps : List PublishedValue) (base start : ℕ) (acc more : ℕ → Bool) (k high : ℕ) (f g : FollowerValue)
+    → IsState ps base start acc f → ((j : ℕ) → more j ≡ ((k == j) || acc j)) → k ≡ f.number + 1 → k ≤ length ps
+    → (sequence_at ps k).number ≡ k → table.Takes f (sequence_at ps k) high g → IsState ps base start more g
+state_taken ps base start acc more k high f g s is next there number t =
+    let reach : Reaches acc k high = reaches_accepted ps base start acc f k high s (omega arith) (rw number at t.reach) in
     let from = reach.from in
     let at : g.number ≡ high = t.number in
-    state_parts ps start acc more k f g s is (omega arith) (follows_taken ps k high f g s.follows next there number t) (omega arith)
+    state_parts ps base start acc more k f g s t.base is (omega arith) (follows_taken ps k high f g s.follows next there number t) (omega arith)
     (λ j above below. elim (cases_eq k j) [
       | inl here ↦ more_here acc more k j is here
       | inr apart ↦ more_other acc more k j is apart ∙ reach.all j (omega arith) (omega arith)

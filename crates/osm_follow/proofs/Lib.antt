@@ -4,5 +4,6 @@ pub mod DrainLemmas
 pub mod DeliveryLemmas
 pub mod FollowLemmas
 pub mod RestartLemmas
+pub mod BeginLemmas
 pub mod LagLemmas
 pub mod StandardFacts

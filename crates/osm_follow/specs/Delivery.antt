@@ -48,6 +48,7 @@ pub record Takes (f : FollowerValue) (p : PublishedValue) (high : ℕ) (g : Foll
   pub applied :
       Applies f.mirror (p.changes ++ between (changes_held f) p.number count) g.mirror
   pub number : g.number ≡ high
+  pub base : g.base ≡ f.base
   pub time : g.time ≡ Some (time_in f.holding high p.time)
   pub whole : g.is_broken ≡ false
   pub gone : (j : ℕ) → j ≤ high → held_at g j ≡ None

@@ -1,5 +1,7 @@
--- A follower: its number, the time of that sequence, its mirror, and the sequences that came early.
-use Rattle.std.specs.Prelude.{◌≡◌, ℕ, ◌+◌, ◌*◌, ◌<◌, ◌≤◌, List, [], length, Bool, false, Option}
+-- A follower: its number, the time of that sequence, the base after which it counts edits, its
+-- mirror, and the sequences that came early.
+use Rattle.std.specs.Prelude.{◌≡◌, ℕ, ◌+◌, ◌-◌, ◌*◌, ◌<◌, ◌≤◌, List, [], length, Bool, false}
+use Rattle.std.specs.Prelude.{Option}
 use Rattle.std.specs.Prelude.{None, Some, if◌then◌else◌, IsTrue, ◌↔◌, IfSome, is_some}
 use Rattle.std.specs.Option.{option_map, option_map_or}
 use Rattle.osm_holding.specs.Holding as area
@@ -7,11 +9,13 @@ use Rattle.osm_holding.specs.Holding.{HoldingValue, window}
 use Rattle.osm_model.specs.Change.{ChangeValue}
 use Rattle.osm_model.specs.Limits.{IsPositive, max_sequence, max_changes}
 use Rattle.osm_mirror.specs.Mirror.{MirrorValue, IsMirrorOf, IsWithin, no_mirror}
-use Rattle.osm_follow.specs.Published.{PublishedValue, sequence_at, changes_up_to, time_at}
+use Rattle.osm_follow.specs.Published.{PublishedValue, sequence_at, changes_after, changes_up_to}
+use Rattle.osm_follow.specs.Published.{time_at}
 use Rattle.osm_follow.specs.Reach.{Reaches}
 
 pub record FollowerValue : Type 0 where
   pub number : ℕ
+  pub base : ℕ
   pub time : Option ℕ
   pub mirror : MirrorValue
   pub holding : HoldingValue
@@ -51,22 +55,24 @@ changes_held f number = changes_in f.holding number
 abbrev pub new_follower : FollowerValue
 new_follower = record {
   number = 0;
+  base = 0;
   time = None;
   mirror = no_mirror;
   holding = record { reached = 0; entries = [] };
   is_broken = false;
 }
 
--- the most edits that the sequences up to a follower's number can have
+-- the most edits that the sequences after a follower's base, up to its number, can have
 abbrev pub most_edits : FollowerValue → ℕ
-most_edits f = max_changes * f.number
+most_edits f = max_changes * (f.number - f.base)
 
--- a follower that isn't broken: each count, and the number of its users, of its changesets and of
--- its objects, is at most 100,000 times its number; it has a time except at 0; it holds sequences
--- after its number, but not the next one; all times are within the limits
+-- a follower that isn't broken: its base isn't above its number; each count, and the number of its
+-- users and of its changesets, is at most 100,000 times its number less its base; it has a time
+-- except at 0; it holds sequences after its number, but not the next one; all times are within the
+-- limits
 pub record IsWhole (f : FollowerValue) : Type 0 where
+  pub base : f.base ≤ f.number
   pub counts : IsWithin (most_edits f) f.mirror
-  pub objects : length f.mirror.objects ≤ most_edits f
   pub timed : (f.time ≡ None) ↔ (f.number ≡ 0)
   pub time : IfSome f.time IsPositive
   pub reached : f.holding.reached ≡ f.number
@@ -78,22 +84,25 @@ pub record IsFollower (f : FollowerValue) : Type 0 where
   pub most : f.number ≤ max_sequence
   pub whole : ¬ IsTrue f.is_broken → IsWhole f
 
--- the follower holds exactly the mirror, the counts and the time of published sequences 1 to its
--- number; what it holds is a published sequence that comes after the next, within its window
+-- the follower holds exactly the mirror and the time of published sequences 1 to its number, and
+-- the counts of those after its base; what it holds is a published sequence that comes after the
+-- next, within its window
 pub record Follows (published : List PublishedValue) (f : FollowerValue) : Type 0 where
+  pub base : f.base ≤ f.number
   pub within : f.number ≤ length published
-  pub mirror :
-      IsMirrorOf (changes_up_to published f.number) (changes_up_to published f.number) f.mirror
+  pub mirror : IsMirrorOf (changes_up_to published f.number)
+      (changes_after published f.base f.number) f.mirror
   pub time : f.time ≡ time_at published f.number
   pub held : (j : ℕ) (p : PublishedValue) → held_at f j ≡ Some p →
       (f.number + 1 < j) × (j ≤ f.number + window) × (j ≤ length published)
       × (p ≡ sequence_at published j)
 
--- what a follower is, given what was published, the number that it started at and which numbers it
--- accepted: it is at the greatest number reached without a gap, and holds each accepted number
--- above it
-pub record IsState (published : List PublishedValue) (start : ℕ) (is_accepted : ℕ → Bool)
+-- what a follower is, given what was published, its base, the number that it started at and which
+-- numbers it accepted: it is at the greatest number reached without a gap, and holds each accepted
+-- number above it
+pub record IsState (published : List PublishedValue) (base start : ℕ) (is_accepted : ℕ → Bool)
     (f : FollowerValue) : Type 0 where
+  pub base_is : f.base ≡ base
   pub reach : Reaches is_accepted start f.number
   pub follows : Follows published f
   pub held : (j : ℕ) → f.number < j →

@@ -2,6 +2,7 @@ pub mod Published
 pub mod Publisher
 pub mod Reach
 pub mod Follower
+pub mod Begin
 pub mod Delivery
 pub mod Lag
 pub mod Restart

@@ -1,7 +1,7 @@
 -- Published sequences, counted from 1 (OSM wiki, Planet.osm/diffs): each a batch of changes and the
 -- time of its state. Sequence 0 is the empty start.
 use Rattle.std.specs.Prelude.{◌≡◌, ℕ, zero, suc, ◌-◌, ◌<◌, ◌≤◌, length, List, Option, Some, None}
-use Rattle.std.specs.Prelude.{take, get_or, [], ◌∷◌}
+use Rattle.std.specs.Prelude.{drop, take, get_or, [], ◌∷◌}
 use Rattle.std.specs.List.{flat_map}
 use Rattle.osm_model.specs.Batch.{IsBatch}
 use Rattle.osm_model.specs.Change.{ChangeValue}
@@ -73,6 +73,10 @@ time_at published (suc n) = Some (sequence_at published (suc n)).time
 -- the changes of sequences 1 to that number, joined
 abbrev pub changes_up_to : List PublishedValue → ℕ → List ChangeValue
 changes_up_to published number = flat_map (λ p. p.changes) (take number published)
+
+-- the changes of the sequences after `base`, up to that number, joined
+abbrev pub changes_after : List PublishedValue → ℕ → ℕ → List ChangeValue
+changes_after published base number = flat_map (λ p. p.changes) (drop base (take number published))
 
 -- the least time that the next close may have: that of the last sequence, or 1 before the first
 abbrev pub last_time : List PublishedValue → ℕ

@@ -11,12 +11,13 @@ use Rattle.osm_follow.specs.declared.view.ViewError.TheVariants as views
 
 -- what a follower saves: all but the sequences that it holds
 abbrev pub saved_of : FollowerValue → Saved
-saved_of f = record { number = f.number; time = f.time; mirror = f.mirror }
+saved_of f = record { number = f.number; base = f.base; time = f.time; mirror = f.mirror }
 
 -- the follower that continues from what was saved: it holds nothing
 abbrev pub follower_of : Saved → FollowerValue
 follower_of v = record {
   number = v.number;
+  base = v.base;
   time = v.time;
   mirror = v.mirror;
   holding = record { reached = v.number; entries = [] };

@@ -1,8 +1,8 @@
 //! Applies consecutive sequences.
 
-ghost use Rattle.std.specs.Prelude.{◌≡◌, ◌+◌, ◌*◌, ◌<◌, ◌≤◌, length, None, OnOk, OnErr, IfOk};
+ghost use Rattle.std.specs.Prelude.{◌≡◌, ◌+◌, ◌*◌, ◌<◌, None, OnOk, OnErr, IfOk};
 ghost use Rattle.osm_follow.specs.Follower.{sequence_in};
-ghost use Rattle.osm_follow.specs.Steps.Taking.{Drains, Stops};
+ghost use Rattle.osm_follow.specs.Steps.Taking.{Drains, Stops, WidensBy};
 ghost use Rattle.osm_mirror.specs.Mirror.{Applies, IsWithin, NeedsMemory};
 ghost use Rattle.osm_model.specs.Limits.{max_changes, max_sequence};
 
@@ -21,7 +21,6 @@ pub(crate) fn drain(
     requires room { holding.old.reached < max_sequence }
     requires next { sequence_in holding.old (holding.old.reached + 1) ≡ None }
     requires counts { IsWithin (max_changes * holding.old.reached) mirror.old }
-    requires objects { length mirror.old.objects ≤ max_changes * holding.old.reached }
     ensures drained { IfOk result (λ time.
         Drains mirror.old holding.old first mirror.new holding.new time) }
     ensures stopped { OnErr result (Stops mirror.old holding.old first) }
@@ -44,13 +43,11 @@ fn apply_next(
     requires room { holding.old.reached < max_sequence }
     requires next { sequence_in holding.old (holding.old.reached + 1) ≡ None }
     requires counts { IsWithin (max_changes * holding.old.reached) mirror.old }
-    requires objects { length mirror.old.objects ≤ max_changes * holding.old.reached }
     ensures applied { OnOk result (Applies mirror.old batch mirror.new) }
     ensures moved { OnOk result (holding.new
         ≡ record holding.old { reached = holding.old.reached + 1 }) }
     ensures within { OnOk result (IsWithin (max_changes * holding.new.reached) mirror.new) }
-    ensures objects { OnOk result
-        (length mirror.new.objects ≤ max_changes * holding.new.reached) }
+    ensures widened { OnOk result (WidensBy max_changes mirror.old mirror.new) }
     ensures refused { OnErr result (NeedsMemory mirror.old batch) }
 {
     mirror.apply(batch.into_changes())?;

@@ -6,13 +6,16 @@ ghost use Rattle.std.specs.Prelude.{OnOk, OnErr, [], length, Contains, ◌-◌, 
 ghost use Rattle.std.specs.Option.{option_map};
 ghost use Rattle.std.specs.List.Sorted.{IsStrictlySortedBy};
 ghost use Rattle.std.specs.Ordering.{nat_cmp};
-ghost use Rattle.osm_model.specs.Limits.{max_changes, max_sequence};
+ghost use Rattle.osm_model.specs.Data.{IsData};
+ghost use Rattle.osm_model.specs.Limits.{max_sequence};
+ghost use Rattle.osm_follow.specs.Begin.{Begins, begun_of};
 ghost use Rattle.osm_follow.specs.Delivery.{AnswersUnread, Delivers, Holds, IsDue, sequence_of};
 ghost use Rattle.osm_follow.specs.Follower.{held_at, is_held, most_edits, new_follower};
 ghost use Rattle.osm_follow.specs.Lag.{Lags, MissingRefused};
 ghost use Rattle.osm_holding.specs.Holding.{window};
 ghost use Rattle.osm_mirror.specs.Mirror.{IsOrderly, IsWithin, count_at, no_mirror, object_at};
-ghost use Rattle.osm_save.specs.Save.{IsTimeOf, SpellsSave};
+ghost use Rattle.osm_save.specs.Head.{IsTimeOf, head_of, most_counted};
+ghost use Rattle.osm_save.specs.Save.{SpellsSave};
 ghost use Rattle.osm_follow.specs.Reach.{missing_numbers};
 ghost use Rattle.osm_follow.specs.Restart.{Restarts, SavingRefused, follower_of, saved_of};
 ghost use Rattle.osm_follow.specs.Steps.Taking.{TakeAnswers};
@@ -20,6 +23,7 @@ ghost use Rattle.osm_follow.specs.View.{ViewRefused, view_of};
 ghost use Rattle.osm_follow.specs.declared.delivery.Delivered.{Delivered};
 ghost use Rattle.osm_follow.specs.declared.delivery.DeliverError.{DeliverError};
 
+use crate::begin::{BeginError, mirror_of};
 use crate::delivery::{DeliverError, Delivered};
 use crate::drain::drain;
 use crate::lag::{Lag, LagError, lag_from};
@@ -29,23 +33,27 @@ use osm_holding::holding::{Held, HoldingArea, WINDOW};
 use osm_mirror::mirror::Mirror;
 use osm_model::batch::Batch;
 use osm_model::change::Change;
+use osm_model::data::first_fault;
 use osm_model::form::{ChangeForm, FormError};
 use osm_model::kind::Key;
 use osm_model::memory::WantOfMemory;
-use osm_save::save::{SaveError, save_read, save_write};
+use osm_save::head::Head;
+use osm_save::save::{SaveError, Saved, save_read, save_write};
 use osm_state::state::State;
 use osm_state::state_text::state_read;
 use std::alloc::{AllocError, Global};
 use std::marker::Model;
 use thiserror::Error;
 
-/// The mirror of sequences 1 to the follower's number, and those of the next 64 that came early.
+/// The mirror of sequences 1 to the follower's number, the counts of edits of those after its base,
+/// and those of the next 64 that came early.
 ///
 /// A follower is broken after an application ran out of memory part-way, or a restart was refused.
 /// A broken follower shows nothing of its mirror until it is restarted.
 #[derive(Debug, Drop)]
 pub struct Follower {
     number: u32,
+    base: u32,
     time: Option<u32>,
     mirror: Mirror,
     holding: HoldingArea,
@@ -59,6 +67,7 @@ impl Model for Follower {
 
     ghost view = { λ a. record {
       number = a.number;
+      base = a.base;
       time = a.time;
       mirror = a.mirror;
       holding = a.holding;
@@ -67,6 +76,7 @@ impl Model for Follower {
 
     ghost invariant = { λ a. IsFollower (record {
       number = a.number;
+      base = a.base;
       time = a.time;
       mirror = a.mirror;
       holding = a.holding;
@@ -88,11 +98,33 @@ impl Follower {
         let holding = HoldingArea::new(alloc, 0)?;
         Ok(Follower {
             number: 0,
+            base: 0,
             time: None,
             mirror: Mirror::new(alloc),
             holding,
             is_broken: false,
         })
+    }
+
+    /// A follower that begins with the objects of a mirror, and counts the edits of the sequences
+    /// after it. Its number, its base and its time are the state's, and nothing is held.
+    pub fn begin(
+        alloc: Global,
+        state: &State,
+        objects: Vec<Change>,
+    ) -> Result<Follower, BeginError>
+        ensures { Begins state.now objects.items result }
+    {
+        if state.sequence() == 0 {
+            return Err(BeginError::BadSequence);
+        }
+        if let Some(index) = first_fault(objects.as_slice()) {
+            return Err(BeginError::NotData { index });
+        }
+        match begun(alloc, state, objects) {
+            Ok(follower) => Ok(follower),
+            Err(WantOfMemory) => Err(BeginError::WantOfMemory),
+        }
     }
 
     /// Takes the sequence that the state text names, whose changes the bytes spell in the form `F`.
@@ -199,16 +231,27 @@ impl Follower {
         self.is_broken
     }
 
-    /// The number of the last sequence that was applied; 0 before the first. Each count, and the
-    /// number of objects, of users and of changesets, is at most 100,000 times it.
+    /// The number of the last sequence that was applied, or that the follower began with; 0 before
+    /// the first. Each count, and the number of users and of changesets, is at most 100,000 times
+    /// this number less the base.
     pub fn number(&self) -> Result<u32, Broken>
         ensures broken { IsErr result ↔ (self.now.is_broken ≡ true) }
         ensures number { IfOk result (λ n. n ≡ self.now.number) }
         ensures bounded { OnOk result (IsWithin (most_edits self.now) self.now.mirror) }
-        ensures objects { OnOk result (length self.now.mirror.objects ≤ most_edits self.now) }
     {
         self.check_whole()?;
         Ok(self.number)
+    }
+
+    /// The number after which edits are counted: that of the data which the follower began with, or
+    /// 0. It isn't above the follower's number.
+    pub fn base(&self) -> Result<u32, Broken>
+        ensures broken { IsErr result ↔ (self.now.is_broken ≡ true) }
+        ensures base { IfOk result (λ n. n ≡ self.now.base) }
+        ensures below { OnOk result (self.now.base ≤ self.now.number) }
+    {
+        self.check_whole()?;
+        Ok(self.base)
     }
 
     /// The time of that sequence, in seconds since 1970-01-01T00:00:00Z; none at 0.
@@ -231,7 +274,7 @@ impl Follower {
         Ok(self.mirror.get(key))
     }
 
-    /// How many edits the user has in the sequences that were applied.
+    /// How many edits the user has in the sequences that were applied after the base.
     pub fn user_count(&self, uid: u32) -> Result<u64, Broken>
         ensures broken { IsErr result ↔ (self.now.is_broken ≡ true) }
         ensures count { IfOk result (λ n. n ≡ count_at self.now.mirror.users uid) }
@@ -241,7 +284,7 @@ impl Follower {
         Ok(self.mirror.user_count(uid))
     }
 
-    /// How many edits the changeset has in the sequences that were applied.
+    /// How many edits the changeset has in the sequences that were applied after the base.
     pub fn changeset_count(&self, id: u32) -> Result<u64, Broken>
         ensures broken { IsErr result ↔ (self.now.is_broken ≡ true) }
         ensures count { IfOk result (λ n. n ≡ count_at self.now.mirror.changesets id) }
@@ -324,8 +367,8 @@ impl Follower {
 
     fn check_whole(&self) -> Result<(), Broken>
         ensures broken { IsErr result ↔ (self.now.is_broken ≡ true) }
+        ensures below { OnOk result (self.now.base ≤ self.now.number) }
         ensures bounded { OnOk result (IsWithin (most_edits self.now) self.now.mirror) }
-        ensures objects { OnOk result (length self.now.mirror.objects ≤ most_edits self.now) }
     {
         if self.is_broken {
             return Err(Broken);
@@ -333,7 +376,7 @@ impl Follower {
         Ok(())
     }
 
-    /// A copy of the follower's number, time, mirror and counts, and of the numbers held.
+    /// A copy of the follower's number, base, time, mirror and counts, and of the numbers held.
     pub fn view(&self, alloc: Global) -> Result<View, ViewError>
         ensures whole { OnOk result (self.now.is_broken ≡ false) }
         ensures copies { IfOk result (λ v. v ≡ view_of self.now) }
@@ -346,13 +389,13 @@ impl Follower {
         if self.is_broken {
             return Err(ViewError::Broken);
         }
-        match View::of(alloc, self.number, self.time, &self.mirror, &self.holding) {
+        match View::of(alloc, self.head(), &self.mirror, &self.holding) {
             Ok(view) => Ok(view),
             Err(_) => Err(ViewError::WantOfMemory),
         }
     }
 
-    /// The save text of the follower's number, time, mirror and counts. Held sequences aren't
+    /// The save text of the follower's number, base, time, mirror and counts. Held sequences aren't
     /// saved.
     pub fn save(&self, alloc: Global) -> Result<Vec<u8>, ViewError>
         ensures whole { OnOk result (self.now.is_broken ≡ false) }
@@ -362,9 +405,20 @@ impl Follower {
         if self.is_broken {
             return Err(ViewError::Broken);
         }
-        match save_write(alloc, self.number, self.time, &self.mirror) {
+        match save_write(alloc, self.head(), &self.mirror) {
             Ok(text) => Ok(text),
             Err(_) => Err(ViewError::WantOfMemory),
+        }
+    }
+
+    // The head of what is saved or shown.
+    fn head(&self) -> Head
+        ensures { result ≡ head_of (saved_of self.now) }
+    {
+        Head {
+            number: self.number,
+            base: self.base,
+            time: self.time,
         }
     }
 
@@ -377,7 +431,12 @@ impl Follower {
         self.drop_all(alloc);
         match saved {
             None => {
-                self.go_on(0, None, Mirror::new(alloc));
+                self.go_on(Saved {
+                    number: 0,
+                    base: 0,
+                    time: None,
+                    mirror: Mirror::new(alloc),
+                });
                 Ok(())
             }
             Some(text) => self.read(alloc, text),
@@ -403,7 +462,7 @@ impl Follower {
     {
         match save_read(alloc, text) {
             Ok(saved) => {
-                self.go_on(saved.number, saved.time, saved.mirror);
+                self.go_on(saved);
                 Ok(())
             }
             Err(SaveError::BadSave { line }) => Err(RestartError::BadSave { line }),
@@ -411,22 +470,38 @@ impl Follower {
         }
     }
 
-    // Continues at that sequence, not broken, and with nothing held.
-    fn go_on(&mut self, number: u32, time: Option<u32>, mirror: Mirror)
-        requires most { number ≤ max_sequence }
-        requires time { IsTimeOf number time }
-        requires within { IsWithin (max_changes * number) mirror }
-        requires objects { length mirror.objects ≤ max_changes * number }
-        ensures { self.new ≡ follower_of (record {
-          number = number;
-          time = time;
-          mirror = mirror;
-        }) }
+    // Continues from what was saved, not broken, and with nothing held.
+    fn go_on(&mut self, saved: Saved)
+        requires most { saved.number ≤ max_sequence }
+        requires base { saved.base ≤ saved.number }
+        requires time { IsTimeOf saved.number saved.time }
+        requires within { IsWithin (most_counted (head_of saved)) saved.mirror }
+        ensures { self.new ≡ follower_of saved }
     {
-        self.number = number;
-        self.time = time;
-        self.mirror = mirror;
-        self.holding.reset(number);
+        self.holding.reset(saved.number);
+        self.number = saved.number;
+        self.base = saved.base;
+        self.time = saved.time;
+        self.mirror = saved.mirror;
         self.is_broken = false;
     }
+}
+
+// The follower that begins with these objects.
+fn begun(alloc: Global, state: &State, objects: Vec<Change>) -> Result<Follower, WantOfMemory>
+    requires above { 0 < state.now.sequence }
+    requires data { IsData objects.items }
+    ensures { IfOk result (λ f. f ≡ begun_of state.now objects.items) }
+{
+    let mirror = mirror_of(alloc, objects)?;
+    let number = state.sequence();
+    let holding = HoldingArea::new(alloc, number)?;
+    Ok(Follower {
+        number,
+        base: number,
+        time: Some(state.time()),
+        mirror,
+        holding,
+        is_broken: false,
+    })
 }

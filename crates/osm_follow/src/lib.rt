@@ -1,6 +1,7 @@
 //! A publisher of numbered sequences, and a follower of them.
 #![tactic(auto)]
 
+pub mod begin;
 pub mod delivery;
 mod drain;
 pub mod follower;

@@ -9,6 +9,7 @@ use osm_holding::holding::HoldingArea;
 use osm_mirror::mirror::Mirror;
 use osm_model::change::Change;
 use osm_model::memory::WantOfMemory;
+use osm_save::head::Head;
 use std::alloc::Global;
 use std::marker::Model;
 use thiserror::Error;
@@ -24,11 +25,12 @@ pub enum ViewError {
     WantOfMemory,
 }
 
-/// A copy of what a follower has: its number and time, the objects in the order of their keys, the
+/// A copy of what a follower has: its number, base and time, the objects in the order of their keys, the
 /// users and the changesets with their counts of edits, rising, and the numbers held, rising.
 #[derive(Debug, Drop)]
 pub struct View {
     number: u32,
+    base: u32,
     time: Option<u32>,
     objects: Vec<Change>,
     users: Vec<(u32, u64)>,
@@ -43,6 +45,7 @@ impl Model for View {
 
     ghost view = { λ a. record {
       number = a.number;
+      base = a.base;
       time = a.time;
       mirror = record {
         objects = a.objects.items;
@@ -57,6 +60,7 @@ impl View {
     /// The view with these parts.
     pub fn new(
         number: u32,
+        base: u32,
         time: Option<u32>,
         objects: Vec<Change>,
         users: Vec<(u32, u64)>,
@@ -65,6 +69,7 @@ impl View {
     ) -> View
         ensures { result ≡ record {
           number = number;
+          base = base;
           time = time;
           mirror = record {
             objects = objects.items;
@@ -76,6 +81,7 @@ impl View {
     {
         View {
             number,
+            base,
             time,
             objects,
             users,
@@ -84,17 +90,17 @@ impl View {
         }
     }
 
-    /// The view of a follower with that number, time, mirror and holding area.
+    /// The view of a follower with that number, base, time, mirror and holding area.
     pub(crate) fn of(
         alloc: Global,
-        number: u32,
-        time: Option<u32>,
+        head: Head,
         mirror: &Mirror,
         holding: &HoldingArea,
     ) -> Result<View, WantOfMemory>
         ensures copies { IfOk result (λ v. v ≡ record {
-          number = number;
-          time = time;
+          number = head.number;
+          base = head.base;
+          time = head.time;
           mirror = mirror.now;
           held = numbers_of holding.now;
         }) }
@@ -110,7 +116,15 @@ impl View {
         let users = mirror.users(alloc)?;
         let changesets = mirror.changesets(alloc)?;
         let held = holding.numbers(alloc)?;
-        Ok(View::new(number, time, objects, users, changesets, held))
+        Ok(View::new(
+            head.number,
+            head.base,
+            head.time,
+            objects,
+            users,
+            changesets,
+            held,
+        ))
     }
 
     /// The follower's number.
@@ -118,6 +132,14 @@ impl View {
         ensures { result ≡ self.now.number }
     {
         self.number
+    }
+
+    /// The number after which edits are counted: that of the data which the follower began with, or
+    /// 0.
+    pub fn base(&self) -> u32
+        ensures { result ≡ self.now.base }
+    {
+        self.base
     }
 
     /// The time of the sequence with that number, in seconds since 1970-01-01T00:00:00Z; none at 0.

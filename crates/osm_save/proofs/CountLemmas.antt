@@ -56,7 +56,7 @@ count_takes most last line e h =
       above = a.1;
     })
 
-pub count_again : (most : ℕ) (last : Option ℕ) (e : Counted) → most < 1000000000000000 → IsPositive e.0 → 1 ≤ e.1
+pub count_again : (most : ℕ) (last : Option ℕ) (e : Counted) → most < 1000000000000000000 → IsPositive e.0 → 1 ≤ e.1
     → e.1 ≤ most → is_above nat_cmp last e.0 ≡ true → count_at most last (count_text e) ≡ Some e
 unfolding count_at
 count_again most last e small number some few above =

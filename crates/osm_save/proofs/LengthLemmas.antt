@@ -17,9 +17,11 @@ use Rattle.osm_opl.specs.Line.{status_text}
 use Rattle.osm_opl.specs.Written.{coordinate_field, coordinate_text, escaped_text, items_text, key_text, line_text}
 use Rattle.osm_opl.specs.Written.{member_text, members_field, meta_text, number_field, ref_text, refs_field, tag_text}
 use Rattle.osm_opl.specs.Written.{tags_field, user_fields, version_fields, what_text}
-use Rattle.osm_save.specs.Save.{count_text, ended, list_lines, maybe_time_text, save_text}
+use Rattle.osm_save.specs.Head.{ended, head_lines, head_of}
+use Rattle.osm_save.specs.Save.{count_text, list_lines, save_text}
 use Rattle.osm_save.specs.declared.save.Saved.{Saved}
-use Rattle.osm_save.proofs.TextLemmas.{mirror_text, save_text_is}
+use Rattle.osm_save.specs.declared.version.Version.{Version}
+use Rattle.osm_save.proofs.TextLemmas.{before, mirror_text, save_text_is}
 
 -- two parts are as long as both together
 both : (m n : ℕ) (a b : List ℕ) → m ≤ length a → n ≤ length b → m + n ≤ length (a ++ b)
@@ -153,9 +155,15 @@ users_of v = ended (list_lines (codes "users ") count_text v.mirror.users)
 abbrev changesets_of : Saved → List ℕ
 changesets_of v = ended (list_lines (codes "changesets ") count_text v.mirror.changesets)
 
+before_long : (lines : List (List ℕ)) (rest : List ℕ) → length rest ≤ length (before lines rest)
+before_long [] rest = omega arith
+before_long (line ∷ lines) rest =
+    let more : length rest ≤ length (before lines rest) = before_long lines rest in
+    omega (arith, more, length-append line (10 ∷ before lines rest))
+
 -- a save text is at least that long
-pub text_long : (v : Saved) → least_of v.mirror ≤ length (save_text v)
-text_long v =
+pub text_long : (version : Version) (v : Saved) → least_of v.mirror ≤ length (save_text version v)
+text_long version v =
     let objects : 43 * length v.mirror.objects ≤ length (objects_of v) = list_long (codes "objects ") line_text 42 v.mirror.objects line_long in
     let users : 4 * length v.mirror.users ≤ length (users_of v) = list_long (codes "users ") count_text 3 v.mirror.users count_long in
     let changesets : 4 * length v.mirror.changesets ≤ length (changesets_of v) = list_long (codes "changesets ") count_text 3 v.mirror.changesets count_long in
@@ -170,14 +178,4 @@ text_long v =
     length (mirror_text v.mirror) = both (43 * length v.mirror.objects) (4 * length v.mirror.users
     + (4 * length v.mirror.changesets + 0)) (objects_of v) (users_of v ++ (changesets_of v ++ last)) objects
     three in
-    let time : List ℕ = (codes "time " ++ maybe_time_text v.time) ++ 10 ∷ mirror_text v.mirror in
-    let sequence : List ℕ = (codes "sequence " ++ decimal v.number) ++ 10 ∷ time in
-    rw (save_text_is v)
-    (omega (
-      arith,
-      lists,
-      length-append (codes "time " ++ maybe_time_text v.time) (10 ∷ mirror_text v.mirror),
-      length-append (codes "sequence " ++ decimal v.number) (10 ∷ time),
-      length-append (codes "osmrepl-save 1")
-          (10 ∷ sequence),
-    ))
+    rw (save_text_is version v) (omega (arith, lists, before_long (head_lines version (head_of v)) (mirror_text v.mirror)))

@@ -1,6 +1,6 @@
 -- Lines of a save text: what is read is written that way, and what is written that way is read.
 use Rattle.std.proofs.Common.{◌≡◌, ℕ, ◌<◌, ◌≤◌, ◌/◌, ◌^◌, List, ◌∷◌, ◌++◌, length, take, drop, refl, ap, sym, ◌∙◌, true}
-use Rattle.std.proofs.Common.{false, Some, None, Option, subst, arith}
+use Rattle.std.proofs.Common.{Bool, [], ◌&&◌, not, false, Some, None, Option, subst, arith}
 use Rattle.std.specs.Prelude.{◌≢◌, ◌==◌, nat_le, if◌then◌else◌, codes, decimal}
 use Rattle.std.specs.Str.{bytes_eq}
 use Rattle.std.proofs.lemmas.Bool.Decides.{nat_tests}
@@ -19,10 +19,25 @@ use Rattle.osm_opl.proofs.DateLemmas.{time_again, time_takes}
 use Rattle.osm_reading.specs.Pieces.{Lacks, cut_at}
 use Rattle.osm_reading.specs.Steps.Answers.{and_then}
 use Rattle.osm_reading.proofs.PieceLemmas.{cut_again, cut_takes, lacks_append}
-use Rattle.osm_reading.proofs.StepLemmas.{chosen, guard_some, some_then}
-use Rattle.osm_save.specs.Save.{IsTimeOf, maybe_time_text}
+use Rattle.osm_reading.proofs.StepLemmas.{both_held, chosen, guard_some, some_then}
+use Rattle.std.proofs.lemmas.Bool.{eq-eqb}
+use Rattle.osm_save.specs.Head.{IsTimeOf, maybe_time_text}
 use Rattle.osm_save.specs.Steps.Reading.{after_word, fixed_at, number_at, numbered_at, time_line_at}
 use Rattle.osm_save.proofs.NumberLemmas.{decimal_lacks, number_again, number_takes}
+
+-- ---- a test for a byte that a text lacks
+
+abbrev pub is_without : ℕ → List ℕ → Bool
+is_without s [] = true
+is_without s (b ∷ bs) = not (b == s) && is_without s bs
+
+pub lacks_by : (s : ℕ) (bs : List ℕ) → is_without s bs ≡ true → Lacks s bs
+lacks_by s [] e = tt
+lacks_by s (b ∷ bs) e =
+    let p = both_held (not (b == s)) (is_without s bs) e in (
+      (λ same. (let equal : (b == s) ≡ true = eq-eqb b s same in let bad : false ≡ true = rw equal at p.0 in cc)),
+      lacks_by s bs p.1,
+    )
 
 -- ---- a line that is always the same
 
@@ -61,7 +76,7 @@ word_again word rest =
 pub record TakesNumbered (word : List ℕ) (most : ℕ) (bytes : List ℕ) (n : ℕ) (rest : List ℕ) : Type 0 where
   pub text : bytes ≡ (word ++ decimal n) ++ 10 ∷ rest
   pub few : n ≤ most
-  pub small : n < 1000000000000000
+  pub small : n < 1000000000000000000
 
 same_line : (word line digits text after : List ℕ) → line ≡ word ++ digits → digits ≡ text → line ++ 10 ∷ after ≡ (word ++ text) ++ 10 ∷ after
 same_line word line digits text after p q = rw (p, q) refl
@@ -84,7 +99,7 @@ numbered_takes word most bytes r e =
       small = taken.small;
     })
 
-pub numbered_again : (word : List ℕ) (most n : ℕ) (rest : List ℕ) → Lacks 10 word → n ≤ most → n < 1000000000000000
+pub numbered_again : (word : List ℕ) (most n : ℕ) (rest : List ℕ) → Lacks 10 word → n ≤ most → n < 1000000000000000000
     → numbered_at word most ((word ++ decimal n) ++ 10 ∷ rest) ≡ Some (n, rest)
 unfolding numbered_at
 numbered_again word most n rest lacks few small =
@@ -204,25 +219,10 @@ time_line_takes number bytes r e =
     (λ test f. some_time_takes number bytes r (let t : (number == 0) ≡ false = test in let other : number ≢ 0 = grind (arith, nat_tests) in omega arith) f)
 
 none_lacks : Lacks 10 (codes "time none")
-none_lacks = (
-  (λ e. omega (arith, e)),
-  (
-    (λ e. omega (arith, e)),
-    (
-      (λ e. omega (arith, e)),
-      (
-        (λ e. omega (arith, e)),
-        (
-          (λ e. omega (arith, e)),
-          ((λ e. omega (arith, e)), ((λ e. omega (arith, e)), ((λ e. omega (arith, e)), ((λ e. omega (arith, e)), tt)))),
-        ),
-      ),
-    ),
-  ),
-)
+none_lacks = lacks_by 10 (codes "time none") refl
 
 time_word_lacks : Lacks 10 (codes "time ")
-time_word_lacks = ((λ e. omega (arith, e)), ((λ e. omega (arith, e)), ((λ e. omega (arith, e)), ((λ e. omega (arith, e)), ((λ e. omega (arith, e)), tt)))))
+time_word_lacks = lacks_by 10 (codes "time ") refl
 
 pub time_line_again : (number : ℕ) (time : Option ℕ) (rest : List ℕ) → IsTimeOf number time
     → time_line_at number ((codes "time " ++ maybe_time_text time) ++ 10 ∷ rest) ≡ Some (time, rest)

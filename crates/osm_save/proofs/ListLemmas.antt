@@ -13,7 +13,8 @@ use Rattle.osm_reading.specs.Pieces.{Lacks, cut_at}
 use Rattle.osm_reading.specs.Steps.Answers.{and_then}
 use Rattle.osm_reading.proofs.PieceLemmas.{cut_again, cut_takes}
 use Rattle.osm_reading.proofs.StepLemmas.{some_then}
-use Rattle.osm_save.specs.Save.{ended, list_lines}
+use Rattle.osm_save.specs.Head.{ended}
+use Rattle.osm_save.specs.Save.{list_lines}
 use Rattle.osm_save.specs.Steps.Reading.{is_above, items_at, numbered_at}
 use Rattle.osm_save.proofs.LineLemmas.{numbered_again, numbered_takes}
 
@@ -143,7 +144,7 @@ module _ {X K : Type 0} (cmp : K → K → Ordering) (total : IsTotalOrder cmp) 
       }
 
   pub list_again : (word : List ℕ) (most : ℕ) (xs : List X) (rest : List ℕ) → Lacks 10 word → length xs ≤ most
-      → most < 1000000000000000 → AllByRecursion Good xs → IsStrictlySortedBy cmp (map key xs)
+      → most < 1000000000000000000 → AllByRecursion Good xs → IsStrictlySortedBy cmp (map key xs)
       → and_then {A = ℕ × List ℕ} {B = List X × List ℕ}
       (numbered_at word most (ended (list_lines word text xs) ++ rest))
       (λ (k : ℕ × List ℕ). items_at key item k.0 None k.1) ≡ Some (xs, rest)

@@ -21,9 +21,11 @@ use Rattle.osm_opl.proofs.ListLaws.{line_feed}
 use Rattle.osm_opl.proofs.RoundTrip.{line_spells}
 use Rattle.osm_reading.specs.Pieces.{Lacks}
 use Rattle.osm_reading.proofs.PieceLemmas.{lacks_append}
-use Rattle.osm_save.specs.Save.{count_text, ended, list_lines}
+use Rattle.osm_save.specs.Head.{ended}
+use Rattle.osm_save.specs.Save.{count_text, list_lines}
 use Rattle.osm_save.specs.Steps.Reading.{count_at, counts_at, object_at, objects_at}
 use Rattle.osm_save.proofs.CountLemmas.{count_again, count_takes}
+use Rattle.osm_save.proofs.LineLemmas.{lacks_by}
 use Rattle.osm_save.proofs.ListLemmas.{IsItem, TakesList, list_again, list_takes}
 use Rattle.osm_save.proofs.NumberLemmas.{decimal_lacks}
 use Rattle.osm_save.proofs.ObjectLemmas.{object_again, object_takes}
@@ -46,21 +48,9 @@ objects_take most bytes r e = list_takes key_cmp keys_total (λ (c : ChangeValue
     object_item (codes "objects ") most bytes r e
 
 objects_lack : Lacks 10 (codes "objects ")
-objects_lack = (
-  (λ e. omega (arith, e)),
-  (
-    (λ e. omega (arith, e)),
-    (
-      (λ e. omega (arith, e)),
-      (
-        (λ e. omega (arith, e)),
-        ((λ e. omega (arith, e)), ((λ e. omega (arith, e)), ((λ e. omega (arith, e)), ((λ e. omega (arith, e)), tt)))),
-      ),
-    ),
-  ),
-)
+objects_lack = lacks_by 10 (codes "objects ") refl
 
-pub objects_again : (most : ℕ) (cs : List ChangeValue) (rest : List ℕ) → length cs ≤ most → most < 1000000000000000
+pub objects_again : (most : ℕ) (cs : List ChangeValue) (rest : List ℕ) → length cs ≤ most → most < 1000000000000000000
     → AllByRecursion IsObject cs → IsStrictlySortedBy key_cmp (map (λ (c : ChangeValue). c.key) cs)
     → objects_at most (ended (list_lines (codes "objects ") line_text cs) ++ rest) ≡ Some (cs, rest)
 unfolding objects_at
@@ -75,14 +65,14 @@ pub record IsCountWithin (most : ℕ) (e : Counted) : Type 0 where
   pub some : 1 ≤ e.1
   pub few : e.1 ≤ most
 
-count_lacks : (most : ℕ) (e : Counted) → most < 1000000000000000 → IsCountWithin most e → Lacks 10 (count_text e)
+count_lacks : (most : ℕ) (e : Counted) → most < 1000000000000000000 → IsCountWithin most e → Lacks 10 (count_text e)
 count_lacks most e small good =
     let fits : e.0 < 2 ^ 32 = good.number.high in
     let few : e.1 ≤ most = good.few in
     lacks_append 10 (decimal e.0) (32 ∷ decimal e.1) (decimal_lacks 10 e.0 (omega arith) (omega arith))
     ((λ x. omega (arith, x)), decimal_lacks 10 e.1 (omega arith) (omega arith))
 
-count_item : (most : ℕ) → most < 1000000000000000 → IsItem nat_cmp (λ (e : Counted). e.0) count_text (IsCountWithin most) (count_at most)
+count_item : (most : ℕ) → most < 1000000000000000000 → IsItem nat_cmp (λ (e : Counted). e.0) count_text (IsCountWithin most) (count_at most)
 count_item most small = record {
   takes = λ last line e h. (let t = count_takes most last line e h in (t.text, record { number = t.number; some = t.some; few = t.few }, t.above));
   again = λ last e good above. count_again most last e small good.number good.some good.few above;
@@ -92,14 +82,14 @@ count_item most small = record {
 abbrev pub TakesCounts : List ℕ → ℕ → List ℕ → List Counted × List ℕ → Type 0
 TakesCounts word most bytes r = TakesList nat_cmp (λ (e : Counted). e.0) count_text (IsCountWithin most) word most bytes r.0 r.1
 
-pub counts_take : (word : List ℕ) (most : ℕ) (bytes : List ℕ) (r : List Counted × List ℕ) → most < 1000000000000000
+pub counts_take : (word : List ℕ) (most : ℕ) (bytes : List ℕ) (r : List Counted × List ℕ) → most < 1000000000000000000
     → counts_at word most bytes ≡ Some r → TakesCounts word most bytes r
 unfolding counts_at
 counts_take word most bytes r small e = list_takes nat_cmp nat_cmp_total (λ (e : Counted). e.0) count_text
     (IsCountWithin most) (count_at most) (count_item most small) word most bytes r e
 
 pub counts_again : (word : List ℕ) (most : ℕ) (es : List Counted) (rest : List ℕ) → Lacks 10 word → length es ≤ most
-    → most < 1000000000000000 → AllByRecursion (IsCountWithin most) es
+    → most < 1000000000000000000 → AllByRecursion (IsCountWithin most) es
     → IsStrictlySortedBy nat_cmp (map (λ (e : Counted). e.0) es)
     → counts_at word most (ended (list_lines word count_text es) ++ rest) ≡ Some (es, rest)
 unfolding counts_at

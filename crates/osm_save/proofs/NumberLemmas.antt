@@ -1,4 +1,4 @@
--- Up to fifteen digits, and the one text of a number.
+-- Up to eighteen digits, and the one text of a number.
 use Rattle.std.proofs.Common.{◌≡◌, ℕ, zero, ◌<◌, ◌≤◌, ◌^◌, List, length, arith, lit<, refl, sym, Some, None, true, subst}
 use Rattle.std.specs.Prelude.{decimal, if◌then◌else◌}
 use Rattle.std.specs.Char.{digit_value}
@@ -17,40 +17,40 @@ use Rattle.std.proofs.Math.Nat.{pow-le-pow_right}
 use Rattle.std.proofs.lemmas.Int.Digits.{digits_value-lt}
 use Rattle.std.specs.Str.Parse.{AllDigits, digits_value}
 
-pub fourteen_digits : (ds : List ℕ) → AllDigits 10 ds → length ds ≤ 14 → digits_value 10 ds < 100000000000000
-fourteen_digits ds d h =
+pub seventeen_digits : (ds : List ℕ) → AllDigits 10 ds → length ds ≤ 17 → digits_value 10 ds < 100000000000000000
+seventeen_digits ds d h =
     let small : digits_value 10 ds < 10 ^ length ds = digits_value-lt 10 ds d in
     let ten : zero < 10 = lit< tt in
-    let most : 10 ^ length ds ≤ 10 ^ 14 = pow-le-pow_right ten h in
+    let most : 10 ^ length ds ≤ 10 ^ 17 = pow-le-pow_right ten h in
     omega arith
 
 -- ---- the one text of a number
 
 pub record TakesNumber (bytes : List ℕ) (n : ℕ) : Type 0 where
   pub text : bytes ≡ decimal n
-  pub small : n < 1000000000000000
+  pub small : n < 1000000000000000000
 
 pub number_takes : (bytes : List ℕ) (n : ℕ) → number_at bytes ≡ Some n → TakesNumber bytes n
 unfolding number_at
 number_takes bytes n e =
-    let r = some_then (digits_at 10 15 bytes) (λ (m : ℕ). if bytes_eq (decimal m) bytes then Some m else None) n e in
+    let r = some_then (digits_at 10 18 bytes) (λ (m : ℕ). if bytes_eq (decimal m) bytes then Some m else None) n e in
     let g = guard_some (bytes_eq (decimal r.0) bytes) (Some r.0) n r.2 in
-    let t = digits_take 10 15 bytes r.0 r.1 in
-    let few : digits_value 10 bytes < 10 ^ 15 = few_digits 15 bytes t.short t.all in
+    let t = digits_take 10 18 bytes r.0 r.1 in
+    let few : digits_value 10 bytes < 10 ^ 18 = few_digits 18 bytes t.short t.all in
     subst (λ (m : ℕ). TakesNumber bytes m) (same_Some r.0 n g.1) (record {
       text = sym ((bytes_eq-Decides (decimal r.0) bytes).0 g.0);
       small = omega (arith, few, t.value);
     })
 
-short_decimal : (n : ℕ) → n < 1000000000000000 → length (decimal n) ≤ 15
-short_decimal n small = length-decimal-le 15 n (omega arith) small (omega arith)
+short_decimal : (n : ℕ) → n < 1000000000000000000 → length (decimal n) ≤ 18
+short_decimal n small = length-decimal-le 18 n (omega arith) small (omega arith)
 
-pub number_again : (n : ℕ) → n < 1000000000000000 → number_at (decimal n) ≡ Some n
+pub number_again : (n : ℕ) → n < 1000000000000000000 → number_at (decimal n) ≡ Some n
 unfolding number_at
 number_again n small =
     let numeral = decimal_is_IsNumeral n (omega arith) in
     let some : 1 ≤ length (decimal n) = omega (arith, numeral.0.0) in
-    let read : digits_at 10 15 (decimal n) ≡ Some n = digits_again 10 15 (decimal n) n (record {
+    let read : digits_at 10 18 (decimal n) ≡ Some n = digits_again 10 18 (decimal n) n (record {
       all = all_from_each 10 (decimal n) numeral.0.1;
       some = some;
       short = short_decimal n small;
@@ -67,7 +67,7 @@ not_a_digit s low =
     grind (arith, nat_tests)
 
 -- no digit is a space or a line feed
-pub decimal_lacks : (s n : ℕ) → s < 48 → n < 1000000000000000 → Lacks s (decimal n)
+pub decimal_lacks : (s n : ℕ) → s < 48 → n < 1000000000000000000 → Lacks s (decimal n)
 decimal_lacks s n low small =
     let numeral = decimal_is_IsNumeral n (omega arith) in
     digits_lack 10 s (decimal n) (not_a_digit s low) numeral.0.1

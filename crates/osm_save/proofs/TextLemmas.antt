@@ -1,11 +1,13 @@
 -- Consecutive lines.
 use Rattle.std.proofs.Common.{◌≡◌, ℕ, List, [], ◌∷◌, ◌++◌, map, refl, ap, sym, ◌∙◌}
 use Rattle.std.proofs.lemmas.List.{append_assoc, map-append}
-use Rattle.std.specs.Prelude.{codes, decimal}
+use Rattle.std.specs.Prelude.{codes}
 use Rattle.osm_opl.specs.Written.{line_text}
 use Rattle.osm_mirror.specs.Mirror.{MirrorValue}
-use Rattle.osm_save.specs.Save.{count_text, ended, list_lines, maybe_time_text, save_lines, save_text}
+use Rattle.osm_save.specs.Head.{ended, head_lines, head_of}
+use Rattle.osm_save.specs.Save.{count_text, list_lines, save_lines, save_text}
 use Rattle.osm_save.specs.declared.save.Saved.{Saved}
+use Rattle.osm_save.specs.declared.version.Version.{Version}
 
 pub ended-append : (a b : List (List ℕ)) → ended (a ++ b) ≡ ended a ++ ended b
 ended-append [] b = refl
@@ -18,16 +20,21 @@ ended_more text old next xs x e = e ∙ (append_assoc old (ended (map text xs)) 
     ∙ ap (λ (l : List ℕ). old ++ l) (sym (ended-append (map text xs) (text x ∷ []))
     ∙ ap ended (sym (map-append text xs (x ∷ [])))))
 
--- the lines before the lists
-pub start_joined : (old a b c first second : List ℕ) → a ≡ old ++ codes "osmrepl-save 1\n" → b ≡ a ++ ended (first ∷ [])
-    → c ≡ b ++ ended (second ∷ []) → c ≡ old ++ ended (codes "osmrepl-save 1" ∷ first ∷ second ∷ [])
-start_joined old a b c first second p q r =
-    let one : a ≡ old ++ ended (codes "osmrepl-save 1" ∷ []) = p in
-    let two : b ≡ old ++ ended (codes "osmrepl-save 1" ∷ first ∷ []) =
-    q ∙ (rw one (append_assoc old (ended (codes "osmrepl-save 1" ∷ [])) (ended (first ∷ []))
-    ∙ ap (λ (l : List ℕ). old ++ l) (sym (ended-append (codes "osmrepl-save 1" ∷ []) (first ∷ []))))) in
-    r ∙ (rw two (append_assoc old (ended (codes "osmrepl-save 1" ∷ first ∷ [])) (ended (second ∷ []))
-    ∙ ap (λ (l : List ℕ). old ++ l) (sym (ended-append (codes "osmrepl-save 1" ∷ first ∷ []) (second ∷ [])))))
+-- more lines
+pub lines_more : (old now next : List ℕ) (lines more : List (List ℕ)) → now ≡ old ++ ended lines → next ≡ now ++ ended more
+    → next ≡ old ++ ended (lines ++ more)
+lines_more old now next lines more p q = q ∙ (rw p (append_assoc old (ended lines) (ended more)
+    ∙ ap (λ (l : List ℕ). old ++ l) (sym (ended-append lines more))))
+
+-- lines before other bytes
+abbrev pub before : List (List ℕ) → List ℕ → List ℕ
+before [] rest = rest
+before (line ∷ lines) rest = line ++ 10 ∷ before lines rest
+
+pub ended_before : (lines : List (List ℕ)) (rest : List ℕ) → ended lines ++ rest ≡ before lines rest
+ended_before [] rest = refl
+ended_before (line ∷ lines) rest =
+    append_assoc line (10 ∷ ended lines) rest ∙ ap (λ (l : List ℕ). line ++ 10 ∷ l) (ended_before lines rest)
 
 -- the lists of a mirror, and `end`
 abbrev pub mirror_text : MirrorValue → List ℕ
@@ -35,37 +42,38 @@ mirror_text m = ended (list_lines (codes "objects ") line_text m.objects)
     ++ (ended (list_lines (codes "users ") count_text m.users)
     ++ (ended (list_lines (codes "changesets ") count_text m.changesets) ++ (codes "end" ++ 10 ∷ [])))
 
-lists_joined : (a b c d : List (List ℕ)) → ended (a ++ b ++ c ++ d) ≡ ended a ++ (ended b ++ (ended c ++ ended d))
-lists_joined a b c d =
-    ended-append (a ++ b ++ c) d
-    ∙ (ap (λ (l : List ℕ). l ++ ended d) (ended-append (a ++ b) c ∙ ap (λ (l : List ℕ). l ++ ended c) (ended-append a b))
-    ∙ (append_assoc (ended a ++ ended b) (ended c) (ended d) ∙ append_assoc (ended a) (ended b) (ended c ++ ended d)))
+joined_before : (a b : List (List ℕ)) (rest : List ℕ) → ended (a ++ b) ++ rest ≡ ended a ++ (ended b ++ rest)
+joined_before a b rest = rw (ended-append a b) (append_assoc (ended a) (ended b) rest)
 
--- a save text, line by line
-pub save_text_is : (v : Saved) → save_text v ≡ codes "osmrepl-save 1" ++ 10 ∷ ((codes "sequence " ++ decimal v.number)
-    ++ 10 ∷ ((codes "time " ++ maybe_time_text v.time) ++ 10 ∷ mirror_text v.mirror))
+lists_joined : (h a b c d : List (List ℕ)) → ended (h ++ a ++ b ++ c ++ d) ≡ ended h
+    ++ (ended a ++ (ended b ++ (ended c ++ ended d)))
+lists_joined h a b c d =
+    ended-append (h ++ a ++ b ++ c) d
+    ∙ (joined_before (h ++ a ++ b) c (ended d)
+    ∙ (joined_before (h ++ a) b (ended c ++ ended d) ∙ joined_before h a (ended b ++ (ended c ++ ended d))))
+
+-- a save text, its head and then its lists
+pub save_text_is : (version : Version) (v : Saved) → save_text version v ≡ before (head_lines version (head_of v)) (mirror_text v.mirror)
 unfolding save_text save_lines
-save_text_is v =
-    ap (λ (l : List ℕ). codes "osmrepl-save 1" ++ 10 ∷ ((codes "sequence " ++ decimal v.number) ++ 10 ∷ ((codes "time " ++ maybe_time_text v.time) ++ 10 ∷ l)))
-    (lists_joined (list_lines (codes "objects ") line_text v.mirror.objects)
+save_text_is version v =
+    lists_joined (head_lines version (head_of v)) (list_lines (codes "objects ") line_text v.mirror.objects)
     (list_lines (codes "users ") count_text v.mirror.users)
-    (list_lines (codes "changesets ") count_text v.mirror.changesets) (codes "end" ∷ []))
+    (list_lines (codes "changesets ") count_text v.mirror.changesets) (codes "end" ∷ [])
+    ∙ ended_before (head_lines version (head_of v)) (mirror_text v.mirror)
 
 -- what is written, part after part, is the save text
-pub save_written : (v : Saved) (s o u c e : List ℕ)
-    → s ≡ ended (codes "osmrepl-save 1" ∷ (codes "sequence " ++ decimal v.number) ∷
-    (codes "time " ++ maybe_time_text v.time) ∷ [])
+pub save_written : (version : Version) (v : Saved) (s o u c e : List ℕ) → s ≡ ended (head_lines version (head_of v))
     → o ≡ s ++ ended (list_lines (codes "objects ") line_text v.mirror.objects)
     → u ≡ o ++ ended (list_lines (codes "users ") count_text v.mirror.users)
     → c ≡ u ++ ended (list_lines (codes "changesets ") count_text v.mirror.changesets) → e ≡ c ++ codes "end\n"
-    → e ≡ save_text v
+    → e ≡ save_text version v
 unfolding save_text save_lines
-save_written v s o u c e p q r t w =
-    let start : List (List ℕ) = codes "osmrepl-save 1" ∷ (codes "sequence " ++ decimal v.number) ∷ (codes "time " ++ maybe_time_text v.time) ∷ [] in
+save_written version v s o u c e p q r t w =
+    let start : List (List ℕ) = head_lines version (head_of v) in
     let objects : List (List ℕ) = list_lines (codes "objects ") line_text v.mirror.objects in
     let users : List (List ℕ) = list_lines (codes "users ") count_text v.mirror.users in
     let changesets : List (List ℕ) = list_lines (codes "changesets ") count_text v.mirror.changesets in
-    let one : o ≡ ended (start ++ objects) = q ∙ (rw p (sym (ended-append start objects))) in
-    let two : u ≡ ended (start ++ objects ++ users) = r ∙ (rw one (sym (ended-append (start ++ objects) users))) in
-    let three : c ≡ ended (start ++ objects ++ users ++ changesets) = t ∙ (rw two (sym (ended-append (start ++ objects ++ users) changesets))) in
-    w ∙ (rw three (sym (ended-append (start ++ objects ++ users ++ changesets) (codes "end" ∷ []))))
+    let one : o ≡ ended (start ++ objects) = lines_more [] s o start objects p q in
+    let two : u ≡ ended (start ++ objects ++ users) = lines_more [] o u (start ++ objects) users one r in
+    let three : c ≡ ended (start ++ objects ++ users ++ changesets) = lines_more [] u c (start ++ objects ++ users) changesets two t in
+    lines_more [] c e (start ++ objects ++ users ++ changesets) (codes "end" ∷ []) three w

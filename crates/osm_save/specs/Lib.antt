@@ -1,4 +1,4 @@
-pub mod Save
 pub mod Head
+pub mod Save
 pub mod Refusal
 pub mod Steps

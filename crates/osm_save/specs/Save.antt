@@ -1,11 +1,13 @@
--- The save text: a follower's number and time, its mirror and its counts (our choice).
-use Rattle.std.specs.Prelude.{◌≡◌, ℕ, ◌*◌, ◌<◌, ◌≤◌, List, [], ◌∷◌, ◌++◌, length, map, codes}
-use Rattle.std.specs.Prelude.{decimal, Option, Some, None}
-use Rattle.osm_model.specs.CivilTime.{time_text}
-use Rattle.osm_model.specs.Limits.{IsPositive, max_sequence}
-use Rattle.osm_mirror.specs.Mirror.{Counted, IsMirror, IsWithin}
+-- The save text: a follower's base, number and time, its mirror and its counts (our choice).
+use Rattle.std.specs.Prelude.{◌≡◌, ℕ, ◌*◌, ◌≤◌, List, [], ◌∷◌, ◌++◌, length, map, codes, decimal}
+use Rattle.osm_model.specs.Limits.{max_changes}
+use Rattle.osm_mirror.specs.Mirror.{Counted, IsMirror, IsWithin, MirrorValue}
 use Rattle.osm_opl.specs.Written.{line_text}
+use Rattle.osm_save.specs.Head.{IsHeadIn, ended, head_lines, head_of, most_counted}
+use Rattle.osm_save.specs.declared.head.Head.{Head}
 use Rattle.osm_save.specs.declared.save.Saved.{Saved}
+use Rattle.osm_save.specs.declared.version.Version.{Version}
+use Rattle.osm_save.specs.declared.version.Version.TheVariants.{One, Two}
 
 -- `NUMBER COUNT`
 abbrev pub count_text : Counted → List ℕ
@@ -15,46 +17,45 @@ count_text e = decimal e.0 ++ 32 ∷ decimal e.1
 abbrev pub list_lines : {X : Type 0} → List ℕ → (X → List ℕ) → List X → List (List ℕ)
 list_lines word text xs = (word ++ decimal (length xs)) ∷ map text xs
 
--- `none`, or YYYY-MM-DDTHH:MM:SSZ
-abbrev pub maybe_time_text : Option ℕ → List ℕ
-maybe_time_text None = codes "none"
-maybe_time_text (Some time) = time_text time
-
--- the lines of a save text, without their ends
-unfoldable pub save_lines : Saved → List (List ℕ)
-save_lines v =
-    codes "osmrepl-save 1"
-    ∷ (codes "sequence " ++ decimal v.number)
-    ∷ (codes "time " ++ maybe_time_text v.time)
-    ∷ list_lines (codes "objects ") line_text v.mirror.objects
+-- the lines of a save text of that version, without their ends
+unfoldable pub save_lines : Version → Saved → List (List ℕ)
+save_lines version v =
+    head_lines version (head_of v)
+    ++ list_lines (codes "objects ") line_text v.mirror.objects
     ++ list_lines (codes "users ") count_text v.mirror.users
     ++ list_lines (codes "changesets ") count_text v.mirror.changesets
     ++ codes "end"
     ∷ []
 
--- the lines, each with LF after it
-abbrev pub ended : List (List ℕ) → List ℕ
-ended [] = []
-ended (line ∷ lines) = line ++ 10 ∷ ended lines
+-- the one text of that version of what is saved
+unfoldable pub save_text : Version → Saved → List ℕ
+save_text version v = ended (save_lines version v)
 
--- the one text of what is saved
-unfoldable pub save_text : Saved → List ℕ
-save_text v = ended (save_lines v)
+-- what is saved with that head
+abbrev pub saved_with : Head → MirrorValue → Saved
+saved_with head mirror = record {
+  number = head.number;
+  base = head.base;
+  time = head.time;
+  mirror = mirror;
+}
 
--- number 0 has no time, and every other number has one
-abbrev pub IsTimeOf : ℕ → Option ℕ → Type 0
-IsTimeOf number None = number ≡ 0
-IsTimeOf number (Some time) = (0 < number) × IsPositive time
+-- the most objects: in version 1 as many as the sequences up to the number can have edits, and from
+-- version 2 on 18 digits of them, more than a memory of 2^64 bytes can hold
+abbrev pub most_objects : Version → ℕ → ℕ
+most_objects One number = max_changes * number
+most_objects Two number = 999999999999999999
 
--- what a follower can have at a number: no more of anything than that many sequences can have edits
-pub record IsSavable (v : Saved) : Type 0 where
-  pub number : v.number ≤ max_sequence
-  pub time : IsTimeOf v.number v.time
+-- what a text of that version can save: of users, of changesets and in a count no more than the
+-- sequences after the base can have edits
+pub record IsSavable (version : Version) (v : Saved) : Type 0 where
+  pub head : IsHeadIn version (head_of v)
   pub mirror : IsMirror v.mirror
-  pub within : IsWithin (100000 * v.number) v.mirror
-  pub objects : length v.mirror.objects ≤ 100000 * v.number
+  pub within : IsWithin (most_counted (head_of v)) v.mirror
+  pub objects : length v.mirror.objects ≤ most_objects version v.number
 
--- the bytes are the save text of something that a follower can have
+-- the bytes are the save text, of either version, of something that it can save
 pub record SpellsSave (bytes : List ℕ) (v : Saved) : Type 0 where
-  pub savable : IsSavable v
-  pub text : bytes ≡ save_text v
+  pub version : Version
+  pub savable : IsSavable version v
+  pub text : bytes ≡ save_text version v

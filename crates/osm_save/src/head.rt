@@ -1,17 +1,22 @@
-//! The head of a save text: the lines before its lists.
+//! The head of a save text: the lines before its lists, each read and written by a function of its
+//! own.
 
-ghost use Rattle.std.specs.Prelude.{◌≡◌, ℕ, List, ◌∷◌, [], ◌++◌, ◌≤◌, codes, take};
+ghost use Rattle.std.specs.Prelude.{◌≡◌, ℕ, List, ◌∷◌, [], ◌++◌, ◌≤◌, codes, decimal, take};
 ghost use Rattle.std.specs.Prelude.{IfOk, OnErr, OnOk};
 ghost use Rattle.osm_model.specs.Limits.{max_sequence};
 ghost use Rattle.osm_opl.specs.Steps.Reading.{time_at};
-ghost use Rattle.osm_save.specs.Head.{BeginsSave, head_lines, head_of, max_head};
-ghost use Rattle.osm_save.specs.Save.{SpellsSave, ended, maybe_time_text};
+ghost use Rattle.osm_save.specs.Head.{BeginsSave, ended, head_lines, head_of, max_head};
+ghost use Rattle.osm_save.specs.Head.{maybe_time_text};
+ghost use Rattle.osm_save.specs.Save.{SpellsSave};
 ghost use Rattle.osm_save.specs.Steps.Answers.{Finds};
-ghost use Rattle.osm_save.specs.Steps.Reading.{head_at, time_line_at};
+ghost use Rattle.osm_save.specs.Steps.Reading.{base_at, head_at, sequence_at, time_line_at};
+ghost use Rattle.osm_save.specs.Steps.Reading.{version_at};
 ghost use Rattle.osm_save.specs.declared.save.Saved.{Saved};
+ghost use Rattle.osm_save.specs.declared.version.Version.TheVariants.{Two};
 
 use crate::lines::{fixed_line, line_number, next_line, numbered_line, write_numbered};
 use crate::stop::Stop;
+use crate::version::Version;
 use osm_model::limits::MAX_SEQUENCE;
 use osm_model::memory::WantOfMemory;
 use osm_model::time::{time_read, time_write};
@@ -22,7 +27,10 @@ use thiserror::Error;
 pub struct Head {
     /// The number of the last sequence that was applied; 0 at the start.
     pub number: u32,
-    /// The time of that sequence, in seconds since 1970-01-01T00:00:00Z; none at number 0.
+    /// The number after which edits are counted: that of the data which the follower began with, or
+    /// 0.
+    pub base: u32,
+    /// The time of the last sequence, in seconds since 1970-01-01T00:00:00Z; none at number 0.
     pub time: Option<u32>,
 }
 
@@ -35,14 +43,14 @@ pub struct BadHead {
     pub line: u64,
 }
 
-/// Reads the head of a save text. The bytes are that text, or its beginning: 60 are enough. What
-/// follows the head isn't looked at.
+/// Reads the head of a save text of either version. The bytes are that text, or its beginning: 75
+/// are enough. What follows the head isn't looked at.
 pub fn head_read(bytes: &[u8]) -> Result<Head, BadHead>
     ensures begins { IfOk result (BeginsSave bytes.now) }
     ensures refused { OnErr result ((head : Head) → BeginsSave bytes.now head → ⊥) }
 {
     match read_head(bytes) {
-        Ok((head, _rest)) => Ok(head),
+        Ok((_version, head, _rest)) => Ok(head),
         Err(Stop::Wrong(left)) => Err(BadHead {
             line: line_number(bytes, left),
         }),
@@ -50,17 +58,60 @@ pub fn head_read(bytes: &[u8]) -> Result<Head, BadHead>
     }
 }
 
-// Reads the head, and gives the bytes after it.
+// Reads the head, and gives the version and the bytes after the head.
 #[tactic(auto, unfolding(crate::specs::Steps::Reading::head_at))]
-pub(crate) fn read_head(bytes: &[u8]) -> Result<(Head, &[u8]), Stop>
-    ensures value { Finds (λ r. (r.0, r.1.now)) result (head_at bytes.now) }
-    ensures limit { IfOk result (λ r. r.0.number ≤ max_sequence) }
+pub(crate) fn read_head(bytes: &[u8]) -> Result<(Version, Head, &[u8]), Stop>
+    ensures value { Finds (λ r. (r.0, r.1, r.2.now)) result (head_at bytes.now) }
+    ensures limit { IfOk result (λ r. r.1.number ≤ max_sequence) }
+    ensures base { IfOk result (λ r. r.1.base ≤ r.1.number) }
 {
-    let rest = fixed_line(b"osmrepl-save 1", bytes)?;
-    let (number, rest) = numbered_line(b"sequence ", MAX_SEQUENCE as u64, rest)?;
+    let (version, rest) = version_line(bytes)?;
+    let (base, rest) = base_line(version, rest)?;
+    let (number, rest) = sequence_line(base, rest)?;
     let (time, rest) = time_line(number, rest)?;
     let number = number as u32;
-    Ok((Head { number, time }, rest))
+    let base = base as u32;
+    Ok((version, Head { number, base, time }, rest))
+}
+
+// Reads the line that names the version.
+#[tactic(auto, unfolding(crate::specs::Steps::Reading::version_at))]
+fn version_line(bytes: &[u8]) -> Result<(Version, &[u8]), Stop>
+    ensures { Finds (λ r. (r.0, r.1.now)) result (version_at bytes.now) }
+{
+    let (line, rest) = next_line(bytes)?;
+    if line == b"osmrepl-save 2".as_slice() {
+        return Ok((Version::Two, rest));
+    }
+    if line == b"osmrepl-save 1".as_slice() {
+        return Ok((Version::One, rest));
+    }
+    Err(Stop::Wrong(bytes.len()))
+}
+
+// Reads the line with the base, which version 1 doesn't have.
+fn base_line(version: Version, rest: &[u8]) -> Result<(u64, &[u8]), Stop>
+    ensures value { Finds (λ r. (r.0, r.1.now)) result (base_at version rest.now) }
+    ensures limit { IfOk result (λ r. r.0 ≤ max_sequence) }
+{
+    match version {
+        Version::One => Ok((0, rest)),
+        Version::Two => numbered_line(b"base ", MAX_SEQUENCE as u64, rest),
+    }
+}
+
+// Reads the line with the number, which isn't below the base.
+#[tactic(auto, unfolding(crate::specs::Steps::Reading::sequence_at))]
+fn sequence_line(base: u64, rest: &[u8]) -> Result<(u64, &[u8]), Stop>
+    ensures value { Finds (λ r. (r.0, r.1.now)) result (sequence_at base rest.now) }
+    ensures limit { IfOk result (λ r. r.0 ≤ max_sequence) }
+    ensures base { IfOk result (λ r. base ≤ r.0) }
+{
+    let (number, after) = numbered_line(b"sequence ", MAX_SEQUENCE as u64, rest)?;
+    if number < base {
+        return Err(Stop::Wrong(rest.len()));
+    }
+    Ok((number, after))
 }
 
 // Reads the line with the time of a number.
@@ -89,11 +140,12 @@ fn read_time(text: &[u8]) -> Option<u32>
     time_read(text)
 }
 
-// Appends the head.
+// Appends the head of version 2.
 pub(crate) fn write_head(head: Head, out: &mut Vec<u8>) -> Result<(), WantOfMemory>
-    ensures { OnOk result (out.new.items ≡ out.old.items ++ ended (head_lines head)) }
+    ensures { OnOk result (out.new.items ≡ out.old.items ++ ended (head_lines Two head)) }
 {
-    out.extend_from_slice(b"osmrepl-save 1\n")?;
+    out.extend_from_slice(b"osmrepl-save 2\n")?;
+    write_numbered(b"base ", head.base as u64, out)?;
     write_numbered(b"sequence ", head.number as u64, out)?;
     write_time_line(head.time, out)?;
     Ok(())
@@ -117,7 +169,7 @@ fn write_time_line(time: Option<u32>, out: &mut Vec<u8>) -> Result<(), WantOfMem
     }
 }
 
-/// Laws of heads: bytes begin with at most one, and the first 60 bytes or more of a save text with
+/// Laws of heads: bytes begin with at most one, and the first 75 bytes or more of a save text with
 /// the head of what it saves. Does nothing at run time.
 pub fn laws_of_heads()
     ensures one_head { (bytes : List ℕ) (a b : Head)

@@ -1,4 +1,4 @@
-//! The save text: a follower's number, time and mirror, as a text with only one spelling.
+//! The save text: a follower's base, number, time and mirror. A text saves one thing at most.
 #![tactic(auto)]
 
 mod counts;
@@ -9,3 +9,4 @@ mod objects;
 mod order;
 pub mod save;
 mod stop;
+pub mod version;

@@ -7,9 +7,9 @@ ghost use Rattle.osm_save.specs.Steps.Reading.{number_at};
 use itoa::Buffer;
 use osm_model::memory::WantOfMemory;
 
-const MOST_DIGITS: usize = 15;
+const MOST_DIGITS: usize = 18;
 
-/// The number with this text, if it has at most 15 digits.
+/// The number with this text, if it has at most 18 digits.
 #[tactic(auto, unfolding(crate::specs::Steps::Reading::number_at))]
 pub(crate) fn read_number(text: &[u8]) -> Option<u64>
     ensures { result ≡ number_at text.now }
@@ -21,9 +21,9 @@ pub(crate) fn read_number(text: &[u8]) -> Option<u64>
     Some(number)
 }
 
-// The number with these 1 to 15 digits. Accepts leading zeros.
+// The number with these 1 to 18 digits. Accepts leading zeros.
 fn read_digits(digits: &[u8]) -> Option<u64>
-    ensures { result ≡ digits_at 10 15 digits.now }
+    ensures { result ≡ digits_at 10 18 digits.now }
 {
     if digits.is_empty() || digits.len() > MOST_DIGITS {
         return None;

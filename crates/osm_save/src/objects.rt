@@ -8,7 +8,8 @@ ghost use Rattle.osm_model.specs.Content.{object_after};
 ghost use Rattle.osm_model.specs.KeyOrder.{key_cmp};
 ghost use Rattle.osm_opl.specs.Steps.Reading.{line_at};
 ghost use Rattle.osm_opl.specs.Written.{line_text};
-ghost use Rattle.osm_save.specs.Save.{ended, list_lines};
+ghost use Rattle.osm_save.specs.Head.{ended};
+ghost use Rattle.osm_save.specs.Save.{list_lines};
 ghost use Rattle.osm_save.specs.Steps.Answers.{Gives};
 ghost use Rattle.osm_save.specs.Steps.Reading.{is_above, items_at, object_at, objects_at};
 

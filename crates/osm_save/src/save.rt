@@ -1,7 +1,8 @@
-//! What a follower saves, and its one text (our choice).
+//! What a follower saves, and its text (our choice). Version 2 is written:
 //!
 //! ```text
-//! osmrepl-save 1
+//! osmrepl-save 2
+//! base 0
 //! sequence 1
 //! time 2024-01-01T00:00:00Z
 //! objects 1
@@ -12,35 +13,48 @@
 //! 7 1
 //! end
 //! ```
+//!
+//! Version 1, which begins with `osmrepl-save 1` and has no line `base`, is read as base 0.
 
-ghost use Rattle.std.specs.Prelude.{◌≡◌, ◌*◌, ◌<◌, ◌≤◌, [], List, ℕ, Option, length};
+ghost use Rattle.std.specs.Prelude.{◌≡◌, ◌*◌, ◌-◌, ◌<◌, ◌≤◌, [], List, ℕ, length};
 ghost use Rattle.std.specs.Prelude.{vec_capacity, IfOk, IfErr, OnErr};
 ghost use Rattle.osm_model.specs.Limits.{max_sequence};
 ghost use Rattle.osm_mirror.specs.Mirror.{HoldsSome, IsWithin};
+ghost use Rattle.osm_save.specs.Head.{IsHeadIn, most_counted};
 ghost use Rattle.osm_save.specs.Refusal.{SaveRefused};
-ghost use Rattle.osm_save.specs.Save.{IsSavable, IsTimeOf, SpellsSave, save_text};
+ghost use Rattle.osm_save.specs.Save.{IsSavable, SpellsSave, most_objects, save_text, saved_with};
 ghost use Rattle.osm_save.specs.Steps.Answers.{Gives};
 ghost use Rattle.osm_save.specs.Steps.Reading.{mirror_at, save_at};
+ghost use Rattle.osm_save.specs.declared.head.Head.{Head};
+ghost use Rattle.osm_save.specs.declared.version.Version.{Version};
+ghost use Rattle.osm_save.specs.declared.version.Version.TheVariants.{Two};
 
 use crate::counts::{read_counts, write_counts};
 use crate::head::{Head, read_head, write_head};
 use crate::lines::{fixed_line, line_number};
 use crate::objects::{read_objects, write_objects};
 use crate::stop::Stop;
+use crate::version::Version;
 use osm_mirror::mirror::Mirror;
 use osm_model::limits::MAX_CHANGES;
 use osm_model::memory::WantOfMemory;
 use std::alloc::Global;
 use thiserror::Error;
 
+// The most objects of a text of version 2.
+const MOST_OBJECTS: u64 = 999_999_999_999_999_999;
+
 /// What a follower saves.
 #[derive(Debug, Drop)]
 pub struct Saved {
     /// The number of the last sequence that was applied; 0 at the start.
     pub number: u32,
-    /// The time of that sequence, in seconds since 1970-01-01T00:00:00Z; none at number 0.
+    /// The number after which edits are counted: that of the data which the follower began with, or
+    /// 0.
+    pub base: u32,
+    /// The time of the last sequence, in seconds since 1970-01-01T00:00:00Z; none at number 0.
     pub time: Option<u32>,
-    /// The objects, and the edits counted by user and by changeset.
+    /// The objects, and the edits after the base, counted by user and by changeset.
     pub mirror: Mirror,
 }
 
@@ -56,30 +70,16 @@ pub enum SaveError {
     WantOfMemory,
 }
 
-/// Writes the save text of a number, its time and a mirror.
-pub fn save_write(
-    alloc: Global,
-    number: u32,
-    time: Option<u32>,
-    mirror: &Mirror,
-) -> Result<Vec<u8>, WantOfMemory>
-    ensures text { IfOk result (λ text. text.items ≡ save_text (record {
-      number = number;
-      time = time;
-      mirror = mirror.now;
-    })) }
-    ensures spelled { number ≤ max_sequence → IsTimeOf number time
-        → IsWithin (100000 * number) mirror.now
-        → length mirror.now.objects ≤ 100000 * number
-        → IfOk result (λ text. SpellsSave text.items (record {
-          number = number;
-          time = time;
-          mirror = mirror.now;
-        })) }
+/// Writes the save text of a head and a mirror, in version 2.
+pub fn save_write(alloc: Global, head: Head, mirror: &Mirror) -> Result<Vec<u8>, WantOfMemory>
+    ensures text { IfOk result (λ text.
+        text.items ≡ save_text Two (saved_with head mirror.now)) }
+    ensures spelled { IsHeadIn Two head → IsWithin (most_counted head) mirror.now
+        → IfOk result (λ text. SpellsSave text.items (saved_with head mirror.now)) }
 {
     mirror.limits();
     let mut text = room_for_text(alloc, mirror)?;
-    write_head(Head { number, time }, &mut text)?;
+    write_head(head, &mut text)?;
     write_objects(mirror.objects_by_key(), &mut text)?;
     write_counts(b"users ", mirror.user_counts(), &mut text)?;
     write_counts(b"changesets ", mirror.changeset_counts(), &mut text)?;
@@ -90,12 +90,8 @@ pub fn save_write(
 // An empty text with room for no more than the shortest save text of the mirror.
 fn room_for_text(alloc: Global, mirror: &Mirror) -> Result<Vec<u8>, WantOfMemory>
     ensures empty { IfOk result (λ text. text.items ≡ []) }
-    ensures room { IfOk result (λ text. (number : ℕ) (time : Option ℕ)
-        → vec_capacity text ≤ length (save_text (record {
-          number = number;
-          time = time;
-          mirror = mirror.now;
-        }))) }
+    ensures room { IfOk result (λ text. (version : Version) (head : Head)
+        → vec_capacity text ≤ length (save_text version (saved_with head mirror.now))) }
     ensures refused { OnErr result (HoldsSome mirror.now) }
 {
     Ok(Vec::with_capacity(alloc, least_length(mirror))?)
@@ -104,11 +100,8 @@ fn room_for_text(alloc: Global, mirror: &Mirror) -> Result<Vec<u8>, WantOfMemory
 // A lower bound on the length of the text, in bytes: an object's line has at least 43, a count's at
 // least 4.
 fn least_length(mirror: &Mirror) -> usize
-    ensures least { (number : ℕ) (time : Option ℕ) → result ≤ length (save_text (record {
-      number = number;
-      time = time;
-      mirror = mirror.now;
-    })) }
+    ensures least { (version : Version) (head : Head)
+        → result ≤ length (save_text version (saved_with head mirror.now)) }
     ensures some { 0 < result → HoldsSome mirror.now }
 {
     let objects = mirror.objects_by_key().len().saturating_mul(43);
@@ -135,18 +128,19 @@ pub fn save_read(alloc: Global, bytes: &[u8]) -> Result<Saved, SaveError>
 fn read_save(alloc: Global, bytes: &[u8]) -> Result<Saved, Stop>
     ensures { Gives (λ saved. saved) result (save_at bytes.now) }
 {
-    let (head, rest) = read_head(bytes)?;
-    read_mirror(alloc, head, rest)
+    let (version, head, rest) = read_head(bytes)?;
+    read_mirror(alloc, version, head, rest)
 }
 
 // Reads the lists and the line `end`.
 #[tactic(auto, unfolding(crate::specs::Steps::Reading::mirror_at))]
-fn read_mirror(alloc: Global, head: Head, rest: &[u8]) -> Result<Saved, Stop>
-    requires { head.number ≤ max_sequence }
-    ensures { Gives (λ saved. saved) result (mirror_at head.number head.time rest.now) }
+fn read_mirror(alloc: Global, version: Version, head: Head, rest: &[u8]) -> Result<Saved, Stop>
+    requires number { head.number ≤ max_sequence }
+    requires base { head.base ≤ head.number }
+    ensures { Gives (λ saved. saved) result (mirror_at version head rest.now) }
 {
-    let most = MAX_CHANGES as u64 * head.number as u64;
-    let (objects, rest) = read_objects(alloc, most, rest)?;
+    let (objects, rest) = read_objects(alloc, objects_limit(version, head.number), rest)?;
+    let most = MAX_CHANGES as u64 * (head.number - head.base) as u64;
     let (users, rest) = read_counts(alloc, b"users ", most, rest)?;
     let (changesets, rest) = read_counts(alloc, b"changesets ", most, rest)?;
     let rest = fixed_line(b"end", rest)?;
@@ -155,15 +149,28 @@ fn read_mirror(alloc: Global, head: Head, rest: &[u8]) -> Result<Saved, Stop>
     }
     Ok(Saved {
         number: head.number,
+        base: head.base,
         time: head.time,
         mirror: Mirror::from_parts(objects, users, changesets),
     })
 }
 
-/// Laws of save texts: bytes save at most one thing, and what is within the limits is spelled by
-/// its text. Does nothing at run time.
+// The most objects that a text of that version and number can have.
+fn objects_limit(version: Version, number: u32) -> u64
+    requires { number ≤ max_sequence }
+    ensures { result ≡ most_objects version number }
+{
+    match version {
+        Version::One => MAX_CHANGES as u64 * number as u64,
+        Version::Two => MOST_OBJECTS,
+    }
+}
+
+/// Laws of save texts: bytes save at most one thing, and what a version can save is spelled by its
+/// text. Does nothing at run time.
 pub fn laws_of_saves()
     ensures one_save { (bytes : List ℕ) (a b : Saved)
         → SpellsSave bytes a → SpellsSave bytes b → a ≡ b }
-    ensures written { (v : Saved) → IsSavable v → SpellsSave (save_text v) v }
+    ensures written { (version : Version) (v : Saved) → IsSavable version v
+        → SpellsSave (save_text version v) v }
 {}

@@ -1,5 +1,5 @@
 -- What the application of the next sequence answers, and what is left when held ones are applied.
-use Rattle.std.specs.Prelude.{◌≡◌, ℕ, ◌+◌, ◌*◌, ◌<◌, ◌≤◌, ◌++◌, length, Result, Ok, Err, true}
+use Rattle.std.specs.Prelude.{◌≡◌, ℕ, ◌+◌, ◌*◌, ◌<◌, ◌≤◌, ◌++◌, Result, Ok, Err, true}
 use Rattle.osm_holding.specs.Holding.{HoldingValue}
 use Rattle.osm_holding.specs.declared.holding.Held.{Held}
 use Rattle.osm_mirror.specs.Mirror.{Applies, IsWithin, MirrorValue, NeedsMemory}
@@ -20,6 +20,10 @@ TakeAnswers f p (Ok (Applied low high)) g = (low ≡ p.number) × Takes f p high
 TakeAnswers f p (Err Broke) g = Breaks f p g
 TakeAnswers f p answer g = ⊥
 
+-- every count, and the number of users and of changesets, has grown by at most `more`
+pub record WidensBy (more : ℕ) (m n : MirrorValue) : Type 0 where
+  pub within : (most : ℕ) → IsWithin most m → IsWithin (most + more) n
+
 -- the sequence after the number reached was applied, and after it what the area held without a gap:
 -- the new number reached and `last` are the number and the time of the last sequence applied
 pub record Drains (m : MirrorValue) (holding : HoldingValue) (first : Held)
@@ -29,8 +33,7 @@ pub record Drains (m : MirrorValue) (holding : HoldingValue) (first : Held)
   pub reach : Reaches (is_in holding) (holding.reached + 1) left.reached
   pub applied :
       Applies m (first.batch ++ between (changes_in holding) (holding.reached + 1) count) n
-  pub within : IsWithin (max_changes * left.reached) n
-  pub objects : length n.objects ≤ max_changes * left.reached
+  pub widened : WidensBy (max_changes * (count + 1)) m n
   pub time : last ≡ time_in holding left.reached first.time
   pub rest : (j : ℕ) → left.reached < j → sequence_in left j ≡ sequence_in holding j
 

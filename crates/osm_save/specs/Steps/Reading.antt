@@ -1,5 +1,5 @@
 -- How a save text is read, line by line. The lemmas that tie this to the text are in proofs/.
-use Rattle.std.specs.Prelude.{ℕ, zero, suc, ◌*◌, ◌^◌, ◌==◌, ◌&&◌, nat_lt, nat_le, Bool, true}
+use Rattle.std.specs.Prelude.{ℕ, zero, suc, ◌^◌, ◌==◌, ◌&&◌, nat_lt, nat_le, Bool, true}
 use Rattle.std.specs.Prelude.{List, [], ◌∷◌, length, take, drop, codes, decimal}
 use Rattle.std.specs.Prelude.{Option, Some, None, is_some, if◌then◌else◌}
 use Rattle.std.specs.Ordering.{is_lt, nat_cmp}
@@ -15,13 +15,17 @@ use Rattle.osm_opl.specs.Steps.Reading.{digits_at, line_at, time_at}
 use Rattle.osm_opl.specs.Written.{line_text}
 use Rattle.osm_reading.specs.Pieces.{cut_at}
 use Rattle.osm_reading.specs.Steps.Answers.{and_then}
+use Rattle.osm_save.specs.Head.{most_counted}
+use Rattle.osm_save.specs.Save.{most_objects, saved_with}
 use Rattle.osm_save.specs.declared.head.Head.{Head}
 use Rattle.osm_save.specs.declared.save.Saved.{Saved}
+use Rattle.osm_save.specs.declared.version.Version.{Version}
+use Rattle.osm_save.specs.declared.version.Version.TheVariants.{One, Two}
 
--- the number with exactly this text, of at most 15 digits
+-- the number with exactly this text, of at most 18 digits
 unfoldable pub number_at : List ℕ → Option ℕ
 number_at bytes =
-    and_then (digits_at 10 15 bytes) (λ n.
+    and_then (digits_at 10 18 bytes) (λ n.
     if bytes_eq (decimal n) bytes then Some n else None)
 
 -- the bytes after a prefix
@@ -87,26 +91,43 @@ counts_at word most bytes =
     items_at (λ e. e.0) (count_at most) k.0 None k.1)
 
 -- the three lists of a mirror, and `end`
-unfoldable pub mirror_at : ℕ → Option ℕ → List ℕ → Option Saved
-mirror_at number time bytes =
-    and_then (objects_at (100000 * number) bytes) (λ o.
-    and_then (counts_at (codes "users ") (100000 * number) o.1) (λ u.
-    and_then (counts_at (codes "changesets ") (100000 * number) u.1) (λ s.
+unfoldable pub mirror_at : Version → Head → List ℕ → Option Saved
+mirror_at version head bytes =
+    and_then (objects_at (most_objects version head.number) bytes) (λ o.
+    and_then (counts_at (codes "users ") (most_counted head) o.1) (λ u.
+    and_then (counts_at (codes "changesets ") (most_counted head) u.1) (λ s.
     and_then (fixed_at (codes "end") s.1) (λ rest.
-    if length rest == 0 then Some (record {
-      number = number;
-      time = time;
-      mirror = record { objects = o.0; users = u.0; changesets = s.0 };
-    }) else None))))
+    if length rest == 0
+    then Some (saved_with head (record { objects = o.0; users = u.0; changesets = s.0 }))
+    else None))))
 
--- the head, and the bytes after it
-unfoldable pub head_at : List ℕ → Option (Head × List ℕ)
+-- the version that the first line names, and the bytes after the line
+unfoldable pub version_at : List ℕ → Option (Version × List ℕ)
+version_at bytes =
+    and_then (cut_at 10 bytes) (λ l.
+    if bytes_eq l.0 (codes "osmrepl-save 2") then Some (Two, l.1)
+    else (if bytes_eq l.0 (codes "osmrepl-save 1") then Some (One, l.1) else None))
+
+-- the base of a text of that version, and the bytes after its line, if the version has one
+abbrev pub base_at : Version → List ℕ → Option (ℕ × List ℕ)
+base_at One bytes = Some (0, bytes)
+base_at Two bytes = numbered_at (codes "base ") max_sequence bytes
+
+-- the number, which isn't below the base, and the bytes after the line
+unfoldable pub sequence_at : ℕ → List ℕ → Option (ℕ × List ℕ)
+sequence_at base bytes =
+    and_then (numbered_at (codes "sequence ") max_sequence bytes) (λ n.
+    if nat_le base n.0 then Some n else None)
+
+-- the version, the head, and the bytes after it
+unfoldable pub head_at : List ℕ → Option (Version × Head × List ℕ)
 head_at bytes =
-    and_then (fixed_at (codes "osmrepl-save 1") bytes) (λ first.
-    and_then (numbered_at (codes "sequence ") max_sequence first) (λ n.
+    and_then (version_at bytes) (λ v.
+    and_then (base_at v.0 v.1) (λ b.
+    and_then (sequence_at b.0 b.1) (λ n.
     and_then (time_line_at n.0 n.1) (λ t.
-    Some (record { number = n.0; time = t.0 }, t.1))))
+    Some (v.0, record { number = n.0; base = b.0; time = t.0 }, t.1)))))
 
 -- what the bytes save
 unfoldable pub save_at : List ℕ → Option Saved
-save_at bytes = and_then (head_at bytes) (λ h. mirror_at h.0.number h.0.time h.1)
+save_at bytes = and_then (head_at bytes) (λ h. mirror_at h.0 h.1 h.2)

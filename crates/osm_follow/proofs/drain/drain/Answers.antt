@@ -16,7 +16,7 @@ loop-held-preserved c =
     drained_more c.args.mirror.now c.loop-held.mirror c.apply_next-in-Some.new.mirror c.args.holding.now
     c.loop-held.holding c.take_next.new.self c.apply_next-in-Some.new.holding c.args.first c.in-Some.held
     c.loop-held.time c.loop-held.invariant value c.in-Some.ensures.taken c.in_ok-apply_next-2.ensures.applied
-    c.in_ok-apply_next-2.ensures.moved c.in_ok-apply_next-2.ensures.within c.in_ok-apply_next-2.ensures.objects
+    c.in_ok-apply_next-2.ensures.moved c.in_ok-apply_next-2.ensures.within c.in_ok-apply_next-2.ensures.widened
 
 pub returns-in_err-apply_next-2-clause-stopped : goal.returns-in_err-apply_next-2-clause-stopped
 returns-in_err-apply_next-2-clause-stopped c =

@@ -1,10 +1,11 @@
 use Rattle.std.proofs.Common.{◌≡◌, ◌+◌, ◌*◌, ◌≤◌, ap, arith, length}
+use Rattle.osm_save.specs.Save.{saved_with}
 use Rattle.osm_save.proofs.LengthLemmas.{text_long}
 use Rattle.osm_save.proofs.save.least_length.Goals as goal
 
 pub returns-clause-least : goal.returns-clause-least
-returns-clause-least c = λ number time.
-    let long = text_long (record { number = number; time = time; mirror = c.args.mirror.now }) in
+returns-clause-least c = λ version head.
+    let long = text_long version (saved_with head c.args.mirror.now) in
     let many-objects : length c.objects_by_key.result.now ≡ length c.args.mirror.now.objects = ap length c.objects_by_key.ensures in
     let many-users : length c.user_counts.result.now ≡ length c.args.mirror.now.users = ap length c.user_counts.ensures in
     let many-changesets : length c.changeset_counts.result.now ≡ length c.args.mirror.now.changesets = ap length c.changeset_counts.ensures in

@@ -1,0 +1,11 @@
+//! The versions of the save text.
+
+/// A version of the save text, which its first line names.
+#[derive(Clone, Copy, Debug, PartialEq, Eq)]
+pub enum Version {
+    /// Has no base, which is 0, and a bound on the number of objects. It is read, but no longer
+    /// written.
+    One,
+    /// The one that is written.
+    Two,
+}
