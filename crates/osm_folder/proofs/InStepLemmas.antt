@@ -74,6 +74,7 @@ step_in_step ps files dir old new folder within add step =
     changes_next ps old.number add.next.number is at ∙ ap (λ cs. changes_up_to ps old.number ++ cs) (sym changes) in
     record {
       within = rw add.number at;
+      base = add.base ∙ step.base;
       mirror = rw (add.number, joined) grown;
       time = add.time ∙ (ap (λ (n : ℕ). Some n) time ∙ rw add.number (sym (time_next ps old.number add.next.number is)));
     }

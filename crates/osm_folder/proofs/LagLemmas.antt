@@ -20,7 +20,8 @@ use Rattle.osm_folder.specs.declared.fault.FileName.TheVariants.{Top}
 use Rattle.osm_folder.specs.declared.fault.RunFault.{RunFault}
 use Rattle.osm_folder.specs.declared.fault.RunFault.TheVariants.{WantOfMemory, ReadFault, TooLarge, Absent}
 use Rattle.osm_folder.specs.declared.fault.RunFault.TheVariants.{BadState, BadSave, TopBehind, TimeBehind}
-use Rattle.osm_folder.proofs.HeadLemmas.{begins_first, begins_more, head_is, save_has_head}
+use Rattle.osm_save.proofs.HeadLemmas.{begins_first, save_has_head}
+use Rattle.osm_folder.proofs.HeadLemmas.{begins_more, head_is}
 use Rattle.osm_folder.proofs.InStepLemmas.{top_number}
 use Rattle.osm_folder.proofs.RefusalLemmas.{good_top, small_top}
 use Rattle.osm_folder.proofs.StopLemmas.{none_published}
@@ -33,7 +34,7 @@ head_there None most bytes head is b = absurd (let e = is in cc)
 head_there (Some all) most bytes head is b =
     begins_more most all head (let same : take most all ≡ bytes = same_Some (take most all) bytes is in rw same b)
 
-pub bad_head : (told : Option (List ℕ)) (most : ℕ) (bytes : List ℕ) → 60 ≤ most → prefix_of most told ≡ Some bytes
+pub bad_head : (told : Option (List ℕ)) (most : ℕ) (bytes : List ℕ) → 75 ≤ most → prefix_of most told ≡ Some bytes
     → ((head : Head) → BeginsSave bytes head → ⊥) → IsBadHead told
 bad_head None most bytes enough is nothing = absurd (let e = is in cc)
 bad_head (Some all) most bytes enough is nothing = record {
@@ -43,7 +44,7 @@ bad_head (Some all) most bytes enough is nothing = record {
       rw (← same) (begins_first most all head enough b));
 }
 
-pub head_text_stops : (known : Type 0) (told : Option (List ℕ)) (most : ℕ) (bytes : List ℕ) (fault : RunFault) → 60 ≤ most
+pub head_text_stops : (known : Type 0) (told : Option (List ℕ)) (most : ℕ) (bytes : List ℕ) (fault : RunFault) → 75 ≤ most
     → (known → prefix_of most told ≡ Some bytes) → HeadTextStops bytes fault → HeadStops known told fault
 head_text_stops known told most bytes (BadSave line) enough is h = λ yes. bad_head told most bytes enough (is yes) h
 head_text_stops known told most bytes fault enough is h = absurd h

@@ -19,6 +19,7 @@ shown_of ps number told report saved shown =
     record {
       view = view_of_saved shown.saved;
       number_is = ap (λ (v : Saved). v.number) same ∙ saved.number_is;
+      base = ap (λ (v : Saved). v.base) same ∙ step.base;
       time = ap (λ (v : Saved). v.time) same ∙ (step.time ∙ ap (time_at ps) saved.number_is);
       mirror = rw (same, ← saved.number_is) step.mirror;
       held = refl;

@@ -98,6 +98,7 @@ taken_applied known files dir f number g h applied more p low high t is has next
             there = has yes;
             applied = subst (λ cs. Applies g.mirror cs h.mirror) changes takes.applied;
             number = number_is ∙ sym is;
+            base = takes.base;
             time = time;
           },
         );

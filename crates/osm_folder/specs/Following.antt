@@ -34,7 +34,7 @@ max_save = 1073741824
 
 -- what a follower goes on from if it saved nothing
 abbrev pub no_save : Saved
-no_save = record { number = 0; time = None; mirror = no_mirror }
+no_save = record { number = 0; base = 0; time = None; mirror = no_mirror }
 
 -- what a save holds; no save is the start
 abbrev pub IsSaved : Option (List ℕ) → Saved → Type 0
@@ -69,6 +69,7 @@ pub record Adds (files : Files) (dir : List ℕ) (old new : Saved) : Type 0 wher
   pub there : HasFiles files dir next
   pub applied : Applies old.mirror next.changes new.mirror
   pub number : new.number ≡ next.number
+  pub base : new.base ≡ old.base
   pub time : new.time ≡ Some next.time
 
 -- those of that many numbers are applied, one after the other
@@ -280,9 +281,11 @@ FollowStops known dir save files fault =
     StartStops known dir save files fault ⊎ StopsAt known dir save files fault
     ⊎ BeyondStops known dir save files fault ⊎ SaveStops known dir save files fault
 
--- exactly the mirror, the counts and the time of published sequences 1 to the number
+-- exactly the mirror, the counts and the time of published sequences 1 to the number; the follower
+-- began at 0
 pub record IsInStep (published : List PublishedValue) (v : Saved) : Type 0 where
   pub within : v.number ≤ length published
+  pub base : v.base ≡ 0
   pub mirror :
       IsMirrorOf (changes_up_to published v.number) (changes_up_to published v.number) v.mirror
   pub time : v.time ≡ time_at published v.number

@@ -15,7 +15,13 @@ use Rattle.osm_folder.specs.declared.fault.RunFault.TheVariants.{TooLarge, Absen
 
 -- the view of what was saved: nothing is held
 abbrev pub view_of_saved : Saved → ViewValue
-view_of_saved v = record { number = v.number; time = v.time; mirror = v.mirror; held = [] }
+view_of_saved v = record {
+  number = v.number;
+  base = v.base;
+  time = v.time;
+  mirror = v.mirror;
+  held = [];
+}
 
 -- the save is there, and what it saves is shown
 pub record IsShown (told : Option (List ℕ)) (report : ReportValue) : Type 0 where
@@ -32,6 +38,7 @@ pub record IsShownOf (published : List PublishedValue) (number : ℕ) (report : 
     Type 0 where
   pub view : ViewValue
   pub number_is : view.number ≡ number
+  pub base : view.base ≡ 0
   pub time : view.time ≡ time_at published number
   pub mirror :
       IsMirrorOf (changes_up_to published number) (changes_up_to published number) view.mirror

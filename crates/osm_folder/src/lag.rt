@@ -21,7 +21,7 @@ use osm_state::laws::laws_of_state;
 use osm_state::state::State;
 use std::alloc::Global;
 
-// How many bytes of a save are read. A head has at most 60.
+// How many bytes of a save are read. A head has at most 75.
 const HEAD: u64 = 1024;
 
 /// How many numbers and seconds a save, or the start if there is none, is behind the folder's
@@ -62,6 +62,7 @@ fn read_start<S: Store>(alloc: Global, store: &mut S, save: &str) -> Result<Head
         Ok(Some(bytes)) => read_head(bytes.as_slice()),
         Ok(None) => Ok(Head {
             number: 0,
+            base: 0,
             time: None,
         }),
         Err(fault) => Err(fault),

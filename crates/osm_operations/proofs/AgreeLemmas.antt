@@ -164,6 +164,7 @@ save_before p x m told s = record {
         let within = is.within in
         record {
           within = grind (arith, length-append);
+          base = is.base;
           mirror = subst (λ cs. IsMirrorOf cs cs v.mirror) (sym (changes_within p (x ∷ []) v.number within)) is.mirror;
           time = is.time ∙ sym (time_within p (x ∷ []) v.number within);
         }

@@ -548,7 +548,7 @@ starts_hold dir save changes w new none zero_is = record {
       value = no_save;
       saved = rw new.saved refl;
       number_is = refl;
-      in_step = record { within = omega arith; mirror = mirror_of-nil; time = refl };
+      in_step = record { within = omega arith; base = refl; mirror = mirror_of-nil; time = refl };
     };
     others = λ name o. refl;
     number = zero_is;
