@@ -71,7 +71,7 @@ def mirror(number, objects, users, changesets):
 
 
 def save(number, *parts):
-    return b"osmrepl-save 1\nsequence %d\n" % number + mirror(number, *parts) + b"end\n"
+    return b"osmrepl-save 2\nbase 0\nsequence %d\n" % number + mirror(number, *parts) + b"end\n"
 
 
 def show(number, *parts, held=()):

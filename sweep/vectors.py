@@ -335,13 +335,14 @@ WRONG_LISTS = [
     (b'objects 0\nusers 0\nchangesets 0\nend\nend', 8),
 ]
 
-# Texts that are no save.
-WRONG_SAVES = [
+# Texts of version 1 that are no save.
+WRONG_FIRST_SAVES = [
     (b'', 1),
     (b'\n', 1),
     (b'osmrepl-save 1', 1),
     (b'osmrepl-save 1\r\nsequence 0\n', 1),
-    (b'osmrepl-save 2\n', 1),
+    (b'osmrepl-save 3\n', 1),
+    (b'osmrepl-save 1\nbase 0\nsequence 1\n', 2),
     (b'\xef\xbb\xbfosmrepl-save 1\n', 1),
     (b'osmrepl-save 1\n', 2),
     (b'osmrepl-save 1\nsequence 00\n', 2),
@@ -367,6 +368,31 @@ WRONG_SAVES = [
      b'\nend\n#',
      11),
 ]
+
+# The same in version 2, which has the line `base` before that of the number, and no bound of its own on the objects.
+WRONG_SECOND_SAVES = [
+    (b'osmrepl-save 2\n', 2),
+    (b'osmrepl-save 2\nsequence 1\n', 2),
+    (b'osmrepl-save 2\nbase 00\n', 2),
+    (b'osmrepl-save 2\nbase 01\nsequence 1\n', 2),
+    (b'osmrepl-save 2\nbase 1000000000\n', 2),
+    (b'osmrepl-save 2\nbase 0\n', 3),
+    (b'osmrepl-save 2\nbase 2\nsequence 1\n', 3),
+    (b'osmrepl-save 2\nbase 1\nsequence 1\ntime none\n', 4),
+    (b'osmrepl-save 2\nbase 1\nsequence 1\ntime 2024-01-01T00:00:00Z\nobjects 0\nusers 1\n', 6),
+    (b'osmrepl-save 2\nbase 1\nsequence 2\ntime 2024-01-01T00:00:00Z\nobjects 0\nusers 1\n5 100001\n', 7),
+]
+
+
+def in_version_2(content):
+    return content.replace(b"osmrepl-save 1\n", b"osmrepl-save 2\nbase 0\n")
+
+
+WRONG_FIRST_SAVES += [(SAVE_START + lists, line) for lists, line in WRONG_LISTS]
+WRONG_SECOND_SAVES += [(in_version_2(text), line + 1) for text, line in WRONG_FIRST_SAVES
+                       if line > 1 and b"base" not in text and b"objects 100001" not in text]
+WRONG_SECOND_SAVES.append((in_version_2(SAVE_START) + b"objects 100001\n", 6))
+WRONG_SAVES = WRONG_FIRST_SAVES + WRONG_SECOND_SAVES
 
 # Scripts, and the first line that is no event.
 REFUSED_SCRIPTS = [

@@ -108,8 +108,8 @@ fn losses_and_kills_leave_each_number_reported_once(rt: HostRuntime) -> Result<(
     for (reply, text) in outcome.replies.iter().zip(REPLIES) {
         assert!(rt; text_of(reply) == text.as_bytes(), "{text}");
     }
-    let save = b"osmrepl-save 1\nsequence 4\ntime 2024-01-01T00:03:00Z\nobjects 0\nusers 0\n\
-        changesets 0\nend\n";
+    let save = b"osmrepl-save 2\nbase 0\nsequence 4\ntime 2024-01-01T00:03:00Z\nobjects 0\n\
+        users 0\nchangesets 0\nend\n";
     assert!(rt; is_file(&outcome, "save", save));
     let state = b"sequenceNumber=4\ntimestamp=2024-01-01T00\\:03\\:00Z\n";
     assert!(rt; is_file(&outcome, "dir/state.txt", state));

@@ -85,7 +85,7 @@ pub(crate) const LAGGING: &str = "As in
 
 It prints 'behind B', the numbers after the save's, and 'seconds S', the time from the save's
 sequence to the folder's newest, or 'seconds none' if nothing was followed yet. Of SAVE it reads the
-first three lines alone.
+first lines alone, as far as its time.
 
 A fault names DIR/state.txt as state.txt, and SAVE as save.";
 

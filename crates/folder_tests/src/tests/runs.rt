@@ -24,11 +24,11 @@ const STATE_4: &[u8] = b"sequenceNumber=4\ntimestamp=2024-01-01T00\\:03\\:00Z\n"
 
 const TOP_100: &[u8] = b"sequenceNumber=100\ntimestamp=2024-01-01T00\\:00\\:00Z\n";
 
-const EMPTY_SAVE_4: &[u8] = b"osmrepl-save 1\nsequence 4\ntime 2024-01-01T00:03:00Z\nobjects 0\n\
-    users 0\nchangesets 0\nend\n";
+const EMPTY_SAVE_4: &[u8] = b"osmrepl-save 2\nbase 0\nsequence 4\ntime 2024-01-01T00:03:00Z\n\
+    objects 0\nusers 0\nchangesets 0\nend\n";
 
-const SAVE_1: &[u8] = b"osmrepl-save 1\nsequence 1\ntime 2024-01-01T00:00:00Z\nobjects 1\n\
-    n1 v1 dV c7 t2024-01-01T00:00:00Z i5 uann T x1 y2\nusers 1\n5 1\nchangesets 1\n7 1\nend\n";
+const SAVE_1: &[u8] = b"osmrepl-save 2\nbase 0\nsequence 1\ntime 2024-01-01T00:00:00Z\n\
+    objects 1\nn1 v1 dV c7 t2024-01-01T00:00:00Z i5 uann T x1 y2\nusers 1\n5 1\nchangesets 1\n7 1\nend\n";
 
 const SHOWN_1: &str = "number 1\ntime 2024-01-01T00:00:00Z\nobjects 1\n\
     n1 v1 dV c7 t2024-01-01T00:00:00Z i5 uann T x1 y2\nusers 1\n5 1\nchangesets 1\n7 1\nheld 0\n";

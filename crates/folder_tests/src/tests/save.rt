@@ -14,11 +14,11 @@ const NEW_YEAR: u32 = 1_704_067_200;
 
 const NODE: &[u8] = b"n1 v1 dV c7 t2024-01-01T00:00:00Z i5 uann T x1 y2\n";
 
-const ONE_NODE: &[u8] = b"osmrepl-save 1\nsequence 1\ntime 2024-01-01T00:00:00Z\nobjects 1\n\
-    n1 v1 dV c7 t2024-01-01T00:00:00Z i5 uann T x1 y2\nusers 1\n5 1\nchangesets 1\n7 1\nend\n";
+const ONE_NODE: &[u8] = b"osmrepl-save 2\nbase 0\nsequence 1\ntime 2024-01-01T00:00:00Z\n\
+    objects 1\nn1 v1 dV c7 t2024-01-01T00:00:00Z i5 uann T x1 y2\nusers 1\n5 1\nchangesets 1\n7 1\nend\n";
 
 const NOTHING: &[u8] =
-    b"osmrepl-save 1\nsequence 0\ntime none\nobjects 0\nusers 0\nchangesets 0\nend\n";
+    b"osmrepl-save 2\nbase 0\nsequence 0\ntime none\nobjects 0\nusers 0\nchangesets 0\nend\n";
 
 // The mirror after the changes of a file.
 fn mirror_after(alloc: Global, file: &[u8]) -> Option<Mirror> {
