@@ -16,6 +16,7 @@ use osm_model::form::ChangeForm;
 use osm_model::memory::WantOfMemory;
 use osm_opl::lines::read_line;
 use osm_opl::opl::Opl;
+use osm_save::head::Head;
 use osm_save::save::{Saved, save_read, save_write};
 use std::alloc::Global;
 use std::fmt::Debug;
@@ -90,13 +91,19 @@ impl Mirrors {
 fn saved_of(mirror: Mirror) -> Saved {
     Saved {
         number: 0,
+        base: 0,
         time: None,
         mirror,
     }
 }
 
 fn save_of(alloc: Global, saved: &Saved) -> Result<Vec<u8>, WantOfMemory> {
-    save_write(alloc, saved.number, saved.time, &saved.mirror)
+    let head = Head {
+        number: saved.number,
+        base: saved.base,
+        time: saved.time,
+    };
+    save_write(alloc, head, &saved.mirror)
 }
 
 fn write_held(area: &HoldingArea, out: &mut Vec<u8>) -> Result<()> {

@@ -28,7 +28,8 @@ const EMPTY_SAVE_4: &[u8] = b"osmrepl-save 2\nbase 0\nsequence 4\ntime 2024-01-0
     objects 0\nusers 0\nchangesets 0\nend\n";
 
 const SAVE_1: &[u8] = b"osmrepl-save 2\nbase 0\nsequence 1\ntime 2024-01-01T00:00:00Z\n\
-    objects 1\nn1 v1 dV c7 t2024-01-01T00:00:00Z i5 uann T x1 y2\nusers 1\n5 1\nchangesets 1\n7 1\nend\n";
+    objects 1\nn1 v1 dV c7 t2024-01-01T00:00:00Z i5 uann T x1 y2\n\
+    users 1\n5 1\nchangesets 1\n7 1\nend\n";
 
 const SHOWN_1: &str = "number 1\ntime 2024-01-01T00:00:00Z\nobjects 1\n\
     n1 v1 dV c7 t2024-01-01T00:00:00Z i5 uann T x1 y2\nusers 1\n5 1\nchangesets 1\n7 1\nheld 0\n";

@@ -15,7 +15,36 @@ const NEW_YEAR: u32 = 1_704_067_200;
 const NODE: &[u8] = b"n1 v1 dV c7 t2024-01-01T00:00:00Z i5 uann T x1 y2\n";
 
 const ONE_NODE: &[u8] = b"osmrepl-save 2\nbase 0\nsequence 1\ntime 2024-01-01T00:00:00Z\n\
-    objects 1\nn1 v1 dV c7 t2024-01-01T00:00:00Z i5 uann T x1 y2\nusers 1\n5 1\nchangesets 1\n7 1\nend\n";
+    objects 1\nn1 v1 dV c7 t2024-01-01T00:00:00Z i5 uann T x1 y2\n\
+    users 1\n5 1\nchangesets 1\n7 1\nend\n";
+
+// The same in version 1.
+const FIRST_VERSION: &[u8] = b"osmrepl-save 1\nsequence 1\ntime 2024-01-01T00:00:00Z\n\
+    objects 1\nn1 v1 dV c7 t2024-01-01T00:00:00Z i5 uann T x1 y2\n\
+    users 1\n5 1\nchangesets 1\n7 1\nend\n";
+
+// A follower that began at 1, and applied the same node once more as sequence 2.
+const BEGUN_AT_1: &[u8] = b"osmrepl-save 2\nbase 1\nsequence 2\ntime 2024-01-01T00:00:00Z\n\
+    objects 1\nn1 v1 dV c7 t2024-01-01T00:00:00Z i5 uann T x1 y2\n\
+    users 1\n5 1\nchangesets 1\n7 1\nend\n";
+
+const AT_NEW_YEAR: Head = Head {
+    number: 1,
+    base: 0,
+    time: Some(NEW_YEAR),
+};
+
+const AT_START: Head = Head {
+    number: 0,
+    base: 0,
+    time: None,
+};
+
+const BEGUN: Head = Head {
+    number: 2,
+    base: 1,
+    time: Some(NEW_YEAR),
+};
 
 const NOTHING: &[u8] =
     b"osmrepl-save 2\nbase 0\nsequence 0\ntime none\nobjects 0\nusers 0\nchangesets 0\nend\n";
@@ -28,30 +57,26 @@ fn mirror_after(alloc: Global, file: &[u8]) -> Option<Mirror> {
     Some(mirror)
 }
 
-fn is_text_of(
-    alloc: Global,
-    (number, time): (u32, Option<u32>),
-    mirror: &Mirror,
-    text: &[u8],
-) -> bool {
-    match save_write(alloc, number, time, mirror) {
+fn is_text_of(alloc: Global, head: Head, mirror: &Mirror, text: &[u8]) -> bool {
+    match save_write(alloc, head, mirror) {
         Ok(save) => save.as_slice() == text,
         Err(_) => false,
     }
 }
 
-// Whether the mirror after that file is saved as the text.
-fn is_saved(alloc: Global, at: (u32, Option<u32>), file: &[u8], text: &[u8]) -> bool {
+// Whether the mirror after that file is saved with that head as the text.
+fn is_saved(alloc: Global, head: Head, file: &[u8], text: &[u8]) -> bool {
     match mirror_after(alloc, file) {
-        Some(mirror) => is_text_of(alloc, at, &mirror, text),
+        Some(mirror) => is_text_of(alloc, head, &mirror, text),
         None => false,
     }
 }
 
 #[test]
-fn one_node_is_saved_in_ten_lines_and_number_0_with_no_time(rt: HostRuntime) {
-    assert!(rt; is_saved(rt.alloc(), (1, Some(NEW_YEAR)), NODE, ONE_NODE));
-    assert!(rt; is_saved(rt.alloc(), (0, None), b"", NOTHING));
+fn one_node_is_saved_in_eleven_lines_and_number_0_with_no_time(rt: HostRuntime) {
+    assert!(rt; is_saved(rt.alloc(), AT_NEW_YEAR, NODE, ONE_NODE));
+    assert!(rt; is_saved(rt.alloc(), AT_START, b"", NOTHING));
+    assert!(rt; is_saved(rt.alloc(), BEGUN, NODE, BEGUN_AT_1));
 }
 
 // Whether what is saved is node 1 alone, at sequence 1.
@@ -60,7 +85,7 @@ fn is_the_node(saved: &Saved) -> bool {
         kind: Kind::Node,
         id: 1,
     };
-    let is_first = saved.number == 1 && saved.time == Some(NEW_YEAR);
+    let is_first = saved.number == 1 && saved.base == 0 && saved.time == Some(NEW_YEAR);
     let is_there = saved.mirror.objects_by_key().len() == 1 && saved.mirror.get(node).is_some();
     is_first && is_there && saved.mirror.user_count(5) == 1 && saved.mirror.changeset_count(7) == 1
 }
@@ -69,8 +94,8 @@ fn is_nothing(saved: &Saved) -> bool {
     saved.number == 0 && saved.time.is_none() && saved.mirror.objects_by_key().len() == 0
 }
 
-fn reads_the_node(alloc: Global) -> bool {
-    match save_read(alloc, ONE_NODE) {
+fn reads_the_node(alloc: Global, text: &[u8]) -> bool {
+    match save_read(alloc, text) {
         Ok(saved) => is_the_node(&saved),
         Err(_) => false,
     }
@@ -85,7 +110,8 @@ fn reads_nothing(alloc: Global) -> bool {
 
 #[test]
 fn what_was_saved_is_read_again(rt: HostRuntime) {
-    assert!(rt; reads_the_node(rt.alloc()));
+    assert!(rt; reads_the_node(rt.alloc(), ONE_NODE));
+    assert!(rt; reads_the_node(rt.alloc(), FIRST_VERSION));
     assert!(rt; reads_nothing(rt.alloc()));
 }
 
@@ -105,24 +131,20 @@ fn stops_at(bytes: &[u8], line: u64) -> bool {
 
 #[test]
 fn a_head_is_read_from_the_first_lines(rt: HostRuntime) {
-    let new_year = Head {
-        number: 1,
-        time: Some(NEW_YEAR),
-    };
-    let start = Head {
-        number: 0,
-        time: None,
-    };
-    assert!(rt; has_head(ONE_NODE, new_year));
+    assert!(rt; has_head(ONE_NODE, AT_NEW_YEAR));
+    assert!(rt; has_head(FIRST_VERSION, AT_NEW_YEAR));
+    assert!(rt; has_head(BEGUN_AT_1, BEGUN));
     assert!(rt;
         has_head(
             b"osmrepl-save 1\nsequence 1\ntime 2024-01-01T00:00:00Z\nobj",
-            new_year
+            AT_NEW_YEAR
         )
     );
-    assert!(rt; has_head(NOTHING, start));
+    assert!(rt; has_head(NOTHING, AT_START));
     assert!(rt; stops_at(b"osmrepl-save 1\nsequence 1\ntime none\n", 3));
     assert!(rt; stops_at(b"osmrepl-save 1\nsequence 1\n", 3));
+    assert!(rt; stops_at(b"osmrepl-save 2\nsequence 1\n", 2));
+    assert!(rt; stops_at(b"osmrepl-save 2\nbase 2\nsequence 1\n", 3));
 }
 
 #[test]

@@ -37,7 +37,8 @@ const STATE_LAST: &[u8] = b"sequenceNumber=999999999\ntimestamp=2024-01-01T00:00
 
 // The follower after the node as sequence 1.
 const ONE_NODE: &[u8] = b"osmrepl-save 2\nbase 0\nsequence 1\ntime 2024-01-01T00:00:00Z\n\
-    objects 1\nn1 v1 dV c7 t2024-01-01T00:00:00Z i5 uann T x1 y2\nusers 1\n5 1\nchangesets 1\n7 1\nend\n";
+    objects 1\nn1 v1 dV c7 t2024-01-01T00:00:00Z i5 uann T x1 y2\n\
+    users 1\n5 1\nchangesets 1\n7 1\nend\n";
 
 // A number whose window ends with the last number.
 const NEAR_THE_TOP: &[u8] = b"osmrepl-save 1\nsequence 999999936\ntime 2024-01-01T00:00:00Z\n\
