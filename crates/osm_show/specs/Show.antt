@@ -1,5 +1,6 @@
 -- The show text of a view.
-use Rattle.std.specs.Prelude.{ℕ, List, [], ◌∷◌, ◌++◌, length, codes, Option, Some, None}
+use Rattle.std.specs.Prelude.{ℕ, List, [], ◌∷◌, ◌++◌, ◌==◌, length, codes, Option, Some, None}
+use Rattle.std.specs.Prelude.{if◌then◌else◌}
 use Rattle.std.specs.List.{flat_map}
 use Rattle.osm_model.specs.Change.{ChangeValue}
 use Rattle.osm_model.specs.CivilTime.{time_text}
@@ -12,6 +13,10 @@ use Rattle.osm_show.specs.Lines.{count_line, number_line, numbered_line}
 abbrev pub time_line : Option ℕ → List ℕ
 time_line None = codes "time none\n"
 time_line (Some time) = codes "time " ++ time_text time ++ 10 ∷ []
+
+-- `base N` and LF; nothing if the base is 0
+abbrev pub base_line : ℕ → List ℕ
+base_line base = if base == 0 then [] else numbered_line (codes "base ") base
 
 -- an object's line as in an OPL file
 abbrev pub object_line : ChangeValue → List ℕ
@@ -30,11 +35,12 @@ counts_text name counts = numbered_line name (length counts) ++ flat_map count_l
 unfoldable pub held_text : List ℕ → List ℕ
 held_text numbers = numbered_line (codes "held ") (length numbers) ++ flat_map number_line numbers
 
--- the show text: number and time, the objects, the users and the changesets with their counts, and
+-- the show text: number, base and time, the objects, the users and the changesets with their counts, and
 -- the numbers that are held
 unfoldable pub view_text : ViewValue → List ℕ
 view_text v =
-    numbered_line (codes "number ") v.number ++ time_line v.time ++ objects_text v.mirror.objects
+    numbered_line (codes "number ") v.number ++ base_line v.base ++ time_line v.time
+    ++ objects_text v.mirror.objects
     ++ counts_text (codes "users ") v.mirror.users
     ++ counts_text (codes "changesets ") v.mirror.changesets
     ++ held_text v.held

@@ -3,8 +3,8 @@
 ghost use Rattle.std.specs.Prelude.{◌≡◌, ◌+◌, ◌<◌, ◌≤◌, ◌++◌, OnErr, OnOk, length};
 ghost use Rattle.std.specs.Prelude.{vec_capacity, vec_len};
 ghost use Rattle.std.specs.List.{flat_map};
-ghost use Rattle.osm_show.specs.Show.{counts_text, held_text, object_line, objects_text};
-ghost use Rattle.osm_show.specs.Show.{time_line, view_text};
+ghost use Rattle.osm_show.specs.Show.{base_line, counts_text, held_text, object_line};
+ghost use Rattle.osm_show.specs.Show.{objects_text, time_line, view_text};
 
 use crate::lines::{write_bytes, write_count_lines, write_numbered, write_numbered_lines};
 use osm_follow::view::View;
@@ -13,18 +13,32 @@ use osm_model::memory::WantOfMemory;
 use osm_model::time::time_write;
 use osm_opl::lines::write_line;
 
-/// Appends the show text: number, time, objects, users and changesets with their counts of edits,
-/// and the numbers that are held. If memory is refused, a part may have been appended.
+/// Appends the show text: number, base if it isn't 0, time, objects, users and changesets with
+/// their counts of edits, and the numbers that are held. If memory is refused, a part may have been
+/// appended.
 #[tactic(auto, unfolding(crate::specs::Show::view_text))]
 pub fn write_view(view: &View, text: &mut Vec<u8>) -> Result<(), WantOfMemory>
     ensures { OnOk result (text.new.items ≡ text.old.items ++ view_text view.now) }
 {
     write_numbered(b"number ", view.number() as u64, text)?;
+    write_base(view.base(), text)?;
     write_time(view.time(), text)?;
     write_objects(view.objects(), text)?;
     write_counts(b"users ", view.users(), text)?;
     write_counts(b"changesets ", view.changesets(), text)?;
     write_held(view.held(), text)
+}
+
+fn write_base(base: u32, text: &mut Vec<u8>) -> Result<(), WantOfMemory>
+    ensures appended { OnOk result (text.new.items ≡ text.old.items ++ base_line base) }
+    ensures room { vec_capacity text.old ≤ vec_capacity text.new }
+    ensures refused { OnErr result
+        (vec_capacity text.old < vec_len text.old + length (base_line base)) }
+{
+    if base == 0 {
+        return Ok(());
+    }
+    write_numbered(b"base ", base as u64, text)
 }
 
 fn write_time(time: Option<u32>, text: &mut Vec<u8>) -> Result<(), WantOfMemory>

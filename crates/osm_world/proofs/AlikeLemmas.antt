@@ -20,7 +20,7 @@ use Rattle.osm_model.specs.KeyOrder.{key_cmp, kind_rank}
 use Rattle.osm_model.specs.declared.kind.Key.{Key}
 use Rattle.osm_mirror.specs.Mirror.{AreCountsAboveZero, AreRising, Counted, IsAboveZero, IsMirrorOf, MirrorValue, count_at, object_at}
 use Rattle.osm_follow.specs.Follower.{FollowerValue, IsState, held_at}
-use Rattle.osm_follow.specs.Published.{PublishedValue, changes_up_to, sequence_at, time_at}
+use Rattle.osm_follow.specs.Published.{PublishedValue, changes_after, changes_up_to, sequence_at, time_at}
 use Rattle.osm_follow.specs.Reach.{Reaches}
 use Rattle.osm_follow.specs.View.{IsView, ViewValue}
 use Rattle.osm_world.specs.Alike.{AreAlike}
@@ -169,42 +169,46 @@ Same acc acd = (j : ℕ) → acc j ≡ acd j
 one_number : (acc acd : ℕ → Bool) (start n m : ℕ) → Same acc acd → Reaches acc start n → Reaches acd start m → n ≡ m
 one_number acc acd start n m same r s = one_reach acd start n m (reaches_same acc acd start n (λ j above. same j) r) s
 
-pub state_alike : (ps : List PublishedValue) (start : ℕ) (acc acd : ℕ → Bool) (f g : FollowerValue) → Same acc acd
-    → IsState ps start acc f → IsState ps start acd g → AreAlike f g
-state_alike ps start acc acd f g same s t =
+pub state_alike : (ps : List PublishedValue) (base start : ℕ) (acc acd : ℕ → Bool) (f g : FollowerValue) → Same acc acd
+    → IsState ps base start acc f → IsState ps base start acd g → AreAlike f g
+state_alike ps base start acc acd f g same s t =
     let number : f.number ≡ g.number = one_number acc acd start f.number g.number same s.reach t.reach in
+    let based : f.base ≡ g.base = s.base_is ∙ sym t.base_is in
     record {
       number = number;
+      base = based;
       time = s.follows.time ∙ (ap (time_at ps) number ∙ sym t.follows.time);
-      mirror = one_mirror (changes_up_to ps g.number) (changes_up_to ps g.number) f.mirror g.mirror (rw number at s.follows.mirror) t.follows.mirror;
+      mirror = one_mirror (changes_up_to ps g.number) (changes_after ps g.base g.number) f.mirror g.mirror (rw (number, based) at s.follows.mirror) t.follows.mirror;
       held = λ j. elim (cases_lt f.number j) [
         | inl above ↦ s.held j above ∙ (ap (λ b. if b then Some (sequence_at ps j) else None) (same j) ∙ sym (t.held j (omega arith)))
         | inr below ↦ none_held f s j below ∙ sym (none_held g t j (omega arith))
       ];
     }
   where
-    none_held : {ac : ℕ → Bool} (x : FollowerValue) → IsState ps start ac x → (j : ℕ) → j ≤ x.number → held_at x j ≡ None
+    none_held : {ac : ℕ → Bool} (x : FollowerValue) → IsState ps base start ac x → (j : ℕ) → j ≤ x.number → held_at x j ≡ None
     none_held x is j below = by_case (held_at x j) refl
       where
         by_case : (o : Option PublishedValue) → held_at x j ≡ o → o ≡ None
         by_case None e = refl
         by_case (Some p) e = absurd (let past = (is.follows.held j p e).0 in omega arith)
 
-made_view : ℕ → Option ℕ → MirrorValue → List ℕ → ViewValue
-made_view number time mirror held = record { number = number; time = time; mirror = mirror; held = held }
+made_view : ℕ → ℕ → Option ℕ → MirrorValue → List ℕ → ViewValue
+made_view number base time mirror held = record { number = number; base = base; time = time; mirror = mirror; held = held }
 
-pub one_view : (ps : List PublishedValue) (start : ℕ) (acc acd : ℕ → Bool) (v w : ViewValue) → Same acc acd
-    → IsView ps start acc v → IsView ps start acd w → v ≡ w
+pub one_view : (ps : List PublishedValue) (base start : ℕ) (acc acd : ℕ → Bool) (v w : ViewValue) → Same acc acd
+    → IsView ps base start acc v → IsView ps base start acd w → v ≡ w
 unfolding made_view
-one_view ps start acc acd v w same s t =
+one_view ps base start acc acd v w same s t =
     let number : v.number ≡ w.number = one_number acc acd start v.number w.number same s.reach t.reach in
     let time : v.time ≡ w.time = s.time ∙ (ap (time_at ps) number ∙ sym t.time) in
-    let mirror : v.mirror ≡ w.mirror = one_mirror (changes_up_to ps w.number) (changes_up_to ps w.number) v.mirror w.mirror (rw number at s.mirror) t.mirror in
+    let mirror : v.mirror ≡ w.mirror = one_mirror (changes_up_to ps w.number) (changes_after ps base w.number) v.mirror w.mirror (rw number at s.mirror) t.mirror in
+    let based : v.base ≡ w.base = s.base_is ∙ sym t.base_is in
     let held : v.held ≡ w.held = one_rising v.held w.held s.rising t.rising (λ j. (
       λ has. (let both = (s.held j).0 has in (t.held j).1 (rw number at both.0, sym (same j) ∙ both.1)),
       λ has. (let both = (t.held j).0 has in (s.held j).1 (rw number both.0, same j ∙ both.1)),
     )) in
-    ap (λ (x : ℕ). made_view x v.time v.mirror v.held) number
-    ∙ (ap (λ (x : Option ℕ). made_view w.number x v.mirror v.held) time
-    ∙ (ap (λ (x : MirrorValue). made_view w.number w.time x v.held) mirror
-    ∙ ap (λ (x : List ℕ). made_view w.number w.time w.mirror x) held))
+    ap (λ (x : ℕ). made_view x v.base v.time v.mirror v.held) number
+    ∙ (ap (λ (x : ℕ). made_view w.number x v.time v.mirror v.held) based
+    ∙ (ap (λ (x : Option ℕ). made_view w.number w.base x v.mirror v.held) time
+    ∙ (ap (λ (x : MirrorValue). made_view w.number w.base w.time x v.held) mirror
+    ∙ ap (λ (x : List ℕ). made_view w.number w.base w.time w.mirror x) held)))

@@ -37,7 +37,7 @@ whole_of : (h : hist.History) (a : WorldValue) → IsInStep h a → a.follower.i
 whole_of h a s whole = sym s.broken ∙ whole
 
 state_of : (h : hist.History) (a : WorldValue) → IsInStep h a → a.follower.is_broken ≡ false
-    → IsState (hist.published_of h) (hist.start_of h) (hist.accepted_of h) a.follower
+    → IsState (hist.published_of h) 0 (hist.start_of h) (hist.accepted_of h) a.follower
 state_of h a s whole = s.state (whole_of h a s whole)
 
 published_is : (h : hist.History) (a : WorldValue) → IsInStep h a → a.publisher.number ≡ length (hist.published_of h)
@@ -66,7 +66,7 @@ wanted_of h a k s above there t =
       is_open = open_of h a k s above there t.whole;
       above = past;
       within = rw number_is at t.within;
-      fresh = fresh_is_unaccepted (hist.published_of h) (hist.start_of h) (hist.accepted_of h) a.follower
+      fresh = fresh_is_unaccepted (hist.published_of h) 0 (hist.start_of h) (hist.accepted_of h) a.follower
           (state_of h a s t.whole) k past (rw number_is at t.fresh);
     }
 
@@ -80,39 +80,41 @@ work_of : (h : hist.History) (a b : WorldValue) (k : ℕ) → IsInStep h a → a
     → Breaks a.follower (sequence_at (hist.published_of h) k) b.follower → HasChanges h k
 work_of h a b k s whole past number_is t =
     let ps : List PublishedValue = hist.published_of h in
-    let state : IsState ps (hist.start_of h) (hist.accepted_of h) a.follower = state_of h a s whole in
+    let state : IsState ps 0 (hist.start_of h) (hist.accepted_of h) a.follower = state_of h a s whole in
     let high_is : t.high ≡ k + t.count = rw number_is at t.high_is in
     let held_reach : Reaches (is_held a.follower) k t.high = rw number_is at t.reach in
     let joined : between (changes_held a.follower) (sequence_at ps k).number t.count ≡ between (changes_at ps) k t.count =
-    rw number_is (joined_is ps (hist.start_of h) (hist.accepted_of h) a.follower k t.high t.count state past high_is held_reach) in
+    rw number_is (joined_is ps 0 (hist.start_of h) (hist.accepted_of h) a.follower k t.high t.count state past high_is held_reach) in
     let some : 0 < length (changes_at ps k ++ between (changes_held a.follower) (sequence_at ps k).number t.count) =
     some_of _ t.needs.before t.needs.after t.needs.change t.needs.is in
     record {
       count = t.count;
-      reach = rw (← high_is) (reaches_accepted ps (hist.start_of h) (hist.accepted_of h) a.follower k t.high state past held_reach);
+      reach = rw (← high_is) (reaches_accepted ps 0 (hist.start_of h) (hist.accepted_of h) a.follower k t.high state past held_reach);
       some = rw joined at some;
     }
 
 view_is : (h : hist.History) (a : WorldValue) (v : ViewValue) → IsInStep h a → a.follower.is_broken ≡ false
-    → v ≡ view_of a.follower → IsStrictlySortedBy nat_cmp v.held → IsView (hist.published_of h) (hist.start_of h)
+    → v ≡ view_of a.follower → IsStrictlySortedBy nat_cmp v.held → IsView (hist.published_of h) 0 (hist.start_of h)
     (hist.accepted_of h) v
 view_is h a v s whole is rising = rw is (record {
+  base_is = state.base_is;
+  below = omega arith;
   reach = state.reach;
   time = state.follows.time;
-  mirror = state.follows.mirror;
+  mirror = rw state.base_is at state.follows.mirror;
   rising = rw is at rising;
   held = λ j. (
     λ has. (
         let there : IsSome (held_at a.follower j) = shown j ((exactly_held a.follower.holding j).0 has) in
         let past : a.follower.number < j = above j there in
-        (past, held_was_accepted (hist.published_of h) (hist.start_of h) (hist.accepted_of h) a.follower state j past there)),
+        (past, held_was_accepted (hist.published_of h) 0 (hist.start_of h) (hist.accepted_of h) a.follower state j past there)),
     λ both. (exactly_held a.follower.holding j).1
-        (told j (held_accepted (hist.published_of h) (hist.start_of h) (hist.accepted_of h) a.follower state j both.0
+        (told j (held_accepted (hist.published_of h) 0 (hist.start_of h) (hist.accepted_of h) a.follower state j both.0
         ∙ both.1)),
   );
 })
   where
-    state : IsState (hist.published_of h) (hist.start_of h) (hist.accepted_of h) a.follower
+    state : IsState (hist.published_of h) 0 (hist.start_of h) (hist.accepted_of h) a.follower
     state = state_of h a s whole
 
     shown : (j : ℕ) → IsSome (area.held_at a.follower.holding j) → IsSome (held_at a.follower j)
@@ -189,7 +191,7 @@ step_allowed laws one h (Deliver k form) Again a b s t =
       a.follower.number,
       open_of h a k s t.above t.there d.0,
       past,
-      held_was_accepted (hist.published_of h)
+      held_was_accepted (hist.published_of h) 0
           (hist.start_of h) (hist.accepted_of h) a.follower (state_of h a s d.0) k past there,
     )
 step_allowed laws one h (Deliver k form) TooEarly a b s t =
@@ -202,7 +204,7 @@ step_allowed laws one h (Deliver k form) TooEarly a b s t =
       a.follower.number,
       open_of h a k s t.above t.there d.0,
       past,
-      fresh_is_unaccepted (hist.published_of h)
+      fresh_is_unaccepted (hist.published_of h) 0
           (hist.start_of h) (hist.accepted_of h) a.follower (state_of h a s d.0) k (omega arith) none,
     )
 step_allowed laws one h (Deliver k form) WantOfMemory a b s t =
@@ -225,7 +227,7 @@ step_allowed laws one h (Deliver k form) (Applied low high) a b s t =
       wanted_of h a k s t.above t.there d.0,
       next,
       d.2 ∙ number,
-      reaches_accepted (hist.published_of h) (hist.start_of h) (hist.accepted_of h) a.follower k high
+      reaches_accepted (hist.published_of h) 0 (hist.start_of h) (hist.accepted_of h) a.follower k high
           (state_of h a s d.0.whole) (omega arith) (rw number at d.3.reach),
     )
 step_allowed laws one h (Deliver k form) Broke a b s t =

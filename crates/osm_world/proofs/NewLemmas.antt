@@ -24,7 +24,7 @@ new_of_none w run =
       archive = s.archive;
       saved = nothing_saved w.saved s.saved;
       broken = s.broken;
-      follower = state_alike [] 0 (λ j. false) (λ j. false) w.follower new_follower (λ j. refl) (s.state refl) (new_in_step.state refl);
+      follower = state_alike [] 0 0 (λ j. false) (λ j. false) w.follower new_follower (λ j. refl) (s.state refl) (new_in_step.state refl);
     }
 
 -- what is archived for a sequence is what was written for it

@@ -166,7 +166,7 @@ one_show h Broken WantOfMemory a b p o = cc
 one_show h Broken r a b p o = absurd b
 one_show h (Shown v) Broken a b p o = absurd (broken_apart (hist.is_broken h) b a.0)
 one_show h (Shown v) (Shown w) a b p o =
-    ap (λ (x : ViewValue). Shown x) (one_view (hist.published_of h) (hist.start_of h) (hist.accepted_of h)
+    ap (λ (x : ViewValue). Shown x) (one_view (hist.published_of h) 0 (hist.start_of h) (hist.accepted_of h)
     (hist.accepted_of h) v w (λ j. refl) a.1 b.1)
 one_show h (Shown v) WantOfMemory a b p o = cc
 one_show h (Shown v) r a b p o = absurd b

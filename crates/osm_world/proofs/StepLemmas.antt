@@ -82,8 +82,10 @@ held_more : (b : Bool) (p q : PublishedValue) → (b ≡ true → q ≡ p) → (
 held_more true p q e = ap (λ (x : PublishedValue). let o : Option PublishedValue = Some x in o) (sym (e refl))
 held_more false p q e = refl
 
-state_grown : (ps more : List PublishedValue) (start : ℕ) (acc : ℕ → Bool) (f : FollowerValue) → IsState ps start acc f → IsState (ps ++ more) start acc f
-state_grown ps more start acc f s = record {
+state_grown : (ps more : List PublishedValue) (base start : ℕ) (acc : ℕ → Bool) (f : FollowerValue) → IsState ps base start acc f
+    → IsState (ps ++ more) base start acc f
+state_grown ps more base start acc f s = record {
+  base_is = s.base_is;
   reach = s.reach;
   follows = follows_grown ps more f s.follows;
   held = λ j past. s.held j past ∙ held_more (acc j) (sequence_at ps j) (sequence_at (ps ++ more) j)
@@ -118,6 +120,7 @@ save_grown ps more (Some n) (Some bytes) s = record {
   value = s.value;
   spells = s.spells;
   number_is = s.number_is;
+  base_is = s.base_is;
   within = rw length-append (let w = s.within in omega arith);
   mirror = rw (changes_within ps more n s.within) s.mirror;
   time = s.time ∙ sym (time_within ps more n s.within);
@@ -142,7 +145,7 @@ closed_keeps h t n a b s can positive is =
       batch = empty_batch;
       saved = save_grown (hist.published_of h) (p ∷ []) (hist.last_saved h) a.saved s.saved;
       broken = s.broken;
-      state = λ ok. state_grown (hist.published_of h) (p ∷ []) (hist.start_of h) (hist.accepted_of h) a.follower (s.state ok);
+      state = λ ok. state_grown (hist.published_of h) (p ∷ []) 0 (hist.start_of h) (hist.accepted_of h) a.follower (s.state ok);
       reported = λ ok. rw append-nil (s.reported ok);
     })
 
@@ -210,7 +213,7 @@ held_keeps laws h k form a b s t =
       batch = rw append-nil s.batch;
       saved = s.saved;
       broken = same ∙ s.broken;
-      state = λ ok. state_held (hist.published_of h) (hist.start_of h) (hist.accepted_of h)
+      state = λ ok. state_held (hist.published_of h) 0 (hist.start_of h) (hist.accepted_of h)
           (λ j. (k == j) || hist.accepted_of h j) k a.follower b.follower (s.state ok) (λ j. refl) later within there
           number_is step.2;
       reported = λ ok. rw (number, append-nil) (s.reported ok);
@@ -238,7 +241,7 @@ applied_keeps laws h k low high form a b s t =
       batch = rw append-nil s.batch;
       saved = s.saved;
       broken = same ∙ s.broken;
-      state = λ ok. state_taken (hist.published_of h) (hist.start_of h) (hist.accepted_of h)
+      state = λ ok. state_taken (hist.published_of h) 0 (hist.start_of h) (hist.accepted_of h)
           (λ j. (k == j) || hist.accepted_of h j) k high a.follower b.follower (s.state ok) (λ j. refl) next there
           number_is step.3;
       reported = λ ok. rw number (reported_more (hist.reported_of h) (hist.start_of h) a.follower.number k low high
@@ -273,7 +276,7 @@ OneSave = (bytes : List ℕ) (v w : SavedValue) → SpellsSave bytes v → Spell
 
 saved_keeps : (h : hist.History) (n : ℕ) (a b : WorldValue) → IsInStep h a → SaveStep a (Saved n) b → IsInStep ((Save, Saved n) ∷ h) b
 saved_keeps h n a b s t =
-    let state : IsState (hist.published_of h) (hist.start_of h) (hist.accepted_of h) a.follower = s.state (sym s.broken ∙ t.1) in
+    let state : IsState (hist.published_of h) 0 (hist.start_of h) (hist.accepted_of h) a.follower = s.state (sym s.broken ∙ t.1) in
     rw t.4 (record {
       publisher = rw append-nil s.publisher;
       archive = s.archive;
@@ -283,8 +286,9 @@ saved_keeps h n a b s t =
         value = saved_of a.follower;
         spells = t.3;
         number_is = sym t.2;
+        base_is = state.base_is;
         within = rw t.2 state.follows.within;
-        mirror = rw t.2 state.follows.mirror;
+        mirror = rw t.2 (rw state.base_is at state.follows.mirror);
         time = rw t.2 state.follows.time;
       };
       broken = s.broken;
@@ -296,15 +300,17 @@ saved_keeps h n a b s t =
 pub record StartsAt (ps : List PublishedValue) (n : ℕ) (f : FollowerValue) : Type 0 where
   pub number : f.number ≡ n
   pub whole : f.is_broken ≡ false
-  pub state : IsState ps n (λ j. false) f
+  pub state : IsState ps 0 n (λ j. false) f
 
 starts_new : (ps : List PublishedValue) → StartsAt ps 0 new_follower
 starts_new ps = record {
   number = refl;
   whole = refl;
   state = record {
+    base_is = refl;
     reach = record { from = omega arith; all = λ j above below. absurd (omega arith); next = refl };
     follows = record {
+      base = omega arith;
       within = omega arith;
       mirror = mirror_of-nil;
       time = refl;
@@ -314,16 +320,18 @@ starts_new ps = record {
   };
 }
 
-starts_saved : (ps : List PublishedValue) (n : ℕ) (v : SavedValue) → v.number ≡ n → n ≤ length ps
+starts_saved : (ps : List PublishedValue) (n : ℕ) (v : SavedValue) → v.number ≡ n → v.base ≡ 0 → n ≤ length ps
     → IsMirrorOf (changes_up_to ps n) (changes_up_to ps n) v.mirror → v.time ≡ time_at ps n → StartsAt ps n (follower_of v)
-starts_saved ps n v number within mirror time = record {
+starts_saved ps n v number base within mirror time = record {
   number = number;
   whole = refl;
   state = record {
+    base_is = base;
     reach = rw number (record { from = omega arith; all = λ j above below. absurd (omega arith); next = refl });
     follows = record {
+      base = rw base (omega arith);
       within = rw number within;
-      mirror = rw number mirror;
+      mirror = rw (number, base) mirror;
       time = rw number time;
       held = λ j p e. absurd (let bad : None ≡ Some p = e in cc);
     };
@@ -339,7 +347,7 @@ restarted_as one ps None (Some bytes) f g s t = absurd s
 restarted_as one ps (Some n) None f g s t = absurd s
 restarted_as one ps (Some n) (Some bytes) f g s t =
     let same : t.0 ≡ s.value = one bytes t.0 s.value t.1 s.spells in
-    rw (t.2, same) (starts_saved ps n s.value s.number_is s.within s.mirror s.time)
+    rw (t.2, same) (starts_saved ps n s.value s.number_is s.base_is s.within s.mirror s.time)
 
 restarted_keeps : OneSave → (h : hist.History) (n : ℕ) (a b : WorldValue) → IsInStep h a → RestartStep a (Restarted n) b
     → IsInStep ((Restart, Restarted n) ∷ h) b
@@ -392,8 +400,10 @@ new_in_step = record {
   saved = tt;
   broken = refl;
   state = λ ok. record {
+    base_is = refl;
     reach = record { from = omega arith; all = λ j above below. absurd (omega arith); next = refl };
     follows = record {
+      base = omega arith;
       within = omega arith;
       mirror = mirror_of-nil;
       time = refl;

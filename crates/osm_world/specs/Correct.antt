@@ -9,8 +9,8 @@ use Rattle.osm_world.specs.History.{History, history_of, pending_of, published_o
 use Rattle.osm_world.specs.History.{start_of, accepted_of, reported_of, is_broken, last_saved}
 use Rattle.osm_world.specs.Legal.{IsLegal}
 use Rattle.osm_mirror.specs.Mirror.{IsMirrorOf}
-use Rattle.osm_follow.specs.Published.{AreSequences, PublishedValue, changes_up_to, time_at}
-use Rattle.osm_follow.specs.Published.{written_of}
+use Rattle.osm_follow.specs.Published.{AreSequences, PublishedValue, changes_after, changes_up_to}
+use Rattle.osm_follow.specs.Published.{time_at, written_of}
 use Rattle.osm_follow.specs.Reach.{numbers}
 use Rattle.osm_save.specs.Save.{SpellsSave}
 use Rattle.osm_save.specs.declared.save.Saved.{Saved}
@@ -30,9 +30,10 @@ pub record IsSaveOf (published : List PublishedValue) (number : ℕ) (bytes : Li
   pub value : Saved
   pub spells : SpellsSave bytes value
   pub number_is : value.number ≡ number
+  pub base_is : value.base ≡ 0
   pub within : number ≤ length published
   pub mirror :
-      IsMirrorOf (changes_up_to published number) (changes_up_to published number) value.mirror
+      IsMirrorOf (changes_up_to published number) (changes_after published 0 number) value.mirror
   pub time : value.time ≡ time_at published number
 
 -- the bytes saved last: there are some exactly if a number was saved, and then they are its save
@@ -52,7 +53,7 @@ pub record IsInStep (h : History) (w : WorldValue) : Type 0 where
   pub saved : IsLastSave (published_of h) (last_saved h) w.saved
   pub broken : w.follower.is_broken ≡ is_broken h
   pub state : is_broken h ≡ false →
-      IsState (published_of h) (start_of h) (accepted_of h) w.follower
+      IsState (published_of h) 0 (start_of h) (accepted_of h) w.follower
   pub reported : is_broken h ≡ false →
       IsReported (reported_of h) (start_of h) w.follower.number
 

@@ -80,7 +80,7 @@ abbrev pub AllowedShow : History → Reply → Type 0
 AllowedShow h Broken = is_broken h ≡ true
 AllowedShow h WantOfMemory = is_broken h ≡ false
 AllowedShow h (Shown v) =
-    (is_broken h ≡ false) × IsView (published_of h) (start_of h) (accepted_of h) v
+    (is_broken h ≡ false) × IsView (published_of h) 0 (start_of h) (accepted_of h) v
 AllowedShow h r = ⊥
 
 abbrev pub AllowedSave : History → Reply → Type 0
