@@ -1,8 +1,6 @@
 -- Why a run of the follower stops, and what the folder of published sequences refuses.
-use Rattle.std.specs.Prelude.{◌⊎◌}
 use Rattle.std.proofs.Common.{◌≡◌, ℕ, ◌<◌, ◌≤◌, List, length, Option, Some, None, inl, inr, arith, refl, ap, subst}
 use Rattle.std.proofs.lemmas.Option.{same_Some}
-use Rattle.osm_save.specs.Save.{SpellsSave}
 use Rattle.osm_save.specs.declared.save.Saved.{Saved}
 use Rattle.osm_state.specs.State.{StateValue}
 use Rattle.osm_state.specs.StateLaws.{NoFaultBesideState}
@@ -10,7 +8,7 @@ use Rattle.osm_state.specs.declared.paths.Suffix.TheVariants.{O5c, Opl, State}
 use Rattle.osm_follow.specs.Published.{PublishedValue, sequence_at}
 use Rattle.osm_folder.specs.Files.{Files}
 use Rattle.osm_folder.specs.Folder.{IsFolderOf, IsTop}
-use Rattle.osm_folder.specs.Following.{BeyondStops, FollowRefuses, FollowStops, GoesOn, HasText, IsBadSave, IsFollowing, IsSaveOf, IsSaved}
+use Rattle.osm_folder.specs.Following.{BeyondStops, FollowRefuses, FollowStops, GoesOn, HasText, IsBadSave, IsSaveOf, IsSaved}
 use Rattle.osm_folder.specs.Following.{IsStarted, NumberStops, SaveStops, StartRefuses, StartStops, max_save}
 use Rattle.osm_folder.specs.Names.{file_name_of, top_name_of}
 use Rattle.osm_folder.specs.Steps.Following.{GoOnStops, MissingStops, StopsOnTheWay, TextStops}
@@ -69,13 +67,12 @@ text_stops : (known : Type 0) (dir save : List ℕ) (files : Files) (start : Sav
     → SaveStops known dir save files fault
 text_stops known dir save files start top WantOfMemory started stops = tt
 text_stops known dir save files start top (TooLarge file) started stops =
-    rw stops.0 (λ yes. (let big = stops.1 yes in
-        (
-          big.text,
-          big.report,
-          following dir save files start top top.sequence big.text big.report (started yes) refl big.made,
-          big.over,
-        )))
+    rw stops.0 (λ yes. (let big = stops.1 yes in (
+      big.text,
+      big.report,
+      following dir save files start top top.sequence big.text big.report (started yes) refl big.made,
+      big.over,
+    )))
 text_stops known dir save files start top fault started stops = absurd stops
 
 pub go_on_stops : (known : Type 0) (dir save : List ℕ) (files : Files) (start : Saved) (top : StateValue) (last : ℕ)

@@ -1,6 +1,6 @@
 -- The numbers that a follower takes, one after the other.
 use Rattle.std.proofs.Common.{◌≡◌, ℕ, zero, suc, ◌+◌, ◌<◌, ◌≤◌, List, [], ◌∷◌, ◌++◌, Option, Some, None}
-use Rattle.std.proofs.Common.{Bool, true, false, inl, inr, arith, refl, sym, ap, subst, ◌∙◌, append-nil}
+use Rattle.std.proofs.Common.{true, false, inl, inr, arith, refl, sym, ap, subst, ◌∙◌, append-nil}
 use Rattle.std.specs.Prelude.{is_none, is_some, ◌||◌, ◌&&◌}
 use Rattle.std.specs.Option.{option_map_or}
 use Rattle.std.proofs.lemmas.List.{map-append}
@@ -12,14 +12,14 @@ use Rattle.osm_follow.specs.Delivery.{Takes}
 use Rattle.osm_follow.specs.Follower.{FollowerValue, changes_held, held_at, is_held}
 use Rattle.osm_follow.specs.Published.{PublishedValue}
 use Rattle.osm_follow.specs.Reach.{between, numbers}
-use Rattle.osm_follow.specs.Restart.{follower_of, saved_of}
+use Rattle.osm_follow.specs.Restart.{saved_of}
 use Rattle.osm_follow.specs.declared.delivery.Delivered.{Delivered}
 use Rattle.osm_follow.specs.declared.delivery.Delivered.TheVariants.{Old, Again, Held, Applied}
 use Rattle.osm_folder.specs.Files.{Files}
 use Rattle.osm_folder.specs.Folder.{IsFile, IsThere}
 use Rattle.osm_folder.specs.Following.{AddsAll, AreChanges, HasFiles, is_lost, ranges}
 use Rattle.osm_folder.specs.Names.{file_name_of}
-use Rattle.osm_folder.specs.Steps.Following.{IsFresh, IsNext, IsNoted, IsTaken, IsTakenTo, IsTakenUp, range_of}
+use Rattle.osm_folder.specs.Steps.Following.{IsNext, IsNoted, IsTaken, IsTakenTo, range_of}
 
 -- a sequence whose files are there isn't lost
 pub has_not_lost : (files : Files) (dir : List ℕ) (p : PublishedValue) → HasFiles files dir p → is_lost files dir p.number ≡ false
