@@ -36,9 +36,5 @@ pub(crate) fn mirror_of(alloc: Global, objects: Vec<Change>) -> Result<Mirror, W
     for object in objects {
         kept.push(object)?;
     }
-    Ok(Mirror::from_parts(
-        kept,
-        Counts::new(alloc),
-        Counts::new(alloc),
-    ))
+    Ok(Mirror::from_parts(kept, Counts::new(alloc), Counts::new(alloc)))
 }

@@ -108,11 +108,7 @@ impl Follower {
 
     /// A follower that begins with the objects of a mirror, and counts the edits of the sequences
     /// after it. Its number, its base and its time are the state's, and nothing is held.
-    pub fn begin(
-        alloc: Global,
-        state: &State,
-        objects: Vec<Change>,
-    ) -> Result<Follower, BeginError>
+    pub fn begin(alloc: Global, state: &State, objects: Vec<Change>) -> Result<Follower, BeginError>
         ensures { Begins state.now objects.items result }
     {
         if state.sequence() == 0 {

@@ -165,13 +165,15 @@ pub all_held : (Q : ℕ → Type 0) (held : List ℕ) → ((j : ℕ) → Contain
 all_held Q held exact = recursion_from_All Q held (λ k d within. (exact (slice_index_or held k d)).0 (All-contains_itself held k d within))
 
 -- number, time and mirror are those that the history asks for, so that the held numbers decide
-pub view_row : (h : History) (v : ViewValue) (n : ℕ) (r : Bool) → Reaches (accepted_of h) (start_of h) n → v.number ≡ n
+pub view_row : (h : History) (v : ViewValue) (n : ℕ) (r : Bool) → Reaches (accepted_of h) (start_of h) n → v.number ≡ n → v.base ≡ 0
     → v.time ≡ time_at (published_of h) n → IsMirrorOf (changes_up_to (published_of h) n) (changes_up_to (published_of h) n) v.mirror
     → IsTrue r ↔ (IsStrictlySortedBy nat_cmp v.held
     × ((j : ℕ) → Contains v.held j ↔ ((n < j) × (accepted_of h j ≡ true)))) → IsTrue r ↔ IsView (published_of h)
-    (start_of h) (accepted_of h) v
-view_row h v n r reach number time mirror told = (
+    0 (start_of h) (accepted_of h) v
+view_row h v n r reach number base time mirror told = (
   λ t. (let both = told.0 t in record {
+    base_is = base;
+    below = omega arith;
     reach = rw number reach;
     time = rw number time;
     mirror = rw number mirror;

@@ -89,6 +89,7 @@ fn read_longer(alloc: Global, text: &[u8]) -> Result<(Reply, &[u8]), NotAReply> 
 fn read_view(alloc: Global, text: &[u8]) -> Result<(View, &[u8]), NotAReply> {
     let (line, rest) = next_line(text)?;
     let number = small(after_prefix(line, b"number ")?)?;
+    let (base, rest) = read_base(rest)?;
     let (line, rest) = next_line(rest)?;
     let time = time_read(after_prefix(line, b"time ")?);
     let (line, mut rest) = next_line(rest)?;
@@ -108,9 +109,18 @@ fn read_view(alloc: Global, text: &[u8]) -> Result<(View, &[u8]), NotAReply> {
         rest = after;
     }
     Ok((
-        View::new(number, time, objects, users, changesets, held),
+        View::new(number, base, time, objects, users, changesets, held),
         rest,
     ))
+}
+
+// The base, which is 0 if the next line tells none.
+fn read_base(text: &[u8]) -> Result<(u32, &[u8]), NotAReply> {
+    let (line, rest) = next_line(text)?;
+    match line.strip_prefix(b"base ") {
+        Some(base) => Ok((small(base)?, rest)),
+        None => Ok((0, text)),
+    }
 }
 
 fn read_counts<'a>(

@@ -29,11 +29,14 @@ use std::alloc::Global;
 
 /// Whether the view may be shown after the history.
 pub fn is_view(alloc: Global, history: &[Pair], view: &View) -> Result<bool, WantOfMemory>
-    ensures { IfOk result (λ b. IsTrue b ↔ IsView (published_of history.now)
+    ensures { IfOk result (λ b. IsTrue b ↔ IsView (published_of history.now) 0
         (start_of history.now) (accepted_of history.now) view.now) }
 {
     let number = follower_number(history);
     if view.number() != number || view.time() != time_of_sequence(history, number) {
+        return Ok(false);
+    }
+    if view.base() != 0 {
         return Ok(false);
     }
     let changes = joined_changes(alloc, history, number)?;

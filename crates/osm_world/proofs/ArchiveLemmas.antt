@@ -13,7 +13,12 @@ use Rattle.osm_world.specs.Step.{DeliverStep, DeliversTo, Replies, bytes_in, fau
 use Rattle.osm_world.specs.World.{WorldValue}
 use Rattle.osm_world.specs.declared.event.Reply.{Reply}
 use Rattle.osm_world.specs.declared.event.Reply.TheVariants.{NotPublished}
-use Rattle.osm_world.specs.Steps.Archive.{AreReadable, IsArchive, IsReadable}
+use Rattle.osm_world.specs.Steps.Archive.{AreReadable, IsArchive, IsReadable, IsSaveText}
+use Rattle.std.proofs.Common.{Option, Some, None}
+use Rattle.std.specs.Prelude.{Err, IfSome}
+use Rattle.osm_follow.specs.Follower.{FollowerValue}
+use Rattle.osm_follow.specs.Restart.{Restarts}
+use Rattle.osm_follow.specs.declared.restart.RestartError.TheVariants.{BadSave}
 use Rattle.osm_world.specs.declared.event.Form.{Form}
 use Rattle.osm_world.specs.declared.event.Form.TheVariants.{Opl, O5c}
 use Rattle.osm_follow.proofs.DeliveryLemmas.{state_of}
@@ -79,3 +84,9 @@ delivered_step a b k i form r p below is index above there replies rest =
     by_reply : (q : Reply) → DeliversTo a k form q b → DeliverStep a k form q b
     by_reply NotPublished t = absurd t.replies
     by_reply q t = t
+
+-- what was saved last is never refused as a bad save
+pub no_bad_save : (text : Option (List ℕ)) (f g : FollowerValue) (line : ℕ) → IfSome text IsSaveText
+    → Restarts f text (Err (BadSave line)) g → ⊥
+no_bad_save None f g line is t = t
+no_bad_save (Some text) f g line is t = t.0 is.0 is.1

@@ -189,6 +189,7 @@ impl World {
     }
 
     // What was saved last is a save text, so it is never refused as a bad one.
+    #[tactic(auto, using(crate::proofs::ArchiveLemmas::no_bad_save))]
     fn restart(&mut self) -> Reply
         ensures { RestartStep self.old result self.new }
     {

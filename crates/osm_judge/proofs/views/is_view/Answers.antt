@@ -8,9 +8,10 @@ use Rattle.osm_judge.proofs.views.is_view.Goals as goal
 pub returns : goal.returns
 returns c =
     let number : c.args.view.now.number ≡ c.follower_number-number.result = search rules in
+    let base : c.args.view.now.base ≡ 0 = search rules in
     let time : c.args.view.now.time ≡ time_at (published_of c.args.history.now) c.follower_number-number.result = search rules in
     let changes : c.as_slice.result.now ≡ changes_up_to (published_of c.args.history.now) c.follower_number-number.result = search rules in
     let is : c.in_ok-is_mirror.is_mirror ≡ true = search rules in
     let mirror : IsMirrorOf c.as_slice.result.now c.as_slice.result.now c.args.view.now.mirror = c.in_ok-is_mirror.ensures.0 is in
-    view_row c.args.history.now c.args.view.now c.follower_number-number.result c.is_held.result c.follower_number-number.ensures number time
+    view_row c.args.history.now c.args.view.now c.follower_number-number.result c.is_held.result c.follower_number-number.ensures number base time
     (rw (← changes) mirror) (rw (← c.held.ensures) c.is_held.ensures)
