@@ -237,7 +237,10 @@ SECOND, THIRD = NODE.replace(b" v1 ", b" v2 "), NODE.replace(b" v1 ", b" v3 ")
 HOLDS = (("Follower::deliver::<Opl>", delivery(2, lines(SECOND))),
          ("Follower::deliver::<Opl>", delivery(3, lines(THIRD))))
 AT_FULL = (("Follower::restart", save(1, *FULL)),)
+BEGUN = b"number 2\nbase 2\n" + mirror(2, PLENTY[0], (), ()) + b"held 0\n"
 FOLLOWERS = [
+    Case("follower", "Follower::begin", state(2), b"done\n", before=(("objects", lines(*PLENTY[0])), *HOLDS),
+         again=(("objects", lines(*PLENTY[0])),), left=show(0, *NOTHING, held=(2, 3)), after=BEGUN),
     Case("follower", "Follower::new", answer=b"done\n", before=AT_FULL, left=show(1, *FULL),
          after=show(0, *NOTHING)),
     Case("follower", "Follower::deliver::<Opl>", delivery(1, lines(NODE)), b"Applied { low: 1, high: 1 }\n",

@@ -1,13 +1,15 @@
 //! Calls of a follower.
 
-use crate::answers::{put_or, write_bytes_or, write_done};
+use crate::answers::{put, put_or, write_bytes_or, write_done};
 use crate::commands::Command;
 use crate::subject::Subject;
 use anyhow::{Context, Result, bail};
 use osm_follow::follower::Follower;
+use osm_model::change::Change;
 use osm_model::form::ChangeForm;
 use osm_model::memory::WantOfMemory;
 use osm_o5c::o5c::O5c;
+use osm_opl::data::read_data;
 use osm_opl::opl::Opl;
 use osm_reading::pieces::cut;
 use osm_show::show::write_view;
@@ -15,16 +17,20 @@ use osm_state::state_text::state_read;
 use std::alloc::Global;
 use std::io::Write;
 
-/// A follower.
+/// A follower, and objects that one begins with.
 #[derive(Drop)]
 pub(crate) struct Following {
     follower: Follower,
+    objects: Vec<Change>,
 }
 
 impl Following {
     pub(crate) fn new(alloc: Global) -> Result<Following, WantOfMemory> {
         let follower = Follower::new(alloc)?;
-        Ok(Following { follower })
+        Ok(Following {
+            follower,
+            objects: Vec::new(alloc),
+        })
     }
 }
 
@@ -32,10 +38,13 @@ impl Subject for Following {
     fn take(&mut self, alloc: Global, command: &Command<'_>, out: &mut Vec<u8>) -> Result<()> {
         let given = command.given;
         let follower = &mut self.follower;
+        let objects = &mut self.objects;
         match command.word {
+            b"objects" => put(read_data(alloc, given), objects),
             b"show" => show(alloc, follower, out),
             b"mend" => mend(alloc, follower, given, out),
             b"Follower::new" => put_or(Follower::new(alloc), follower, out),
+            b"Follower::begin" => begin(alloc, follower, objects, given, out),
             b"Follower::deliver::<Opl>" => deliver::<Opl>(alloc, follower, given, out),
             b"Follower::deliver::<O5c>" => deliver::<O5c>(alloc, follower, given, out),
             b"Follower::missing" => missing(alloc, follower, given, out),
@@ -63,6 +72,19 @@ fn mend(alloc: Global, follower: &mut Follower, save: &[u8], out: &mut Vec<u8>) 
         return write_done(follower.restart(alloc, Some(save)), out);
     }
     Ok(writeln!(out, "whole")?)
+}
+
+// Begins with the objects at the sequence of a state text.
+fn begin(
+    alloc: Global,
+    follower: &mut Follower,
+    objects: &mut Vec<Change>,
+    state: &[u8],
+    out: &mut Vec<u8>,
+) -> Result<()> {
+    let state = state_read(state)?;
+    let objects = std::mem::replace(objects, Vec::new(alloc));
+    put_or(Follower::begin(alloc, &state, objects), follower, out)
 }
 
 // Delivers a state text and a change file, which has a byte 0 before it.
