@@ -102,12 +102,14 @@ pub text_stops : (known : Type 0) (save output bytes : List ℕ) (files : Files)
     → length bytes ≤ max_save → IsObjectsOf bytes objects → (fault : RunFault) → TextStops form objects fault
     → ExportStops known save output files fault
 text_stops known save output bytes files form objects end there small read WantOfMemory r = record { form = form; end = end }
-text_stops known save output bytes files form objects end there small read (TooLarge Output) r =
-    (record { form = form; end = end }, λ yes. record {
-      named = record { form = form; end = end };
-      held = held_of (files save) bytes objects (there yes) small read;
-      over = subst (λ xs. max_file < length (data_text_of form xs)) read.objects_are r;
-    })
+text_stops known save output bytes files form objects end there small read (TooLarge Output) r = (
+  record { form = form; end = end },
+  λ yes. record {
+    named = record { form = form; end = end };
+    held = held_of (files save) bytes objects (there yes) small read;
+    over = subst (λ xs. max_file < length (data_text_of form xs)) read.objects_are r;
+  },
+)
 text_stops known save output bytes files form objects end there small read fault r = absurd r
 
 pub put_stops : (known : Type 0) (save output : List ℕ) (files : Files) → HasDataForm output

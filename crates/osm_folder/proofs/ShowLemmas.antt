@@ -5,7 +5,7 @@ use Rattle.osm_follow.specs.Published.{PublishedValue, time_at}
 use Rattle.osm_folder.specs.Following.{IsSaveOf, IsSaved, max_save}
 use Rattle.osm_folder.specs.Reports.{ReportValue}
 use Rattle.osm_folder.specs.Showing.{IsShown, IsShownOf, ShowStops, view_of_saved}
-use Rattle.osm_folder.specs.Steps.Following.{RestartStops}
+use Rattle.osm_folder.specs.Steps.Following.{FollowerStops, RestartStops}
 use Rattle.osm_folder.specs.declared.fault.RunFault.{RunFault}
 use Rattle.osm_folder.specs.declared.fault.RunFault.TheVariants.{WantOfMemory, BadSave}
 use Rattle.osm_folder.proofs.InStepLemmas.{one_saved}
@@ -32,3 +32,10 @@ pub restart_stops : (known : Type 0) (told : Option (List ℕ)) (bytes : List �
 restart_stops known told bytes WantOfMemory there small h = tt
 restart_stops known told bytes (BadSave line) there small h = λ sure. record { bytes = bytes; there = there sure; small = small; nothing = h }
 restart_stops known told bytes fault there small h = absurd h
+
+-- such a text stops what goes on from it as well
+pub follower_stops : (known : Type 0) (told : Option (List ℕ)) (bytes : List ℕ) (fault : RunFault)
+    → (known → told ≡ Some bytes) → length bytes ≤ max_save → RestartStops bytes fault → FollowerStops known told fault
+follower_stops known told bytes WantOfMemory there small h = tt
+follower_stops known told bytes (BadSave line) there small h = λ sure. record { bytes = bytes; there = there sure; small = small; nothing = h }
+follower_stops known told bytes fault there small h = absurd h

@@ -23,7 +23,7 @@ use crate::start::MAX_SAVE;
 use crate::store::Store;
 use osm_model::change::Change;
 use osm_model::data::DataError;
-use osm_save::save::{SaveError, save_read};
+use osm_save::save::{SaveError, Saved, save_read};
 use std::alloc::Global;
 
 /// Writes the objects of a save, which has to be there, as a data file, in the form of the output's
@@ -63,10 +63,19 @@ fn read_objects(alloc: Global, text: Vec<u8>) -> Result<Vec<Change>, RunFault>
     ensures read { IfOk result (λ objects. IsObjectsOf text.items objects.items) }
     ensures stops { IfErr result (RestartStops text.items) }
 {
-    let read = save_read(alloc, text.as_slice());
+    let read = read_saved(alloc, text.as_slice());
     drop(text);
-    match read {
-        Ok(saved) => Ok(saved.mirror.objects(alloc)?),
+    let saved = read?;
+    Ok(saved.mirror.objects(alloc)?)
+}
+
+// What a save text saves.
+fn read_saved(alloc: Global, text: &[u8]) -> Result<Saved, RunFault>
+    ensures spelled { IfOk result (SpellsSave text.now) }
+    ensures stops { IfErr result (RestartStops text.now) }
+{
+    match save_read(alloc, text) {
+        Ok(saved) => Ok(saved),
         Err(SaveError::BadSave { line }) => Err(RunFault::BadSave(line)),
         Err(SaveError::WantOfMemory) => Err(RunFault::WantOfMemory),
     }
