@@ -6,9 +6,10 @@ ghost use Rattle.osm_model.specs.Batch.{IsBatch};
 ghost use Rattle.osm_world.specs.Correct.{IsRun};
 ghost use Rattle.osm_follow.specs.Published.{texts_at};
 ghost use Rattle.osm_world.specs.Step.{CloseStep, DeliverStep, EditStep, Replies, RestartStep};
-ghost use Rattle.osm_world.specs.Step.{SaveStep, ShowStep, Step};
+ghost use Rattle.osm_world.specs.Step.{BeginStep, BeginsFrom, SaveStep, ShowStep, Step};
 ghost use Rattle.osm_world.specs.Step.{bytes_in, fault_in, spells_in};
 ghost use Rattle.osm_world.specs.Steps.Archive.{AreReadable, ClosesInto, IsArchive, IsReadable};
+ghost use Rattle.osm_world.specs.Steps.Beginning.{AreLeft};
 ghost use Rattle.osm_world.specs.World.{new_world};
 
 use crate::event::{Event, Form, Reply};
@@ -25,6 +26,7 @@ use osm_model::memory::WantOfMemory;
 use osm_o5c::o5c::O5c;
 use osm_opl::opl::Opl;
 use osm_state::laws::laws_of_state;
+use osm_state::state_text::state_read;
 use std::alloc::Global;
 use std::marker::Model;
 
@@ -105,6 +107,7 @@ impl World {
             Event::Show => self.show(),
             Event::Save => self.save(),
             Event::Restart => self.restart(),
+            Event::Begin(number) => self.begin(number),
         }
     }
 
@@ -199,6 +202,65 @@ impl World {
             Err(RestartError::BadSave { .. }) => unreachable!(),
         }
     }
+
+    fn begin(&mut self, number: u32) -> Reply
+        ensures { BeginStep self.old number result self.new }
+    {
+        if number == 0 || number > self.publisher.number() {
+            return Reply::NotPublished;
+        }
+        match begun_from(self.alloc, self.archive.as_slice(), number) {
+            Ok(follower) => {
+                self.follower = follower;
+                Reply::Begun(number)
+            }
+            Err(_) => Reply::WantOfMemory,
+        }
+    }
+}
+
+// The follower that begins at that number with what the archived sequences leave. Whatever is
+// refused on the way is refused for memory.
+fn begun_from(
+    alloc: Global,
+    archive: &[Published],
+    number: u32,
+) -> Result<Follower, WantOfMemory>
+    requires above { 0 < number }
+    requires there { number ≤ length archive.now }
+    ensures { IfOk result (BeginsFrom archive.now number) }
+{
+    let objects = archived_objects(alloc, archive, number)?;
+    let Ok(state) = state_read(archive[number as usize - 1].state()) else {
+        return Err(WantOfMemory);
+    };
+    let Ok(follower) = Follower::begin(alloc, &state, objects) else {
+        return Err(WantOfMemory);
+    };
+    Ok(follower)
+}
+
+// The objects that the archived sequences 1 to `number` leave.
+fn archived_objects(
+    alloc: Global,
+    archive: &[Published],
+    number: u32,
+) -> Result<Vec<Change>, WantOfMemory>
+    requires { number ≤ length archive.now }
+    ensures { IfOk result (λ objects. AreLeft archive.now number objects.items) }
+{
+    let mut giver = Follower::new(alloc)?;
+    for index in 0..number {
+        let published = &archive[index as usize];
+        let given = giver.deliver::<Opl>(alloc, published.state(), published.opl());
+        let Ok(Delivered::Applied { .. }) = given else {
+            return Err(WantOfMemory);
+        };
+    }
+    let Ok(view) = giver.view(alloc) else {
+        return Err(WantOfMemory);
+    };
+    Ok(view.into_objects())
 }
 
 // An empty list with room for one reply to each event, and for no more.
