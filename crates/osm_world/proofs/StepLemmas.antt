@@ -1,6 +1,6 @@
 -- A step keeps a world in step with its history.
 use Rattle.std.proofs.Common.{◌≡◌, ℕ, ◌+◌, ◌-◌, ◌<◌, ◌≤◌, List, [], ◌∷◌, ◌++◌, length, refl, ap, sym, ◌∙◌, Bool, true}
-use Rattle.std.proofs.Common.{false, arith, Some, None, Option, append-nil, length-append, subst, zero, suc, map, drop, take, inl, inr}
+use Rattle.std.proofs.Common.{false, arith, Some, None, Option, append-nil, length-append, subst, zero, suc, map, take, inl, inr}
 use Rattle.std.proofs.lemmas.Bool.{cases_lt}
 use Rattle.std.proofs.lemmas.List.{drop_all, length-take-le}
 use Rattle.std.specs.List.{flat_map}
@@ -37,6 +37,7 @@ use Rattle.osm_follow.specs.declared.delivery.DeliverError.TheVariants as errors
 use Rattle.osm_world.specs.declared.event.Event.{Event}
 use Rattle.osm_world.specs.declared.event.Event.TheVariants.{Begin, Edit, Close, Deliver, Show, Save, Restart}
 use Rattle.osm_world.specs.declared.event.Form.{Form}
+use Rattle.osm_world.specs.declared.event.Form.TheVariants.{Opl}
 use Rattle.osm_world.specs.declared.event.Reply.{Reply}
 use Rattle.osm_world.specs.declared.event.Reply.TheVariants.{Edited, BatchFull, WantOfMemory, Closed, SequenceFull}
 use Rattle.osm_world.specs.declared.event.Reply.TheVariants.{TimeBack, TooLarge, NotPublished, Broken, Old, Again}
@@ -75,9 +76,12 @@ quiet_keeps h e r a b q s t = rw t (record {
   archive = rw q.closed s.archive;
   sequences = rw q.closed s.sequences;
   batch = rw (q.closed, q.edit, append-nil) s.batch;
-  saved = rw (q.closed, q.saved, q.bases) s.saved;
+  saved = subst (λ (x : ℕ). IsLastSave (hist.published_of ((e, r) ∷ h)) (hist.last_saved ((e, r) ∷ h)) x a.saved)
+      (sym (ap (λ (x : ℕ × ℕ). x.1) q.bases)) (rw (q.closed, q.saved) s.saved);
   broken = rw q.broken s.broken;
-  state = λ ok. rw (q.closed, q.bases, q.start, q.accepted) (s.state (sym q.broken ∙ ok));
+  state = λ ok. subst (λ (x : ℕ). IsState (hist.published_of ((e, r) ∷ h)) x (hist.start_of ((e, r) ∷ h))
+      (hist.accepted_of ((e, r) ∷ h)) a.follower) (sym (ap (λ (x : ℕ × ℕ). x.0) q.bases))
+      (rw (q.closed, q.start, q.accepted) (s.state (sym q.broken ∙ ok)));
   reported = λ ok. rw (q.start, q.reported, append-nil) (s.reported (sym q.broken ∙ ok));
 })
 

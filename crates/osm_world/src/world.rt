@@ -1,10 +1,13 @@
 //! A world: a publisher, its archive and a follower, which take events one by one.
 
 ghost use Rattle.std.specs.Prelude.{◌≡◌, ◌<◌, ◌≤◌, ◌⊎◌, ◌↔◌, [], length, vec_capacity, vec_len};
-ghost use Rattle.std.specs.Prelude.{IsNone, IfOk, IfSome, OnErr, OnOk};
+ghost use Rattle.std.specs.Prelude.{IsNone, IfOk, IfSome, Ok, OnErr, OnOk};
 ghost use Rattle.osm_model.specs.Batch.{IsBatch};
 ghost use Rattle.osm_world.specs.Correct.{IsRun};
+ghost use Rattle.osm_follow.specs.Delivery.{Delivers};
 ghost use Rattle.osm_follow.specs.Published.{texts_at};
+ghost use Rattle.osm_follow.specs.declared.delivery.Delivered.TheVariants.{Applied};
+ghost use Rattle.osm_opl.specs.File.{FaultLine, SpellsOpl};
 ghost use Rattle.osm_world.specs.Step.{CloseStep, DeliverStep, EditStep, Replies, RestartStep};
 ghost use Rattle.osm_world.specs.Step.{BeginStep, BeginsFrom, SaveStep, ShowStep, Step};
 ghost use Rattle.osm_world.specs.Step.{bytes_in, fault_in, spells_in};
@@ -221,11 +224,7 @@ impl World {
 
 // The follower that begins at that number with what the archived sequences leave. Whatever is
 // refused on the way is refused for memory.
-fn begun_from(
-    alloc: Global,
-    archive: &[Published],
-    number: u32,
-) -> Result<Follower, WantOfMemory>
+fn begun_from(alloc: Global, archive: &[Published], number: u32) -> Result<Follower, WantOfMemory>
     requires above { 0 < number }
     requires there { number ≤ length archive.now }
     ensures { IfOk result (BeginsFrom archive.now number) }
@@ -251,11 +250,7 @@ fn archived_objects(
 {
     let mut giver = Follower::new(alloc)?;
     for index in 0..number {
-        let published = &archive[index as usize];
-        let given = giver.deliver::<Opl>(alloc, published.state(), published.opl());
-        let Ok(Delivered::Applied { .. }) = given else {
-            return Err(WantOfMemory);
-        };
+        give(&mut giver, alloc, &archive[index as usize])?;
     }
     let Ok(view) = giver.view(alloc) else {
         return Err(WantOfMemory);
@@ -305,6 +300,22 @@ fn close_into(
     O5c::laws();
     archive.push(published).unwrap();
     Ok(publisher.number())
+}
+
+// Delivers a sequence that is to be applied, and gives the numbers of the first and the last one
+// that were.
+fn give(
+    giver: &mut Follower,
+    alloc: Global,
+    published: &Published,
+) -> Result<(u32, u32), WantOfMemory>
+    ensures { IfOk result (λ range. Delivers SpellsOpl FaultLine giver.old published.now.state
+        published.now.opl (Ok (Applied range.0 range.1)) giver.new) }
+{
+    match giver.deliver::<Opl>(alloc, published.state(), published.opl()) {
+        Ok(Delivered::Applied { low, high }) => Ok((low, high)),
+        _ => Err(WantOfMemory),
+    }
 }
 
 fn deliver_text(follower: &mut Follower, alloc: Global, published: &Published, form: Form) -> Reply
