@@ -156,6 +156,13 @@ impl View {
         self.objects.as_slice()
     }
 
+    /// The objects alone, in the order of their keys.
+    pub fn into_objects(self) -> Vec<Change>
+        ensures { result.items ≡ self.mirror.objects }
+    {
+        self.objects
+    }
+
     /// The users with their counts of edits, rising.
     pub fn users(&self) -> &[(u32, u64)]
         ensures { result.now ≡ self.now.mirror.users }

@@ -14,8 +14,12 @@ use Rattle.osm_world.specs.World.{WorldValue}
 use Rattle.osm_world.specs.declared.event.Reply.{Reply}
 use Rattle.osm_world.specs.declared.event.Reply.TheVariants.{NotPublished}
 use Rattle.osm_world.specs.Steps.Archive.{AreReadable, IsArchive, IsReadable, IsSaveText}
-use Rattle.std.proofs.Common.{Option, Some, None}
-use Rattle.std.specs.Prelude.{Err, IfSome}
+use Rattle.std.proofs.Common.{Option, Some, None, suc, subst}
+use Rattle.std.specs.Prelude.{Err, IfSome, Ok}
+use Rattle.osm_opl.specs.File.{SpellsOpl, FaultLine}
+use Rattle.osm_follow.specs.Delivery.{Delivers}
+use Rattle.osm_follow.specs.declared.delivery.Delivered.TheVariants.{Applied}
+use Rattle.osm_world.specs.Step.{IsFed}
 use Rattle.osm_follow.specs.Follower.{FollowerValue}
 use Rattle.osm_follow.specs.Restart.{Restarts}
 use Rattle.osm_follow.specs.declared.restart.RestartError.TheVariants.{BadSave}
@@ -90,3 +94,18 @@ pub no_bad_save : (text : Option (List ℕ)) (f g : FollowerValue) (line : ℕ) 
     → Restarts f text (Err (BadSave line)) g → ⊥
 no_bad_save None f g line is t = t
 no_bad_save (Some text) f g line is t = t.0 is.0 is.1
+
+-- one more sequence was given
+pub fed_more : (archive : List PublishedTexts) (i low high : ℕ) (e f : FollowerValue) (p : PublishedTexts) → i < length archive
+    → p ≡ get_or archive i p → IsFed archive i e → Delivers SpellsOpl FaultLine e p.state p.opl (Ok (Applied low high)) f
+    → IsFed archive (i + 1) f
+fed_more archive i low high e f p below is fed given =
+    let index : suc i - 1 ≡ i = omega arith in
+    let here : texts_at archive (suc i) ≡ p = ap (λ (j : ℕ). get_or archive j no_texts) index ∙ (get_or_default archive i no_texts p below ∙ sym is) in
+    let next : suc i ≡ i + 1 = omega arith in
+    subst (λ (n : ℕ). IsFed archive n f) next (
+      e,
+      (low, high),
+      fed,
+      subst (λ (x : PublishedTexts). Delivers SpellsOpl FaultLine e x.state x.opl (Ok (Applied low high)) f) (sym here) given,
+    )

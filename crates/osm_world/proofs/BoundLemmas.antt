@@ -8,11 +8,11 @@ use Rattle.osm_follow.specs.Published.{PublishedValue}
 use Rattle.osm_follow.specs.Reach.{Reaches}
 use Rattle.osm_follow.specs.View.{ViewValue}
 use Rattle.osm_world.specs.declared.event.Event.{Event}
-use Rattle.osm_world.specs.declared.event.Event.TheVariants.{Edit, Close, Deliver, Show, Save, Restart}
+use Rattle.osm_world.specs.declared.event.Event.TheVariants.{Begin, Edit, Close, Deliver, Show, Save, Restart}
 use Rattle.osm_world.specs.declared.event.Reply.{Reply}
 use Rattle.osm_world.specs.declared.event.Reply.TheVariants.{Edited, BatchFull, WantOfMemory, Closed, SequenceFull}
 use Rattle.osm_world.specs.declared.event.Reply.TheVariants.{TimeBack, TooLarge, NotPublished, Broken, Old, Again}
-use Rattle.osm_world.specs.declared.event.Reply.TheVariants.{TooEarly, Held, Applied, Broke, Shown, Saved, Restarted}
+use Rattle.osm_world.specs.declared.event.Reply.TheVariants.{TooEarly, Held, Applied, Broke, Shown, Saved, Restarted, Begun}
 use Rattle.osm_world.proofs.ReachLemmas.{reaches_more}
 use Rattle.osm_world.proofs.ReportLemmas.{legal_before}
 
@@ -119,6 +119,10 @@ bounded (p ∷ h) legal = by_pair p.0 p.1 (legal.each [] h p.0 p.1 refl) (bounde
     by_pair Restart (Restarted m) a before = none_accepted (length (hist.published_of h)) (hist.saved_of h) (hist.saved_of h) before.saved_in before.saved_in
     by_pair Restart WantOfMemory a before = before
     by_pair Restart r a before = absurd a
+    by_pair (Begin k) NotPublished a before = before
+    by_pair (Begin k) (Begun m) a before = none_accepted (length (hist.published_of h)) (hist.saved_of h) k before.saved_in a.1
+    by_pair (Begin k) WantOfMemory a before = before
+    by_pair (Begin k) r a before = absurd a
 
 pub shown_number : (h : hist.History) (v : ViewValue) → IsLegal h → Allowed h Show (Shown v) → v.number ≤ length (hist.published_of h)
 shown_number h v legal a = number_in (length (hist.published_of h)) (hist.saved_of h) (hist.start_of h) v.number

@@ -7,11 +7,11 @@ use Rattle.osm_world.specs.History as hist
 use Rattle.osm_world.specs.Legal.{IsLegal, IsNumber, Allowed}
 use Rattle.osm_follow.specs.Reach.{Reaches, numbers}
 use Rattle.osm_world.specs.declared.event.Event.{Event}
-use Rattle.osm_world.specs.declared.event.Event.TheVariants.{Edit, Close, Deliver, Show, Save, Restart}
+use Rattle.osm_world.specs.declared.event.Event.TheVariants.{Begin, Edit, Close, Deliver, Show, Save, Restart}
 use Rattle.osm_world.specs.declared.event.Reply.{Reply}
 use Rattle.osm_world.specs.declared.event.Reply.TheVariants.{Edited, BatchFull, WantOfMemory, Closed, SequenceFull}
 use Rattle.osm_world.specs.declared.event.Reply.TheVariants.{TimeBack, TooLarge, NotPublished, Broken, Old, Again}
-use Rattle.osm_world.specs.declared.event.Reply.TheVariants.{TooEarly, Held, Applied, Broke, Shown, Saved, Restarted}
+use Rattle.osm_world.specs.declared.event.Reply.TheVariants.{TooEarly, Held, Applied, Broke, Shown, Saved, Restarted, Begun}
 use Rattle.osm_world.proofs.ReachLemmas.{one_reach, reaches_more}
 use Rattle.osm_world.proofs.ReportLemmas.{legal_before}
 
@@ -145,6 +145,10 @@ catches_up (p ∷ h) n legal whole number count is = by_pair p.0 p.1 (legal_last
     by_pair Restart (Restarted m) a ok at before = λ c s. none_delivered (hist.saved_of h) n c at.from s
     by_pair Restart WantOfMemory a ok at before = cc
     by_pair Restart r a ok at before = absurd a
+    by_pair (Begin k) NotPublished a ok at before = quiet_pair h n ok at before
+    by_pair (Begin k) (Begun m) a ok at before = λ c s. none_delivered k n c at.from s
+    by_pair (Begin k) WantOfMemory a ok at before = quiet_pair h n ok at before
+    by_pair (Begin k) r a ok at before = absurd a
 
 -- a number was accepted exactly if it is above the start and was confirmed
 abbrev Known : hist.History → ℕ → Type 0
@@ -211,3 +215,7 @@ accepts_what_is_confirmed (p ∷ h) j legal = by_pair p.0 p.1 (legal_last h p.0 
     by_pair Restart (Restarted m) a before = (λ has. absurd (let bad : false ≡ true = has in cc), λ both. both.1)
     by_pair Restart WantOfMemory a before = before
     by_pair Restart r a before = absurd a
+    by_pair (Begin k) NotPublished a before = before
+    by_pair (Begin k) (Begun m) a before = (λ has. absurd (let bad : false ≡ true = has in cc), λ both. both.1)
+    by_pair (Begin k) WantOfMemory a before = before
+    by_pair (Begin k) r a before = absurd a

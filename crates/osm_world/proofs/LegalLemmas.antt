@@ -20,11 +20,11 @@ use Rattle.osm_world.specs.World.{WorldValue}
 use Rattle.osm_follow.specs.declared.delivery.Delivered.TheVariants as answers
 use Rattle.osm_follow.specs.declared.delivery.DeliverError.TheVariants as errors
 use Rattle.osm_world.specs.declared.event.Event.{Event}
-use Rattle.osm_world.specs.declared.event.Event.TheVariants.{Edit, Close, Deliver, Show, Save, Restart}
+use Rattle.osm_world.specs.declared.event.Event.TheVariants.{Begin, Edit, Close, Deliver, Show, Save, Restart}
 use Rattle.osm_world.specs.declared.event.Reply.{Reply}
 use Rattle.osm_world.specs.declared.event.Reply.TheVariants.{Edited, BatchFull, WantOfMemory, Closed, SequenceFull}
 use Rattle.osm_world.specs.declared.event.Reply.TheVariants.{TimeBack, TooLarge, NotPublished, Broken, Old, Again}
-use Rattle.osm_world.specs.declared.event.Reply.TheVariants.{TooEarly, Held, Applied, Broke, Shown, Saved, Restarted}
+use Rattle.osm_world.specs.declared.event.Reply.TheVariants.{TooEarly, Held, Applied, Broke, Shown, Saved, Restarted, Begun}
 use Rattle.osm_holding.proofs.AreaLemmas.{exactly_held}
 use Rattle.osm_holding.specs.Holding as area
 use Rattle.osm_holding.specs.declared.holding.Held as kept
@@ -37,7 +37,7 @@ whole_of : (h : hist.History) (a : WorldValue) → IsInStep h a → a.follower.i
 whole_of h a s whole = sym s.broken ∙ whole
 
 state_of : (h : hist.History) (a : WorldValue) → IsInStep h a → a.follower.is_broken ≡ false
-    → IsState (hist.published_of h) 0 (hist.start_of h) (hist.accepted_of h) a.follower
+    → IsState (hist.published_of h) (hist.base_of h) (hist.start_of h) (hist.accepted_of h) a.follower
 state_of h a s whole = s.state (whole_of h a s whole)
 
 published_is : (h : hist.History) (a : WorldValue) → IsInStep h a → a.publisher.number ≡ length (hist.published_of h)
@@ -66,7 +66,7 @@ wanted_of h a k s above there t =
       is_open = open_of h a k s above there t.whole;
       above = past;
       within = rw number_is at t.within;
-      fresh = fresh_is_unaccepted (hist.published_of h) 0 (hist.start_of h) (hist.accepted_of h) a.follower
+      fresh = fresh_is_unaccepted (hist.published_of h) (hist.base_of h) (hist.start_of h) (hist.accepted_of h) a.follower
           (state_of h a s t.whole) k past (rw number_is at t.fresh);
     }
 
@@ -80,25 +80,25 @@ work_of : (h : hist.History) (a b : WorldValue) (k : ℕ) → IsInStep h a → a
     → Breaks a.follower (sequence_at (hist.published_of h) k) b.follower → HasChanges h k
 work_of h a b k s whole past number_is t =
     let ps : List PublishedValue = hist.published_of h in
-    let state : IsState ps 0 (hist.start_of h) (hist.accepted_of h) a.follower = state_of h a s whole in
+    let state : IsState ps (hist.base_of h) (hist.start_of h) (hist.accepted_of h) a.follower = state_of h a s whole in
     let high_is : t.high ≡ k + t.count = rw number_is at t.high_is in
     let held_reach : Reaches (is_held a.follower) k t.high = rw number_is at t.reach in
     let joined : between (changes_held a.follower) (sequence_at ps k).number t.count ≡ between (changes_at ps) k t.count =
-    rw number_is (joined_is ps 0 (hist.start_of h) (hist.accepted_of h) a.follower k t.high t.count state past high_is held_reach) in
+    rw number_is (joined_is ps (hist.base_of h) (hist.start_of h) (hist.accepted_of h) a.follower k t.high t.count state past high_is held_reach) in
     let some : 0 < length (changes_at ps k ++ between (changes_held a.follower) (sequence_at ps k).number t.count) =
     some_of _ t.needs.before t.needs.after t.needs.change t.needs.is in
     record {
       count = t.count;
-      reach = rw (← high_is) (reaches_accepted ps 0 (hist.start_of h) (hist.accepted_of h) a.follower k t.high state past held_reach);
+      reach = rw (← high_is) (reaches_accepted ps (hist.base_of h) (hist.start_of h) (hist.accepted_of h) a.follower k t.high state past held_reach);
       some = rw joined at some;
     }
 
 view_is : (h : hist.History) (a : WorldValue) (v : ViewValue) → IsInStep h a → a.follower.is_broken ≡ false
-    → v ≡ view_of a.follower → IsStrictlySortedBy nat_cmp v.held → IsView (hist.published_of h) 0 (hist.start_of h)
+    → v ≡ view_of a.follower → IsStrictlySortedBy nat_cmp v.held → IsView (hist.published_of h) (hist.base_of h) (hist.start_of h)
     (hist.accepted_of h) v
 view_is h a v s whole is rising = rw is (record {
   base_is = state.base_is;
-  below = omega arith;
+  below = rw state.base_is at state.follows.base;
   reach = state.reach;
   time = state.follows.time;
   mirror = rw state.base_is at state.follows.mirror;
@@ -107,14 +107,14 @@ view_is h a v s whole is rising = rw is (record {
     λ has. (
         let there : IsSome (held_at a.follower j) = shown j ((exactly_held a.follower.holding j).0 has) in
         let past : a.follower.number < j = above j there in
-        (past, held_was_accepted (hist.published_of h) 0 (hist.start_of h) (hist.accepted_of h) a.follower state j past there)),
+        (past, held_was_accepted (hist.published_of h) (hist.base_of h) (hist.start_of h) (hist.accepted_of h) a.follower state j past there)),
     λ both. (exactly_held a.follower.holding j).1
-        (told j (held_accepted (hist.published_of h) 0 (hist.start_of h) (hist.accepted_of h) a.follower state j both.0
+        (told j (held_accepted (hist.published_of h) (hist.base_of h) (hist.start_of h) (hist.accepted_of h) a.follower state j both.0
         ∙ both.1)),
   );
 })
   where
-    state : IsState (hist.published_of h) 0 (hist.start_of h) (hist.accepted_of h) a.follower
+    state : IsState (hist.published_of h) (hist.base_of h) (hist.start_of h) (hist.accepted_of h) a.follower
     state = state_of h a s whole
 
     shown : (j : ℕ) → IsSome (area.held_at a.follower.holding j) → IsSome (held_at a.follower j)
@@ -191,7 +191,7 @@ step_allowed laws one h (Deliver k form) Again a b s t =
       a.follower.number,
       open_of h a k s t.above t.there d.0,
       past,
-      held_was_accepted (hist.published_of h) 0
+      held_was_accepted (hist.published_of h) (hist.base_of h)
           (hist.start_of h) (hist.accepted_of h) a.follower (state_of h a s d.0) k past there,
     )
 step_allowed laws one h (Deliver k form) TooEarly a b s t =
@@ -204,7 +204,7 @@ step_allowed laws one h (Deliver k form) TooEarly a b s t =
       a.follower.number,
       open_of h a k s t.above t.there d.0,
       past,
-      fresh_is_unaccepted (hist.published_of h) 0
+      fresh_is_unaccepted (hist.published_of h) (hist.base_of h)
           (hist.start_of h) (hist.accepted_of h) a.follower (state_of h a s d.0) k (omega arith) none,
     )
 step_allowed laws one h (Deliver k form) WantOfMemory a b s t =
@@ -227,7 +227,7 @@ step_allowed laws one h (Deliver k form) (Applied low high) a b s t =
       wanted_of h a k s t.above t.there d.0,
       next,
       d.2 ∙ number,
-      reaches_accepted (hist.published_of h) 0 (hist.start_of h) (hist.accepted_of h) a.follower k high
+      reaches_accepted (hist.published_of h) (hist.base_of h) (hist.start_of h) (hist.accepted_of h) a.follower k high
           (state_of h a s d.0.whole) (omega arith) (rw number at d.3.reach),
     )
 step_allowed laws one h (Deliver k form) Broke a b s t =
@@ -247,11 +247,17 @@ step_allowed laws one h Save (Saved n) a b s t = (whole_of h a s t.1, (let state
 step_allowed laws one h Save WantOfMemory a b s t = whole_of h a s t.0
 step_allowed laws one h Save r a b s t = absurd t
 step_allowed laws one h Restart (Restarted n) a b s t =
-    let g : StartsAt (hist.published_of h) (hist.saved_of h) b.follower =
-    restarted_as one (hist.published_of h) (hist.last_saved h) a.saved a.follower b.follower s.saved t.0 in
+    let g : StartsAt (hist.published_of h) (hist.saved_base_of h) (hist.saved_of h) b.follower =
+    restarted_as one (hist.published_of h) (hist.last_saved h) (hist.saved_base_of h) a.saved a.follower b.follower s.saved t.0 in
     t.1 ∙ g.number
-step_allowed laws one h Restart WantOfMemory a b s t = refused_from (hist.published_of h) (hist.last_saved h) a.saved a.follower b.follower s.saved t.0
+step_allowed laws one h Restart WantOfMemory a b s t = refused_from (hist.published_of h) (hist.last_saved h) (hist.saved_base_of h) a.saved a.follower b.follower s.saved t.0
 step_allowed laws one h Restart r a b s t = absurd t
+step_allowed laws one h (Begin k) NotPublished a b s t = (let published : a.publisher.number ≡ length (hist.published_of h) = published_is h a s in rw published at t.0)
+step_allowed laws one h (Begin k) (Begun n) a b s t =
+    (t.0, (let published : a.publisher.number ≡ length (hist.published_of h) = published_is h a s in rw published at t.1), t.2)
+step_allowed laws one h (Begin k) WantOfMemory a b s t =
+    (t.0, (let published : a.publisher.number ≡ length (hist.published_of h) = published_is h a s in rw published at t.1))
+step_allowed laws one h (Begin k) r a b s t = absurd t
 
 pub legal_none : IsLegal []
 legal_none = record { each = λ later before e r is. absurd (none later before (e, r) is) }

@@ -12,7 +12,7 @@ use Rattle.osm_world.specs.World.{WorldValue}
 use Rattle.osm_world.proofs.AlikeLemmas.{state_alike}
 use Rattle.osm_world.proofs.StepLemmas.{new_in_step}
 
-nothing_saved : (saved : Option (List ℕ)) → IsLastSave [] None saved → saved ≡ None
+nothing_saved : (saved : Option (List ℕ)) → IsLastSave [] None 0 saved → saved ≡ None
 nothing_saved None is = refl
 nothing_saved (Some bytes) is = absurd is
 

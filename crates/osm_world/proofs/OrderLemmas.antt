@@ -7,11 +7,11 @@ use Rattle.osm_world.specs.Deliveries.{delivered_of}
 use Rattle.osm_world.specs.History as hist
 use Rattle.osm_world.specs.Legal.{IsLegal, IsNumber, Allowed}
 use Rattle.osm_world.specs.declared.event.Event.{Event}
-use Rattle.osm_world.specs.declared.event.Event.TheVariants.{Edit, Close, Deliver, Show, Save, Restart}
+use Rattle.osm_world.specs.declared.event.Event.TheVariants.{Begin, Edit, Close, Deliver, Show, Save, Restart}
 use Rattle.osm_world.specs.declared.event.Reply.{Reply}
 use Rattle.osm_world.specs.declared.event.Reply.TheVariants.{Edited, BatchFull, WantOfMemory, Closed, SequenceFull}
 use Rattle.osm_world.specs.declared.event.Reply.TheVariants.{TimeBack, TooLarge, NotPublished, Broken, Old, Again}
-use Rattle.osm_world.specs.declared.event.Reply.TheVariants.{TooEarly, Held, Applied, Broke, Shown, Saved, Restarted}
+use Rattle.osm_world.specs.declared.event.Reply.TheVariants.{TooEarly, Held, Applied, Broke, Shown, Saved, Restarted, Begun}
 use Rattle.osm_world.proofs.ReportLemmas.{legal_before}
 
 apart : (b : Bool) → b ≡ true → b ≡ false → ⊥
@@ -79,6 +79,10 @@ delivered_is_taken (p ∷ h) j legal = by_pair p.0 p.1 (legal.each [] h p.0 p.1 
     by_pair Restart (Restarted m) a before = λ ok above below is. absurd (let short = is.1 in omega arith)
     by_pair Restart WantOfMemory a before = λ ok above below is. absurd (apart true refl ok)
     by_pair Restart r a before = absurd a
+    by_pair (Begin k) NotPublished a before = quiet_takes h j before
+    by_pair (Begin k) (Begun m) a before = λ ok above below is. absurd (let short = is.1 in omega arith)
+    by_pair (Begin k) WantOfMemory a before = quiet_takes h j before
+    by_pair (Begin k) r a before = absurd a
 
 pub any_order : (h : hist.History) (n count : ℕ) → IsLegal h → hist.is_broken h ≡ false → IsNumber h n → count ≤ 64
     → ((j : ℕ) → hist.start_of h < j → j ≤ hist.start_of h + count → Contains (delivered_of h) j) → hist.start_of h

@@ -14,13 +14,13 @@ use Rattle.osm_world.proofs.AlikeLemmas.{one_view}
 use Rattle.osm_world.proofs.ReachLemmas.{one_reach}
 use Rattle.osm_world.specs.Due.{due_delivery, is_unpublished}
 use Rattle.osm_world.specs.History as hist
-use Rattle.osm_world.specs.Legal.{Allowed, AllowedClose, AllowedDeliver, AllowedEdit, AllowedRestart, AllowedSave, AllowedShow, IsNumber, is_want_of_memory}
+use Rattle.osm_world.specs.Legal.{Allowed, AllowedClose, AllowedDeliver, AllowedEdit, AllowedRestart, AllowedSave, AllowedShow, AllowedBegin, IsNumber, is_want_of_memory}
 use Rattle.osm_world.specs.declared.event.Event.{Event}
-use Rattle.osm_world.specs.declared.event.Event.TheVariants.{Edit, Close, Deliver, Show, Save, Restart}
+use Rattle.osm_world.specs.declared.event.Event.TheVariants.{Begin, Edit, Close, Deliver, Show, Save, Restart}
 use Rattle.osm_world.specs.declared.event.Reply.{Reply}
 use Rattle.osm_world.specs.declared.event.Reply.TheVariants.{Edited, BatchFull, WantOfMemory, Closed, SequenceFull}
 use Rattle.osm_world.specs.declared.event.Reply.TheVariants.{TimeBack, TooLarge, NotPublished, Broken, Old, Again}
-use Rattle.osm_world.specs.declared.event.Reply.TheVariants.{TooEarly, Held, Applied, Broke, Shown, Saved, Restarted}
+use Rattle.osm_world.specs.declared.event.Reply.TheVariants.{TooEarly, Held, Applied, Broke, Shown, Saved, Restarted, Begun}
 
 due_edit : hist.History → Reply
 due_edit h = if nat_lt (length (hist.pending_of h)) max_changes then Edited else BatchFull
@@ -156,6 +156,25 @@ restart_is_due h (Restarted n) a ok = ap (λ (m : ℕ). Restarted m) a
 restart_is_due h WantOfMemory a ok = cc
 restart_is_due h r a ok = absurd a
 
+begin_is_due : (h : hist.History) (k : ℕ) (q r : Reply) → AllowedBegin h k q → AllowedBegin h k r
+    → is_want_of_memory q ≡ false → is_want_of_memory r ≡ false → q ≡ r
+begin_is_due h k NotPublished NotPublished a b p o = refl
+begin_is_due h k NotPublished (Begun n) a b p o = absurd (elim a [
+  | inl zero_is ↦ (let above = b.0 in omega arith)
+  | inr past ↦ (let there = b.1 in omega arith)
+])
+begin_is_due h k NotPublished WantOfMemory a b p o = cc
+begin_is_due h k NotPublished r a b p o = absurd b
+begin_is_due h k (Begun m) NotPublished a b p o = absurd (elim b [
+  | inl zero_is ↦ (let above = a.0 in omega arith)
+  | inr past ↦ (let there = a.1 in omega arith)
+])
+begin_is_due h k (Begun m) (Begun n) a b p o = ap (λ (i : ℕ). Begun i) (a.2 ∙ sym b.2)
+begin_is_due h k (Begun m) WantOfMemory a b p o = cc
+begin_is_due h k (Begun m) r a b p o = absurd b
+begin_is_due h k WantOfMemory r a b p o = cc
+begin_is_due h k q r a b p o = absurd a
+
 broken_apart : (b : Bool) → b ≡ true → b ≡ false → ⊥
 broken_apart b is out = let bad : true ≡ false = sym is ∙ out in cc
 
@@ -166,7 +185,7 @@ one_show h Broken WantOfMemory a b p o = cc
 one_show h Broken r a b p o = absurd b
 one_show h (Shown v) Broken a b p o = absurd (broken_apart (hist.is_broken h) b a.0)
 one_show h (Shown v) (Shown w) a b p o =
-    ap (λ (x : ViewValue). Shown x) (one_view (hist.published_of h) 0 (hist.start_of h) (hist.accepted_of h)
+    ap (λ (x : ViewValue). Shown x) (one_view (hist.published_of h) (hist.base_of h) (hist.start_of h) (hist.accepted_of h)
     (hist.accepted_of h) v w (λ j. refl) a.1 b.1)
 one_show h (Shown v) WantOfMemory a b p o = cc
 one_show h (Shown v) r a b p o = absurd b
@@ -193,7 +212,7 @@ accepted_within : (h : hist.History) (j : ℕ) → top_of h < j → hist.accepte
 unfolding top_of
 accepted_within [] j above = refl
 accepted_within (p ∷ h) j above =
-    by_test (hist.restarts p.0 p.1) (or_from (hist.accepts p.0 p.1 j) (hist.accepted_of h j)
+    by_test (hist.starts p.0 p.1) (or_from (hist.accepts p.0 p.1 j) (hist.accepted_of h j)
     (accepts_within p.0 p.1 j (omega arith)) (accepted_within h j (omega arith)))
   where
     by_test : (b : Bool) {a : Bool} → a ≡ false → (if b then false else a) ≡ false
@@ -215,3 +234,4 @@ one_reply h Save q r a b p o =
     let number = reached_from h (hist.start_of h) in
     save_is_due h number.0 q number.1 a p ∙ sym (save_is_due h number.0 r number.1 b o)
 one_reply h Restart q r a b p o = restart_is_due h q a p ∙ sym (restart_is_due h r b o)
+one_reply h (Begin k) q r a b p o = begin_is_due h k q r a b p o

@@ -11,12 +11,12 @@ use Rattle.osm_follow.specs.Reach.{Reaches, numbers}
 use Rattle.osm_follow.proofs.ReachLemmas.{between-append}
 use Rattle.osm_world.proofs.ReachLemmas.{one_reach, reaches_with_next, reaches_with_later}
 use Rattle.osm_world.specs.declared.event.Event.{Event}
-use Rattle.osm_world.specs.declared.event.Event.TheVariants.{Edit, Close, Deliver, Show, Save, Restart}
+use Rattle.osm_world.specs.declared.event.Event.TheVariants.{Begin, Edit, Close, Deliver, Show, Save, Restart}
 use Rattle.osm_world.specs.declared.event.Form.{Form}
 use Rattle.osm_world.specs.declared.event.Reply.{Reply}
 use Rattle.osm_world.specs.declared.event.Reply.TheVariants.{Edited, BatchFull, WantOfMemory, Closed, SequenceFull}
 use Rattle.osm_world.specs.declared.event.Reply.TheVariants.{TimeBack, TooLarge, NotPublished, Broken, Old, Again}
-use Rattle.osm_world.specs.declared.event.Reply.TheVariants.{TooEarly, Held, Applied, Broke, Shown, Saved, Restarted}
+use Rattle.osm_world.specs.declared.event.Reply.TheVariants.{TooEarly, Held, Applied, Broke, Shown, Saved, Restarted, Begun}
 
 pub length-numbers : (n count : ℕ) → length (numbers n count) ≡ count
 length-numbers n zero = refl
@@ -158,3 +158,9 @@ reported_is (p ∷ h) n legal ok number =
     by_pair Restart (Restarted m) allowed before whole at = none_reported (hist.saved_of h) n at
     by_pair Restart WantOfMemory allowed before whole at = cc
     by_pair Restart r allowed before whole at = absurd allowed
+    by_pair (Begin k) NotPublished allowed before whole at =
+        quiet_reports h (Begin k) NotPublished n (silent h (Begin k) NotPublished refl refl refl refl) (before n) whole at
+    by_pair (Begin k) (Begun m) allowed before whole at = none_reported k n at
+    by_pair (Begin k) WantOfMemory allowed before whole at =
+        quiet_reports h (Begin k) WantOfMemory n (silent h (Begin k) WantOfMemory refl refl refl refl) (before n) whole at
+    by_pair (Begin k) r allowed before whole at = absurd allowed

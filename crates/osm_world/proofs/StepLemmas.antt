@@ -1,6 +1,12 @@
 -- A step keeps a world in step with its history.
 use Rattle.std.proofs.Common.{◌≡◌, ℕ, ◌+◌, ◌-◌, ◌<◌, ◌≤◌, List, [], ◌∷◌, ◌++◌, length, refl, ap, sym, ◌∙◌, Bool, true}
-use Rattle.std.proofs.Common.{false, arith, Some, None, Option, append-nil, length-append, subst}
+use Rattle.std.proofs.Common.{false, arith, Some, None, Option, append-nil, length-append, subst, zero, suc, map, take, inl, inr}
+use Rattle.std.proofs.lemmas.Bool.{cases_lt}
+use Rattle.std.proofs.lemmas.List.{drop_all, length-take-le}
+use Rattle.std.specs.List.{flat_map}
+use Rattle.std.specs.List.Sorted.{IsStrictlySortedBy}
+use Rattle.osm_state.proofs.StateLemmas.{one_state}
+use Rattle.osm_state.specs.State.{StateValue}
 use Rattle.std.specs.Prelude.{◌==◌, if◌then◌else◌, ◌||◌, Result, Ok, Err, is_some, unwrap_or}
 use Rattle.std.specs.List.{zip}
 use Rattle.std.proofs.lemmas.List.{reverse-append, map-append}
@@ -9,36 +15,38 @@ use Rattle.osm_model.specs.Change.{ChangeValue}
 use Rattle.osm_model.specs.Limits.{IsPositive}
 use Rattle.osm_state.proofs.WrittenLemmas.{written_is_read}
 use Rattle.osm_state.specs.StateText.{StateOf}
-use Rattle.osm_mirror.specs.Mirror.{IsMirrorOf}
+use Rattle.osm_mirror.specs.Mirror.{IsMirrorOf, MirrorValue}
 use Rattle.osm_world.specs.Correct.{IsInStep, IsLastSave, IsReported}
 use Rattle.osm_follow.specs.Delivery as table
-use Rattle.osm_follow.specs.Follower.{FollowerValue, IsState, new_follower}
+use Rattle.osm_follow.specs.Begin.{begun_of}
+use Rattle.osm_follow.specs.Follower.{FollowerValue, Follows, IsState, held_at, is_held, new_follower}
 use Rattle.osm_save.specs.Save.{SpellsSave}
 use Rattle.osm_save.specs.declared.save.Saved.{Saved as SavedValue}
 use Rattle.osm_follow.specs.Restart.{Restarts, follower_of, saved_of}
 use Rattle.osm_follow.specs.declared.restart.RestartError.TheVariants as restarts
 use Rattle.osm_world.specs.History as hist
-use Rattle.osm_follow.specs.Published.{PublishedValue, PublishedTexts, IsSequence, changes_up_to, sequence_at, texts_at, time_at, last_time, written_of}
+use Rattle.osm_follow.specs.Published.{PublishedValue, PublishedTexts, AreSequences, IsSequence, changes_after, changes_up_to, sequence_at, texts_at, time_at, last_time, written_of}
 use Rattle.osm_follow.specs.Publisher.{PublisherValue, CanClose, closed, closing}
 use Rattle.osm_follow.specs.Reach.{numbers}
-use Rattle.osm_world.specs.Step.{Step, DeliversTo, RestartStep, SaveStep, bytes_in, fault_in, spells_in}
+use Rattle.osm_world.specs.Step.{BeginStep, BeginsFrom, IsFed, Step, DeliversTo, RestartStep, SaveStep, bytes_in, fault_in, spells_in}
 use Rattle.osm_world.specs.World.{WorldValue, new_world}
 use Rattle.osm_follow.specs.declared.delivery.Delivered.{Delivered}
 use Rattle.osm_follow.specs.declared.delivery.Delivered.TheVariants as answers
 use Rattle.osm_follow.specs.declared.delivery.DeliverError.{DeliverError}
 use Rattle.osm_follow.specs.declared.delivery.DeliverError.TheVariants as errors
 use Rattle.osm_world.specs.declared.event.Event.{Event}
-use Rattle.osm_world.specs.declared.event.Event.TheVariants.{Edit, Close, Deliver, Show, Save, Restart}
+use Rattle.osm_world.specs.declared.event.Event.TheVariants.{Begin, Edit, Close, Deliver, Show, Save, Restart}
 use Rattle.osm_world.specs.declared.event.Form.{Form}
+use Rattle.osm_world.specs.declared.event.Form.TheVariants.{Opl}
 use Rattle.osm_world.specs.declared.event.Reply.{Reply}
 use Rattle.osm_world.specs.declared.event.Reply.TheVariants.{Edited, BatchFull, WantOfMemory, Closed, SequenceFull}
 use Rattle.osm_world.specs.declared.event.Reply.TheVariants.{TimeBack, TooLarge, NotPublished, Broken, Old, Again}
-use Rattle.osm_world.specs.declared.event.Reply.TheVariants.{TooEarly, Held, Applied, Broke, Shown, Saved, Restarted}
+use Rattle.osm_world.specs.declared.event.Reply.TheVariants.{TooEarly, Held, Applied, Broke, Shown, Saved, Restarted, Begun}
 use Rattle.osm_follow.proofs.DeliveryLemmas.{OneBatch, NoFaultBeside, FollowerStep, read_as, state_of}
-use Rattle.osm_follow.proofs.FollowLemmas.{follows_grown, state_held, state_taken}
+use Rattle.osm_follow.proofs.FollowLemmas.{follows_grown, follows_taken, state_held, state_taken}
 use Rattle.osm_follow.proofs.ReachLemmas.{between-append}
 use Rattle.osm_mirror.proofs.MirrorLemmas.{mirror_of-nil}
-use Rattle.osm_follow.proofs.PublishedLemmas.{changes_within, sequence_within, sequences-snoc, texts_at-written, time_within, last_time-snoc}
+use Rattle.osm_follow.proofs.PublishedLemmas.{after_within, changes_within, sequence_within, sequences-snoc, texts_at-written, time_next, time_within, last_time-snoc}
 
 -- one more pair at the end
 zip-snoc : (es : List Event) (rs : List Reply) (e : Event) (r : Reply) → length rs ≡ length es → zip (es ++ e ∷ []) (rs ++ r ∷ []) ≡ zip es rs ++ (e, r) ∷ []
@@ -57,6 +65,7 @@ record IsQuiet (h : hist.History) (e : Event) (r : Reply) : Type 0 where
   closed : hist.closes e r ≡ false
   saved : hist.last_saved ((e, r) ∷ h) ≡ hist.last_saved h
   start : hist.start_of ((e, r) ∷ h) ≡ hist.start_of h
+  bases : hist.bases_of ((e, r) ∷ h) ≡ hist.bases_of h
   broken : hist.is_broken ((e, r) ∷ h) ≡ hist.is_broken h
   accepted : hist.accepted_of ((e, r) ∷ h) ≡ hist.accepted_of h
   reported : hist.reported_of ((e, r) ∷ h) ≡ hist.reported_of h ++ []
@@ -67,9 +76,12 @@ quiet_keeps h e r a b q s t = rw t (record {
   archive = rw q.closed s.archive;
   sequences = rw q.closed s.sequences;
   batch = rw (q.closed, q.edit, append-nil) s.batch;
-  saved = rw (q.closed, q.saved) s.saved;
+  saved = subst (λ (x : ℕ). IsLastSave (hist.published_of ((e, r) ∷ h)) (hist.last_saved ((e, r) ∷ h)) x a.saved)
+      (sym (ap (λ (x : ℕ × ℕ). x.1) q.bases)) (rw (q.closed, q.saved) s.saved);
   broken = rw q.broken s.broken;
-  state = λ ok. rw (q.closed, q.start, q.accepted) (s.state (sym q.broken ∙ ok));
+  state = λ ok. subst (λ (x : ℕ). IsState (hist.published_of ((e, r) ∷ h)) x (hist.start_of ((e, r) ∷ h))
+      (hist.accepted_of ((e, r) ∷ h)) a.follower) (sym (ap (λ (x : ℕ × ℕ). x.0) q.bases))
+      (rw (q.closed, q.start, q.accepted) (s.state (sym q.broken ∙ ok)));
   reported = λ ok. rw (q.start, q.reported, append-nil) (s.reported (sym q.broken ∙ ok));
 })
 
@@ -112,17 +124,19 @@ edited_keeps h c a b s batch t =
     })
 
 -- what was saved, once more sequences are published
-save_grown : (ps more : List PublishedValue) (number : Option ℕ) (bytes : Option (List ℕ)) → IsLastSave ps number bytes → IsLastSave (ps ++ more) number bytes
-save_grown ps more None None s = tt
-save_grown ps more None (Some bytes) s = absurd s
-save_grown ps more (Some n) None s = absurd s
-save_grown ps more (Some n) (Some bytes) s = record {
+save_grown : (ps more : List PublishedValue) (number : Option ℕ) (base : ℕ) (bytes : Option (List ℕ)) → IsLastSave ps number base bytes
+    → IsLastSave (ps ++ more) number base bytes
+save_grown ps more None base None s = s
+save_grown ps more None base (Some bytes) s = absurd s
+save_grown ps more (Some n) base None s = absurd s
+save_grown ps more (Some n) base (Some bytes) s = record {
   value = s.value;
   spells = s.spells;
   number_is = s.number_is;
   base_is = s.base_is;
+  below = s.below;
   within = rw length-append (let w = s.within in omega arith);
-  mirror = rw (changes_within ps more n s.within) s.mirror;
+  mirror = rw (changes_within ps more n s.within, after_within ps more base n s.within) s.mirror;
   time = s.time ∙ sym (time_within ps more n s.within);
 }
 
@@ -143,9 +157,9 @@ closed_keeps h t n a b s can positive is =
       archive = rw (s.publisher, s.archive, map-append written_of (hist.published_of h) (p ∷ [])) refl;
       sequences = sequences-snoc (hist.published_of h) p s.sequences (record { number_is = refl; most = omega arith; changes = s.batch; time = positive });
       batch = empty_batch;
-      saved = save_grown (hist.published_of h) (p ∷ []) (hist.last_saved h) a.saved s.saved;
+      saved = save_grown (hist.published_of h) (p ∷ []) (hist.last_saved h) (hist.saved_base_of h) a.saved s.saved;
       broken = s.broken;
-      state = λ ok. state_grown (hist.published_of h) (p ∷ []) 0 (hist.start_of h) (hist.accepted_of h) a.follower (s.state ok);
+      state = λ ok. state_grown (hist.published_of h) (p ∷ []) (hist.base_of h) (hist.start_of h) (hist.accepted_of h) a.follower (s.state ok);
       reported = λ ok. rw append-nil (s.reported ok);
     })
 
@@ -213,7 +227,7 @@ held_keeps laws h k form a b s t =
       batch = rw append-nil s.batch;
       saved = s.saved;
       broken = same ∙ s.broken;
-      state = λ ok. state_held (hist.published_of h) 0 (hist.start_of h) (hist.accepted_of h)
+      state = λ ok. state_held (hist.published_of h) (hist.base_of h) (hist.start_of h) (hist.accepted_of h)
           (λ j. (k == j) || hist.accepted_of h j) k a.follower b.follower (s.state ok) (λ j. refl) later within there
           number_is step.2;
       reported = λ ok. rw (number, append-nil) (s.reported ok);
@@ -241,7 +255,7 @@ applied_keeps laws h k low high form a b s t =
       batch = rw append-nil s.batch;
       saved = s.saved;
       broken = same ∙ s.broken;
-      state = λ ok. state_taken (hist.published_of h) 0 (hist.start_of h) (hist.accepted_of h)
+      state = λ ok. state_taken (hist.published_of h) (hist.base_of h) (hist.start_of h) (hist.accepted_of h)
           (λ j. (k == j) || hist.accepted_of h j) k high a.follower b.follower (s.state ok) (λ j. refl) next there
           number_is step.3;
       reported = λ ok. rw number (reported_more (hist.reported_of h) (hist.start_of h) a.follower.number k low high
@@ -266,9 +280,10 @@ broke_keeps laws h k form a b s t =
 
 still : (h : hist.History) (e : Event) (r : Reply) → hist.edit_of e r ≡ [] → hist.closes e r ≡ false
     → hist.last_saved ((e, r) ∷ h) ≡ hist.last_saved h → hist.start_of ((e, r) ∷ h) ≡ hist.start_of h
+    → hist.bases_of ((e, r) ∷ h) ≡ hist.bases_of h
     → hist.is_broken ((e, r) ∷ h) ≡ hist.is_broken h → hist.accepted_of ((e, r) ∷ h) ≡ hist.accepted_of h
     → hist.reported_of ((e, r) ∷ h) ≡ hist.reported_of h ++ [] → IsQuiet h e r
-still h e r a b c d f g i = record { edit = a; closed = b; saved = c; start = d; broken = f; accepted = g; reported = i }
+still h e r a b c d bases f g i = record { edit = a; closed = b; saved = c; start = d; bases = bases; broken = f; accepted = g; reported = i }
 
 -- a save text is that of one value
 abbrev pub OneSave : Type 0
@@ -276,7 +291,7 @@ OneSave = (bytes : List ℕ) (v w : SavedValue) → SpellsSave bytes v → Spell
 
 saved_keeps : (h : hist.History) (n : ℕ) (a b : WorldValue) → IsInStep h a → SaveStep a (Saved n) b → IsInStep ((Save, Saved n) ∷ h) b
 saved_keeps h n a b s t =
-    let state : IsState (hist.published_of h) 0 (hist.start_of h) (hist.accepted_of h) a.follower = s.state (sym s.broken ∙ t.1) in
+    let state : IsState (hist.published_of h) (hist.base_of h) (hist.start_of h) (hist.accepted_of h) a.follower = s.state (sym s.broken ∙ t.1) in
     rw t.4 (record {
       publisher = rw append-nil s.publisher;
       archive = s.archive;
@@ -287,6 +302,7 @@ saved_keeps h n a b s t =
         spells = t.3;
         number_is = sym t.2;
         base_is = state.base_is;
+        below = rw (t.2, ← state.base_is) state.follows.base;
         within = rw t.2 state.follows.within;
         mirror = rw t.2 (rw state.base_is at state.follows.mirror);
         time = rw t.2 state.follows.time;
@@ -297,12 +313,12 @@ saved_keeps h n a b s t =
     })
 
 -- a follower that starts at a number
-pub record StartsAt (ps : List PublishedValue) (n : ℕ) (f : FollowerValue) : Type 0 where
+pub record StartsAt (ps : List PublishedValue) (base n : ℕ) (f : FollowerValue) : Type 0 where
   pub number : f.number ≡ n
   pub whole : f.is_broken ≡ false
-  pub state : IsState ps 0 n (λ j. false) f
+  pub state : IsState ps base n (λ j. false) f
 
-starts_new : (ps : List PublishedValue) → StartsAt ps 0 new_follower
+starts_new : (ps : List PublishedValue) → StartsAt ps 0 0 new_follower
 starts_new ps = record {
   number = refl;
   whole = refl;
@@ -320,18 +336,18 @@ starts_new ps = record {
   };
 }
 
-starts_saved : (ps : List PublishedValue) (n : ℕ) (v : SavedValue) → v.number ≡ n → v.base ≡ 0 → n ≤ length ps
-    → IsMirrorOf (changes_up_to ps n) (changes_up_to ps n) v.mirror → v.time ≡ time_at ps n → StartsAt ps n (follower_of v)
-starts_saved ps n v number base within mirror time = record {
+starts_saved : (ps : List PublishedValue) (base n : ℕ) (v : SavedValue) → v.number ≡ n → v.base ≡ base → base ≤ n → n ≤ length ps
+    → IsMirrorOf (changes_up_to ps n) (changes_after ps base n) v.mirror → v.time ≡ time_at ps n → StartsAt ps base n (follower_of v)
+starts_saved ps base n v number based below within mirror time = record {
   number = number;
   whole = refl;
   state = record {
-    base_is = base;
+    base_is = based;
     reach = rw number (record { from = omega arith; all = λ j above below. absurd (omega arith); next = refl });
     follows = record {
-      base = rw base (omega arith);
+      base = rw (number, based) below;
       within = rw number within;
-      mirror = rw (number, base) mirror;
+      mirror = rw (number, based) mirror;
       time = rw number time;
       held = λ j p e. absurd (let bad : None ≡ Some p = e in cc);
     };
@@ -340,20 +356,20 @@ starts_saved ps n v number base within mirror time = record {
 }
 
 -- a restart that was made starts at the number saved last
-pub restarted_as : OneSave → (ps : List PublishedValue) (number : Option ℕ) (bytes : Option (List ℕ))
-    (f g : FollowerValue) → IsLastSave ps number bytes → Restarts f bytes (Ok tt) g → StartsAt ps (unwrap_or number 0) g
-restarted_as one ps None None f g s t = rw t (starts_new ps)
-restarted_as one ps None (Some bytes) f g s t = absurd s
-restarted_as one ps (Some n) None f g s t = absurd s
-restarted_as one ps (Some n) (Some bytes) f g s t =
+pub restarted_as : OneSave → (ps : List PublishedValue) (number : Option ℕ) (base : ℕ) (bytes : Option (List ℕ))
+    (f g : FollowerValue) → IsLastSave ps number base bytes → Restarts f bytes (Ok tt) g → StartsAt ps base (unwrap_or number 0) g
+restarted_as one ps None base None f g s t = rw (t, s) (starts_new ps)
+restarted_as one ps None base (Some bytes) f g s t = absurd s
+restarted_as one ps (Some n) base None f g s t = absurd s
+restarted_as one ps (Some n) base (Some bytes) f g s t =
     let same : t.0 ≡ s.value = one bytes t.0 s.value t.1 s.spells in
-    rw (t.2, same) (starts_saved ps n s.value s.number_is s.base_is s.within s.mirror s.time)
+    rw (t.2, same) (starts_saved ps base n s.value s.number_is s.base_is s.below s.within s.mirror s.time)
 
 restarted_keeps : OneSave → (h : hist.History) (n : ℕ) (a b : WorldValue) → IsInStep h a → RestartStep a (Restarted n) b
     → IsInStep ((Restart, Restarted n) ∷ h) b
 restarted_keeps one h n a b s t =
-    let g : StartsAt (hist.published_of h) (hist.saved_of h) b.follower =
-    restarted_as one (hist.published_of h) (hist.last_saved h) a.saved a.follower b.follower s.saved t.0 in
+    let g : StartsAt (hist.published_of h) (hist.saved_base_of h) (hist.saved_of h) b.follower =
+    restarted_as one (hist.published_of h) (hist.last_saved h) (hist.saved_base_of h) a.saved a.follower b.follower s.saved t.0 in
     let number : b.follower.number ≡ hist.saved_of h = g.number in
     rw t.2 (record {
       publisher = rw append-nil s.publisher;
@@ -367,12 +383,12 @@ restarted_keeps one h n a b s t =
     })
 
 -- a restart that was refused for memory had something to restart from, and leaves the follower broken
-pub refused_from : (ps : List PublishedValue) (number : Option ℕ) (bytes : Option (List ℕ)) (f g : FollowerValue)
-    → IsLastSave ps number bytes → Restarts f bytes (Err restarts.WantOfMemory) g → is_some number ≡ true
-refused_from ps None None f g s t = absurd t
-refused_from ps None (Some bytes) f g s t = absurd s
-refused_from ps (Some n) None f g s t = absurd s
-refused_from ps (Some n) (Some bytes) f g s t = refl
+pub refused_from : (ps : List PublishedValue) (number : Option ℕ) (base : ℕ) (bytes : Option (List ℕ)) (f g : FollowerValue)
+    → IsLastSave ps number base bytes → Restarts f bytes (Err restarts.WantOfMemory) g → is_some number ≡ true
+refused_from ps None base None f g s t = absurd t
+refused_from ps None base (Some bytes) f g s t = absurd s
+refused_from ps (Some n) base None f g s t = absurd s
+refused_from ps (Some n) base (Some bytes) f g s t = refl
 
 breaks : (bytes : Option (List ℕ)) (f g : FollowerValue) → Restarts f bytes (Err restarts.WantOfMemory) g → g.is_broken ≡ true
 breaks None f g t = absurd t
@@ -390,6 +406,134 @@ refused_keeps h a b s t = rw t.1 (record {
   reported = λ ok. cc;
 })
 
+-- ---- a beginning
+
+-- a follower that was given sequences 1 to k
+record IsGiver (ps : List PublishedValue) (k : ℕ) (f : FollowerValue) : Type 0 where
+  follows : Follows ps f
+  number : f.number ≡ k
+  none : (j : ℕ) → held_at f j ≡ None
+
+giver_new : (ps : List PublishedValue) → IsGiver ps 0 new_follower
+giver_new ps = record { follows = (starts_new ps).state.follows; number = refl; none = λ j. refl }
+
+giver_more : (ps : List PublishedValue) (k low high : ℕ) (e f : FollowerValue) → IsGiver ps k e → k + 1 ≤ length ps
+    → (sequence_at ps (k + 1)).number ≡ k + 1
+    → FollowerStep e (sequence_at ps (k + 1)) (Ok (answers.Applied low high)) f → IsGiver ps (k + 1) f
+giver_more ps k low high e f g there number step =
+    let taken = step.3 in
+    let at : e.number ≡ k = g.number in
+    let from : k + 1 ≤ high = rw number at taken.reach.from in
+    let top : high ≡ k + 1 = elim (cases_lt (k + 1) high) [
+      | inl past ↦ absurd (
+          let held : is_held e high ≡ true = taken.reach.all high (rw number past) (omega arith) in
+          let bad : true ≡ false = sym held ∙ ap is_some (g.none high) in cc)
+      | inr within ↦ omega arith
+    ] in
+    record {
+      follows = follows_taken ps (k + 1) high e f g.follows (omega arith) there number taken;
+      number = taken.number ∙ top;
+      none = λ j. elim (cases_lt high j) [
+        | inl past ↦ taken.rest j past ∙ g.none j
+        | inr below ↦ taken.gone j below
+      ];
+    }
+
+giver_of : AreLawful → (ps : List PublishedValue) → AreSequences ps → (k : ℕ) → k ≤ length ps → (f : FollowerValue)
+    → IsFed (map written_of ps) k f → IsGiver ps k f
+giver_of laws ps each zero within f fed = rw fed (giver_new ps)
+giver_of laws ps each (suc k) within f fed =
+    let e : FollowerValue = fed.0 in
+    let p : PublishedValue = sequence_at ps (suc k) in
+    let is : IsSequence (suc k) p = each (suc k) (omega arith) within in
+    let number_is : p.number ≡ suc k = is.number_is in
+    let most = is.most in
+    let texts : texts_at (map written_of ps) (suc k) ≡ written_of p = texts_at-written ps (suc k) (omega arith) within in
+    let named : StateOf (written_of p).state (state_of p) = written_is_read (state_of p) (record { sequence = omega arith; time = is.time }) in
+    let given : table.Delivers (spells_in Opl) (fault_in Opl) e (written_of p).state (written_of p).opl
+    (Ok (answers.Applied fed.1.0 fed.1.1)) f =
+    subst (λ (x : PublishedTexts). table.Delivers (spells_in Opl) (fault_in Opl) e x.state x.opl
+    (Ok (answers.Applied fed.1.0 fed.1.1)) f) texts fed.3 in
+    let step : FollowerStep e p (Ok (answers.Applied fed.1.0 fed.1.1)) f =
+    read_as (spells_in Opl) (fault_in Opl) (laws.one Opl) laws.apart e f (written_of p).state (written_of p).opl p
+    (omega arith) named (laws.spelled Opl p is.changes) (Ok (answers.Applied fed.1.0 fed.1.1)) given in
+    let next : suc k ≡ k + 1 = omega arith in
+    subst (λ (n : ℕ). IsGiver ps n f) (sym next) (giver_more ps k fed.1.0 fed.1.1 e f
+    (giver_of laws ps each k (omega arith) e fed.2) (omega arith) (rw next at number_is) (rw next at step))
+
+-- nothing comes after a number up to itself
+none_after : (ps : List PublishedValue) (k : ℕ) → k ≤ length ps → changes_after ps k k ≡ []
+none_after ps k within = ap (flat_map (λ (p : PublishedValue). p.changes)) (drop_all k (take k ps) (omega (arith, length-take-le k ps within)))
+
+-- the objects of a mirror, without its counts, if nothing is counted
+uncounted : (cs some counted : List ChangeValue) (m : MirrorValue) → IsMirrorOf cs some m → counted ≡ []
+    → IsMirrorOf cs counted (record { objects = m.objects; users = []; changesets = [] })
+unfolding IsStrictlySortedBy
+uncounted cs some counted m is none = rw none (record {
+  orderly = record {
+    objects = is.orderly.objects;
+    users = record { rising = tt; above = tt };
+    changesets = record { rising = tt; above = tt };
+  };
+  objects = is.objects;
+  users = λ uid. refl;
+  changesets = λ id. refl;
+})
+
+begun_starts : (ps : List PublishedValue) → AreSequences ps → (k : ℕ) → 0 < k → k ≤ length ps → (giver f : FollowerValue)
+    → IsGiver ps k giver → f ≡ begun_of (state_of (sequence_at ps k)) giver.mirror.objects → StartsAt ps k k f
+begun_starts ps each k above within giver f g is =
+    let sequence : IsSequence k (sequence_at ps k) = each k above within in
+    let number_is : (sequence_at ps k).number ≡ k = sequence.number_is in
+    rw is (record {
+      number = number_is;
+      whole = refl;
+      state = record {
+        base_is = number_is;
+        reach = rw number_is (record { from = omega arith; all = λ j past below. absurd (omega arith); next = refl });
+        follows = record {
+          base = omega arith;
+          within = rw number_is within;
+          mirror = rw number_is (uncounted (changes_up_to ps k) (changes_after ps giver.base k) (changes_after ps k k) giver.mirror
+              (rw g.number at g.follows.mirror) (none_after ps k within));
+          time = rw number_is (sym (time_next ps (k - 1) k (omega arith)));
+          held = λ j p e. absurd (let bad : None ≡ Some p = e in cc);
+        };
+        held = λ j past. refl;
+      };
+    })
+
+begun_keeps : AreLawful → (h : hist.History) (k n : ℕ) (a b : WorldValue) → IsInStep h a → BeginStep a k (Begun n) b
+    → IsInStep ((Begin k, Begun n) ∷ h) b
+begun_keeps laws h k n a b s t =
+    let ps : List PublishedValue = hist.published_of h in
+    let published : a.publisher.number ≡ length ps = ap (λ (q : PublisherValue). q.number) s.publisher in
+    let within : k ≤ length ps = (let there = t.1 in omega arith) in
+    let from : BeginsFrom (map written_of ps) k b.follower = subst (λ (archive : List PublishedTexts). BeginsFrom archive k b.follower) s.archive t.3 in
+    let p : PublishedValue = sequence_at ps k in
+    let is : IsSequence k p = s.sequences k t.0 within in
+    let number_is : p.number ≡ k = is.number_is in
+    let most = is.most in
+    let texts : texts_at (map written_of ps) k ≡ written_of p = texts_at-written ps k t.0 within in
+    let named : StateOf (written_of p).state from.state = subst (λ (x : PublishedTexts). StateOf x.state from.state) texts from.named in
+    let same : from.state ≡ state_of p = one_state (written_of p).state from.state (state_of p) named
+    (written_is_read (state_of p) (record { sequence = omega arith; time = is.time })) in
+    let begun : b.follower ≡ begun_of (state_of p) from.giver.mirror.objects =
+    from.begun.2 ∙ ap (λ (x : StateValue). begun_of x from.giver.mirror.objects) same in
+    let g : StartsAt ps k k b.follower = begun_starts ps s.sequences k t.0 within from.giver b.follower
+    (giver_of laws ps s.sequences k within from.giver from.fed) begun in
+    let number : b.follower.number ≡ k = g.number in
+    rw t.4 (record {
+      publisher = rw append-nil s.publisher;
+      archive = s.archive;
+      sequences = s.sequences;
+      batch = rw append-nil s.batch;
+      saved = s.saved;
+      broken = g.whole;
+      state = λ ok. g.state;
+      reported = λ ok. record { count = 0; number_is = omega arith; reported_is = refl };
+    })
+
 -- before any event
 pub new_in_step : IsInStep [] new_world
 new_in_step = record {
@@ -397,7 +541,7 @@ new_in_step = record {
   archive = refl;
   sequences = λ k above within. absurd (omega arith);
   batch = empty_batch;
-  saved = tt;
+  saved = refl;
   broken = refl;
   state = λ ok. record {
     base_is = refl;
@@ -416,47 +560,53 @@ new_in_step = record {
 
 pub step_keeps : AreLawful → OneSave → (h : hist.History) (e : Event) (r : Reply) (a b : WorldValue) → IsInStep h a → Step a e r b → IsInStep ((e, r) ∷ h) b
 step_keeps laws one h (Edit c) Edited a b s t = edited_keeps h c a b s t.1 t.2
-step_keeps laws one h (Edit c) BatchFull a b s t = quiet_keeps h (Edit c) BatchFull a b (still h (Edit c) BatchFull refl refl refl refl refl refl refl) s t.1
+step_keeps laws one h (Edit c) BatchFull a b s t = quiet_keeps h (Edit c) BatchFull a b (still h (Edit c) BatchFull refl refl refl refl refl refl refl refl) s t.1
 step_keeps laws one h (Edit c) WantOfMemory a b s t =
-    quiet_keeps h (Edit c) WantOfMemory a b (still h (Edit c) WantOfMemory refl refl refl refl refl refl refl) s t.1
+    quiet_keeps h (Edit c) WantOfMemory a b (still h (Edit c) WantOfMemory refl refl refl refl refl refl refl refl) s t.1
 step_keeps laws one h (Edit c) r a b s t = absurd t
 step_keeps laws one h (Close m) (Closed n) a b s t = closed_keeps h m n a b s t.0 t.1 t.4
 step_keeps laws one h (Close m) SequenceFull a b s t = quiet_keeps h (Close m) SequenceFull a b
-    (still h (Close m) SequenceFull refl refl refl refl refl refl refl) s t.1
-step_keeps laws one h (Close m) TimeBack a b s t = quiet_keeps h (Close m) TimeBack a b (still h (Close m) TimeBack refl refl refl refl refl refl refl) s t.2
-step_keeps laws one h (Close m) TooLarge a b s t = quiet_keeps h (Close m) TooLarge a b (still h (Close m) TooLarge refl refl refl refl refl refl refl) s t.2
+    (still h (Close m) SequenceFull refl refl refl refl refl refl refl refl) s t.1
+step_keeps laws one h (Close m) TimeBack a b s t = quiet_keeps h (Close m) TimeBack a b (still h (Close m) TimeBack refl refl refl refl refl refl refl refl) s t.2
+step_keeps laws one h (Close m) TooLarge a b s t = quiet_keeps h (Close m) TooLarge a b (still h (Close m) TooLarge refl refl refl refl refl refl refl refl) s t.2
 step_keeps laws one h (Close m) WantOfMemory a b s t = quiet_keeps h (Close m) WantOfMemory a b
-    (still h (Close m) WantOfMemory refl refl refl refl refl refl refl) s t.1
+    (still h (Close m) WantOfMemory refl refl refl refl refl refl refl refl) s t.1
 step_keeps laws one h (Close m) r a b s t = absurd t
 step_keeps laws one h (Deliver k form) NotPublished a b s t = quiet_keeps h (Deliver k form) NotPublished a b
-    (still h (Deliver k form) NotPublished refl refl refl refl refl refl refl) s t.1
+    (still h (Deliver k form) NotPublished refl refl refl refl refl refl refl refl) s t.1
 step_keeps laws one h (Deliver k form) Broken a b s t = quiet_keeps h (Deliver k form) Broken a b
-    (still h (Deliver k form) Broken refl refl refl refl refl refl refl) s
+    (still h (Deliver k form) Broken refl refl refl refl refl refl refl refl) s
     (unmoved a b t.rest (delivered_as laws h a b k form (Err errors.Broken) s t.above t.there t.replies).1)
 step_keeps laws one h (Deliver k form) Old a b s t =
-    quiet_keeps h (Deliver k form) Old a b (still h (Deliver k form) Old refl refl refl refl refl refl refl) s
+    quiet_keeps h (Deliver k form) Old a b (still h (Deliver k form) Old refl refl refl refl refl refl refl refl) s
     (unmoved a b t.rest (delivered_as laws h a b k form (Ok answers.Old) s t.above t.there t.replies).2)
 step_keeps laws one h (Deliver k form) Again a b s t = quiet_keeps h (Deliver k form) Again a b
-    (still h (Deliver k form) Again refl refl refl refl refl refl refl) s
+    (still h (Deliver k form) Again refl refl refl refl refl refl refl refl) s
     (unmoved a b t.rest (delivered_as laws h a b k form (Ok answers.Again) s t.above t.there t.replies).3)
 step_keeps laws one h (Deliver k form) TooEarly a b s t = quiet_keeps h (Deliver k form) TooEarly a b
-    (still h (Deliver k form) TooEarly refl refl refl refl refl refl refl) s
+    (still h (Deliver k form) TooEarly refl refl refl refl refl refl refl refl) s
     (unmoved a b t.rest (delivered_as laws h a b k form (Err errors.TooEarly) s t.above t.there t.replies).3)
 step_keeps laws one h (Deliver k form) WantOfMemory a b s t = quiet_keeps h (Deliver k form) WantOfMemory a b
-    (still h (Deliver k form) WantOfMemory refl refl refl refl refl refl refl) s
+    (still h (Deliver k form) WantOfMemory refl refl refl refl refl refl refl refl) s
     (unmoved a b t.rest (delivered_as laws h a b k form (Err errors.WantOfMemory) s t.above t.there t.replies).2)
 step_keeps laws one h (Deliver k form) Held a b s t = held_keeps laws h k form a b s t
 step_keeps laws one h (Deliver k form) (Applied low high) a b s t = applied_keeps laws h k low high form a b s t
 step_keeps laws one h (Deliver k form) Broke a b s t = broke_keeps laws h k form a b s t
 step_keeps laws one h (Deliver k form) r a b s t = absurd t.replies
-step_keeps laws one h Show Broken a b s t = quiet_keeps h Show Broken a b (still h Show Broken refl refl refl refl refl refl refl) s t.1
-step_keeps laws one h Show (Shown v) a b s t = quiet_keeps h Show (Shown v) a b (still h Show (Shown v) refl refl refl refl refl refl refl) s t.3
-step_keeps laws one h Show WantOfMemory a b s t = quiet_keeps h Show WantOfMemory a b (still h Show WantOfMemory refl refl refl refl refl refl refl) s t.1
+step_keeps laws one h Show Broken a b s t = quiet_keeps h Show Broken a b (still h Show Broken refl refl refl refl refl refl refl refl) s t.1
+step_keeps laws one h Show (Shown v) a b s t = quiet_keeps h Show (Shown v) a b (still h Show (Shown v) refl refl refl refl refl refl refl refl) s t.3
+step_keeps laws one h Show WantOfMemory a b s t = quiet_keeps h Show WantOfMemory a b (still h Show WantOfMemory refl refl refl refl refl refl refl refl) s t.1
 step_keeps laws one h Show r a b s t = absurd t
-step_keeps laws one h Save Broken a b s t = quiet_keeps h Save Broken a b (still h Save Broken refl refl refl refl refl refl refl) s t.1
+step_keeps laws one h Save Broken a b s t = quiet_keeps h Save Broken a b (still h Save Broken refl refl refl refl refl refl refl refl) s t.1
 step_keeps laws one h Save (Saved n) a b s t = saved_keeps h n a b s t
-step_keeps laws one h Save WantOfMemory a b s t = quiet_keeps h Save WantOfMemory a b (still h Save WantOfMemory refl refl refl refl refl refl refl) s t.1
+step_keeps laws one h Save WantOfMemory a b s t = quiet_keeps h Save WantOfMemory a b (still h Save WantOfMemory refl refl refl refl refl refl refl refl) s t.1
 step_keeps laws one h Save r a b s t = absurd t
 step_keeps laws one h Restart (Restarted n) a b s t = restarted_keeps one h n a b s t
 step_keeps laws one h Restart WantOfMemory a b s t = refused_keeps h a b s t
 step_keeps laws one h Restart r a b s t = absurd t
+step_keeps laws one h (Begin k) NotPublished a b s t = quiet_keeps h (Begin k) NotPublished a b
+    (still h (Begin k) NotPublished refl refl refl refl refl refl refl refl) s t.1
+step_keeps laws one h (Begin k) (Begun n) a b s t = begun_keeps laws h k n a b s t
+step_keeps laws one h (Begin k) WantOfMemory a b s t = quiet_keeps h (Begin k) WantOfMemory a b
+    (still h (Begin k) WantOfMemory refl refl refl refl refl refl refl refl) s t.2
+step_keeps laws one h (Begin k) r a b s t = absurd t

@@ -1,12 +1,13 @@
--- The main statement. Over every list of edits, closes, deliveries, saves and restarts, a follower
--- that isn't broken holds exactly the mirror and the counts of edits of published sequences 1 to
--- its own number, each applied once; and the numbers that it reports as applied since its last
--- restart are the next ones, each once and in order.
+-- The main statement. Over every list of edits, closes, deliveries, saves, restarts and beginnings,
+-- a follower that isn't broken holds exactly the mirror of published sequences 1 to its number and
+-- the edit counts of those after its base, each applied once; and the numbers that it reports as
+-- applied since its last restart or beginning are the next ones, once each, in order.
 use Rattle.std.specs.Prelude.{◌≡◌, ℕ, ◌+◌, ◌≤◌, List, length, map, false, Option, Some, None}
 use Rattle.osm_model.specs.Batch.{IsBatch}
 use Rattle.osm_follow.specs.Follower.{IsState}
 use Rattle.osm_world.specs.History.{History, history_of, pending_of, published_of, publisher_of}
 use Rattle.osm_world.specs.History.{start_of, accepted_of, reported_of, is_broken, last_saved}
+use Rattle.osm_world.specs.History.{base_of, saved_base_of}
 use Rattle.osm_world.specs.Legal.{IsLegal}
 use Rattle.osm_mirror.specs.Mirror.{IsMirrorOf}
 use Rattle.osm_follow.specs.Published.{AreSequences, PublishedValue, changes_after, changes_up_to}
@@ -24,23 +25,25 @@ pub record IsReported (reported : List ℕ) (start number : ℕ) : Type 0 where
   pub number_is : number ≡ start + count
   pub reported_is : reported ≡ numbers start count
 
--- the bytes are the save text of exactly the mirror, the counts and the time of published sequences
--- 1 to that number
-pub record IsSaveOf (published : List PublishedValue) (number : ℕ) (bytes : List ℕ) : Type 0 where
+-- the bytes are the save text of exactly the mirror and the time of published sequences 1 to that
+-- number, and of the counts of those after the base
+pub record IsSaveOf (published : List PublishedValue) (number base : ℕ) (bytes : List ℕ)
+    : Type 0 where
   pub value : Saved
   pub spells : SpellsSave bytes value
   pub number_is : value.number ≡ number
-  pub base_is : value.base ≡ 0
+  pub base_is : value.base ≡ base
+  pub below : base ≤ number
   pub within : number ≤ length published
   pub mirror :
-      IsMirrorOf (changes_up_to published number) (changes_after published 0 number) value.mirror
+      IsMirrorOf (changes_up_to published number) (changes_after published base number) value.mirror
   pub time : value.time ≡ time_at published number
 
 -- the bytes saved last: there are some exactly if a number was saved, and then they are its save
-abbrev pub IsLastSave : List PublishedValue → Option ℕ → Option (List ℕ) → Type 0
-IsLastSave published None None = Unit {0}
-IsLastSave published (Some number) (Some bytes) = IsSaveOf published number bytes
-IsLastSave published number bytes = ⊥
+abbrev pub IsLastSave : List PublishedValue → Option ℕ → ℕ → Option (List ℕ) → Type 0
+IsLastSave published None base None = base ≡ 0
+IsLastSave published (Some number) base (Some bytes) = IsSaveOf published number base bytes
+IsLastSave published number base bytes = ⊥
 
 -- a world is what its history says: what is archived are the written texts of what was published,
 -- what is saved is what was published up to the number saved last, and a follower that isn't broken
@@ -50,10 +53,10 @@ pub record IsInStep (h : History) (w : WorldValue) : Type 0 where
   pub archive : w.archive ≡ map written_of (published_of h)
   pub sequences : AreSequences (published_of h)
   pub batch : IsBatch (pending_of h)
-  pub saved : IsLastSave (published_of h) (last_saved h) w.saved
+  pub saved : IsLastSave (published_of h) (last_saved h) (saved_base_of h) w.saved
   pub broken : w.follower.is_broken ≡ is_broken h
   pub state : is_broken h ≡ false →
-      IsState (published_of h) 0 (start_of h) (accepted_of h) w.follower
+      IsState (published_of h) (base_of h) (start_of h) (accepted_of h) w.follower
   pub reported : is_broken h ≡ false →
       IsReported (reported_of h) (start_of h) w.follower.number
 

@@ -9,11 +9,11 @@ use Rattle.osm_follow.specs.Publisher.{PublisherValue}
 use Rattle.osm_follow.specs.Reach.{numbers}
 use Rattle.osm_world.specs.declared.event.Event.{Event}
 use Rattle.osm_world.specs.declared.event.Event.TheVariants.{Edit, Close, Deliver, Save}
-use Rattle.osm_world.specs.declared.event.Event.TheVariants.{Restart}
+use Rattle.osm_world.specs.declared.event.Event.TheVariants.{Restart, Begin}
 use Rattle.osm_world.specs.declared.event.Reply.{Reply}
 use Rattle.osm_world.specs.declared.event.Reply.TheVariants.{Edited, Closed, Held, Applied}
 use Rattle.osm_world.specs.declared.event.Reply.TheVariants.{Broke, WantOfMemory, Saved}
-use Rattle.osm_world.specs.declared.event.Reply.TheVariants.{Restarted}
+use Rattle.osm_world.specs.declared.event.Reply.TheVariants.{Restarted, Begun}
 
 -- an event and its reply
 abbrev pub Pair : Type 0
@@ -52,10 +52,25 @@ accepts (Deliver k form) Held j = k == j
 accepts (Deliver k form) (Applied low high) j = k == j
 accepts e r j = false
 
--- whether the pair is a restart that was made
-abbrev pub restarts : Event → Reply → Bool
-restarts Restart (Restarted n) = true
-restarts e r = false
+-- whether the follower starts anew with the pair: a restart or a beginning that was made
+abbrev pub starts : Event → Reply → Bool
+starts Restart (Restarted n) = true
+starts (Begin k) (Begun n) = true
+starts e r = false
+
+-- the number that the follower started at, after the pair, given the one saved last and the one
+-- before the pair
+abbrev pub started_by : Event → Reply → ℕ → ℕ → ℕ
+started_by Restart (Restarted n) saved before = saved
+started_by (Begin k) (Begun n) saved before = k
+started_by e r saved before = before
+
+-- the follower's base, and that of what was saved last, after the pair, given both before it
+abbrev pub based_by : Event → Reply → ℕ × ℕ → ℕ × ℕ
+based_by Save (Saved n) bases = (bases.0, bases.0)
+based_by Restart (Restarted n) bases = (bases.1, bases.1)
+based_by (Begin k) (Begun n) bases = (k, bases.1)
+based_by e r bases = bases
 
 -- the number that was saved last, after the pair, given the one before it
 abbrev pub saved_by : Event → Reply → Option ℕ → Option ℕ
@@ -67,6 +82,7 @@ abbrev pub broken_by : Event → Reply → Bool → Bool
 broken_by (Deliver k form) Broke before = true
 broken_by Restart WantOfMemory before = true
 broken_by Restart (Restarted n) before = false
+broken_by (Begin k) (Begun n) before = false
 broken_by e r before = before
 
 -- the edits taken since the last close that published
@@ -106,24 +122,38 @@ has_saved h = is_some (last_saved h)
 abbrev pub saved_of : History → ℕ
 saved_of h = unwrap_or (last_saved h) 0
 
--- the number that the follower started at: the one that had been saved last before its last
--- restart, or 0; a save after that restart doesn't move it
+-- the number that the follower started at: that of its last beginning, or the one that had been
+-- saved last before its last restart, whichever came later, or 0; a save after that doesn't move it
 abbrev pub start_of : History → ℕ
 start_of [] = 0
-start_of (p ∷ h) = if restarts p.0 p.1 then saved_of h else start_of h
+start_of (p ∷ h) = started_by p.0 p.1 (saved_of h) (start_of h)
 
--- whether the number was accepted since the last restart
+-- the follower's base, and that of what was saved last
+abbrev pub bases_of : History → ℕ × ℕ
+bases_of [] = (0, 0)
+bases_of (p ∷ h) = based_by p.0 p.1 (bases_of h)
+
+-- the number after which the follower counts edits: that of its last beginning, or the base of what
+-- had been saved last before its last restart, whichever came later, or 0
+abbrev pub base_of : History → ℕ
+base_of h = (bases_of h).0
+
+-- the base of what was saved last, or 0
+abbrev pub saved_base_of : History → ℕ
+saved_base_of h = (bases_of h).1
+
+-- whether the number was accepted since the last restart or beginning
 abbrev pub accepted_of : History → ℕ → Bool
 accepted_of [] j = false
-accepted_of (p ∷ h) j = if restarts p.0 p.1 then false else (accepts p.0 p.1 j || accepted_of h j)
+accepted_of (p ∷ h) j = if starts p.0 p.1 then false else (accepts p.0 p.1 j || accepted_of h j)
 
--- the numbers that were reported as applied since the last restart, in order
+-- the numbers that were reported as applied since the last restart or beginning, in order
 abbrev pub reported_of : History → List ℕ
 reported_of [] = []
-reported_of (p ∷ h) = if restarts p.0 p.1 then [] else (reported_of h ++ applied_by p.1)
+reported_of (p ∷ h) = if starts p.0 p.1 then [] else (reported_of h ++ applied_by p.1)
 
--- whether the follower is broken: since the last restart that was made, an application stopped
--- part-way or a restart was refused
+-- whether the follower is broken: since the last restart or beginning that was made, an application
+-- stopped part-way or a restart was refused
 abbrev pub is_broken : History → Bool
 is_broken [] = false
 is_broken (p ∷ h) = broken_by p.0 p.1 (is_broken h)

@@ -4,20 +4,20 @@ use Rattle.std.specs.Prelude.{◌≡◌, ℕ, ◌+◌, ◌<◌, ◌≤◌, ◌�
 use Rattle.osm_holding.specs.Holding.{window}
 use Rattle.osm_model.specs.Limits.{max_changes, max_sequence}
 use Rattle.osm_world.specs.History.{History, published_of, pending_of, publisher_of, start_of}
-use Rattle.osm_world.specs.History.{accepted_of, has_saved, is_broken, saved_of}
+use Rattle.osm_world.specs.History.{accepted_of, base_of, has_saved, is_broken, saved_of}
 use Rattle.osm_follow.specs.Published.{last_time, changes_at}
 use Rattle.osm_follow.specs.Publisher.{CanClose, IsSmall, IsTooLarge}
 use Rattle.osm_follow.specs.Reach.{Reaches, between}
 use Rattle.osm_follow.specs.View.{IsView}
 use Rattle.osm_world.specs.declared.event.Event.{Event}
 use Rattle.osm_world.specs.declared.event.Event.TheVariants.{Edit, Close, Deliver, Show}
-use Rattle.osm_world.specs.declared.event.Event.TheVariants.{Save, Restart}
+use Rattle.osm_world.specs.declared.event.Event.TheVariants.{Save, Restart, Begin}
 use Rattle.osm_world.specs.declared.event.Reply.{Reply}
 use Rattle.osm_world.specs.declared.event.Reply.TheVariants.{Edited, BatchFull, WantOfMemory}
 use Rattle.osm_world.specs.declared.event.Reply.TheVariants.{Closed, SequenceFull, TimeBack}
 use Rattle.osm_world.specs.declared.event.Reply.TheVariants.{TooLarge, NotPublished, Broken, Old}
 use Rattle.osm_world.specs.declared.event.Reply.TheVariants.{Again, TooEarly, Held, Applied}
-use Rattle.osm_world.specs.declared.event.Reply.TheVariants.{Broke, Shown, Saved, Restarted}
+use Rattle.osm_world.specs.declared.event.Reply.TheVariants.{Broke, Shown, Saved, Restarted, Begun}
 
 -- the number of a history: the greatest such that it and all below it, above the start, were
 -- accepted
@@ -80,7 +80,7 @@ abbrev pub AllowedShow : History → Reply → Type 0
 AllowedShow h Broken = is_broken h ≡ true
 AllowedShow h WantOfMemory = is_broken h ≡ false
 AllowedShow h (Shown v) =
-    (is_broken h ≡ false) × IsView (published_of h) 0 (start_of h) (accepted_of h) v
+    (is_broken h ≡ false) × IsView (published_of h) (base_of h) (start_of h) (accepted_of h) v
 AllowedShow h r = ⊥
 
 abbrev pub AllowedSave : History → Reply → Type 0
@@ -94,6 +94,12 @@ AllowedRestart h WantOfMemory = has_saved h ≡ true
 AllowedRestart h (Restarted n) = n ≡ saved_of h
 AllowedRestart h r = ⊥
 
+abbrev pub AllowedBegin : History → ℕ → Reply → Type 0
+AllowedBegin h k NotPublished = (k ≡ 0) ⊎ (length (published_of h) < k)
+AllowedBegin h k (Begun n) = (0 < k) × (k ≤ length (published_of h)) × (n ≡ k)
+AllowedBegin h k WantOfMemory = (0 < k) × (k ≤ length (published_of h))
+AllowedBegin h k r = ⊥
+
 -- the reply may follow the history at that event
 abbrev pub Allowed : History → Event → Reply → Type 0
 Allowed h (Edit c) r = AllowedEdit h r
@@ -102,6 +108,7 @@ Allowed h (Deliver k form) r = AllowedDeliver h k r
 Allowed h Show r = AllowedShow h r
 Allowed h Save r = AllowedSave h r
 Allowed h Restart r = AllowedRestart h r
+Allowed h (Begin k) r = AllowedBegin h k r
 
 -- whether the reply says that memory was refused
 abbrev pub is_want_of_memory : Reply → Bool

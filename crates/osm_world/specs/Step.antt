@@ -1,6 +1,6 @@
 -- What an event may do to a world, with its reply: each reply's conditions are complete, so that
 -- two replies are never both right, except that memory may be refused.
-use Rattle.std.specs.Prelude.{◌≡◌, ℕ, ◌+◌, ◌<◌, ◌≤◌, List, [], ◌∷◌, ◌++◌, length, true, false, ◌⊎◌}
+use Rattle.std.specs.Prelude.{◌≡◌, ℕ, zero, suc, ◌+◌, ◌<◌, ◌≤◌, List, [], ◌∷◌, ◌++◌, length, true, false, ◌⊎◌}
 use Rattle.std.specs.Prelude.{Ok, Err, Some}
 use Rattle.std.specs.List.Sorted.{IsStrictlySortedBy}
 use Rattle.std.specs.Ordering.{nat_cmp}
@@ -10,19 +10,22 @@ use Rattle.osm_model.specs.Limits.{IsPositive, max_changes, max_sequence}
 use Rattle.osm_o5c.specs.File.{SpellsO5c, FaultPlace}
 use Rattle.osm_opl.specs.File.{SpellsOpl, FaultLine}
 use Rattle.osm_follow.specs.Delivery.{Delivers, Spelling, FaultPlaces}
-use Rattle.osm_follow.specs.Follower.{FollowerValue}
+use Rattle.osm_follow.specs.Begin.{Begins}
+use Rattle.osm_follow.specs.Follower.{FollowerValue, new_follower}
 use Rattle.osm_follow.specs.Published.{PublishedTexts, texts_at, written_of}
 use Rattle.osm_follow.specs.Publisher.{CanClose, IsSmall, IsTooLarge, closing, closed}
 use Rattle.osm_follow.specs.View.{view_of}
 use Rattle.osm_save.specs.Save.{SpellsSave}
 use Rattle.osm_follow.specs.Restart.{Restarts, saved_of}
 use Rattle.osm_follow.specs.declared.restart.RestartError.TheVariants as restarts
+use Rattle.osm_state.specs.State.{StateValue}
+use Rattle.osm_state.specs.StateText.{StateOf}
 use Rattle.osm_world.specs.World.{WorldValue}
 use Rattle.osm_follow.specs.declared.delivery.Delivered.TheVariants as answers
 use Rattle.osm_follow.specs.declared.delivery.DeliverError.TheVariants as errors
 use Rattle.osm_world.specs.declared.event.Event.{Event}
 use Rattle.osm_world.specs.declared.event.Event.TheVariants.{Edit, Close, Deliver, Show}
-use Rattle.osm_world.specs.declared.event.Event.TheVariants.{Save, Restart}
+use Rattle.osm_world.specs.declared.event.Event.TheVariants.{Save, Restart, Begin}
 use Rattle.osm_world.specs.declared.event.Form.{Form}
 use Rattle.osm_world.specs.declared.event.Form.TheVariants.{Opl, O5c}
 use Rattle.osm_world.specs.declared.event.Reply.{Reply}
@@ -30,7 +33,7 @@ use Rattle.osm_world.specs.declared.event.Reply.TheVariants.{Edited, BatchFull, 
 use Rattle.osm_world.specs.declared.event.Reply.TheVariants.{Closed, SequenceFull, TimeBack}
 use Rattle.osm_world.specs.declared.event.Reply.TheVariants.{TooLarge, NotPublished, Broken, Old}
 use Rattle.osm_world.specs.declared.event.Reply.TheVariants.{Again, TooEarly, Held, Applied}
-use Rattle.osm_world.specs.declared.event.Reply.TheVariants.{Broke, Shown, Saved, Restarted}
+use Rattle.osm_world.specs.declared.event.Reply.TheVariants.{Broke, Shown, Saved, Restarted, Begun}
 
 -- which batches bytes spell in a form
 abbrev pub spells_in : Form → Spelling
@@ -137,6 +140,33 @@ RestartStep a WantOfMemory b =
     × (b ≡ record a { follower = b.follower })
 RestartStep a r b = ⊥
 
+-- a new follower was given the archived OPL files of sequences 1 to k in order, and applied each by
+-- itself
+abbrev pub IsFed : List PublishedTexts → ℕ → FollowerValue → Type 0
+IsFed archive zero f = f ≡ new_follower
+IsFed archive (suc k) f =
+    (e : FollowerValue) × (range : ℕ × ℕ) × IsFed archive k e
+    × Delivers SpellsOpl FaultLine e (texts_at archive (suc k)).state
+    (texts_at archive (suc k)).opl (Ok (answers.Applied range.0 range.1)) f
+
+-- the follower that begins with the objects of the one that was given sequences 1 to k, at the
+-- archived state of sequence k
+pub record BeginsFrom (archive : List PublishedTexts) (k : ℕ) (f : FollowerValue) : Type 0 where
+  pub giver : FollowerValue
+  pub fed : IsFed archive k giver
+  pub state : StateValue
+  pub named : StateOf (texts_at archive k).state state
+  pub begun : Begins state giver.mirror.objects (Ok f)
+
+-- a beginning, whatever the follower was; the text saved last stays
+abbrev pub BeginStep : WorldValue → ℕ → Reply → WorldValue → Type 0
+BeginStep a k NotPublished b = ((k ≡ 0) ⊎ (a.publisher.number < k)) × (b ≡ a)
+BeginStep a k (Begun n) b =
+    (0 < k) × (k ≤ a.publisher.number) × (n ≡ k) × BeginsFrom a.archive k b.follower
+    × (b ≡ record a { follower = b.follower })
+BeginStep a k WantOfMemory b = (0 < k) × (k ≤ a.publisher.number) × (b ≡ a)
+BeginStep a k r b = ⊥
+
 abbrev pub Step : WorldValue → Event → Reply → WorldValue → Type 0
 Step a (Edit c) r b = EditStep a c r b
 Step a (Close t) r b = CloseStep a t r b
@@ -144,3 +174,4 @@ Step a (Deliver k form) r b = DeliverStep a k form r b
 Step a Show r b = ShowStep a r b
 Step a Save r b = SaveStep a r b
 Step a Restart r b = RestartStep a r b
+Step a (Begin k) r b = BeginStep a k r b

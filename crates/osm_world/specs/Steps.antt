@@ -1,3 +1,4 @@
 -- Steps of proofs that clauses of private functions cite.
 -- No clause of a public function cites them.
 pub mod Archive
+pub mod Beginning

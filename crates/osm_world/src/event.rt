@@ -29,6 +29,9 @@ pub enum Event {
     Save,
     /// The follower restarts from the text saved last, or from nothing if none was.
     Restart,
+    /// The follower begins anew at that number, with the objects that the published sequences up to
+    /// it leave. The text saved last stays.
+    Begin(u32),
 }
 
 /// What a world answers to an event.
@@ -71,4 +74,6 @@ pub enum Reply {
     Saved(u32),
     /// The follower has restarted at that number, and holds nothing.
     Restarted(u32),
+    /// The follower has begun at that number, after which it counts edits, and holds nothing.
+    Begun(u32),
 }

@@ -59,9 +59,9 @@ pub fn laws_of_replies()
         → is_want_of_memory r ≡ false → r ≡ due_delivery h k n high }
 {}
 
-/// Unless its follower is broken, a legal history has reported as applied since the last restart
-/// exactly the numbers after its start up to its number, each once and in order. Does nothing at
-/// run time.
+/// Unless its follower is broken, a legal history has reported as applied since the last restart or
+/// beginning exactly the numbers after its start up to its number, each once and in order. Does
+/// nothing at run time.
 pub fn laws_of_histories()
     ensures count { (h : History) (n : ℕ) → IsLegal h → is_broken h ≡ false → IsNumber h n
         → start_of h + length (reported_of h) ≡ n }
@@ -70,7 +70,7 @@ pub fn laws_of_histories()
 {}
 
 /// A legal history has accepted exactly the numbers above its start that were delivered since the
-/// last restart and answered `Held`, `Applied`, `Old` or `Again`. Suppose that since then the
+/// last restart or beginning and answered `Held`, `Applied`, `Old` or `Again`. Suppose that since then the
 /// numbers after its start up to some number were delivered in order, with anything in between, and
 /// none of them was unpublished or refused for memory. Then the history has reached that number,
 /// unless its follower is broken. For the first 64 numbers after its start the order of these
@@ -137,7 +137,7 @@ pub fn laws_of_views()
 {}
 
 /// Neither the order of deliveries nor repeats matter: if two histories published and accepted the
-/// same from the same start, their followers are the same, and so are the views that they show.
+/// same from the same start and with the same base, their followers are the same, and so are the views that they show.
 /// Does nothing at run time.
 pub fn laws_of_order()
     ensures followers { (g h : History) (v w : WorldValue) → AcceptAlike g h → IsInStep g v

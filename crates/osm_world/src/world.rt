@@ -1,14 +1,18 @@
 //! A world: a publisher, its archive and a follower, which take events one by one.
 
 ghost use Rattle.std.specs.Prelude.{◌≡◌, ◌<◌, ◌≤◌, ◌⊎◌, ◌↔◌, [], length, vec_capacity, vec_len};
-ghost use Rattle.std.specs.Prelude.{IsNone, IfOk, IfSome, OnErr, OnOk};
+ghost use Rattle.std.specs.Prelude.{IsNone, IfOk, IfSome, Ok, OnErr, OnOk};
 ghost use Rattle.osm_model.specs.Batch.{IsBatch};
 ghost use Rattle.osm_world.specs.Correct.{IsRun};
+ghost use Rattle.osm_follow.specs.Delivery.{Delivers};
 ghost use Rattle.osm_follow.specs.Published.{texts_at};
+ghost use Rattle.osm_follow.specs.declared.delivery.Delivered.TheVariants.{Applied};
+ghost use Rattle.osm_opl.specs.File.{FaultLine, SpellsOpl};
 ghost use Rattle.osm_world.specs.Step.{CloseStep, DeliverStep, EditStep, Replies, RestartStep};
-ghost use Rattle.osm_world.specs.Step.{SaveStep, ShowStep, Step};
+ghost use Rattle.osm_world.specs.Step.{BeginStep, BeginsFrom, SaveStep, ShowStep, Step};
 ghost use Rattle.osm_world.specs.Step.{bytes_in, fault_in, spells_in};
 ghost use Rattle.osm_world.specs.Steps.Archive.{AreReadable, ClosesInto, IsArchive, IsReadable};
+ghost use Rattle.osm_world.specs.Steps.Beginning.{AreLeft};
 ghost use Rattle.osm_world.specs.World.{new_world};
 
 use crate::event::{Event, Form, Reply};
@@ -25,6 +29,7 @@ use osm_model::memory::WantOfMemory;
 use osm_o5c::o5c::O5c;
 use osm_opl::opl::Opl;
 use osm_state::laws::laws_of_state;
+use osm_state::state_text::state_read;
 use std::alloc::Global;
 use std::marker::Model;
 
@@ -105,6 +110,7 @@ impl World {
             Event::Show => self.show(),
             Event::Save => self.save(),
             Event::Restart => self.restart(),
+            Event::Begin(number) => self.begin(number),
         }
     }
 
@@ -199,6 +205,57 @@ impl World {
             Err(RestartError::BadSave { .. }) => unreachable!(),
         }
     }
+
+    fn begin(&mut self, number: u32) -> Reply
+        ensures { BeginStep self.old number result self.new }
+    {
+        if number == 0 || number > self.publisher.number() {
+            return Reply::NotPublished;
+        }
+        match begun_from(self.alloc, self.archive.as_slice(), number) {
+            Ok(follower) => {
+                self.follower = follower;
+                Reply::Begun(number)
+            }
+            Err(_) => Reply::WantOfMemory,
+        }
+    }
+}
+
+// The follower that begins at that number with what the archived sequences leave. Whatever is
+// refused on the way is refused for memory.
+fn begun_from(alloc: Global, archive: &[Published], number: u32) -> Result<Follower, WantOfMemory>
+    requires above { 0 < number }
+    requires there { number ≤ length archive.now }
+    ensures { IfOk result (BeginsFrom archive.now number) }
+{
+    let objects = archived_objects(alloc, archive, number)?;
+    let Ok(state) = state_read(archive[number as usize - 1].state()) else {
+        return Err(WantOfMemory);
+    };
+    let Ok(follower) = Follower::begin(alloc, &state, objects) else {
+        return Err(WantOfMemory);
+    };
+    Ok(follower)
+}
+
+// The objects that the archived sequences 1 to `number` leave.
+fn archived_objects(
+    alloc: Global,
+    archive: &[Published],
+    number: u32,
+) -> Result<Vec<Change>, WantOfMemory>
+    requires { number ≤ length archive.now }
+    ensures { IfOk result (λ objects. AreLeft archive.now number objects.items) }
+{
+    let mut giver = Follower::new(alloc)?;
+    for index in 0..number {
+        give(&mut giver, alloc, &archive[index as usize])?;
+    }
+    let Ok(view) = giver.view(alloc) else {
+        return Err(WantOfMemory);
+    };
+    Ok(view.into_objects())
 }
 
 // An empty list with room for one reply to each event, and for no more.
@@ -243,6 +300,22 @@ fn close_into(
     O5c::laws();
     archive.push(published).unwrap();
     Ok(publisher.number())
+}
+
+// Delivers a sequence that is to be applied, and gives the numbers of the first and the last one
+// that were.
+fn give(
+    giver: &mut Follower,
+    alloc: Global,
+    published: &Published,
+) -> Result<(u32, u32), WantOfMemory>
+    ensures { IfOk result (λ range. Delivers SpellsOpl FaultLine giver.old published.now.state
+        published.now.opl (Ok (Applied range.0 range.1)) giver.new) }
+{
+    match giver.deliver::<Opl>(alloc, published.state(), published.opl()) {
+        Ok(Delivered::Applied { low, high }) => Ok((low, high)),
+        _ => Err(WantOfMemory),
+    }
 }
 
 fn deliver_text(follower: &mut Follower, alloc: Global, published: &Published, form: Form) -> Reply
