@@ -11,10 +11,10 @@ use Rattle.osm_reading.specs.Sequence.{SpellsSequence}
 use Rattle.std.specs.Borrow.{Bor}
 use Rattle.std.specs.List.{AllZip}
 use Rattle.std.specs.Prelude.{IfSome, nat_eq, not, codes, Result, Ok, Err, IfErr}
-use Rattle.osm_repl.specs.Steps.Parsing.{IsEditOf, IsCloseOf, IsDeliverOf, Refused, IsTakenAs}
+use Rattle.osm_repl.specs.Steps.Parsing.{IsBeginOf, IsEditOf, IsCloseOf, IsDeliverOf, Refused, IsTakenAs}
 use Rattle.osm_repl.specs.Script.{IsEventLine, ScriptOf, form_text, AreEvents, unskipped}
 use Rattle.osm_world.specs.declared.event.Event.{Event}
-use Rattle.osm_world.specs.declared.event.Event.TheVariants.{Edit, Close, Deliver, Show, Save, Restart}
+use Rattle.osm_world.specs.declared.event.Event.TheVariants.{Edit, Close, Deliver, Show, Save, Restart, Begin}
 use Rattle.osm_world.specs.declared.event.Form.{Form}
 use Rattle.osm_world.specs.declared.event.Form.TheVariants.{Opl, O5c}
 use Rattle.osm_repl.specs.declared.script.LineFault.{LineFault}
@@ -54,6 +54,7 @@ first_of (Deliver n form) = 100
 first_of Show = 115
 first_of Save = 115
 first_of Restart = 114
+first_of (Begin n) = 98
 
 first_is : (line : List ℕ) (e : Event) → IsEventLine line e → get_or line 0 0 ≡ first_of e
 unfolding first_of
@@ -63,6 +64,7 @@ first_is line (Deliver n form) h = ap (λ (l : List ℕ). get_or l 0 0) h.parts
 first_is line Show h = ap (λ (l : List ℕ). get_or l 0 0) h
 first_is line Save h = ap (λ (l : List ℕ). get_or l 0 0) h
 first_is line Restart h = ap (λ (l : List ℕ). get_or l 0 0) h
+first_is line (Begin n) h = ap (λ (l : List ℕ). get_or l 0 0) h.parts
 
 apart : (n m : ℕ) (line : List ℕ) → get_or line 0 0 ≡ n → get_or line 0 0 ≡ m → (n ≡ m → ⊥) → ⊥
 apart n m line p q ne = ne (sym p ∙ q)
@@ -77,6 +79,7 @@ only_edit line object (Deliver n form) is h = apart 101 100 line (ap (λ (l : Li
 only_edit line object Show is h = apart 101 115 line (ap (λ (l : List ℕ). get_or l 0 0) is) (first_is line Show h) (λ e. omega arith)
 only_edit line object Save is h = apart 101 115 line (ap (λ (l : List ℕ). get_or l 0 0) is) (first_is line Save h) (λ e. omega arith)
 only_edit line object Restart is h = apart 101 114 line (ap (λ (l : List ℕ). get_or l 0 0) is) (first_is line Restart h) (λ e. omega arith)
+only_edit line object (Begin n) is h = apart 101 98 line (ap (λ (l : List ℕ). get_or l 0 0) is) (first_is line (Begin n) h) (λ e. omega arith)
 
 pub only_close : (line text : List ℕ) (e : Event) → line ≡ codes "close " ++ text → IsEventLine line e → IsCloseOf text e
 unfolding first_of
@@ -86,6 +89,7 @@ only_close line text (Deliver n form) is h = apart 99 100 line (ap (λ (l : List
 only_close line text Show is h = apart 99 115 line (ap (λ (l : List ℕ). get_or l 0 0) is) (first_is line Show h) (λ e. omega arith)
 only_close line text Save is h = apart 99 115 line (ap (λ (l : List ℕ). get_or l 0 0) is) (first_is line Save h) (λ e. omega arith)
 only_close line text Restart is h = apart 99 114 line (ap (λ (l : List ℕ). get_or l 0 0) is) (first_is line Restart h) (λ e. omega arith)
+only_close line text (Begin n) is h = apart 99 98 line (ap (λ (l : List ℕ). get_or l 0 0) is) (first_is line (Begin n) h) (λ e. omega arith)
 
 pub only_deliver : (line words : List ℕ) (e : Event) → line ≡ codes "deliver " ++ words → IsEventLine line e → IsDeliverOf words e
 unfolding first_of
@@ -99,6 +103,28 @@ only_deliver line words (Deliver n form) is h = record {
 only_deliver line words Show is h = apart 100 115 line (ap (λ (l : List ℕ). get_or l 0 0) is) (first_is line Show h) (λ e. omega arith)
 only_deliver line words Save is h = apart 100 115 line (ap (λ (l : List ℕ). get_or l 0 0) is) (first_is line Save h) (λ e. omega arith)
 only_deliver line words Restart is h = apart 100 114 line (ap (λ (l : List ℕ). get_or l 0 0) is) (first_is line Restart h) (λ e. omega arith)
+only_deliver line words (Begin n) is h = apart 100 98 line (ap (λ (l : List ℕ). get_or l 0 0) is) (first_is line (Begin n) h) (λ e. omega arith)
+
+pub only_begin : (line digits : List ℕ) (e : Event) → line ≡ codes "begin " ++ digits → IsEventLine line e → IsBeginOf digits e
+unfolding first_of
+only_begin line digits (Edit c) is h = apart 98 101 line (ap (λ (l : List ℕ). get_or l 0 0) is) (first_is line (Edit c) h) (λ e. omega arith)
+only_begin line digits (Close t) is h = apart 98 99 line (ap (λ (l : List ℕ). get_or l 0 0) is) (first_is line (Close t) h) (λ e. omega arith)
+only_begin line digits (Deliver n form) is h = apart 98 100 line (ap (λ (l : List ℕ). get_or l 0 0) is) (first_is line (Deliver n form) h) (λ e. omega arith)
+only_begin line digits Show is h = apart 98 115 line (ap (λ (l : List ℕ). get_or l 0 0) is) (first_is line Show h) (λ e. omega arith)
+only_begin line digits Save is h = apart 98 115 line (ap (λ (l : List ℕ). get_or l 0 0) is) (first_is line Save h) (λ e. omega arith)
+only_begin line digits Restart is h = apart 98 114 line (ap (λ (l : List ℕ). get_or l 0 0) is) (first_is line Restart h) (λ e. omega arith)
+only_begin line digits (Begin n) is h = let same : h.digits ≡ digits = append_cancel_left (codes "begin ") h.digits digits
+    (sym h.parts ∙ is) in rw (← same) h.spelled
+
+-- what begins at a number has its digits
+pub begin_digits : (digits : List ℕ) (e : Event) → IsBeginOf digits e → (n : ℕ) × SpellsSequence digits n
+begin_digits digits (Edit c) h = absurd h
+begin_digits digits (Close t) h = absurd h
+begin_digits digits (Deliver n form) h = absurd h
+begin_digits digits Show h = absurd h
+begin_digits digits Save h = absurd h
+begin_digits digits Restart h = absurd h
+begin_digits digits (Begin n) h = (n, h)
 
 -- what refuses one fact refuses another that implies it
 pub refused_more : (r : Result Event LineFault) (A B : Event → Type 0) → ((e : Event) → B e → A e) → IfErr r (Refused A) → IfErr r (Refused B)
@@ -128,6 +154,7 @@ deliver_words words digits form (Deliver n g) is h =
 deliver_words words digits form Show is h = absurd h
 deliver_words words digits form Save is h = absurd h
 deliver_words words digits form Restart is h = absurd h
+deliver_words words digits form (Begin n) is h = absurd h
 
 -- one more line, which is skipped or is an event
 pub AreEvents-skipped : (lines : List (List ℕ)) (events : List Event) (line : List ℕ) → AreEvents lines events

@@ -9,7 +9,7 @@ use Rattle.osm_world.specs.declared.event.Reply.TheVariants.{Closed, SequenceFul
 use Rattle.osm_world.specs.declared.event.Reply.TheVariants.{TimeBack, TooLarge}
 use Rattle.osm_world.specs.declared.event.Reply.TheVariants.{NotPublished, Broken, Old, Again}
 use Rattle.osm_world.specs.declared.event.Reply.TheVariants.{TooEarly, Held, Applied, Broke}
-use Rattle.osm_world.specs.declared.event.Reply.TheVariants.{Shown, Saved, Restarted}
+use Rattle.osm_world.specs.declared.event.Reply.TheVariants.{Shown, Saved, Restarted, Begun}
 
 -- a reply's lines
 abbrev pub reply_text : Reply → List ℕ
@@ -31,6 +31,7 @@ reply_text Broke = codes "broke\n"
 reply_text (Shown view) = view_text view
 reply_text (Saved n) = numbered_line (codes "saved ") n
 reply_text (Restarted n) = numbered_line (codes "restarted ") n
+reply_text (Begun n) = numbered_line (codes "begun ") n
 
 -- the lines of all replies, in their order
 abbrev pub replies_text : List Reply → List ℕ

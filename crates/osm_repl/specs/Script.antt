@@ -8,7 +8,7 @@ use Rattle.osm_reading.specs.Lines.{lines_of, is_skipped}
 use Rattle.osm_reading.specs.Sequence.{SpellsSequence}
 use Rattle.osm_world.specs.declared.event.Event.{Event}
 use Rattle.osm_world.specs.declared.event.Event.TheVariants.{Edit, Close, Deliver, Show}
-use Rattle.osm_world.specs.declared.event.Event.TheVariants.{Save, Restart}
+use Rattle.osm_world.specs.declared.event.Event.TheVariants.{Save, Restart, Begin}
 use Rattle.osm_world.specs.declared.event.Form.{Form}
 use Rattle.osm_world.specs.declared.event.Form.TheVariants.{Opl, O5c}
 use Rattle.osm_folder.specs.declared.fault.RunFault.{RunFault}
@@ -37,6 +37,12 @@ pub record IsDeliver (line : List ℕ) (number : ℕ) (form : Form) : Type 0 whe
   pub parts : line ≡ codes "deliver " ++ (digits ++ form_text form)
   pub spelled : SpellsSequence digits number
 
+-- `begin N`
+pub record IsBegin (line : List ℕ) (number : ℕ) : Type 0 where
+  pub digits : List ℕ
+  pub parts : line ≡ codes "begin " ++ digits
+  pub spelled : SpellsSequence digits number
+
 -- the line is the event
 abbrev pub IsEventLine : List ℕ → Event → Type 0
 IsEventLine line (Edit change) = IsEdit line change
@@ -45,6 +51,7 @@ IsEventLine line (Deliver number form) = IsDeliver line number form
 IsEventLine line Show = line ≡ codes "show"
 IsEventLine line Save = line ≡ codes "save"
 IsEventLine line Restart = line ≡ codes "restart"
+IsEventLine line (Begin number) = IsBegin line number
 
 -- the lines that aren't skipped
 abbrev pub unskipped : List (List ℕ) → List (List ℕ)

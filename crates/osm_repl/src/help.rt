@@ -34,6 +34,8 @@ It has one event a line; empty lines and lines that begin with # are ignored:
   show           the follower shows its number, time, objects and counts of edits
   save           the follower is saved
   restart        the follower restarts from what was saved last, or anew if nothing was
+  begin N        the follower begins at published sequence N, with the objects up to it and no
+                 counts
 
 A line that is no event is a fault, and nothing is written then. A fault names standard input as
 input, and standard output as output.";

@@ -43,5 +43,6 @@ pub(crate) fn write_reply(reply: &Reply, text: &mut Vec<u8>) -> Result<(), WantO
         Reply::Shown(view) => write_view(view, text),
         Reply::Saved(number) => write_numbered(b"saved ", *number as u64, text),
         Reply::Restarted(number) => write_numbered(b"restarted ", *number as u64, text),
+        Reply::Begun(number) => write_numbered(b"begun ", *number as u64, text),
     }
 }

@@ -1,14 +1,14 @@
 //! Scripts: one event a line, as `edit n1 v1 dV c7 t2024-01-01T00:00:00Z i5 uann T x1 y2`, `close
-//! 2024-01-01T00:00:00Z`, `deliver 1 opl`, `deliver 1 o5c`, `show`, `save` and `restart`. Empty
-//! lines and lines that begin with `#` are skipped.
+//! 2024-01-01T00:00:00Z`, `deliver 1 opl`, `deliver 1 o5c`, `show`, `save`, `restart` and `begin
+//! 1`. Empty lines and lines that begin with `#` are skipped.
 
 ghost use Rattle.std.specs.Prelude.{◌≡◌, ℕ, ◌<◌, ◌++◌, ◌^◌, List, [], ◌∷◌, length};
 ghost use Rattle.std.specs.Prelude.{IfOk, IfErr, OnOk, IfSome, IfNone};
 ghost use Rattle.osm_repl.specs.Script.{IsEventLine, ScriptOf, ScriptRefused, form_text};
 ghost use Rattle.osm_world.specs.declared.event.Event.{Event};
 ghost use Rattle.osm_world.specs.declared.event.Form.{Form};
-ghost use Rattle.osm_repl.specs.Steps.Parsing.{AllAreTaken, IsCloseOf, IsDeliverOf, IsEditOf};
-ghost use Rattle.osm_repl.specs.Steps.Parsing.{IsTakenAs, LineRefused, Refused};
+ghost use Rattle.osm_repl.specs.Steps.Parsing.{AllAreTaken, IsBeginOf, IsCloseOf, IsDeliverOf};
+ghost use Rattle.osm_repl.specs.Steps.Parsing.{IsEditOf, IsTakenAs, LineRefused, Refused};
 
 use osm_folder::fault::RunFault;
 use osm_model::memory::WantOfMemory;
@@ -119,6 +119,9 @@ fn parse_event(alloc: Global, line: &[u8]) -> Result<Event, LineFault>
     if let Some(words) = after_prefix(line, b"deliver ") {
         return parse_deliver(words);
     }
+    if let Some(digits) = after_prefix(line, b"begin ") {
+        return parse_begin(digits);
+    }
     match line {
         b"show" => Ok(Event::Show),
         b"save" => Ok(Event::Save),
@@ -157,6 +160,16 @@ fn parse_deliver(words: &[u8]) -> Result<Event, LineFault>
     };
     match sequence_read(digits) {
         Some(number) => Ok(Event::Deliver { number, form }),
+        None => Err(LineFault::NoEvent),
+    }
+}
+
+fn parse_begin(digits: &[u8]) -> Result<Event, LineFault>
+    ensures event { IfOk result (λ e. IsBeginOf digits.now e) }
+    ensures refused { IfErr result (Refused (IsBeginOf digits.now)) }
+{
+    match sequence_read(digits) {
+        Some(number) => Ok(Event::Begin(number)),
         None => Err(LineFault::NoEvent),
     }
 }

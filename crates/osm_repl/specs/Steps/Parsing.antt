@@ -6,7 +6,7 @@ use Rattle.osm_reading.specs.Lines.{is_skipped}
 use Rattle.osm_reading.specs.Sequence.{SpellsSequence}
 use Rattle.osm_repl.specs.Script.{IsEventLine, ScriptOf, form_text}
 use Rattle.osm_world.specs.declared.event.Event.{Event}
-use Rattle.osm_world.specs.declared.event.Event.TheVariants.{Edit, Close, Deliver}
+use Rattle.osm_world.specs.declared.event.Event.TheVariants.{Edit, Close, Deliver, Begin}
 use Rattle.osm_world.specs.declared.event.Form.{Form}
 use Rattle.osm_folder.specs.declared.fault.RunFault.{RunFault}
 use Rattle.osm_folder.specs.declared.fault.RunFault.TheVariants as faults
@@ -33,6 +33,11 @@ pub record AreWords (words : List ℕ) (number : ℕ) (form : Form) : Type 0 whe
 abbrev pub IsDeliverOf : List ℕ → Event → Type 0
 IsDeliverOf words (Deliver number form) = AreWords words number form
 IsDeliverOf words e = ⊥
+
+-- what follows `begin ` is the event
+abbrev pub IsBeginOf : List ℕ → Event → Type 0
+IsBeginOf digits (Begin number) = SpellsSequence digits number
+IsBeginOf digits e = ⊥
 
 -- a line is refused as no event only if it is no event
 abbrev pub Refused : (Event → Type 0) → LineFault → Type 0

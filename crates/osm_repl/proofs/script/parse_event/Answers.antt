@@ -1,6 +1,6 @@
-use Rattle.osm_repl.specs.Steps.Parsing.{IsEditOf, IsCloseOf, IsDeliverOf}
+use Rattle.osm_repl.specs.Steps.Parsing.{IsBeginOf, IsEditOf, IsCloseOf, IsDeliverOf}
 use Rattle.osm_repl.specs.Script.{IsEventLine}
-use Rattle.osm_repl.proofs.ScriptLemmas.{only_edit, only_close, only_deliver, refused_more}
+use Rattle.osm_repl.proofs.ScriptLemmas.{only_begin, only_edit, only_close, only_deliver, refused_more}
 use Rattle.osm_repl.proofs.script.parse_event.Goals as goal
 
 -- a line that begins as one event is no other event
@@ -20,3 +20,9 @@ returns-in-Some-after_prefix-2-clause-refused c =
     refused_more c.parse_deliver.result (IsDeliverOf c.in-Some-after_prefix-2.words.now) (IsEventLine c.args.line.now)
     (λ e. only_deliver c.args.line.now c.in-Some-after_prefix-2.words.now e c.in-Some-after_prefix-2.ensures.found)
     c.parse_deliver.ensures.refused
+
+pub returns-in-Some-after_prefix-3-clause-refused : goal.returns-in-Some-after_prefix-3-clause-refused
+returns-in-Some-after_prefix-3-clause-refused c =
+    refused_more c.parse_begin.result (IsBeginOf c.in-Some-after_prefix-3.digits.now) (IsEventLine c.args.line.now)
+    (λ e. only_begin c.args.line.now c.in-Some-after_prefix-3.digits.now e c.in-Some-after_prefix-3.ensures.found)
+    c.parse_begin.ensures.refused
