@@ -138,7 +138,7 @@ class Change:
 EVENT = re.compile(
     rb"(?P<edit>edit) (?P<line>[nwr].*)|(?P<close>close) (?P<time>[^ ]{20})"
     rb"|(?P<deliver>deliver) (?P<number>[0-9]{1,9}) (?:opl|o5c)"
-    rb"|(?P<save>save)|(?P<restart>restart)|(?P<show>show)",
+    rb"|(?P<save>save)|(?P<restart>restart)|(?P<begin>begin) (?P<first>[0-9]{1,9})|(?P<show>show)",
     re.DOTALL,
 )
 
@@ -154,7 +154,8 @@ def events_of(script):
         word = line.split(b" ")[0].decode()
         try:
             yield word, {"edit": lambda: Change(match["line"]), "close": lambda: match["time"],
-                         "deliver": lambda: int(match["number"])}.get(word, lambda: None)()
+                         "deliver": lambda: int(match["number"]),
+                         "begin": lambda: int(match["first"])}.get(word, lambda: None)()
         except (ValueError, IndexError, KeyError, AttributeError):
             raise NoScript(line) from None
 
@@ -165,11 +166,11 @@ class World:
 
     def __init__(self):
         self.pending, self.published = [], []
-        self.start, self.saved = 0, None
-        self.restart_at(0)
+        self.saved, self.saved_base = None, 0
+        self.restart_at(0, 0)
 
-    def restart_at(self, number):
-        self.start = self.number = number
+    def restart_at(self, number, base):
+        self.number, self.base = number, base
         self.held, self.broken = set(), False
 
     def edit(self, change):
@@ -229,7 +230,7 @@ class World:
     def needs_new_entry(self, high):
         """Whether a change up to that number is the first one of its user or changeset, or brings
         an object whose key has none: nothing else takes memory once an application has begun."""
-        objects, users, changesets = content(self.changes_up_to(self.number))
+        objects, users, changesets = self.content()
         for change in self.changes_up_to(high)[len(self.changes_up_to(self.number)):]:
             if change.user not in users or change.changeset not in changesets:
                 return True
@@ -245,14 +246,19 @@ class World:
         return {f"saved {self.number}": self.keep_number, "no memory": None}
 
     def keep_number(self):
-        self.saved = self.number
+        self.saved, self.saved_base = self.number, self.base
 
     def restart(self, _):
-        start = self.saved or 0
-        replies = {f"restarted {start}": lambda: self.restart_at(start)}
+        start, base = self.saved or 0, self.saved_base
+        replies = {f"restarted {start}": lambda: self.restart_at(start, base)}
         if self.saved is not None:
             replies["no memory"] = self.break_off
         return replies
+
+    def begin(self, number):
+        if not 1 <= number <= len(self.published):
+            return {"not published": None}
+        return {f"begun {number}": lambda: self.restart_at(number, number), "no memory": None}
 
     def show(self, _):
         if self.broken:
@@ -262,10 +268,17 @@ class World:
     def changes_up_to(self, number):
         return [change for changes, _ in self.published[:number] for change in changes]
 
+    def content(self):
+        """The objects of the follower, and its counts: those of the sequences after its base."""
+        changes = self.changes_up_to(self.number)
+        after = changes[len(self.changes_up_to(self.base)):]
+        return content(changes)[0], *content(after)[1:]
+
     def view(self):
-        objects, users, changesets = content(self.changes_up_to(self.number))
+        objects, users, changesets = self.content()
         time = self.published[self.number - 1][1].decode() if self.number else "none"
-        lines = [f"number {self.number}", f"time {time}", f"objects {len(objects)}"]
+        lines = [f"number {self.number}"] + [f"base {self.base}"] * (self.base > 0)
+        lines += [f"time {time}", f"objects {len(objects)}"]
         lines += [objects[key].line() for key in sorted(objects)]
         for name, counts in (("users", users), ("changesets", changesets)):
             lines += [f"{name} {len(counts)}"] + [f"{n} {counts[n]}" for n in sorted(counts)]
