@@ -298,6 +298,7 @@ def step(event, answer, left, after=None, script=b"", refused=None, again=()):
                 again=(*again, ("events", event)), told="reply", refused=refused or {NO_MEMORY: Refusal()})
 
 
+BEGUN_AT_1 = b"number 1\nbase 1\n" + mirror(1, ONE[0], (), ()) + b"held 0\n"
 RESTART = (("events", b"restart\n"), ("World::step", b""), ("reply", b""))
 BROKEN_FIRST = {NO_MEMORY: Refusal(), b"broke\n": Refusal(left=world((), PUBLISHED, BROKEN))}
 WORLDS = [
@@ -311,14 +312,15 @@ WORLDS = [
     step(b"deliver 1 o5c", b"applied 1..1\n", FIRST, APPLIED, PUBLISH, BROKEN_FIRST, RESTART),
     step(b"show", show(1, *ONE), APPLIED, script=ROW),
     step(b"save", b"saved 1\n", APPLIED, script=ROW),
+    step(b"begin 1", b"begun 1\n", APPLIED, world((), PUBLISHED, BEGUN_AT_1), ROW),
     step(b"restart", b"restarted 1\n", APPLIED, script=ROW + b"save",
          refused={NO_MEMORY: Refusal(left=world((), PUBLISHED, BROKEN))}),
 ]
 EVENTS = (b"Close(1704067260)\nDeliver { number: 2, form: O5c }\nDeliver { number: 12, form: Opl }\nShow\nSave\n"
-          b"Restart\n")
+          b"Restart\nBegin(12)\n")
 SCRIPTS = [
     Case("scripts", "parse_script", b"close " + minute(1) + b"\ndeliver 2 o5c\n# more\ndeliver 12 opl\nshow\nsave\n"
-         b"restart", EVENTS),
+         b"restart\nbegin 12", EVENTS),
     Case("scripts", "write_replies", answer=REPLIED + b"\n", before=(("replies", ROW),)),
     Case("scripts", "replay_run", ROW, b"done\n", after=REPLIED, script=ROW),
 ]
