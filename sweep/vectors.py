@@ -410,6 +410,13 @@ REFUSED_SCRIPTS = [
     (b'close 2024-01-01T00:00:00Z\r\nshow\r\r\n', 2),
     (b'save 1\n', 1),
     (b'restart \n', 1),
+    (b'begin\n', 1),
+    (b'begin \n', 1),
+    (b'begin 1 \n', 1),
+    (b'begin  1\n', 1),
+    (b'begin -1\n', 1),
+    (b'begin 0000000001\n', 1),
+    (b'begin 1 opl\n', 1),
     (b'edit n1 v0 dV c7 t2024-01-01T00:00:00Z i5 uann T x1 y2\n', 1),
     (b'edit n1 v1 dV c7 t2024-01-01T00:00:00Z i5 uann T x y2\n', 1),
 ]
