@@ -150,7 +150,7 @@ fn finds_two_missing<R: Files>(
     save: &str,
 ) -> bool {
     match follow_run(alloc, store, folder, save) {
-        Ok(report) => report.text() == b"missing 1\nmissing 2\nnumber 0\n",
+        Ok(report) => report.text() == b"missing 1\nmissing 2\nnumber 0\n".as_slice(),
         Err(_) => false,
     }
 }
