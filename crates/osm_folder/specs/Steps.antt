@@ -3,5 +3,6 @@ pub mod Copying
 pub mod Following
 pub mod Lagging
 pub mod Numbering
+pub mod Progressing
 pub mod Reading
 pub mod Publishing
