@@ -20,7 +20,7 @@ use Rattle.osm_folder.specs.Names.{file_name_of, top_name_of}
 use Rattle.osm_folder.specs.Progress.{ComesBefore, IsOfContent, ProgressStops}
 use Rattle.osm_folder.specs.Reports.{ReportValue, follow_report_of}
 use Rattle.osm_folder.specs.Runs.{IsDeviceFault, ReplacesAtLeast}
-use Rattle.osm_folder.specs.Steps.Following.{IsMade, MissingStops, StopsBeyond, StopsOnTheWay, TextStops}
+use Rattle.osm_folder.specs.Steps.Following.{MissingStops, StopsBeyond, StopsOnTheWay, TextStops}
 use Rattle.osm_folder.specs.Steps.Progressing.{IsBegun, IsMadeBefore, IsNothingBefore, MadeBeforeStops}
 use Rattle.osm_folder.specs.Steps.Reading.{PutStops}
 use Rattle.osm_folder.specs.declared.fault.FileName.TheVariants.{Sequence, Save}
@@ -44,25 +44,38 @@ opl_or : (o5c opl : Option (List ℕ)) (p : PublishedValue) → AreChanges o5c o
 opl_or None opl p a e = there_or opl (IsFile Opl p) a
 opl_or (Some bytes) opl p a e = absurd (let bad : Some bytes ≡ None = e in cc)
 
+state_right : (files : Files) (dir : List ℕ) (p : PublishedValue) → HasFiles files dir p
+    → IsAbsentOr (files (file_name_of dir p.number State)) (IsFile State p)
+state_right files dir p has = there_or (files (file_name_of dir p.number State)) (IsFile State p) has.state
+
+o5c_right : (files : Files) (dir : List ℕ) (p : PublishedValue) → HasFiles files dir p
+    → IsAbsentOr (files (file_name_of dir p.number O5c)) (IsFile O5c p)
+o5c_right files dir p has = o5c_or (files (file_name_of dir p.number O5c)) (files (file_name_of dir p.number Opl)) p has.changes
+
+opl_right : (files : Files) (dir : List ℕ) (p : PublishedValue) → HasFiles files dir p
+    → files (file_name_of dir p.number O5c) ≡ None → IsAbsentOr (files (file_name_of dir p.number Opl)) (IsFile Opl p)
+opl_right files dir p has none =
+    opl_or (files (file_name_of dir p.number O5c)) (files (file_name_of dir p.number Opl)) p has.changes none
+
 -- the files of a right number are no reason to stop
 right_number : NoFaultBesideState → (known : Type 0) (dir : List ℕ) (files : Files) (p : PublishedValue)
     (fault : RunFault) (k : ℕ) → known → HasFiles files dir p → NumberStops known dir files p.number fault
     → IsOfContent fault k → ⊥
 right_number law known dir files p (TooLarge (Sequence j State)) k sure has h c =
-    not_over p State (files (file_name_of dir p.number State)) (there_or (files (file_name_of dir p.number State)) (IsFile State p) has.state) (h.1 sure).1
+    not_over p State (files (file_name_of dir p.number State)) (state_right files dir p has) (h.1 sure).1
 right_number law known dir files p (TooLarge (Sequence j O5c)) k sure has h c =
-    not_over p O5c (files (file_name_of dir p.number O5c)) (o5c_or (files (file_name_of dir p.number O5c)) (files (file_name_of dir p.number Opl)) p has.changes) (h.1 sure).1
+    not_over p O5c (files (file_name_of dir p.number O5c)) (o5c_right files dir p has) (h.1 sure).1
 right_number law known dir files p (TooLarge (Sequence j Opl)) k sure has h c =
-    not_over p Opl (files (file_name_of dir p.number Opl)) (opl_or (files (file_name_of dir p.number O5c)) (files (file_name_of dir p.number Opl)) p has.changes (h.1 sure).0.1) (h.1 sure).1
+    not_over p Opl (files (file_name_of dir p.number Opl)) (opl_right files dir p has (h.1 sure).0.1) (h.1 sure).1
 right_number law known dir files p (BadState (Sequence j State) cause) k sure has h c =
-    not_bad law p (files (file_name_of dir p.number State)) cause (there_or (files (file_name_of dir p.number State)) (IsFile State p) has.state) (h.1 sure)
+    not_bad law p (files (file_name_of dir p.number State)) cause (state_right files dir p has) (h.1 sure)
 right_number law known dir files p (Mismatch j) k sure has h c =
-    not_other p (files (file_name_of dir p.number State)) p.number refl (there_or (files (file_name_of dir p.number State)) (IsFile State p) has.state) (h.1 sure)
+    not_other p (files (file_name_of dir p.number State)) p.number refl (state_right files dir p has) (h.1 sure)
 right_number law known dir files p (BadChange (Sequence j O5c) place why) k sure has h c =
-    not_faulty p (files (file_name_of dir p.number O5c)) place (o5c_or (files (file_name_of dir p.number O5c)) (files (file_name_of dir p.number Opl)) p has.changes) (h.1 sure).1
+    not_faulty p (files (file_name_of dir p.number O5c)) place (o5c_right files dir p has) (h.1 sure).1
 right_number law known dir files p (BadChange (Sequence j Opl) place why) k sure has h c =
     not_faulty_opl p (files (file_name_of dir p.number Opl)) place
-    (opl_or (files (file_name_of dir p.number O5c)) (files (file_name_of dir p.number Opl)) p has.changes (h.1 sure).0.1) (h.1 sure).1
+    (opl_right files dir p has (h.1 sure).0.1) (h.1 sure).1
 right_number law known dir files p (BadChange (Sequence j State) place why) k sure has h c = absurd h
 right_number law known dir files p fault k sure has h c = absurd c
 

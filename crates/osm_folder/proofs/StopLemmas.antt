@@ -180,5 +180,7 @@ follow_refuses law known ps number dir save files fault sure folder saved (inr (
     let until = c.until in
     let top_is = top_number ps (files (top_name_of dir)) c.top folder.sequences folder.top c.started.top_is in
     number_refuses law known ps dir files (files save) h.number fault sure folder (omega arith) (omega (arith, top_is)) h.stops
-follow_refuses law known ps number dir save files fault sure folder saved (inr (inr (inl h))) = beyond_refuses known dir save ps files (files save) fault h
-follow_refuses law known ps number dir save files fault sure folder saved (inr (inr (inr h))) = save_refuses known ps number dir save files fault sure folder saved h
+follow_refuses law known ps number dir save files fault sure folder saved (inr (inr (inl h))) =
+    beyond_refuses known dir save ps files (files save) fault h
+follow_refuses law known ps number dir save files fault sure folder saved (inr (inr (inr h))) =
+    save_refuses known ps number dir save files fault sure folder saved h
