@@ -5,6 +5,7 @@ pub mod Faults
 pub mod Files
 pub mod Folder
 pub mod Following
+pub mod Progress
 pub mod Forms
 pub mod Frames
 pub mod Lagging

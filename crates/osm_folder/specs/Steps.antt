@@ -4,5 +4,6 @@ pub mod Exporting
 pub mod Following
 pub mod Lagging
 pub mod Numbering
+pub mod Progressing
 pub mod Reading
 pub mod Publishing

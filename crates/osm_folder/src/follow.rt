@@ -47,9 +47,9 @@ const WINDOW: u32 = 64;
 
 // What a run saves and prints.
 #[derive(Drop)]
-struct Following {
-    text: Vec<u8>,
-    report: Report,
+pub(crate) struct Following {
+    pub(crate) text: Vec<u8>,
+    pub(crate) report: Report,
 }
 
 /// Follows a folder from a save, or from the start if there is none, up to the folder's newest
@@ -110,7 +110,7 @@ fn prepare<S: Store>(
 }
 
 // Goes on from the start, up to the top or to the first lost number.
-fn go_on<S: Store>(
+pub(crate) fn go_on<S: Store>(
     alloc: Global,
     store: &mut S,
     dir: &str,
@@ -406,7 +406,7 @@ fn save(alloc: Global, follower: &Follower) -> Result<Vec<u8>, RunFault>
     }
 }
 
-fn number_of(follower: &Follower) -> u32
+pub(crate) fn number_of(follower: &Follower) -> u32
     requires { follower.now.is_broken ≡ false }
     ensures { result ≡ follower.now.number }
 {

@@ -14,6 +14,7 @@ pub mod fuse;
 pub mod lag;
 pub mod memory_store;
 pub mod names;
+pub mod progress;
 pub mod publish;
 pub mod publish_as;
 pub mod report;

@@ -9,7 +9,13 @@ use Rattle.std.proofs.lemmas.Fmt.{decimal_is_IsNumeral, length-decimal-le}
 use Rattle.osm_reading.specs.Sequence.{SpellsSequence}
 use Rattle.osm_folder.specs.Files.{Files}
 use Rattle.osm_folder.specs.Folder.{IsApart, IsFolderOf}
-use Rattle.osm_folder.specs.Following.{FollowRefuses, IsFollowed, IsSaveOf}
+use Rattle.osm_folder.specs.Following.{FollowRefuses, FollowsOver, IsFollowed, IsSaveOf, follow_calls}
+use Rattle.osm_folder.specs.Frames.{IsKnown, StoreState}
+use Rattle.osm_folder.specs.Progress.{IsOfContent, IsProgress, IsProgressReport, IsWhole}
+use Rattle.osm_folder.specs.Runs.{LacksCalls}
+use Rattle.osm_folder.specs.declared.progress.Progress.{Progress}
+use Rattle.osm_folder.specs.declared.progress.Progress.TheVariants.{Whole, Before}
+use Rattle.osm_folder.specs.declared.fault.RunFault.TheVariants.{ReadFault, WriteFault}
 use Rattle.osm_state.specs.declared.paths.Suffix.TheVariants.{O5c, Opl}
 use Rattle.osm_folder.specs.Stores.{files_of}
 use Rattle.osm_folder.specs.Names.{file_name_of, top_name_of}
@@ -17,7 +23,7 @@ use Rattle.osm_folder.specs.Numbered.{IsAddedAs, IsPublishedAs, NumberedOut, Num
 use Rattle.osm_folder.specs.Publication.{FolderRefuses, GoesOnFrom, IsPublished, PublishOut, PublishStops}
 use Rattle.osm_folder.specs.Reports.{ReportValue}
 use Rattle.osm_folder.specs.declared.fault.RunFault.{RunFault}
-use Rattle.osm_operations.specs.Steps.Stepping.{AreChangesPut, FollowStep, HasCalls, IsNumberText, NumberedStep}
+use Rattle.osm_operations.specs.Steps.Stepping.{AreChangesPut, FollowStep, HasCalls, IsNoDevice, IsNumberText, IsReportOf, NumberedStep}
 use Rattle.osm_operations.specs.Steps.Stepping.{PublishAsTo, PublishStep, ReturnBoth, ReturnForms, SettleTo, named}
 use Rattle.osm_operations.specs.Steps.Stepping.{stopped_reply}
 use Rattle.osm_operations.specs.declared.operation.Reply.{Reply}
@@ -171,13 +177,57 @@ answer_to left dir changes batch time n answer r a m b o5c_name opl_name first s
         subst (λ x. PublishAsTo left dir changes batch time n x a b) (sym back.2) (stopped fault back.0 back.1 s (forms back.0 back.1 back.3) (after ∙ count))
 
 -- what a run of the follower answers, as a step
-pub follow_step : (dir save : List ℕ) (f f' g g' : Files) (r : Result ReportValue RunFault) → f' ≡ f → g' ≡ g
-    → IfOk r (λ report. IsTrue true → IsFollowed dir save f' g report)
-    → IfErr r (λ fault. IsTrue true → (p : List PublishedValue) (n : ℕ) → IsFolderOf p f' dir → IsSaveOf p n (f' save)
-    → FollowRefuses p (f' save) fault) → OnErr r (g ≡ f') → FollowStep dir save r f g'
-follow_step dir save f f' g g' (Ok report) same same_after followed refuses unchanged =
-    subst (λ (x : Files). IsFollowed dir save f x report) (sym same_after) (subst (λ (x : Files). IsFollowed dir save x g report) same (followed refl))
-follow_step dir save f f' g g' (Err fault) same same_after followed refuses unchanged = (
-  same_after ∙ (unchanged ∙ same),
-  subst (λ (x : Files). (p : List PublishedValue) (n : ℕ) → IsFolderOf p x dir → IsSaveOf p n (x save) → FollowRefuses p (x save) fault) same (refuses refl),
-)
+pub follow_step : (dir save : List ℕ) (f f' g g' : Files) (w : Result Progress RunFault)
+    (r : Result ReportValue RunFault) → IsReportOf w r → f' ≡ f → g' ≡ g
+    → IfOk w (IsProgress (IsTrue true) dir save f' g)
+    → (IsTrue true → (p : List PublishedValue) (n : ℕ) → IsFolderOf p f' dir → IsSaveOf p n (f' save)
+    → IsWhole w (λ x. IfErr x (FollowRefuses p (f' save)))) → OnErr w (g ≡ f') → FollowStep dir save r f g'
+follow_step dir save f f' g g' (Ok (Whole report)) r is same same_after done over unchanged =
+    rw is (subst (λ (x : Files). IsFollowed dir save f x report) (sym same_after) (subst (λ (x : Files). IsFollowed dir save x g report) same (done refl)))
+follow_step dir save f f' g g' (Ok (Before report fault)) r is same same_after done over unchanged =
+    rw is (λ p n folder saved. absurd (over refl p n (subst (λ (x : Files). IsFolderOf p x dir) (sym same) folder)
+    (subst (λ (x : Files). IsSaveOf p n (x save)) (sym same) saved)))
+follow_step dir save f f' g g' (Err fault) r is same same_after done over unchanged =
+    rw is (λ p n folder saved. (
+      same_after ∙ (unchanged ∙ same),
+      subst (λ (x : Files). FollowRefuses p (x save) fault) same
+          (over refl p n (subst (λ (x : Files). IsFolderOf p x dir) (sym same) folder)
+          (subst (λ (x : Files). IsSaveOf p n (x save)) (sym same) saved)),
+    ))
+
+-- what the word says over the folder of what was published
+pub progress_over_refuses : (dir save : List ℕ) (a b : StoreState) (w : Result Progress RunFault)
+    → (IsKnown a → (p : List PublishedValue) (n : ℕ) → IsFolderOf p a.files dir → IsSaveOf p n (a.files save)
+    → IsWhole w (FollowsOver p n dir save a b))
+    → IsKnown a → (p : List PublishedValue) (n : ℕ) → IsFolderOf p a.files dir → IsSaveOf p n (a.files save)
+    → IsWhole w (λ x. IfErr x (FollowRefuses p (a.files save)))
+progress_over_refuses dir save a b (Ok (Whole report)) over sure p n folder saved = tt
+progress_over_refuses dir save a b (Ok (Before report fault)) over sure p n folder saved = over sure p n folder saved
+progress_over_refuses dir save a b (Err fault) over sure p n folder saved = (over sure p n folder saved).refuses
+
+pub progress_lacks : (dir save : List ℕ) (a b : StoreState) (w : Result Progress RunFault) (r : Result ReportValue RunFault)
+    → IsReportOf w r → (IsKnown a → (p : List PublishedValue) (n : ℕ) → IsFolderOf p a.files dir
+    → IsSaveOf p n (a.files save) → IsWhole w (FollowsOver p n dir save a b))
+    → IfErr r (λ fault. IsKnown a → (p : List PublishedValue) (n : ℕ) → IsFolderOf p a.files dir
+    → IsSaveOf p n (a.files save) → LacksCalls (follow_calls p n) a.left fault)
+progress_lacks dir save a b (Ok (Whole report)) r is over = rw is tt
+progress_lacks dir save a b (Ok (Before report fault)) r is over = rw is (λ sure p n folder saved. absurd (over sure p n folder saved))
+progress_lacks dir save a b (Err fault) r is over = rw is (λ sure p n folder saved. (over sure p n folder saved).calls.lacks sure)
+
+-- only the store is blamed for a device
+content_no_device : (fault : RunFault) (k : ℕ) → IsOfContent fault k → IsNoDevice fault
+content_no_device (ReadFault file) k c = absurd c
+content_no_device (WriteFault file) k c = absurd c
+content_no_device fault k c = tt
+
+pub progress_no_device : (w : Result Progress RunFault) (r : Result ReportValue RunFault) → IsReportOf w r
+    → IfOk w IsProgressReport → IfErr w IsNoDevice → IfErr r IsNoDevice
+progress_no_device (Ok (Whole report)) r is ok none = rw is tt
+progress_no_device (Ok (Before report fault)) r is ok none = rw is (content_no_device fault ok.1.0 ok.1.1)
+progress_no_device (Err fault) r is ok none = rw is none
+
+pub progress_left : (P : Type 0) (w : Result Progress RunFault) (r : Result ReportValue RunFault) → IsReportOf w r
+    → OnOk w P → OnOk r P
+progress_left P (Ok (Whole report)) r is left = rw is left
+progress_left P (Ok (Before report fault)) r is left = rw is tt
+progress_left P (Err fault) r is left = rw is tt

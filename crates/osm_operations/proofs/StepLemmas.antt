@@ -173,8 +173,8 @@ follow_stopped : (p : List PublishedValue) (lost : ℕ → Suffix → Bool) (m :
 follow_stopped p lost m dir save changes start a b calls fault lacks s step = (
   quiet p lost m dir save changes start (files_of b.store) (files_of b.lost) b.published
       (renewed p lost m dir save changes start (files_of a.store) (files_of a.lost) (files_of b.store)
-      (files_of b.lost) a.published b.published step.0.0 (ap files_of step.1) step.2 s),
-  stopped_follow p m calls (files_of a.store save) fault lacks s.saved (step.0.1 p m s.folder s.saved),
+      (files_of b.lost) a.published b.published (step.0 p m s.folder s.saved).0 (ap files_of step.1) step.2 s),
+  stopped_follow p m calls (files_of a.store save) fault lacks s.saved (step.0 p m s.folder s.saved).1,
 )
 
 -- a number that isn't published

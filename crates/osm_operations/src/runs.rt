@@ -7,16 +7,16 @@ ghost use Rattle.osm_model.specs.Limits.{max_sequence};
 ghost use Rattle.osm_folder.specs.Names.{file_name_of};
 ghost use Rattle.osm_folder.specs.Stores.{calls_of, files_of, inner_of};
 ghost use Rattle.osm_operations.specs.Steps.Stepping.{AreChangesPut, ChangesStop, FollowStep};
-ghost use Rattle.osm_operations.specs.Steps.Stepping.{IsNoDevice};
+ghost use Rattle.osm_operations.specs.Steps.Stepping.{IsNoDevice, IsReportOf};
 ghost use Rattle.osm_operations.specs.Steps.Stepping.{LacksFollowCalls, Moves, NumberedStep};
 ghost use Rattle.osm_operations.specs.Steps.Stepping.{Returns, named};
 ghost use Rattle.osm_operations.specs.Steps.Stepping.{PublishStep};
 
 use osm_folder::fault::{FileName, RunFault};
-use osm_folder::follow::follow_run;
 use osm_folder::fuse::Fuse;
 use osm_folder::memory_store::MemoryStore;
 use osm_folder::names::file_name;
+use osm_folder::progress::{Progress, follow_progress};
 use osm_folder::publish::publish_run;
 use osm_folder::publish_as::publish_as_run;
 use osm_folder::report::Report;
@@ -126,7 +126,7 @@ fn number_text(alloc: Global, number: u32) -> Result<String, WantOfMemory>
     Ok(format!(in alloc; "{number}")?)
 }
 
-// A run of the follower.
+// The word `follow`.
 pub(crate) fn follow(
     alloc: Global,
     store: &mut MemoryStore,
@@ -136,7 +136,7 @@ pub(crate) fn follow(
     ensures step { FollowStep dir.now save.now result (files_of store.old) (files_of store.new) }
     ensures device { IfErr result IsNoDevice }
 {
-    follow_run(alloc, store, dir, save)
+    report_of(follow_progress(alloc, store, dir, save))
 }
 
 // The same, by a run that is killed after that many calls.
@@ -153,9 +153,21 @@ pub(crate) fn follow_killed(
         (LacksFollowCalls dir.now save.now calls (files_of store.old)) }
 {
     let mut fuse = fuse_over(alloc, store, calls);
-    let answer = follow_run(alloc, &mut fuse, dir, save);
+    let progress = follow_progress(alloc, &mut fuse, dir, save);
     *store = fuse.into_inner();
-    answer
+    report_of(progress)
+}
+
+// The report of the word, or its fault: no number of a folder of published sequences is faulty, so
+// nothing is reported before a fault.
+fn report_of(progress: Result<Progress, RunFault>) -> Result<Report, RunFault>
+    ensures { IsReportOf progress result }
+{
+    match progress {
+        Ok(Progress::Whole(report)) => Ok(report),
+        Ok(Progress::Before(_, fault)) => Err(fault),
+        Err(fault) => Err(fault),
+    }
 }
 
 // The store, moved into a fuse; an empty one replaces it until it is moved back.

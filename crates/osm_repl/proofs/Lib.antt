@@ -3,3 +3,4 @@ pub mod EchoLemmas
 pub mod ReplayLemmas
 pub mod WordLemmas
 pub mod CommandLemmas
+pub mod FollowLemmas

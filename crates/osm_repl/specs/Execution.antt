@@ -9,10 +9,11 @@ use Rattle.osm_folder.specs.Conversion.{ConvertStops, IsConverted}
 use Rattle.osm_folder.specs.Exporting.{ExportStops, IsExported, IsExportOf}
 use Rattle.osm_folder.specs.Files.{Files}
 use Rattle.osm_folder.specs.Folder.{IsApart, IsFolderOf}
-use Rattle.osm_folder.specs.Following.{FollowRefuses, FollowStops, IsFollowReport, IsFollowed}
+use Rattle.osm_folder.specs.Following.{FollowRefuses, IsFollowReport, IsFollowed}
 use Rattle.osm_folder.specs.Following.{IsInStepAfter, IsSaveOf}
 use Rattle.osm_folder.specs.Lagging.{IsLag, IsLagOf, IsLagReport, LagRefuses, LagStops}
 use Rattle.osm_folder.specs.Numbered.{IsAddedAs, IsPublishedAs, NumberedRefuses, NumberedStops}
+use Rattle.osm_folder.specs.Progress.{IsFollowedBefore, IsProgressReport, ProgressStops}
 use Rattle.osm_folder.specs.Publication.{FolderRefuses, IsAdded, IsPublished, PublishStops}
 use Rattle.osm_folder.specs.Reports.{ReportValue, convert_report_of, publish_report_of}
 use Rattle.osm_folder.specs.Reports.{show_report_of}
@@ -21,6 +22,8 @@ use Rattle.osm_folder.specs.Showing.{IsShown, IsShownOf, ShowStops}
 use Rattle.osm_folder.specs.declared.fault.FileName.TheVariants.{Output}
 use Rattle.osm_folder.specs.declared.fault.RunFault.{RunFault}
 use Rattle.osm_folder.specs.declared.fault.RunFault.TheVariants.{WriteFault}
+use Rattle.osm_folder.specs.declared.progress.Progress.{Progress}
+use Rattle.osm_folder.specs.declared.progress.Progress.TheVariants.{Whole, Before}
 use Rattle.osm_repl.specs.Replay.{ReplayFault, ReplayLeaves, Replays}
 use Rattle.osm_repl.specs.declared.orders.Order.{Order}
 use Rattle.osm_repl.specs.declared.orders.Order.TheVariants.{Replay, Publish, Follow, Lag, Show}
@@ -30,6 +33,17 @@ use Rattle.osm_repl.specs.declared.orders.Order.TheVariants.{Convert, Export, Pu
 abbrev pub IsOverFiles : Order → Type 0
 IsOverFiles Replay = ⊥
 IsOverFiles order = Unit {0}
+
+-- the order is the word `follow`, which may be done up to a faulty number
+abbrev pub IsFollow : Order → Type 0
+IsFollow (Follow dir save) = Unit {0}
+IsFollow order = ⊥
+
+-- the order is one of the other runs over the files
+abbrev pub IsOtherRun : Order → Type 0
+IsOtherRun Replay = ⊥
+IsOtherRun (Follow dir save) = ⊥
+IsOtherRun order = Unit {0}
 
 -- how many calls of the store a run makes at least if it is done
 abbrev pub calls_of : Order → ℕ
@@ -96,7 +110,7 @@ RunStops known (Publish dir changes now) old new fault =
     PublishStops known dir.now changes.now now.now old new fault
 RunStops known (PublishAs dir changes now sequence) old new fault =
     NumberedStops known dir.now changes.now now.now sequence.now old new fault
-RunStops known (Follow dir save) old new fault = FollowStops known dir.now save.now old fault
+RunStops known (Follow dir save) old new fault = ProgressStops known dir.now save.now old fault
 RunStops known (Lag dir save) old new fault = LagStops known dir.now save.now old fault
 RunStops known (Show save) old new fault = ShowStops known (old save.now) fault
 RunStops known (Export save output) old new fault =
@@ -176,13 +190,44 @@ pub record IsCutShort (known : Type 0) (order : Order) (old new : Files)
   pub count : ℕ
   pub some : Appends printed after (take count report.text)
 
--- why an order over the files isn't done: its run stops, or its report isn't printed; the files
--- that the run wrote then stay
+-- the word `follow` kept what comes before a faulty number, and gave that report
+abbrev pub Keeps : Type 0 → Order → Files → Files → RunFault → ReportValue → Type 0
+Keeps known (Follow dir save) old new fault report =
+    (known → IsFollowedBefore known dir.now save.now old new fault report)
+    × IsProgressReport (Before report fault)
+Keeps known order old new fault report = ⊥
+
+-- what the word `follow` did
+abbrev pub HasFollowed : Type 0 → Order → Files → Files → Progress → Type 0
+HasFollowed known order old new (Whole report) = IsRun known order old new report
+HasFollowed known order old new (Before report fault) = Keeps known order old new fault report
+
+-- it kept what comes before a faulty number, that was printed, and the fault is that number's
+pub record IsPrintedBefore (known : Type 0) (order : Order) (old new : Files)
+    (printed after : Option (List ℕ)) (fault : RunFault) : Type 0 where
+  pub report : ReportValue
+  pub keeps : Keeps known order old new fault report
+  pub all : Appends printed after report.text
+
+-- it kept that, but standard output didn't take all of the report
+pub record IsCutBefore (known : Type 0) (order : Order) (old new : Files)
+    (printed after : Option (List ℕ)) (fault : RunFault) : Type 0 where
+  pub report : ReportValue
+  pub first : RunFault
+  pub keeps : Keeps known order old new first report
+  pub fault_is : fault ≡ WriteFault Output
+  pub count : ℕ
+  pub some : Appends printed after (take count report.text)
+
+-- why an order over the files isn't done: its run stops, or its report isn't printed, or it is done
+-- up to a faulty number; the files that the run wrote then stay
 abbrev pub IsNotDone : Type 0 → Order → Files → Files → ℕ → ℕ
     → Option (List ℕ) → Option (List ℕ) → RunFault → Type 0
 IsNotDone known order old new failed fails printed after fault =
     IsStopped known order old new failed fails printed after fault
     ⊎ IsCutShort known order old new printed after fault
+    ⊎ IsPrintedBefore known order old new printed after fault
+    ⊎ IsCutBefore known order old new printed after fault
 
 -- a replay was done: the replies were printed, and the status is 0
 abbrev pub IsReplayed : Option (List ℕ) → Option (List ℕ) → Option (List ℕ) → ℕ → Type 0

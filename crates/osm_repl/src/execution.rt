@@ -5,7 +5,8 @@ ghost use Rattle.osm_folder.specs.Files.{Spends};
 ghost use Rattle.osm_folder.specs.Frames.{IsKnown};
 ghost use Rattle.osm_folder.specs.Runs.{Blames};
 ghost use Rattle.osm_repl.specs.Execution.{Does, DoesOver, IsDone, IsNotDone, IsNotReplayed};
-ghost use Rattle.osm_repl.specs.Execution.{IsOverFiles, IsReplayed, IsReportOf, IsUntouched};
+ghost use Rattle.osm_repl.specs.Execution.{HasFollowed, IsFollow, IsOtherRun, IsOverFiles};
+ghost use Rattle.osm_repl.specs.Execution.{IsReplayed, IsReportOf, IsUntouched};
 ghost use Rattle.osm_repl.specs.Execution.{Leaves, RunStops, StopsOver, calls_of};
 
 use crate::orders::Order;
@@ -14,8 +15,8 @@ use crate::writing::write_text;
 use osm_folder::convert::convert_run;
 use osm_folder::export::export_run;
 use osm_folder::fault::RunFault;
-use osm_folder::follow::follow_run;
 use osm_folder::lag::lag_run;
+use osm_folder::progress::{Progress, follow_progress};
 use osm_folder::publish::publish_run;
 use osm_folder::publish_as::publish_as_run;
 use osm_folder::report::Report;
@@ -27,7 +28,8 @@ use std::io::{Read, Write};
 /// Does what an order asks for, and answers the exit status. A replay reads from `reader` and
 /// writes its replies to `writer`; every other order runs over the files of the store, and then
 /// writes its report to `writer`. On a fault nothing was written to `writer`, except on
-/// `WriteFault(Output)`: then a prefix was, and the files that a run wrote stay.
+/// `WriteFault(Output)`: then a prefix was, and the files that a run wrote stay. The word `follow`
+/// may also end with the fault of a faulty number, after it saved and reported the numbers before.
 pub fn execute<S: Store, R: Read, W: Write>(
     alloc: Global,
     order: Order<'_>,
@@ -59,6 +61,7 @@ pub fn execute<S: Store, R: Read, W: Write>(
 {
     match order {
         Order::Replay => replay(alloc, reader, writer),
+        Order::Follow { .. } => follow_and_print(alloc, order, store, writer),
         _ => run_and_print(alloc, order, store, writer),
     }
 }
@@ -80,7 +83,7 @@ fn run_and_print<S: Store, W: Write>(
     store: &mut S,
     writer: &mut W,
 ) -> Result<u8, RunFault>
-    requires { IsOverFiles order }
+    requires { IsOtherRun order }
     ensures done { IfOk result (IsDone (IsKnown (S.state store.old)) order.entry
         (S.state store.old).files (S.state store.new).files (W.contents writer.old)
         (W.contents writer.new)) }
@@ -100,9 +103,42 @@ fn run_and_print<S: Store, W: Write>(
     Ok(report.status())
 }
 
+fn follow_and_print<S: Store, W: Write>(
+    alloc: Global,
+    order: Order<'_>,
+    store: &mut S,
+    writer: &mut W,
+) -> Result<u8, RunFault>
+    requires { IsFollow order }
+    ensures done { IfOk result (IsDone (IsKnown (S.state store.old)) order.entry
+        (S.state store.old).files (S.state store.new).files (W.contents writer.old)
+        (W.contents writer.new)) }
+    ensures not_done { IfErr result (IsNotDone (IsKnown (S.state store.old)) order.entry
+        (S.state store.old).files (S.state store.new).files (S.state store.old).failures
+        (S.state store.new).failures (W.contents writer.old) (W.contents writer.new)) }
+    ensures untouched { IsKnown (S.state store.old) → (name : List ℕ) → IsUntouched order.entry name
+        → (S.state store.new).files name ≡ (S.state store.old).files name }
+    ensures known { (S.state store.new).is_known ≡ (S.state store.old).is_known }
+    ensures left { OnOk result
+        (Spends (calls_of order.entry) (S.state store.old).left (S.state store.new).left) }
+    ensures left_after { Spends 0 (S.state store.old).left (S.state store.new).left }
+    ensures kept { (S.state store.old).failures ≤ (S.state store.new).failures }
+{
+    match follow(alloc, order, store)? {
+        Progress::Whole(report) => {
+            write_text(writer, report.text())?;
+            Ok(report.status())
+        }
+        Progress::Before(report, fault) => {
+            write_text(writer, report.text())?;
+            Err(fault)
+        }
+    }
+}
+
 // The report of an order's run.
 fn run<S: Store>(alloc: Global, order: Order<'_>, store: &mut S) -> Result<Report, RunFault>
-    requires { IsOverFiles order }
+    requires { IsOtherRun order }
     ensures does { IfOk result (λ report. IsKnown (S.state store.old)
         → Does order.entry (S.state store.old).files (S.state store.new).files report) }
     ensures over { IfOk result (λ report. IsKnown (S.state store.old)
@@ -132,11 +168,37 @@ fn run<S: Store>(alloc: Global, order: Order<'_>, store: &mut S) -> Result<Repor
             now,
             sequence,
         } => publish_as_run(alloc, store, dir, changes, now, sequence),
-        Order::Follow { dir, save } => follow_run(alloc, store, dir, save),
         Order::Lag { dir, save } => lag_run(alloc, store, dir, save),
         Order::Show { save } => show_run(alloc, store, save),
         Order::Export { save, output } => export_run(alloc, store, save, output),
         Order::Convert { input, output } => convert_run(alloc, store, input, output),
-        Order::Replay => unreachable!(),
+        Order::Follow { .. } | Order::Replay => unreachable!(),
+    }
+}
+
+// What the word `follow` did.
+fn follow<S: Store>(alloc: Global, order: Order<'_>, store: &mut S) -> Result<Progress, RunFault>
+    requires { IsFollow order }
+    ensures followed { IfOk result (HasFollowed (IsKnown (S.state store.old)) order.entry
+        (S.state store.old).files (S.state store.new).files) }
+    ensures stops { IfErr result (RunStops (IsKnown (S.state store.old)) order.entry
+        (S.state store.old).files (S.state store.new).files) }
+    ensures refuses { IfErr result (λ fault. IsKnown (S.state store.old)
+        → StopsOver order.entry (S.state store.old).files (S.state store.new).files fault) }
+    ensures leaves { OnErr result (Leaves (IsKnown (S.state store.old)) order.entry
+        (S.state store.old).files (S.state store.new).files) }
+    ensures device { IfErr result
+        (Blames (S.state store.old).failures (S.state store.new).failures) }
+    ensures untouched { IsKnown (S.state store.old) → (name : List ℕ) → IsUntouched order.entry name
+        → (S.state store.new).files name ≡ (S.state store.old).files name }
+    ensures known { (S.state store.new).is_known ≡ (S.state store.old).is_known }
+    ensures left { OnOk result
+        (Spends (calls_of order.entry) (S.state store.old).left (S.state store.new).left) }
+    ensures left_after { Spends 0 (S.state store.old).left (S.state store.new).left }
+    ensures kept { (S.state store.old).failures ≤ (S.state store.new).failures }
+{
+    match order {
+        Order::Follow { dir, save } => follow_progress(alloc, store, dir, save),
+        _ => unreachable!(),
     }
 }

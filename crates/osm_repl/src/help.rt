@@ -75,8 +75,9 @@ After SAVE is written, this is printed:
   missing K          for each missing number, up to N + 64; the status is then 1
   number N           the number that SAVE is at
 
-A file that is there but faulty stops the run at its number, with the place and the cause, and SAVE
-stays as it was: put the right file there, or remove it, and follow again.
+A file that is there but faulty stops the run at its number, with the place and the cause: SAVE and
+what was printed are those of the numbers before it. Put the right file there, or remove it, and
+follow again.
 
 A fault names a file of DIR by its path there, as state.txt or 000/000/001.o5c, and SAVE as save.";
 

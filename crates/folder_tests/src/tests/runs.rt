@@ -8,6 +8,7 @@ use osm_folder::convert::convert_run;
 use osm_folder::fault::{FileName, RunFault};
 use osm_folder::fuse::Fuse;
 use osm_folder::memory_store::MemoryStore;
+use osm_folder::progress::{Progress, follow_progress};
 use osm_folder::publish::publish_run;
 use osm_state::paths::Suffix;
 use std::alloc::Global;
@@ -442,6 +443,50 @@ fn each_store_call_over_a_gap_failing_in_turn(rt: HostRuntime) {
             "{calls}"
         );
     }
+}
+
+// What the word `follow` did over the store: its report's text and the fault after it.
+fn is_kept(
+    alloc: Global,
+    store: &mut MemoryStore,
+    expected: Option<&str>,
+    fault: RunFault,
+) -> bool {
+    match follow_progress(alloc, store, "dir", "save") {
+        Ok(Progress::Whole(_)) => false,
+        Ok(Progress::Before(report, last)) => {
+            let text = expected.unwrap_or("");
+            last == fault && report.text() == text.as_bytes()
+        }
+        Err(last) => last == fault && expected.is_none(),
+    }
+}
+
+// Whether the numbers before a faulty one are kept once, and nothing is done again after that.
+fn keeps_what_comes_before(alloc: Global) -> bool {
+    let Ok(mut store) = store_with(alloc, FOUR) else {
+        return false;
+    };
+    let is_faulty = is_put(alloc, &mut store, "dir/000/000/003.state.txt", STATE_4);
+    let is_first = is_kept(
+        alloc,
+        &mut store,
+        Some("applied 1..1\napplied 2..2\nnumber 2\n"),
+        RunFault::Mismatch(3),
+    );
+    let is_again = is_kept(alloc, &mut store, None, RunFault::Mismatch(3));
+    let is_back = is_put(alloc, &mut store, "dir/000/000/003.state.txt", STATE_3);
+    let rest = "applied 3..3\napplied 4..4\nnumber 4\n";
+    is_faulty
+        && is_first
+        && is_again
+        && is_back
+        && reports(alloc, &mut store, Run::Follow, (0, rest))
+}
+
+#[test]
+fn what_comes_before_a_faulty_number_is_kept(rt: HostRuntime) {
+    assert!(rt; keeps_what_comes_before(rt.alloc()));
 }
 
 // Why a publication at a wrong time is refused, over a store that takes no call.

@@ -24,6 +24,8 @@ use Rattle.osm_folder.specs.Runs.{LacksCalls}
 use Rattle.osm_folder.specs.Stores.{files_of}
 use Rattle.osm_folder.specs.declared.fault.FileName.TheVariants.{Changes}
 use Rattle.osm_folder.specs.declared.fault.RunFault.{RunFault}
+use Rattle.osm_folder.specs.declared.progress.Progress.{Progress}
+use Rattle.osm_folder.specs.declared.progress.Progress.TheVariants.{Whole, Before}
 use Rattle.osm_folder.specs.declared.fault.RunFault.TheVariants.{WantOfMemory, ReadFault}
 use Rattle.osm_folder.specs.declared.fault.RunFault.TheVariants.{WriteFault, TooLarge}
 use Rattle.osm_operations.specs.declared.operation.Operation.{Operation}
@@ -132,13 +134,19 @@ IsNoDevice (ReadFault file) = ⊥
 IsNoDevice (WriteFault file) = ⊥
 IsNoDevice fault = Unit {0}
 
--- what a run of the follower did
+-- the report of the word `follow`, or its fault
+abbrev pub IsReportOf : Result Progress RunFault → Result ReportValue RunFault → Type 0
+IsReportOf (Ok (Whole report)) result = result ≡ Ok report
+IsReportOf (Ok (Before report fault)) result = result ≡ Err fault
+IsReportOf (Err fault) result = result ≡ Err fault
+
+-- what the word `follow` did: over the folder of what was published nothing is faulty
 abbrev pub FollowStep : List ℕ → List ℕ → Result ReportValue RunFault → Files → Files → Type 0
 FollowStep dir save (Ok report) old new = IsFollowed dir save old new report
 FollowStep dir save (Err fault) old new =
-    (new ≡ old)
-    × ((published : List PublishedValue) (number : ℕ) → IsFolderOf published old dir
-    → IsSaveOf published number (old save) → FollowRefuses published (old save) fault)
+    (published : List PublishedValue) (number : ℕ) → IsFolderOf published old dir
+    → IsSaveOf published number (old save)
+    → (new ≡ old) × FollowRefuses published (old save) fault
 
 -- a file is moved from one store to the other, or isn't there
 abbrev pub Moves : Bool → List ℕ → Files → Files → Files → Files → Type 0

@@ -1,16 +1,10 @@
-use Rattle.osm_folder.proofs.OverLemmas.{follow_in_step, follow_over_refuses, lag_in_step, lag_over_refuses, number_adds}
+use Rattle.osm_folder.proofs.OverLemmas.{lag_in_step, lag_over_refuses, number_adds}
 use Rattle.osm_folder.proofs.OverLemmas.{number_keeps, number_refuses, publish_adds, publish_keeps, publish_refuses}
 use Rattle.osm_repl.proofs.execution.run.Goals as goal
 
 -- what each run ensures is what its order asks for
 pub returns-in-Publish-clause-stops : goal.returns-in-Publish-clause-stops
 returns-in-Publish-clause-stops g c = rw c.in-Publish.is c.publish_run.ensures.stops
-
-pub returns-in-Follow-clause-over : goal.returns-in-Follow-clause-over
-returns-in-Follow-clause-over g c = rw c.in-Follow.is (follow_in_step _ _ _ _ c.follow_run.result c.follow_run.ensures.over)
-
-pub returns-in-Follow-clause-refuses : goal.returns-in-Follow-clause-refuses
-returns-in-Follow-clause-refuses g c = rw c.in-Follow.is (follow_over_refuses _ _ _ _ c.follow_run.result c.follow_run.ensures.over)
 
 pub returns-in-Lag-clause-over : goal.returns-in-Lag-clause-over
 returns-in-Lag-clause-over g c = rw c.in-Lag.is (lag_in_step _ _ _ _ c.lag_run.result c.lag_run.ensures.over)

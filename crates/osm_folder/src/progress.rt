@@ -1,0 +1,137 @@
+//! Following a folder up to a faulty number.
+
+ghost use Rattle.std.specs.Prelude.{◌≡◌, ℕ, ◌-◌, ◌≤◌, List, IfErr, IfOk, IfSome, MatchOption};
+ghost use Rattle.std.specs.Prelude.{length, min};
+ghost use Rattle.osm_follow.specs.Published.{PublishedValue};
+ghost use Rattle.osm_folder.specs.Folder.{IsFolderOf};
+ghost use Rattle.osm_folder.specs.Following.{FollowStops, FollowsOver, IsFollowReport, IsSaveOf};
+ghost use Rattle.osm_folder.specs.Following.{max_save};
+ghost use Rattle.osm_folder.specs.Frames.{IsKnown};
+ghost use Rattle.osm_folder.specs.Progress.{IsOfContent, IsProgress, IsProgressReport, IsWhole};
+ghost use Rattle.osm_folder.specs.Progress.{ProgressStops};
+ghost use Rattle.osm_folder.specs.Runs.{ReadsAtLeast, ReplacesAtLeast};
+ghost use Rattle.osm_folder.specs.Steps.Progressing.{IsMadeBefore, IsNothingBefore};
+ghost use Rattle.osm_folder.specs.Steps.Progressing.{MadeBeforeStops};
+
+use crate::fault::{FileName, RunFault};
+use crate::files::write_file;
+use crate::follow::{Following, follow_run, go_on, number_of};
+use crate::report::Report;
+use crate::start::read_start;
+use crate::store::Store;
+use osm_state::laws::laws_of_state;
+use osm_state::paths::Suffix;
+use std::alloc::Global;
+
+/// What the word `follow` did.
+#[derive(Debug, Drop)]
+pub enum Progress {
+    /// It followed up to the folder's newest state, or to the first lost number.
+    Whole(Report),
+    /// It followed up to the number before a faulty one, whose fault this is.
+    Before(Report, RunFault),
+}
+
+/// Follows a folder from a save as `follow_run` does. If that is refused for what the files of a
+/// number hold, and that isn't the next number after the save's, the numbers before it are followed
+/// and saved, by a second run that stops there. A refusal leaves all files as they were.
+pub fn follow_progress<S: Store>(
+    alloc: Global,
+    store: &mut S,
+    dir: &str,
+    save: &str,
+) -> Result<Progress, RunFault>
+    ensures done { IfOk result (IsProgress (IsKnown (S.state store.old))
+        dir.now save.now (S.state store.old).files (S.state store.new).files) }
+    ensures report { IfOk result IsProgressReport }
+    ensures stops { IfErr result (ProgressStops (IsKnown (S.state store.old))
+        dir.now save.now (S.state store.old).files) }
+    ensures over { IsKnown (S.state store.old) → (published : List PublishedValue) (number : ℕ)
+        → IsFolderOf published (S.state store.old).files dir.now
+        → IsSaveOf published number ((S.state store.old).files save.now)
+        → IsWhole result (FollowsOver published number dir.now save.now
+        (S.state store.old) (S.state store.new)) }
+    ensures frame { ReplacesAtLeast 3 (S.state store.old) (S.state store.new) result }
+{
+    match follow_run(alloc, store, dir, save) {
+        Ok(report) => Ok(Progress::Whole(report)),
+        Err(fault) => match faulty_number(&fault) {
+            Some(number) => follow_before(alloc, store, dir, save, number, fault),
+            None => Err(fault),
+        },
+    }
+}
+
+// Follows up to the number before a faulty one. The fault stays if there is none.
+fn follow_before<S: Store>(
+    alloc: Global,
+    store: &mut S,
+    dir: &str,
+    save: &str,
+    number: u32,
+    fault: RunFault,
+) -> Result<Progress, RunFault>
+    requires content { IsOfContent fault number }
+    requires stops { FollowStops (IsKnown (S.state store.old))
+        dir.now save.now (S.state store.old).files fault }
+    ensures done { IfOk result (IsProgress (IsKnown (S.state store.old))
+        dir.now save.now (S.state store.old).files (S.state store.new).files) }
+    ensures report { IfOk result IsProgressReport }
+    ensures stops { IfErr result (ProgressStops (IsKnown (S.state store.old))
+        dir.now save.now (S.state store.old).files) }
+    ensures frame { ReplacesAtLeast 3 (S.state store.old) (S.state store.new) result }
+{
+    laws_of_state();
+    let Some(made) = prepare_before(alloc, store, dir, save, number)? else {
+        return Err(fault);
+    };
+    write_file(alloc, store, FileName::Save, save, made.text.as_slice())?;
+    Ok(Progress::Before(made.report, fault))
+}
+
+// The number whose files are faulty.
+fn faulty_number(fault: &RunFault) -> Option<u32>
+    ensures { MatchOption result
+        ((number : ℕ) → IsOfContent fault.now number → ⊥) (IsOfContent fault.now) }
+{
+    match fault {
+        RunFault::TooLarge(FileName::Sequence(number, _)) => Some(*number),
+        RunFault::BadState(FileName::Sequence(number, Suffix::State), _) => Some(*number),
+        RunFault::Mismatch(number) => Some(*number),
+        RunFault::BadChange(FileName::Sequence(number, _), _, _) => Some(*number),
+        _ => None,
+    }
+}
+
+// Makes the save and the report of the numbers before that one; None if there are none.
+fn prepare_before<S: Store>(
+    alloc: Global,
+    store: &mut S,
+    dir: &str,
+    save: &str,
+    number: u32,
+) -> Result<Option<Following>, RunFault>
+    ensures made { IfOk result (λ o. IsKnown (S.state store.old) → MatchOption o
+        (IsNothingBefore dir.now save.now (S.state store.old).files number)
+        (λ a. IsMadeBefore dir.now save.now (S.state store.old).files number
+        a.text.items a.report)) }
+    ensures small { IfOk result (λ o. IfSome o (λ a. length a.text.items ≤ max_save)) }
+    ensures report { IfOk result (λ o. IfSome o (λ a. IsFollowReport a.report)) }
+    ensures stops { IfErr result (MadeBeforeStops (IsKnown (S.state store.old))
+        dir.now save.now (S.state store.old).files number) }
+    ensures frame { ReadsAtLeast 2 (S.state store.old) (S.state store.new) result }
+{
+    let mut start = read_start(alloc, store, dir, save)?;
+    let last = last_before(start.top.sequence(), number);
+    if last <= number_of(&start.follower) {
+        return Ok(None);
+    }
+    let made = go_on(alloc, store, dir, last, &mut start.follower)?;
+    Ok(Some(made))
+}
+
+fn last_before(top: u32, number: u32) -> u32
+    ensures { result ≡ min top (number - 1) }
+{
+    top.min(number.saturating_sub(1))
+}
