@@ -12,7 +12,7 @@ use Rattle.osm_world.specs.History.{History, accepted_of, pending_of, published_
 use Rattle.osm_world.proofs.LegalLemmas.{legal_none, legal_more}
 use Rattle.osm_world.specs.Legal.{Allowed, IsLegal, IsNumber, IsOpen, IsWanted, HasChanges}
 use Rattle.osm_world.specs.declared.event.Event.{Event}
-use Rattle.osm_world.specs.declared.event.Event.TheVariants.{Edit, Close, Deliver, Show, Save, Restart}
+use Rattle.osm_world.specs.declared.event.Event.TheVariants.{Begin, Edit, Close, Deliver, Show, Save, Restart}
 use Rattle.osm_world.specs.declared.event.Reply.{Reply}
 use Rattle.osm_world.specs.declared.event.Reply.TheVariants.{Edited, BatchFull, WantOfMemory, Closed, SequenceFull, TimeBack, TooLarge}
 use Rattle.osm_follow.specs.Published.{PublishedValue, unpublished, changes_at, changes_up_to}
@@ -198,6 +198,7 @@ few_more h (Deliver k form) r allowed few = rw (append-nil (pending_of h)) few
 few_more h Show r allowed few = rw (append-nil (pending_of h)) few
 few_more h Save r allowed few = rw (append-nil (pending_of h)) few
 few_more h Restart r allowed few = rw (append-nil (pending_of h)) few
+few_more h (Begin k) r allowed few = rw (append-nil (pending_of h)) few
 
 pub few_pending : (h : History) → IsLegal h → length (pending_of h) ≤ max_changes
 few_pending [] legal = omega arith

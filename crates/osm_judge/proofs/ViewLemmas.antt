@@ -1,5 +1,5 @@
 -- What holds at the keys and numbers that two lists name holds at all keys and numbers.
-use Rattle.std.proofs.Common.{◌≡◌, ℕ, zero, suc, ◌+◌, ◌<◌, List, [], ◌∷◌, length, refl, sym, ◌∙◌, Bool, true, false}
+use Rattle.std.proofs.Common.{◌≡◌, ℕ, zero, suc, ◌+◌, ◌<◌, ◌≤◌, List, [], ◌∷◌, length, refl, sym, ◌∙◌, Bool, true, false}
 use Rattle.std.proofs.Common.{Option, Some, None, arith, cond, subst, slice_index_or}
 use Rattle.std.proofs.lemmas.Bool.{eqb-true}
 use Rattle.std.specs.BTreeMap.{is_at}
@@ -25,9 +25,9 @@ use Rattle.osm_model.specs.Content.{content_of, last_of, later_of, edits_by_user
 use Rattle.osm_model.specs.KeyOrder.{same_key}
 use Rattle.osm_model.specs.declared.kind.Key.{Key}
 use Rattle.osm_model.proofs.ContentLemmas.{same_key-only}
-use Rattle.osm_world.specs.History.{History, accepted_of, published_of, start_of}
+use Rattle.osm_world.specs.History.{History, accepted_of, base_of, published_of, start_of}
 use Rattle.osm_mirror.specs.Mirror.{object_at, count_at, Counted, IsMirrorOf}
-use Rattle.osm_follow.specs.Published.{changes_up_to, time_at}
+use Rattle.osm_follow.specs.Published.{changes_after, changes_up_to, time_at}
 use Rattle.osm_follow.specs.Reach.{Reaches}
 use Rattle.osm_follow.specs.View.{ViewValue, IsView}
 
@@ -165,15 +165,15 @@ pub all_held : (Q : ℕ → Type 0) (held : List ℕ) → ((j : ℕ) → Contain
 all_held Q held exact = recursion_from_All Q held (λ k d within. (exact (slice_index_or held k d)).0 (All-contains_itself held k d within))
 
 -- number, time and mirror are those that the history asks for, so that the held numbers decide
-pub view_row : (h : History) (v : ViewValue) (n : ℕ) (r : Bool) → Reaches (accepted_of h) (start_of h) n → v.number ≡ n → v.base ≡ 0
-    → v.time ≡ time_at (published_of h) n → IsMirrorOf (changes_up_to (published_of h) n) (changes_up_to (published_of h) n) v.mirror
+pub view_row : (h : History) (v : ViewValue) (n : ℕ) (r : Bool) → Reaches (accepted_of h) (start_of h) n → v.number ≡ n → v.base ≡ base_of h → base_of h ≤ n
+    → v.time ≡ time_at (published_of h) n → IsMirrorOf (changes_up_to (published_of h) n) (changes_after (published_of h) (base_of h) n) v.mirror
     → IsTrue r ↔ (IsStrictlySortedBy nat_cmp v.held
     × ((j : ℕ) → Contains v.held j ↔ ((n < j) × (accepted_of h j ≡ true)))) → IsTrue r ↔ IsView (published_of h)
-    0 (start_of h) (accepted_of h) v
-view_row h v n r reach number base time mirror told = (
+    (base_of h) (start_of h) (accepted_of h) v
+view_row h v n r reach number base below time mirror told = (
   λ t. (let both = told.0 t in record {
     base_is = base;
-    below = omega arith;
+    below = rw number below;
     reach = rw number reach;
     time = rw number time;
     mirror = rw number mirror;

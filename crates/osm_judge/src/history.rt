@@ -2,11 +2,11 @@
 
 ghost use Rattle.std.specs.Prelude.{◌≡◌, ℕ, ◌<◌, ◌≤◌, length, true, false, IfOk};
 ghost use Rattle.osm_world.specs.History.{accepted_of, accepts, closes, pending_of, published_of};
-ghost use Rattle.osm_world.specs.History.{broken_by, last_saved, restarts, saved_by, start_of};
-ghost use Rattle.osm_world.specs.History.{time_of};
+ghost use Rattle.osm_world.specs.History.{base_of, based_by, bases_of, broken_by, last_saved};
+ghost use Rattle.osm_world.specs.History.{saved_by, start_of, started_by, starts, time_of};
 ghost use Rattle.osm_world.specs.History as hist;
 ghost use Rattle.osm_world.specs.Legal.{IsNumber};
-ghost use Rattle.osm_follow.specs.Published.{changes_up_to, last_time, time_at};
+ghost use Rattle.osm_follow.specs.Published.{changes_after, changes_up_to, last_time, time_at};
 ghost use Rattle.osm_follow.specs.Reach.{Reaches};
 
 use osm_model::change::Change;
@@ -82,11 +82,14 @@ pub fn least_time(history: &[Pair]) -> u32
     }
 }
 
-/// Whether the pair is a restart that succeeded.
-pub fn is_restarting(pair: &Pair) -> bool
-    ensures { result ≡ restarts pair.now.0 pair.now.1 }
+/// Whether the follower starts anew with the pair: a restart or a beginning that succeeded.
+pub fn is_starting(pair: &Pair) -> bool
+    ensures { result ≡ starts pair.now.0 pair.now.1 }
 {
-    matches!(pair, (Event::Restart, Reply::Restarted(_)))
+    matches!(
+        pair,
+        (Event::Restart, Reply::Restarted(_)) | (Event::Begin(_), Reply::Begun(_))
+    )
 }
 
 fn saved_after(pair: &Pair, before: Option<u32>) -> Option<u32>
@@ -108,6 +111,16 @@ pub fn saved_last(history: &[Pair]) -> Option<u32>
     }
 }
 
+fn started_after(pair: &Pair, saved: u32, before: u32) -> u32
+    ensures { result ≡ started_by pair.now.0 pair.now.1 saved before }
+{
+    match pair {
+        (Event::Restart, Reply::Restarted(_)) => saved,
+        (Event::Begin(number), Reply::Begun(_)) => *number,
+        _ => before,
+    }
+}
+
 /// The number that the follower started at.
 pub fn start(history: &[Pair]) -> u32
     ensures { result ≡ start_of history.now }
@@ -115,13 +128,38 @@ pub fn start(history: &[Pair]) -> u32
     match history {
         [] => 0,
         [pair, before @ ..] => {
-            if is_restarting(pair) {
-                saved_last(before).unwrap_or(0)
-            } else {
-                start(before)
-            }
+            let saved = saved_last(before).unwrap_or(0);
+            started_after(pair, saved, start(before))
         }
     }
+}
+
+fn bases_after(pair: &Pair, before: (u32, u32)) -> (u32, u32)
+    ensures { result ≡ based_by pair.now.0 pair.now.1 before }
+{
+    match pair {
+        (Event::Save, Reply::Saved(_)) => (before.0, before.0),
+        (Event::Restart, Reply::Restarted(_)) => (before.1, before.1),
+        (Event::Begin(number), Reply::Begun(_)) => (*number, before.1),
+        _ => before,
+    }
+}
+
+// The number after which the follower counts edits, and that of what was saved last.
+fn bases(history: &[Pair]) -> (u32, u32)
+    ensures { result ≡ bases_of history.now }
+{
+    match history {
+        [] => (0, 0),
+        [pair, before @ ..] => bases_after(pair, bases(before)),
+    }
+}
+
+/// The number after which the follower counts edits.
+pub fn follower_base(history: &[Pair]) -> u32
+    ensures { result ≡ base_of history.now }
+{
+    bases(history).0
 }
 
 fn is_broken_after(pair: &Pair, before: bool) -> bool
@@ -131,6 +169,7 @@ fn is_broken_after(pair: &Pair, before: bool) -> bool
         (Event::Deliver { .. }, Reply::Broke) => true,
         (Event::Restart, Reply::WantOfMemory) => true,
         (Event::Restart, Reply::Restarted(_)) => false,
+        (Event::Begin(_), Reply::Begun(_)) => false,
         _ => before,
     }
 }
@@ -160,26 +199,26 @@ fn is_accepting(pair: &Pair, number: u64) -> bool
     }
 }
 
-/// Whether the number was accepted since the last restart.
+/// Whether the number was accepted since the last restart or beginning.
 pub fn is_accepted(history: &[Pair], number: u64) -> bool
     ensures { result ≡ accepted_of history.now number }
 {
     match history {
         [] => false,
         [pair, before @ ..] => {
-            !is_restarting(pair) && (is_accepting(pair, number) || is_accepted(before, number))
+            !is_starting(pair) && (is_accepting(pair, number) || is_accepted(before, number))
         }
     }
 }
 
-/// A number above which none was accepted since the last restart.
+/// A number above which none was accepted since the last restart or beginning.
 fn most_accepted(history: &[Pair]) -> u32
     ensures { (j : ℕ) → result < j → accepted_of history.now j ≡ false }
 {
     match history {
         [] => 0,
         [pair, before @ ..] => {
-            if is_restarting(pair) {
+            if is_starting(pair) {
                 0
             } else {
                 most_accepted(before).max(accepted_by(pair))
@@ -200,7 +239,7 @@ pub fn accepted_by(pair: &Pair) -> u32
 }
 
 /// The greatest number such that all numbers above `from` up to it were accepted since the last
-/// restart.
+/// restart or beginning.
 pub fn reach(history: &[Pair], from: u32) -> u32
     ensures { Reaches (accepted_of history.now) from result }
 {
@@ -233,6 +272,29 @@ pub fn joined_changes(
         [pair, before @ ..] => {
             let mut changes = joined_changes(alloc, before, number)?;
             if is_closing(pair) && published_count(before) < number as usize {
+                let mut edits = pending(alloc, before)?;
+                changes.append(&mut edits)?;
+            }
+            Ok(changes)
+        }
+    }
+}
+
+/// The changes of the sequences after `base` up to that number, joined.
+pub fn counted_changes(
+    alloc: Global,
+    history: &[Pair],
+    base: u32,
+    number: u32,
+) -> Result<Vec<Change>, WantOfMemory>
+    ensures { IfOk result (λ v. v.items ≡ changes_after (published_of history.now) base number) }
+{
+    match history {
+        [] => Ok(Vec::new(alloc)),
+        [pair, before @ ..] => {
+            let mut changes = counted_changes(alloc, before, base, number)?;
+            let count = published_count(before);
+            if is_closing(pair) && count < number as usize && base as usize <= count {
                 let mut edits = pending(alloc, before)?;
                 changes.append(&mut edits)?;
             }

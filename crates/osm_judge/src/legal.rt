@@ -5,7 +5,8 @@ ghost use Rattle.std.specs.Prelude.{IfErr, IfOk, IsTrue};
 ghost use Rattle.osm_holding.specs.Holding.{window};
 ghost use Rattle.osm_model.specs.Limits.{max_changes, max_file};
 ghost use Rattle.osm_world.specs.History.{accepted_of, pending_of, published_of, publisher_of};
-ghost use Rattle.osm_world.specs.Legal.{Allowed, AllowedClose, AllowedDeliver, AllowedEdit};
+ghost use Rattle.osm_world.specs.Legal.{Allowed, AllowedBegin, AllowedClose, AllowedDeliver};
+ghost use Rattle.osm_world.specs.Legal.{AllowedEdit};
 ghost use Rattle.osm_world.specs.Legal.{AllowedRestart, AllowedSave, AllowedShow, IsLegal};
 ghost use Rattle.osm_world.specs.Legal.{IsNumber, IsOpen, IsWanted};
 ghost use Rattle.osm_follow.specs.Published.{changes_up_to};
@@ -100,6 +101,7 @@ pub fn is_allowed(
         Event::Show => Ok(is_show_allowed(alloc, history, reply)?),
         Event::Save => Ok(is_save_allowed(history, reply)),
         Event::Restart => Ok(is_restart_allowed(history, reply)),
+        Event::Begin(number) => Ok(is_begin_allowed(history, *number, reply)),
     }
 }
 
@@ -379,6 +381,17 @@ fn is_restart_allowed(history: &[Pair], reply: &Reply) -> bool
     match reply {
         Reply::WantOfMemory => saved_last(history).is_some(),
         Reply::Restarted(number) => *number == saved_last(history).unwrap_or(0),
+        _ => false,
+    }
+}
+
+fn is_begin_allowed(history: &[Pair], number: u32, reply: &Reply) -> bool
+    ensures { IsTrue result ↔ AllowedBegin history.now number reply.now }
+{
+    match reply {
+        Reply::NotPublished => !is_published(history, number),
+        Reply::WantOfMemory => is_published(history, number),
+        Reply::Begun(begun) => is_published(history, number) && *begun == number,
         _ => false,
     }
 }

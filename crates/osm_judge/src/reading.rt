@@ -76,6 +76,9 @@ fn read_longer(alloc: Global, text: &[u8]) -> Result<(Reply, &[u8]), NotAReply> 
     if let Some(number) = line.strip_prefix(b"restarted ") {
         return Ok((Reply::Restarted(small(number)?), rest));
     }
+    if let Some(number) = line.strip_prefix(b"begun ") {
+        return Ok((Reply::Begun(small(number)?), rest));
+    }
     if let Some(range) = line.strip_prefix(b"applied ") {
         let (low, high) = halves(range, b'.')?;
         let low = small(low)?;

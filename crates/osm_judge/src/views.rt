@@ -9,15 +9,15 @@ ghost use Rattle.std.specs.declared.cmp.Ordering.TheVariants.{Less};
 ghost use Rattle.osm_model.specs.Content.{content_of, edits_by_changeset, edits_by_user};
 ghost use Rattle.osm_model.specs.KeyOrder.{key_cmp};
 ghost use Rattle.osm_model.specs.declared.kind.Key.{Key};
-ghost use Rattle.osm_world.specs.History.{accepted_of, published_of, start_of};
+ghost use Rattle.osm_world.specs.History.{accepted_of, base_of, published_of, start_of};
 ghost use Rattle.osm_mirror.specs.Mirror.{AreCountsAboveZero, AreRising, IsAboveZero, IsMirrorOf};
 ghost use Rattle.osm_mirror.specs.Mirror.{count_at, object_at};
 ghost use Rattle.osm_follow.specs.Published.{changes_up_to, time_at};
 ghost use Rattle.osm_follow.specs.View.{IsView};
 
 use crate::history::{
-    Pair, accepted_by, follower_number, is_accepted, is_restarting, joined_changes,
-    time_of_sequence,
+    Pair, accepted_by, counted_changes, follower_base, follower_number, is_accepted, is_starting,
+    joined_changes, time_of_sequence,
 };
 use crate::plain::{plain_content_of, plain_edits_by_changeset, plain_edits_by_user};
 use osm_follow::view::View;
@@ -29,31 +29,38 @@ use std::alloc::Global;
 
 /// Whether the view may be shown after the history.
 pub fn is_view(alloc: Global, history: &[Pair], view: &View) -> Result<bool, WantOfMemory>
-    ensures { IfOk result (λ b. IsTrue b ↔ IsView (published_of history.now) 0
-        (start_of history.now) (accepted_of history.now) view.now) }
+    ensures { IfOk result (λ b. IsTrue b ↔ IsView (published_of history.now)
+        (base_of history.now) (start_of history.now) (accepted_of history.now) view.now) }
 {
     let number = follower_number(history);
     if view.number() != number || view.time() != time_of_sequence(history, number) {
         return Ok(false);
     }
-    if view.base() != 0 {
+    let base = follower_base(history);
+    if view.base() != base || number < base {
         return Ok(false);
     }
     let changes = joined_changes(alloc, history, number)?;
-    let is_mirror = is_mirror_of(alloc, view, changes.as_slice())?;
+    let counted = counted_changes(alloc, history, base, number)?;
+    let is_mirror = is_mirror_of(alloc, view, changes.as_slice(), counted.as_slice())?;
     if !is_mirror {
         return Ok(false);
     }
     Ok(is_held(history, number, view.held()))
 }
 
-fn is_mirror_of(alloc: Global, view: &View, changes: &[Change]) -> Result<bool, WantOfMemory>
-    ensures { IfOk result (λ b. IsTrue b ↔ IsMirrorOf changes.now changes.now view.now.mirror) }
+fn is_mirror_of(
+    alloc: Global,
+    view: &View,
+    changes: &[Change],
+    counted: &[Change],
+) -> Result<bool, WantOfMemory>
+    ensures { IfOk result (λ b. IsTrue b ↔ IsMirrorOf changes.now counted.now view.now.mirror) }
 {
     let is_orderly = are_rising(view.objects())
         && are_counts(view.users())
         && are_counts(view.changesets());
-    let is_counted = are_users(view.users(), changes) && are_changesets(view.changesets(), changes);
+    let is_counted = are_users(view.users(), counted) && are_changesets(view.changesets(), counted);
     Ok(are_objects(alloc, view.objects(), changes)? && is_orderly && is_counted)
 }
 
@@ -95,7 +102,7 @@ fn are_all_held(history: &[Pair], number: u32, held: &[u32]) -> bool
     match history {
         [] => true,
         [pair, before @ ..] => {
-            if is_restarting(pair) {
+            if is_starting(pair) {
                 return true;
             }
             let delivered = accepted_by(pair);
