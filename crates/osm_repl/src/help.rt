@@ -102,7 +102,8 @@ changesets with their counts of edits.
 
 A fault names SAVE as save.";
 
-pub(crate) const EXPORT: &str = "Writes the objects of a save as a data file; the ending of OUT says the form";
+pub(crate) const EXPORT: &str =
+    "Writes the objects of a save as a data file; the ending of OUT says the form";
 
 pub(crate) const EXPORTING: &str = "As in
   osmrepl export follower.save objects.o5m
