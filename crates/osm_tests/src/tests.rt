@@ -1,4 +1,5 @@
 mod answers;
+mod begin;
 mod follower;
 mod holding;
 mod judge;
