@@ -1,3 +1,4 @@
+use Rattle.std.specs.Prelude.{Result, Ok, Err, IfOk, OnOk}
 use Rattle.osm_folder.proofs.OverLemmas.{lag_in_step, lag_over_refuses, number_adds}
 use Rattle.osm_folder.proofs.OverLemmas.{number_keeps, number_refuses, publish_adds, publish_keeps, publish_refuses}
 use Rattle.osm_repl.proofs.execution.run.Goals as goal
@@ -32,3 +33,11 @@ returns-in-Publish-clause-leaves g c = rw c.in-Publish.is (publish_keeps _ _ _ _
 
 pub returns-in-PublishAs-clause-leaves : goal.returns-in-PublishAs-clause-leaves
 returns-in-PublishAs-clause-leaves g c = rw c.in-PublishAs.is (number_keeps _ _ _ _ _ _ _ c.publish_as_run.result c.publish_as_run.ensures.over)
+
+-- what holds of every report
+of_any : {T E : Type 0} (P : Type 0) (r : Result T E) → OnOk r P → IfOk r (λ x. P)
+of_any P (Ok x) p = p
+of_any P (Err e) p = tt
+
+pub returns-in-Export-clause-over : goal.returns-in-Export-clause-over
+returns-in-Export-clause-over g c = rw c.in-Export.is (of_any _ c.export_run.result c.export_run.ensures.in_step)
