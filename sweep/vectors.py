@@ -384,14 +384,18 @@ WRONG_SECOND_SAVES = [
 ]
 
 
+# Texts of version 1 that claim more objects than their number has room for.
+BOUNDED = [SAVE_START + b"objects 100001\n", b"osmrepl-save 1\nsequence 0\ntime none\nobjects 1\n"]
+
+
 def in_version_2(content):
     return content.replace(b"osmrepl-save 1\n", b"osmrepl-save 2\nbase 0\n")
 
 
 WRONG_FIRST_SAVES += [(SAVE_START + lists, line) for lists, line in WRONG_LISTS]
 WRONG_SECOND_SAVES += [(in_version_2(text), line + 1) for text, line in WRONG_FIRST_SAVES
-                       if line > 1 and b"base" not in text and b"objects 100001" not in text]
-WRONG_SECOND_SAVES.append((in_version_2(SAVE_START) + b"objects 100001\n", 6))
+                       if line > 1 and b"base" not in text and text not in BOUNDED]
+WRONG_SECOND_SAVES += [(in_version_2(text), 6) for text in BOUNDED]
 WRONG_SAVES = WRONG_FIRST_SAVES + WRONG_SECOND_SAVES
 
 # Scripts, and the first line that is no event.
