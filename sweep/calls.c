@@ -1,8 +1,10 @@
 /* Kills the program that it is loaded into after CALLS calls of its store, at the beginning of the next one; or, with
    FAILING, this call and all later ones fail with EIO.
    A call reads a file, and begins with opening it, whether it is there or not; or it replaces a file, and begins
-   with opening a temporary file for writing, which is opened once more if its folders had to be made. Folders
-   and names that begin with a slash are no files of the store. Standard error says which call it was. */
+   with opening a temporary file for writing, which is opened once more if its folders had to be made; or it asks
+   whether a file is there, by `statx`, as `follow` does of the files of sequences, which it never writes. Folders
+   that are opened and names that begin with a slash are no files of the store. Standard error says which call it
+   was. */
 #define _GNU_SOURCE
 #include <dlfcn.h>
 #include <errno.h>
@@ -13,6 +15,7 @@
 #include <stdlib.h>
 #include <string.h>
 #include <sys/stat.h>
+#include <sys/syscall.h>
 #include <unistd.h>
 
 static int is_folder(const char *path) {
@@ -28,19 +31,34 @@ static int is_new(const char *path) {
     return 1;
 }
 
-/* Whether a call fails. It doesn't come back if the program is killed. */
-static int stops(const char *path, int flags) {
+/* Whether the program's word is `follow`. */
+static int follows(void) {
+    char words[4096] = "";
+    int file = syscall(SYS_open, "/proc/self/cmdline", O_RDONLY);
+    long length = syscall(SYS_read, file, words, sizeof words - 1);
+    syscall(SYS_close, file);
+    const char *word = words + strlen(words) + 1;
+    return length > 0 && word < words + length && strcmp(word, "follow") == 0;
+}
+
+/* Counts a call of the store, and says whether it fails. It doesn't come back if the program is killed. */
+static int fails(const char *path, int reads) {
     static long calls;
     const char *most = getenv("CALLS");
-    int reads = (flags & O_ACCMODE) == O_RDONLY;
-    if (!most || path[0] == '/' || !(reads ? !is_folder(path) : is_new(path))) return 0;
-    if (calls++ < atol(most)) return 0;
+    if (!most || path[0] == '/' || calls++ < atol(most)) return 0;
     if (!getenv("FAILING")) {
         dprintf(2, "%s: %s\n", path, reads ? "read" : "write");
         kill(getpid(), SIGKILL);
     }
     errno = EIO;
     return 1;
+}
+
+/* Whether a file is opened by a call that fails. */
+static int stops(const char *path, int flags) {
+    int reads = (flags & O_ACCMODE) == O_RDONLY;
+    if (!getenv("CALLS") || path[0] == '/') return 0;
+    return (reads ? !is_folder(path) : is_new(path)) && fails(path, reads);
 }
 
 /* A mode is passed only if a file may be made; otherwise this reads a value that no one uses. */
@@ -64,6 +82,12 @@ static int stops(const char *path, int flags) {
         if (stops(path, flags)) return -1; \
         return ((int (*)(int, const char *, int, ...))dlsym(RTLD_NEXT, #name))(folder, path, flags, mode); \
     }
+
+int statx(int folder, const char *restrict path, int flags, unsigned mask, struct statx *restrict found) {
+    if (strstr(path, "/000/") && follows() && fails(path, 1)) return -1;
+    return ((int (*)(int, const char *, int, unsigned, struct statx *))dlsym(RTLD_NEXT, "statx"))(folder, path, flags,
+                                                                                                  mask, found);
+}
 
 OPEN(open, "open")
 OPEN(open64, "open64")
