@@ -57,6 +57,7 @@ impl StringIndex {
     }
 
     /// The least number that names the string, or `None` if no number does.
+    #[inline(always)]
     pub fn find(&self, text: &HashedString) -> Option<usize>
         ensures least { IsLeast self.now text.now result }
         ensures reference { result ≡ reference_of self.now text.now }
@@ -80,6 +81,7 @@ impl StringIndex {
     }
 
     // The least number that names the string, or `None` if no number does; then enters the string.
+    #[inline(always)]
     fn find_and_enter(&mut self, text: &HashedString) -> Result<Option<usize>, WantOfMemory>
         ensures number { IfOk result (λ r. r ≡ reference_of self.old text.now) }
         ensures strings { IfOk result (λ r. self.new ≡ entered_by r self.old text.now 0) }
@@ -125,6 +127,7 @@ impl StringIndex {
 
     /// Enters a string. Also out of memory if an offset, a size or an index needs more than 32
     /// bits, which never happens with the strings of one file.
+    #[inline(always)]
     pub fn enter(&mut self, text: &HashedString) -> Result<(), WantOfMemory>
         ensures { OnOk result (self.new ≡ self.old ++ text.now ∷ []) }
     {
