@@ -354,7 +354,7 @@ def word(name, answer, old, new=None, left=None, given=b"", script=None):
 CHANGES = {"changes": lines(NODE)}
 WHOLE = {**SEQUENCE, "dir/state.txt": TOP}
 SAVED = {"save": save(3, *PLENTY)}
-FOLLOWED = {"save": b"osmrepl-save 1\nsequence 1\n" + mirror(3, *ONE) + b"end\n"}
+FOLLOWED = {"save": b"osmrepl-save 2\nbase 0\nsequence 1\n" + mirror(3, *ONE) + b"end\n"}
 FILES = [
     word("replay", REPLIED + b"status 0\n", {}, given=ROW, script=ROW),
     word("publish", b"published 1\nstatus 0\n", CHANGES, WHOLE, is_part_published(CHANGES)),

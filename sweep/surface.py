@@ -31,7 +31,8 @@ TAKE_NO_MEMORY = set("""
     Published::number Published::state Published::o5c Published::opl
     Follower::is_broken Follower::number Follower::base Follower::time Follower::get Follower::user_count Follower::changeset_count
     Follower::is_held Follower::lag lag_from
-    View::new View::number View::base View::time View::objects View::users View::changesets View::held
+    View::new View::number View::base View::time View::objects View::into_objects View::users View::changesets
+    View::held
     World::publisher World::follower World::published
     ending_of_error ending_of_unread ending_of_fault head_read
     Opl::laws O5c::laws laws_of_content laws_of_opl laws_of_data laws_of_o5c laws_of_state laws_of_holding
