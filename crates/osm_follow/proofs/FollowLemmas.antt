@@ -172,7 +172,8 @@ pub state_held : (ps : List PublishedValue) (base start : ℕ) (acc more : ℕ �
     → k ≤ length ps → (sequence_at ps k).number ≡ k → table.Holds f (sequence_at ps k) g → IsState ps base start more g
 state_held ps base start acc more k f g s is early within there number h =
     let same : g.number ≡ f.number = ap (λ (x : FollowerValue). x.number) h.rest in
-    state_parts ps base start acc more k f g s (ap (λ (x : FollowerValue). x.base) h.rest) is (omega arith) (follows_held ps k f g s.follows early within there number h) (omega arith)
+    state_parts ps base start acc more k f g s (ap (λ (x : FollowerValue). x.base) h.rest) is (omega arith)
+    (follows_held ps k f g s.follows early within there number h) (omega arith)
     (λ j above below. absurd (omega arith))
     (rw same (more_other acc more k (f.number + 1) is (λ e. omega arith) ∙ s.reach.next))
     (λ j past. elim (cases_eq k j) [

@@ -25,8 +25,9 @@ pub enum ViewError {
     WantOfMemory,
 }
 
-/// A copy of what a follower has: its number, base and time, the objects in the order of their keys, the
-/// users and the changesets with their counts of edits, rising, and the numbers held, rising.
+/// A copy of what a follower has: its number, base and time, the objects in the order of their
+/// keys, the users and the changesets with their counts of edits, rising, and the numbers held,
+/// rising.
 #[derive(Debug, Drop)]
 pub struct View {
     number: u32,

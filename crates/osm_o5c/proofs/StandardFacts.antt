@@ -1,20 +1,26 @@
 -- The definitions at the numbers and datasets of the wiki's page, worked out by hand.
-use Rattle.std.proofs.Common.{◌≡◌, ℕ, true, List, [], ◌∷◌, ◌++◌, length, Some, None, refl, arith}
+use Rattle.std.proofs.Common.{◌≡◌, ℕ, ◌+◌, ◌≤◌, true, List, [], ◌∷◌, ◌++◌, length, Option, Some, None, refl, arith}
 use Rattle.std.specs.Prelude.{pos, negsuc, neg_ℤ}
 use Rattle.std.specs.Str.{bytes_eq}
 use Rattle.std.proofs.lemmas.Int.{ints}
+use Rattle.std.proofs.lemmas.List.{length-append}
 use Rattle.std.proofs.lemmas.Slice.Eq.{bytes_eq-Decides}
+use Rattle.osm_model.specs.Batch.{IsBatch}
+use Rattle.osm_model.specs.Change.{ChangeValue}
+use Rattle.osm_model.specs.Limits.{max_changes}
 use Rattle.osm_model.specs.Meta.{MetaValue}
 use Rattle.osm_model.specs.declared.kind.Kind.TheVariants as kinds
 use Rattle.osm_model.specs.declared.change.What.TheVariants.{Node, Way, Relation, Deleted}
 use Rattle.osm_o5c.specs.Number.{SpellsNumber}
-use Rattle.osm_o5c.specs.Context.{IsWrapped}
+use Rattle.osm_o5c.specs.Context.{Context, IsWrapped}
 use Rattle.osm_o5c.specs.Entries.{entries_of, named}
+use Rattle.osm_o5c.specs.File.{changes_with, Dataset, object}
 use Rattle.osm_o5c.specs.Written.{after_object, new_state, varint_text, number_text, signed_text, dataset_text, o5c_text, o5m_text}
 use Rattle.osm_o5c.specs.Written.{last_equal, reference_of, entered_by, reset_text, state_before}
 use Rattle.osm_o5c.specs.declared.strings.Entry.{Entry}
 use Rattle.osm_o5c.specs.declared.strings.Entry.TheVariants.{Pair, Single}
 use Rattle.osm_o5c.specs.declared.writer.State.{State}
+use Rattle.osm_o5c.proofs.FileLimitLemmas.{batch_next}
 
 unsigned_5 : number_text 5 ≡ 5 ∷ []
 unfolding varint_text
@@ -251,3 +257,12 @@ forgotten_at_a_reset s = refl
 
 kept_within_a_kind : (s : State) → state_before (Some kinds.Node) s kinds.Node ≡ s
 kept_within_a_kind s = refl
+
+-- of the limits of a batch, a dataset of a change file can pass only the number of its changes
+only_their_number_counts : (changes : List ChangeValue) (C : Context) (dataset : List ℕ) (found : Option ChangeValue) (after : Context)
+    → IsBatch changes → Dataset C dataset found after → length (changes_with changes found) ≤ max_changes
+    → IsBatch (changes_with changes found)
+only_their_number_counts changes C dataset None after is read few = is
+only_their_number_counts changes C _ (Some _) _ is (object _ length_bytes content c after n s) few =
+    let l : length (changes ++ c ∷ []) ≡ length changes + 1 = length-append changes (c ∷ []) in
+    batch_next changes c is s.limits (omega (arith, l, few))

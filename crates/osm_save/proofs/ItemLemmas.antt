@@ -68,6 +68,12 @@ pub stops : {A B : Type 0} (s : Stop) (r : Option A) (t : Option B) → Fails s 
 stops WantOfMemory r t h f = tt
 stops (Wrong left) r t h f = f h
 
+-- where nothing can be read, any stop may be answered
+pub any_stop : {A : Type 0} (s t : Stop) (r : Option A) → Fails s r → Stops t r
+any_stop WantOfMemory t r bad = absurd bad
+any_stop (Wrong left) WantOfMemory r none = tt
+any_stop (Wrong left) (Wrong other) r none = none
+
 -- ---- rising
 
 -- every key above the last one is above all keys

@@ -35,3 +35,19 @@ one_object_saved : (c : ChangeValue) (t : ℕ)
     ++ (time_text t ++ (codes "\nobjects 1\n" ++ (line_text c ++ codes "\nusers 1\n5 1\nchangesets 1\n7 1\nend\n")))
 unfolding save_text save_lines digits
 one_object_saved c t = refl
+
+-- the same in version 1, at base 0, as programs wrote it that knew no base
+one_object_saved_before : (c : ChangeValue) (t : ℕ)
+    → save_text One (record {
+      number = 12;
+      base = 0;
+      time = Some t;
+      mirror = record {
+        objects = c ∷ [];
+        users = (5, 1) ∷ [];
+        changesets = (7, 1) ∷ [];
+      };
+    }) ≡ codes "osmrepl-save 1\nsequence 12\ntime "
+    ++ (time_text t ++ (codes "\nobjects 1\n" ++ (line_text c ++ codes "\nusers 1\n5 1\nchangesets 1\n7 1\nend\n")))
+unfolding save_text save_lines digits
+one_object_saved_before c t = refl

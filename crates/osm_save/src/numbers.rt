@@ -7,7 +7,8 @@ ghost use Rattle.osm_save.specs.Steps.Reading.{number_at};
 use itoa::Buffer;
 use osm_model::memory::WantOfMemory;
 
-const MOST_DIGITS: usize = 18;
+/// The most digits of a number.
+pub(crate) const MOST_DIGITS: usize = 18;
 
 /// The number with this text, if it has at most 18 digits.
 #[tactic(auto, unfolding(crate::specs::Steps::Reading::number_at))]

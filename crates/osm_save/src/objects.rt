@@ -10,10 +10,11 @@ ghost use Rattle.osm_opl.specs.Steps.Reading.{line_at};
 ghost use Rattle.osm_opl.specs.Written.{line_text};
 ghost use Rattle.osm_save.specs.Head.{ended};
 ghost use Rattle.osm_save.specs.Save.{list_lines};
-ghost use Rattle.osm_save.specs.Steps.Answers.{Gives};
+ghost use Rattle.osm_save.specs.Steps.Answers.{Fails, Gives, Stops};
 ghost use Rattle.osm_save.specs.Steps.Reading.{is_above, items_at, object_at, objects_at};
 
 use crate::lines::{next_line, numbered_line, write_numbered};
+use crate::numbers::MOST_DIGITS;
 use crate::order::is_key_above;
 use crate::stop::Stop;
 use osm_mirror::objects::Objects;
@@ -22,6 +23,9 @@ use osm_model::kind::Key;
 use osm_model::memory::WantOfMemory;
 use osm_opl::lines::{LineError, read_line, write_line};
 use std::alloc::Global;
+
+/// The most objects of a text of version 2.
+pub(crate) const MOST_OBJECTS: u64 = 999_999_999_999_999_999;
 
 /// Appends the list of all objects.
 pub(crate) fn write_objects(objects: &Objects, out: &mut Vec<u8>) -> Result<(), WantOfMemory>
@@ -48,8 +52,51 @@ fn write_object(change: &Change, out: &mut Vec<u8>) -> Result<(), WantOfMemory>
 pub(crate) fn read_objects(alloc: Global, most: u64, rest: &[u8]) -> Result<(Objects, &[u8]), Stop>
     ensures { Gives (λ r. (r.0, r.1.now)) result (objects_at most rest.now) }
 {
-    let (many, rest) = numbered_line(b"objects ", most, rest)?;
-    read_object_lines(alloc, many, rest)
+    match numbered_line(b"objects ", most, rest) {
+        Ok((many, after)) => read_object_lines(alloc, many, after),
+        Err(stop) => Err(refused_at(alloc, most, rest, stop)),
+    }
+}
+
+// Where the list is refused whose number was refused with `stop`.
+fn refused_at(alloc: Global, most: u64, rest: &[u8], stop: Stop) -> Stop
+    requires { Fails stop (objects_at most rest.now) }
+    ensures { Stops result (objects_at most rest.now) }
+{
+    if most < MOST_OBJECTS {
+        return stop;
+    }
+    end_of_objects(alloc, rest, stop)
+}
+
+// `stop`, or the line where the objects end if their number has only too many digits: the number of
+// objects has no bound of its own from version 2 on, so more than there can be are missed there.
+fn end_of_objects(alloc: Global, rest: &[u8], stop: Stop) -> Stop {
+    if !has_long_number(rest) {
+        return stop;
+    }
+    let Ok((_line, after)) = next_line(rest) else {
+        return stop;
+    };
+    match read_object_lines(alloc, u64::MAX, after) {
+        Ok(_) => stop,
+        Err(end) => end,
+    }
+}
+
+// Whether the next line has a number of objects with more digits than any text can have objects.
+fn has_long_number(rest: &[u8]) -> bool {
+    let Ok((line, _after)) = next_line(rest) else {
+        return false;
+    };
+    match line.strip_prefix(b"objects ") {
+        Some(digits) => {
+            digits.len() > MOST_DIGITS
+                && !digits.starts_with(b"0")
+                && digits.iter().all(|digit| digit.is_ascii_digit())
+        }
+        None => false,
+    }
 }
 
 // Reads `many` lines. Memory is taken only for lines that are there.

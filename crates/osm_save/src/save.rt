@@ -32,7 +32,7 @@ ghost use Rattle.osm_save.specs.declared.version.Version.TheVariants.{Two};
 use crate::counts::{read_counts, write_counts};
 use crate::head::{Head, read_head, write_head};
 use crate::lines::{fixed_line, line_number};
-use crate::objects::{read_objects, write_objects};
+use crate::objects::{MOST_OBJECTS, read_objects, write_objects};
 use crate::stop::Stop;
 use crate::version::Version;
 use osm_mirror::mirror::Mirror;
@@ -40,9 +40,6 @@ use osm_model::limits::MAX_CHANGES;
 use osm_model::memory::WantOfMemory;
 use std::alloc::Global;
 use thiserror::Error;
-
-// The most objects of a text of version 2.
-const MOST_OBJECTS: u64 = 999_999_999_999_999_999;
 
 /// What a follower saves.
 #[derive(Debug, Drop)]

@@ -35,8 +35,8 @@ counts_text name counts = numbered_line name (length counts) ++ flat_map count_l
 unfoldable pub held_text : List ℕ → List ℕ
 held_text numbers = numbered_line (codes "held ") (length numbers) ++ flat_map number_line numbers
 
--- the show text: number, base and time, the objects, the users and the changesets with their counts, and
--- the numbers that are held
+-- the show text: number, base and time, the objects, the users and the changesets with their
+-- counts, and the numbers that are held
 unfoldable pub view_text : ViewValue → List ℕ
 view_text v =
     numbered_line (codes "number ") v.number ++ base_line v.base ++ time_line v.time

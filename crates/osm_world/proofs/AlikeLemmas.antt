@@ -178,7 +178,8 @@ state_alike ps base start acc acd f g same s t =
       number = number;
       base = based;
       time = s.follows.time ∙ (ap (time_at ps) number ∙ sym t.follows.time);
-      mirror = one_mirror (changes_up_to ps g.number) (changes_after ps g.base g.number) f.mirror g.mirror (rw (number, based) at s.follows.mirror) t.follows.mirror;
+      mirror = one_mirror (changes_up_to ps g.number) (changes_after ps g.base g.number) f.mirror g.mirror
+          (rw (number, based) at s.follows.mirror) t.follows.mirror;
       held = λ j. elim (cases_lt f.number j) [
         | inl above ↦ s.held j above ∙ (ap (λ b. if b then Some (sequence_at ps j) else None) (same j) ∙ sym (t.held j (omega arith)))
         | inr below ↦ none_held f s j below ∙ sym (none_held g t j (omega arith))
@@ -201,7 +202,8 @@ unfolding made_view
 one_view ps base start acc acd v w same s t =
     let number : v.number ≡ w.number = one_number acc acd start v.number w.number same s.reach t.reach in
     let time : v.time ≡ w.time = s.time ∙ (ap (time_at ps) number ∙ sym t.time) in
-    let mirror : v.mirror ≡ w.mirror = one_mirror (changes_up_to ps w.number) (changes_after ps base w.number) v.mirror w.mirror (rw number at s.mirror) t.mirror in
+    let mirror : v.mirror ≡ w.mirror = one_mirror (changes_up_to ps w.number) (changes_after ps base w.number) v.mirror
+    w.mirror (rw number at s.mirror) t.mirror in
     let based : v.base ≡ w.base = s.base_is ∙ sym t.base_is in
     let held : v.held ≡ w.held = one_rising v.held w.held s.rising t.rising (λ j. (
       λ has. (let both = (s.held j).0 has in (t.held j).1 (rw number at both.0, sym (same j) ∙ both.1)),

@@ -250,9 +250,11 @@ step_allowed laws one h Restart (Restarted n) a b s t =
     let g : StartsAt (hist.published_of h) (hist.saved_base_of h) (hist.saved_of h) b.follower =
     restarted_as one (hist.published_of h) (hist.last_saved h) (hist.saved_base_of h) a.saved a.follower b.follower s.saved t.0 in
     t.1 ∙ g.number
-step_allowed laws one h Restart WantOfMemory a b s t = refused_from (hist.published_of h) (hist.last_saved h) (hist.saved_base_of h) a.saved a.follower b.follower s.saved t.0
+step_allowed laws one h Restart WantOfMemory a b s t =
+    refused_from (hist.published_of h) (hist.last_saved h) (hist.saved_base_of h) a.saved a.follower b.follower s.saved t.0
 step_allowed laws one h Restart r a b s t = absurd t
-step_allowed laws one h (Begin k) NotPublished a b s t = (let published : a.publisher.number ≡ length (hist.published_of h) = published_is h a s in rw published at t.0)
+step_allowed laws one h (Begin k) NotPublished a b s t =
+    (let published : a.publisher.number ≡ length (hist.published_of h) = published_is h a s in rw published at t.0)
 step_allowed laws one h (Begin k) (Begun n) a b s t =
     (t.0, (let published : a.publisher.number ≡ length (hist.published_of h) = published_is h a s in rw published at t.1), t.2)
 step_allowed laws one h (Begin k) WantOfMemory a b s t =

@@ -14,7 +14,8 @@ use Rattle.osm_world.proofs.AlikeLemmas.{one_view}
 use Rattle.osm_world.proofs.ReachLemmas.{one_reach}
 use Rattle.osm_world.specs.Due.{due_delivery, is_unpublished}
 use Rattle.osm_world.specs.History as hist
-use Rattle.osm_world.specs.Legal.{Allowed, AllowedClose, AllowedDeliver, AllowedEdit, AllowedRestart, AllowedSave, AllowedShow, AllowedBegin, IsNumber, is_want_of_memory}
+use Rattle.osm_world.specs.Legal.{Allowed, AllowedClose, AllowedDeliver, AllowedEdit, AllowedRestart, AllowedSave}
+use Rattle.osm_world.specs.Legal.{AllowedShow, AllowedBegin, IsNumber, is_want_of_memory}
 use Rattle.osm_world.specs.declared.event.Event.{Event}
 use Rattle.osm_world.specs.declared.event.Event.TheVariants.{Begin, Edit, Close, Deliver, Show, Save, Restart}
 use Rattle.osm_world.specs.declared.event.Reply.{Reply}

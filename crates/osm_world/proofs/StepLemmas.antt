@@ -25,7 +25,8 @@ use Rattle.osm_save.specs.declared.save.Saved.{Saved as SavedValue}
 use Rattle.osm_follow.specs.Restart.{Restarts, follower_of, saved_of}
 use Rattle.osm_follow.specs.declared.restart.RestartError.TheVariants as restarts
 use Rattle.osm_world.specs.History as hist
-use Rattle.osm_follow.specs.Published.{PublishedValue, PublishedTexts, AreSequences, IsSequence, changes_after, changes_up_to, sequence_at, texts_at, time_at, last_time, written_of}
+use Rattle.osm_follow.specs.Published.{PublishedValue, PublishedTexts, AreSequences, IsSequence, changes_after, changes_up_to}
+use Rattle.osm_follow.specs.Published.{sequence_at, texts_at, time_at, last_time, written_of}
 use Rattle.osm_follow.specs.Publisher.{PublisherValue, CanClose, closed, closing}
 use Rattle.osm_follow.specs.Reach.{numbers}
 use Rattle.osm_world.specs.Step.{BeginStep, BeginsFrom, IsFed, Step, DeliversTo, RestartStep, SaveStep, bytes_in, fault_in, spells_in}
@@ -46,7 +47,8 @@ use Rattle.osm_follow.proofs.DeliveryLemmas.{OneBatch, NoFaultBeside, FollowerSt
 use Rattle.osm_follow.proofs.FollowLemmas.{follows_grown, follows_taken, state_held, state_taken}
 use Rattle.osm_follow.proofs.ReachLemmas.{between-append}
 use Rattle.osm_mirror.proofs.MirrorLemmas.{mirror_of-nil}
-use Rattle.osm_follow.proofs.PublishedLemmas.{after_within, changes_within, sequence_within, sequences-snoc, texts_at-written, time_next, time_within, last_time-snoc}
+use Rattle.osm_follow.proofs.PublishedLemmas.{after_within, changes_within, sequence_within, sequences-snoc}
+use Rattle.osm_follow.proofs.PublishedLemmas.{texts_at-written, time_next, time_within, last_time-snoc}
 
 -- one more pair at the end
 zip-snoc : (es : List Event) (rs : List Reply) (e : Event) (r : Reply) → length rs ≡ length es → zip (es ++ e ∷ []) (rs ++ r ∷ []) ≡ zip es rs ++ (e, r) ∷ []
@@ -560,15 +562,18 @@ new_in_step = record {
 
 pub step_keeps : AreLawful → OneSave → (h : hist.History) (e : Event) (r : Reply) (a b : WorldValue) → IsInStep h a → Step a e r b → IsInStep ((e, r) ∷ h) b
 step_keeps laws one h (Edit c) Edited a b s t = edited_keeps h c a b s t.1 t.2
-step_keeps laws one h (Edit c) BatchFull a b s t = quiet_keeps h (Edit c) BatchFull a b (still h (Edit c) BatchFull refl refl refl refl refl refl refl refl) s t.1
+step_keeps laws one h (Edit c) BatchFull a b s t = quiet_keeps h (Edit c) BatchFull a b
+    (still h (Edit c) BatchFull refl refl refl refl refl refl refl refl) s t.1
 step_keeps laws one h (Edit c) WantOfMemory a b s t =
     quiet_keeps h (Edit c) WantOfMemory a b (still h (Edit c) WantOfMemory refl refl refl refl refl refl refl refl) s t.1
 step_keeps laws one h (Edit c) r a b s t = absurd t
 step_keeps laws one h (Close m) (Closed n) a b s t = closed_keeps h m n a b s t.0 t.1 t.4
 step_keeps laws one h (Close m) SequenceFull a b s t = quiet_keeps h (Close m) SequenceFull a b
     (still h (Close m) SequenceFull refl refl refl refl refl refl refl refl) s t.1
-step_keeps laws one h (Close m) TimeBack a b s t = quiet_keeps h (Close m) TimeBack a b (still h (Close m) TimeBack refl refl refl refl refl refl refl refl) s t.2
-step_keeps laws one h (Close m) TooLarge a b s t = quiet_keeps h (Close m) TooLarge a b (still h (Close m) TooLarge refl refl refl refl refl refl refl refl) s t.2
+step_keeps laws one h (Close m) TimeBack a b s t = quiet_keeps h (Close m) TimeBack a b
+    (still h (Close m) TimeBack refl refl refl refl refl refl refl refl) s t.2
+step_keeps laws one h (Close m) TooLarge a b s t = quiet_keeps h (Close m) TooLarge a b
+    (still h (Close m) TooLarge refl refl refl refl refl refl refl refl) s t.2
 step_keeps laws one h (Close m) WantOfMemory a b s t = quiet_keeps h (Close m) WantOfMemory a b
     (still h (Close m) WantOfMemory refl refl refl refl refl refl refl refl) s t.1
 step_keeps laws one h (Close m) r a b s t = absurd t

@@ -14,7 +14,8 @@ pub record AcceptAlike (g h : History) : Type 0 where
   pub first : is_broken g ≡ false
   pub second : is_broken h ≡ false
 
--- the followers have the same number, base, time, mirror and counts, and hold the same at each number
+-- the followers have the same number, base, time, mirror and counts, and hold the same at each
+-- number
 pub record AreAlike (f g : FollowerValue) : Type 0 where
   pub number : f.number ≡ g.number
   pub base : f.base ≡ g.base

@@ -70,8 +70,9 @@ pub fn laws_of_histories()
 {}
 
 /// A legal history has accepted exactly the numbers above its start that were delivered since the
-/// last restart or beginning and answered `Held`, `Applied`, `Old` or `Again`. Suppose that since then the
-/// numbers after its start up to some number were delivered in order, with anything in between, and
+/// last restart or beginning and answered `Held`, `Applied`, `Old` or `Again`. Suppose that since
+/// then the numbers after its start up to some number were delivered in order, with anything in
+/// between, and
 /// none of them was unpublished or refused for memory. Then the history has reached that number,
 /// unless its follower is broken. For the first 64 numbers after its start the order of these
 /// deliveries doesn't matter. Does nothing at run time.
@@ -137,8 +138,8 @@ pub fn laws_of_views()
 {}
 
 /// Neither the order of deliveries nor repeats matter: if two histories published and accepted the
-/// same from the same start and with the same base, their followers are the same, and so are the views that they show.
-/// Does nothing at run time.
+/// same from the same start and with the same base, their followers are the same, and so are the
+/// views that they show. Does nothing at run time.
 pub fn laws_of_order()
     ensures followers { (g h : History) (v w : WorldValue) → AcceptAlike g h → IsInStep g v
         → IsInStep h w → AreAlike v.follower w.follower }

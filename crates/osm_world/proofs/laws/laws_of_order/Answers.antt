@@ -6,7 +6,8 @@ use Rattle.osm_world.proofs.laws.laws_of_order.Goals as goal
 
 pub returns-clause-followers : goal.returns-clause-followers
 returns-clause-followers c = λ g h v w same s t.
-    let first : IsState (published_of h) (base_of h) (start_of h) (accepted_of g) v.follower = rw (same.published, same.base, same.start) at (s.state same.first) in
+    let first : IsState (published_of h) (base_of h) (start_of h) (accepted_of g) v.follower =
+    rw (same.published, same.base, same.start) at (s.state same.first) in
     state_alike (published_of h) (base_of h) (start_of h) (accepted_of g) (accepted_of h) v.follower w.follower same.accepted first (t.state same.second)
 
 pub returns-clause-views : goal.returns-clause-views
