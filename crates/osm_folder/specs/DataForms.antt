@@ -1,7 +1,9 @@
--- The two forms of data files, the names that tell the form, and the objects of a save as one.
+-- The two forms of data files, the names that tell the form, and what spells the objects in each.
 use Rattle.std.specs.Prelude.{◌≡◌, ℕ, List, ◌++◌, codes}
 use Rattle.osm_model.specs.Change.{ChangeValue}
+use Rattle.osm_o5c.specs.File as o5m
 use Rattle.osm_o5c.specs.Written.{o5m_text}
+use Rattle.osm_opl.specs.File as opl
 use Rattle.osm_opl.specs.Written.{opl_text}
 use Rattle.osm_folder.specs.declared.data_form.DataForm.{DataForm}
 use Rattle.osm_folder.specs.declared.data_form.DataForm.TheVariants.{Opl, O5m}
@@ -24,3 +26,13 @@ HasNoDataForm name = (form : DataForm) → HasDataEnd name form → ⊥
 abbrev pub data_text_of : DataForm → List ChangeValue → List ℕ
 data_text_of Opl = opl_text
 data_text_of O5m = o5m_text
+
+-- the bytes spell the objects in that form
+abbrev pub spells_data : DataForm → List ℕ → List ChangeValue → Type 0
+spells_data Opl = opl.SpellsData
+spells_data O5m = o5m.SpellsData
+
+-- the place of a fault in that form
+abbrev pub place_of_data : DataForm → List ℕ → ℕ → Type 0
+place_of_data Opl = opl.DataFaultLine
+place_of_data O5m = o5m.DataFaultPlace

@@ -10,7 +10,7 @@ use Rattle.osm_save.specs.declared.save.Saved.{Saved}
 use Rattle.osm_state.specs.State.{StateValue}
 use Rattle.osm_state.specs.declared.paths.Suffix.{Suffix}
 use Rattle.osm_state.specs.declared.paths.Suffix.TheVariants.{O5c, Opl, State}
-use Rattle.osm_follow.specs.Published.{PublishedValue, changes_up_to, time_at}
+use Rattle.osm_follow.specs.Published.{PublishedValue, changes_after, changes_up_to, time_at}
 use Rattle.osm_follow.specs.Reach.{numbers}
 use Rattle.osm_folder.specs.Files.{Files, IsOver, Puts}
 use Rattle.osm_folder.specs.Folder.{IsFile, IsStateFile, IsThere, max_state}
@@ -281,29 +281,31 @@ FollowStops known dir save files fault =
     StartStops known dir save files fault ⊎ StopsAt known dir save files fault
     ⊎ BeyondStops known dir save files fault ⊎ SaveStops known dir save files fault
 
--- exactly the mirror, the counts and the time of published sequences 1 to the number; the follower
--- began at 0
+-- exactly the mirror and the time of published sequences 1 to the number, and the counts of those
+-- after the base
 pub record IsInStep (published : List PublishedValue) (v : Saved) : Type 0 where
   pub within : v.number ≤ length published
-  pub base : v.base ≡ 0
-  pub mirror :
-      IsMirrorOf (changes_up_to published v.number) (changes_up_to published v.number) v.mirror
+  pub base : v.base ≤ v.number
+  pub mirror : IsMirrorOf (changes_up_to published v.number)
+      (changes_after published v.base v.number) v.mirror
   pub time : v.time ≡ time_at published v.number
 
--- the save is that of the published sequences 1 to that number; no save is that of 0
-pub record IsSaveOf (published : List PublishedValue) (number : ℕ) (told : Option (List ℕ)) :
-    Type 0 where
+-- the save is that of the published sequences 1 to that number, begun at that base; no save is that
+-- of 0, begun at 0
+pub record IsSaveOf (published : List PublishedValue) (base number : ℕ)
+    (told : Option (List ℕ)) : Type 0 where
   pub value : Saved
   pub saved : IsSaved told value
+  pub base_is : value.base ≡ base
   pub number_is : value.number ≡ number
   pub in_step : IsInStep published value
 
 -- a follower in step with what was published went on from that number: it saved as many more
--- numbers as it reports, and stopped at the last published one or before a lost one
-pub record IsInStepAfter (published : List PublishedValue) (number : ℕ) (dir save : List ℕ)
+-- numbers as it reports, with its base, and stopped at the last published one or before a lost one
+pub record IsInStepAfter (published : List PublishedValue) (base number : ℕ) (dir save : List ℕ)
     (old new : Files) (report : ReportValue) : Type 0 where
   pub count : ℕ
-  pub saved : IsSaveOf published (number + count) (new save)
+  pub saved : IsSaveOf published base (number + count) (new save)
   pub far : (number + count ≡ length published)
       ⊎ (is_lost old dir (number + count + 1) ≡ true)
   pub report_is : report ≡ follow_report_of (ranges number count)
@@ -339,8 +341,8 @@ FollowRefuses published told (TooLarge file) = (file ≡ Save) × HasBigSave pub
 FollowRefuses published told fault = StartRefuses published told fault
 
 -- what a run of the follower does over them: it goes on in step, within its calls, or is refused
-pub record FollowsOver (published : List PublishedValue) (number : ℕ) (dir save : List ℕ)
+pub record FollowsOver (published : List PublishedValue) (base number : ℕ) (dir save : List ℕ)
     (old new : StoreState) (result : Result ReportValue RunFault) : Type 0 where
-  pub in_step : IfOk result (IsInStepAfter published number dir save old.files new.files)
+  pub in_step : IfOk result (IsInStepAfter published base number dir save old.files new.files)
   pub refuses : IfErr result (FollowRefuses published (old.files save))
   pub calls : CallsUpTo (follow_calls published number) old new result

@@ -1,3 +1,4 @@
+pub mod Beginning
 pub mod Conversion
 pub mod DataForms
 pub mod Exporting

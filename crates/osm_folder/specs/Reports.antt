@@ -18,6 +18,10 @@ convert_report_of = record { status = 0; text = [] }
 abbrev pub publish_report_of : ℕ → ReportValue
 publish_report_of n = record { status = 0; text = numbered_line (codes "published ") n }
 
+-- number N
+abbrev pub begin_report_of : ℕ → ReportValue
+begin_report_of n = record { status = 0; text = numbered_line (codes "number ") n }
+
 -- the show text of a view
 abbrev pub show_report_of : ViewValue → ReportValue
 show_report_of view = record { status = 0; text = view_text view }

@@ -3,7 +3,7 @@ use Rattle.std.specs.Prelude.{◌≡◌, ℕ, ◌≤◌, List, [], length, Optio
 use Rattle.osm_mirror.specs.Mirror.{IsMirrorOf}
 use Rattle.osm_save.specs.Save.{SpellsSave}
 use Rattle.osm_save.specs.declared.save.Saved.{Saved}
-use Rattle.osm_follow.specs.Published.{PublishedValue, changes_up_to, time_at}
+use Rattle.osm_follow.specs.Published.{PublishedValue, changes_after, changes_up_to, time_at}
 use Rattle.osm_follow.specs.View.{ViewValue}
 use Rattle.osm_folder.specs.Files.{IsOver}
 use Rattle.osm_folder.specs.Following.{IsBadSave, max_save}
@@ -32,16 +32,16 @@ pub record IsShown (told : Option (List ℕ)) (report : ReportValue) : Type 0 wh
   pub spelled : SpellsSave bytes saved
   pub report_is : report ≡ show_report_of (view_of_saved saved)
 
--- the show text of exactly the mirror, the counts and the time of published sequences 1 to the
--- number
-pub record IsShownOf (published : List PublishedValue) (number : ℕ) (report : ReportValue) :
+-- the show text of exactly the mirror and the time of published sequences 1 to the number, and the
+-- counts of those after the base
+pub record IsShownOf (published : List PublishedValue) (base number : ℕ) (report : ReportValue) :
     Type 0 where
   pub view : ViewValue
   pub number_is : view.number ≡ number
-  pub base : view.base ≡ 0
+  pub base_is : view.base ≡ base
   pub time : view.time ≡ time_at published number
-  pub mirror :
-      IsMirrorOf (changes_up_to published number) (changes_up_to published number) view.mirror
+  pub mirror : IsMirrorOf (changes_up_to published number)
+      (changes_after published base number) view.mirror
   pub held : view.held ≡ []
   pub report_is : report ≡ show_report_of view
 

@@ -38,8 +38,8 @@ pub fn export_run<S: Store>(
     ensures exported { OnOk result (IsKnown (S.state store.old)
         → IsExported save.now output.now (S.state store.old).files (S.state store.new).files) }
     ensures in_step { OnOk result (IsKnown (S.state store.old)
-        → (published : List PublishedValue) (number : ℕ)
-        → IsSaveOf published number ((S.state store.old).files save.now)
+        → (published : List PublishedValue) (base number : ℕ)
+        → IsSaveOf published base number ((S.state store.old).files save.now)
         → IsExportOf published number output.now ((S.state store.new).files output.now)) }
     ensures report { IfOk result (λ report. report ≡ convert_report_of) }
     ensures stops { IfErr result (ExportStops (IsKnown (S.state store.old)) save.now output.now

@@ -19,6 +19,10 @@ pub enum FileName {
     Sequence(u32, Suffix),
     /// A follower's save.
     Save,
+    /// The data file that a mirror begins with.
+    Base,
+    /// The state that belongs to that data file.
+    State,
     /// The file of changes to publish.
     Changes,
     /// The input of a conversion or a replay.
@@ -33,6 +37,8 @@ impl fmt::Display for FileName {
             FileName::Top => f.write_str("state.txt"),
             FileName::Sequence(number, suffix) => write_path(*number, *suffix, f),
             FileName::Save => f.write_str("save"),
+            FileName::Base => f.write_str("base"),
+            FileName::State => f.write_str("state"),
             FileName::Changes => f.write_str("changes"),
             FileName::Input => f.write_str("input"),
             FileName::Output => f.write_str("output"),
@@ -79,7 +85,11 @@ pub enum RunFault {
     /// The state file of that number names another number.
     #[error("sequence {0}: wrong number in state")]
     Mismatch(u32),
-    /// A change file spells no batch; it goes wrong at that place, which its form defines.
+    /// The state of a data file names sequence 0, the empty start.
+    #[error("state: no sequence to begin at")]
+    ZeroBase,
+    /// A change file spells no batch, or a data file no objects; it goes wrong at that place, which
+    /// its form defines.
     #[error("{0}: at {1}: {2}")]
     BadChange(FileName, u64, Why),
     /// A line of a save, counted from 1, is wrong.
@@ -100,7 +110,8 @@ pub enum RunFault {
     /// The last sequence, 999,999,999, is published.
     #[error("close refused: SequenceFull")]
     SequenceFull,
-    /// The name of a file ends in neither `.opl` nor `.o5c`.
+    /// The name of a file tells no form: of a change file it ends in `.opl` or `.o5c`, of a data
+    /// file in `.opl` or `.o5m`.
     #[error("unknown form")]
     UnknownForm,
     /// The time isn't `YYYY-MM-DDTHH:MM:SSZ`.

@@ -68,10 +68,10 @@ pub fn follow_run<S: Store>(
     ensures report { IfOk result IsFollowReport }
     ensures stops { IfErr result (FollowStops (IsKnown (S.state store.old))
         dir.now save.now (S.state store.old).files) }
-    ensures over { IsKnown (S.state store.old) → (published : List PublishedValue) (number : ℕ)
+    ensures over { IsKnown (S.state store.old) → (published : List PublishedValue) (base number : ℕ)
         → IsFolderOf published (S.state store.old).files dir.now
-        → IsSaveOf published number ((S.state store.old).files save.now)
-        → FollowsOver published number dir.now save.now
+        → IsSaveOf published base number ((S.state store.old).files save.now)
+        → FollowsOver published base number dir.now save.now
         (S.state store.old) (S.state store.new) result }
     ensures frame { ReplacesAtLeast 3 (S.state store.old) (S.state store.new) result }
 {
@@ -94,9 +94,9 @@ fn prepare<S: Store>(
     ensures report { IfOk result (λ a. IsFollowReport a.report) }
     ensures stops { IfErr result (FollowStops (IsKnown (S.state store.old))
         dir.now save.now (S.state store.old).files) }
-    ensures calls { IsKnown (S.state store.old) → (published : List PublishedValue) (number : ℕ)
+    ensures calls { IsKnown (S.state store.old) → (published : List PublishedValue) (base number : ℕ)
         → IsFolderOf published (S.state store.old).files dir.now
-        → IsSaveOf published number ((S.state store.old).files save.now)
+        → IsSaveOf published base number ((S.state store.old).files save.now)
         → CallsUpTo (2 + 3 * (length published - number))
         (S.state store.old) (S.state store.new) result }
     ensures frame { ReadsAtLeast 2 (S.state store.old) (S.state store.new) result }
@@ -392,7 +392,8 @@ fn note_lost(lost: bool, number: u32, missing: &mut Vec<u32>) -> Result<(), Want
     Ok(())
 }
 
-fn save(alloc: Global, follower: &Follower) -> Result<Vec<u8>, RunFault>
+// What a follower saves.
+pub(crate) fn save(alloc: Global, follower: &Follower) -> Result<Vec<u8>, RunFault>
     requires { follower.now.is_broken ≡ false }
     ensures spelled { IfOk result (λ text. SpellsSave text.items (saved_of follower.now)) }
     ensures small { IfOk result (λ text. length text.items ≤ max_save) }

@@ -38,9 +38,9 @@ pub fn lag_run<S: Store>(
     ensures report { IfOk result IsLagReport }
     ensures stops { IfErr result
         (LagStops (IsKnown (S.state store.old)) dir.now save.now (S.state store.old).files) }
-    ensures over { IsKnown (S.state store.old) → (published : List PublishedValue) (number : ℕ)
+    ensures over { IsKnown (S.state store.old) → (published : List PublishedValue) (base number : ℕ)
         → IsFolderOf published (S.state store.old).files dir.now
-        → IsSaveOf published number ((S.state store.old).files save.now)
+        → IsSaveOf published base number ((S.state store.old).files save.now)
         → LagsOver published number result }
     ensures frame { Reads 2 (S.state store.old) (S.state store.new) result }
 {

@@ -1,6 +1,7 @@
 //! Files behind a trait, and the runs of the program over them.
 #![tactic(auto)]
 
+pub mod begin;
 mod compare;
 pub mod convert;
 pub mod data_form;
@@ -12,6 +13,7 @@ pub mod follow;
 pub mod form;
 pub mod fuse;
 pub mod lag;
+pub mod laws;
 pub mod memory_store;
 pub mod names;
 pub mod progress;

@@ -46,10 +46,10 @@ pub fn follow_progress<S: Store>(
     ensures report { IfOk result IsProgressReport }
     ensures stops { IfErr result (ProgressStops (IsKnown (S.state store.old))
         dir.now save.now (S.state store.old).files) }
-    ensures over { IsKnown (S.state store.old) → (published : List PublishedValue) (number : ℕ)
+    ensures over { IsKnown (S.state store.old) → (published : List PublishedValue) (base number : ℕ)
         → IsFolderOf published (S.state store.old).files dir.now
-        → IsSaveOf published number ((S.state store.old).files save.now)
-        → IsWhole result (FollowsOver published number dir.now save.now
+        → IsSaveOf published base number ((S.state store.old).files save.now)
+        → IsWhole result (FollowsOver published base number dir.now save.now
         (S.state store.old) (S.state store.new)) }
     ensures frame { ReplacesAtLeast 3 (S.state store.old) (S.state store.new) result }
 {

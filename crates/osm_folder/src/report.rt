@@ -3,9 +3,10 @@
 ghost use Rattle.std.specs.Prelude.{◌≡◌, ◌++◌, [], IfOk, OnOk, length};
 ghost use Rattle.std.specs.List.{flat_map};
 ghost use Rattle.osm_show.specs.Lines.{applied_line};
-ghost use Rattle.osm_folder.specs.Reports.{convert_report_of, follow_report_of, follow_text};
-ghost use Rattle.osm_folder.specs.Reports.{gap_status, lag_report_of, publish_report_of};
-ghost use Rattle.osm_folder.specs.Reports.{seconds_line, show_report_of};
+ghost use Rattle.osm_folder.specs.Reports.{begin_report_of, convert_report_of};
+ghost use Rattle.osm_folder.specs.Reports.{follow_report_of, follow_text, gap_status};
+ghost use Rattle.osm_folder.specs.Reports.{lag_report_of, publish_report_of, seconds_line};
+ghost use Rattle.osm_folder.specs.Reports.{show_report_of};
 
 use osm_follow::view::View;
 use osm_model::memory::WantOfMemory;
@@ -65,6 +66,15 @@ pub fn publish_report(alloc: Global, number: u32) -> Result<Report, WantOfMemory
 {
     let mut text = Vec::new(alloc);
     write_numbered(b"published ", number as u64, &mut text)?;
+    Ok(Report { status: 0, text })
+}
+
+/// `number N`
+pub fn begin_report(alloc: Global, number: u32) -> Result<Report, WantOfMemory>
+    ensures { IfOk result (λ report. report ≡ begin_report_of number) }
+{
+    let mut text = Vec::new(alloc);
+    write_numbered(b"number ", number as u64, &mut text)?;
     Ok(Report { status: 0, text })
 }
 

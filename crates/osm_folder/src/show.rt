@@ -26,9 +26,9 @@ pub fn show_run<S: Store>(alloc: Global, store: &mut S, save: &str) -> Result<Re
     ensures shown { IfOk result (λ report. IsKnown (S.state store.old)
         → IsShown ((S.state store.old).files save.now) report) }
     ensures in_step { IfOk result (λ report. IsKnown (S.state store.old)
-        → (published : List PublishedValue) (number : ℕ)
-        → IsSaveOf published number ((S.state store.old).files save.now)
-        → IsShownOf published number report) }
+        → (published : List PublishedValue) (base number : ℕ)
+        → IsSaveOf published base number ((S.state store.old).files save.now)
+        → IsShownOf published base number report) }
     ensures report { IfOk result (λ report. (view : ViewValue) × (report ≡ show_report_of view)) }
     ensures stops { IfErr result
         (ShowStops (IsKnown (S.state store.old)) ((S.state store.old).files save.now)) }
