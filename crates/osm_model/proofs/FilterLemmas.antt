@@ -1,23 +1,27 @@
--- Keys that rise by their bytes: when they do, and where a search among them ends.
-use Rattle.std.proofs.Common.{◌≡◌, ℕ, zero, suc, ◌+◌, ◌<◌, ◌≤◌, List, [], ◌∷◌, length, get_or, refl, sym, ap, subst, ◌∙◌, Bool, true, false, Ok, Err, Result, Some, Option}
-use Rattle.std.proofs.Common.{arith, inl, inr, true≢false}
-use Rattle.std.specs.Prelude.{◌↔◌}
-use Rattle.std.specs.Bool.{IsTrue}
-use Rattle.std.specs.Cmp.Lexicographic.{nat_list_cmp_total}
-use Rattle.std.specs.List.{AllAdjacentBelow, AllByRecursion, HoldsAt, IsAllAdjacentAnswer}
+-- Keys that rise by their bytes: when they do, and where a search among them ends. What holds of all filters.
+use Rattle.std.proofs.Common.{◌≡◌, ℕ, zero, suc, ◌+◌, ◌<◌, List, [], ◌∷◌, length, get_or, refl, sym, ap, subst, ◌∙◌, Bool, true, false}
+use Rattle.std.proofs.Common.{Ok, Err, Result, Some, Option, arith, inl, inr, true≢false}
+use Rattle.std.specs.Prelude.{◌↔◌, ◌&&◌}
+use Rattle.std.specs.Bool.{Decides, IsTrue}
+use Rattle.std.specs.Cmp.{booleans_Decides, first_so, second_so}
+use Rattle.std.specs.Cmp.Lexicographic.{nat_list_cmp_total, pointwise, pointwise_decides}
+use Rattle.std.specs.List.{AllAdjacentBelow, AllByRecursion, IsAllAdjacentAnswer}
 use Rattle.std.specs.List.Sorted.{IsBinarySearchResult, IsNonDecreasingBy, IsSearchInRange, IsStrictlySortedBy}
 use Rattle.std.specs.Ordering.{is_eq, is_lt, ordering_index, ordering_reverse}
 use Rattle.std.specs.Result.{is_ok}
 use Rattle.std.specs.Str.{bytes_eq}
 use Rattle.std.specs.declared.cmp.Ordering.{Ordering}
 use Rattle.std.specs.declared.cmp.Ordering.TheVariants.{Less, Equal, Greater}
+use Rattle.std.proofs.Math.Bool.{beq}
 use Rattle.std.proofs.lemmas.Bool.{cases_lt}
 use Rattle.std.proofs.lemmas.List.Folds.{list_any_at, list_any_none}
 use Rattle.std.proofs.lemmas.List.Sorted.{searchable_from_sorted}
 use Rattle.std.proofs.lemmas.Map.Text.{is_eq-slice_cmp}
+use Rattle.std.proofs.lemmas.Slice.Eq.{bytes_eq-Decides}
 use Rattle.osm_model.proofs.DataLemmas.{less_of}
 use Rattle.osm_model.specs.Change.{ChangeValue}
 use Rattle.osm_model.specs.Filter.{AreRising, FilterValue, IsFilter, everything, is_among, keeps, keeps_object}
+use Rattle.osm_model.specs.contracts.filter.FilterPartialEq.TheImpl.{ghosts as equality}
 use Rattle.osm_model.specs.FilterLaws.{DeletionsAreDropped, EverythingIsKept, FiltersAreTold}
 use Rattle.osm_model.specs.Text.{bytes_cmp}
 use Rattle.osm_model.specs.Content.{object_after}
@@ -90,8 +94,25 @@ found_among ks text (Err i) rising below parted =
 
 -- ---- laws of filters
 
+keys_told : (xs ys : List (List ℕ)) → Decides (pointwise bytes_eq xs ys) (xs ≡ ys)
+keys_told xs ys = pointwise_decides bytes_eq-Decides xs ys
+
+equal_itself : (f : FilterValue) → equality.eq f f ≡ true
+equal_itself f = λ i. (booleans_Decides f.nodes f.nodes).1 refl i
+    && ((booleans_Decides f.ways f.ways).1 refl i && ((booleans_Decides f.relations f.relations).1 refl i && (keys_told f.keys f.keys).1 refl i))
+
 pub filters_are_told : FiltersAreTold
-filters_are_told a b = ?
+filters_are_told a b = (told, λ e. subst (λ f. equality.eq a f ≡ true) e (equal_itself a))
+  where
+    told : equality.eq a b ≡ true → a ≡ b
+    told h =
+        let after_nodes = second_so (beq a.nodes b.nodes) _ h in
+        let after_ways = second_so (beq a.ways b.ways) _ after_nodes in
+        let nodes = (booleans_Decides a.nodes b.nodes).0 (first_so (beq a.nodes b.nodes) _ h) in
+        let ways = (booleans_Decides a.ways b.ways).0 (first_so (beq a.ways b.ways) _ after_nodes) in
+        let relations = (booleans_Decides a.relations b.relations).0 (first_so (beq a.relations b.relations) _ after_ways) in
+        let keys = (keys_told a.keys b.keys).0 (second_so (beq a.relations b.relations) _ after_ways) in
+        λ i. record { nodes = nodes i; ways = ways i; relations = relations i; keys = keys i }
 
 by_kind : (kind : Kind) (o : Option ChangeValue) (c : ChangeValue) → o ≡ Some c → c.key.kind ≡ kind → keeps_object everything o ≡ true
 by_kind Node o c e k = rw (e, k) refl

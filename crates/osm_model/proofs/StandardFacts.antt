@@ -1,5 +1,5 @@
 -- The definitions at values that a person knows: the limits, the order of keys, and what a filter keeps.
-use Rattle.std.proofs.Common.{◌≡◌, refl, true, false, Bool}
+use Rattle.std.proofs.Common.{◌≡◌, refl, true, false}
 use Rattle.std.specs.Prelude.{ℕ, ◌-◌, ◌*◌, ◌^◌, ◌≤◌, ℤ, pos, negsuc, neg_ℤ, ◌≤ℤ◌, List, [], ◌∷◌, Some, length, Contains, ◌↔◌, codes}
 use Rattle.std.specs.List.{AllByRecursion}
 use Rattle.std.specs.List.Sorted.{IsStrictlySortedBy}

@@ -15,4 +15,5 @@ EverythingIsKept = (c : ChangeValue) → object_after c ≡ Some c → keeps eve
 
 -- no filter keeps a deletion
 abbrev pub DeletionsAreDropped : Type 0
-DeletionsAreDropped = (f : FilterValue) (c : ChangeValue) → object_after c ≡ None → keeps f c ≡ false
+DeletionsAreDropped =
+    (f : FilterValue) (c : ChangeValue) → object_after c ≡ None → keeps f c ≡ false

@@ -1,4 +1,5 @@
-//! Filters: which objects of a mirror an extract keeps, by their kind and by the keys of their tags.
+//! Filters: which objects of a mirror an extract keeps, by kind and by the keys of tags, such as the
+//! ways with a tag `highway` (Osmium manual, osmium-tags-filter).
 
 ghost use Rattle.std.specs.Prelude.{◌≡◌, ◌<◌, ◌≤◌, ◌↔◌, true, false, length};
 ghost use Rattle.std.specs.Prelude.{IfOk, IsErrOf, IsTrue, OnErr};
@@ -81,7 +82,7 @@ impl Filter {
         }
     }
 
-    /// Takes no memory.
+    /// A filter of those kinds and keys; takes no memory.
     pub fn new(
         nodes: bool,
         ways: bool,
