@@ -3,7 +3,7 @@
 ghost use Rattle.std.specs.Prelude.{◌≤◌};
 ghost use Rattle.osm_model.specs.Limits.{max_sequence};
 
-use crate::outcome::{CHANGES, DIR, SAVE};
+use crate::outcome::{CHANGES, DIR, EXTRACT, SAVE};
 use anyhow::Result;
 use osm_folder::memory_store::MemoryStore;
 use osm_folder::names::{file_name, top_name};
@@ -28,7 +28,10 @@ pub(crate) fn write_outcome<W: Write>(alloc: Global, outcome: &Outcome, out: &mu
 // A line for the reply. After `done STATUS LENGTH` comes the text of the report.
 fn write_reply<W: Write>(reply: &Reply, out: &mut W) -> io::Result<()> {
     match reply {
-        Reply::Published(report) | Reply::Followed(report) => write_report(report, out),
+        Reply::Published(report)
+        | Reply::Followed(report)
+        | Reply::Exported(report)
+        | Reply::Begun(report) => write_report(report, out),
         Reply::Refused(fault) => writeln!(out, "refused {} {fault}", fault.status()),
         Reply::CutOff { fault, back } => {
             writeln!(out, "cut off {} {} {fault}", fault.status(), word_of(*back))
@@ -57,6 +60,7 @@ fn write_report<W: Write>(report: &Report, out: &mut W) -> io::Result<()> {
 fn write_files<W: Write>(alloc: Global, outcome: &Outcome, out: &mut W) -> Result<()> {
     write_file(&outcome.store, CHANGES, out)?;
     write_file(&outcome.store, SAVE, out)?;
+    write_file(&outcome.store, EXTRACT, out)?;
     write_file(&outcome.store, top_name(alloc, DIR)?.as_str(), out)?;
     let most = outcome.replies.len().min(MAX_SEQUENCE as usize) as u32;
     for number in 1..=most {

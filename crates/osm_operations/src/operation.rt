@@ -41,6 +41,18 @@ pub enum Operation {
     KilledFollow {
         calls: u64,
     },
+    /// The objects of the save are exported as a data file.
+    Export,
+    /// The same, by a run that is killed.
+    KilledExport {
+        calls: u64,
+    },
+    /// The save begins anew with the objects that were exported last, whatever it holds.
+    Begin,
+    /// The same, by a run that is killed.
+    KilledBegin {
+        calls: u64,
+    },
     /// A file of a published sequence is lost.
     Lose {
         number: u32,
@@ -61,6 +73,10 @@ pub enum Reply {
     Published(Report),
     /// A run of the follower is done, and this is what it prints.
     Followed(Report),
+    /// An export is done, and this is what it prints.
+    Exported(Report),
+    /// A beginning is done, and this is what it prints.
+    Begun(Report),
     /// The run stopped, or the file wasn't moved.
     Refused(RunFault),
     /// The run stopped while it wrote the files of the newest sequence again, and the lost one in

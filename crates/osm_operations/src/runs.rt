@@ -5,15 +5,22 @@ ghost use Rattle.std.specs.Prelude.{decimal, string_bytes};
 ghost use Rattle.std.specs.Str.{IsAscii};
 ghost use Rattle.osm_model.specs.Limits.{max_sequence};
 ghost use Rattle.osm_folder.specs.Names.{file_name_of};
+ghost use Rattle.osm_folder.specs.Runs.{LacksCalls};
 ghost use Rattle.osm_folder.specs.Stores.{calls_of, files_of, inner_of};
-ghost use Rattle.osm_operations.specs.Steps.Stepping.{AreChangesPut, ChangesStop, FollowStep};
-ghost use Rattle.osm_operations.specs.Steps.Stepping.{IsNoDevice, IsReportOf};
+ghost use Rattle.osm_save.specs.Head.{BeginsSave};
+ghost use Rattle.osm_save.specs.declared.head.Head.{Head};
+ghost use Rattle.osm_operations.specs.Steps.Stepping.{AreChangesPut, BeginStep, ChangesStop};
+ghost use Rattle.osm_operations.specs.Steps.Stepping.{ExportStep, FollowStep, IsNoDevice};
+ghost use Rattle.osm_operations.specs.Steps.Stepping.{IsNumberOfSave, IsReportOf};
 ghost use Rattle.osm_operations.specs.Steps.Stepping.{LacksFollowCalls, Moves, NumberedStep};
 ghost use Rattle.osm_operations.specs.Steps.Stepping.{Returns, named};
-ghost use Rattle.osm_operations.specs.Steps.Stepping.{PublishStep};
+ghost use Rattle.osm_operations.specs.Steps.Stepping.{PublishStep, state_name_of};
 
+use osm_folder::begin::begin_run;
+use osm_folder::export::export_run;
 use osm_folder::fault::{FileName, RunFault};
 use osm_folder::fuse::Fuse;
+use osm_folder::laws::laws_of_bases;
 use osm_folder::memory_store::MemoryStore;
 use osm_folder::names::file_name;
 use osm_folder::progress::{Progress, follow_progress};
@@ -26,6 +33,7 @@ use osm_model::limits::MAX_SEQUENCE;
 use osm_model::memory::WantOfMemory;
 use osm_model::time::time_write;
 use osm_opl::opl::Opl;
+use osm_save::head::{head_read, laws_of_heads};
 use osm_state::paths::Suffix;
 use std::alloc::Global;
 use std::mem;
@@ -156,6 +164,107 @@ pub(crate) fn follow_killed(
     let progress = follow_progress(alloc, &mut fuse, dir, save);
     *store = fuse.into_inner();
     report_of(progress)
+}
+
+// Exports the objects of the save.
+pub(crate) fn export(
+    alloc: Global,
+    store: &mut MemoryStore,
+    save: &str,
+    extract: &str,
+) -> Result<Report, RunFault>
+    ensures step { ExportStep save.now extract.now result
+        (files_of store.old) (files_of store.new) }
+    ensures device { IfErr result IsNoDevice }
+{
+    export_run(alloc, store, save, extract)
+}
+
+// The same, by a run that is killed after that many calls.
+pub(crate) fn export_killed(
+    alloc: Global,
+    store: &mut MemoryStore,
+    save: &str,
+    extract: &str,
+    calls: u64,
+) -> Result<Report, RunFault>
+    ensures step { ExportStep save.now extract.now result
+        (files_of store.old) (files_of store.new) }
+    ensures left { OnOk result (2 ≤ calls) }
+    ensures lacks { IfErr result (LacksCalls 2 (Some calls)) }
+{
+    let mut fuse = fuse_over(alloc, store, calls);
+    let answer = export_run(alloc, &mut fuse, save, extract);
+    *store = fuse.into_inner();
+    answer
+}
+
+// The number of the save, from its head; 0 if there is none.
+pub(crate) fn saved_number(store: &MemoryStore, save: &str) -> u32
+    ensures { IsNumberOfSave result (files_of store.now save.now) }
+{
+    match store.get(save) {
+        None => 0,
+        Some(bytes) => number_of_head(bytes),
+    }
+}
+
+fn number_of_head(bytes: &[u8]) -> u32
+    ensures { (head : Head) → BeginsSave bytes.now head → result ≡ head.number }
+{
+    laws_of_heads();
+    match head_read(bytes) {
+        Ok(head) => head.number,
+        Err(_) => 0,
+    }
+}
+
+// Begins the save with what was exported, at the state of that number.
+pub(crate) fn begin(
+    alloc: Global,
+    store: &mut MemoryStore,
+    dir: &str,
+    number: u32,
+    extract: &str,
+    save: &str,
+) -> Result<Report, RunFault>
+    ensures step { BeginStep dir.now number extract.now save.now result
+        (files_of store.old) (files_of store.new) }
+    ensures device { IfErr result IsNoDevice }
+{
+    laws_of_bases();
+    let state = state_name(alloc, dir, number)?;
+    begin_run(alloc, store, extract, state.as_str(), save)
+}
+
+// The same, by a run that is killed after that many calls.
+pub(crate) fn begin_killed(
+    alloc: Global,
+    store: &mut MemoryStore,
+    dir: &str,
+    number: u32,
+    extract: &str,
+    save: &str,
+    calls: u64,
+) -> Result<Report, RunFault>
+    ensures step { BeginStep dir.now number extract.now save.now result
+        (files_of store.old) (files_of store.new) }
+    ensures left { OnOk result (3 ≤ calls) }
+    ensures lacks { IfErr result (LacksCalls 3 (Some calls)) }
+{
+    laws_of_bases();
+    let state = state_name(alloc, dir, number)?;
+    let mut fuse = fuse_over(alloc, store, calls);
+    let answer = begin_run(alloc, &mut fuse, extract, state.as_str(), save);
+    *store = fuse.into_inner();
+    answer
+}
+
+// The name of the state of a sequence. None has a number past the last one.
+fn state_name(alloc: Global, dir: &str, number: u32) -> Result<String, WantOfMemory>
+    ensures { IfOk result (λ name. string_bytes name ≡ state_name_of dir.now number) }
+{
+    file_name(alloc, dir, number.min(MAX_SEQUENCE), Suffix::State)
 }
 
 // The report of the word, or its fault: no number of a folder of published sequences is faulty, so
