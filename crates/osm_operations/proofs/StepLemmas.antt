@@ -46,73 +46,71 @@ use Rattle.osm_operations.proofs.ReportedLemmas.{reports_more}
 use Rattle.osm_operations.proofs.MoveLemmas.{back_agrees, kept_none, lost_agrees, not_true}
 
 -- the files are those of the history, each reply is allowed, and the reports say each number once
-pub record Holds (h : hist.History) (dir save changes : List ℕ) (start : Files) (w : World) : Type 0 where
-  pub agrees : Agrees (hist.published_of h) (hist.is_file_lost h) (hist.number_of h) dir save changes start (files_of w.store) (files_of w.lost) w.published
-  pub allowed : AreAllowed h
-  pub reported : hist.reported_of h ≡ numbers 0 (hist.number_of h)
+pub record Holds (h : hist.History) (dir save changes extract : List ℕ) (start : Files) (w : World) : Type 0 where
+  pub agrees : Agrees (hist.published_of h) (hist.is_file_lost h) (hist.standing_of h) dir save changes extract start (files_of w.store) (files_of w.lost) w.published
+  pub allowed : AreAllowed extract h
+  pub reported : hist.reported_of h ≡ numbers (hist.base_of h) (hist.number_of h - hist.base_of h)
+  pub exported : w.exported ≡ hist.beginning_of h
 
-abbrev AgreesIn : List PublishedValue → (ℕ → Suffix → Bool) → ℕ → List ℕ → List ℕ → List ℕ → Files → World → Type 0
-AgreesIn p lost m dir save changes start w = Agrees p lost m dir save changes start (files_of w.store) (files_of w.lost) w.published
+abbrev AgreesIn : List PublishedValue → (ℕ → Suffix → Bool) → hist.Standing → List ℕ → List ℕ → List ℕ → List ℕ → Files → World → Type 0
+AgreesIn p lost m dir save changes extract start w = Agrees p lost m dir save changes extract start (files_of w.store) (files_of w.lost) w.published
 
-quiet : (p : List PublishedValue) (lost : ℕ → Suffix → Bool) (m : ℕ) (dir save changes : List ℕ) (start f l : Files)
-    (n : ℕ) → Agrees p lost m dir save changes start f l n → Agrees (p ++ []) lost (m + 0) dir save changes start f l n
-quiet p lost m dir save changes start f l n s =
-    let e : m ≡ m + 0 = omega arith in
-    subst (λ q. Agrees q lost (m + 0) dir save changes start f l n) (sym (append-nil p)) (subst (λ i. Agrees p lost i dir save changes start f l n) e s)
+quiet : (p : List PublishedValue) (lost : ℕ → Suffix → Bool) (m : hist.Standing) (dir save changes extract : List ℕ) (start f l : Files)
+    (n : ℕ) → Agrees p lost m dir save changes extract start f l n → Agrees (p ++ []) lost m dir save changes extract start f l n
+quiet p lost m dir save changes extract start f l n s =
+    subst (λ q. Agrees q lost m dir save changes extract start f l n) (sym (append-nil p)) s
 
-renewed : (p : List PublishedValue) (lost : ℕ → Suffix → Bool) (m : ℕ) (dir save changes : List ℕ)
-    (start f l f' l' : Files) (n n' : ℕ) → f' ≡ f → l' ≡ l → n' ≡ n → Agrees p lost m dir save changes start f l n
-    → Agrees p lost m dir save changes start f' l' n'
-renewed p lost m dir save changes start f l f' l' n n' a b c s =
-    subst (λ (x : Files). Agrees p lost m dir save changes start x l' n') (sym a)
-    (subst (λ (x : Files). Agrees p lost m dir save changes start f x n') (sym b)
-    (subst (λ i. Agrees p lost m dir save changes start f l i) (sym c) s))
+renewed : (p : List PublishedValue) (lost : ℕ → Suffix → Bool) (m : hist.Standing) (dir save changes extract : List ℕ)
+    (start f l f' l' : Files) (n n' : ℕ) → f' ≡ f → l' ≡ l → n' ≡ n → Agrees p lost m dir save changes extract start f l n
+    → Agrees p lost m dir save changes extract start f' l' n'
+renewed p lost m dir save changes extract start f l f' l' n n' a b c s =
+    subst (λ (x : Files). Agrees p lost m dir save changes extract start x l' n') (sym a)
+    (subst (λ (x : Files). Agrees p lost m dir save changes extract start f x n') (sym b)
+    (subst (λ i. Agrees p lost m dir save changes extract start f l i) (sym c) s))
 
-publish_more : (left : Option ℕ) (p : List PublishedValue) (lost : ℕ → Suffix → Bool) (m : ℕ)
-    (dir save changes : List ℕ) (start : Files) (a b : World) (batch : List ChangeValue) (time : ℕ)
-    (report : ReportValue) → AreApart dir save changes → AgreesIn p lost m dir save changes start a
+publish_more : (left : Option ℕ) (p : List PublishedValue) (lost : ℕ → Suffix → Bool) (m : hist.Standing)
+    (dir save changes extract : List ℕ) (start : Files) (a b : World) (batch : List ChangeValue) (time : ℕ)
+    (report : ReportValue) → AreApart dir save changes extract → AgreesIn p lost m dir save changes extract start a
     → PublishTo left dir changes batch time (Published report) a b
     → AgreesIn (p ++ (record { number = length p + 1; changes = batch; time = time }) ∷ []) lost
-    (m + 0) dir save changes start b × (report ≡ publish_report_of (length p + 1))
-publish_more left p lost m dir save changes start a b batch time report apart s step =
-    let done = published_agrees p lost m dir save changes start (files_of a.store) (files_of b.store)
+    m dir save changes extract start b × (report ≡ publish_report_of (length p + 1))
+publish_more left p lost m dir save changes extract start a b batch time report apart s step =
+    let done = published_agrees p lost m dir save changes extract start (files_of a.store) (files_of b.store)
     (files_of a.lost) a.published batch time report apart s step.0 in
     let most = few (p ++ (record { number = length p + 1; changes = batch; time = time }) ∷ []) done.0.folder.sequences in
-    let n_is = done.0.number in
-    let e : m ≡ m + 0 = omega arith in (
-      renewed (p ++ (record { number = length p + 1; changes = batch; time = time }) ∷ []) lost (m + 0) dir save changes
+    let n_is = done.0.number in (
+      renewed (p ++ (record { number = length p + 1; changes = batch; time = time }) ∷ []) lost m dir save changes extract
           start (files_of b.store) (files_of a.lost) (files_of b.store) (files_of b.lost) (a.published + 1) b.published
           refl (ap files_of step.1) (step.2 (omega (arith, n_is, most)))
-          (subst (λ i. Agrees (p ++ (record { number = length p + 1; changes = batch; time = time }) ∷ []) lost i dir
-          save changes start (files_of b.store) (files_of a.lost) (a.published + 1)) e done.0),
+          done.0,
       done.1,
     )
 
-publish_stopped : (p : List PublishedValue) (lost : ℕ → Suffix → Bool) (m : ℕ) (dir save changes : List ℕ)
+publish_stopped : (p : List PublishedValue) (lost : ℕ → Suffix → Bool) (m : hist.Standing) (dir save changes extract : List ℕ)
     (start : Files) (a b : World) (batch : List ChangeValue) (time calls : ℕ) (fault : RunFault)
-    → AreApart dir save changes → AgreesIn p lost m dir save changes start a
+    → AreApart dir save changes extract → AgreesIn p lost m dir save changes extract start a
     → PublishTo (Some calls) dir changes batch time (Refused fault) a b
-    → AgreesIn (p ++ []) lost (m + 0) dir save changes start b × KilledPublicationRefused p batch time calls fault
-publish_stopped p lost m dir save changes start a b batch time calls fault apart s step =
+    → AgreesIn (p ++ []) lost m dir save changes extract start b × KilledPublicationRefused p batch time calls fault
+publish_stopped p lost m dir save changes extract start a b batch time calls fault apart s step =
     let done = by_step step.0 in (
-      quiet p lost m dir save changes start (files_of b.store) (files_of b.lost) b.published
-          (renewed p lost m dir save changes start (files_of b.store) (files_of a.lost) (files_of b.store)
+      quiet p lost m dir save changes extract start (files_of b.store) (files_of b.lost) b.published
+          (renewed p lost m dir save changes extract start (files_of b.store) (files_of a.lost) (files_of b.store)
           (files_of b.lost) a.published b.published refl (ap files_of step.1) step.2 done.0),
       done.1,
     )
   where
     by_step : PublishStep (Some calls) dir changes batch time (Err fault) (files_of a.store) (files_of b.store)
-        → Agrees p lost m dir save changes start (files_of b.store) (files_of a.lost) a.published
+        → Agrees p lost m dir save changes extract start (files_of b.store) (files_of a.lost) a.published
         × KilledPublicationRefused p batch time calls fault
     by_step (inl h) = (
-      renewed p lost m dir save changes start (files_of a.store) (files_of a.lost) (files_of b.store)
+      renewed p lost m dir save changes extract start (files_of a.store) (files_of a.lost) (files_of b.store)
           (files_of a.lost) a.published a.published h.1 refl refl s,
       unwritten_row p batch time calls fault h.0,
     )
     by_step (inr run) =
-        let mid = changes_put p lost m dir save changes start (files_of a.store) run.middle
+        let mid = changes_put p lost m dir save changes extract start (files_of a.store) run.middle
         (files_of a.lost) a.published (Some (opl_text batch)) apart run.there.put s in (
-          stopped_agrees (Some calls) p lost m dir save changes start (files_of a.store) (files_of b.store)
+          stopped_agrees (Some calls) p lost m dir save changes extract start (files_of a.store) (files_of b.store)
               (files_of a.lost) a.published batch time fault apart s run,
           stopped_row p dir changes run.now batch time calls (files_of a.store) run.middle (files_of b.store) fault
               mid.folder run.is_so.out run.shows run.is_text run.there run.is_so.stops (run.is_so.refuses p mid.folder),
@@ -141,40 +139,40 @@ unlimited dir changes batch time fault a b (inr run, lost, count) =
       is.1,
     )
 
-saved_within : (p : List PublishedValue) (m : ℕ) (told : Option (List ℕ)) → IsSaveOf p m told → m ≤ length p
-saved_within p m told s = let within = s.in_step.within in let is = s.number_is in omega (arith, within, is)
+saved_within : (p : List PublishedValue) (base m : ℕ) (told : Option (List ℕ)) → IsSaveOf p base m told → m ≤ length p
+saved_within p base m told s = let within = s.in_step.within in let is = s.number_is in omega (arith, within, is)
 
--- a reply that reports nothing
-none_more : (h : hist.History) → hist.reported_of h ≡ numbers 0 (hist.number_of h) → hist.reported_of h ++ [] ≡ numbers 0 (hist.number_of h + 0)
-none_more h so_far = let e : hist.number_of h + 0 ≡ hist.number_of h = omega arith in rw (e, append-nil) so_far
+base_below : (p : List PublishedValue) (base m : ℕ) (told : Option (List ℕ)) → IsSaveOf p base m told → base ≤ m
+base_below p base m told s =
+    let below = s.in_step.base in let base_is = s.base_is in let number_is = s.number_is in omega (arith, below, base_is, number_is)
 
-follow_more : (h : hist.History) (dir save changes : List ℕ) (start : Files) (a b : World) (report : ReportValue)
-    → AreApart dir save changes → AgreesIn (hist.published_of h) (hist.is_file_lost h) (hist.number_of h) dir save
-    changes start a → FollowTo dir save (Followed report) a b → AgreesIn (hist.published_of h ++ [])
-    (hist.is_file_lost h) (hist.number_of h + hist.count_after h (hist.number_of h)) dir save changes start b
+follow_more : (h : hist.History) (dir save changes extract : List ℕ) (start : Files) (a b : World) (report : ReportValue)
+    → AreApart dir save changes extract → AgreesIn (hist.published_of h) (hist.is_file_lost h) (hist.standing_of h) dir save
+    changes extract start a → FollowTo dir save (Followed report) a b → AgreesIn (hist.published_of h ++ [])
+    (hist.is_file_lost h) (gone_on (hist.standing_of h) (hist.count_after h (hist.number_of h))) dir save changes extract start b
     × (report ≡ following_report h) × (hist.number_of h + hist.count_after h (hist.number_of h) ≤
     length (hist.published_of h))
-follow_more h dir save changes start a b report apart s step =
-    let done = followed (hist.published_of h) (hist.is_file_lost h) (hist.number_of h) dir save changes start
+follow_more h dir save changes extract start a b report apart s step =
+    let done = followed (hist.published_of h) (hist.is_file_lost h) (hist.standing_of h) dir save changes extract start
     (files_of a.store) (files_of b.store) (files_of a.lost) a.published report apart s step.0 in (
-      subst (λ q. AgreesIn q (hist.is_file_lost h) (hist.number_of h + hist.count_after h (hist.number_of h)) dir save
-          changes start b) (sym (append-nil (hist.published_of h)))
-          (renewed (hist.published_of h) (hist.is_file_lost h) (hist.number_of h
-          + hist.count_after h (hist.number_of h)) dir save changes start (files_of b.store) (files_of a.lost)
+      subst (λ q. AgreesIn q (hist.is_file_lost h) (gone_on (hist.standing_of h) (hist.count_after h (hist.number_of h))) dir save
+          changes extract start b) (sym (append-nil (hist.published_of h)))
+          (renewed (hist.published_of h) (hist.is_file_lost h) (gone_on (hist.standing_of h) (hist.count_after h (hist.number_of h)))
+          dir save changes extract start (files_of b.store) (files_of a.lost)
           (files_of b.store) (files_of b.lost) a.published b.published refl (ap files_of step.1) step.2 done.0),
       done.1,
-      saved_within (hist.published_of h) (hist.number_of h + hist.count_after h (hist.number_of h)) (files_of b.store save) done.0.saved,
+      saved_within (hist.published_of h) (hist.base_of h) (hist.number_of h + hist.count_after h (hist.number_of h)) (files_of b.store save) done.0.saved.save_is,
     )
 
-follow_stopped : (p : List PublishedValue) (lost : ℕ → Suffix → Bool) (m : ℕ) (dir save changes : List ℕ)
-    (start : Files) (a b : World) (calls : ℕ) (fault : RunFault) → LacksCalls (follow_calls p m) (Some calls) fault
-    → AgreesIn p lost m dir save changes start a → FollowTo dir save (Refused fault) a b
-    → AgreesIn (p ++ []) lost (m + 0) dir save changes start b × KilledFollowingRefused p m calls fault
-follow_stopped p lost m dir save changes start a b calls fault lacks s step = (
-  quiet p lost m dir save changes start (files_of b.store) (files_of b.lost) b.published
-      (renewed p lost m dir save changes start (files_of a.store) (files_of a.lost) (files_of b.store)
-      (files_of b.lost) a.published b.published (step.0 p m s.folder s.saved).0 (ap files_of step.1) step.2 s),
-  stopped_follow p m calls (files_of a.store save) fault lacks s.saved (step.0 p m s.folder s.saved).1,
+follow_stopped : (p : List PublishedValue) (lost : ℕ → Suffix → Bool) (m : hist.Standing) (dir save changes extract : List ℕ)
+    (start : Files) (a b : World) (calls : ℕ) (fault : RunFault) → LacksCalls (follow_calls p m.number) (Some calls) fault
+    → AgreesIn p lost m dir save changes extract start a → FollowTo dir save (Refused fault) a b
+    → AgreesIn (p ++ []) lost m dir save changes extract start b × KilledFollowingRefused p m.number calls fault
+follow_stopped p lost m dir save changes extract start a b calls fault lacks s step = (
+  quiet p lost m dir save changes extract start (files_of b.store) (files_of b.lost) b.published
+      (renewed p lost m dir save changes extract start (files_of a.store) (files_of a.lost) (files_of b.store)
+      (files_of b.lost) a.published b.published (step.0 p m.base m.number s.folder s.saved.save_is).0 (ap files_of step.1) step.2 s),
+  stopped_follow p m.base m.number calls (files_of a.store save) fault lacks s.saved.save_is (step.0 p m.base m.number s.folder s.saved.save_is).1,
 )
 
 -- a number that isn't published
@@ -185,13 +183,13 @@ no_number h count n is most (inr (inl e)) = inr (omega (arith, is, e))
 no_number h count n is most (inr (inr e)) = inr (omega (arith, most, e))
 
 -- nothing was done
-still : (h : hist.History) (dir save changes : List ℕ) (start : Files) (a b : World)
-    → AgreesIn (hist.published_of h) (hist.is_file_lost h) (hist.number_of h) dir save changes start a
+still : (h : hist.History) (dir save changes extract : List ℕ) (start : Files) (a b : World)
+    → AgreesIn (hist.published_of h) (hist.is_file_lost h) (hist.standing_of h) dir save changes extract start a
     → files_of b.store ≡ files_of a.store → files_of b.lost ≡ files_of a.lost → b.published ≡ a.published
-    → AgreesIn (hist.published_of h ++ []) (hist.is_file_lost h) (hist.number_of h + 0) dir save changes start b
-still h dir save changes start a b s files lost count =
-    quiet (hist.published_of h) (hist.is_file_lost h) (hist.number_of h) dir save changes start (files_of b.store) (files_of b.lost) b.published
-    (renewed (hist.published_of h) (hist.is_file_lost h) (hist.number_of h) dir save changes start (files_of a.store)
+    → AgreesIn (hist.published_of h ++ []) (hist.is_file_lost h) (hist.standing_of h) dir save changes extract start b
+still h dir save changes extract start a b s files lost count =
+    quiet (hist.published_of h) (hist.is_file_lost h) (hist.standing_of h) dir save changes extract start (files_of b.store) (files_of b.lost) b.published
+    (renewed (hist.published_of h) (hist.is_file_lost h) (hist.standing_of h) dir save changes extract start (files_of a.store)
     (files_of a.lost) (files_of b.store) (files_of b.lost) a.published b.published files lost count s)
 
 max_next : (a n : ℕ) → n ≡ a + 1 → max a n ≡ a + 1
@@ -201,24 +199,24 @@ max_old : (a n : ℕ) → n ≤ a → max a n ≡ a
 max_old a n e = grind (arith)
 
 -- a publication by number is done
-number_more : (left : Option ℕ) (h : hist.History) (dir save changes : List ℕ) (start : Files) (a b : World)
-    (batch : List ChangeValue) (time n : ℕ) (report : ReportValue) → AreApart dir save changes
-    → AgreesIn (hist.published_of h) (hist.is_file_lost h) (hist.number_of h) dir save changes start a
+number_more : (left : Option ℕ) (h : hist.History) (dir save changes extract : List ℕ) (start : Files) (a b : World)
+    (batch : List ChangeValue) (time n : ℕ) (report : ReportValue) → AreApart dir save changes extract
+    → AgreesIn (hist.published_of h) (hist.is_file_lost h) (hist.standing_of h) dir save changes extract start a
     → PublishAsTo left dir changes batch time n (Published report) a b
     → AgreesIn (hist.published_of h ++ (if n == length (hist.published_of h) + 1 then value_of n batch time ∷ [] else
     [])) (λ k t. if hist.wrote n (length (hist.published_of h)) k then false else hist.is_file_lost h k t)
-    (hist.number_of h + 0) dir save changes start b × NumberedDone h batch time n report
+    (hist.standing_of h) dir save changes extract start b × NumberedDone h batch time n report
     × HasCalls (numbered_calls n (length (hist.published_of h))) left
-number_more left h dir save changes start a b batch time n report apart s t = (
-  subst (λ i. AgreesIn (p ++ (if n == length p + 1 then value_of n batch time ∷ [] else [])) gone i dir save changes start b) m_same (elim done.0 [
+number_more left h dir save changes extract start a b batch time n report apart s t = (
+  (elim done.0 [
     | inl next ↦ rw (eq-eqb n (length p + 1) next.0)
-        (renewed (p ++ value_of n batch time ∷ []) gone m dir save changes start (files_of b.store) (files_of b.lost)
+        (renewed (p ++ value_of n batch time ∷ []) gone m dir save changes extract start (files_of b.store) (files_of b.lost)
         (files_of b.store) (files_of b.lost) (a.published + 1) b.published refl refl
         (t.2 ∙ max_next a.published n (next.0 ∙ ap (λ i. i + 1) (sym s.number)))
-        (lost_alike (p ++ value_of n batch time ∷ []) lost gone m dir save changes start (files_of b.store) (files_of b.lost) (a.published + 1)
+        (lost_alike (p ++ value_of n batch time ∷ []) lost gone m dir save changes extract start (files_of b.store) (files_of b.lost) (a.published + 1)
         (λ k u. rw (wrote_not n (length p) k (λ e. (let at = next.0 in omega (arith, e, at)))) refl) next.1))
     | inr old ↦ rw (ne_eqb n (length p + 1) (λ e. (let within = old.0.1 in omega (arith, e, within))), append-nil p)
-        (renewed p gone m dir save changes start (files_of b.store) (files_of b.lost) (files_of b.store) (files_of b.lost) a.published b.published refl refl
+        (renewed p gone m dir save changes extract start (files_of b.store) (files_of b.lost) (files_of b.store) (files_of b.lost) a.published b.published refl refl
         (t.2 ∙ max_old a.published n (let within = old.0.1 in let at = s.number in omega (arith, within, at))) old.1)
   ]),
   (done.1, row done.0),
@@ -231,87 +229,84 @@ number_more left h dir save changes start a b batch time n report apart s t = (
     lost : ℕ → Suffix → Bool
     lost = hist.is_file_lost h
 
-    m : ℕ
-    m = hist.number_of h
-
-    m_same : m ≡ m + 0
-    m_same = omega arith
+    m : hist.Standing
+    m = hist.standing_of h
 
     gone : ℕ → Suffix → Bool
     gone k t = if hist.wrote n (length p) k then false else lost k t
 
-    done : (((n ≡ length p + 1) × Agrees (p ++ value_of n batch time ∷ []) lost m dir save changes start
+    done : (((n ≡ length p + 1) × Agrees (p ++ value_of n batch time ∷ []) lost m dir save changes extract start
         (files_of b.store) (files_of b.lost) (a.published + 1))
         ⊎ (IsAgain p lost n batch time × Agrees p (λ i u. if hist.wrote n (length p) i then false else lost i u) m dir
-        save changes start (files_of b.store) (files_of b.lost) a.published)) × (report ≡ publish_report_of n)
+        save changes extract start (files_of b.store) (files_of b.lost) a.published)) × (report ≡ publish_report_of n)
         × HasCalls (numbered_calls n (length p)) left
-    done = number_published left p lost m dir save changes start (files_of a.store) (files_of b.store) (files_of a.lost)
+    done = number_published left p lost m dir save changes extract start (files_of a.store) (files_of b.store) (files_of a.lost)
         (files_of b.lost) a.published batch time n report t.1.0 t.1.1 apart s t.0 t.1.2
 
-    row : (((n ≡ length p + 1) × Agrees (p ++ value_of n batch time ∷ []) lost m dir save changes start
+    row : (((n ≡ length p + 1) × Agrees (p ++ value_of n batch time ∷ []) lost m dir save changes extract start
         (files_of b.store) (files_of b.lost) (a.published + 1))
         ⊎ (IsAgain p lost n batch time × Agrees p (λ i u. if hist.wrote n (length p) i then false else lost i u) m dir
-        save changes start (files_of b.store) (files_of b.lost) a.published)) → (n ≡ length p + 1)
+        save changes extract start (files_of b.store) (files_of b.lost) a.published)) → (n ≡ length p + 1)
         ⊎ IsRepeat h batch time n
     row (inl next) = inl next.0
     row (inr old) = inr old.0
 
 -- a publication by number is refused
-number_refused : (h : hist.History) (dir save changes : List ℕ) (start : Files) (a b : World) (batch : List ChangeValue)
-    (time n calls : ℕ) (fault : RunFault) → AreApart dir save changes
-    → AgreesIn (hist.published_of h) (hist.is_file_lost h) (hist.number_of h) dir save changes start a
+number_refused : (h : hist.History) (dir save changes extract : List ℕ) (start : Files) (a b : World) (batch : List ChangeValue)
+    (time n calls : ℕ) (fault : RunFault) → AreApart dir save changes extract
+    → AgreesIn (hist.published_of h) (hist.is_file_lost h) (hist.standing_of h) dir save changes extract start a
     → PublishAsTo (Some calls) dir changes batch time n (Refused fault) a b → AgreesIn (hist.published_of h ++ [])
-    (hist.is_file_lost h) (hist.number_of h + 0) dir save changes start b × KilledNumberedRefused h batch time n calls
+    (hist.is_file_lost h) (hist.standing_of h) dir save changes extract start b × KilledNumberedRefused h batch time n calls
     fault
-number_refused h dir save changes start a b batch time n calls fault apart s (inl (why, same)) = (
-  still h dir save changes start a b s (ap (λ (w : World). files_of w.store) same)
+number_refused h dir save changes extract start a b batch time n calls fault apart s (inl (why, same)) = (
+  still h dir save changes extract start a b s (ap (λ (w : World). files_of w.store) same)
       (ap (λ (w : World). files_of w.lost) same) (ap (λ (w : World). w.published) same),
   subst (KilledNumberedRefused h batch time n calls) (sym why) tt,
 )
-number_refused h dir save changes start a b batch time n calls fault apart s (inr (inl unrun, back, count)) = (
-  quiet (hist.published_of h) (hist.is_file_lost h) (hist.number_of h) dir save changes start (files_of b.store) (files_of b.lost) b.published
-      (renewed (hist.published_of h) (hist.is_file_lost h) (hist.number_of h) dir save changes start (files_of b.store)
+number_refused h dir save changes extract start a b batch time n calls fault apart s (inr (inl unrun, back, count)) = (
+  quiet (hist.published_of h) (hist.is_file_lost h) (hist.standing_of h) dir save changes extract start (files_of b.store) (files_of b.lost) b.published
+      (renewed (hist.published_of h) (hist.is_file_lost h) (hist.standing_of h) dir save changes extract start (files_of b.store)
       (files_of b.lost) (files_of b.store) (files_of b.lost) a.published b.published refl refl count
-      (unrun_stays (hist.published_of h) (hist.is_file_lost h) (hist.number_of h) dir save changes start
+      (unrun_stays (hist.published_of h) (hist.is_file_lost h) (hist.standing_of h) dir save changes extract start
       (files_of a.store) (files_of b.store) (files_of a.lost) (files_of b.lost) a.published batch time n fault false
       false s unrun.1 back)),
   unwritten_number h batch time n calls fault unrun.0,
 )
-number_refused h dir save changes start a b batch time n calls fault apart s (inr (inr run, back, count)) = (
-  quiet (hist.published_of h) (hist.is_file_lost h) (hist.number_of h) dir save changes start (files_of b.store) (files_of b.lost) b.published
-      (renewed (hist.published_of h) (hist.is_file_lost h) (hist.number_of h) dir save changes start (files_of b.store)
+number_refused h dir save changes extract start a b batch time n calls fault apart s (inr (inr run, back, count)) = (
+  quiet (hist.published_of h) (hist.is_file_lost h) (hist.standing_of h) dir save changes extract start (files_of b.store) (files_of b.lost) b.published
+      (renewed (hist.published_of h) (hist.is_file_lost h) (hist.standing_of h) dir save changes extract start (files_of b.store)
       (files_of b.lost) (files_of b.store) (files_of b.lost) a.published b.published refl refl count
-      (number_stopped (Some calls) (hist.published_of h) (hist.is_file_lost h) (hist.number_of h) dir save changes start
+      (number_stopped (Some calls) (hist.published_of h) (hist.is_file_lost h) (hist.standing_of h) dir save changes extract start
       (files_of a.store) (files_of b.store) (files_of a.lost) (files_of b.lost) a.published batch time n fault false
       false apart s run back)),
-  stopped_number h dir save changes start (files_of a.store) (files_of b.store) (files_of a.lost) a.published (hist.number_of h) batch time n calls fault run
-      (changes_put (hist.published_of h) (hist.is_file_lost h) (hist.number_of h) dir save changes start
+  stopped_number h dir save changes extract start (files_of a.store) (files_of b.store) (files_of a.lost) a.published (hist.standing_of h) batch time n calls fault run
+      (changes_put (hist.published_of h) (hist.is_file_lost h) (hist.standing_of h) dir save changes extract start
       (files_of a.store) run.middle (files_of a.lost) a.published (Some (opl_text batch)) apart run.there.put s),
 )
 
 -- a publication by number is cut off
-number_cut : (h : hist.History) (dir save changes : List ℕ) (start : Files) (a b : World) (batch : List ChangeValue)
-    (time n calls : ℕ) (fault : RunFault) (o5c opl : Bool) (suffix : Suffix) → AreApart dir save changes
-    → AgreesIn (hist.published_of h) (hist.is_file_lost h) (hist.number_of h) dir save changes start a
+number_cut : (h : hist.History) (dir save changes extract : List ℕ) (start : Files) (a b : World) (batch : List ChangeValue)
+    (time n calls : ℕ) (fault : RunFault) (o5c opl : Bool) (suffix : Suffix) → AreApart dir save changes extract
+    → AgreesIn (hist.published_of h) (hist.is_file_lost h) (hist.standing_of h) dir save changes extract start a
     → form_back o5c opl ≡ Some suffix → NumberedStep (Some calls) dir changes batch time n (Err fault)
     (files_of a.store) (files_of b.store) → ReturnForms o5c opl dir (named n) (files_of b.store) (files_of a.lost)
     (files_of b.lost) → b.published ≡ a.published → AgreesIn (hist.published_of h ++ [])
-    (λ i t. if hist.same_file n suffix i t then false else hist.is_file_lost h i t) (hist.number_of h + 0) dir save
-    changes start b × ((count : ℕ) × CutsAfter n calls count fault × NumberedCut h batch time n fault suffix count)
-number_cut h dir save changes start a b batch time n calls fault o5c opl suffix apart s form (inl unrun) back count =
+    (λ i t. if hist.same_file n suffix i t then false else hist.is_file_lost h i t) (hist.standing_of h) dir save
+    changes extract start b × ((count : ℕ) × CutsAfter n calls count fault × NumberedCut h batch time n fault suffix count)
+number_cut h dir save changes extract start a b batch time n calls fault o5c opl suffix apart s form (inl unrun) back count =
     absurd (let none = sym form ∙ ap2_form gone.first gone.second in (let bad : Some suffix ≡ None = none in cc))
   where
     gone : AreGone o5c opl (files_of a.lost) (files_of b.lost)
-    gone = none_back (hist.published_of h) (hist.is_file_lost h) (hist.number_of h) dir save changes start
+    gone = none_back (hist.published_of h) (hist.is_file_lost h) (hist.standing_of h) dir save changes extract start
         (files_of a.store) (files_of b.store) (files_of a.lost) (files_of b.lost) a.published (named n) o5c opl s
         (named_least n) (named_most n)
         (λ t within. ap (λ (f : Files). f (file_name_of dir (named n) t)) unrun.1) back
 
     ap2_form : {x y : Bool} → x ≡ false → y ≡ false → form_back x y ≡ None
     ap2_form e d = rw (e, d) refl
-number_cut h dir save changes start a b batch time n calls fault o5c opl suffix apart s form (inr run) back count = (
-  quiet (hist.published_of h) gone (hist.number_of h) dir save changes start (files_of b.store) (files_of b.lost) b.published
-      (renewed (hist.published_of h) gone (hist.number_of h) dir save changes start (files_of b.store) (files_of b.lost)
+number_cut h dir save changes extract start a b batch time n calls fault o5c opl suffix apart s form (inr run) back count = (
+  quiet (hist.published_of h) gone (hist.standing_of h) dir save changes extract start (files_of b.store) (files_of b.lost) b.published
+      (renewed (hist.published_of h) gone (hist.standing_of h) dir save changes extract start (files_of b.store) (files_of b.lost)
       (files_of b.store) (files_of b.lost) a.published b.published refl refl count stays.0),
   (
     stays.4.0,
@@ -330,15 +325,15 @@ number_cut h dir save changes start a b batch time n calls fault o5c opl suffix 
     gone : ℕ → Suffix → Bool
     gone i t = if hist.same_file n suffix i t then false else hist.is_file_lost h i t
 
-    mid : Agrees (hist.published_of h) (hist.is_file_lost h) (hist.number_of h) dir save changes start run.middle (files_of a.lost) a.published
-    mid = changes_put (hist.published_of h) (hist.is_file_lost h) (hist.number_of h) dir save changes start
+    mid : Agrees (hist.published_of h) (hist.is_file_lost h) (hist.standing_of h) dir save changes extract start run.middle (files_of a.lost) a.published
+    mid = changes_put (hist.published_of h) (hist.is_file_lost h) (hist.standing_of h) dir save changes extract start
         (files_of a.store) run.middle (files_of a.lost) a.published (Some (opl_text batch)) apart run.there.put s
 
-    stays : StayOrReturn (hist.published_of h) (hist.is_file_lost h) (hist.number_of h) dir save changes start
+    stays : StayOrReturn (hist.published_of h) (hist.is_file_lost h) (hist.standing_of h) dir save changes extract start
         (files_of b.store) (files_of b.lost) a.published batch time n fault (Some suffix)
-    stays = subst (λ o. StayOrReturn (hist.published_of h) (hist.is_file_lost h) (hist.number_of h) dir save changes
+    stays = subst (λ o. StayOrReturn (hist.published_of h) (hist.is_file_lost h) (hist.standing_of h) dir save changes extract
         start (files_of b.store) (files_of b.lost) a.published batch time n fault o) form
-        (number_stopped (Some calls) (hist.published_of h) (hist.is_file_lost h) (hist.number_of h) dir save changes
+        (number_stopped (Some calls) (hist.published_of h) (hist.is_file_lost h) (hist.standing_of h) dir save changes extract
         start (files_of a.store) (files_of b.store) (files_of a.lost) (files_of b.lost) a.published batch time n
         fault o5c opl apart s run back)
 
@@ -377,66 +372,68 @@ refused_unlimited dir changes batch time n fault a b (inr (step, back, count)) =
     (inr (is.0, back, count), is.1)
 
 -- one more operation
-pub step_holds : (h : hist.History) (e : Operation) (r : Reply) (dir save changes : List ℕ) (start : Files)
-    (a b : World) → AreApart dir save changes → Holds h dir save changes start a → Step dir save changes e r a b
-    → Holds ((e, r) ∷ h) dir save changes start b
-step_holds h (Publish batch time) (Published report) dir save changes start a b apart s t =
-    let done = publish_more None (hist.published_of h) (hist.is_file_lost h) (hist.number_of h) dir save changes start a b batch time report apart s.agrees t in
-    record { agrees = done.0; allowed = (done.1, s.allowed); reported = none_more h s.reported }
-step_holds h (Publish batch time) (Refused fault) dir save changes start a b apart s t =
+pub step_holds : (h : hist.History) (e : Operation) (r : Reply) (dir save changes extract : List ℕ) (start : Files)
+    (a b : World) → AreApart dir save changes extract → Holds h dir save changes extract start a
+    → Step dir save changes extract e r a b → KeepsExported r a b → Holds ((e, r) ∷ h) dir save changes extract start b
+step_holds h (Publish batch time) (Published report) dir save changes extract start a b apart s t x =
+    let done = publish_more None (hist.published_of h) (hist.is_file_lost h) (hist.standing_of h) dir save changes extract start a b batch time report apart s.agrees t in
+    record { agrees = done.0; allowed = (done.1, s.allowed); reported = s.reported; exported = x ∙ s.exported }
+step_holds h (Publish batch time) (Refused fault) dir save changes extract start a b apart s t x =
     let u = unlimited dir changes batch time fault a b t in
-    let done = publish_stopped (hist.published_of h) (hist.is_file_lost h) (hist.number_of h) dir save changes start a b
+    let done = publish_stopped (hist.published_of h) (hist.is_file_lost h) (hist.standing_of h) dir save changes extract start a b
     batch time 0 fault apart s.agrees u.0 in
-    record { agrees = done.0; allowed = (not_killed (hist.published_of h) batch time 0 fault u.1 done.1, s.allowed); reported = none_more h s.reported }
-step_holds h (Publish batch time) r dir save changes start a b apart s t = absurd t
-step_holds h (KilledPublish batch time calls) (Published report) dir save changes start a b apart s t =
-    let done = publish_more (Some calls) (hist.published_of h) (hist.is_file_lost h) (hist.number_of h) dir save changes
+    record { agrees = done.0; allowed = (not_killed (hist.published_of h) batch time 0 fault u.1 done.1, s.allowed); reported = s.reported; exported = x ∙ s.exported }
+step_holds h (Publish batch time) r dir save changes extract start a b apart s t x = absurd t
+step_holds h (KilledPublish batch time calls) (Published report) dir save changes extract start a b apart s t x =
+    let done = publish_more (Some calls) (hist.published_of h) (hist.is_file_lost h) (hist.standing_of h) dir save changes extract
     start a b batch time report apart s.agrees t.0 in
-    record { agrees = done.0; allowed = ((done.1, t.1), s.allowed); reported = none_more h s.reported }
-step_holds h (KilledPublish batch time calls) (Refused fault) dir save changes start a b apart s t =
-    let done = publish_stopped (hist.published_of h) (hist.is_file_lost h) (hist.number_of h) dir save changes start a b
+    record { agrees = done.0; allowed = ((done.1, t.1), s.allowed); reported = s.reported; exported = x ∙ s.exported }
+step_holds h (KilledPublish batch time calls) (Refused fault) dir save changes extract start a b apart s t x =
+    let done = publish_stopped (hist.published_of h) (hist.is_file_lost h) (hist.standing_of h) dir save changes extract start a b
     batch time calls fault apart s.agrees t.0 in
-    record { agrees = done.0; allowed = (done.1, s.allowed); reported = none_more h s.reported }
-step_holds h (KilledPublish batch time calls) r dir save changes start a b apart s t = absurd t.0
-step_holds h (PublishAs batch time n) (Published report) dir save changes start a b apart s t =
-    let done = number_more None h dir save changes start a b batch time n report apart s.agrees t in
-    record { agrees = done.0; allowed = (done.1, s.allowed); reported = none_more h s.reported }
-step_holds h (PublishAs batch time n) (Refused fault) dir save changes start a b apart s t =
+    record { agrees = done.0; allowed = (done.1, s.allowed); reported = s.reported; exported = x ∙ s.exported }
+step_holds h (KilledPublish batch time calls) r dir save changes extract start a b apart s t x = absurd t.0
+step_holds h (PublishAs batch time n) (Published report) dir save changes extract start a b apart s t x =
+    let done = number_more None h dir save changes extract start a b batch time n report apart s.agrees t in
+    record { agrees = done.0; allowed = (done.1, s.allowed); reported = s.reported; exported = x ∙ s.exported }
+step_holds h (PublishAs batch time n) (Refused fault) dir save changes extract start a b apart s t x =
     let u = refused_unlimited dir changes batch time n fault a b t in
-    let done = number_refused h dir save changes start a b batch time n 0 fault apart s.agrees u.0 in
-    record { agrees = done.0; allowed = (number_not_killed h batch time n 0 fault u.1 done.1, s.allowed); reported = none_more h s.reported }
-step_holds h (PublishAs batch time n) (CutOff fault O5c) dir save changes start a b apart s t =
+    let done = number_refused h dir save changes extract start a b batch time n 0 fault apart s.agrees u.0 in
+    record { agrees = done.0; allowed = (number_not_killed h batch time n 0 fault u.1 done.1, s.allowed); reported = s.reported; exported = x ∙ s.exported }
+step_holds h (PublishAs batch time n) (CutOff fault O5c) dir save changes extract start a b apart s t x =
     let u = step_unlimited dir changes batch time n fault (files_of a.store) (files_of b.store) t.0 in
-    let done = number_cut h dir save changes start a b batch time n 0 fault true t.1.0 O5c apart s.agrees refl u.0 t.1.1 t.2 in
-    record { agrees = done.0; allowed = ((cut_unlimited n 0 done.1.0 fault u.1 done.1.1, (done.1.0, done.1.2)), s.allowed); reported = none_more h s.reported }
-step_holds h (PublishAs batch time n) (CutOff fault Opl) dir save changes start a b apart s t =
+    let done = number_cut h dir save changes extract start a b batch time n 0 fault true t.1.0 O5c apart s.agrees refl u.0 t.1.1 t.2 in
+    record { agrees = done.0; allowed = ((cut_unlimited n 0 done.1.0 fault u.1 done.1.1, (done.1.0, done.1.2)), s.allowed); reported = s.reported; exported = x ∙ s.exported }
+step_holds h (PublishAs batch time n) (CutOff fault Opl) dir save changes extract start a b apart s t x =
     let u = step_unlimited dir changes batch time n fault (files_of a.store) (files_of b.store) t.0 in
-    let done = number_cut h dir save changes start a b batch time n 0 fault false true Opl apart s.agrees refl u.0 t.1 t.2 in
-    record { agrees = done.0; allowed = ((cut_unlimited n 0 done.1.0 fault u.1 done.1.1, (done.1.0, done.1.2)), s.allowed); reported = none_more h s.reported }
-step_holds h (PublishAs batch time n) r dir save changes start a b apart s t = absurd t
-step_holds h (KilledPublishAs batch time n calls) (Published report) dir save changes start a b apart s t =
-    let done = number_more (Some calls) h dir save changes start a b batch time n report apart s.agrees t in
-    record { agrees = done.0; allowed = ((done.1, done.2), s.allowed); reported = none_more h s.reported }
-step_holds h (KilledPublishAs batch time n calls) (Refused fault) dir save changes start a b apart s t =
-    let done = number_refused h dir save changes start a b batch time n calls fault apart s.agrees t in
-    record { agrees = done.0; allowed = (done.1, s.allowed); reported = none_more h s.reported }
-step_holds h (KilledPublishAs batch time n calls) (CutOff fault O5c) dir save changes start a b apart s t =
-    let done = number_cut h dir save changes start a b batch time n calls fault true t.1.0 O5c apart s.agrees refl t.0 t.1.1 t.2 in
-    record { agrees = done.0; allowed = (done.1, s.allowed); reported = none_more h s.reported }
-step_holds h (KilledPublishAs batch time n calls) (CutOff fault Opl) dir save changes start a b apart s t =
-    let done = number_cut h dir save changes start a b batch time n calls fault false true Opl apart s.agrees refl t.0 t.1 t.2 in
-    record { agrees = done.0; allowed = (done.1, s.allowed); reported = none_more h s.reported }
-step_holds h (KilledPublishAs batch time n calls) r dir save changes start a b apart s t = absurd t
-step_holds h Follow (Followed report) dir save changes start a b apart s t =
-    let done = follow_more h dir save changes start a b report apart s.agrees t.0 in
+    let done = number_cut h dir save changes extract start a b batch time n 0 fault false true Opl apart s.agrees refl u.0 t.1 t.2 in
+    record { agrees = done.0; allowed = ((cut_unlimited n 0 done.1.0 fault u.1 done.1.1, (done.1.0, done.1.2)), s.allowed); reported = s.reported; exported = x ∙ s.exported }
+step_holds h (PublishAs batch time n) r dir save changes extract start a b apart s t x = absurd t
+step_holds h (KilledPublishAs batch time n calls) (Published report) dir save changes extract start a b apart s t x =
+    let done = number_more (Some calls) h dir save changes extract start a b batch time n report apart s.agrees t in
+    record { agrees = done.0; allowed = ((done.1, done.2), s.allowed); reported = s.reported; exported = x ∙ s.exported }
+step_holds h (KilledPublishAs batch time n calls) (Refused fault) dir save changes extract start a b apart s t x =
+    let done = number_refused h dir save changes extract start a b batch time n calls fault apart s.agrees t in
+    record { agrees = done.0; allowed = (done.1, s.allowed); reported = s.reported; exported = x ∙ s.exported }
+step_holds h (KilledPublishAs batch time n calls) (CutOff fault O5c) dir save changes extract start a b apart s t x =
+    let done = number_cut h dir save changes extract start a b batch time n calls fault true t.1.0 O5c apart s.agrees refl t.0 t.1.1 t.2 in
+    record { agrees = done.0; allowed = (done.1, s.allowed); reported = s.reported; exported = x ∙ s.exported }
+step_holds h (KilledPublishAs batch time n calls) (CutOff fault Opl) dir save changes extract start a b apart s t x =
+    let done = number_cut h dir save changes extract start a b batch time n calls fault false true Opl apart s.agrees refl t.0 t.1 t.2 in
+    record { agrees = done.0; allowed = (done.1, s.allowed); reported = s.reported; exported = x ∙ s.exported }
+step_holds h (KilledPublishAs batch time n calls) r dir save changes extract start a b apart s t x = absurd t
+step_holds h Follow (Followed report) dir save changes extract start a b apart s t x =
+    let done = follow_more h dir save changes extract start a b report apart s.agrees t.0 in
     record {
       agrees = done.0;
       allowed = (done.1, s.allowed);
       reported =
-          reports_more h report done.2 (few (hist.published_of h) s.agrees.folder.sequences) done.1 s.reported;
+          reports_more h report done.2 (few (hist.published_of h) s.agrees.folder.sequences)
+          (base_below (hist.published_of h) (hist.base_of h) (hist.number_of h) (files_of a.store save) s.agrees.saved.save_is) done.1 s.reported;
+      exported = x ∙ s.exported;
     }
-step_holds h Follow (Refused fault) dir save changes start a b apart s t =
-    let done = follow_stopped (hist.published_of h) (hist.is_file_lost h) (hist.number_of h) dir save changes start a b
+step_holds h Follow (Refused fault) dir save changes extract start a b apart s t x =
+    let done = follow_stopped (hist.published_of h) (hist.is_file_lost h) (hist.standing_of h) dir save changes extract start a b
     0 fault (no_device_lacks (follow_calls (hist.published_of h) (hist.number_of h)) (Some 0) fault t.1) s.agrees
     t.0 in
     record {
@@ -445,39 +442,43 @@ step_holds h Follow (Refused fault) dir save changes start a b apart s t =
         not_killed_follow (hist.published_of h) (hist.number_of h) 0 fault t.1 done.1,
         s.allowed,
       );
-      reported = none_more h s.reported;
+      reported = s.reported;
+      exported = x ∙ s.exported;
     }
-step_holds h Follow r dir save changes start a b apart s t = absurd t.0
-step_holds h (KilledFollow calls) (Followed report) dir save changes start a b apart s t =
-    let done = follow_more h dir save changes start a b report apart s.agrees t.0 in
+step_holds h Follow r dir save changes extract start a b apart s t x = absurd t.0
+step_holds h (KilledFollow calls) (Followed report) dir save changes extract start a b apart s t x =
+    let done = follow_more h dir save changes extract start a b report apart s.agrees t.0 in
     record {
       agrees = done.0;
       allowed = ((done.1, t.1), s.allowed);
       reported =
-          reports_more h report done.2 (few (hist.published_of h) s.agrees.folder.sequences) done.1 s.reported;
+          reports_more h report done.2 (few (hist.published_of h) s.agrees.folder.sequences)
+          (base_below (hist.published_of h) (hist.base_of h) (hist.number_of h) (files_of a.store save) s.agrees.saved.save_is) done.1 s.reported;
+      exported = x ∙ s.exported;
     }
-step_holds h (KilledFollow calls) (Refused fault) dir save changes start a b apart s t =
-    let done = follow_stopped (hist.published_of h) (hist.is_file_lost h) (hist.number_of h) dir save changes start a b
-    calls fault (t.1 (hist.published_of h) (hist.number_of h) s.agrees.folder s.agrees.saved) s.agrees t.0 in
-    record { agrees = done.0; allowed = (done.1, s.allowed); reported = none_more h s.reported }
-step_holds h (KilledFollow calls) r dir save changes start a b apart s t = absurd t.0
-step_holds h (Lose n suffix) Lost dir save changes start a b apart s (move, same) =
+step_holds h (KilledFollow calls) (Refused fault) dir save changes extract start a b apart s t x =
+    let done = follow_stopped (hist.published_of h) (hist.is_file_lost h) (hist.standing_of h) dir save changes extract start a b
+    calls fault (t.1 (hist.published_of h) (hist.base_of h) (hist.number_of h) s.agrees.folder s.agrees.saved.save_is) s.agrees t.0 in
+    record { agrees = done.0; allowed = (done.1, s.allowed); reported = s.reported; exported = x ∙ s.exported }
+step_holds h (KilledFollow calls) r dir save changes extract start a b apart s t x = absurd t.0
+step_holds h (Lose n suffix) Lost dir save changes extract start a b apart s (move, same) x =
     let n_is = s.agrees.number in
     let within : n ≤ length (hist.published_of h) = omega (arith, n_is, move.0.1) in
-    let done = lost_agrees (hist.published_of h) (hist.is_file_lost h) (hist.number_of h) dir save changes start
+    let done = lost_agrees (hist.published_of h) (hist.is_file_lost h) (hist.standing_of h) dir save changes extract start
     (files_of a.store) (files_of a.lost) (files_of b.store) (files_of b.lost) a.published n suffix apart move.0.0
     within move.1 s.agrees in
     record {
       agrees = quiet (hist.published_of h) (λ i t. if hist.same_file n suffix i t then true else hist.is_file_lost h i
-          t) (hist.number_of h) dir save changes start (files_of b.store) (files_of b.lost) b.published
+          t) (hist.standing_of h) dir save changes extract start (files_of b.store) (files_of b.lost) b.published
           (renewed (hist.published_of h) (λ i t. if hist.same_file n suffix i t then true else hist.is_file_lost h i t)
-          (hist.number_of h) dir save changes start (files_of b.store) (files_of b.lost) (files_of b.store)
+          (hist.standing_of h) dir save changes extract start (files_of b.store) (files_of b.lost) (files_of b.store)
           (files_of b.lost) a.published b.published refl refl same done.0);
       allowed = (((move.0.0, within), done.1), s.allowed);
-      reported = none_more h s.reported;
+      reported = s.reported;
+      exported = x ∙ s.exported;
     }
-step_holds h (Lose n suffix) NotThere dir save changes start a b apart s t = record {
-  agrees = still h dir save changes start a b s.agrees t.1 t.2 t.3;
+step_holds h (Lose n suffix) NotThere dir save changes extract start a b apart s t x = record {
+  agrees = still h dir save changes extract start a b s.agrees t.1 t.2 t.3;
   allowed = (
     elim t.0 [
       | inl none ↦ inl (no_number h a.published n s.agrees.number (few (hist.published_of h) s.agrees.folder.sequences) none)
@@ -487,31 +488,34 @@ step_holds h (Lose n suffix) NotThere dir save changes start a b apart s t = rec
     ],
     s.allowed,
   );
-  reported = none_more h s.reported;
+  reported = s.reported;
+  exported = x ∙ s.exported;
 }
-step_holds h (Lose n suffix) (Refused fault) dir save changes start a b apart s t = record {
-  agrees = still h dir save changes start a b s.agrees t.1 t.2 t.3;
+step_holds h (Lose n suffix) (Refused fault) dir save changes extract start a b apart s t x = record {
+  agrees = still h dir save changes extract start a b s.agrees t.1 t.2 t.3;
   allowed = (t.0, s.allowed);
-  reported = none_more h s.reported;
+  reported = s.reported;
+  exported = x ∙ s.exported;
 }
-step_holds h (Lose n suffix) r dir save changes start a b apart s t = absurd t
-step_holds h (PutBack n suffix) IsBack dir save changes start a b apart s (move, same) =
+step_holds h (Lose n suffix) r dir save changes extract start a b apart s t x = absurd t
+step_holds h (PutBack n suffix) IsBack dir save changes extract start a b apart s (move, same) x =
     let n_is = s.agrees.number in
     let within : n ≤ length (hist.published_of h) = omega (arith, n_is, move.0.1) in
-    let done = back_agrees (hist.published_of h) (hist.is_file_lost h) (hist.number_of h) dir save changes start
+    let done = back_agrees (hist.published_of h) (hist.is_file_lost h) (hist.standing_of h) dir save changes extract start
     (files_of a.store) (files_of a.lost) (files_of b.store) (files_of b.lost) a.published n suffix apart move.0.0
     within move.1 s.agrees in
     record {
       agrees = quiet (hist.published_of h) (λ i t. if hist.same_file n suffix i t then false else hist.is_file_lost h i
-          t) (hist.number_of h) dir save changes start (files_of b.store) (files_of b.lost) b.published
+          t) (hist.standing_of h) dir save changes extract start (files_of b.store) (files_of b.lost) b.published
           (renewed (hist.published_of h) (λ i t. if hist.same_file n suffix i t then false else hist.is_file_lost h i t)
-          (hist.number_of h) dir save changes start (files_of b.store) (files_of b.lost) (files_of b.store)
+          (hist.standing_of h) dir save changes extract start (files_of b.store) (files_of b.lost) (files_of b.store)
           (files_of b.lost) a.published b.published refl refl same done.0);
       allowed = (((move.0.0, within), done.1), s.allowed);
-      reported = none_more h s.reported;
+      reported = s.reported;
+      exported = x ∙ s.exported;
     }
-step_holds h (PutBack n suffix) NotThere dir save changes start a b apart s t = record {
-  agrees = still h dir save changes start a b s.agrees t.1 t.2 t.3;
+step_holds h (PutBack n suffix) NotThere dir save changes extract start a b apart s t x = record {
+  agrees = still h dir save changes extract start a b s.agrees t.1 t.2 t.3;
   allowed = (
     elim t.0 [
       | inl none ↦ inl (no_number h a.published n s.agrees.number (few (hist.published_of h) s.agrees.folder.sequences) none)
@@ -521,17 +525,19 @@ step_holds h (PutBack n suffix) NotThere dir save changes start a b apart s t = 
     ],
     s.allowed,
   );
-  reported = none_more h s.reported;
+  reported = s.reported;
+  exported = x ∙ s.exported;
 }
-step_holds h (PutBack n suffix) (Refused fault) dir save changes start a b apart s t = record {
-  agrees = still h dir save changes start a b s.agrees t.1 t.2 t.3;
+step_holds h (PutBack n suffix) (Refused fault) dir save changes extract start a b apart s t x = record {
+  agrees = still h dir save changes extract start a b s.agrees t.1 t.2 t.3;
   allowed = (t.0, s.allowed);
-  reported = none_more h s.reported;
+  reported = s.reported;
+  exported = x ∙ s.exported;
 }
-step_holds h (PutBack n suffix) r dir save changes start a b apart s t = absurd t
+step_holds h (PutBack n suffix) r dir save changes extract start a b apart s t x = absurd t
 
 -- before any operation
-pub starts_hold : (dir save changes : List ℕ) (w : World) → IsNew dir save (files_of w.store)
+pub starts_hold : (dir save changes extract : List ℕ) (w : World) → IsNew dir save (files_of w.store)
     → files_of w.lost ≡ (λ name. None) → w.published ≡ 0 → Holds [] dir save changes (files_of w.store) w
 starts_hold dir save changes w new none zero_is = record {
   agrees = record {
@@ -569,10 +575,10 @@ pub history_of-snoc : (es : List Operation) (rs : List Reply) (e : Operation) (r
 history_of-snoc es rs e r h = rw (zip-snoc es rs e r h) (reverse-append (zip es rs) ((e, r) ∷ []))
 
 -- what a run says at its end
-pub holds_at_end : (operations : List Operation) (replies : List Reply) (dir save changes : List ℕ) (start : Files)
-    (w : World) → Holds (hist.history_of operations replies) dir save changes start w
-    → IsRun operations replies dir save changes start (files_of w.store)
-holds_at_end operations replies dir save changes start w s = record {
+pub holds_at_end : (operations : List Operation) (replies : List Reply) (dir save changes extract : List ℕ) (start : Files)
+    (w : World) → Holds (hist.history_of operations replies) dir save changes extract start w
+    → IsRun operations replies dir save changes extract start (files_of w.store)
+holds_at_end operations replies dir save changes extract start w s = record {
   allowed = s.allowed;
   in_step = record {
     folder = s.agrees.folder;
