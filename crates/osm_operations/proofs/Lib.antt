@@ -8,5 +8,6 @@ pub mod CutLemmas
 pub mod NumberRows
 pub mod MoveLemmas
 pub mod ReportedLemmas
+pub mod ExtractLemmas
 pub mod StepLemmas
 pub mod PublicationLemmas

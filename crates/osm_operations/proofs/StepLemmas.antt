@@ -1,38 +1,43 @@
 -- After each operation the files are as the history says.
-use Rattle.std.proofs.Common.{◌≡◌, ℕ, ◌+◌, ◌≤◌, List, [], ◌∷◌, ◌++◌, length, Bool, Option, true, false, Some}
+use Rattle.std.proofs.Common.{◌≡◌, ℕ, ◌+◌, ◌-◌, ◌≤◌, List, [], ◌∷◌, ◌++◌, length, Bool, Option, true, false, Some}
 use Rattle.std.proofs.Common.{None, inl, inr, arith, refl, sym, ap, subst, ◌∙◌, append-nil}
-use Rattle.std.specs.Prelude.{◌⊎◌, ◌==◌, not, if◌then◌else◌, max, Err}
+use Rattle.std.specs.Prelude.{◌⊎◌, ◌==◌, IsTrue, is_none, not, if◌then◌else◌, max, Err}
 use Rattle.std.specs.List.{zip}
 use Rattle.std.proofs.lemmas.Bool.{eq-eqb, ne_eqb}
 use Rattle.std.proofs.lemmas.List.{reverse-append}
 use Rattle.osm_model.specs.Change.{ChangeValue}
-use Rattle.osm_model.specs.Limits.{max_sequence}
+use Rattle.osm_model.specs.Limits.{max_file, max_sequence}
 use Rattle.osm_mirror.proofs.MirrorLemmas.{mirror_of-nil}
+use Rattle.osm_save.specs.Head.{head_of}
 use Rattle.osm_state.specs.declared.paths.Suffix.{Suffix}
-use Rattle.osm_state.specs.declared.paths.Suffix.TheVariants.{O5c, Opl}
+use Rattle.osm_state.specs.declared.paths.Suffix.TheVariants.{O5c, Opl, State}
 use Rattle.osm_follow.specs.Published.{PublishedValue, sequence_at}
 use Rattle.osm_follow.specs.Reach.{numbers}
+use Rattle.osm_folder.specs.Beginning.{BeginStops}
 use Rattle.osm_folder.specs.Files.{Files}
+use Rattle.osm_folder.specs.Folder.{IsStateFile}
 use Rattle.osm_folder.specs.Following.{IsSaveOf, follow_calls, no_save}
 use Rattle.osm_folder.specs.Names.{file_name_of}
 use Rattle.osm_folder.specs.Numbered.{numbered_calls}
-use Rattle.osm_folder.specs.Reports.{ReportValue, publish_report_of}
+use Rattle.osm_folder.specs.Reports.{ReportValue, begin_report_of, convert_report_of, publish_report_of}
 use Rattle.osm_folder.specs.Runs.{LacksCalls}
 use Rattle.osm_folder.specs.Stores.{files_of}
 use Rattle.osm_folder.specs.declared.fault.RunFault.{RunFault}
 use Rattle.osm_operations.specs.Allowed.{AreAllowed, CutsAfter, IsNoNumber, IsRepeat, KilledFollowingRefused}
 use Rattle.osm_operations.specs.Allowed.{KilledNumberedRefused, KilledPublicationRefused, NumberedCut, NumberedDone}
-use Rattle.osm_operations.specs.Allowed.{following_report}
+use Rattle.osm_operations.specs.Allowed.{HasBeginning, HasExport, KilledBeginRefused, KilledExportRefused, following_report}
 use Rattle.osm_operations.specs.Correct.{AreApart, IsNew, IsRun}
 use Rattle.osm_operations.specs.History as hist
+use Rattle.osm_operations.specs.Steps.Stepping.{BeginTo, Begins, ExportTo, KeepsExported, state_name_of}
 use Rattle.osm_operations.specs.Steps.Stepping.{FollowTo, HasCalls, IsNoDevice, IsNumber, NumberedStep, PublishAsTo}
 use Rattle.osm_operations.specs.Steps.Stepping.{PublishStep, PublishTo, ReturnForms, Step, form_back, named}
 use Rattle.osm_operations.specs.declared.operation.Operation.{Operation}
 use Rattle.osm_operations.specs.declared.operation.Operation.TheVariants.{Publish, KilledPublish, PublishAs}
 use Rattle.osm_operations.specs.declared.operation.Operation.TheVariants.{KilledPublishAs, Follow, KilledFollow, Lose}
-use Rattle.osm_operations.specs.declared.operation.Operation.TheVariants.{PutBack}
+use Rattle.osm_operations.specs.declared.operation.Operation.TheVariants.{PutBack, Export, KilledExport, Begin, KilledBegin}
 use Rattle.osm_operations.specs.declared.operation.Reply.{Reply}
 use Rattle.osm_operations.specs.declared.operation.Reply.TheVariants.{Published, Followed, Refused, CutOff, Lost, IsBack, NotThere}
+use Rattle.osm_operations.specs.declared.operation.Reply.TheVariants.{Exported, Begun}
 use Rattle.osm_operations.specs.declared.world.World.{World}
 use Rattle.osm_opl.specs.Written.{opl_text}
 use Rattle.osm_operations.proofs.AgreeLemmas.{Agrees, changes_put, few, published_agrees, stopped_agrees}
@@ -41,8 +46,10 @@ use Rattle.osm_operations.proofs.CutLemmas.{StayOrReturn, number_stopped, unrun_
 use Rattle.osm_operations.proofs.NumberLemmas.{AreGone, lost_alike, named_least, named_most, none_back}
 use Rattle.osm_operations.proofs.NumberRows.{cut_unlimited, cuts_after, number_not_killed, number_unlimited, stopped_number, unwritten_number}
 use Rattle.osm_operations.proofs.NumberedLemmas.{IsAgain, number_published, value_of, wrote_not}
-use Rattle.osm_operations.proofs.FollowLemmas.{followed, not_killed_follow, stopped_follow}
+use Rattle.osm_operations.proofs.FollowLemmas.{followed, gone_on, not_killed_follow, stopped_follow}
 use Rattle.osm_operations.proofs.ReportedLemmas.{reports_more}
+use Rattle.osm_operations.proofs.ExtractLemmas.{begin_agrees, begin_row, export_agrees, export_row, has_export, not_killed_begin}
+use Rattle.osm_operations.proofs.ExtractLemmas.{not_killed_export, saved_head, state_name, state_there}
 use Rattle.osm_operations.proofs.MoveLemmas.{back_agrees, kept_none, lost_agrees, not_true}
 
 -- the files are those of the history, each reply is allowed, and the reports say each number once
@@ -145,6 +152,10 @@ saved_within p base m told s = let within = s.in_step.within in let is = s.numbe
 base_below : (p : List PublishedValue) (base m : ℕ) (told : Option (List ℕ)) → IsSaveOf p base m told → base ≤ m
 base_below p base m told s =
     let below = s.in_step.base in let base_is = s.base_is in let number_is = s.number_is in omega (arith, below, base_is, number_is)
+
+-- nothing is reported from a number up to itself
+none_reported : (n : ℕ) → [] ≡ numbers n (n - n)
+none_reported n = let e : n - n ≡ 0 = omega arith in rw e refl
 
 follow_more : (h : hist.History) (dir save changes extract : List ℕ) (start : Files) (a b : World) (report : ReportValue)
     → AreApart dir save changes extract → AgreesIn (hist.published_of h) (hist.is_file_lost h) (hist.standing_of h) dir save
@@ -371,6 +382,83 @@ refused_unlimited dir changes batch time n fault a b (inr (step, back, count)) =
     let is = step_unlimited dir changes batch time n fault (files_of a.store) (files_of b.store) step in
     (inr (is.0, back, count), is.1)
 
+-- an export is done
+export_more : (h : hist.History) (dir save changes extract : List ℕ) (start : Files) (a b : World) (report : ReportValue)
+    → AreApart dir save changes extract → AgreesIn (hist.published_of h) (hist.is_file_lost h) (hist.standing_of h) dir save
+    changes extract start a → ExportTo save extract (Exported report) a b
+    → AgreesIn (hist.published_of h ++ []) (hist.is_file_lost h) (hist.standing_after h (Exported report) (hist.standing_of h)) dir save
+    changes extract start b × (report ≡ convert_report_of) × HasExport h extract (λ text. length text ≤ max_file)
+    × (b.exported ≡ hist.number_of h)
+export_more h dir save changes extract start a b report apart s (done, lost, count, number) =
+    let agrees = export_agrees (hist.published_of h) (hist.is_file_lost h) (hist.standing_of h) dir save changes extract start
+    (files_of a.store) (files_of b.store) (files_of a.lost) a.published report apart s done in
+    let made = done.exported.made in
+    let save_is = agrees.saved.save_is in (
+      quiet (hist.published_of h) (hist.is_file_lost h) (hist.standing_after h (Exported report) (hist.standing_of h)) dir save changes
+          extract start (files_of b.store) (files_of b.lost) b.published
+          (renewed (hist.published_of h) (hist.is_file_lost h) (hist.standing_after h (Exported report) (hist.standing_of h)) dir save
+          changes extract start (files_of b.store) (files_of a.lost) (files_of b.store) (files_of b.lost) a.published b.published refl
+          (ap files_of lost) count agrees),
+      done.report_is,
+      has_export h extract (files_of a.store save) (λ text. length text ≤ max_file) made.named made.held s.saved.save_is s.saved.is_there made.fits,
+      number (head_of save_is.value) (saved_head (files_of b.store save) save_is.value save_is.saved) ∙ save_is.number_is,
+    )
+
+-- an export is refused
+export_stopped : (h : hist.History) (dir save changes extract : List ℕ) (start : Files) (a b : World) (calls : ℕ) (fault : RunFault)
+    → LacksCalls 2 (Some calls) fault → AgreesIn (hist.published_of h) (hist.is_file_lost h) (hist.standing_of h) dir save
+    changes extract start a → ExportTo save extract (Refused fault) a b
+    → AgreesIn (hist.published_of h ++ []) (hist.is_file_lost h) (hist.standing_of h) dir save changes extract start b
+    × KilledExportRefused h extract calls fault
+export_stopped h dir save changes extract start a b calls fault lacks s (stops, lost, count) = (
+  still h dir save changes extract start a b s stops.0 (ap files_of lost) count,
+  export_row h extract save calls (files_of a.store) fault lacks s.saved.save_is s.saved.is_there stops.1,
+)
+
+-- the name of the state that a beginning reads
+state_of : (h : hist.History) (dir save changes extract : List ℕ) (start : Files) (a : World) → Holds h dir save changes extract start a
+    → state_name_of dir a.exported ≡ file_name_of dir (hist.beginning_of h) State
+state_of h dir save changes extract start a s =
+    state_name dir a.exported (hist.beginning_of h) s.exported
+    (let most = few (hist.published_of h) s.agrees.folder.sequences in let within = s.agrees.saved.within in omega (arith, most, within))
+
+-- a beginning is done
+begin_more : (h : hist.History) (dir save changes extract : List ℕ) (start : Files) (a b : World) (report : ReportValue)
+    → AreApart dir save changes extract → Holds h dir save changes extract start a → BeginTo dir save extract (Begun report) a b
+    → AgreesIn (hist.published_of h ++ []) (hist.is_file_lost h) (hist.standing_after h (Begun report) (hist.standing_of h)) dir save
+    changes extract start b × (report ≡ begin_report_of (hist.beginning_of h)) × HasBeginning h extract
+begin_more h dir save changes extract start a b report apart s (done, lost, count) =
+    let run = subst (λ name. Begins extract name save report (files_of a.store) (files_of b.store))
+    (state_of h dir save changes extract start a s) done in
+    let begun = run.begun.beginning in
+    let there = state_there h dir save changes extract start (files_of a.store) (files_of a.lost) a.published 0 s.agrees
+    (IsStateFile run.begun.s.sequence run.begun.s.time) begun.start.there in
+    let agrees = begin_agrees (hist.published_of h) (hist.is_file_lost h) (hist.standing_of h) dir save changes extract
+    (file_name_of dir (hist.beginning_of h) State) start (files_of a.store) (files_of b.store) (files_of a.lost) a.published report apart
+    s.agrees there.2 run in (
+      quiet (hist.published_of h) (hist.is_file_lost h) (hist.standing_after h (Begun report) (hist.standing_of h)) dir save changes
+          extract start (files_of b.store) (files_of b.lost) b.published
+          (renewed (hist.published_of h) (hist.is_file_lost h) (hist.standing_after h (Begun report) (hist.standing_of h)) dir save
+          changes extract start (files_of b.store) (files_of a.lost) (files_of b.store) (files_of b.lost) a.published b.published refl
+          (ap files_of lost) count agrees.0),
+      agrees.1,
+      record { named = begun.base_is.named; above = there.0; there = there.1 },
+    )
+
+-- a beginning is refused
+begin_stopped : (h : hist.History) (dir save changes extract : List ℕ) (start : Files) (a b : World) (calls : ℕ) (fault : RunFault)
+    → LacksCalls 3 (Some calls) fault → Holds h dir save changes extract start a → BeginTo dir save extract (Refused fault) a b
+    → AgreesIn (hist.published_of h ++ []) (hist.is_file_lost h) (hist.standing_of h) dir save changes extract start b
+    × KilledBeginRefused h extract calls fault
+begin_stopped h dir save changes extract start a b calls fault lacks s (stops, lost, count) = (
+  still h dir save changes extract start a b s.agrees stops.0 (ap files_of lost) count,
+  elim stops.1 [
+    | inl want ↦ subst (KilledBeginRefused h extract calls) (sym want) tt
+    | inr run ↦ begin_row h dir save changes extract start (files_of a.store) (files_of a.lost) a.published calls s.agrees fault lacks run.law
+        (subst (λ name. BeginStops (IsTrue true) extract name (files_of a.store) fault) (state_of h dir save changes extract start a s) run.stops)
+  ],
+)
+
 -- one more operation
 pub step_holds : (h : hist.History) (e : Operation) (r : Reply) (dir save changes extract : List ℕ) (start : Files)
     (a b : World) → AreApart dir save changes extract → Holds h dir save changes extract start a
@@ -461,6 +549,54 @@ step_holds h (KilledFollow calls) (Refused fault) dir save changes extract start
     calls fault (t.1 (hist.published_of h) (hist.base_of h) (hist.number_of h) s.agrees.folder s.agrees.saved.save_is) s.agrees t.0 in
     record { agrees = done.0; allowed = (done.1, s.allowed); reported = s.reported; exported = x ∙ s.exported }
 step_holds h (KilledFollow calls) r dir save changes extract start a b apart s t x = absurd t.0
+step_holds h Export (Exported report) dir save changes extract start a b apart s t x =
+    let done = export_more h dir save changes extract start a b report apart s.agrees t.0 in
+    record { agrees = done.0; allowed = ((done.1, done.2), s.allowed); reported = s.reported; exported = done.3 }
+step_holds h Export (Refused fault) dir save changes extract start a b apart s t x =
+    let done = export_stopped h dir save changes extract start a b 0 fault (no_device_lacks 2 (Some 0) fault t.1) s.agrees t.0 in
+    record {
+      agrees = done.0;
+      allowed = (not_killed_export h extract 0 fault t.1 done.1, s.allowed);
+      reported = s.reported;
+      exported = x ∙ s.exported;
+    }
+step_holds h Export r dir save changes extract start a b apart s t x = absurd t.0
+step_holds h (KilledExport calls) (Exported report) dir save changes extract start a b apart s t x =
+    let done = export_more h dir save changes extract start a b report apart s.agrees t.0 in
+    record { agrees = done.0; allowed = ((done.1, (done.2, t.1)), s.allowed); reported = s.reported; exported = done.3 }
+step_holds h (KilledExport calls) (Refused fault) dir save changes extract start a b apart s t x =
+    let done = export_stopped h dir save changes extract start a b calls fault t.1 s.agrees t.0 in
+    record { agrees = done.0; allowed = (done.1, s.allowed); reported = s.reported; exported = x ∙ s.exported }
+step_holds h (KilledExport calls) r dir save changes extract start a b apart s t x = absurd t.0
+step_holds h Begin (Begun report) dir save changes extract start a b apart s t x =
+    let done = begin_more h dir save changes extract start a b report apart s t.0 in
+    record {
+      agrees = done.0;
+      allowed = ((done.1, done.2), s.allowed);
+      reported = none_reported (hist.beginning_of h);
+      exported = x ∙ s.exported;
+    }
+step_holds h Begin (Refused fault) dir save changes extract start a b apart s t x =
+    let done = begin_stopped h dir save changes extract start a b 0 fault (no_device_lacks 3 (Some 0) fault t.1) s t.0 in
+    record {
+      agrees = done.0;
+      allowed = (not_killed_begin h extract 0 fault t.1 done.1, s.allowed);
+      reported = s.reported;
+      exported = x ∙ s.exported;
+    }
+step_holds h Begin r dir save changes extract start a b apart s t x = absurd t.0
+step_holds h (KilledBegin calls) (Begun report) dir save changes extract start a b apart s t x =
+    let done = begin_more h dir save changes extract start a b report apart s t.0 in
+    record {
+      agrees = done.0;
+      allowed = ((done.1, (done.2, t.1)), s.allowed);
+      reported = none_reported (hist.beginning_of h);
+      exported = x ∙ s.exported;
+    }
+step_holds h (KilledBegin calls) (Refused fault) dir save changes extract start a b apart s t x =
+    let done = begin_stopped h dir save changes extract start a b calls fault t.1 s t.0 in
+    record { agrees = done.0; allowed = (done.1, s.allowed); reported = s.reported; exported = x ∙ s.exported }
+step_holds h (KilledBegin calls) r dir save changes extract start a b apart s t x = absurd t.0
 step_holds h (Lose n suffix) Lost dir save changes extract start a b apart s (move, same) x =
     let n_is = s.agrees.number in
     let within : n ≤ length (hist.published_of h) = omega (arith, n_is, move.0.1) in
@@ -538,8 +674,8 @@ step_holds h (PutBack n suffix) r dir save changes extract start a b apart s t x
 
 -- before any operation
 pub starts_hold : (dir save changes extract : List ℕ) (w : World) → IsNew dir save (files_of w.store)
-    → files_of w.lost ≡ (λ name. None) → w.published ≡ 0 → Holds [] dir save changes (files_of w.store) w
-starts_hold dir save changes w new none zero_is = record {
+    → files_of w.lost ≡ (λ name. None) → w.published ≡ 0 → w.exported ≡ 0 → Holds [] dir save changes extract (files_of w.store) w
+starts_hold dir save changes extract w new none zero_is none_exported = record {
   agrees = record {
     folder = record {
       sequences = λ k above within. absurd (omega arith);
@@ -550,17 +686,25 @@ starts_hold dir save changes w new none zero_is = record {
     away = λ k s above most. ap (λ (f : Files). f (file_name_of dir k s)) none;
     fresh = λ k s past. refl;
     right = λ k s above within. absurd (omega arith);
+    zero = new.zero;
     saved = record {
-      value = no_save;
-      saved = rw new.saved refl;
-      number_is = refl;
-      in_step = record { within = omega arith; base = refl; mirror = mirror_of-nil; time = refl };
+      save_is = record {
+        value = no_save;
+        saved = rw new.saved refl;
+        base_is = refl;
+        number_is = refl;
+        in_step = record { within = omega arith; base = omega arith; mirror = mirror_of-nil; time = refl };
+      };
+      is_there = ap is_none new.saved;
+      extract_is = refl;
+      within = omega arith;
     };
     others = λ name o. refl;
     number = zero_is;
   };
   allowed = tt;
   reported = refl;
+  exported = none_exported;
 }
 
 zip-snoc : (es : List Operation) (rs : List Reply) (e : Operation) (r : Reply) → length rs ≡ length es
@@ -583,8 +727,10 @@ holds_at_end operations replies dir save changes extract start w s = record {
   in_step = record {
     folder = s.agrees.folder;
     each = s.agrees.each;
-    saved = s.agrees.saved;
+    saved = s.agrees.saved.save_is;
+    is_there = s.agrees.saved.is_there;
     reported = s.reported;
+    exported = s.agrees.saved.extract_is;
     others = s.agrees.others;
   };
 }

@@ -20,7 +20,6 @@ use osm_folder::begin::begin_run;
 use osm_folder::export::export_run;
 use osm_folder::fault::{FileName, RunFault};
 use osm_folder::fuse::Fuse;
-use osm_folder::laws::laws_of_bases;
 use osm_folder::memory_store::MemoryStore;
 use osm_folder::names::file_name;
 use osm_folder::progress::{Progress, follow_progress};
@@ -34,6 +33,7 @@ use osm_model::memory::WantOfMemory;
 use osm_model::time::time_write;
 use osm_opl::opl::Opl;
 use osm_save::head::{head_read, laws_of_heads};
+use osm_state::laws::laws_of_state;
 use osm_state::paths::Suffix;
 use std::alloc::Global;
 use std::mem;
@@ -232,7 +232,7 @@ pub(crate) fn begin(
         (files_of store.old) (files_of store.new) }
     ensures device { IfErr result IsNoDevice }
 {
-    laws_of_bases();
+    laws_of_state();
     let state = state_name(alloc, dir, number)?;
     begin_run(alloc, store, extract, state.as_str(), save)
 }
@@ -252,7 +252,7 @@ pub(crate) fn begin_killed(
     ensures left { OnOk result (3 ≤ calls) }
     ensures lacks { IfErr result (LacksCalls 3 (Some calls)) }
 {
-    laws_of_bases();
+    laws_of_state();
     let state = state_name(alloc, dir, number)?;
     let mut fuse = fuse_over(alloc, store, calls);
     let answer = begin_run(alloc, &mut fuse, extract, state.as_str(), save);

@@ -8,14 +8,15 @@ use Rattle.osm_model.specs.Limits.{max_file, max_sequence}
 use Rattle.osm_model.specs.Time.{Shows, TimeText}
 use Rattle.osm_opl.specs.Written.{opl_text}
 use Rattle.osm_reading.specs.Sequence.{SpellsSequence}
+use Rattle.osm_state.specs.StateLaws.{NoFaultBesideState}
 use Rattle.osm_state.specs.declared.paths.Suffix.{Suffix}
 use Rattle.osm_save.specs.declared.head.Head.{Head}
 use Rattle.osm_state.specs.declared.paths.Suffix.TheVariants.{O5c, Opl, State}
-use Rattle.osm_follow.specs.Published.{PublishedValue, sequence_at}
+use Rattle.osm_follow.specs.Published.{PublishedValue}
 use Rattle.osm_folder.specs.Beginning.{BeginStops, IsBaseOf, IsBegunFrom}
 use Rattle.osm_folder.specs.Exporting.{ExportStops, IsExportOf, IsExported}
 use Rattle.osm_folder.specs.Files.{Files, Puts}
-use Rattle.osm_folder.specs.Folder.{IsApart, IsFolderOf, IsStateFile, IsThere}
+use Rattle.osm_folder.specs.Folder.{IsApart, IsFolderOf}
 use Rattle.osm_folder.specs.Following.{FollowRefuses, IsFollowed, IsSaveOf, follow_calls}
 use Rattle.osm_folder.specs.Lagging.{IsHead}
 use Rattle.osm_folder.specs.Numbered.{IsAddedAs, IsPublishedAs, NumberedOut, NumberedRefuses}
@@ -177,14 +178,6 @@ IsNumberOfSave number told = (head : Head) → IsHead told head → number ≡ h
 abbrev pub state_name_of : List ℕ → ℕ → List ℕ
 state_name_of dir number = file_name_of dir (min number max_sequence) State
 
--- an export of what published sequences leave is their base, with that number's state
-pub record GivesBase (extract state : List ℕ) (files : Files) : Type 0 where
-  pub gives : (published : List PublishedValue) (number : ℕ)
-      → IsExportOf published number extract (files extract) → 0 < number
-      → number ≤ length published
-      → IsThere (files state) (IsStateFile number (sequence_at published number).time)
-      → IsBaseOf published number extract state files
-
 -- a run that begins
 pub record Begins (extract state save : List ℕ) (report : ReportValue) (old new : Files) :
     Type 0 where
@@ -192,13 +185,12 @@ pub record Begins (extract state save : List ℕ) (report : ReportValue) (old ne
   pub in_step : (published : List PublishedValue) (number : ℕ)
       → IsBaseOf published number extract state old
       → IsSaveOf published number number (new save) × (report ≡ begin_report_of number)
-  pub base : GivesBase extract state old
 
 -- a run that begins stopped
 pub record StopsBeginning (extract state : List ℕ) (fault : RunFault) (old : Files) :
     Type 0 where
   pub stops : BeginStops (IsTrue true) extract state old fault
-  pub base : GivesBase extract state old
+  pub law : NoFaultBesideState
 
 -- what a beginning did, at the state of that number
 abbrev pub BeginStep : List ℕ → ℕ → List ℕ → List ℕ → Result ReportValue RunFault → Files → Files
