@@ -46,7 +46,8 @@ pub record Kept (p : List PublishedValue) (m : Standing) (extract : List ℕ) (w
   pub within : begins_at m ≤ length p
 
 -- the files agree with what was published, lost, saved and exported; `l` holds the lost ones
-pub record Agrees (p : List PublishedValue) (lost : ℕ → Suffix → Bool) (m : Standing) (dir save changes extract : List ℕ) (start f l : Files) (n : ℕ) : Type 0 where
+pub record Agrees (p : List PublishedValue) (lost : ℕ → Suffix → Bool) (m : Standing) (dir save changes extract : List ℕ)
+    (start f l : Files) (n : ℕ) : Type 0 where
   pub folder : IsFolderOf p f dir
   pub each : (k : ℕ) (s : Suffix) → 0 < k → k ≤ length p → f (file_name_of dir k s) ≡ unless_lost (lost k s) (text_of s (sequence_at p k))
   pub away : (k : ℕ) (s : Suffix) → 0 < k → k ≤ max_sequence → l (file_name_of dir k s) ≡ unless_lost (not (lost k s)) (text_of s (sequence_at p k))

@@ -1,5 +1,5 @@
 -- An export of the save, and a beginning with what was exported.
-use Rattle.std.proofs.Common.{◌≡◌, ℕ, ◌-◌, ◌<◌, ◌≤◌, List, [], length, take, Bool, true, false, Option, Some, None, inl, inr, arith}
+use Rattle.std.proofs.Common.{◌≡◌, ℕ, ◌-◌, ◌<◌, ◌≤◌, List, [], ◌∷◌, length, take, Bool, true, false, Option, Some, None, inl, inr, arith}
 use Rattle.std.proofs.Common.{refl, sym, ap, subst, ◌∙◌}
 use Rattle.std.specs.Prelude.{◌⊎◌, IsTrue, is_none, min, not, unwrap_or}
 use Rattle.std.specs.List.{AllByRecursion, flat_map}
@@ -30,8 +30,8 @@ use Rattle.osm_folder.specs.Beginning.{BeginStops, HasStart, IsBase, IsBaseOf, I
 use Rattle.osm_folder.specs.DataForms.{data_text_of, spells_data}
 use Rattle.osm_folder.specs.Exporting.{ExportStops, HasDataForm, Holds, IsExportOf}
 use Rattle.osm_folder.specs.Files.{Files, IsOver, Puts}
-use Rattle.osm_folder.specs.Folder.{IsApart, IsFile, IsFolderOf, IsStateFile, IsThere, max_state}
-use Rattle.osm_folder.specs.Following.{IsInStep, IsSaveOf, IsSaved, max_save, no_save}
+use Rattle.osm_folder.specs.Folder.{IsStateFile, IsThere, max_state}
+use Rattle.osm_folder.specs.Following.{IsInStep, IsSaveOf, IsSaved, max_save}
 use Rattle.osm_folder.specs.Lagging.{IsHead}
 use Rattle.osm_folder.specs.Names.{file_name_of, top_name_of}
 use Rattle.osm_folder.specs.Publication.{IsBadState}
@@ -48,7 +48,7 @@ use Rattle.osm_operations.specs.Correct.{AreApart, IsExtractOf}
 use Rattle.osm_operations.specs.History.{Standing, begins_at, text_of, unless_lost}
 use Rattle.osm_operations.specs.History as hist
 use Rattle.osm_operations.specs.Steps.Stepping.{Begins, Exports, IsNoDevice, state_name_of}
-use Rattle.osm_operations.proofs.AgreeLemmas.{Agrees, Kept, few, folder_same}
+use Rattle.osm_operations.proofs.AgreeLemmas.{Agrees, few, folder_same}
 
 -- ---- what was saved and exported
 
@@ -202,17 +202,17 @@ state_cases p lost m dir save changes extract start f l n s = elim (cases_lt 0 (
   | inl above ↦ elim (cases_Bool (lost (begins_at m) State)) [
     | inl gone ↦ inl (inr gone, s.each (begins_at m) State above s.saved.within ∙ ap (λ b. unless_lost b (text above)) gone)
     | inr here ↦ inr (
-        above,
-        here,
-        base_of_export p (begins_at m) extract (file_name_of dir (begins_at m) State) f
-            (exported_some p m.exported extract (start extract) (f extract) above s.saved.extract_is) above s.saved.within
-            (some_holds (f (file_name_of dir (begins_at m) State)) (text above)
-            (IsStateFile (begins_at m) (sequence_at p (begins_at m)).time)
-            (s.each (begins_at m) State above s.saved.within ∙ ap (λ b. unless_lost b (text above)) here)
-            (subst (λ k. IsStateFile k (sequence_at p (begins_at m)).time (text above))
-            (s.folder.sequences (begins_at m) above s.saved.within).number_is
-            (s.right (begins_at m) State above s.saved.within))),
-      )
+      above,
+      here,
+      base_of_export p (begins_at m) extract (file_name_of dir (begins_at m) State) f
+          (exported_some p m.exported extract (start extract) (f extract) above s.saved.extract_is) above s.saved.within
+          (some_holds (f (file_name_of dir (begins_at m) State)) (text above)
+          (IsStateFile (begins_at m) (sequence_at p (begins_at m)).time)
+          (s.each (begins_at m) State above s.saved.within ∙ ap (λ b. unless_lost b (text above)) here)
+          (subst (λ k. IsStateFile k (sequence_at p (begins_at m)).time (text above))
+          (s.folder.sequences (begins_at m) above s.saved.within).number_is
+          (s.right (begins_at m) State above s.saved.within))),
+    )
   ]
 ]
   where
@@ -344,37 +344,36 @@ base_right extract told objects place b bad =
     let bytes : b.bytes ≡ bad.bytes = same_Some b.bytes bad.bytes (sym b.there ∙ bad.there) in
     bad.nothing objects (subst (λ d. spells_data d bad.bytes objects) form (subst (λ bs. spells_data b.named.form bs objects) bytes b.spelled))
 
+-- the name and the time of the state at which a beginning after the history begins
+abbrev pub state_in : List ℕ → hist.History → List ℕ
+state_in dir h = file_name_of dir (hist.beginning_of h) State
+
+abbrev pub time_in : hist.History → ℕ
+time_in h = (sequence_at (hist.published_of h) (hist.beginning_of h)).time
+
 module _ (h : hist.History) (dir save changes extract : List ℕ) (start f l : Files) (n calls : ℕ)
     (s : Agrees (hist.published_of h) (hist.is_file_lost h) (hist.standing_of h) dir save changes extract start f l n) where
-  p : List PublishedValue
-  p = hist.published_of h
-
-  number : ℕ
-  number = hist.beginning_of h
-
-  state : List ℕ
-  state = file_name_of dir number State
-
-  cases : StateCases p (hist.is_file_lost h) number dir extract f
-  cases = state_cases p (hist.is_file_lost h) (hist.standing_of h) dir save changes extract start f l n s
+  cases : StateCases (hist.published_of h) (hist.is_file_lost h) (hist.beginning_of h) dir extract f
+  cases = state_cases (hist.published_of h) (hist.is_file_lost h) (hist.standing_of h) dir save changes extract start f l n s
 
   -- the state is there
-  pub state_there : (holds : List ℕ → Type 0) → IsThere (f state) holds
-      → (0 < number) × (hist.is_file_lost h number State ≡ false) × IsBaseOf p number extract state f
+  pub state_there : (holds : List ℕ → Type 0) → IsThere (f (state_in dir h)) holds
+      → (0 < hist.beginning_of h) × (hist.is_file_lost h (hist.beginning_of h) State ≡ false)
+      × IsBaseOf (hist.published_of h) (hist.beginning_of h) extract (state_in dir h) f
   state_there holds there = elim cases [
-    | inl gone ↦ absurd (none_holds (f state) holds gone.1 there)
+    | inl gone ↦ absurd (none_holds (f (state_in dir h)) holds gone.1 there)
     | inr here ↦ here
   ]
 
-  pub beginning_has : HasDataForm extract → HasStart state f → HasBeginning h extract
+  pub beginning_has : HasDataForm extract → HasStart (state_in dir h) f → HasBeginning h extract
   beginning_has named start_is =
       let here = state_there (IsStateFile start_is.0.sequence start_is.0.time) start_is.1.there in
       record { named = named; above = here.0; there = here.1 }
 
-  base_is : HasStart state f → IsBaseOf p number extract state f
+  base_is : HasStart (state_in dir h) f → IsBaseOf (hist.published_of h) (hist.beginning_of h) extract (state_in dir h) f
   base_is start_is = (state_there (IsStateFile start_is.0.sequence start_is.0.time) start_is.1.there).2
 
-  pub begin_row : (fault : RunFault) → LacksCalls 3 (Some calls) fault → NoFaultBesideState → BeginStops (IsTrue true) extract state f fault
+  pub begin_row : (fault : RunFault) → LacksCalls 3 (Some calls) fault → NoFaultBesideState → BeginStops (IsTrue true) extract (state_in dir h) f fault
       → KilledBeginRefused h extract calls fault
   begin_row UnknownForm lacks law r = r
   begin_row WantOfMemory lacks law r = tt
@@ -384,24 +383,24 @@ module _ (h : hist.History) (dir save changes extract : List ℕ) (start f l : F
     r.0,
     elim cases [
       | inl gone ↦ gone.0
-      | inr here ↦ absurd (none_holds (f state) (IsStateFile number (sequence_at p number).time) (r.1 refl) here.2.start)
+      | inr here ↦ absurd (none_holds (f (state_in dir h)) (IsStateFile (hist.beginning_of h) (time_in h)) (r.1 refl) here.2.start)
     ],
   )
   begin_row (TooLarge files.State) lacks law r = elim cases [
     | inl gone ↦ absurd (let over = r.1 refl in let there = over.there in let bad : None ≡ Some over.bytes = sym gone.1 ∙ there in cc)
-    | inr here ↦ absurd (state_small (f state) number (sequence_at p number).time here.2.start (r.1 refl))
+    | inr here ↦ absurd (state_small (f (state_in dir h)) (hist.beginning_of h) (time_in h) here.2.start (r.1 refl))
   ]
   begin_row (BadState files.State cause) lacks law r = elim cases [
     | inl gone ↦ absurd (let wrong = r.1 refl in let there = wrong.there in let bad : None ≡ Some wrong.bytes = sym gone.1 ∙ there in cc)
-    | inr here ↦ absurd (state_right law (f state) number (sequence_at p number).time cause here.2.start (r.1 refl))
+    | inr here ↦ absurd (state_right law (f (state_in dir h)) (hist.beginning_of h) (time_in h) cause here.2.start (r.1 refl))
   ]
   begin_row ZeroBase lacks law r =
       let zero = r.1 refl in
       let here = state_there (IsStateFile 0 zero.0) zero.1 in
       let zero_state : StateValue = record { sequence = 0; time = zero.0 } in
-      let named : StateValue = record { sequence = number; time = (sequence_at p number).time } in
-      let same : 0 ≡ number = ap (λ (u : StateValue). u.sequence) (same_start (f state) zero_state named zero.1 here.2.start) in
-      let above : 0 < number = here.0 in
+      let named : StateValue = record { sequence = hist.beginning_of h; time = (time_in h) } in
+      let same : 0 ≡ hist.beginning_of h = ap (λ (u : StateValue). u.sequence) (same_start (f (state_in dir h)) zero_state named zero.1 here.2.start) in
+      let above : 0 < hist.beginning_of h = here.0 in
       absurd (omega (arith, same, above))
   begin_row (ReadFault Base) lacks law r = (beginning_has r.0 (r.1 refl), lacks tt)
   begin_row (Absent Base) lacks law r =
@@ -418,8 +417,11 @@ module _ (h : hist.History) (dir save changes extract : List ℕ) (start f l : F
       absurd (base_right extract (f extract) is.objects place is.base_is told.1)
   begin_row (TooLarge Save) lacks law r =
       let big = r refl in
-      let has : HasStart state f = (big.0, big.2.start) in
-      (refl, beginning_has big.2.base_is.named has, big_beginning p number extract state f (base_is has) big.0 big.1 big.2 big.3)
+      let has : HasStart (state_in dir h) f = (big.0, big.2.start) in (
+        refl,
+        beginning_has big.2.base_is.named has,
+        big_beginning (hist.published_of h) (hist.beginning_of h) extract (state_in dir h) f (base_is has) big.0 big.1 big.2 big.3,
+      )
   begin_row (WriteFault Save) lacks law r =
       let told = r refl in
       (refl, beginning_has told.2.base_is.named (told.0, told.2.start), lacks tt)

@@ -122,7 +122,8 @@ followed p lost m dir save changes extract start f g l n report apart s run =
     count = after.count
 
     start_is : run.following.start.number ≡ m.number
-    start_is = ap (λ (v : Saved). v.number) (one_saved (f save) run.following.start s.saved.save_is.value run.following.started.saved s.saved.save_is.saved) ∙ s.saved.save_is.number_is
+    start_is = ap (λ (v : Saved). v.number) (one_saved (f save) run.following.start s.saved.save_is.value run.following.started.saved
+        s.saved.save_is.saved) ∙ s.saved.save_is.number_is
 
     -- the save that was written says how many were taken
     same_count : run.following.count ≡ count
@@ -160,7 +161,8 @@ followed p lost m dir save changes extract start f g l n report apart s run =
     count_same : count_from (number_lost lost) m.number (length p - m.number) ≡ count
     count_same = count_is (number_lost lost) m.number (length p - m.number) count (omega (arith, within)) none far
 
-    lost_are : lost_numbers f dir (m.number + count) (length p) ≡ filter (number_lost lost) (numbers (m.number + count) (min 64 (length p - (m.number + count))))
+    lost_are : lost_numbers f dir (m.number + count) (length p)
+        ≡ filter (number_lost lost) (numbers (m.number + count) (min 64 (length p - (m.number + count))))
     lost_are = filter_same (is_lost f dir) (number_lost lost) (m.number + count) (min 64 (length p - (m.number + count)))
         (λ k above until. (let low = min_below 64 (length p - (m.number + count)) in gone k (omega (arith, above)) (omega (arith, until, low, within))))
 

@@ -22,7 +22,6 @@ use Rattle.osm_folder.specs.Numbered.{IsAsked, IsPublishedIn, IsRepeated, PutsSe
 use Rattle.osm_folder.specs.Publication.{GoesOnFrom, IsAdded, Writes, writes_of}
 use Rattle.osm_folder.specs.Reports.{ReportValue, publish_report_of}
 use Rattle.osm_folder.proofs.FolderLemmas.{goes_on_number}
-use Rattle.osm_folder.proofs.NumberedLemmas as folder_numbers
 use Rattle.osm_operations.specs.Allowed.{place_of}
 use Rattle.osm_operations.specs.Correct.{AreApart}
 use Rattle.osm_operations.specs.History.{Standing, text_of, unless_lost, wrote}
@@ -114,7 +113,8 @@ module _ (left : Option ℕ) (p : List PublishedValue) (lost : ℕ → Suffix �
 
   next_agrees : n ≡ length p + 1 → IsAdded p dir changes run.now run.middle g report
       → Agrees (p ++ value_of n batch time ∷ []) lost m dir save changes extract start g k (c + 1)
-  next_agrees next add = subst (λ (h : Files). Agrees (p ++ value_of n batch time ∷ []) lost m dir save changes extract start g h (c + 1)) (sym gone.same) agrees
+  next_agrees next add =
+      subst (λ (h : Files). Agrees (p ++ value_of n batch time ∷ []) lost m dir save changes extract start g h (c + 1)) (sym gone.same) agrees
     where
       long : length (p ++ add.added ∷ []) ≡ length p + 1
       long = grind (arith, length-append)

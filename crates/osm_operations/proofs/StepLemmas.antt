@@ -54,7 +54,8 @@ use Rattle.osm_operations.proofs.MoveLemmas.{back_agrees, kept_none, lost_agrees
 
 -- the files are those of the history, each reply is allowed, and the reports say each number once
 pub record Holds (h : hist.History) (dir save changes extract : List ℕ) (start : Files) (w : World) : Type 0 where
-  pub agrees : Agrees (hist.published_of h) (hist.is_file_lost h) (hist.standing_of h) dir save changes extract start (files_of w.store) (files_of w.lost) w.published
+  pub agrees : Agrees (hist.published_of h) (hist.is_file_lost h) (hist.standing_of h) dir save changes extract start (files_of w.store)
+      (files_of w.lost) w.published
   pub allowed : AreAllowed extract h
   pub reported : hist.reported_of h ≡ numbers (hist.base_of h) (hist.number_of h - hist.base_of h)
   pub exported : w.exported ≡ hist.beginning_of h
@@ -172,7 +173,8 @@ follow_more h dir save changes extract start a b report apart s step =
           dir save changes extract start (files_of b.store) (files_of a.lost)
           (files_of b.store) (files_of b.lost) a.published b.published refl (ap files_of step.1) step.2 done.0),
       done.1,
-      saved_within (hist.published_of h) (hist.base_of h) (hist.number_of h + hist.count_after h (hist.number_of h)) (files_of b.store save) done.0.saved.save_is,
+      saved_within (hist.published_of h) (hist.base_of h) (hist.number_of h + hist.count_after h (hist.number_of h)) (files_of b.store save)
+          done.0.saved.save_is,
     )
 
 follow_stopped : (p : List PublishedValue) (lost : ℕ → Suffix → Bool) (m : hist.Standing) (dir save changes extract : List ℕ)
@@ -227,8 +229,8 @@ number_more left h dir save changes extract start a b batch time n report apart 
         (lost_alike (p ++ value_of n batch time ∷ []) lost gone m dir save changes extract start (files_of b.store) (files_of b.lost) (a.published + 1)
         (λ k u. rw (wrote_not n (length p) k (λ e. (let at = next.0 in omega (arith, e, at)))) refl) next.1))
     | inr old ↦ rw (ne_eqb n (length p + 1) (λ e. (let within = old.0.1 in omega (arith, e, within))), append-nil p)
-        (renewed p gone m dir save changes extract start (files_of b.store) (files_of b.lost) (files_of b.store) (files_of b.lost) a.published b.published refl refl
-        (t.2 ∙ max_old a.published n (let within = old.0.1 in let at = s.number in omega (arith, within, at))) old.1)
+        (renewed p gone m dir save changes extract start (files_of b.store) (files_of b.lost) (files_of b.store) (files_of b.lost) a.published
+        b.published refl refl (t.2 ∙ max_old a.published n (let within = old.0.1 in let at = s.number in omega (arith, within, at))) old.1)
   ]),
   (done.1, row done.0),
   done.2,
@@ -290,7 +292,8 @@ number_refused h dir save changes extract start a b batch time n calls fault apa
       (number_stopped (Some calls) (hist.published_of h) (hist.is_file_lost h) (hist.standing_of h) dir save changes extract start
       (files_of a.store) (files_of b.store) (files_of a.lost) (files_of b.lost) a.published batch time n fault false
       false apart s run back)),
-  stopped_number h dir save changes extract start (files_of a.store) (files_of b.store) (files_of a.lost) a.published (hist.standing_of h) batch time n calls fault run
+  stopped_number h dir save changes extract start (files_of a.store) (files_of b.store) (files_of a.lost) a.published (hist.standing_of h) batch
+      time n calls fault run
       (changes_put (hist.published_of h) (hist.is_file_lost h) (hist.standing_of h) dir save changes extract start
       (files_of a.store) run.middle (files_of a.lost) a.published (Some (opl_text batch)) apart run.there.put s),
 )
@@ -464,13 +467,19 @@ pub step_holds : (h : hist.History) (e : Operation) (r : Reply) (dir save change
     (a b : World) → AreApart dir save changes extract → Holds h dir save changes extract start a
     → Step dir save changes extract e r a b → KeepsExported r a b → Holds ((e, r) ∷ h) dir save changes extract start b
 step_holds h (Publish batch time) (Published report) dir save changes extract start a b apart s t x =
-    let done = publish_more None (hist.published_of h) (hist.is_file_lost h) (hist.standing_of h) dir save changes extract start a b batch time report apart s.agrees t in
+    let done = publish_more None (hist.published_of h) (hist.is_file_lost h) (hist.standing_of h) dir save changes extract start a b batch time
+    report apart s.agrees t in
     record { agrees = done.0; allowed = (done.1, s.allowed); reported = s.reported; exported = x ∙ s.exported }
 step_holds h (Publish batch time) (Refused fault) dir save changes extract start a b apart s t x =
     let u = unlimited dir changes batch time fault a b t in
     let done = publish_stopped (hist.published_of h) (hist.is_file_lost h) (hist.standing_of h) dir save changes extract start a b
     batch time 0 fault apart s.agrees u.0 in
-    record { agrees = done.0; allowed = (not_killed (hist.published_of h) batch time 0 fault u.1 done.1, s.allowed); reported = s.reported; exported = x ∙ s.exported }
+    record {
+      agrees = done.0;
+      allowed = (not_killed (hist.published_of h) batch time 0 fault u.1 done.1, s.allowed);
+      reported = s.reported;
+      exported = x ∙ s.exported;
+    }
 step_holds h (Publish batch time) r dir save changes extract start a b apart s t x = absurd t
 step_holds h (KilledPublish batch time calls) (Published report) dir save changes extract start a b apart s t x =
     let done = publish_more (Some calls) (hist.published_of h) (hist.is_file_lost h) (hist.standing_of h) dir save changes extract
@@ -491,11 +500,21 @@ step_holds h (PublishAs batch time n) (Refused fault) dir save changes extract s
 step_holds h (PublishAs batch time n) (CutOff fault O5c) dir save changes extract start a b apart s t x =
     let u = step_unlimited dir changes batch time n fault (files_of a.store) (files_of b.store) t.0 in
     let done = number_cut h dir save changes extract start a b batch time n 0 fault true t.1.0 O5c apart s.agrees refl u.0 t.1.1 t.2 in
-    record { agrees = done.0; allowed = ((cut_unlimited n 0 done.1.0 fault u.1 done.1.1, (done.1.0, done.1.2)), s.allowed); reported = s.reported; exported = x ∙ s.exported }
+    record {
+      agrees = done.0;
+      allowed = ((cut_unlimited n 0 done.1.0 fault u.1 done.1.1, (done.1.0, done.1.2)), s.allowed);
+      reported = s.reported;
+      exported = x ∙ s.exported;
+    }
 step_holds h (PublishAs batch time n) (CutOff fault Opl) dir save changes extract start a b apart s t x =
     let u = step_unlimited dir changes batch time n fault (files_of a.store) (files_of b.store) t.0 in
     let done = number_cut h dir save changes extract start a b batch time n 0 fault false true Opl apart s.agrees refl u.0 t.1 t.2 in
-    record { agrees = done.0; allowed = ((cut_unlimited n 0 done.1.0 fault u.1 done.1.1, (done.1.0, done.1.2)), s.allowed); reported = s.reported; exported = x ∙ s.exported }
+    record {
+      agrees = done.0;
+      allowed = ((cut_unlimited n 0 done.1.0 fault u.1 done.1.1, (done.1.0, done.1.2)), s.allowed);
+      reported = s.reported;
+      exported = x ∙ s.exported;
+    }
 step_holds h (PublishAs batch time n) r dir save changes extract start a b apart s t x = absurd t
 step_holds h (KilledPublishAs batch time n calls) (Published report) dir save changes extract start a b apart s t x =
     let done = number_more (Some calls) h dir save changes extract start a b batch time n report apart s.agrees t in
@@ -563,7 +582,7 @@ step_holds h Export (Refused fault) dir save changes extract start a b apart s t
 step_holds h Export r dir save changes extract start a b apart s t x = absurd t.0
 step_holds h (KilledExport calls) (Exported report) dir save changes extract start a b apart s t x =
     let done = export_more h dir save changes extract start a b report apart s.agrees t.0 in
-    record { agrees = done.0; allowed = ((done.1, (done.2, t.1)), s.allowed); reported = s.reported; exported = done.3 }
+    record { agrees = done.0; allowed = ((done.1, done.2, t.1), s.allowed); reported = s.reported; exported = done.3 }
 step_holds h (KilledExport calls) (Refused fault) dir save changes extract start a b apart s t x =
     let done = export_stopped h dir save changes extract start a b calls fault t.1 s.agrees t.0 in
     record { agrees = done.0; allowed = (done.1, s.allowed); reported = s.reported; exported = x ∙ s.exported }
@@ -589,7 +608,7 @@ step_holds h (KilledBegin calls) (Begun report) dir save changes extract start a
     let done = begin_more h dir save changes extract start a b report apart s t.0 in
     record {
       agrees = done.0;
-      allowed = ((done.1, (done.2, t.1)), s.allowed);
+      allowed = ((done.1, done.2, t.1), s.allowed);
       reported = none_reported (hist.beginning_of h);
       exported = x ∙ s.exported;
     }

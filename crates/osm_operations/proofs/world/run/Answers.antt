@@ -30,10 +30,12 @@ loop-operation-preserved c =
         history_of-snoc c.loop-operation.yielded c.loop-operation.replies.items
             c.in-Some.operation c.step-reply.result c.loop-operation.invariant.many,
       )
-          (step_holds _ _ _ c.args.dir.now c.args.save.now c.args.changes.now c.args.extract.now _ _ _ apart (c.loop-operation.invariant.holds apart new) c.step-reply.ensures.step c.step-reply.ensures.exported);
+          (step_holds _ _ _ c.args.dir.now c.args.save.now c.args.changes.now c.args.extract.now _ _ _ apart
+          (c.loop-operation.invariant.holds apart new) c.step-reply.ensures.step c.step-reply.ensures.exported);
       run = λ apart new. rw pushed (holds_at_end (c.loop-operation.yielded ++ c.in-Some.operation ∷ [])
           (c.loop-operation.replies.items ++ c.step-reply.result ∷ []) c.args.dir.now c.args.save.now c.args.changes.now c.args.extract.now
           (files_of c.args.store) c.step-reply.new.self
           (rw (history_of-snoc c.loop-operation.yielded c.loop-operation.replies.items c.in-Some.operation c.step-reply.result c.loop-operation.invariant.many)
-          (step_holds _ _ _ c.args.dir.now c.args.save.now c.args.changes.now c.args.extract.now _ _ _ apart (c.loop-operation.invariant.holds apart new) c.step-reply.ensures.step c.step-reply.ensures.exported)));
+          (step_holds _ _ _ c.args.dir.now c.args.save.now c.args.changes.now c.args.extract.now _ _ _ apart
+          (c.loop-operation.invariant.holds apart new) c.step-reply.ensures.step c.step-reply.ensures.exported)));
     }
