@@ -12,7 +12,8 @@ use Rattle.std.specs.Prelude.{filter, min}
 use Rattle.std.proofs.lemmas.Bool.{cases_Bool}
 use Rattle.osm_model.specs.Limits.{max_sequence}
 use Rattle.osm_follow.specs.Reach.{numbers}
-use Rattle.osm_folder.specs.Reports.{ReportValue, follow_text}
+use Rattle.osm_folder.specs.Following.{ranges}
+use Rattle.osm_folder.specs.Reports.{ReportValue, follow_report_of, follow_text}
 use Rattle.osm_show.specs.Lines.{applied_line, numbered_line}
 use Rattle.osm_operations.specs.Allowed.{following_report}
 use Rattle.osm_operations.specs.History as hist
@@ -180,3 +181,12 @@ reports_more h report within most below is so_far =
 
     total : ℕ
     total = length (hist.published_of h)
+
+-- one that comes to the number before a spoiled file
+pub reports_before : (h : hist.History) (report : ReportValue) (count last : ℕ) → last ≡ hist.number_of h + count → last ≤ max_sequence
+    → hist.base_of h ≤ hist.number_of h → report ≡ follow_report_of (ranges (hist.number_of h) count) [] last
+    → hist.reported_of h ≡ numbers (hist.base_of h) (hist.number_of h - hist.base_of h)
+    → hist.reported_of h ++ applied_in report.text ≡ numbers (hist.base_of h) (last - hist.base_of h)
+reports_before h report count last last_is most below is so_far =
+    rw (is, so_far, report_says (numbers (hist.number_of h) count) [] last (numbers_small (hist.number_of h) count (omega (arith, last_is, most))) tt (omega (arith, most)))
+    (numbers_after (hist.base_of h) (hist.number_of h) count below ∙ ap (λ j. numbers (hist.base_of h) (j - hist.base_of h)) (sym last_is))

@@ -1,7 +1,7 @@
 -- After each operation the files are as the history says.
 use Rattle.std.proofs.Common.{◌≡◌, ℕ, ◌+◌, ◌-◌, ◌≤◌, List, [], ◌∷◌, ◌++◌, length, Bool, Option, true, false, Some}
 use Rattle.std.proofs.Common.{None, inl, inr, arith, refl, sym, ap, subst, ◌∙◌, append-nil}
-use Rattle.std.specs.Prelude.{◌⊎◌, ◌==◌, IsTrue, is_none, not, if◌then◌else◌, max, Err}
+use Rattle.std.specs.Prelude.{◌⊎◌, ◌==◌, IsTrue, is_none, not, if◌then◌else◌, max, Result, Ok, Err}
 use Rattle.std.specs.List.{zip}
 use Rattle.std.proofs.lemmas.Bool.{eq-eqb, ne_eqb}
 use Rattle.std.proofs.lemmas.List.{reverse-append}
@@ -16,28 +16,33 @@ use Rattle.osm_follow.specs.Reach.{numbers}
 use Rattle.osm_folder.specs.Beginning.{BeginStops}
 use Rattle.osm_folder.specs.Files.{Files}
 use Rattle.osm_folder.specs.Folder.{IsStateFile}
-use Rattle.osm_folder.specs.Following.{IsSaveOf, follow_calls, no_save}
+use Rattle.osm_folder.specs.Following.{FollowRefuses, IsSaveOf, follow_calls, no_save, ranges}
 use Rattle.osm_folder.specs.Names.{file_name_of}
 use Rattle.osm_folder.specs.Numbered.{numbered_calls}
-use Rattle.osm_folder.specs.Reports.{ReportValue, begin_report_of, convert_report_of, publish_report_of}
+use Rattle.osm_folder.specs.Reports.{ReportValue, begin_report_of, convert_report_of, follow_report_of, publish_report_of}
 use Rattle.osm_folder.specs.Runs.{LacksCalls}
 use Rattle.osm_folder.specs.Stores.{files_of}
 use Rattle.osm_folder.specs.declared.fault.RunFault.{RunFault}
+use Rattle.osm_folder.specs.declared.fault.RunFault.TheVariants.{WantOfMemory, ReadFault, WriteFault, TooLarge, Absent}
+use Rattle.osm_folder.specs.declared.progress.Progress.TheVariants.{Whole, Before}
 use Rattle.osm_operations.specs.Allowed.{AreAllowed, CutsAfter, IsNoNumber, IsRepeat, KilledFollowingRefused}
 use Rattle.osm_operations.specs.Allowed.{KilledNumberedRefused, KilledPublicationRefused, NumberedCut, NumberedDone}
 use Rattle.osm_operations.specs.Allowed.{HasBeginning, HasExport, KilledBeginRefused, KilledExportRefused, following_report}
+use Rattle.osm_operations.specs.Allowed.{IsFileThere, IsReadIn, KilledSpoiledRefused, NothingToSpoil, SpoiledBefore, SpoiledDone, SpoiledRefused}
 use Rattle.osm_operations.specs.Correct.{AreApart, IsNew, IsRun}
 use Rattle.osm_operations.specs.History as hist
+use Rattle.osm_operations.specs.Reported.{applied_in}
+use Rattle.osm_operations.specs.Spoiling.{number_before}
 use Rattle.osm_operations.specs.Steps.Stepping.{BeginTo, Begins, ExportTo, KeepsExported, state_name_of}
 use Rattle.osm_operations.specs.Steps.Stepping.{FollowTo, HasCalls, IsNoDevice, IsNumber, NumberedStep, PublishAsTo}
-use Rattle.osm_operations.specs.Steps.Stepping.{PublishStep, PublishTo, ReturnForms, Step, form_back, named}
+use Rattle.osm_operations.specs.Steps.Stepping.{PublishStep, PublishTo, ReturnForms, SpoiledStep, SpoiledTo, Step, form_back, named}
 use Rattle.osm_operations.specs.declared.operation.Operation.{Operation}
 use Rattle.osm_operations.specs.declared.operation.Operation.TheVariants.{Publish, KilledPublish, PublishAs}
 use Rattle.osm_operations.specs.declared.operation.Operation.TheVariants.{KilledPublishAs, Follow, KilledFollow, Lose}
-use Rattle.osm_operations.specs.declared.operation.Operation.TheVariants.{PutBack, Export, KilledExport, Begin, KilledBegin}
+use Rattle.osm_operations.specs.declared.operation.Operation.TheVariants.{PutBack, Export, KilledExport, Begin, KilledBegin, FollowSpoiled, KilledFollowSpoiled}
 use Rattle.osm_operations.specs.declared.operation.Reply.{Reply}
 use Rattle.osm_operations.specs.declared.operation.Reply.TheVariants.{Published, Followed, Refused, CutOff, Lost, IsBack, NotThere}
-use Rattle.osm_operations.specs.declared.operation.Reply.TheVariants.{Exported, Begun}
+use Rattle.osm_operations.specs.declared.operation.Reply.TheVariants.{Exported, Begun, FollowedBefore}
 use Rattle.osm_operations.specs.declared.world.World.{World}
 use Rattle.osm_opl.specs.Written.{opl_text}
 use Rattle.osm_operations.proofs.AgreeLemmas.{Agrees, changes_put, few, published_agrees, stopped_agrees}
@@ -47,9 +52,12 @@ use Rattle.osm_operations.proofs.NumberLemmas.{AreGone, lost_alike, named_least,
 use Rattle.osm_operations.proofs.NumberRows.{cut_unlimited, cuts_after, number_not_killed, number_unlimited, stopped_number, unwritten_number}
 use Rattle.osm_operations.proofs.NumberedLemmas.{IsAgain, number_published, value_of, wrote_not}
 use Rattle.osm_operations.proofs.FollowLemmas.{followed, gone_on, not_killed_follow, stopped_follow}
-use Rattle.osm_operations.proofs.ReportedLemmas.{reports_more}
+use Rattle.osm_operations.proofs.ReportedLemmas.{reports_before, reports_more}
 use Rattle.osm_operations.proofs.ExtractLemmas.{begin_agrees, begin_row, export_agrees, export_row, has_export, not_killed_begin}
 use Rattle.osm_operations.proofs.ExtractLemmas.{not_killed_export, saved_head, state_name, state_there}
+use Rattle.osm_operations.proofs.SpoiledRunLemmas.{progress_stops}
+use Rattle.osm_operations.proofs.SpoiledStepLemmas.{as_before, came_before, file_there, mended, not_read, over_spoiled, read_in, same_agrees}
+use Rattle.osm_operations.proofs.SpoiledStepLemmas.{save_apart, spoiled_followed}
 use Rattle.osm_operations.proofs.MoveLemmas.{back_agrees, kept_none, lost_agrees, not_true}
 
 -- the files are those of the history, each reply is allowed, and the reports say each number once
@@ -462,6 +470,236 @@ begin_stopped h dir save changes extract start a b calls fault lacks s (stops, l
   ],
 )
 
+-- ---- a run of the follower over a spoiled file
+
+-- the file of that number is there
+file_is_there : (h : hist.History) (dir save changes extract : List ℕ) (start : Files) (a : World) (k : ℕ) (t : Suffix) (bytes : List ℕ)
+    → AreApart dir save changes extract → AgreesIn (hist.published_of h) (hist.is_file_lost h) (hist.standing_of h) dir save changes extract start a
+    → IsNumber true a.published k → files_of a.store (file_name_of dir k t) ≡ Some bytes → IsFileThere h k t
+file_is_there h dir save changes extract start a k t bytes apart s number there =
+    let n_is = s.number in
+    let within : k ≤ length (hist.published_of h) = omega (arith, n_is, number.1) in (
+      number.0,
+      within,
+      file_there (hist.published_of h) (hist.is_file_lost h) (hist.standing_of h) dir save changes extract start (files_of a.store)
+          (files_of a.lost) a.published apart s k t bytes number.0 within there,
+    )
+
+-- it is done as over the right file
+spoiled_more : (h : hist.History) (dir save changes extract : List ℕ) (start : Files) (a b : World) (k : ℕ) (t : Suffix) (report : ReportValue)
+    → AreApart dir save changes extract → AgreesIn (hist.published_of h) (hist.is_file_lost h) (hist.standing_of h) dir save
+    changes extract start a → SpoiledTo dir save k t (Followed report) a b → AgreesIn (hist.published_of h ++ [])
+    (hist.is_file_lost h) (gone_on (hist.standing_of h) (hist.count_after h (hist.number_of h))) dir save changes extract start b
+    × SpoiledDone h k t report × (hist.number_of h + hist.count_after h (hist.number_of h) ≤ length (hist.published_of h))
+spoiled_more h dir save changes extract start a b k t report apart s to = by_step to.step
+  where
+    p : List PublishedValue
+    p = hist.published_of h
+
+    lost : ℕ → Suffix → Bool
+    lost = hist.is_file_lost h
+
+    m : hist.Standing
+    m = hist.standing_of h
+
+    f : Files
+    f = files_of a.store
+
+    within : k ≤ length p
+    within = let n_is = s.number in omega (arith, n_is, to.number.1)
+
+    by_step : SpoiledStep dir save (file_name_of dir k t) (Ok (Whole report)) f (files_of b.store)
+        → AgreesIn (p ++ []) lost (gone_on m (hist.count_after h (hist.number_of h))) dir save changes extract start b
+        × SpoiledDone h k t report × (hist.number_of h + hist.count_after h (hist.number_of h) ≤ length p)
+    by_step (inl want) = absurd (let bad : Ok (Whole report) ≡ Err WantOfMemory = want.0 in cc)
+    by_step (inr run) =
+        let above = to.number.0 in
+        let o = over_spoiled p lost m dir save changes extract start f (files_of a.lost) a.published apart s k t run.bytes run.during
+        above within run.there run.put in
+        let followed_it = run.done refl in
+        let is = mended (file_name_of dir k t) save run.bytes f run.during run.after (files_of b.store)
+        (save_apart p lost m dir save changes extract start f (files_of a.lost) a.published apart s k t within) run.there run.put
+        followed_it.put.others run.back in
+        let right = spoiled_followed p lost m dir save changes extract start f (files_of a.lost) a.published apart s k t run.during run.after
+        (files_of b.store) report o followed_it is in
+        let done = follow_more h dir save changes extract start a b report apart s (right, to.lost, to.published) in
+        let on = followed p lost m dir save changes extract start f (files_of b.store) (files_of a.lost) a.published report apart s right in (
+          done.0,
+          (
+            file_is_there h dir save changes extract start a k t run.bytes apart s to.number run.there,
+            done.1,
+            λ way. (
+                let u = not_read p lost m dir save changes extract start f (files_of a.lost) a.published apart s k t run.during run.after
+                (files_of b.store) report (hist.count_after h (hist.number_of h)) o followed_it is on.0.saved.save_is way.0 way.1 in
+                let read = subst (IsReadIn h k) u.0 way.2 in
+                let bad : true ≡ false = sym read.1 ∙ u.1 in cc),
+          ),
+          done.2,
+        )
+
+-- it is done up to the number before the file's
+spoiled_short : (h : hist.History) (dir save changes extract : List ℕ) (start : Files) (a b : World) (k : ℕ) (t : Suffix)
+    (report : ReportValue) (fault : RunFault) → AreApart dir save changes extract → AgreesIn (hist.published_of h) (hist.is_file_lost h)
+    (hist.standing_of h) dir save changes extract start a → SpoiledTo dir save k t (FollowedBefore report fault) a b
+    → hist.reported_of h ≡ numbers (hist.base_of h) (hist.number_of h - hist.base_of h)
+    → AgreesIn (hist.published_of h ++ []) (hist.is_file_lost h) (hist.standing_after h (FollowedBefore report fault) (hist.standing_of h))
+    dir save changes extract start b × SpoiledBefore h k t report fault
+    × (hist.reported_of h ++ applied_in report.text ≡ numbers (hist.base_of h) (number_before fault - hist.base_of h))
+spoiled_short h dir save changes extract start a b k t report fault apart s to so_far = by_step to.step
+  where
+    p : List PublishedValue
+    p = hist.published_of h
+
+    lost : ℕ → Suffix → Bool
+    lost = hist.is_file_lost h
+
+    m : hist.Standing
+    m = hist.standing_of h
+
+    f : Files
+    f = files_of a.store
+
+    within : k ≤ length p
+    within = let n_is = s.number in omega (arith, n_is, to.number.1)
+
+    by_step : SpoiledStep dir save (file_name_of dir k t) (Ok (Before report fault)) f (files_of b.store)
+        → AgreesIn (p ++ []) lost (hist.standing_after h (FollowedBefore report fault) m) dir save changes extract start b
+        × SpoiledBefore h k t report fault
+        × (hist.reported_of h ++ applied_in report.text ≡ numbers (hist.base_of h) (number_before fault - hist.base_of h))
+    by_step (inl want) = absurd (let bad : Ok (Before report fault) ≡ Err WantOfMemory = want.0 in cc)
+    by_step (inr run) =
+        let above = to.number.0 in
+        let o = over_spoiled p lost m dir save changes extract start f (files_of a.lost) a.published apart s k t run.bytes run.during
+        above within run.there run.put in
+        let came_to = run.done refl in
+        let is = mended (file_name_of dir k t) save run.bytes f run.during run.after (files_of b.store)
+        (save_apart p lost m dir save changes extract start f (files_of a.lost) a.published apart s k t within) run.there run.put
+        came_to.put.others run.back in
+        let came = came_before p lost m dir save changes extract start f (files_of a.lost) a.published apart s run.law k t run.during run.after
+        (files_of b.store) report fault o came_to is in
+        let from = came.from in
+        let number = came.number in
+        let most = few p s.folder.sequences in (
+          quiet p lost (hist.standing_after h (FollowedBefore report fault) m) dir save changes extract start (files_of b.store)
+              (files_of b.lost) b.published (renewed p lost (hist.standing_after h (FollowedBefore report fault) m) dir save changes extract
+              start (files_of b.store) (files_of a.lost) (files_of b.store) (files_of b.lost) a.published b.published refl
+              (ap files_of to.lost) to.published came.agrees),
+          (
+            file_is_there h dir save changes extract start a k t run.bytes apart s to.number run.there,
+            came.report_is,
+            (
+              omega (arith, from),
+              came.turn,
+              read_in p lost m dir save changes extract start f (files_of a.lost) a.published apart s k t above within came.read h refl,
+            ),
+            from,
+            came.fault_is,
+          ),
+          reports_before h report (k - 1 - hist.number_of h) (number_before fault) (omega (arith, from, number)) (omega (arith, number, within, most))
+              (base_below p (hist.base_of h) (hist.number_of h) (f save) s.saved.save_is)
+              (came.report_is ∙ ap (λ j. follow_report_of (ranges (hist.number_of h) (k - 1 - hist.number_of h)) [] j) (sym number)) so_far,
+        )
+
+-- what refuses a run over the right file
+spoiled_row : (h : hist.History) (k : ℕ) (t : Suffix) (told : Option (List ℕ)) (fault : RunFault)
+    → IsSaveOf (hist.published_of h) (hist.base_of h) (hist.number_of h) told → FollowRefuses (hist.published_of h) told fault
+    → KilledSpoiledRefused h k t fault
+spoiled_row h k t told (ReadFault file) s r = tt
+spoiled_row h k t told (WriteFault file) s r = r
+spoiled_row h k t told WantOfMemory s r = inl tt
+spoiled_row h k t told (Absent file) s r = inl r
+spoiled_row h k t told (TooLarge file) s r =
+    inl (stopped_follow (hist.published_of h) (hist.base_of h) (hist.number_of h) 0 told (TooLarge file) (λ device. absurd device) s r)
+spoiled_row h k t told fault s r = absurd r
+
+-- what a killed run and a whole one are refused for
+killed_spoiled : (h : hist.History) (k : ℕ) (t : Suffix) (fault : RunFault) → SpoiledRefused h k t fault → KilledSpoiledRefused h k t fault
+killed_spoiled h k t (ReadFault file) r = tt
+killed_spoiled h k t (WriteFault file) (inl r) = absurd r
+killed_spoiled h k t (WriteFault file) (inr r) = absurd r.3
+killed_spoiled h k t fault r = r
+
+not_killed_spoiled : (h : hist.History) (k : ℕ) (t : Suffix) (fault : RunFault) → IsNoDevice fault → KilledSpoiledRefused h k t fault
+    → SpoiledRefused h k t fault
+not_killed_spoiled h k t (ReadFault file) none r = absurd none
+not_killed_spoiled h k t (WriteFault file) none r = absurd none
+not_killed_spoiled h k t fault none r = r
+
+one_fault : {T : Type 0} (w : Result T RunFault) (a b : RunFault) → w ≡ Err a → w ≡ Err b → a ≡ b
+one_fault w a b p q = cc
+
+-- it is refused
+spoiled_stopped : (h : hist.History) (dir save changes extract : List ℕ) (start : Files) (a b : World) (k : ℕ) (t : Suffix) (fault : RunFault)
+    → AreApart dir save changes extract → AgreesIn (hist.published_of h) (hist.is_file_lost h) (hist.standing_of h) dir save
+    changes extract start a → SpoiledTo dir save k t (Refused fault) a b
+    → AgreesIn (hist.published_of h ++ []) (hist.is_file_lost h) (hist.standing_of h) dir save changes extract start b
+    × KilledSpoiledRefused h k t fault
+spoiled_stopped h dir save changes extract start a b k t fault apart s to = by_step to.step
+  where
+    p : List PublishedValue
+    p = hist.published_of h
+
+    lost : ℕ → Suffix → Bool
+    lost = hist.is_file_lost h
+
+    m : hist.Standing
+    m = hist.standing_of h
+
+    f : Files
+    f = files_of a.store
+
+    within : k ≤ length p
+    within = let n_is = s.number in omega (arith, n_is, to.number.1)
+
+    by_step : SpoiledStep dir save (file_name_of dir k t) (Err fault) f (files_of b.store)
+        → AgreesIn (p ++ []) lost m dir save changes extract start b × KilledSpoiledRefused h k t fault
+    by_step (inl want) = (
+      still h dir save changes extract start a b s want.1 (ap files_of to.lost) to.published,
+      subst (KilledSpoiledRefused h k t) (sym (one_fault (Err fault) fault WantOfMemory refl want.0)) (inl tt),
+    )
+    by_step (inr run) =
+        let above = to.number.0 in
+        let o = over_spoiled p lost m dir save changes extract start f (files_of a.lost) a.published apart s k t run.bytes run.during
+        above within run.there run.put in
+        let same = as_before p lost m dir save changes extract start f (files_of a.lost) a.published apart s k t run.bytes run.during run.after
+        (files_of b.store) within run.there run.put run.kept run.back in (
+          quiet p lost m dir save changes extract start (files_of b.store) (files_of b.lost) b.published
+              (renewed p lost m dir save changes extract start (files_of b.store) (files_of a.lost) (files_of b.store) (files_of b.lost)
+              a.published b.published refl (ap files_of to.lost) to.published
+              (same_agrees p lost m dir save changes extract start f (files_of a.lost) a.published apart s (files_of b.store) same)),
+          elim (progress_stops p m.base m.number dir save k t f run.during o run.law (IsTrue true) refl fault run.stops) [
+            | inl r ↦ spoiled_row h k t (f save) fault s.saved.save_is r
+            | inr next ↦ (let at = next.0 in killed_spoiled h k t fault (inr (
+              file_is_there h dir save changes extract start a k t run.bytes apart s to.number run.there,
+              (
+                omega (arith, at),
+                omega (arith, at),
+                read_in p lost m dir save changes extract start f (files_of a.lost) a.published apart s k t above within next.2 h refl,
+              ),
+              at,
+              next.1,
+            )))
+          ],
+        )
+
+-- there is no file to spoil
+nothing_to_spoil : (h : hist.History) (dir save changes extract : List ℕ) (start : Files) (a b : World) (k : ℕ) (t : Suffix)
+    → AgreesIn (hist.published_of h) (hist.is_file_lost h) (hist.standing_of h) dir save changes extract start a
+    → SpoiledTo dir save k t NotThere a b
+    → AgreesIn (hist.published_of h ++ []) (hist.is_file_lost h) (hist.standing_of h) dir save changes extract start b × NothingToSpoil h k t
+nothing_to_spoil h dir save changes extract start a b k t s (why, files, lost, count) = (
+  still h dir save changes extract start a b s files (ap files_of lost) count,
+  elim why [
+    | inl none ↦ elim (no_number h a.published k s.number (few (hist.published_of h) s.folder.sequences) none) [
+      | inl zero_is ↦ inl zero_is
+      | inr past ↦ inr (inl past)
+    ]
+    | inr gone ↦ inr (inr (let n_is = s.number in
+        kept_none (hist.is_file_lost h k t) (hist.text_of t (sequence_at (hist.published_of h) k))
+        (sym (s.each k t gone.0.0 (omega (arith, n_is, gone.0.1))) ∙ gone.1)))
+  ],
+)
+
 -- one more operation
 pub step_holds : (h : hist.History) (e : Operation) (r : Reply) (dir save changes extract : List ℕ) (start : Files)
     (a b : World) → AreApart dir save changes extract → Holds h dir save changes extract start a
@@ -568,6 +806,51 @@ step_holds h (KilledFollow calls) (Refused fault) dir save changes extract start
     calls fault (t.1 (hist.published_of h) (hist.base_of h) (hist.number_of h) s.agrees.folder s.agrees.saved.save_is) s.agrees t.0 in
     record { agrees = done.0; allowed = (done.1, s.allowed); reported = s.reported; exported = x ∙ s.exported }
 step_holds h (KilledFollow calls) r dir save changes extract start a b apart s t x = absurd t.0
+step_holds h (FollowSpoiled k suffix) (Followed report) dir save changes extract start a b apart s t x =
+    let done = spoiled_more h dir save changes extract start a b k suffix report apart s.agrees t.0 in
+    record {
+      agrees = done.0;
+      allowed = (done.1, s.allowed);
+      reported =
+          reports_more h report done.2 (few (hist.published_of h) s.agrees.folder.sequences)
+          (base_below (hist.published_of h) (hist.base_of h) (hist.number_of h) (files_of a.store save) s.agrees.saved.save_is) done.1.1 s.reported;
+      exported = x ∙ s.exported;
+    }
+step_holds h (FollowSpoiled k suffix) (FollowedBefore report fault) dir save changes extract start a b apart s t x =
+    let done = spoiled_short h dir save changes extract start a b k suffix report fault apart s.agrees t.0 s.reported in
+    record { agrees = done.0; allowed = (done.1, s.allowed); reported = done.2; exported = x ∙ s.exported }
+step_holds h (FollowSpoiled k suffix) (Refused fault) dir save changes extract start a b apart s t x =
+    let done = spoiled_stopped h dir save changes extract start a b k suffix fault apart s.agrees t.0 in
+    record {
+      agrees = done.0;
+      allowed = (not_killed_spoiled h k suffix fault t.1 done.1, s.allowed);
+      reported = s.reported;
+      exported = x ∙ s.exported;
+    }
+step_holds h (FollowSpoiled k suffix) NotThere dir save changes extract start a b apart s t x =
+    let done = nothing_to_spoil h dir save changes extract start a b k suffix s.agrees t.0 in
+    record { agrees = done.0; allowed = (done.1, s.allowed); reported = s.reported; exported = x ∙ s.exported }
+step_holds h (FollowSpoiled k suffix) r dir save changes extract start a b apart s t x = absurd t.0
+step_holds h (KilledFollowSpoiled k suffix calls) (Followed report) dir save changes extract start a b apart s t x =
+    let done = spoiled_more h dir save changes extract start a b k suffix report apart s.agrees t.0 in
+    record {
+      agrees = done.0;
+      allowed = ((done.1, t.1), s.allowed);
+      reported =
+          reports_more h report done.2 (few (hist.published_of h) s.agrees.folder.sequences)
+          (base_below (hist.published_of h) (hist.base_of h) (hist.number_of h) (files_of a.store save) s.agrees.saved.save_is) done.1.1 s.reported;
+      exported = x ∙ s.exported;
+    }
+step_holds h (KilledFollowSpoiled k suffix calls) (FollowedBefore report fault) dir save changes extract start a b apart s t x =
+    let done = spoiled_short h dir save changes extract start a b k suffix report fault apart s.agrees t.0 s.reported in
+    record { agrees = done.0; allowed = ((done.1, t.1), s.allowed); reported = done.2; exported = x ∙ s.exported }
+step_holds h (KilledFollowSpoiled k suffix calls) (Refused fault) dir save changes extract start a b apart s t x =
+    let done = spoiled_stopped h dir save changes extract start a b k suffix fault apart s.agrees t.0 in
+    record { agrees = done.0; allowed = (done.1, s.allowed); reported = s.reported; exported = x ∙ s.exported }
+step_holds h (KilledFollowSpoiled k suffix calls) NotThere dir save changes extract start a b apart s t x =
+    let done = nothing_to_spoil h dir save changes extract start a b k suffix s.agrees t.0 in
+    record { agrees = done.0; allowed = (done.1, s.allowed); reported = s.reported; exported = x ∙ s.exported }
+step_holds h (KilledFollowSpoiled k suffix calls) r dir save changes extract start a b apart s t x = absurd t.0
 step_holds h Export (Exported report) dir save changes extract start a b apart s t x =
     let done = export_more h dir save changes extract start a b report apart s.agrees t.0 in
     record { agrees = done.0; allowed = ((done.1, done.2), s.allowed); reported = s.reported; exported = done.3 }

@@ -1,6 +1,7 @@
 -- Which reply may follow a history. The rows of an operation exclude one another, except that
--- memory may be refused instead, and that a run may be killed.
-use Rattle.std.specs.Prelude.{◌≡◌, ℕ, ◌+◌, ◌<◌, ◌≤◌, ◌⊎◌, length, List, [], ◌∷◌, true, false}
+-- memory may be refused instead, that a run may be killed, and that of a lost number the state may
+-- be read or not.
+use Rattle.std.specs.Prelude.{◌≡◌, ℕ, ◌+◌, ◌-◌, ◌<◌, ◌≤◌, ◌⊎◌, length, List, [], ◌∷◌, true, false}
 use Rattle.osm_model.specs.Change.{ChangeValue}
 use Rattle.osm_model.specs.Content.{content_of}
 use Rattle.osm_model.specs.Data.{IsData}
@@ -31,16 +32,20 @@ use Rattle.osm_folder.specs.declared.fault.RunFault.TheVariants.{UnknownForm}
 use Rattle.osm_operations.specs.History.{History, published_of, is_file_lost, number_of}
 use Rattle.osm_operations.specs.History.{is_number_lost, count_after, lost_after, is_saved}
 use Rattle.osm_operations.specs.History.{beginning_of}
+use Rattle.osm_operations.specs.Spoiling.{IsSpoiledFault}
 use Rattle.osm_operations.specs.declared.operation.Operation.{Operation}
 use Rattle.osm_operations.specs.declared.operation.Operation.TheVariants.{Publish, KilledPublish}
 use Rattle.osm_operations.specs.declared.operation.Operation.TheVariants.{PublishAs}
 use Rattle.osm_operations.specs.declared.operation.Operation.TheVariants.{KilledPublishAs}
 use Rattle.osm_operations.specs.declared.operation.Operation.TheVariants.{Follow, KilledFollow}
+use Rattle.osm_operations.specs.declared.operation.Operation.TheVariants.{FollowSpoiled}
+use Rattle.osm_operations.specs.declared.operation.Operation.TheVariants.{KilledFollowSpoiled}
 use Rattle.osm_operations.specs.declared.operation.Operation.TheVariants.{Export, KilledExport}
 use Rattle.osm_operations.specs.declared.operation.Operation.TheVariants.{Begin, KilledBegin}
 use Rattle.osm_operations.specs.declared.operation.Operation.TheVariants.{Lose, PutBack}
 use Rattle.osm_operations.specs.declared.operation.Reply.{Reply}
 use Rattle.osm_operations.specs.declared.operation.Reply.TheVariants.{Published, Followed}
+use Rattle.osm_operations.specs.declared.operation.Reply.TheVariants.{FollowedBefore}
 use Rattle.osm_operations.specs.declared.operation.Reply.TheVariants.{Exported, Begun}
 use Rattle.osm_operations.specs.declared.operation.Reply.TheVariants.{Refused, CutOff, Lost, IsBack}
 use Rattle.osm_operations.specs.declared.operation.Reply.TheVariants.{NotThere}
@@ -289,6 +294,78 @@ AllowedKilledFollow h calls (Refused fault) =
     KilledFollowingRefused (published_of h) (number_of h) calls fault
 AllowedKilledFollow h calls r = ⊥
 
+-- the file of a number is that of a published one, and is there
+abbrev pub IsFileThere : History → ℕ → Suffix → Type 0
+IsFileThere h n s = (0 < n) × (n ≤ length (published_of h)) × (is_file_lost h n s ≡ false)
+
+-- when a file of a number is read, if the number's turn comes: a change file only if the state is
+-- there, and the OPL file only if there is no o5c file
+abbrev pub IsReadIn : History → ℕ → Suffix → Type 0
+IsReadIn h n State = Unit {0}
+IsReadIn h n O5c = is_file_lost h n State ≡ false
+IsReadIn h n Opl = (is_file_lost h n State ≡ false) × (is_file_lost h n O5c ≡ true)
+
+-- a run of the follower reads the file, which is one of the numbers that it can take
+abbrev pub IsOnTheWay : History → ℕ → Suffix → Type 0
+IsOnTheWay h n s =
+    (number_of h < n) × (n ≤ number_of h + count_after h (number_of h)) × IsReadIn h n s
+
+-- it may read the file: that, or the number is the next one, of which the state may be read though
+-- its changes are lost
+abbrev pub IsInTurn : History → ℕ → Suffix → Type 0
+IsInTurn h n s =
+    (number_of h < n) × (n ≤ number_of h + count_after h (number_of h) + 1) × IsReadIn h n s
+
+-- what a run of the follower prints that comes to the number before n
+abbrev pub before_report : History → ℕ → ReportValue
+before_report h n = follow_report_of (ranges (number_of h) (n - 1 - number_of h)) [] (n - 1)
+
+-- a run of the follower over a spoiled file is done as over the right one: it didn't read the file
+abbrev pub SpoiledDone : History → ℕ → Suffix → ReportValue → Type 0
+SpoiledDone h n s report =
+    IsFileThere h n s × (report ≡ following_report h) × (IsOnTheWay h n s → ⊥)
+
+-- it is done up to the number before the file's, which isn't the follower's own
+abbrev pub SpoiledBefore : History → ℕ → Suffix → ReportValue → RunFault → Type 0
+SpoiledBefore h n s report fault =
+    IsFileThere h n s × (report ≡ before_report h n) × IsInTurn h n s × (number_of h + 1 < n)
+    × IsSpoiledFault n s fault
+
+-- why it isn't done: for the spoiled file, if its number is the follower's next one; else only for
+-- what refuses a run over the right file
+abbrev pub SpoiledRefused : History → ℕ → Suffix → RunFault → Type 0
+SpoiledRefused h n s fault =
+    FollowingRefused (published_of h) fault
+    ⊎ (IsFileThere h n s × IsInTurn h n s × (n ≡ number_of h + 1) × IsSpoiledFault n s fault)
+
+-- why a killed one isn't done: for the device, else only for what refuses a whole one
+abbrev pub KilledSpoiledRefused : History → ℕ → Suffix → RunFault → Type 0
+KilledSpoiledRefused h n s (ReadFault file) = Unit {0}
+KilledSpoiledRefused h n s (WriteFault file) = file ≡ Save
+KilledSpoiledRefused h n s fault = SpoiledRefused h n s fault
+
+-- there is no file to spoil
+abbrev pub NothingToSpoil : History → ℕ → Suffix → Type 0
+NothingToSpoil h n s =
+    (n ≡ 0) ⊎ (length (published_of h) < n) ⊎ (is_file_lost h n s ≡ true)
+
+-- a run of the follower over a spoiled file is done, done up to it, or refused
+abbrev pub AllowedSpoiled : History → ℕ → Suffix → Reply → Type 0
+AllowedSpoiled h n s (Followed report) = SpoiledDone h n s report
+AllowedSpoiled h n s (FollowedBefore report fault) = SpoiledBefore h n s report fault
+AllowedSpoiled h n s (Refused fault) = SpoiledRefused h n s fault
+AllowedSpoiled h n s NotThere = NothingToSpoil h n s
+AllowedSpoiled h n s r = ⊥
+
+-- a killed one that is done had at least as many calls as the fewest that it makes
+abbrev pub AllowedKilledSpoiled : History → ℕ → Suffix → ℕ → Reply → Type 0
+AllowedKilledSpoiled h n s calls (Followed report) = SpoiledDone h n s report × (3 ≤ calls)
+AllowedKilledSpoiled h n s calls (FollowedBefore report fault) =
+    SpoiledBefore h n s report fault × (3 ≤ calls)
+AllowedKilledSpoiled h n s calls (Refused fault) = KilledSpoiledRefused h n s fault
+AllowedKilledSpoiled h n s calls NotThere = NothingToSpoil h n s
+AllowedKilledSpoiled h n s calls r = ⊥
+
 -- an export is done or refused
 abbrev pub AllowedExport : History → List ℕ → Reply → Type 0
 AllowedExport h extract (Exported report) =
@@ -350,6 +427,8 @@ Allowed extract h (KilledPublishAs changes time n calls) r =
     AllowedKilledPublishAs h changes time n calls r
 Allowed extract h Follow r = AllowedFollow h r
 Allowed extract h (KilledFollow calls) r = AllowedKilledFollow h calls r
+Allowed extract h (FollowSpoiled n s) r = AllowedSpoiled h n s r
+Allowed extract h (KilledFollowSpoiled n s calls) r = AllowedKilledSpoiled h n s calls r
 Allowed extract h Export r = AllowedExport h extract r
 Allowed extract h (KilledExport calls) r = AllowedKilledExport h extract calls r
 Allowed extract h Begin r = AllowedBegin h extract r

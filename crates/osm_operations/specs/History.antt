@@ -9,6 +9,7 @@ use Rattle.osm_follow.specs.Reach.{numbers}
 use Rattle.osm_state.specs.declared.paths.Suffix.{Suffix}
 use Rattle.osm_state.specs.declared.paths.Suffix.TheVariants.{O5c, Opl, State}
 use Rattle.osm_operations.specs.Reported.{applied_in}
+use Rattle.osm_operations.specs.Spoiling.{number_before}
 use Rattle.osm_operations.specs.declared.operation.Operation.{Operation}
 use Rattle.osm_operations.specs.declared.operation.Operation.TheVariants.{Publish, KilledPublish}
 use Rattle.osm_operations.specs.declared.operation.Operation.TheVariants.{PublishAs}
@@ -16,6 +17,7 @@ use Rattle.osm_operations.specs.declared.operation.Operation.TheVariants.{Killed
 use Rattle.osm_operations.specs.declared.operation.Operation.TheVariants.{Lose, PutBack}
 use Rattle.osm_operations.specs.declared.operation.Reply.{Reply}
 use Rattle.osm_operations.specs.declared.operation.Reply.TheVariants.{Published, Followed}
+use Rattle.osm_operations.specs.declared.operation.Reply.TheVariants.{FollowedBefore}
 use Rattle.osm_operations.specs.declared.operation.Reply.TheVariants.{Exported, Begun}
 use Rattle.osm_operations.specs.declared.operation.Reply.TheVariants.{CutOff, Lost, IsBack}
 
@@ -130,11 +132,17 @@ abbrev pub begins_at : Standing → ℕ
 begins_at s = unwrap_or s.exported 0
 
 -- the same after a reply to an operation after that history. A run of the follower adds the numbers
--- that it can take, a beginning begins with what was exported last, and an export exports the
+-- that it can take, or those before a faulty one, a beginning begins with what was exported last, and an export exports the
 -- follower's number
 abbrev pub standing_after : History → Reply → Standing → Standing
 standing_after h (Followed report) s = record {
   number = s.number + count_after h s.number;
+  base = s.base;
+  is_saved = true;
+  exported = s.exported;
+}
+standing_after h (FollowedBefore report fault) s = record {
+  number = number_before fault;
   base = s.base;
   is_saved = true;
   exported = s.exported;
@@ -181,6 +189,7 @@ beginning_of h = begins_at (standing_of h)
 -- report are added, and a beginning begins anew
 abbrev pub reported_after : Reply → List ℕ → List ℕ
 reported_after (Followed report) so_far = so_far ++ applied_in report.text
+reported_after (FollowedBefore report fault) so_far = so_far ++ applied_in report.text
 reported_after (Begun report) so_far = []
 reported_after r so_far = so_far
 

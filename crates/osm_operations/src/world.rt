@@ -10,16 +10,19 @@ ghost use Rattle.osm_operations.specs.Steps.Stepping.{HasFollowCalls, HasPublish
 ghost use Rattle.osm_operations.specs.Steps.Stepping.{IsNumberOfSave, IsWhole, KeepsExported};
 ghost use Rattle.osm_operations.specs.Steps.Stepping.{KeepsOthers, LoseTo, PublishAsTo};
 ghost use Rattle.osm_operations.specs.Steps.Stepping.{PublishTo, PutBackTo, SettleTo, Step};
-ghost use Rattle.osm_operations.specs.Steps.Stepping.{exported_reply};
+ghost use Rattle.osm_operations.specs.Steps.Stepping.{HasSpoiledCalls, SpoiledTo, exported_reply};
+ghost use Rattle.osm_operations.specs.Steps.Stepping.{spoiled_reply as replied};
 ghost use Rattle.osm_operations.specs.Steps.Stepping.{stopped_reply as settled};
 
 use crate::operation::{Operation, Reply};
 use crate::runs::{
-    FormNames, begin, begin_killed, export, export_killed, follow, follow_killed, form_names,
-    move_file, publish, publish_as, publish_as_killed, publish_killed, returns, saved_number,
+    FormNames, begin, begin_killed, export, export_killed, follow, follow_killed, follow_spoiled,
+    follow_spoiled_killed, form_names, move_file, publish, publish_as, publish_as_killed,
+    publish_killed, returns, saved_number,
 };
 use osm_folder::fault::RunFault;
 use osm_folder::memory_store::MemoryStore;
+use osm_folder::progress::Progress;
 use osm_folder::report::Report;
 use osm_model::batch::Batch;
 use osm_model::limits::MAX_SEQUENCE;
@@ -127,6 +130,14 @@ impl World {
             } => self.publish_as_killed(dir, changes, &batch, time, number, calls),
             Operation::Follow => self.follow(dir, save),
             Operation::KilledFollow { calls } => self.follow_killed(dir, save, calls),
+            Operation::FollowSpoiled { number, suffix } => {
+                self.follow_spoiled(dir, save, number, suffix)
+            }
+            Operation::KilledFollowSpoiled {
+                number,
+                suffix,
+                calls,
+            } => self.follow_spoiled_killed(dir, save, number, suffix, calls),
             Operation::Export => self.export(save, extract),
             Operation::KilledExport { calls } => self.export_killed(save, extract, calls),
             Operation::Begin => self.begin(dir, save, extract),
@@ -275,6 +286,45 @@ impl World {
         }
     }
 
+    fn follow_spoiled(&mut self, dir: &str, save: &str, number: u32, suffix: Suffix) -> Reply
+        ensures step { SpoiledTo dir.now save.now number suffix result self.old self.new }
+        ensures whole { IsWhole result }
+        ensures exported { KeepsExported result self.old self.new }
+    {
+        if !is_number(self.published, number) {
+            return Reply::NotThere;
+        }
+        let answer = follow_spoiled(self.alloc, &mut self.store, dir, save, number, suffix);
+        spoiled_reply(answer)
+    }
+
+    fn follow_spoiled_killed(
+        &mut self,
+        dir: &str,
+        save: &str,
+        number: u32,
+        suffix: Suffix,
+        calls: u64,
+    ) -> Reply
+        ensures step { SpoiledTo dir.now save.now number suffix result self.old self.new }
+        ensures left { HasSpoiledCalls calls result }
+        ensures exported { KeepsExported result self.old self.new }
+    {
+        if !is_number(self.published, number) {
+            return Reply::NotThere;
+        }
+        let answer = follow_spoiled_killed(
+            self.alloc,
+            &mut self.store,
+            dir,
+            save,
+            number,
+            suffix,
+            calls,
+        );
+        spoiled_reply(answer)
+    }
+
     fn export(&mut self, save: &str, extract: &str) -> Reply
         ensures step { ExportTo save.now extract.now result self.old self.new }
         ensures whole { IsWhole result }
@@ -389,6 +439,18 @@ impl World {
             Ok(false) => Reply::NotThere,
             Err(WantOfMemory) => Reply::Refused(RunFault::WantOfMemory),
         }
+    }
+}
+
+// The reply to a run of the follower over a spoiled file; none was made if that isn't there.
+fn spoiled_reply(answer: Option<Result<Progress, RunFault>>) -> Reply
+    ensures { result ≡ replied answer }
+{
+    match answer {
+        None => Reply::NotThere,
+        Some(Ok(Progress::Whole(report))) => Reply::Followed(report),
+        Some(Ok(Progress::Before(report, fault))) => Reply::FollowedBefore { report, fault },
+        Some(Err(fault)) => Reply::Refused(fault),
     }
 }
 

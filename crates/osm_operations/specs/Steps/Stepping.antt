@@ -1,7 +1,7 @@
 -- Steps of operations: what each does to the files of a store.
 use Rattle.std.specs.Prelude.{◌≡◌, ℕ, ◌+◌, ◌<◌, ◌≤◌, ◌⊎◌, List, length, Bool, true, false}
-use Rattle.std.specs.Prelude.{Option, Some, None, is_none, min, max}
-use Rattle.std.specs.Prelude.{IsTrue, Result, Ok, Err}
+use Rattle.std.specs.Prelude.{Option, Some, None, is_none, is_some, min, max, string_bytes}
+use Rattle.std.specs.Prelude.{IsTrue, Result, Ok, Err, IfErr, IfOk, OnErr}
 use Rattle.osm_model.specs.Batch.{IsBatch}
 use Rattle.osm_model.specs.Change.{ChangeValue}
 use Rattle.osm_model.specs.Limits.{max_file, max_sequence}
@@ -21,6 +21,7 @@ use Rattle.osm_folder.specs.Following.{FollowRefuses, IsFollowed, IsSaveOf, foll
 use Rattle.osm_folder.specs.Lagging.{IsHead}
 use Rattle.osm_folder.specs.Numbered.{IsAddedAs, IsPublishedAs, NumberedOut, NumberedRefuses}
 use Rattle.osm_folder.specs.Numbered.{NumberedStops, numbered_calls}
+use Rattle.osm_folder.specs.Progress.{IsProgress, ProgressStops}
 use Rattle.osm_folder.specs.Publication.{FolderRefuses, GoesOnFrom, IsPublished, PublishOut}
 use Rattle.osm_folder.specs.Publication.{PublishStops}
 use Rattle.osm_folder.specs.Names.{file_name_of, top_name_of}
@@ -33,19 +34,24 @@ use Rattle.osm_folder.specs.declared.progress.Progress.{Progress}
 use Rattle.osm_folder.specs.declared.progress.Progress.TheVariants.{Whole, Before}
 use Rattle.osm_folder.specs.declared.fault.RunFault.TheVariants.{WantOfMemory, ReadFault}
 use Rattle.osm_folder.specs.declared.fault.RunFault.TheVariants.{WriteFault, TooLarge}
+use Rattle.osm_operations.specs.Spoiling.{spoiled}
 use Rattle.osm_operations.specs.declared.operation.Operation.{Operation}
 use Rattle.osm_operations.specs.declared.operation.Operation.TheVariants.{Publish, KilledPublish}
 use Rattle.osm_operations.specs.declared.operation.Operation.TheVariants.{PublishAs}
 use Rattle.osm_operations.specs.declared.operation.Operation.TheVariants.{KilledPublishAs}
 use Rattle.osm_operations.specs.declared.operation.Operation.TheVariants.{Follow, KilledFollow}
+use Rattle.osm_operations.specs.declared.operation.Operation.TheVariants.{FollowSpoiled}
+use Rattle.osm_operations.specs.declared.operation.Operation.TheVariants.{KilledFollowSpoiled}
 use Rattle.osm_operations.specs.declared.operation.Operation.TheVariants.{Export, KilledExport}
 use Rattle.osm_operations.specs.declared.operation.Operation.TheVariants.{Begin, KilledBegin}
 use Rattle.osm_operations.specs.declared.operation.Operation.TheVariants.{Lose, PutBack}
 use Rattle.osm_operations.specs.declared.operation.Reply.{Reply}
 use Rattle.osm_operations.specs.declared.operation.Reply.TheVariants.{Published, Followed}
+use Rattle.osm_operations.specs.declared.operation.Reply.TheVariants.{FollowedBefore}
 use Rattle.osm_operations.specs.declared.operation.Reply.TheVariants.{Exported, Begun}
 use Rattle.osm_operations.specs.declared.operation.Reply.TheVariants.{Refused, CutOff, Lost, IsBack}
 use Rattle.osm_operations.specs.declared.operation.Reply.TheVariants.{NotThere}
+use Rattle.osm_operations.specs.declared.runs.Spoiled.{Spoiled}
 use Rattle.osm_operations.specs.declared.world.World.{World}
 
 -- the file holds the batch in OPL
@@ -307,6 +313,73 @@ FollowTo dir save (Refused fault) a b =
     × (b.lost ≡ a.lost) × (b.published ≡ a.published)
 FollowTo dir save r a b = ⊥
 
+-- the file of that name is spoiled, and these are the bytes that it held; nothing changes if it isn't
+-- there
+abbrev pub IsSpoiledNow : List ℕ → Option Spoiled → Files → Files → Type 0
+IsSpoiledNow name None old new = (old name ≡ None) × (new ≡ old)
+IsSpoiledNow name (Some it) old new =
+    (string_bytes it.name ≡ name) × (old name ≡ Some it.bytes.items)
+    × Puts old name (Some spoiled) new
+
+-- a run of the word `follow` while the file of that name is spoiled: the files before it and after
+-- it, and those that the run finds and leaves
+pub record IsSpoiledRun (dir save name : List ℕ) (w : Result Progress RunFault) (old new : Files) :
+    Type 0 where
+  pub bytes : List ℕ
+  pub there : old name ≡ Some bytes
+  pub during : Files
+  pub put : Puts old name (Some spoiled) during
+  pub after : Files
+  pub done : IfOk w (IsProgress (IsTrue true) dir save during after)
+  pub stops : IfErr w (ProgressStops (IsTrue true) dir save during)
+  pub kept : OnErr w (after ≡ during)
+  pub back : is_some (after name) ≡ true → Puts after name (Some bytes) new
+  pub law : NoFaultBesideState
+
+-- the same, or memory was refused before anything was done
+abbrev pub SpoiledStep :
+    List ℕ → List ℕ → List ℕ → Result Progress RunFault → Files → Files → Type 0
+SpoiledStep dir save name w old new =
+    ((w ≡ Err WantOfMemory) × (new ≡ old)) ⊎ IsSpoiledRun dir save name w old new
+
+-- what the run answers; nothing if there is no such file
+abbrev pub SpoiledAnswer :
+    List ℕ → List ℕ → List ℕ → Option (Result Progress RunFault) → Files → Files → Type 0
+SpoiledAnswer dir save name None old new = (old name ≡ None) × (new ≡ old)
+SpoiledAnswer dir save name (Some w) old new = SpoiledStep dir save name w old new
+
+-- the reply to what such a run answers
+abbrev pub spoiled_reply : Option (Result Progress RunFault) → Reply
+spoiled_reply None = NotThere
+spoiled_reply (Some (Ok (Whole report))) = Followed report
+spoiled_reply (Some (Ok (Before report fault))) = FollowedBefore report fault
+spoiled_reply (Some (Err fault)) = Refused fault
+
+-- a run over a spoiled file of a published number
+pub record IsSpoiledTo (dir save : List ℕ) (n : ℕ) (s : Suffix) (w : Result Progress RunFault)
+    (a b : World) : Type 0 where
+  pub number : IsNumber true a.published n
+  pub step : SpoiledStep dir save (file_name_of dir n s) w (files_of a.store) (files_of b.store)
+  pub lost : b.lost ≡ a.lost
+  pub published : b.published ≡ a.published
+
+abbrev pub SpoiledTo : List ℕ → List ℕ → ℕ → Suffix → Reply → World → World → Type 0
+SpoiledTo dir save n s (Followed report) a b = IsSpoiledTo dir save n s (Ok (Whole report)) a b
+SpoiledTo dir save n s (FollowedBefore report fault) a b =
+    IsSpoiledTo dir save n s (Ok (Before report fault)) a b
+SpoiledTo dir save n s (Refused fault) a b = IsSpoiledTo dir save n s (Err fault) a b
+SpoiledTo dir save n s NotThere a b =
+    (IsNumber false a.published n
+    ⊎ (IsNumber true a.published n × (files_of a.store (file_name_of dir n s) ≡ None)))
+    × (files_of b.store ≡ files_of a.store) × (b.lost ≡ a.lost) × (b.published ≡ a.published)
+SpoiledTo dir save n s r a b = ⊥
+
+-- what a reply says about the calls that a killed run over a spoiled file had
+abbrev pub HasSpoiledCalls : ℕ → Reply → Type 0
+HasSpoiledCalls calls (Followed report) = 3 ≤ calls
+HasSpoiledCalls calls (FollowedBefore report fault) = 3 ≤ calls
+HasSpoiledCalls calls r = Unit {0}
+
 -- the reply to an export, from what its run answered
 abbrev pub exported_reply : Result ReportValue RunFault → Reply
 exported_reply (Ok report) = Exported report
@@ -423,6 +496,9 @@ Step dir save changes extract (KilledPublishAs batch time n calls) r a b =
 Step dir save changes extract Follow r a b = FollowTo dir save r a b × IsWhole r
 Step dir save changes extract (KilledFollow calls) r a b =
     FollowTo dir save r a b × HasFollowCalls dir save calls r (files_of a.store)
+Step dir save changes extract (FollowSpoiled n s) r a b = SpoiledTo dir save n s r a b × IsWhole r
+Step dir save changes extract (KilledFollowSpoiled n s calls) r a b =
+    SpoiledTo dir save n s r a b × HasSpoiledCalls calls r
 Step dir save changes extract Export r a b = ExportTo save extract r a b × IsWhole r
 Step dir save changes extract (KilledExport calls) r a b =
     ExportTo save extract r a b × HasCallsOf 2 calls r
