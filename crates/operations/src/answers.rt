@@ -25,13 +25,19 @@ pub(crate) fn write_outcome<W: Write>(alloc: Global, outcome: &Outcome, out: &mu
     Ok(())
 }
 
-// A line for the reply. After `done STATUS LENGTH` comes the text of the report.
+// A line for the reply. After `done STATUS LENGTH`, and after `before STATUS LENGTH FAULT`, comes
+// the text of the report.
 fn write_reply<W: Write>(reply: &Reply, out: &mut W) -> io::Result<()> {
     match reply {
         Reply::Published(report)
         | Reply::Followed(report)
         | Reply::Exported(report)
         | Reply::Begun(report) => write_report(report, out),
+        Reply::FollowedBefore { report, fault } => {
+            let (status, text) = (fault.status(), report.text());
+            writeln!(out, "before {status} {} {fault}", text.len())?;
+            out.write_all(text)
+        }
         Reply::Refused(fault) => writeln!(out, "refused {} {fault}", fault.status()),
         Reply::CutOff { fault, back } => {
             writeln!(out, "cut off {} {} {fault}", fault.status(), word_of(*back))

@@ -1,6 +1,6 @@
 //! Tests of the replies to operations, and of the files after them.
 
-use osm_folder::fault::RunFault;
+use osm_folder::fault::{FileName, RunFault};
 use osm_folder::memory_store::MemoryStore;
 use osm_model::batch::Batch;
 use osm_operations::operation::{Operation, Reply};
@@ -87,7 +87,8 @@ fn text_of(reply: &Reply) -> &[u8] {
         Reply::Published(report)
         | Reply::Followed(report)
         | Reply::Exported(report)
-        | Reply::Begun(report) => report.text(),
+        | Reply::Begun(report)
+        | Reply::FollowedBefore { report, fault: _ } => report.text(),
         Reply::Refused(_) => b"refused",
         Reply::CutOff { fault: _, back: _ } => b"cut off",
         Reply::Lost => b"lost",
@@ -324,6 +325,100 @@ fn a_beginning_goes_back_to_what_was_exported(rt: HostRuntime) -> Result<(), Fai
     assert!(rt; is_file(&outcome, "save", save));
     assert!(rt; is_file(&outcome, "extract.o5m", b"\xff\xe0\x04o5m2\xfe"));
     Ok(())
+}
+
+// The replies to the runs over spoiled files below.
+const SPOILED: [&str; 14] = [
+    "published 1\n",
+    "published 2\n",
+    "published 3\n",
+    "applied 1..1\nnumber 1\n",
+    "refused",
+    "refused",
+    "applied 2..2\nnumber 2\n",
+    "refused",
+    "applied 3..3\nnumber 3\n",
+    "number 3\n",
+    "not there",
+    "lost",
+    "not there",
+    "number 3\n",
+];
+
+fn follow_spoiled(number: u32, suffix: Suffix) -> Operation {
+    Operation::FollowSpoiled { number, suffix }
+}
+
+// Spoiled files of a later number, of the next one, of one that was followed, of none, and one that
+// isn't read; a run that comes to the number before makes eleven calls here.
+fn spoiled(alloc: Global) -> Result<Vec<Operation>, Fail> {
+    let mut list = Vec::new(alloc);
+    for operation in [
+        publish(alloc, 0),
+        publish(alloc, 1),
+        publish(alloc, 2),
+        follow_spoiled(2, STATE),
+        follow_spoiled(2, Suffix::O5c),
+        Operation::KilledFollowSpoiled {
+            number: 3,
+            suffix: Suffix::O5c,
+            calls: 10,
+        },
+        Operation::KilledFollowSpoiled {
+            number: 3,
+            suffix: Suffix::O5c,
+            calls: 11,
+        },
+        follow_spoiled(3, STATE),
+        follow_spoiled(3, Suffix::Opl),
+        follow_spoiled(1, STATE),
+        follow_spoiled(4, Suffix::O5c),
+        Operation::Lose {
+            number: 3,
+            suffix: Suffix::O5c,
+        },
+        follow_spoiled(3, Suffix::O5c),
+        Operation::Follow,
+    ] {
+        list.push(operation)?;
+    }
+    Ok(list)
+}
+
+#[test]
+fn what_comes_before_a_spoiled_file_is_saved(rt: HostRuntime) -> Result<(), Fail> {
+    let alloc = rt.alloc();
+    let store = MemoryStore::new(alloc);
+    let outcome = run(
+        alloc,
+        store,
+        "dir",
+        "save",
+        "changes",
+        "extract.o5m",
+        spoiled(alloc)?,
+    )?;
+    assert!(rt; outcome.replies.len() == SPOILED.len());
+    for (reply, text) in outcome.replies.iter().zip(SPOILED) {
+        assert!(rt; text_of(reply) == text.as_bytes(), "{text}");
+    }
+    assert!(rt; is_before(&outcome.replies[3], 2));
+    assert!(rt; is_before(&outcome.replies[6], 3));
+    let state = b"sequenceNumber=2\ntimestamp=2024-01-01T00\\:01\\:00Z\n";
+    assert!(rt; is_file(&outcome, "dir/000/000/002.state.txt", state));
+    Ok(())
+}
+
+// Whether a run came to the number before that one.
+fn is_before(reply: &Reply, number: u32) -> bool {
+    match reply {
+        Reply::FollowedBefore { report: _, fault } => match fault {
+            RunFault::BadState(FileName::Sequence(named, _), _)
+            | RunFault::BadChange(FileName::Sequence(named, _), _, _) => *named == number,
+            _ => false,
+        },
+        _ => false,
+    }
 }
 
 // An extract whose name tells no form.
