@@ -12,6 +12,10 @@ use Rattle.osm_operations.specs.declared.operation.Operation.TheVariants.{Publis
 use Rattle.osm_operations.specs.declared.operation.Operation.TheVariants.{PublishAs}
 use Rattle.osm_operations.specs.declared.operation.Operation.TheVariants.{KilledPublishAs}
 use Rattle.osm_operations.specs.declared.operation.Operation.TheVariants.{Follow, KilledFollow}
+use Rattle.osm_operations.specs.declared.operation.Operation.TheVariants.{FollowSpoiled}
+use Rattle.osm_operations.specs.declared.operation.Operation.TheVariants.{KilledFollowSpoiled}
+use Rattle.osm_operations.specs.declared.operation.Operation.TheVariants.{Export, KilledExport}
+use Rattle.osm_operations.specs.declared.operation.Operation.TheVariants.{Begin, KilledBegin}
 use Rattle.osm_operations.specs.declared.operation.Operation.TheVariants.{Lose, PutBack}
 
 -- the words of a line, a `&[&str]`
@@ -72,6 +76,49 @@ pub record IsKilledFollow (words : Words) (calls : ℕ) : Type 0 where
   pub second : word words 1 ≡ codes "follow"
   pub calls_are : SpellsSequence (word words 2) calls
 
+-- `follow spoiled NUMBER SUFFIX`
+pub record IsFollowSpoiled (words : Words) (number : ℕ) (suffix : Suffix) : Type 0 where
+  pub many : length words ≡ 4
+  pub first : word words 0 ≡ codes "follow"
+  pub second : word words 1 ≡ codes "spoiled"
+  pub number_is : SpellsSequence (word words 2) number
+  pub suffix_is : word words 3 ≡ suffix_word suffix
+
+-- `killed follow spoiled NUMBER SUFFIX CALLS`
+pub record IsKilledFollowSpoiled (words : Words) (number : ℕ) (suffix : Suffix) (calls : ℕ) :
+    Type 0 where
+  pub many : length words ≡ 6
+  pub first : word words 0 ≡ codes "killed"
+  pub second : word words 1 ≡ codes "follow"
+  pub third : word words 2 ≡ codes "spoiled"
+  pub number_is : SpellsSequence (word words 3) number
+  pub suffix_is : word words 4 ≡ suffix_word suffix
+  pub calls_are : SpellsSequence (word words 5) calls
+
+-- `export`
+pub record IsExport (words : Words) : Type 0 where
+  pub many : length words ≡ 1
+  pub first : word words 0 ≡ codes "export"
+
+-- `killed export CALLS`
+pub record IsKilledExport (words : Words) (calls : ℕ) : Type 0 where
+  pub many : length words ≡ 3
+  pub first : word words 0 ≡ codes "killed"
+  pub second : word words 1 ≡ codes "export"
+  pub calls_are : SpellsSequence (word words 2) calls
+
+-- `begin`
+pub record IsBegin (words : Words) : Type 0 where
+  pub many : length words ≡ 1
+  pub first : word words 0 ≡ codes "begin"
+
+-- `killed begin CALLS`
+pub record IsKilledBegin (words : Words) (calls : ℕ) : Type 0 where
+  pub many : length words ≡ 3
+  pub first : word words 0 ≡ codes "killed"
+  pub second : word words 1 ≡ codes "begin"
+  pub calls_are : SpellsSequence (word words 2) calls
+
 -- `lose NUMBER SUFFIX`
 pub record IsLose (words : Words) (number : ℕ) (suffix : Suffix) : Type 0 where
   pub many : length words ≡ 3
@@ -98,6 +145,13 @@ Says words changes (KilledPublishAs batch time number calls) =
     IsKilledPublishAs words number calls time × (batch ≡ changes)
 Says words changes Follow = IsFollow words
 Says words changes (KilledFollow calls) = IsKilledFollow words calls
+Says words changes (FollowSpoiled number suffix) = IsFollowSpoiled words number suffix
+Says words changes (KilledFollowSpoiled number suffix calls) =
+    IsKilledFollowSpoiled words number suffix calls
+Says words changes Export = IsExport words
+Says words changes (KilledExport calls) = IsKilledExport words calls
+Says words changes Begin = IsBegin words
+Says words changes (KilledBegin calls) = IsKilledBegin words calls
 Says words changes (Lose number suffix) = IsLose words number suffix
 Says words changes (PutBack number suffix) = IsPutBack words number suffix
 

@@ -3,7 +3,7 @@
 ghost use Rattle.std.specs.Prelude.{◌≤◌};
 ghost use Rattle.osm_model.specs.Limits.{max_sequence};
 
-use crate::outcome::{CHANGES, DIR, SAVE};
+use crate::outcome::{CHANGES, DIR, EXTRACT, SAVE};
 use anyhow::Result;
 use osm_folder::memory_store::MemoryStore;
 use osm_folder::names::{file_name, top_name};
@@ -25,10 +25,19 @@ pub(crate) fn write_outcome<W: Write>(alloc: Global, outcome: &Outcome, out: &mu
     Ok(())
 }
 
-// A line for the reply. After `done STATUS LENGTH` comes the text of the report.
+// A line for the reply. After `done STATUS LENGTH`, and after `before STATUS LENGTH FAULT`, comes
+// the text of the report.
 fn write_reply<W: Write>(reply: &Reply, out: &mut W) -> io::Result<()> {
     match reply {
-        Reply::Published(report) | Reply::Followed(report) => write_report(report, out),
+        Reply::Published(report)
+        | Reply::Followed(report)
+        | Reply::Exported(report)
+        | Reply::Begun(report) => write_report(report, out),
+        Reply::FollowedBefore { report, fault } => {
+            let (status, text) = (fault.status(), report.text());
+            writeln!(out, "before {status} {} {fault}", text.len())?;
+            out.write_all(text)
+        }
         Reply::Refused(fault) => writeln!(out, "refused {} {fault}", fault.status()),
         Reply::CutOff { fault, back } => {
             writeln!(out, "cut off {} {} {fault}", fault.status(), word_of(*back))
@@ -57,6 +66,7 @@ fn write_report<W: Write>(report: &Report, out: &mut W) -> io::Result<()> {
 fn write_files<W: Write>(alloc: Global, outcome: &Outcome, out: &mut W) -> Result<()> {
     write_file(&outcome.store, CHANGES, out)?;
     write_file(&outcome.store, SAVE, out)?;
+    write_file(&outcome.store, EXTRACT, out)?;
     write_file(&outcome.store, top_name(alloc, DIR)?.as_str(), out)?;
     let most = outcome.replies.len().min(MAX_SEQUENCE as usize) as u32;
     for number in 1..=most {

@@ -85,6 +85,25 @@ impl List {
             ["killed", "follow", calls] => Some(Operation::KilledFollow {
                 calls: number_of(calls)? as u64,
             }),
+            ["follow", "spoiled", number, suffix] => Some(Operation::FollowSpoiled {
+                number: number_of(number)?,
+                suffix: suffix_of(suffix)?,
+            }),
+            ["killed", "follow", "spoiled", number, suffix, calls] => {
+                Some(Operation::KilledFollowSpoiled {
+                    number: number_of(number)?,
+                    suffix: suffix_of(suffix)?,
+                    calls: number_of(calls)? as u64,
+                })
+            }
+            ["export"] => Some(Operation::Export),
+            ["killed", "export", calls] => Some(Operation::KilledExport {
+                calls: number_of(calls)? as u64,
+            }),
+            ["begin"] => Some(Operation::Begin),
+            ["killed", "begin", calls] => Some(Operation::KilledBegin {
+                calls: number_of(calls)? as u64,
+            }),
             ["lose", number, suffix] => Some(Operation::Lose {
                 number: number_of(number)?,
                 suffix: suffix_of(suffix)?,

@@ -1,9 +1,11 @@
 //! Runs lists of operations on a folder and a save, each in a new store in memory, and writes the
 //! replies and the files after each list. Standard input has a line for each operation:
 //! `publish TIME`, `killed publish CALLS TIME`, the same by number as `publish as 1 TIME` and
-//! `killed publish as 1 CALLS TIME`, `follow`, `killed follow CALLS`, `lose 1 o5c`,
-//! `put back 1 state`; before a publication a line `edit OPL` for each of its changes; and a line
-//! `run` after each list. A TIME is written as 2024-01-01T00:00:00Z.
+//! `killed publish as 1 CALLS TIME`, `follow`, `killed follow CALLS`, `follow spoiled 1 o5c`,
+//! `killed follow spoiled 1 o5c CALLS`, `export`, `killed export CALLS`, `begin`,
+//! `killed begin CALLS`, `lose 1 o5c`, `put back 1 state`; before a publication a line `edit OPL`
+//! for each of its changes; and a line `run` after each list. A TIME is written as
+//! 2024-01-01T00:00:00Z.
 #![tactic(auto)]
 
 mod answers;

@@ -16,11 +16,14 @@ pub(crate) const SAVE: &str = "save";
 
 pub(crate) const CHANGES: &str = "changes";
 
+pub(crate) const EXTRACT: &str = "extract.opl";
+
 /// Runs a list in a new store. Its names meet the premises of the main statement over folders, so
 /// the statement holds for each outcome.
 pub(crate) fn outcome_of(alloc: Global, operations: Vec<Operation>) -> Result<Outcome, WantOfMemory>
     ensures { IfOk result (λ r. IsRun operations.items r.replies.items
-        (codes "dir") (codes "save") (codes "changes") (λ name. None) (files_of r.store)) }
+        (codes "dir") (codes "save") (codes "changes") (codes "extract.opl")
+        (λ name. None) (files_of r.store)) }
 {
     run(
         alloc,
@@ -28,6 +31,7 @@ pub(crate) fn outcome_of(alloc: Global, operations: Vec<Operation>) -> Result<Ou
         DIR,
         SAVE,
         CHANGES,
+        EXTRACT,
         operations,
     )
 }

@@ -1,5 +1,6 @@
 //! Tests of the replies to operations, and of the files after them.
 
+use osm_folder::fault::{FileName, RunFault};
 use osm_folder::memory_store::MemoryStore;
 use osm_model::batch::Batch;
 use osm_operations::operation::{Operation, Reply};
@@ -83,7 +84,11 @@ fn operations(alloc: Global) -> Result<Vec<Operation>, Fail> {
 
 fn text_of(reply: &Reply) -> &[u8] {
     match reply {
-        Reply::Published(report) | Reply::Followed(report) => report.text(),
+        Reply::Published(report)
+        | Reply::Followed(report)
+        | Reply::Exported(report)
+        | Reply::Begun(report)
+        | Reply::FollowedBefore { report, fault: _ } => report.text(),
         Reply::Refused(_) => b"refused",
         Reply::CutOff { fault: _, back: _ } => b"cut off",
         Reply::Lost => b"lost",
@@ -103,7 +108,15 @@ fn is_file(outcome: &Outcome, name: &str, bytes: &[u8]) -> bool {
 fn losses_and_kills_leave_each_number_reported_once(rt: HostRuntime) -> Result<(), Fail> {
     let alloc = rt.alloc();
     let store = MemoryStore::new(alloc);
-    let outcome = run(alloc, store, "dir", "save", "changes", operations(alloc)?)?;
+    let outcome = run(
+        alloc,
+        store,
+        "dir",
+        "save",
+        "changes",
+        "extract.o5m",
+        operations(alloc)?,
+    )?;
     assert!(rt; outcome.replies.len() == REPLIES.len());
     for (reply, text) in outcome.replies.iter().zip(REPLIES) {
         assert!(rt; text_of(reply) == text.as_bytes(), "{text}");
@@ -188,7 +201,15 @@ fn numbered(alloc: Global) -> Result<Vec<Operation>, Fail> {
 fn each_number_is_published_once(rt: HostRuntime) -> Result<(), Fail> {
     let alloc = rt.alloc();
     let store = MemoryStore::new(alloc);
-    let outcome = run(alloc, store, "dir", "save", "changes", numbered(alloc)?)?;
+    let outcome = run(
+        alloc,
+        store,
+        "dir",
+        "save",
+        "changes",
+        "extract.o5m",
+        numbered(alloc)?,
+    )?;
     assert!(rt; outcome.replies.len() == NUMBERED.len());
     for (reply, text) in outcome.replies.iter().zip(NUMBERED) {
         assert!(rt; text_of(reply) == text.as_bytes(), "{text}");
@@ -198,4 +219,235 @@ fn each_number_is_published_once(rt: HostRuntime) -> Result<(), Fail> {
     assert!(rt; outcome.store.get("dir/000/000/002.o5c").is_some());
     assert!(rt; outcome.store.get("dir/000/000/002.opl").is_some());
     Ok(())
+}
+
+// The replies to the exports and beginnings below. An export prints nothing.
+const BEGUN: [&str; 27] = [
+    "refused",
+    "refused",
+    "published 1\n",
+    "lost",
+    "missing 1\nnumber 0\n",
+    "",
+    "refused",
+    "back",
+    "applied 1..1\nnumber 1\n",
+    "refused",
+    "refused",
+    "refused",
+    "",
+    "published 2\n",
+    "published 3\n",
+    "applied 2..2\napplied 3..3\nnumber 3\n",
+    "lost",
+    "refused",
+    "back",
+    "refused",
+    "refused",
+    "refused",
+    "number 1\n",
+    "applied 2..2\napplied 3..3\nnumber 3\n",
+    "",
+    "number 3\n",
+    "number 3\n",
+];
+
+// Exports and beginnings before anything was saved or exported, of a save at number 0, killed after
+// each number of calls, with a state that is lost, and after more was followed, which is followed
+// again.
+fn beginnings(alloc: Global) -> Result<Vec<Operation>, Fail> {
+    let mut list = Vec::new(alloc);
+    for operation in [
+        Operation::Export,
+        Operation::Begin,
+        publish(alloc, 0),
+        Operation::Lose {
+            number: 1,
+            suffix: STATE,
+        },
+        Operation::Follow,
+        Operation::Export,
+        Operation::Begin,
+        Operation::PutBack {
+            number: 1,
+            suffix: STATE,
+        },
+        Operation::Follow,
+        Operation::Begin,
+        Operation::KilledExport { calls: 0 },
+        Operation::KilledExport { calls: 1 },
+        Operation::KilledExport { calls: 2 },
+        publish(alloc, 1),
+        publish(alloc, 2),
+        Operation::Follow,
+        Operation::Lose {
+            number: 1,
+            suffix: STATE,
+        },
+        Operation::Begin,
+        Operation::PutBack {
+            number: 1,
+            suffix: STATE,
+        },
+        Operation::KilledBegin { calls: 0 },
+        Operation::KilledBegin { calls: 1 },
+        Operation::KilledBegin { calls: 2 },
+        Operation::KilledBegin { calls: 3 },
+        Operation::Follow,
+        Operation::Export,
+        Operation::Begin,
+        Operation::Follow,
+    ] {
+        list.push(operation)?;
+    }
+    Ok(list)
+}
+
+#[test]
+fn a_beginning_goes_back_to_what_was_exported(rt: HostRuntime) -> Result<(), Fail> {
+    let alloc = rt.alloc();
+    let store = MemoryStore::new(alloc);
+    let outcome = run(
+        alloc,
+        store,
+        "dir",
+        "save",
+        "changes",
+        "extract.o5m",
+        beginnings(alloc)?,
+    )?;
+    assert!(rt; outcome.replies.len() == BEGUN.len());
+    for (reply, text) in outcome.replies.iter().zip(BEGUN) {
+        assert!(rt; text_of(reply) == text.as_bytes(), "{text}");
+    }
+    let save = b"osmrepl-save 2\nbase 3\nsequence 3\ntime 2024-01-01T00:02:00Z\nobjects 0\n\
+        users 0\nchangesets 0\nend\n";
+    assert!(rt; is_file(&outcome, "save", save));
+    assert!(rt; is_file(&outcome, "extract.o5m", b"\xff\xe0\x04o5m2\xfe"));
+    Ok(())
+}
+
+// The replies to the runs over spoiled files below.
+const SPOILED: [&str; 14] = [
+    "published 1\n",
+    "published 2\n",
+    "published 3\n",
+    "applied 1..1\nnumber 1\n",
+    "refused",
+    "refused",
+    "applied 2..2\nnumber 2\n",
+    "refused",
+    "applied 3..3\nnumber 3\n",
+    "number 3\n",
+    "not there",
+    "lost",
+    "not there",
+    "number 3\n",
+];
+
+fn follow_spoiled(number: u32, suffix: Suffix) -> Operation {
+    Operation::FollowSpoiled { number, suffix }
+}
+
+// Spoiled files of a later number, of the next one, of one that was followed, of none, and one that
+// isn't read; a run that comes to the number before makes eleven calls here.
+fn spoiled(alloc: Global) -> Result<Vec<Operation>, Fail> {
+    let mut list = Vec::new(alloc);
+    for operation in [
+        publish(alloc, 0),
+        publish(alloc, 1),
+        publish(alloc, 2),
+        follow_spoiled(2, STATE),
+        follow_spoiled(2, Suffix::O5c),
+        Operation::KilledFollowSpoiled {
+            number: 3,
+            suffix: Suffix::O5c,
+            calls: 10,
+        },
+        Operation::KilledFollowSpoiled {
+            number: 3,
+            suffix: Suffix::O5c,
+            calls: 11,
+        },
+        follow_spoiled(3, STATE),
+        follow_spoiled(3, Suffix::Opl),
+        follow_spoiled(1, STATE),
+        follow_spoiled(4, Suffix::O5c),
+        Operation::Lose {
+            number: 3,
+            suffix: Suffix::O5c,
+        },
+        follow_spoiled(3, Suffix::O5c),
+        Operation::Follow,
+    ] {
+        list.push(operation)?;
+    }
+    Ok(list)
+}
+
+#[test]
+fn what_comes_before_a_spoiled_file_is_saved(rt: HostRuntime) -> Result<(), Fail> {
+    let alloc = rt.alloc();
+    let store = MemoryStore::new(alloc);
+    let outcome = run(
+        alloc,
+        store,
+        "dir",
+        "save",
+        "changes",
+        "extract.o5m",
+        spoiled(alloc)?,
+    )?;
+    assert!(rt; outcome.replies.len() == SPOILED.len());
+    for (reply, text) in outcome.replies.iter().zip(SPOILED) {
+        assert!(rt; text_of(reply) == text.as_bytes(), "{text}");
+    }
+    assert!(rt; is_before(&outcome.replies[3], 2));
+    assert!(rt; is_before(&outcome.replies[6], 3));
+    let state = b"sequenceNumber=2\ntimestamp=2024-01-01T00\\:01\\:00Z\n";
+    assert!(rt; is_file(&outcome, "dir/000/000/002.state.txt", state));
+    Ok(())
+}
+
+// Whether a run came to the number before that one.
+fn is_before(reply: &Reply, number: u32) -> bool {
+    match reply {
+        Reply::FollowedBefore { report: _, fault } => match fault {
+            RunFault::BadState(FileName::Sequence(named, _), _)
+            | RunFault::BadChange(FileName::Sequence(named, _), _, _) => *named == number,
+            _ => false,
+        },
+        _ => false,
+    }
+}
+
+// An extract whose name tells no form.
+#[test]
+fn a_name_without_a_form_is_no_extract(rt: HostRuntime) -> Result<(), Fail> {
+    let alloc = rt.alloc();
+    let mut list = Vec::new(alloc);
+    for operation in [
+        publish(alloc, 0),
+        Operation::Follow,
+        Operation::Export,
+        Operation::Begin,
+        Operation::KilledExport { calls: 0 },
+        Operation::KilledBegin { calls: 0 },
+    ] {
+        list.push(operation)?;
+    }
+    let store = MemoryStore::new(alloc);
+    let outcome = run(alloc, store, "dir", "save", "changes", "extract.osm", list)?;
+    assert!(rt; outcome.replies.len() == 6);
+    for reply in outcome.replies.iter().skip(2) {
+        assert!(rt; is_unknown_form(reply));
+    }
+    Ok(())
+}
+
+fn is_unknown_form(reply: &Reply) -> bool {
+    match reply {
+        Reply::Refused(RunFault::UnknownForm) => true,
+        _ => false,
+    }
 }

@@ -1,7 +1,7 @@
 -- The folder and the save of published sequences, some of whose files may be lost.
 use Rattle.std.proofs.Common.{◌≡◌, ℕ, zero, suc, ◌+◌, ◌-◌, ◌<◌, ◌≤◌, List, [], ◌∷◌, ◌++◌, length, take, Bool, true}
 use Rattle.std.proofs.Common.{false, Option, Some, inl, inr, arith, refl, sym, ap, subst, ◌∙◌, length-append}
-use Rattle.std.specs.Prelude.{IsTrue, not}
+use Rattle.std.specs.Prelude.{IsTrue, None, is_none, not, unwrap_or}
 use Rattle.std.specs.List.{AllByRecursion}
 use Rattle.std.proofs.Math.Seq.{get_or-append_seam}
 use Rattle.std.proofs.lemmas.Bool.{cases_lt}
@@ -9,6 +9,7 @@ use Rattle.std.proofs.lemmas.Int.{ints}
 use Rattle.std.proofs.lemmas.Option.{same_Some}
 use Rattle.osm_model.proofs.TimeLemmas.{shown_by_digits}
 use Rattle.osm_model.specs.Change.{ChangeValue}
+use Rattle.osm_model.specs.Content.{content_of}
 use Rattle.osm_model.specs.Limits.{max_sequence}
 use Rattle.osm_model.specs.Steps.Clock.{loose_moment}
 use Rattle.osm_model.specs.Time.{Shows}
@@ -18,7 +19,8 @@ use Rattle.osm_opl.specs.File.{SpellsOpl}
 use Rattle.osm_opl.specs.Written.{opl_text}
 use Rattle.osm_state.specs.declared.paths.Suffix.{Suffix}
 use Rattle.osm_state.specs.declared.paths.Suffix.TheVariants.{O5c, Opl, State}
-use Rattle.osm_follow.proofs.PublishedLemmas.{changes_within, sequence_within, time_within}
+use Rattle.osm_follow.proofs.PublishedLemmas.{after_within, changes_within, sequence_within, time_within}
+use Rattle.osm_follow.specs.Published.{changes_after, changes_up_to}
 use Rattle.osm_follow.specs.Published.{AreSequences, PublishedTexts, PublishedValue, sequence_at, unpublished, written_of}
 use Rattle.osm_follow.specs.Publisher.{PublisherValue, closing}
 use Rattle.osm_mirror.specs.Mirror.{IsMirrorOf}
@@ -32,19 +34,28 @@ use Rattle.osm_folder.specs.Reports.{ReportValue, publish_report_of}
 use Rattle.osm_folder.specs.declared.fault.RunFault.{RunFault}
 use Rattle.osm_folder.proofs.FolderLemmas.{IsWritten, all_add, goes_on_number, ready_written}
 use Rattle.osm_folder.proofs.NameLemmas.{one_file, top_is_no_file}
-use Rattle.osm_operations.specs.Correct.{AreApart, IsOther}
-use Rattle.osm_operations.specs.History.{text_of, unless_lost}
+use Rattle.osm_operations.specs.Correct.{AreApart, IsExtractOf, IsOther}
+use Rattle.osm_operations.specs.History.{Standing, begins_at, text_of, unless_lost}
 use Rattle.osm_operations.specs.Steps.Stepping.{AreChangesPut, IsPublishRun, Publishes, StopsPublishing}
 
--- the files agree with what was published, lost and saved; `l` holds the lost ones
-pub record Agrees (p : List PublishedValue) (lost : ℕ → Suffix → Bool) (m : ℕ) (dir save changes : List ℕ) (start f l : Files) (n : ℕ) : Type 0 where
+-- the save and the extract are as the history says; `was` is the extract at the start
+pub record Kept (p : List PublishedValue) (m : Standing) (extract : List ℕ) (was saved told : Option (List ℕ)) : Type 0 where
+  pub save_is : IsSaveOf p m.base m.number saved
+  pub is_there : is_none saved ≡ not m.is_saved
+  pub extract_is : IsExtractOf p m.exported extract was told
+  pub within : begins_at m ≤ length p
+
+-- the files agree with what was published, lost, saved and exported; `l` holds the lost ones
+pub record Agrees (p : List PublishedValue) (lost : ℕ → Suffix → Bool) (m : Standing) (dir save changes extract : List ℕ)
+    (start f l : Files) (n : ℕ) : Type 0 where
   pub folder : IsFolderOf p f dir
   pub each : (k : ℕ) (s : Suffix) → 0 < k → k ≤ length p → f (file_name_of dir k s) ≡ unless_lost (lost k s) (text_of s (sequence_at p k))
   pub away : (k : ℕ) (s : Suffix) → 0 < k → k ≤ max_sequence → l (file_name_of dir k s) ≡ unless_lost (not (lost k s)) (text_of s (sequence_at p k))
   pub fresh : (k : ℕ) (s : Suffix) → length p < k → lost k s ≡ false
   pub right : (k : ℕ) (s : Suffix) → 0 < k → k ≤ length p → IsFile s (sequence_at p k) (text_of s (sequence_at p k))
-  pub saved : IsSaveOf p m (f save)
-  pub others : (name : List ℕ) → IsOther dir save changes name → f name ≡ start name
+  pub zero : f (file_name_of dir 0 State) ≡ None
+  pub saved : Kept p m extract (start extract) (f save) (f extract)
+  pub others : (name : List ℕ) → IsOther dir save changes extract name → f name ≡ start name
   pub number : n ≡ length p
 
 -- a folder has no more sequences than there are numbers
@@ -64,39 +75,42 @@ folder_same p dir f g top each is = record {
   each = λ k s above within. subst (λ o. IsAbsentOr o (IsFile s (sequence_at p k))) (sym (each k s above within)) (is.each k s above within);
 }
 
--- a save that is the same
-pub save_same : (p : List PublishedValue) (m : ℕ) (old new : Option (List ℕ)) → new ≡ old → IsSaveOf p m old → IsSaveOf p m new
-save_same p m old new same s = subst (IsSaveOf p m) (sym same) s
+-- a save and an extract that are the same
+pub kept_same : (p : List PublishedValue) (m : Standing) (extract : List ℕ) (was saved again told again_told : Option (List ℕ))
+    → again ≡ saved → again_told ≡ told → Kept p m extract was saved told → Kept p m extract was again again_told
+kept_same p m extract was saved again told again_told same same_told s =
+    subst (λ o. Kept p m extract was o again_told) (sym same) (subst (λ o. Kept p m extract was saved o) (sym same_told) s)
 
 -- nothing of it has changed
-pub untouched : (p : List PublishedValue) (lost : ℕ → Suffix → Bool) (m : ℕ) (dir save changes : List ℕ)
-    (start f g l : Files) (n : ℕ) → IsFolderOf p g dir → ((k : ℕ) (s : Suffix) → 0 < k → k ≤ length p
-    → g (file_name_of dir k s) ≡ f (file_name_of dir k s)) → g save ≡ f save
-    → ((name : List ℕ) → IsOther dir save changes name → g name ≡ f name) → Agrees p lost m dir save changes start f l n
-    → Agrees p lost m dir save changes start g l n
-untouched p lost m dir save changes start f g l n folder each same others s = record {
+pub untouched : (p : List PublishedValue) (lost : ℕ → Suffix → Bool) (m : Standing) (dir save changes extract : List ℕ)
+    (start f g l : Files) (n : ℕ) → IsFolderOf p g dir → ((k : ℕ) (s : Suffix) → k ≤ length p
+    → g (file_name_of dir k s) ≡ f (file_name_of dir k s)) → g save ≡ f save → g extract ≡ f extract
+    → ((name : List ℕ) → IsOther dir save changes extract name → g name ≡ f name) → Agrees p lost m dir save changes extract start f l n
+    → Agrees p lost m dir save changes extract start g l n
+untouched p lost m dir save changes extract start f g l n folder each same same_extract others s = record {
   folder = folder;
-  each = λ k t above within. each k t above within ∙ s.each k t above within;
+  each = λ k t above within. each k t within ∙ s.each k t above within;
   away = s.away;
   fresh = s.fresh;
   right = s.right;
-  saved = subst (IsSaveOf p m) (sym same) s.saved;
+  zero = each 0 State (omega arith) ∙ s.zero;
+  saved = kept_same p m extract (start extract) (f save) (g save) (f extract) (g extract) same same_extract s.saved;
   others = λ name o. others name o ∙ s.others name o;
   number = s.number;
 }
 
 -- the file of changes is written
-pub changes_put : (p : List PublishedValue) (lost : ℕ → Suffix → Bool) (m : ℕ) (dir save changes : List ℕ)
-    (start f g l : Files) (n : ℕ) (w : Option (List ℕ)) → AreApart dir save changes → Puts f changes w g
-    → Agrees p lost m dir save changes start f l n → Agrees p lost m dir save changes start g l n
-changes_put p lost m dir save changes start f g l n w apart put s =
+pub changes_put : (p : List PublishedValue) (lost : ℕ → Suffix → Bool) (m : Standing) (dir save changes extract : List ℕ)
+    (start f g l : Files) (n : ℕ) (w : Option (List ℕ)) → AreApart dir save changes extract → Puts f changes w g
+    → Agrees p lost m dir save changes extract start f l n → Agrees p lost m dir save changes extract start g l n
+changes_put p lost m dir save changes extract start f g l n w apart put s =
     let most = few p s.folder.sequences in
-    untouched p lost m dir save changes start f g l n
+    untouched p lost m dir save changes extract start f g l n
     (folder_same p dir f g (put.others (top_name_of dir) (λ e. apart.changes_are.top (sym e)))
     (λ k t above within. put.others (file_name_of dir k t) (λ e. apart.changes_are.each k t (omega arith) (sym e)))
     s.folder)
-    (λ k t above within. put.others (file_name_of dir k t) (λ e. apart.changes_are.each k t (omega arith) (sym e)))
-    (put.others save apart.differ)
+    (λ k t within. put.others (file_name_of dir k t) (λ e. apart.changes_are.each k t (omega arith) (sym e)))
+    (put.others save apart.differ) (put.others extract apart.not_changed)
     (λ name o. put.others name o.changes_are) s
 
 -- writes of other files
@@ -151,10 +165,12 @@ writes_last dir x s f g fits w = in_g s ∙ of_last s
         ∙ (w.2.1.others (file_name_of dir x.number O5c) (differ O5c Opl (λ e. cc)) ∙ w.1.there)
 
 -- a save of the sequences before the last
-save_before : (p : List PublishedValue) (x : PublishedValue) (m : ℕ) (told : Option (List ℕ)) → IsSaveOf p m told → IsSaveOf (p ++ x ∷ []) m told
-save_before p x m told s = record {
+save_before : (p : List PublishedValue) (x : PublishedValue) (base number : ℕ) (told : Option (List ℕ)) → IsSaveOf p base number told
+    → IsSaveOf (p ++ x ∷ []) base number told
+save_before p x base number told s = record {
   value = s.value;
   saved = s.saved;
+  base_is = s.base_is;
   number_is = s.number_is;
   in_step = before s.value s.in_step;
 }
@@ -165,9 +181,32 @@ save_before p x m told s = record {
         record {
           within = grind (arith, length-append);
           base = is.base;
-          mirror = subst (λ cs. IsMirrorOf cs cs v.mirror) (sym (changes_within p (x ∷ []) v.number within)) is.mirror;
+          mirror = subst (λ cs. IsMirrorOf cs (changes_after (p ++ x ∷ []) v.base v.number) v.mirror) (sym (changes_within p (x ∷ []) v.number within))
+              (subst (λ cs. IsMirrorOf (changes_up_to p v.number) cs v.mirror) (sym (after_within p (x ∷ []) v.base v.number within)) is.mirror);
           time = is.time ∙ sym (time_within p (x ∷ []) v.number within);
         }
+
+-- an extract of the sequences before the last
+extract_before : (p : List PublishedValue) (x : PublishedValue) (exported : Option ℕ) (extract : List ℕ) (was told : Option (List ℕ))
+    → unwrap_or exported 0 ≤ length p → IsExtractOf p exported extract was told → IsExtractOf (p ++ x ∷ []) exported extract was told
+extract_before p x None extract was told within s = s
+extract_before p x (Some number) extract was told within s = record {
+  named = s.named;
+  objects = s.objects;
+  are_data = s.are_data;
+  fits = s.fits;
+  content = λ k. s.content k ∙ ap (λ cs. content_of cs k) (sym (changes_within p (x ∷ []) number within));
+  text = s.text;
+}
+
+kept_before : (p : List PublishedValue) (x : PublishedValue) (m : Standing) (extract : List ℕ) (was saved told : Option (List ℕ))
+    → Kept p m extract was saved told → Kept (p ++ x ∷ []) m extract was saved told
+kept_before p x m extract was saved told s = record {
+  save_is = save_before p x m.base m.number saved s.save_is;
+  is_there = s.is_there;
+  extract_is = extract_before p x m.exported extract was told s.within s.extract_is;
+  within = let low = s.within in grind (arith, length-append);
+}
 
 pub sequence_last : (p : List PublishedValue) (x : PublishedValue) (k : ℕ) → k ≡ length p + 1 → sequence_at (p ++ x ∷ []) k ≡ x
 sequence_last p x k e = let at : k - 1 ≡ length p = omega arith in rw at (get_or-append_seam p x [] unpublished)
@@ -202,12 +241,12 @@ closing_is p dir changes now batch time f m a t folder shows put ready =
     (one_shown now t time ready.read.now_is.shows shows)
 
 -- one sequence more
-pub agrees_more : (p : List PublishedValue) (lost : ℕ → Suffix → Bool) (m : ℕ) (dir save changes : List ℕ)
+pub agrees_more : (p : List PublishedValue) (lost : ℕ → Suffix → Bool) (m : Standing) (dir save changes extract : List ℕ)
     (start f g l : Files) (n : ℕ) (x : PublishedValue) → x.number ≡ length p + 1 → x.number ≤ max_sequence
     → IsFolderOf (p ++ x ∷ []) g dir → Writes (writes_of dir (written_of x)) f g
     → ((name : List ℕ) → IsApart dir name → g name ≡ f name) → IsApart dir save
-    → Agrees p lost m dir save changes start f l n → Agrees (p ++ x ∷ []) lost m dir save changes start g l (n + 1)
-agrees_more p lost m dir save changes start f g l n x next fits folder w others apart s = record {
+    → IsApart dir extract → Agrees p lost m dir save changes extract start f l n → Agrees (p ++ x ∷ []) lost m dir save changes extract start g l (n + 1)
+agrees_more p lost m dir save changes extract start f g l n x next fits folder w others apart apart_extract s = record {
   folder = folder;
   each = each;
   away = λ k t above most. elim (cases_lt (length p) k) [
@@ -222,7 +261,9 @@ agrees_more p lost m dir save changes start f g l n x next fits folder w others 
     | inl past ↦ (let same : k ≡ length p + 1 = omega (arith, more, within, past) in rw (sequence_last p x k same) (of_last t))
     | inr until ↦ rw (sequence_within p (x ∷ []) k above until) (s.right k t above until)
   ];
-  saved = subst (IsSaveOf (p ++ x ∷ []) m) (sym (others save apart)) (save_before p x m (f save) s.saved);
+  zero = writes_before dir (written_of x) 0 State 4 f g (omega (arith, next)) fits w ∙ s.zero;
+  saved = kept_same (p ++ x ∷ []) m extract (start extract) (f save) (g save) (f extract) (g extract) (others save apart)
+      (others extract apart_extract) (kept_before p x m extract (start extract) (f save) (f extract) s.saved);
   others = λ name o. others name o.folder ∙ s.others name o;
   number = (let n_is = s.number in omega (arith, more, n_is));
 }
@@ -252,36 +293,36 @@ agrees_more p lost m dir save changes start f g l n x next fits folder w others 
         (subst (λ o. IsAbsentOr o (IsFile t (sequence_at (p ++ x ∷ []) x.number))) (last_file t) (folder.each x.number t above at))
 
 -- a publication that is done
-pub published_agrees : (p : List PublishedValue) (lost : ℕ → Suffix → Bool) (m : ℕ) (dir save changes : List ℕ)
+pub published_agrees : (p : List PublishedValue) (lost : ℕ → Suffix → Bool) (m : Standing) (dir save changes extract : List ℕ)
     (start f g l : Files) (n : ℕ) (batch : List ChangeValue) (time : ℕ) (report : ReportValue)
-    → AreApart dir save changes → Agrees p lost m dir save changes start f l n → IsPublishRun dir changes batch time f g
+    → AreApart dir save changes extract → Agrees p lost m dir save changes extract start f l n → IsPublishRun dir changes batch time f g
     (Publishes dir changes report g) → Agrees (p ++ (record { number = length p + 1; changes = batch; time = time }) ∷
-    []) lost m dir save changes start g l (n + 1) × (report ≡ publish_report_of (length p + 1))
-published_agrees p lost m dir save changes start f g l n batch time report apart s run =
-    let mid = changes_put p lost m dir save changes start f run.middle l n (Some (opl_text batch)) apart run.there.put s in
+    []) lost m dir save changes extract start g l (n + 1) × (report ≡ publish_report_of (length p + 1))
+published_agrees p lost m dir save changes extract start f g l n batch time report apart s run =
+    let mid = changes_put p lost m dir save changes extract start f run.middle l n (Some (opl_text batch)) apart run.there.put s in
     let done = run.is_so.published in
     let number = goes_on_number p (run.middle (top_name_of dir)) done.publisher.number done.publisher.time
     mid.folder.sequences mid.folder.top done.ready.read.goes_on in
     let same = closing_is p dir changes run.now batch time f run.middle done.publisher done.time mid.folder run.shows run.there done.ready in
     let is = subst IsWritten same (ready_written dir changes run.now run.middle done.publisher done.time done.ready) in
     let written = subst (λ x. Writes (writes_of dir (written_of x)) run.middle g) same done.written in (
-      agrees_more p lost m dir save changes start run.middle g l n (record { number = length p + 1; changes = batch; time = time }) refl
+      agrees_more p lost m dir save changes extract start run.middle g l n (record { number = length p + 1; changes = batch; time = time }) refl
           is.sequence.most
           (all_add p dir (record { number = length p + 1; changes = batch; time = time }) run.middle g refl is written mid.folder)
           written
-          run.others apart.save_is mid,
+          run.others apart.save_is apart.extract_is mid,
       done.report_is ∙ ap (λ k. publish_report_of (k + 1)) number,
     )
 
 -- a publication that stopped
-pub stopped_agrees : (left : Option ℕ) (p : List PublishedValue) (lost : ℕ → Suffix → Bool) (m : ℕ)
-    (dir save changes : List ℕ) (start f g l : Files) (n : ℕ) (batch : List ChangeValue) (time : ℕ) (fault : RunFault)
-    → AreApart dir save changes → Agrees p lost m dir save changes start f l n → IsPublishRun dir changes batch time f g
-    (StopsPublishing left dir changes fault g) → Agrees p lost m dir save changes start g l n
-stopped_agrees left p lost m dir save changes start f g l n batch time fault apart s run = by_stop run.is_so.stops
+pub stopped_agrees : (left : Option ℕ) (p : List PublishedValue) (lost : ℕ → Suffix → Bool) (m : Standing)
+    (dir save changes extract : List ℕ) (start f g l : Files) (n : ℕ) (batch : List ChangeValue) (time : ℕ) (fault : RunFault)
+    → AreApart dir save changes extract → Agrees p lost m dir save changes extract start f l n → IsPublishRun dir changes batch time f g
+    (StopsPublishing left dir changes fault g) → Agrees p lost m dir save changes extract start g l n
+stopped_agrees left p lost m dir save changes extract start f g l n batch time fault apart s run = by_stop run.is_so.stops
   where
-    mid : Agrees p lost m dir save changes start run.middle l n
-    mid = changes_put p lost m dir save changes start f run.middle l n (Some (opl_text batch)) apart run.there.put s
+    mid : Agrees p lost m dir save changes extract start run.middle l n
+    mid = changes_put p lost m dir save changes extract start f run.middle l n (Some (opl_text batch)) apart run.there.put s
 
     from_cut : IsCutOff dir changes run.now run.middle g fault → (k : ℕ) (t : Suffix) → k ≤ length p
         → g (file_name_of dir k t) ≡ run.middle (file_name_of dir k t)
@@ -292,8 +333,8 @@ stopped_agrees left p lost m dir save changes start f g l n batch time fault apa
         writes_before dir (written_of (closing cut.publisher cut.time)) k t cut.count run.middle g
         (omega (arith, number, within)) (omega (arith, room)) cut.written
 
-    by_stop : PublishStops (IsTrue true) dir changes run.now run.middle g fault → Agrees p lost m dir save changes start g l n
-    by_stop (inl a) = subst (λ (h : Files). Agrees p lost m dir save changes start h l n) (sym a.1) mid
-    by_stop (inr a) = untouched p lost m dir save changes start run.middle g l n (run.is_so.keeps p mid.folder)
-        (λ k t above within. from_cut (a.1 refl) k t within)
-        (run.others save apart.save_is) (λ name o. run.others name o.folder) mid
+    by_stop : PublishStops (IsTrue true) dir changes run.now run.middle g fault → Agrees p lost m dir save changes extract start g l n
+    by_stop (inl a) = subst (λ (h : Files). Agrees p lost m dir save changes extract start h l n) (sym a.1) mid
+    by_stop (inr a) = untouched p lost m dir save changes extract start run.middle g l n (run.is_so.keeps p mid.folder)
+        (λ k t within. from_cut (a.1 refl) k t within)
+        (run.others save apart.save_is) (run.others extract apart.extract_is) (λ name o. run.others name o.folder) mid

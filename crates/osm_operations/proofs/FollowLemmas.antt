@@ -22,8 +22,8 @@ use Rattle.osm_folder.specs.declared.fault.RunFault.TheVariants.{WantOfMemory, R
 use Rattle.osm_folder.proofs.InStepLemmas.{in_step_after, one_saved}
 use Rattle.osm_folder.proofs.TakingLemmas.{adds_number}
 use Rattle.osm_operations.specs.Allowed.{FollowingRefused, KilledFollowingRefused}
-use Rattle.osm_operations.specs.Correct.{AreApart}
-use Rattle.osm_operations.specs.History.{count_from, text_of, unless_lost}
+use Rattle.osm_operations.specs.Correct.{AreApart, IsExtractOf}
+use Rattle.osm_operations.specs.History.{Standing, count_from, text_of, unless_lost}
 use Rattle.osm_operations.specs.Steps.Stepping.{IsNoDevice}
 use Rattle.osm_operations.proofs.AgreeLemmas.{Agrees, few, folder_same}
 
@@ -35,10 +35,10 @@ none_kept : (b : Bool) (text : List ℕ) → is_none (unless_lost b text) ≡ b
 none_kept true text = refl
 none_kept false text = refl
 
-pub lost_same : (p : List PublishedValue) (lost : ℕ → Suffix → Bool) (m : ℕ) (dir save changes : List ℕ)
-    (start f l : Files) (n k : ℕ) → Agrees p lost m dir save changes start f l n → 0 < k → k ≤ length p
+pub lost_same : (p : List PublishedValue) (lost : ℕ → Suffix → Bool) (m : Standing) (dir save changes extract : List ℕ)
+    (start f l : Files) (n k : ℕ) → Agrees p lost m dir save changes extract start f l n → 0 < k → k ≤ length p
     → is_lost f dir k ≡ (lost k State || (lost k O5c && lost k Opl))
-lost_same p lost m dir save changes start f l n k s above within =
+lost_same p lost m dir save changes extract start f l n k s above within =
     rw (is State, is O5c, is Opl) refl
   where
     is : (t : Suffix) → is_none (f (file_name_of dir k t)) ≡ lost k t
@@ -100,25 +100,30 @@ filter_same a b n (suc count) same =
 pub min_below : (a b : ℕ) → min a b ≤ b
 min_below a b = grind (arith)
 
+-- what a history says of the save after a run of the follower that took so many numbers
+abbrev pub gone_on : Standing → ℕ → Standing
+gone_on m count = record { number = m.number + count; base = m.base; is_saved = true; exported = m.exported }
+
 -- a run that is done
-pub followed : (p : List PublishedValue) (lost : ℕ → Suffix → Bool) (m : ℕ) (dir save changes : List ℕ)
-    (start f g l : Files) (n : ℕ) (report : ReportValue) → AreApart dir save changes
-    → Agrees p lost m dir save changes start f l n → IsFollowed dir save f g report
-    → (let c = count_from (number_lost lost) m (length p - m) in
-    Agrees p lost (m + c) dir save changes start g l n
-    × (report ≡ follow_report_of (ranges m c)
-    (filter (number_lost lost) (numbers (m + c) (min 64 (length p - (m + c))))) (m + c)))
-followed p lost m dir save changes start f g l n report apart s run =
-    rw count_same (agrees, after.report_is ∙ ap (λ xs. follow_report_of (ranges m count) xs (m + count)) lost_are)
+pub followed : (p : List PublishedValue) (lost : ℕ → Suffix → Bool) (m : Standing) (dir save changes extract : List ℕ)
+    (start f g l : Files) (n : ℕ) (report : ReportValue) → AreApart dir save changes extract
+    → Agrees p lost m dir save changes extract start f l n → IsFollowed dir save f g report
+    → (let c = count_from (number_lost lost) m.number (length p - m.number) in
+    Agrees p lost (gone_on m c) dir save changes extract start g l n
+    × (report ≡ follow_report_of (ranges m.number c)
+    (filter (number_lost lost) (numbers (m.number + c) (min 64 (length p - (m.number + c))))) (m.number + c)))
+followed p lost m dir save changes extract start f g l n report apart s run =
+    rw count_same (agrees, after.report_is ∙ ap (λ xs. follow_report_of (ranges m.number count) xs (m.number + count)) lost_are)
   where
-    after : IsInStepAfter p m dir save f g report
-    after = in_step_after p m dir save f g report s.folder s.saved run
+    after : IsInStepAfter p m.base m.number dir save f g report
+    after = in_step_after p m.base m.number dir save f g report s.folder s.saved.save_is run
 
     count : ℕ
     count = after.count
 
-    start_is : run.following.start.number ≡ m
-    start_is = ap (λ (v : Saved). v.number) (one_saved (f save) run.following.start s.saved.value run.following.started.saved s.saved.saved) ∙ s.saved.number_is
+    start_is : run.following.start.number ≡ m.number
+    start_is = ap (λ (v : Saved). v.number) (one_saved (f save) run.following.start s.saved.save_is.value run.following.started.saved
+        s.saved.save_is.saved) ∙ s.saved.save_is.number_is
 
     -- the save that was written says how many were taken
     same_count : run.following.count ≡ count
@@ -129,41 +134,42 @@ followed p lost m dir save changes start f g l n report apart s run =
         let is = after.saved.number_is in
         omega (arith, same, at, is, start_is)
 
-    within : m + count ≤ length p
+    within : m.number + count ≤ length p
     within =
         let v = after.saved.in_step.within in
         let at = after.saved.number_is in
         omega (arith, v, at)
 
     gone : (k : ℕ) → 0 < k → k ≤ length p → is_lost f dir k ≡ number_lost lost k
-    gone k above until = lost_same p lost m dir save changes start f l n k s above until
+    gone k above until = lost_same p lost m dir save changes extract start f l n k s above until
 
-    none : (k : ℕ) → m < k → k ≤ m + count → number_lost lost k ≡ false
+    none : (k : ℕ) → m.number < k → k ≤ m.number + count → number_lost lost k ≡ false
     none k above until =
         sym (gone k (omega arith) (omega (arith, within, until)))
         ∙ taken_there f dir run.following.count run.following.start run.following.reached run.following.goes_on.added k
         (omega (arith, start_is, above)) (omega (arith, start_is, until, same_count))
 
-    far : (count ≡ length p - m) ⊎ (number_lost lost (m + count + 1) ≡ true)
+    far : (count ≡ length p - m.number) ⊎ (number_lost lost (m.number + count + 1) ≡ true)
     far = elim after.far [
       | inl e ↦ inl (omega arith)
-      | inr e ↦ elim (cases_lt (m + count) (length p)) [
-        | inl below ↦ inr (sym (gone (m + count + 1) (omega arith) (omega arith)) ∙ e)
+      | inr e ↦ elim (cases_lt (m.number + count) (length p)) [
+        | inl below ↦ inr (sym (gone (m.number + count + 1) (omega arith) (omega arith)) ∙ e)
         | inr past ↦ inl (omega (arith, within, past))
       ]
     ]
 
-    count_same : count_from (number_lost lost) m (length p - m) ≡ count
-    count_same = count_is (number_lost lost) m (length p - m) count (omega (arith, within)) none far
+    count_same : count_from (number_lost lost) m.number (length p - m.number) ≡ count
+    count_same = count_is (number_lost lost) m.number (length p - m.number) count (omega (arith, within)) none far
 
-    lost_are : lost_numbers f dir (m + count) (length p) ≡ filter (number_lost lost) (numbers (m + count) (min 64 (length p - (m + count))))
-    lost_are = filter_same (is_lost f dir) (number_lost lost) (m + count) (min 64 (length p - (m + count)))
-        (λ k above until. (let low = min_below 64 (length p - (m + count)) in gone k (omega (arith, above)) (omega (arith, until, low, within))))
+    lost_are : lost_numbers f dir (m.number + count) (length p)
+        ≡ filter (number_lost lost) (numbers (m.number + count) (min 64 (length p - (m.number + count))))
+    lost_are = filter_same (is_lost f dir) (number_lost lost) (m.number + count) (min 64 (length p - (m.number + count)))
+        (λ k above until. (let low = min_below 64 (length p - (m.number + count)) in gone k (omega (arith, above)) (omega (arith, until, low, within))))
 
     most : length p ≤ 999999999
     most = few p s.folder.sequences
 
-    agrees : Agrees p lost (m + count) dir save changes start g l n
+    agrees : Agrees p lost (gone_on m count) dir save changes extract start g l n
     agrees = record {
       folder = folder_same p dir f g (after.others (top_name_of dir) (λ e. apart.save_is.top (sym e)))
           (λ k t above until. after.others (file_name_of dir k t) (λ e. apart.save_is.each k t (omega (arith, most, until)) (sym e))) s.folder;
@@ -171,20 +177,26 @@ followed p lost m dir save changes start f g l n report apart s run =
       away = s.away;
       fresh = s.fresh;
       right = s.right;
-      saved = after.saved;
+      zero = after.others (file_name_of dir 0 State) (λ e. apart.save_is.each 0 State (omega arith) (sym e)) ∙ s.zero;
+      saved = record {
+        save_is = after.saved;
+        is_there = ap is_none run.put.there;
+        extract_is = subst (IsExtractOf p m.exported extract (start extract)) (sym (after.others extract apart.not_saved)) s.saved.extract_is;
+        within = s.saved.within;
+      };
       others = λ name o. after.others name o.save_is ∙ s.others name o;
       number = s.number;
     }
 
 -- a run that stopped
-pub stopped_follow : (p : List PublishedValue) (m calls : ℕ) (told : Option (List ℕ)) (fault : RunFault)
-    → LacksCalls (follow_calls p m) (Some calls) fault → IsSaveOf p m told → FollowRefuses p told fault
+pub stopped_follow : (p : List PublishedValue) (base m calls : ℕ) (told : Option (List ℕ)) (fault : RunFault)
+    → LacksCalls (follow_calls p m) (Some calls) fault → IsSaveOf p base m told → FollowRefuses p told fault
     → KilledFollowingRefused p m calls fault
-stopped_follow p m calls told WantOfMemory lacks s r = tt
-stopped_follow p m calls told (ReadFault file) lacks s r = lacks tt
-stopped_follow p m calls told (WriteFault file) lacks s r = (r, lacks tt)
-stopped_follow p m calls told (Absent file) lacks s r = r
-stopped_follow p m calls told (TooLarge file) lacks s r = (
+stopped_follow p base m calls told WantOfMemory lacks s r = tt
+stopped_follow p base m calls told (ReadFault file) lacks s r = lacks tt
+stopped_follow p base m calls told (WriteFault file) lacks s r = (r, lacks tt)
+stopped_follow p base m calls told (Absent file) lacks s r = r
+stopped_follow p base m calls told (TooLarge file) lacks s r = (
   r.0,
   elim r.1 [
     | inl over ↦ absurd (not_over told s.value s.saved over)
@@ -198,7 +210,7 @@ stopped_follow p m calls told (TooLarge file) lacks s r = (
         let long = ap length (same_Some _ _ b.there) in
         let over = b.over in
         omega (arith, long, over, a.0)
-stopped_follow p m calls told fault lacks s r = absurd r
+stopped_follow p base m calls told fault lacks s r = absurd r
 
 pub not_killed_follow : (p : List PublishedValue) (m calls : ℕ) (fault : RunFault) → IsNoDevice fault
     → KilledFollowingRefused p m calls fault → FollowingRefused p fault

@@ -8,5 +8,9 @@ pub mod CutLemmas
 pub mod NumberRows
 pub mod MoveLemmas
 pub mod ReportedLemmas
+pub mod ExtractLemmas
+pub mod SpoiledLemmas
+pub mod SpoiledRunLemmas
+pub mod SpoiledStepLemmas
 pub mod StepLemmas
 pub mod PublicationLemmas

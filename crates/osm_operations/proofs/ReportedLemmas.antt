@@ -12,7 +12,8 @@ use Rattle.std.specs.Prelude.{filter, min}
 use Rattle.std.proofs.lemmas.Bool.{cases_Bool}
 use Rattle.osm_model.specs.Limits.{max_sequence}
 use Rattle.osm_follow.specs.Reach.{numbers}
-use Rattle.osm_folder.specs.Reports.{ReportValue, follow_text}
+use Rattle.osm_folder.specs.Following.{ranges}
+use Rattle.osm_folder.specs.Reports.{ReportValue, follow_report_of, follow_text}
 use Rattle.osm_show.specs.Lines.{applied_line, numbered_line}
 use Rattle.osm_operations.specs.Allowed.{following_report}
 use Rattle.osm_operations.specs.History as hist
@@ -141,21 +142,28 @@ small_filter keeps (k ∷ ks) small = elim (cases_Bool (keeps k)) [
 ]
 
 -- numbers, and those after them
-numbers_join : (n c : ℕ) → numbers 0 n ++ numbers n c ≡ numbers 0 (n + c)
-numbers_join n zero = let e : n + 0 ≡ n = omega arith in rw (e, append-nil) refl
-numbers_join n (suc c) =
-    let e : n + suc c ≡ suc (n + c) = omega arith in
-    let z : zero + suc (n + c) ≡ n + suc c = omega arith in
-    sym (append_assoc (numbers 0 n) (numbers n c) ((n + suc c) ∷ []))
-    ∙ (ap (λ (xs : List ℕ). xs ++ (n + suc c) ∷ []) (numbers_join n c)
-    ∙ (ap (λ k. numbers 0 (n + c) ++ k ∷ []) (sym z) ∙ ap (numbers 0) (sym e)))
+numbers_join : (b d c : ℕ) → numbers b d ++ numbers (b + d) c ≡ numbers b (d + c)
+numbers_join b d zero = let e : d + 0 ≡ d = omega arith in rw (e, append-nil) refl
+numbers_join b d (suc c) =
+    let e : d + suc c ≡ suc (d + c) = omega arith in
+    let z : b + suc (d + c) ≡ b + d + suc c = omega arith in
+    sym (append_assoc (numbers b d) (numbers (b + d) c) ((b + d + suc c) ∷ []))
+    ∙ (ap (λ (xs : List ℕ). xs ++ (b + d + suc c) ∷ []) (numbers_join b d c)
+    ∙ (ap (λ k. numbers b (d + c) ++ k ∷ []) (sym z) ∙ ap (numbers b) (sym e)))
+
+numbers_after : (b n c : ℕ) → b ≤ n → numbers b (n - b) ++ numbers n c ≡ numbers b (n + c - b)
+numbers_after b n c below =
+    let at : n ≡ b + (n - b) = omega (arith, below) in
+    let sum : n - b + c ≡ n + c - b = omega (arith, below) in
+    ap (λ k. numbers b (n - b) ++ numbers k c) at ∙ (numbers_join b (n - b) c ∙ ap (numbers b) sum)
 
 -- one more run of the follower
 pub reports_more : (h : hist.History) (report : ReportValue) → hist.number_of h
     + hist.count_after h (hist.number_of h) ≤ length (hist.published_of h) → length (hist.published_of h) ≤ max_sequence
-    → report ≡ following_report h → hist.reported_of h ≡ numbers 0 (hist.number_of h) → hist.reported_of h
-    ++ applied_in report.text ≡ numbers 0 (hist.number_of h + hist.count_after h (hist.number_of h))
-reports_more h report within most is so_far =
+    → hist.base_of h ≤ hist.number_of h → report ≡ following_report h
+    → hist.reported_of h ≡ numbers (hist.base_of h) (hist.number_of h - hist.base_of h) → hist.reported_of h
+    ++ applied_in report.text ≡ numbers (hist.base_of h) (hist.number_of h + hist.count_after h (hist.number_of h) - hist.base_of h)
+reports_more h report within most below is so_far =
     rw (
       is,
       so_far,
@@ -163,7 +171,7 @@ reports_more h report within most is so_far =
           (small_filter (hist.is_number_lost h) (numbers (n + count) (min 64 (total - (n + count))))
           (numbers_small (n + count) (min 64 (total - (n + count))) (let low = min_below 64 (total - (n + count)) in omega (arith, within, most, low))))
           (omega (arith, within, most)),
-    ) (numbers_join n count)
+    ) (numbers_after (hist.base_of h) n count below)
   where
     n : ℕ
     n = hist.number_of h
@@ -173,3 +181,12 @@ reports_more h report within most is so_far =
 
     total : ℕ
     total = length (hist.published_of h)
+
+-- one that comes to the number before a spoiled file
+pub reports_before : (h : hist.History) (report : ReportValue) (count last : ℕ) → last ≡ hist.number_of h + count → last ≤ max_sequence
+    → hist.base_of h ≤ hist.number_of h → report ≡ follow_report_of (ranges (hist.number_of h) count) [] last
+    → hist.reported_of h ≡ numbers (hist.base_of h) (hist.number_of h - hist.base_of h)
+    → hist.reported_of h ++ applied_in report.text ≡ numbers (hist.base_of h) (last - hist.base_of h)
+reports_before h report count last last_is most below is so_far =
+    rw (is, so_far, report_says (numbers (hist.number_of h) count) [] last (numbers_small (hist.number_of h) count (omega (arith, last_is, most))) tt (omega (arith, most)))
+    (numbers_after (hist.base_of h) (hist.number_of h) count below ∙ ap (λ j. numbers (hist.base_of h) (j - hist.base_of h)) (sym last_is))

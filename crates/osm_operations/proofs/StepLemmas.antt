@@ -1,38 +1,48 @@
 -- After each operation the files are as the history says.
-use Rattle.std.proofs.Common.{◌≡◌, ℕ, ◌+◌, ◌≤◌, List, [], ◌∷◌, ◌++◌, length, Bool, Option, true, false, Some}
+use Rattle.std.proofs.Common.{◌≡◌, ℕ, ◌+◌, ◌-◌, ◌≤◌, List, [], ◌∷◌, ◌++◌, length, Bool, Option, true, false, Some}
 use Rattle.std.proofs.Common.{None, inl, inr, arith, refl, sym, ap, subst, ◌∙◌, append-nil}
-use Rattle.std.specs.Prelude.{◌⊎◌, ◌==◌, not, if◌then◌else◌, max, Err}
+use Rattle.std.specs.Prelude.{◌⊎◌, ◌==◌, IsTrue, is_none, not, if◌then◌else◌, max, Result, Ok, Err}
 use Rattle.std.specs.List.{zip}
 use Rattle.std.proofs.lemmas.Bool.{eq-eqb, ne_eqb}
 use Rattle.std.proofs.lemmas.List.{reverse-append}
 use Rattle.osm_model.specs.Change.{ChangeValue}
-use Rattle.osm_model.specs.Limits.{max_sequence}
+use Rattle.osm_model.specs.Limits.{max_file, max_sequence}
 use Rattle.osm_mirror.proofs.MirrorLemmas.{mirror_of-nil}
+use Rattle.osm_save.specs.Head.{head_of}
 use Rattle.osm_state.specs.declared.paths.Suffix.{Suffix}
-use Rattle.osm_state.specs.declared.paths.Suffix.TheVariants.{O5c, Opl}
+use Rattle.osm_state.specs.declared.paths.Suffix.TheVariants.{O5c, Opl, State}
 use Rattle.osm_follow.specs.Published.{PublishedValue, sequence_at}
 use Rattle.osm_follow.specs.Reach.{numbers}
+use Rattle.osm_folder.specs.Beginning.{BeginStops}
 use Rattle.osm_folder.specs.Files.{Files}
-use Rattle.osm_folder.specs.Following.{IsSaveOf, follow_calls, no_save}
+use Rattle.osm_folder.specs.Folder.{IsStateFile}
+use Rattle.osm_folder.specs.Following.{FollowRefuses, IsSaveOf, follow_calls, no_save, ranges}
 use Rattle.osm_folder.specs.Names.{file_name_of}
 use Rattle.osm_folder.specs.Numbered.{numbered_calls}
-use Rattle.osm_folder.specs.Reports.{ReportValue, publish_report_of}
+use Rattle.osm_folder.specs.Reports.{ReportValue, begin_report_of, convert_report_of, follow_report_of, publish_report_of}
 use Rattle.osm_folder.specs.Runs.{LacksCalls}
 use Rattle.osm_folder.specs.Stores.{files_of}
 use Rattle.osm_folder.specs.declared.fault.RunFault.{RunFault}
+use Rattle.osm_folder.specs.declared.fault.RunFault.TheVariants.{WantOfMemory, ReadFault, WriteFault, TooLarge, Absent}
+use Rattle.osm_folder.specs.declared.progress.Progress.TheVariants.{Whole, Before}
 use Rattle.osm_operations.specs.Allowed.{AreAllowed, CutsAfter, IsNoNumber, IsRepeat, KilledFollowingRefused}
 use Rattle.osm_operations.specs.Allowed.{KilledNumberedRefused, KilledPublicationRefused, NumberedCut, NumberedDone}
-use Rattle.osm_operations.specs.Allowed.{following_report}
+use Rattle.osm_operations.specs.Allowed.{HasBeginning, HasExport, KilledBeginRefused, KilledExportRefused, following_report}
+use Rattle.osm_operations.specs.Allowed.{IsFileThere, IsReadIn, KilledSpoiledRefused, NothingToSpoil, SpoiledBefore, SpoiledDone, SpoiledRefused}
 use Rattle.osm_operations.specs.Correct.{AreApart, IsNew, IsRun}
 use Rattle.osm_operations.specs.History as hist
+use Rattle.osm_operations.specs.Reported.{applied_in}
+use Rattle.osm_operations.specs.Spoiling.{number_before}
+use Rattle.osm_operations.specs.Steps.Stepping.{BeginTo, Begins, ExportTo, KeepsExported, state_name_of}
 use Rattle.osm_operations.specs.Steps.Stepping.{FollowTo, HasCalls, IsNoDevice, IsNumber, NumberedStep, PublishAsTo}
-use Rattle.osm_operations.specs.Steps.Stepping.{PublishStep, PublishTo, ReturnForms, Step, form_back, named}
+use Rattle.osm_operations.specs.Steps.Stepping.{PublishStep, PublishTo, ReturnForms, SpoiledStep, SpoiledTo, Step, form_back, named}
 use Rattle.osm_operations.specs.declared.operation.Operation.{Operation}
 use Rattle.osm_operations.specs.declared.operation.Operation.TheVariants.{Publish, KilledPublish, PublishAs}
 use Rattle.osm_operations.specs.declared.operation.Operation.TheVariants.{KilledPublishAs, Follow, KilledFollow, Lose}
-use Rattle.osm_operations.specs.declared.operation.Operation.TheVariants.{PutBack}
+use Rattle.osm_operations.specs.declared.operation.Operation.TheVariants.{PutBack, Export, KilledExport, Begin, KilledBegin, FollowSpoiled, KilledFollowSpoiled}
 use Rattle.osm_operations.specs.declared.operation.Reply.{Reply}
 use Rattle.osm_operations.specs.declared.operation.Reply.TheVariants.{Published, Followed, Refused, CutOff, Lost, IsBack, NotThere}
+use Rattle.osm_operations.specs.declared.operation.Reply.TheVariants.{Exported, Begun, FollowedBefore}
 use Rattle.osm_operations.specs.declared.world.World.{World}
 use Rattle.osm_opl.specs.Written.{opl_text}
 use Rattle.osm_operations.proofs.AgreeLemmas.{Agrees, changes_put, few, published_agrees, stopped_agrees}
@@ -41,78 +51,82 @@ use Rattle.osm_operations.proofs.CutLemmas.{StayOrReturn, number_stopped, unrun_
 use Rattle.osm_operations.proofs.NumberLemmas.{AreGone, lost_alike, named_least, named_most, none_back}
 use Rattle.osm_operations.proofs.NumberRows.{cut_unlimited, cuts_after, number_not_killed, number_unlimited, stopped_number, unwritten_number}
 use Rattle.osm_operations.proofs.NumberedLemmas.{IsAgain, number_published, value_of, wrote_not}
-use Rattle.osm_operations.proofs.FollowLemmas.{followed, not_killed_follow, stopped_follow}
-use Rattle.osm_operations.proofs.ReportedLemmas.{reports_more}
+use Rattle.osm_operations.proofs.FollowLemmas.{followed, gone_on, not_killed_follow, stopped_follow}
+use Rattle.osm_operations.proofs.ReportedLemmas.{reports_before, reports_more}
+use Rattle.osm_operations.proofs.ExtractLemmas.{begin_agrees, begin_row, export_agrees, export_row, has_export, not_killed_begin}
+use Rattle.osm_operations.proofs.ExtractLemmas.{not_killed_export, saved_head, state_name, state_there}
+use Rattle.osm_operations.proofs.SpoiledRunLemmas.{progress_stops}
+use Rattle.osm_operations.proofs.SpoiledStepLemmas.{as_before, came_before, file_there, mended, not_read, over_spoiled, read_in, same_agrees}
+use Rattle.osm_operations.proofs.SpoiledStepLemmas.{save_apart, spoiled_followed}
 use Rattle.osm_operations.proofs.MoveLemmas.{back_agrees, kept_none, lost_agrees, not_true}
 
 -- the files are those of the history, each reply is allowed, and the reports say each number once
-pub record Holds (h : hist.History) (dir save changes : List ℕ) (start : Files) (w : World) : Type 0 where
-  pub agrees : Agrees (hist.published_of h) (hist.is_file_lost h) (hist.number_of h) dir save changes start (files_of w.store) (files_of w.lost) w.published
-  pub allowed : AreAllowed h
-  pub reported : hist.reported_of h ≡ numbers 0 (hist.number_of h)
+pub record Holds (h : hist.History) (dir save changes extract : List ℕ) (start : Files) (w : World) : Type 0 where
+  pub agrees : Agrees (hist.published_of h) (hist.is_file_lost h) (hist.standing_of h) dir save changes extract start (files_of w.store)
+      (files_of w.lost) w.published
+  pub allowed : AreAllowed extract h
+  pub reported : hist.reported_of h ≡ numbers (hist.base_of h) (hist.number_of h - hist.base_of h)
+  pub exported : w.exported ≡ hist.beginning_of h
 
-abbrev AgreesIn : List PublishedValue → (ℕ → Suffix → Bool) → ℕ → List ℕ → List ℕ → List ℕ → Files → World → Type 0
-AgreesIn p lost m dir save changes start w = Agrees p lost m dir save changes start (files_of w.store) (files_of w.lost) w.published
+abbrev AgreesIn : List PublishedValue → (ℕ → Suffix → Bool) → hist.Standing → List ℕ → List ℕ → List ℕ → List ℕ → Files → World → Type 0
+AgreesIn p lost m dir save changes extract start w = Agrees p lost m dir save changes extract start (files_of w.store) (files_of w.lost) w.published
 
-quiet : (p : List PublishedValue) (lost : ℕ → Suffix → Bool) (m : ℕ) (dir save changes : List ℕ) (start f l : Files)
-    (n : ℕ) → Agrees p lost m dir save changes start f l n → Agrees (p ++ []) lost (m + 0) dir save changes start f l n
-quiet p lost m dir save changes start f l n s =
-    let e : m ≡ m + 0 = omega arith in
-    subst (λ q. Agrees q lost (m + 0) dir save changes start f l n) (sym (append-nil p)) (subst (λ i. Agrees p lost i dir save changes start f l n) e s)
+quiet : (p : List PublishedValue) (lost : ℕ → Suffix → Bool) (m : hist.Standing) (dir save changes extract : List ℕ) (start f l : Files)
+    (n : ℕ) → Agrees p lost m dir save changes extract start f l n → Agrees (p ++ []) lost m dir save changes extract start f l n
+quiet p lost m dir save changes extract start f l n s =
+    subst (λ q. Agrees q lost m dir save changes extract start f l n) (sym (append-nil p)) s
 
-renewed : (p : List PublishedValue) (lost : ℕ → Suffix → Bool) (m : ℕ) (dir save changes : List ℕ)
-    (start f l f' l' : Files) (n n' : ℕ) → f' ≡ f → l' ≡ l → n' ≡ n → Agrees p lost m dir save changes start f l n
-    → Agrees p lost m dir save changes start f' l' n'
-renewed p lost m dir save changes start f l f' l' n n' a b c s =
-    subst (λ (x : Files). Agrees p lost m dir save changes start x l' n') (sym a)
-    (subst (λ (x : Files). Agrees p lost m dir save changes start f x n') (sym b)
-    (subst (λ i. Agrees p lost m dir save changes start f l i) (sym c) s))
+renewed : (p : List PublishedValue) (lost : ℕ → Suffix → Bool) (m : hist.Standing) (dir save changes extract : List ℕ)
+    (start f l f' l' : Files) (n n' : ℕ) → f' ≡ f → l' ≡ l → n' ≡ n → Agrees p lost m dir save changes extract start f l n
+    → Agrees p lost m dir save changes extract start f' l' n'
+renewed p lost m dir save changes extract start f l f' l' n n' a b c s =
+    subst (λ (x : Files). Agrees p lost m dir save changes extract start x l' n') (sym a)
+    (subst (λ (x : Files). Agrees p lost m dir save changes extract start f x n') (sym b)
+    (subst (λ i. Agrees p lost m dir save changes extract start f l i) (sym c) s))
 
-publish_more : (left : Option ℕ) (p : List PublishedValue) (lost : ℕ → Suffix → Bool) (m : ℕ)
-    (dir save changes : List ℕ) (start : Files) (a b : World) (batch : List ChangeValue) (time : ℕ)
-    (report : ReportValue) → AreApart dir save changes → AgreesIn p lost m dir save changes start a
+publish_more : (left : Option ℕ) (p : List PublishedValue) (lost : ℕ → Suffix → Bool) (m : hist.Standing)
+    (dir save changes extract : List ℕ) (start : Files) (a b : World) (batch : List ChangeValue) (time : ℕ)
+    (report : ReportValue) → AreApart dir save changes extract → AgreesIn p lost m dir save changes extract start a
     → PublishTo left dir changes batch time (Published report) a b
     → AgreesIn (p ++ (record { number = length p + 1; changes = batch; time = time }) ∷ []) lost
-    (m + 0) dir save changes start b × (report ≡ publish_report_of (length p + 1))
-publish_more left p lost m dir save changes start a b batch time report apart s step =
-    let done = published_agrees p lost m dir save changes start (files_of a.store) (files_of b.store)
+    m dir save changes extract start b × (report ≡ publish_report_of (length p + 1))
+publish_more left p lost m dir save changes extract start a b batch time report apart s step =
+    let done = published_agrees p lost m dir save changes extract start (files_of a.store) (files_of b.store)
     (files_of a.lost) a.published batch time report apart s step.0 in
     let most = few (p ++ (record { number = length p + 1; changes = batch; time = time }) ∷ []) done.0.folder.sequences in
-    let n_is = done.0.number in
-    let e : m ≡ m + 0 = omega arith in (
-      renewed (p ++ (record { number = length p + 1; changes = batch; time = time }) ∷ []) lost (m + 0) dir save changes
+    let n_is = done.0.number in (
+      renewed (p ++ (record { number = length p + 1; changes = batch; time = time }) ∷ []) lost m dir save changes extract
           start (files_of b.store) (files_of a.lost) (files_of b.store) (files_of b.lost) (a.published + 1) b.published
           refl (ap files_of step.1) (step.2 (omega (arith, n_is, most)))
-          (subst (λ i. Agrees (p ++ (record { number = length p + 1; changes = batch; time = time }) ∷ []) lost i dir
-          save changes start (files_of b.store) (files_of a.lost) (a.published + 1)) e done.0),
+          done.0,
       done.1,
     )
 
-publish_stopped : (p : List PublishedValue) (lost : ℕ → Suffix → Bool) (m : ℕ) (dir save changes : List ℕ)
+publish_stopped : (p : List PublishedValue) (lost : ℕ → Suffix → Bool) (m : hist.Standing) (dir save changes extract : List ℕ)
     (start : Files) (a b : World) (batch : List ChangeValue) (time calls : ℕ) (fault : RunFault)
-    → AreApart dir save changes → AgreesIn p lost m dir save changes start a
+    → AreApart dir save changes extract → AgreesIn p lost m dir save changes extract start a
     → PublishTo (Some calls) dir changes batch time (Refused fault) a b
-    → AgreesIn (p ++ []) lost (m + 0) dir save changes start b × KilledPublicationRefused p batch time calls fault
-publish_stopped p lost m dir save changes start a b batch time calls fault apart s step =
+    → AgreesIn (p ++ []) lost m dir save changes extract start b × KilledPublicationRefused p batch time calls fault
+publish_stopped p lost m dir save changes extract start a b batch time calls fault apart s step =
     let done = by_step step.0 in (
-      quiet p lost m dir save changes start (files_of b.store) (files_of b.lost) b.published
-          (renewed p lost m dir save changes start (files_of b.store) (files_of a.lost) (files_of b.store)
+      quiet p lost m dir save changes extract start (files_of b.store) (files_of b.lost) b.published
+          (renewed p lost m dir save changes extract start (files_of b.store) (files_of a.lost) (files_of b.store)
           (files_of b.lost) a.published b.published refl (ap files_of step.1) step.2 done.0),
       done.1,
     )
   where
     by_step : PublishStep (Some calls) dir changes batch time (Err fault) (files_of a.store) (files_of b.store)
-        → Agrees p lost m dir save changes start (files_of b.store) (files_of a.lost) a.published
+        → Agrees p lost m dir save changes extract start (files_of b.store) (files_of a.lost) a.published
         × KilledPublicationRefused p batch time calls fault
     by_step (inl h) = (
-      renewed p lost m dir save changes start (files_of a.store) (files_of a.lost) (files_of b.store)
+      renewed p lost m dir save changes extract start (files_of a.store) (files_of a.lost) (files_of b.store)
           (files_of a.lost) a.published a.published h.1 refl refl s,
       unwritten_row p batch time calls fault h.0,
     )
     by_step (inr run) =
-        let mid = changes_put p lost m dir save changes start (files_of a.store) run.middle
+        let mid = changes_put p lost m dir save changes extract start (files_of a.store) run.middle
         (files_of a.lost) a.published (Some (opl_text batch)) apart run.there.put s in (
-          stopped_agrees (Some calls) p lost m dir save changes start (files_of a.store) (files_of b.store)
+          stopped_agrees (Some calls) p lost m dir save changes extract start (files_of a.store) (files_of b.store)
               (files_of a.lost) a.published batch time fault apart s run,
           stopped_row p dir changes run.now batch time calls (files_of a.store) run.middle (files_of b.store) fault
               mid.folder run.is_so.out run.shows run.is_text run.there run.is_so.stops (run.is_so.refuses p mid.folder),
@@ -141,40 +155,45 @@ unlimited dir changes batch time fault a b (inr run, lost, count) =
       is.1,
     )
 
-saved_within : (p : List PublishedValue) (m : ℕ) (told : Option (List ℕ)) → IsSaveOf p m told → m ≤ length p
-saved_within p m told s = let within = s.in_step.within in let is = s.number_is in omega (arith, within, is)
+saved_within : (p : List PublishedValue) (base m : ℕ) (told : Option (List ℕ)) → IsSaveOf p base m told → m ≤ length p
+saved_within p base m told s = let within = s.in_step.within in let is = s.number_is in omega (arith, within, is)
 
--- a reply that reports nothing
-none_more : (h : hist.History) → hist.reported_of h ≡ numbers 0 (hist.number_of h) → hist.reported_of h ++ [] ≡ numbers 0 (hist.number_of h + 0)
-none_more h so_far = let e : hist.number_of h + 0 ≡ hist.number_of h = omega arith in rw (e, append-nil) so_far
+base_below : (p : List PublishedValue) (base m : ℕ) (told : Option (List ℕ)) → IsSaveOf p base m told → base ≤ m
+base_below p base m told s =
+    let below = s.in_step.base in let base_is = s.base_is in let number_is = s.number_is in omega (arith, below, base_is, number_is)
 
-follow_more : (h : hist.History) (dir save changes : List ℕ) (start : Files) (a b : World) (report : ReportValue)
-    → AreApart dir save changes → AgreesIn (hist.published_of h) (hist.is_file_lost h) (hist.number_of h) dir save
-    changes start a → FollowTo dir save (Followed report) a b → AgreesIn (hist.published_of h ++ [])
-    (hist.is_file_lost h) (hist.number_of h + hist.count_after h (hist.number_of h)) dir save changes start b
+-- nothing is reported from a number up to itself
+none_reported : (n : ℕ) → [] ≡ numbers n (n - n)
+none_reported n = let e : n - n ≡ 0 = omega arith in rw e refl
+
+follow_more : (h : hist.History) (dir save changes extract : List ℕ) (start : Files) (a b : World) (report : ReportValue)
+    → AreApart dir save changes extract → AgreesIn (hist.published_of h) (hist.is_file_lost h) (hist.standing_of h) dir save
+    changes extract start a → FollowTo dir save (Followed report) a b → AgreesIn (hist.published_of h ++ [])
+    (hist.is_file_lost h) (gone_on (hist.standing_of h) (hist.count_after h (hist.number_of h))) dir save changes extract start b
     × (report ≡ following_report h) × (hist.number_of h + hist.count_after h (hist.number_of h) ≤
     length (hist.published_of h))
-follow_more h dir save changes start a b report apart s step =
-    let done = followed (hist.published_of h) (hist.is_file_lost h) (hist.number_of h) dir save changes start
+follow_more h dir save changes extract start a b report apart s step =
+    let done = followed (hist.published_of h) (hist.is_file_lost h) (hist.standing_of h) dir save changes extract start
     (files_of a.store) (files_of b.store) (files_of a.lost) a.published report apart s step.0 in (
-      subst (λ q. AgreesIn q (hist.is_file_lost h) (hist.number_of h + hist.count_after h (hist.number_of h)) dir save
-          changes start b) (sym (append-nil (hist.published_of h)))
-          (renewed (hist.published_of h) (hist.is_file_lost h) (hist.number_of h
-          + hist.count_after h (hist.number_of h)) dir save changes start (files_of b.store) (files_of a.lost)
+      subst (λ q. AgreesIn q (hist.is_file_lost h) (gone_on (hist.standing_of h) (hist.count_after h (hist.number_of h))) dir save
+          changes extract start b) (sym (append-nil (hist.published_of h)))
+          (renewed (hist.published_of h) (hist.is_file_lost h) (gone_on (hist.standing_of h) (hist.count_after h (hist.number_of h)))
+          dir save changes extract start (files_of b.store) (files_of a.lost)
           (files_of b.store) (files_of b.lost) a.published b.published refl (ap files_of step.1) step.2 done.0),
       done.1,
-      saved_within (hist.published_of h) (hist.number_of h + hist.count_after h (hist.number_of h)) (files_of b.store save) done.0.saved,
+      saved_within (hist.published_of h) (hist.base_of h) (hist.number_of h + hist.count_after h (hist.number_of h)) (files_of b.store save)
+          done.0.saved.save_is,
     )
 
-follow_stopped : (p : List PublishedValue) (lost : ℕ → Suffix → Bool) (m : ℕ) (dir save changes : List ℕ)
-    (start : Files) (a b : World) (calls : ℕ) (fault : RunFault) → LacksCalls (follow_calls p m) (Some calls) fault
-    → AgreesIn p lost m dir save changes start a → FollowTo dir save (Refused fault) a b
-    → AgreesIn (p ++ []) lost (m + 0) dir save changes start b × KilledFollowingRefused p m calls fault
-follow_stopped p lost m dir save changes start a b calls fault lacks s step = (
-  quiet p lost m dir save changes start (files_of b.store) (files_of b.lost) b.published
-      (renewed p lost m dir save changes start (files_of a.store) (files_of a.lost) (files_of b.store)
-      (files_of b.lost) a.published b.published (step.0 p m s.folder s.saved).0 (ap files_of step.1) step.2 s),
-  stopped_follow p m calls (files_of a.store save) fault lacks s.saved (step.0 p m s.folder s.saved).1,
+follow_stopped : (p : List PublishedValue) (lost : ℕ → Suffix → Bool) (m : hist.Standing) (dir save changes extract : List ℕ)
+    (start : Files) (a b : World) (calls : ℕ) (fault : RunFault) → LacksCalls (follow_calls p m.number) (Some calls) fault
+    → AgreesIn p lost m dir save changes extract start a → FollowTo dir save (Refused fault) a b
+    → AgreesIn (p ++ []) lost m dir save changes extract start b × KilledFollowingRefused p m.number calls fault
+follow_stopped p lost m dir save changes extract start a b calls fault lacks s step = (
+  quiet p lost m dir save changes extract start (files_of b.store) (files_of b.lost) b.published
+      (renewed p lost m dir save changes extract start (files_of a.store) (files_of a.lost) (files_of b.store)
+      (files_of b.lost) a.published b.published (step.0 p m.base m.number s.folder s.saved.save_is).0 (ap files_of step.1) step.2 s),
+  stopped_follow p m.base m.number calls (files_of a.store save) fault lacks s.saved.save_is (step.0 p m.base m.number s.folder s.saved.save_is).1,
 )
 
 -- a number that isn't published
@@ -185,13 +204,13 @@ no_number h count n is most (inr (inl e)) = inr (omega (arith, is, e))
 no_number h count n is most (inr (inr e)) = inr (omega (arith, most, e))
 
 -- nothing was done
-still : (h : hist.History) (dir save changes : List ℕ) (start : Files) (a b : World)
-    → AgreesIn (hist.published_of h) (hist.is_file_lost h) (hist.number_of h) dir save changes start a
+still : (h : hist.History) (dir save changes extract : List ℕ) (start : Files) (a b : World)
+    → AgreesIn (hist.published_of h) (hist.is_file_lost h) (hist.standing_of h) dir save changes extract start a
     → files_of b.store ≡ files_of a.store → files_of b.lost ≡ files_of a.lost → b.published ≡ a.published
-    → AgreesIn (hist.published_of h ++ []) (hist.is_file_lost h) (hist.number_of h + 0) dir save changes start b
-still h dir save changes start a b s files lost count =
-    quiet (hist.published_of h) (hist.is_file_lost h) (hist.number_of h) dir save changes start (files_of b.store) (files_of b.lost) b.published
-    (renewed (hist.published_of h) (hist.is_file_lost h) (hist.number_of h) dir save changes start (files_of a.store)
+    → AgreesIn (hist.published_of h ++ []) (hist.is_file_lost h) (hist.standing_of h) dir save changes extract start b
+still h dir save changes extract start a b s files lost count =
+    quiet (hist.published_of h) (hist.is_file_lost h) (hist.standing_of h) dir save changes extract start (files_of b.store) (files_of b.lost) b.published
+    (renewed (hist.published_of h) (hist.is_file_lost h) (hist.standing_of h) dir save changes extract start (files_of a.store)
     (files_of a.lost) (files_of b.store) (files_of b.lost) a.published b.published files lost count s)
 
 max_next : (a n : ℕ) → n ≡ a + 1 → max a n ≡ a + 1
@@ -201,25 +220,25 @@ max_old : (a n : ℕ) → n ≤ a → max a n ≡ a
 max_old a n e = grind (arith)
 
 -- a publication by number is done
-number_more : (left : Option ℕ) (h : hist.History) (dir save changes : List ℕ) (start : Files) (a b : World)
-    (batch : List ChangeValue) (time n : ℕ) (report : ReportValue) → AreApart dir save changes
-    → AgreesIn (hist.published_of h) (hist.is_file_lost h) (hist.number_of h) dir save changes start a
+number_more : (left : Option ℕ) (h : hist.History) (dir save changes extract : List ℕ) (start : Files) (a b : World)
+    (batch : List ChangeValue) (time n : ℕ) (report : ReportValue) → AreApart dir save changes extract
+    → AgreesIn (hist.published_of h) (hist.is_file_lost h) (hist.standing_of h) dir save changes extract start a
     → PublishAsTo left dir changes batch time n (Published report) a b
     → AgreesIn (hist.published_of h ++ (if n == length (hist.published_of h) + 1 then value_of n batch time ∷ [] else
     [])) (λ k t. if hist.wrote n (length (hist.published_of h)) k then false else hist.is_file_lost h k t)
-    (hist.number_of h + 0) dir save changes start b × NumberedDone h batch time n report
+    (hist.standing_of h) dir save changes extract start b × NumberedDone h batch time n report
     × HasCalls (numbered_calls n (length (hist.published_of h))) left
-number_more left h dir save changes start a b batch time n report apart s t = (
-  subst (λ i. AgreesIn (p ++ (if n == length p + 1 then value_of n batch time ∷ [] else [])) gone i dir save changes start b) m_same (elim done.0 [
+number_more left h dir save changes extract start a b batch time n report apart s t = (
+  (elim done.0 [
     | inl next ↦ rw (eq-eqb n (length p + 1) next.0)
-        (renewed (p ++ value_of n batch time ∷ []) gone m dir save changes start (files_of b.store) (files_of b.lost)
+        (renewed (p ++ value_of n batch time ∷ []) gone m dir save changes extract start (files_of b.store) (files_of b.lost)
         (files_of b.store) (files_of b.lost) (a.published + 1) b.published refl refl
         (t.2 ∙ max_next a.published n (next.0 ∙ ap (λ i. i + 1) (sym s.number)))
-        (lost_alike (p ++ value_of n batch time ∷ []) lost gone m dir save changes start (files_of b.store) (files_of b.lost) (a.published + 1)
+        (lost_alike (p ++ value_of n batch time ∷ []) lost gone m dir save changes extract start (files_of b.store) (files_of b.lost) (a.published + 1)
         (λ k u. rw (wrote_not n (length p) k (λ e. (let at = next.0 in omega (arith, e, at)))) refl) next.1))
     | inr old ↦ rw (ne_eqb n (length p + 1) (λ e. (let within = old.0.1 in omega (arith, e, within))), append-nil p)
-        (renewed p gone m dir save changes start (files_of b.store) (files_of b.lost) (files_of b.store) (files_of b.lost) a.published b.published refl refl
-        (t.2 ∙ max_old a.published n (let within = old.0.1 in let at = s.number in omega (arith, within, at))) old.1)
+        (renewed p gone m dir save changes extract start (files_of b.store) (files_of b.lost) (files_of b.store) (files_of b.lost) a.published
+        b.published refl refl (t.2 ∙ max_old a.published n (let within = old.0.1 in let at = s.number in omega (arith, within, at))) old.1)
   ]),
   (done.1, row done.0),
   done.2,
@@ -231,87 +250,85 @@ number_more left h dir save changes start a b batch time n report apart s t = (
     lost : ℕ → Suffix → Bool
     lost = hist.is_file_lost h
 
-    m : ℕ
-    m = hist.number_of h
-
-    m_same : m ≡ m + 0
-    m_same = omega arith
+    m : hist.Standing
+    m = hist.standing_of h
 
     gone : ℕ → Suffix → Bool
     gone k t = if hist.wrote n (length p) k then false else lost k t
 
-    done : (((n ≡ length p + 1) × Agrees (p ++ value_of n batch time ∷ []) lost m dir save changes start
+    done : (((n ≡ length p + 1) × Agrees (p ++ value_of n batch time ∷ []) lost m dir save changes extract start
         (files_of b.store) (files_of b.lost) (a.published + 1))
         ⊎ (IsAgain p lost n batch time × Agrees p (λ i u. if hist.wrote n (length p) i then false else lost i u) m dir
-        save changes start (files_of b.store) (files_of b.lost) a.published)) × (report ≡ publish_report_of n)
+        save changes extract start (files_of b.store) (files_of b.lost) a.published)) × (report ≡ publish_report_of n)
         × HasCalls (numbered_calls n (length p)) left
-    done = number_published left p lost m dir save changes start (files_of a.store) (files_of b.store) (files_of a.lost)
+    done = number_published left p lost m dir save changes extract start (files_of a.store) (files_of b.store) (files_of a.lost)
         (files_of b.lost) a.published batch time n report t.1.0 t.1.1 apart s t.0 t.1.2
 
-    row : (((n ≡ length p + 1) × Agrees (p ++ value_of n batch time ∷ []) lost m dir save changes start
+    row : (((n ≡ length p + 1) × Agrees (p ++ value_of n batch time ∷ []) lost m dir save changes extract start
         (files_of b.store) (files_of b.lost) (a.published + 1))
         ⊎ (IsAgain p lost n batch time × Agrees p (λ i u. if hist.wrote n (length p) i then false else lost i u) m dir
-        save changes start (files_of b.store) (files_of b.lost) a.published)) → (n ≡ length p + 1)
+        save changes extract start (files_of b.store) (files_of b.lost) a.published)) → (n ≡ length p + 1)
         ⊎ IsRepeat h batch time n
     row (inl next) = inl next.0
     row (inr old) = inr old.0
 
 -- a publication by number is refused
-number_refused : (h : hist.History) (dir save changes : List ℕ) (start : Files) (a b : World) (batch : List ChangeValue)
-    (time n calls : ℕ) (fault : RunFault) → AreApart dir save changes
-    → AgreesIn (hist.published_of h) (hist.is_file_lost h) (hist.number_of h) dir save changes start a
+number_refused : (h : hist.History) (dir save changes extract : List ℕ) (start : Files) (a b : World) (batch : List ChangeValue)
+    (time n calls : ℕ) (fault : RunFault) → AreApart dir save changes extract
+    → AgreesIn (hist.published_of h) (hist.is_file_lost h) (hist.standing_of h) dir save changes extract start a
     → PublishAsTo (Some calls) dir changes batch time n (Refused fault) a b → AgreesIn (hist.published_of h ++ [])
-    (hist.is_file_lost h) (hist.number_of h + 0) dir save changes start b × KilledNumberedRefused h batch time n calls
+    (hist.is_file_lost h) (hist.standing_of h) dir save changes extract start b × KilledNumberedRefused h batch time n calls
     fault
-number_refused h dir save changes start a b batch time n calls fault apart s (inl (why, same)) = (
-  still h dir save changes start a b s (ap (λ (w : World). files_of w.store) same)
+number_refused h dir save changes extract start a b batch time n calls fault apart s (inl (why, same)) = (
+  still h dir save changes extract start a b s (ap (λ (w : World). files_of w.store) same)
       (ap (λ (w : World). files_of w.lost) same) (ap (λ (w : World). w.published) same),
   subst (KilledNumberedRefused h batch time n calls) (sym why) tt,
 )
-number_refused h dir save changes start a b batch time n calls fault apart s (inr (inl unrun, back, count)) = (
-  quiet (hist.published_of h) (hist.is_file_lost h) (hist.number_of h) dir save changes start (files_of b.store) (files_of b.lost) b.published
-      (renewed (hist.published_of h) (hist.is_file_lost h) (hist.number_of h) dir save changes start (files_of b.store)
+number_refused h dir save changes extract start a b batch time n calls fault apart s (inr (inl unrun, back, count)) = (
+  quiet (hist.published_of h) (hist.is_file_lost h) (hist.standing_of h) dir save changes extract start (files_of b.store) (files_of b.lost) b.published
+      (renewed (hist.published_of h) (hist.is_file_lost h) (hist.standing_of h) dir save changes extract start (files_of b.store)
       (files_of b.lost) (files_of b.store) (files_of b.lost) a.published b.published refl refl count
-      (unrun_stays (hist.published_of h) (hist.is_file_lost h) (hist.number_of h) dir save changes start
+      (unrun_stays (hist.published_of h) (hist.is_file_lost h) (hist.standing_of h) dir save changes extract start
       (files_of a.store) (files_of b.store) (files_of a.lost) (files_of b.lost) a.published batch time n fault false
       false s unrun.1 back)),
   unwritten_number h batch time n calls fault unrun.0,
 )
-number_refused h dir save changes start a b batch time n calls fault apart s (inr (inr run, back, count)) = (
-  quiet (hist.published_of h) (hist.is_file_lost h) (hist.number_of h) dir save changes start (files_of b.store) (files_of b.lost) b.published
-      (renewed (hist.published_of h) (hist.is_file_lost h) (hist.number_of h) dir save changes start (files_of b.store)
+number_refused h dir save changes extract start a b batch time n calls fault apart s (inr (inr run, back, count)) = (
+  quiet (hist.published_of h) (hist.is_file_lost h) (hist.standing_of h) dir save changes extract start (files_of b.store) (files_of b.lost) b.published
+      (renewed (hist.published_of h) (hist.is_file_lost h) (hist.standing_of h) dir save changes extract start (files_of b.store)
       (files_of b.lost) (files_of b.store) (files_of b.lost) a.published b.published refl refl count
-      (number_stopped (Some calls) (hist.published_of h) (hist.is_file_lost h) (hist.number_of h) dir save changes start
+      (number_stopped (Some calls) (hist.published_of h) (hist.is_file_lost h) (hist.standing_of h) dir save changes extract start
       (files_of a.store) (files_of b.store) (files_of a.lost) (files_of b.lost) a.published batch time n fault false
       false apart s run back)),
-  stopped_number h dir save changes start (files_of a.store) (files_of b.store) (files_of a.lost) a.published (hist.number_of h) batch time n calls fault run
-      (changes_put (hist.published_of h) (hist.is_file_lost h) (hist.number_of h) dir save changes start
+  stopped_number h dir save changes extract start (files_of a.store) (files_of b.store) (files_of a.lost) a.published (hist.standing_of h) batch
+      time n calls fault run
+      (changes_put (hist.published_of h) (hist.is_file_lost h) (hist.standing_of h) dir save changes extract start
       (files_of a.store) run.middle (files_of a.lost) a.published (Some (opl_text batch)) apart run.there.put s),
 )
 
 -- a publication by number is cut off
-number_cut : (h : hist.History) (dir save changes : List ℕ) (start : Files) (a b : World) (batch : List ChangeValue)
-    (time n calls : ℕ) (fault : RunFault) (o5c opl : Bool) (suffix : Suffix) → AreApart dir save changes
-    → AgreesIn (hist.published_of h) (hist.is_file_lost h) (hist.number_of h) dir save changes start a
+number_cut : (h : hist.History) (dir save changes extract : List ℕ) (start : Files) (a b : World) (batch : List ChangeValue)
+    (time n calls : ℕ) (fault : RunFault) (o5c opl : Bool) (suffix : Suffix) → AreApart dir save changes extract
+    → AgreesIn (hist.published_of h) (hist.is_file_lost h) (hist.standing_of h) dir save changes extract start a
     → form_back o5c opl ≡ Some suffix → NumberedStep (Some calls) dir changes batch time n (Err fault)
     (files_of a.store) (files_of b.store) → ReturnForms o5c opl dir (named n) (files_of b.store) (files_of a.lost)
     (files_of b.lost) → b.published ≡ a.published → AgreesIn (hist.published_of h ++ [])
-    (λ i t. if hist.same_file n suffix i t then false else hist.is_file_lost h i t) (hist.number_of h + 0) dir save
-    changes start b × ((count : ℕ) × CutsAfter n calls count fault × NumberedCut h batch time n fault suffix count)
-number_cut h dir save changes start a b batch time n calls fault o5c opl suffix apart s form (inl unrun) back count =
+    (λ i t. if hist.same_file n suffix i t then false else hist.is_file_lost h i t) (hist.standing_of h) dir save
+    changes extract start b × ((count : ℕ) × CutsAfter n calls count fault × NumberedCut h batch time n fault suffix count)
+number_cut h dir save changes extract start a b batch time n calls fault o5c opl suffix apart s form (inl unrun) back count =
     absurd (let none = sym form ∙ ap2_form gone.first gone.second in (let bad : Some suffix ≡ None = none in cc))
   where
     gone : AreGone o5c opl (files_of a.lost) (files_of b.lost)
-    gone = none_back (hist.published_of h) (hist.is_file_lost h) (hist.number_of h) dir save changes start
+    gone = none_back (hist.published_of h) (hist.is_file_lost h) (hist.standing_of h) dir save changes extract start
         (files_of a.store) (files_of b.store) (files_of a.lost) (files_of b.lost) a.published (named n) o5c opl s
         (named_least n) (named_most n)
         (λ t within. ap (λ (f : Files). f (file_name_of dir (named n) t)) unrun.1) back
 
     ap2_form : {x y : Bool} → x ≡ false → y ≡ false → form_back x y ≡ None
     ap2_form e d = rw (e, d) refl
-number_cut h dir save changes start a b batch time n calls fault o5c opl suffix apart s form (inr run) back count = (
-  quiet (hist.published_of h) gone (hist.number_of h) dir save changes start (files_of b.store) (files_of b.lost) b.published
-      (renewed (hist.published_of h) gone (hist.number_of h) dir save changes start (files_of b.store) (files_of b.lost)
+number_cut h dir save changes extract start a b batch time n calls fault o5c opl suffix apart s form (inr run) back count = (
+  quiet (hist.published_of h) gone (hist.standing_of h) dir save changes extract start (files_of b.store) (files_of b.lost) b.published
+      (renewed (hist.published_of h) gone (hist.standing_of h) dir save changes extract start (files_of b.store) (files_of b.lost)
       (files_of b.store) (files_of b.lost) a.published b.published refl refl count stays.0),
   (
     stays.4.0,
@@ -330,15 +347,15 @@ number_cut h dir save changes start a b batch time n calls fault o5c opl suffix 
     gone : ℕ → Suffix → Bool
     gone i t = if hist.same_file n suffix i t then false else hist.is_file_lost h i t
 
-    mid : Agrees (hist.published_of h) (hist.is_file_lost h) (hist.number_of h) dir save changes start run.middle (files_of a.lost) a.published
-    mid = changes_put (hist.published_of h) (hist.is_file_lost h) (hist.number_of h) dir save changes start
+    mid : Agrees (hist.published_of h) (hist.is_file_lost h) (hist.standing_of h) dir save changes extract start run.middle (files_of a.lost) a.published
+    mid = changes_put (hist.published_of h) (hist.is_file_lost h) (hist.standing_of h) dir save changes extract start
         (files_of a.store) run.middle (files_of a.lost) a.published (Some (opl_text batch)) apart run.there.put s
 
-    stays : StayOrReturn (hist.published_of h) (hist.is_file_lost h) (hist.number_of h) dir save changes start
+    stays : StayOrReturn (hist.published_of h) (hist.is_file_lost h) (hist.standing_of h) dir save changes extract start
         (files_of b.store) (files_of b.lost) a.published batch time n fault (Some suffix)
-    stays = subst (λ o. StayOrReturn (hist.published_of h) (hist.is_file_lost h) (hist.number_of h) dir save changes
+    stays = subst (λ o. StayOrReturn (hist.published_of h) (hist.is_file_lost h) (hist.standing_of h) dir save changes extract
         start (files_of b.store) (files_of b.lost) a.published batch time n fault o) form
-        (number_stopped (Some calls) (hist.published_of h) (hist.is_file_lost h) (hist.number_of h) dir save changes
+        (number_stopped (Some calls) (hist.published_of h) (hist.is_file_lost h) (hist.standing_of h) dir save changes extract
         start (files_of a.store) (files_of b.store) (files_of a.lost) (files_of b.lost) a.published batch time n
         fault o5c opl apart s run back)
 
@@ -376,67 +393,392 @@ refused_unlimited dir changes batch time n fault a b (inr (step, back, count)) =
     let is = step_unlimited dir changes batch time n fault (files_of a.store) (files_of b.store) step in
     (inr (is.0, back, count), is.1)
 
+-- an export is done
+export_more : (h : hist.History) (dir save changes extract : List ℕ) (start : Files) (a b : World) (report : ReportValue)
+    → AreApart dir save changes extract → AgreesIn (hist.published_of h) (hist.is_file_lost h) (hist.standing_of h) dir save
+    changes extract start a → ExportTo save extract (Exported report) a b
+    → AgreesIn (hist.published_of h ++ []) (hist.is_file_lost h) (hist.standing_after h (Exported report) (hist.standing_of h)) dir save
+    changes extract start b × (report ≡ convert_report_of) × HasExport h extract (λ text. length text ≤ max_file)
+    × (b.exported ≡ hist.number_of h)
+export_more h dir save changes extract start a b report apart s (done, lost, count, number) =
+    let agrees = export_agrees (hist.published_of h) (hist.is_file_lost h) (hist.standing_of h) dir save changes extract start
+    (files_of a.store) (files_of b.store) (files_of a.lost) a.published report apart s done in
+    let made = done.exported.made in
+    let save_is = agrees.saved.save_is in (
+      quiet (hist.published_of h) (hist.is_file_lost h) (hist.standing_after h (Exported report) (hist.standing_of h)) dir save changes
+          extract start (files_of b.store) (files_of b.lost) b.published
+          (renewed (hist.published_of h) (hist.is_file_lost h) (hist.standing_after h (Exported report) (hist.standing_of h)) dir save
+          changes extract start (files_of b.store) (files_of a.lost) (files_of b.store) (files_of b.lost) a.published b.published refl
+          (ap files_of lost) count agrees),
+      done.report_is,
+      has_export h extract (files_of a.store save) (λ text. length text ≤ max_file) made.named made.held s.saved.save_is s.saved.is_there made.fits,
+      number (head_of save_is.value) (saved_head (files_of b.store save) save_is.value save_is.saved) ∙ save_is.number_is,
+    )
+
+-- an export is refused
+export_stopped : (h : hist.History) (dir save changes extract : List ℕ) (start : Files) (a b : World) (calls : ℕ) (fault : RunFault)
+    → LacksCalls 2 (Some calls) fault → AgreesIn (hist.published_of h) (hist.is_file_lost h) (hist.standing_of h) dir save
+    changes extract start a → ExportTo save extract (Refused fault) a b
+    → AgreesIn (hist.published_of h ++ []) (hist.is_file_lost h) (hist.standing_of h) dir save changes extract start b
+    × KilledExportRefused h extract calls fault
+export_stopped h dir save changes extract start a b calls fault lacks s (stops, lost, count) = (
+  still h dir save changes extract start a b s stops.0 (ap files_of lost) count,
+  export_row h extract save calls (files_of a.store) fault lacks s.saved.save_is s.saved.is_there stops.1,
+)
+
+-- the name of the state that a beginning reads
+state_of : (h : hist.History) (dir save changes extract : List ℕ) (start : Files) (a : World) → Holds h dir save changes extract start a
+    → state_name_of dir a.exported ≡ file_name_of dir (hist.beginning_of h) State
+state_of h dir save changes extract start a s =
+    state_name dir a.exported (hist.beginning_of h) s.exported
+    (let most = few (hist.published_of h) s.agrees.folder.sequences in let within = s.agrees.saved.within in omega (arith, most, within))
+
+-- a beginning is done
+begin_more : (h : hist.History) (dir save changes extract : List ℕ) (start : Files) (a b : World) (report : ReportValue)
+    → AreApart dir save changes extract → Holds h dir save changes extract start a → BeginTo dir save extract (Begun report) a b
+    → AgreesIn (hist.published_of h ++ []) (hist.is_file_lost h) (hist.standing_after h (Begun report) (hist.standing_of h)) dir save
+    changes extract start b × (report ≡ begin_report_of (hist.beginning_of h)) × HasBeginning h extract
+begin_more h dir save changes extract start a b report apart s (done, lost, count) =
+    let run = subst (λ name. Begins extract name save report (files_of a.store) (files_of b.store))
+    (state_of h dir save changes extract start a s) done in
+    let begun = run.begun.beginning in
+    let there = state_there h dir save changes extract start (files_of a.store) (files_of a.lost) a.published 0 s.agrees
+    (IsStateFile run.begun.s.sequence run.begun.s.time) begun.start.there in
+    let agrees = begin_agrees (hist.published_of h) (hist.is_file_lost h) (hist.standing_of h) dir save changes extract
+    (file_name_of dir (hist.beginning_of h) State) start (files_of a.store) (files_of b.store) (files_of a.lost) a.published report apart
+    s.agrees there.2 run in (
+      quiet (hist.published_of h) (hist.is_file_lost h) (hist.standing_after h (Begun report) (hist.standing_of h)) dir save changes
+          extract start (files_of b.store) (files_of b.lost) b.published
+          (renewed (hist.published_of h) (hist.is_file_lost h) (hist.standing_after h (Begun report) (hist.standing_of h)) dir save
+          changes extract start (files_of b.store) (files_of a.lost) (files_of b.store) (files_of b.lost) a.published b.published refl
+          (ap files_of lost) count agrees.0),
+      agrees.1,
+      record { named = begun.base_is.named; above = there.0; there = there.1 },
+    )
+
+-- a beginning is refused
+begin_stopped : (h : hist.History) (dir save changes extract : List ℕ) (start : Files) (a b : World) (calls : ℕ) (fault : RunFault)
+    → LacksCalls 3 (Some calls) fault → Holds h dir save changes extract start a → BeginTo dir save extract (Refused fault) a b
+    → AgreesIn (hist.published_of h ++ []) (hist.is_file_lost h) (hist.standing_of h) dir save changes extract start b
+    × KilledBeginRefused h extract calls fault
+begin_stopped h dir save changes extract start a b calls fault lacks s (stops, lost, count) = (
+  still h dir save changes extract start a b s.agrees stops.0 (ap files_of lost) count,
+  elim stops.1 [
+    | inl want ↦ subst (KilledBeginRefused h extract calls) (sym want) tt
+    | inr run ↦ begin_row h dir save changes extract start (files_of a.store) (files_of a.lost) a.published calls s.agrees fault lacks run.law
+        (subst (λ name. BeginStops (IsTrue true) extract name (files_of a.store) fault) (state_of h dir save changes extract start a s) run.stops)
+  ],
+)
+
+-- ---- a run of the follower over a spoiled file
+
+-- the file of that number is there
+file_is_there : (h : hist.History) (dir save changes extract : List ℕ) (start : Files) (a : World) (k : ℕ) (t : Suffix) (bytes : List ℕ)
+    → AreApart dir save changes extract → AgreesIn (hist.published_of h) (hist.is_file_lost h) (hist.standing_of h) dir save changes extract start a
+    → IsNumber true a.published k → files_of a.store (file_name_of dir k t) ≡ Some bytes → IsFileThere h k t
+file_is_there h dir save changes extract start a k t bytes apart s number there =
+    let n_is = s.number in
+    let within : k ≤ length (hist.published_of h) = omega (arith, n_is, number.1) in (
+      number.0,
+      within,
+      file_there (hist.published_of h) (hist.is_file_lost h) (hist.standing_of h) dir save changes extract start (files_of a.store)
+          (files_of a.lost) a.published apart s k t bytes number.0 within there,
+    )
+
+-- it is done as over the right file
+spoiled_more : (h : hist.History) (dir save changes extract : List ℕ) (start : Files) (a b : World) (k : ℕ) (t : Suffix) (report : ReportValue)
+    → AreApart dir save changes extract → AgreesIn (hist.published_of h) (hist.is_file_lost h) (hist.standing_of h) dir save
+    changes extract start a → SpoiledTo dir save k t (Followed report) a b → AgreesIn (hist.published_of h ++ [])
+    (hist.is_file_lost h) (gone_on (hist.standing_of h) (hist.count_after h (hist.number_of h))) dir save changes extract start b
+    × SpoiledDone h k t report × (hist.number_of h + hist.count_after h (hist.number_of h) ≤ length (hist.published_of h))
+spoiled_more h dir save changes extract start a b k t report apart s to = by_step to.step
+  where
+    p : List PublishedValue
+    p = hist.published_of h
+
+    lost : ℕ → Suffix → Bool
+    lost = hist.is_file_lost h
+
+    m : hist.Standing
+    m = hist.standing_of h
+
+    f : Files
+    f = files_of a.store
+
+    within : k ≤ length p
+    within = let n_is = s.number in omega (arith, n_is, to.number.1)
+
+    by_step : SpoiledStep dir save (file_name_of dir k t) (Ok (Whole report)) f (files_of b.store)
+        → AgreesIn (p ++ []) lost (gone_on m (hist.count_after h (hist.number_of h))) dir save changes extract start b
+        × SpoiledDone h k t report × (hist.number_of h + hist.count_after h (hist.number_of h) ≤ length p)
+    by_step (inl want) = absurd (let bad : Ok (Whole report) ≡ Err WantOfMemory = want.0 in cc)
+    by_step (inr run) =
+        let above = to.number.0 in
+        let o = over_spoiled p lost m dir save changes extract start f (files_of a.lost) a.published apart s k t run.bytes run.during
+        above within run.there run.put in
+        let followed_it = run.done refl in
+        let is = mended (file_name_of dir k t) save run.bytes f run.during run.after (files_of b.store)
+        (save_apart p lost m dir save changes extract start f (files_of a.lost) a.published apart s k t within) run.there run.put
+        followed_it.put.others run.back in
+        let right = spoiled_followed p lost m dir save changes extract start f (files_of a.lost) a.published apart s k t run.during run.after
+        (files_of b.store) report o followed_it is in
+        let done = follow_more h dir save changes extract start a b report apart s (right, to.lost, to.published) in
+        let on = followed p lost m dir save changes extract start f (files_of b.store) (files_of a.lost) a.published report apart s right in (
+          done.0,
+          (
+            file_is_there h dir save changes extract start a k t run.bytes apart s to.number run.there,
+            done.1,
+            λ way. (
+                let u = not_read p lost m dir save changes extract start f (files_of a.lost) a.published apart s k t run.during run.after
+                (files_of b.store) report (hist.count_after h (hist.number_of h)) o followed_it is on.0.saved.save_is way.0 way.1 in
+                let read = subst (IsReadIn h k) u.0 way.2 in
+                let bad : true ≡ false = sym read.1 ∙ u.1 in cc),
+          ),
+          done.2,
+        )
+
+-- it is done up to the number before the file's
+spoiled_short : (h : hist.History) (dir save changes extract : List ℕ) (start : Files) (a b : World) (k : ℕ) (t : Suffix)
+    (report : ReportValue) (fault : RunFault) → AreApart dir save changes extract → AgreesIn (hist.published_of h) (hist.is_file_lost h)
+    (hist.standing_of h) dir save changes extract start a → SpoiledTo dir save k t (FollowedBefore report fault) a b
+    → hist.reported_of h ≡ numbers (hist.base_of h) (hist.number_of h - hist.base_of h)
+    → AgreesIn (hist.published_of h ++ []) (hist.is_file_lost h) (hist.standing_after h (FollowedBefore report fault) (hist.standing_of h))
+    dir save changes extract start b × SpoiledBefore h k t report fault
+    × (hist.reported_of h ++ applied_in report.text ≡ numbers (hist.base_of h) (number_before fault - hist.base_of h))
+spoiled_short h dir save changes extract start a b k t report fault apart s to so_far = by_step to.step
+  where
+    p : List PublishedValue
+    p = hist.published_of h
+
+    lost : ℕ → Suffix → Bool
+    lost = hist.is_file_lost h
+
+    m : hist.Standing
+    m = hist.standing_of h
+
+    f : Files
+    f = files_of a.store
+
+    within : k ≤ length p
+    within = let n_is = s.number in omega (arith, n_is, to.number.1)
+
+    by_step : SpoiledStep dir save (file_name_of dir k t) (Ok (Before report fault)) f (files_of b.store)
+        → AgreesIn (p ++ []) lost (hist.standing_after h (FollowedBefore report fault) m) dir save changes extract start b
+        × SpoiledBefore h k t report fault
+        × (hist.reported_of h ++ applied_in report.text ≡ numbers (hist.base_of h) (number_before fault - hist.base_of h))
+    by_step (inl want) = absurd (let bad : Ok (Before report fault) ≡ Err WantOfMemory = want.0 in cc)
+    by_step (inr run) =
+        let above = to.number.0 in
+        let o = over_spoiled p lost m dir save changes extract start f (files_of a.lost) a.published apart s k t run.bytes run.during
+        above within run.there run.put in
+        let came_to = run.done refl in
+        let is = mended (file_name_of dir k t) save run.bytes f run.during run.after (files_of b.store)
+        (save_apart p lost m dir save changes extract start f (files_of a.lost) a.published apart s k t within) run.there run.put
+        came_to.put.others run.back in
+        let came = came_before p lost m dir save changes extract start f (files_of a.lost) a.published apart s run.law k t run.during run.after
+        (files_of b.store) report fault o came_to is in
+        let from = came.from in
+        let number = came.number in
+        let most = few p s.folder.sequences in (
+          quiet p lost (hist.standing_after h (FollowedBefore report fault) m) dir save changes extract start (files_of b.store)
+              (files_of b.lost) b.published (renewed p lost (hist.standing_after h (FollowedBefore report fault) m) dir save changes extract
+              start (files_of b.store) (files_of a.lost) (files_of b.store) (files_of b.lost) a.published b.published refl
+              (ap files_of to.lost) to.published came.agrees),
+          (
+            file_is_there h dir save changes extract start a k t run.bytes apart s to.number run.there,
+            came.report_is,
+            (
+              omega (arith, from),
+              came.turn,
+              read_in p lost m dir save changes extract start f (files_of a.lost) a.published apart s k t above within came.read h refl,
+            ),
+            from,
+            came.fault_is,
+          ),
+          reports_before h report (k - 1 - hist.number_of h) (number_before fault) (omega (arith, from, number)) (omega (arith, number, within, most))
+              (base_below p (hist.base_of h) (hist.number_of h) (f save) s.saved.save_is)
+              (came.report_is ∙ ap (λ j. follow_report_of (ranges (hist.number_of h) (k - 1 - hist.number_of h)) [] j) (sym number)) so_far,
+        )
+
+-- what refuses a run over the right file
+spoiled_row : (h : hist.History) (k : ℕ) (t : Suffix) (told : Option (List ℕ)) (fault : RunFault)
+    → IsSaveOf (hist.published_of h) (hist.base_of h) (hist.number_of h) told → FollowRefuses (hist.published_of h) told fault
+    → KilledSpoiledRefused h k t fault
+spoiled_row h k t told (ReadFault file) s r = tt
+spoiled_row h k t told (WriteFault file) s r = r
+spoiled_row h k t told WantOfMemory s r = inl tt
+spoiled_row h k t told (Absent file) s r = inl r
+spoiled_row h k t told (TooLarge file) s r =
+    inl (stopped_follow (hist.published_of h) (hist.base_of h) (hist.number_of h) 0 told (TooLarge file) (λ device. absurd device) s r)
+spoiled_row h k t told fault s r = absurd r
+
+-- what a killed run and a whole one are refused for
+killed_spoiled : (h : hist.History) (k : ℕ) (t : Suffix) (fault : RunFault) → SpoiledRefused h k t fault → KilledSpoiledRefused h k t fault
+killed_spoiled h k t (ReadFault file) r = tt
+killed_spoiled h k t (WriteFault file) (inl r) = absurd r
+killed_spoiled h k t (WriteFault file) (inr r) = absurd r.3
+killed_spoiled h k t fault r = r
+
+not_killed_spoiled : (h : hist.History) (k : ℕ) (t : Suffix) (fault : RunFault) → IsNoDevice fault → KilledSpoiledRefused h k t fault
+    → SpoiledRefused h k t fault
+not_killed_spoiled h k t (ReadFault file) none r = absurd none
+not_killed_spoiled h k t (WriteFault file) none r = absurd none
+not_killed_spoiled h k t fault none r = r
+
+one_fault : {T : Type 0} (w : Result T RunFault) (a b : RunFault) → w ≡ Err a → w ≡ Err b → a ≡ b
+one_fault w a b p q = cc
+
+-- it is refused
+spoiled_stopped : (h : hist.History) (dir save changes extract : List ℕ) (start : Files) (a b : World) (k : ℕ) (t : Suffix) (fault : RunFault)
+    → AreApart dir save changes extract → AgreesIn (hist.published_of h) (hist.is_file_lost h) (hist.standing_of h) dir save
+    changes extract start a → SpoiledTo dir save k t (Refused fault) a b
+    → AgreesIn (hist.published_of h ++ []) (hist.is_file_lost h) (hist.standing_of h) dir save changes extract start b
+    × KilledSpoiledRefused h k t fault
+spoiled_stopped h dir save changes extract start a b k t fault apart s to = by_step to.step
+  where
+    p : List PublishedValue
+    p = hist.published_of h
+
+    lost : ℕ → Suffix → Bool
+    lost = hist.is_file_lost h
+
+    m : hist.Standing
+    m = hist.standing_of h
+
+    f : Files
+    f = files_of a.store
+
+    within : k ≤ length p
+    within = let n_is = s.number in omega (arith, n_is, to.number.1)
+
+    by_step : SpoiledStep dir save (file_name_of dir k t) (Err fault) f (files_of b.store)
+        → AgreesIn (p ++ []) lost m dir save changes extract start b × KilledSpoiledRefused h k t fault
+    by_step (inl want) = (
+      still h dir save changes extract start a b s want.1 (ap files_of to.lost) to.published,
+      subst (KilledSpoiledRefused h k t) (sym (one_fault (Err fault) fault WantOfMemory refl want.0)) (inl tt),
+    )
+    by_step (inr run) =
+        let above = to.number.0 in
+        let o = over_spoiled p lost m dir save changes extract start f (files_of a.lost) a.published apart s k t run.bytes run.during
+        above within run.there run.put in
+        let same = as_before p lost m dir save changes extract start f (files_of a.lost) a.published apart s k t run.bytes run.during run.after
+        (files_of b.store) within run.there run.put run.kept run.back in (
+          quiet p lost m dir save changes extract start (files_of b.store) (files_of b.lost) b.published
+              (renewed p lost m dir save changes extract start (files_of b.store) (files_of a.lost) (files_of b.store) (files_of b.lost)
+              a.published b.published refl (ap files_of to.lost) to.published
+              (same_agrees p lost m dir save changes extract start f (files_of a.lost) a.published apart s (files_of b.store) same)),
+          elim (progress_stops p m.base m.number dir save k t f run.during o run.law (IsTrue true) refl fault run.stops) [
+            | inl r ↦ spoiled_row h k t (f save) fault s.saved.save_is r
+            | inr next ↦ (let at = next.0 in killed_spoiled h k t fault (inr (
+              file_is_there h dir save changes extract start a k t run.bytes apart s to.number run.there,
+              (
+                omega (arith, at),
+                omega (arith, at),
+                read_in p lost m dir save changes extract start f (files_of a.lost) a.published apart s k t above within next.2 h refl,
+              ),
+              at,
+              next.1,
+            )))
+          ],
+        )
+
+-- there is no file to spoil
+nothing_to_spoil : (h : hist.History) (dir save changes extract : List ℕ) (start : Files) (a b : World) (k : ℕ) (t : Suffix)
+    → AgreesIn (hist.published_of h) (hist.is_file_lost h) (hist.standing_of h) dir save changes extract start a
+    → SpoiledTo dir save k t NotThere a b
+    → AgreesIn (hist.published_of h ++ []) (hist.is_file_lost h) (hist.standing_of h) dir save changes extract start b × NothingToSpoil h k t
+nothing_to_spoil h dir save changes extract start a b k t s (why, files, lost, count) = (
+  still h dir save changes extract start a b s files (ap files_of lost) count,
+  elim why [
+    | inl none ↦ elim (no_number h a.published k s.number (few (hist.published_of h) s.folder.sequences) none) [
+      | inl zero_is ↦ inl zero_is
+      | inr past ↦ inr (inl past)
+    ]
+    | inr gone ↦ inr (inr (let n_is = s.number in
+        kept_none (hist.is_file_lost h k t) (hist.text_of t (sequence_at (hist.published_of h) k))
+        (sym (s.each k t gone.0.0 (omega (arith, n_is, gone.0.1))) ∙ gone.1)))
+  ],
+)
+
 -- one more operation
-pub step_holds : (h : hist.History) (e : Operation) (r : Reply) (dir save changes : List ℕ) (start : Files)
-    (a b : World) → AreApart dir save changes → Holds h dir save changes start a → Step dir save changes e r a b
-    → Holds ((e, r) ∷ h) dir save changes start b
-step_holds h (Publish batch time) (Published report) dir save changes start a b apart s t =
-    let done = publish_more None (hist.published_of h) (hist.is_file_lost h) (hist.number_of h) dir save changes start a b batch time report apart s.agrees t in
-    record { agrees = done.0; allowed = (done.1, s.allowed); reported = none_more h s.reported }
-step_holds h (Publish batch time) (Refused fault) dir save changes start a b apart s t =
+pub step_holds : (h : hist.History) (e : Operation) (r : Reply) (dir save changes extract : List ℕ) (start : Files)
+    (a b : World) → AreApart dir save changes extract → Holds h dir save changes extract start a
+    → Step dir save changes extract e r a b → KeepsExported r a b → Holds ((e, r) ∷ h) dir save changes extract start b
+step_holds h (Publish batch time) (Published report) dir save changes extract start a b apart s t x =
+    let done = publish_more None (hist.published_of h) (hist.is_file_lost h) (hist.standing_of h) dir save changes extract start a b batch time
+    report apart s.agrees t in
+    record { agrees = done.0; allowed = (done.1, s.allowed); reported = s.reported; exported = x ∙ s.exported }
+step_holds h (Publish batch time) (Refused fault) dir save changes extract start a b apart s t x =
     let u = unlimited dir changes batch time fault a b t in
-    let done = publish_stopped (hist.published_of h) (hist.is_file_lost h) (hist.number_of h) dir save changes start a b
+    let done = publish_stopped (hist.published_of h) (hist.is_file_lost h) (hist.standing_of h) dir save changes extract start a b
     batch time 0 fault apart s.agrees u.0 in
-    record { agrees = done.0; allowed = (not_killed (hist.published_of h) batch time 0 fault u.1 done.1, s.allowed); reported = none_more h s.reported }
-step_holds h (Publish batch time) r dir save changes start a b apart s t = absurd t
-step_holds h (KilledPublish batch time calls) (Published report) dir save changes start a b apart s t =
-    let done = publish_more (Some calls) (hist.published_of h) (hist.is_file_lost h) (hist.number_of h) dir save changes
+    record {
+      agrees = done.0;
+      allowed = (not_killed (hist.published_of h) batch time 0 fault u.1 done.1, s.allowed);
+      reported = s.reported;
+      exported = x ∙ s.exported;
+    }
+step_holds h (Publish batch time) r dir save changes extract start a b apart s t x = absurd t
+step_holds h (KilledPublish batch time calls) (Published report) dir save changes extract start a b apart s t x =
+    let done = publish_more (Some calls) (hist.published_of h) (hist.is_file_lost h) (hist.standing_of h) dir save changes extract
     start a b batch time report apart s.agrees t.0 in
-    record { agrees = done.0; allowed = ((done.1, t.1), s.allowed); reported = none_more h s.reported }
-step_holds h (KilledPublish batch time calls) (Refused fault) dir save changes start a b apart s t =
-    let done = publish_stopped (hist.published_of h) (hist.is_file_lost h) (hist.number_of h) dir save changes start a b
+    record { agrees = done.0; allowed = ((done.1, t.1), s.allowed); reported = s.reported; exported = x ∙ s.exported }
+step_holds h (KilledPublish batch time calls) (Refused fault) dir save changes extract start a b apart s t x =
+    let done = publish_stopped (hist.published_of h) (hist.is_file_lost h) (hist.standing_of h) dir save changes extract start a b
     batch time calls fault apart s.agrees t.0 in
-    record { agrees = done.0; allowed = (done.1, s.allowed); reported = none_more h s.reported }
-step_holds h (KilledPublish batch time calls) r dir save changes start a b apart s t = absurd t.0
-step_holds h (PublishAs batch time n) (Published report) dir save changes start a b apart s t =
-    let done = number_more None h dir save changes start a b batch time n report apart s.agrees t in
-    record { agrees = done.0; allowed = (done.1, s.allowed); reported = none_more h s.reported }
-step_holds h (PublishAs batch time n) (Refused fault) dir save changes start a b apart s t =
+    record { agrees = done.0; allowed = (done.1, s.allowed); reported = s.reported; exported = x ∙ s.exported }
+step_holds h (KilledPublish batch time calls) r dir save changes extract start a b apart s t x = absurd t.0
+step_holds h (PublishAs batch time n) (Published report) dir save changes extract start a b apart s t x =
+    let done = number_more None h dir save changes extract start a b batch time n report apart s.agrees t in
+    record { agrees = done.0; allowed = (done.1, s.allowed); reported = s.reported; exported = x ∙ s.exported }
+step_holds h (PublishAs batch time n) (Refused fault) dir save changes extract start a b apart s t x =
     let u = refused_unlimited dir changes batch time n fault a b t in
-    let done = number_refused h dir save changes start a b batch time n 0 fault apart s.agrees u.0 in
-    record { agrees = done.0; allowed = (number_not_killed h batch time n 0 fault u.1 done.1, s.allowed); reported = none_more h s.reported }
-step_holds h (PublishAs batch time n) (CutOff fault O5c) dir save changes start a b apart s t =
+    let done = number_refused h dir save changes extract start a b batch time n 0 fault apart s.agrees u.0 in
+    record { agrees = done.0; allowed = (number_not_killed h batch time n 0 fault u.1 done.1, s.allowed); reported = s.reported; exported = x ∙ s.exported }
+step_holds h (PublishAs batch time n) (CutOff fault O5c) dir save changes extract start a b apart s t x =
     let u = step_unlimited dir changes batch time n fault (files_of a.store) (files_of b.store) t.0 in
-    let done = number_cut h dir save changes start a b batch time n 0 fault true t.1.0 O5c apart s.agrees refl u.0 t.1.1 t.2 in
-    record { agrees = done.0; allowed = ((cut_unlimited n 0 done.1.0 fault u.1 done.1.1, (done.1.0, done.1.2)), s.allowed); reported = none_more h s.reported }
-step_holds h (PublishAs batch time n) (CutOff fault Opl) dir save changes start a b apart s t =
+    let done = number_cut h dir save changes extract start a b batch time n 0 fault true t.1.0 O5c apart s.agrees refl u.0 t.1.1 t.2 in
+    record {
+      agrees = done.0;
+      allowed = ((cut_unlimited n 0 done.1.0 fault u.1 done.1.1, (done.1.0, done.1.2)), s.allowed);
+      reported = s.reported;
+      exported = x ∙ s.exported;
+    }
+step_holds h (PublishAs batch time n) (CutOff fault Opl) dir save changes extract start a b apart s t x =
     let u = step_unlimited dir changes batch time n fault (files_of a.store) (files_of b.store) t.0 in
-    let done = number_cut h dir save changes start a b batch time n 0 fault false true Opl apart s.agrees refl u.0 t.1 t.2 in
-    record { agrees = done.0; allowed = ((cut_unlimited n 0 done.1.0 fault u.1 done.1.1, (done.1.0, done.1.2)), s.allowed); reported = none_more h s.reported }
-step_holds h (PublishAs batch time n) r dir save changes start a b apart s t = absurd t
-step_holds h (KilledPublishAs batch time n calls) (Published report) dir save changes start a b apart s t =
-    let done = number_more (Some calls) h dir save changes start a b batch time n report apart s.agrees t in
-    record { agrees = done.0; allowed = ((done.1, done.2), s.allowed); reported = none_more h s.reported }
-step_holds h (KilledPublishAs batch time n calls) (Refused fault) dir save changes start a b apart s t =
-    let done = number_refused h dir save changes start a b batch time n calls fault apart s.agrees t in
-    record { agrees = done.0; allowed = (done.1, s.allowed); reported = none_more h s.reported }
-step_holds h (KilledPublishAs batch time n calls) (CutOff fault O5c) dir save changes start a b apart s t =
-    let done = number_cut h dir save changes start a b batch time n calls fault true t.1.0 O5c apart s.agrees refl t.0 t.1.1 t.2 in
-    record { agrees = done.0; allowed = (done.1, s.allowed); reported = none_more h s.reported }
-step_holds h (KilledPublishAs batch time n calls) (CutOff fault Opl) dir save changes start a b apart s t =
-    let done = number_cut h dir save changes start a b batch time n calls fault false true Opl apart s.agrees refl t.0 t.1 t.2 in
-    record { agrees = done.0; allowed = (done.1, s.allowed); reported = none_more h s.reported }
-step_holds h (KilledPublishAs batch time n calls) r dir save changes start a b apart s t = absurd t
-step_holds h Follow (Followed report) dir save changes start a b apart s t =
-    let done = follow_more h dir save changes start a b report apart s.agrees t.0 in
+    let done = number_cut h dir save changes extract start a b batch time n 0 fault false true Opl apart s.agrees refl u.0 t.1 t.2 in
+    record {
+      agrees = done.0;
+      allowed = ((cut_unlimited n 0 done.1.0 fault u.1 done.1.1, (done.1.0, done.1.2)), s.allowed);
+      reported = s.reported;
+      exported = x ∙ s.exported;
+    }
+step_holds h (PublishAs batch time n) r dir save changes extract start a b apart s t x = absurd t
+step_holds h (KilledPublishAs batch time n calls) (Published report) dir save changes extract start a b apart s t x =
+    let done = number_more (Some calls) h dir save changes extract start a b batch time n report apart s.agrees t in
+    record { agrees = done.0; allowed = ((done.1, done.2), s.allowed); reported = s.reported; exported = x ∙ s.exported }
+step_holds h (KilledPublishAs batch time n calls) (Refused fault) dir save changes extract start a b apart s t x =
+    let done = number_refused h dir save changes extract start a b batch time n calls fault apart s.agrees t in
+    record { agrees = done.0; allowed = (done.1, s.allowed); reported = s.reported; exported = x ∙ s.exported }
+step_holds h (KilledPublishAs batch time n calls) (CutOff fault O5c) dir save changes extract start a b apart s t x =
+    let done = number_cut h dir save changes extract start a b batch time n calls fault true t.1.0 O5c apart s.agrees refl t.0 t.1.1 t.2 in
+    record { agrees = done.0; allowed = (done.1, s.allowed); reported = s.reported; exported = x ∙ s.exported }
+step_holds h (KilledPublishAs batch time n calls) (CutOff fault Opl) dir save changes extract start a b apart s t x =
+    let done = number_cut h dir save changes extract start a b batch time n calls fault false true Opl apart s.agrees refl t.0 t.1 t.2 in
+    record { agrees = done.0; allowed = (done.1, s.allowed); reported = s.reported; exported = x ∙ s.exported }
+step_holds h (KilledPublishAs batch time n calls) r dir save changes extract start a b apart s t x = absurd t
+step_holds h Follow (Followed report) dir save changes extract start a b apart s t x =
+    let done = follow_more h dir save changes extract start a b report apart s.agrees t.0 in
     record {
       agrees = done.0;
       allowed = (done.1, s.allowed);
       reported =
-          reports_more h report done.2 (few (hist.published_of h) s.agrees.folder.sequences) done.1 s.reported;
+          reports_more h report done.2 (few (hist.published_of h) s.agrees.folder.sequences)
+          (base_below (hist.published_of h) (hist.base_of h) (hist.number_of h) (files_of a.store save) s.agrees.saved.save_is) done.1 s.reported;
+      exported = x ∙ s.exported;
     }
-step_holds h Follow (Refused fault) dir save changes start a b apart s t =
-    let done = follow_stopped (hist.published_of h) (hist.is_file_lost h) (hist.number_of h) dir save changes start a b
+step_holds h Follow (Refused fault) dir save changes extract start a b apart s t x =
+    let done = follow_stopped (hist.published_of h) (hist.is_file_lost h) (hist.standing_of h) dir save changes extract start a b
     0 fault (no_device_lacks (follow_calls (hist.published_of h) (hist.number_of h)) (Some 0) fault t.1) s.agrees
     t.0 in
     record {
@@ -445,39 +787,136 @@ step_holds h Follow (Refused fault) dir save changes start a b apart s t =
         not_killed_follow (hist.published_of h) (hist.number_of h) 0 fault t.1 done.1,
         s.allowed,
       );
-      reported = none_more h s.reported;
+      reported = s.reported;
+      exported = x ∙ s.exported;
     }
-step_holds h Follow r dir save changes start a b apart s t = absurd t.0
-step_holds h (KilledFollow calls) (Followed report) dir save changes start a b apart s t =
-    let done = follow_more h dir save changes start a b report apart s.agrees t.0 in
+step_holds h Follow r dir save changes extract start a b apart s t x = absurd t.0
+step_holds h (KilledFollow calls) (Followed report) dir save changes extract start a b apart s t x =
+    let done = follow_more h dir save changes extract start a b report apart s.agrees t.0 in
     record {
       agrees = done.0;
       allowed = ((done.1, t.1), s.allowed);
       reported =
-          reports_more h report done.2 (few (hist.published_of h) s.agrees.folder.sequences) done.1 s.reported;
+          reports_more h report done.2 (few (hist.published_of h) s.agrees.folder.sequences)
+          (base_below (hist.published_of h) (hist.base_of h) (hist.number_of h) (files_of a.store save) s.agrees.saved.save_is) done.1 s.reported;
+      exported = x ∙ s.exported;
     }
-step_holds h (KilledFollow calls) (Refused fault) dir save changes start a b apart s t =
-    let done = follow_stopped (hist.published_of h) (hist.is_file_lost h) (hist.number_of h) dir save changes start a b
-    calls fault (t.1 (hist.published_of h) (hist.number_of h) s.agrees.folder s.agrees.saved) s.agrees t.0 in
-    record { agrees = done.0; allowed = (done.1, s.allowed); reported = none_more h s.reported }
-step_holds h (KilledFollow calls) r dir save changes start a b apart s t = absurd t.0
-step_holds h (Lose n suffix) Lost dir save changes start a b apart s (move, same) =
+step_holds h (KilledFollow calls) (Refused fault) dir save changes extract start a b apart s t x =
+    let done = follow_stopped (hist.published_of h) (hist.is_file_lost h) (hist.standing_of h) dir save changes extract start a b
+    calls fault (t.1 (hist.published_of h) (hist.base_of h) (hist.number_of h) s.agrees.folder s.agrees.saved.save_is) s.agrees t.0 in
+    record { agrees = done.0; allowed = (done.1, s.allowed); reported = s.reported; exported = x ∙ s.exported }
+step_holds h (KilledFollow calls) r dir save changes extract start a b apart s t x = absurd t.0
+step_holds h (FollowSpoiled k suffix) (Followed report) dir save changes extract start a b apart s t x =
+    let done = spoiled_more h dir save changes extract start a b k suffix report apart s.agrees t.0 in
+    record {
+      agrees = done.0;
+      allowed = (done.1, s.allowed);
+      reported =
+          reports_more h report done.2 (few (hist.published_of h) s.agrees.folder.sequences)
+          (base_below (hist.published_of h) (hist.base_of h) (hist.number_of h) (files_of a.store save) s.agrees.saved.save_is) done.1.1 s.reported;
+      exported = x ∙ s.exported;
+    }
+step_holds h (FollowSpoiled k suffix) (FollowedBefore report fault) dir save changes extract start a b apart s t x =
+    let done = spoiled_short h dir save changes extract start a b k suffix report fault apart s.agrees t.0 s.reported in
+    record { agrees = done.0; allowed = (done.1, s.allowed); reported = done.2; exported = x ∙ s.exported }
+step_holds h (FollowSpoiled k suffix) (Refused fault) dir save changes extract start a b apart s t x =
+    let done = spoiled_stopped h dir save changes extract start a b k suffix fault apart s.agrees t.0 in
+    record {
+      agrees = done.0;
+      allowed = (not_killed_spoiled h k suffix fault t.1 done.1, s.allowed);
+      reported = s.reported;
+      exported = x ∙ s.exported;
+    }
+step_holds h (FollowSpoiled k suffix) NotThere dir save changes extract start a b apart s t x =
+    let done = nothing_to_spoil h dir save changes extract start a b k suffix s.agrees t.0 in
+    record { agrees = done.0; allowed = (done.1, s.allowed); reported = s.reported; exported = x ∙ s.exported }
+step_holds h (FollowSpoiled k suffix) r dir save changes extract start a b apart s t x = absurd t.0
+step_holds h (KilledFollowSpoiled k suffix calls) (Followed report) dir save changes extract start a b apart s t x =
+    let done = spoiled_more h dir save changes extract start a b k suffix report apart s.agrees t.0 in
+    record {
+      agrees = done.0;
+      allowed = ((done.1, t.1), s.allowed);
+      reported =
+          reports_more h report done.2 (few (hist.published_of h) s.agrees.folder.sequences)
+          (base_below (hist.published_of h) (hist.base_of h) (hist.number_of h) (files_of a.store save) s.agrees.saved.save_is) done.1.1 s.reported;
+      exported = x ∙ s.exported;
+    }
+step_holds h (KilledFollowSpoiled k suffix calls) (FollowedBefore report fault) dir save changes extract start a b apart s t x =
+    let done = spoiled_short h dir save changes extract start a b k suffix report fault apart s.agrees t.0 s.reported in
+    record { agrees = done.0; allowed = ((done.1, t.1), s.allowed); reported = done.2; exported = x ∙ s.exported }
+step_holds h (KilledFollowSpoiled k suffix calls) (Refused fault) dir save changes extract start a b apart s t x =
+    let done = spoiled_stopped h dir save changes extract start a b k suffix fault apart s.agrees t.0 in
+    record { agrees = done.0; allowed = (done.1, s.allowed); reported = s.reported; exported = x ∙ s.exported }
+step_holds h (KilledFollowSpoiled k suffix calls) NotThere dir save changes extract start a b apart s t x =
+    let done = nothing_to_spoil h dir save changes extract start a b k suffix s.agrees t.0 in
+    record { agrees = done.0; allowed = (done.1, s.allowed); reported = s.reported; exported = x ∙ s.exported }
+step_holds h (KilledFollowSpoiled k suffix calls) r dir save changes extract start a b apart s t x = absurd t.0
+step_holds h Export (Exported report) dir save changes extract start a b apart s t x =
+    let done = export_more h dir save changes extract start a b report apart s.agrees t.0 in
+    record { agrees = done.0; allowed = ((done.1, done.2), s.allowed); reported = s.reported; exported = done.3 }
+step_holds h Export (Refused fault) dir save changes extract start a b apart s t x =
+    let done = export_stopped h dir save changes extract start a b 0 fault (no_device_lacks 2 (Some 0) fault t.1) s.agrees t.0 in
+    record {
+      agrees = done.0;
+      allowed = (not_killed_export h extract 0 fault t.1 done.1, s.allowed);
+      reported = s.reported;
+      exported = x ∙ s.exported;
+    }
+step_holds h Export r dir save changes extract start a b apart s t x = absurd t.0
+step_holds h (KilledExport calls) (Exported report) dir save changes extract start a b apart s t x =
+    let done = export_more h dir save changes extract start a b report apart s.agrees t.0 in
+    record { agrees = done.0; allowed = ((done.1, done.2, t.1), s.allowed); reported = s.reported; exported = done.3 }
+step_holds h (KilledExport calls) (Refused fault) dir save changes extract start a b apart s t x =
+    let done = export_stopped h dir save changes extract start a b calls fault t.1 s.agrees t.0 in
+    record { agrees = done.0; allowed = (done.1, s.allowed); reported = s.reported; exported = x ∙ s.exported }
+step_holds h (KilledExport calls) r dir save changes extract start a b apart s t x = absurd t.0
+step_holds h Begin (Begun report) dir save changes extract start a b apart s t x =
+    let done = begin_more h dir save changes extract start a b report apart s t.0 in
+    record {
+      agrees = done.0;
+      allowed = ((done.1, done.2), s.allowed);
+      reported = none_reported (hist.beginning_of h);
+      exported = x ∙ s.exported;
+    }
+step_holds h Begin (Refused fault) dir save changes extract start a b apart s t x =
+    let done = begin_stopped h dir save changes extract start a b 0 fault (no_device_lacks 3 (Some 0) fault t.1) s t.0 in
+    record {
+      agrees = done.0;
+      allowed = (not_killed_begin h extract 0 fault t.1 done.1, s.allowed);
+      reported = s.reported;
+      exported = x ∙ s.exported;
+    }
+step_holds h Begin r dir save changes extract start a b apart s t x = absurd t.0
+step_holds h (KilledBegin calls) (Begun report) dir save changes extract start a b apart s t x =
+    let done = begin_more h dir save changes extract start a b report apart s t.0 in
+    record {
+      agrees = done.0;
+      allowed = ((done.1, done.2, t.1), s.allowed);
+      reported = none_reported (hist.beginning_of h);
+      exported = x ∙ s.exported;
+    }
+step_holds h (KilledBegin calls) (Refused fault) dir save changes extract start a b apart s t x =
+    let done = begin_stopped h dir save changes extract start a b calls fault t.1 s t.0 in
+    record { agrees = done.0; allowed = (done.1, s.allowed); reported = s.reported; exported = x ∙ s.exported }
+step_holds h (KilledBegin calls) r dir save changes extract start a b apart s t x = absurd t.0
+step_holds h (Lose n suffix) Lost dir save changes extract start a b apart s (move, same) x =
     let n_is = s.agrees.number in
     let within : n ≤ length (hist.published_of h) = omega (arith, n_is, move.0.1) in
-    let done = lost_agrees (hist.published_of h) (hist.is_file_lost h) (hist.number_of h) dir save changes start
+    let done = lost_agrees (hist.published_of h) (hist.is_file_lost h) (hist.standing_of h) dir save changes extract start
     (files_of a.store) (files_of a.lost) (files_of b.store) (files_of b.lost) a.published n suffix apart move.0.0
     within move.1 s.agrees in
     record {
       agrees = quiet (hist.published_of h) (λ i t. if hist.same_file n suffix i t then true else hist.is_file_lost h i
-          t) (hist.number_of h) dir save changes start (files_of b.store) (files_of b.lost) b.published
+          t) (hist.standing_of h) dir save changes extract start (files_of b.store) (files_of b.lost) b.published
           (renewed (hist.published_of h) (λ i t. if hist.same_file n suffix i t then true else hist.is_file_lost h i t)
-          (hist.number_of h) dir save changes start (files_of b.store) (files_of b.lost) (files_of b.store)
+          (hist.standing_of h) dir save changes extract start (files_of b.store) (files_of b.lost) (files_of b.store)
           (files_of b.lost) a.published b.published refl refl same done.0);
       allowed = (((move.0.0, within), done.1), s.allowed);
-      reported = none_more h s.reported;
+      reported = s.reported;
+      exported = x ∙ s.exported;
     }
-step_holds h (Lose n suffix) NotThere dir save changes start a b apart s t = record {
-  agrees = still h dir save changes start a b s.agrees t.1 t.2 t.3;
+step_holds h (Lose n suffix) NotThere dir save changes extract start a b apart s t x = record {
+  agrees = still h dir save changes extract start a b s.agrees t.1 t.2 t.3;
   allowed = (
     elim t.0 [
       | inl none ↦ inl (no_number h a.published n s.agrees.number (few (hist.published_of h) s.agrees.folder.sequences) none)
@@ -487,31 +926,34 @@ step_holds h (Lose n suffix) NotThere dir save changes start a b apart s t = rec
     ],
     s.allowed,
   );
-  reported = none_more h s.reported;
+  reported = s.reported;
+  exported = x ∙ s.exported;
 }
-step_holds h (Lose n suffix) (Refused fault) dir save changes start a b apart s t = record {
-  agrees = still h dir save changes start a b s.agrees t.1 t.2 t.3;
+step_holds h (Lose n suffix) (Refused fault) dir save changes extract start a b apart s t x = record {
+  agrees = still h dir save changes extract start a b s.agrees t.1 t.2 t.3;
   allowed = (t.0, s.allowed);
-  reported = none_more h s.reported;
+  reported = s.reported;
+  exported = x ∙ s.exported;
 }
-step_holds h (Lose n suffix) r dir save changes start a b apart s t = absurd t
-step_holds h (PutBack n suffix) IsBack dir save changes start a b apart s (move, same) =
+step_holds h (Lose n suffix) r dir save changes extract start a b apart s t x = absurd t
+step_holds h (PutBack n suffix) IsBack dir save changes extract start a b apart s (move, same) x =
     let n_is = s.agrees.number in
     let within : n ≤ length (hist.published_of h) = omega (arith, n_is, move.0.1) in
-    let done = back_agrees (hist.published_of h) (hist.is_file_lost h) (hist.number_of h) dir save changes start
+    let done = back_agrees (hist.published_of h) (hist.is_file_lost h) (hist.standing_of h) dir save changes extract start
     (files_of a.store) (files_of a.lost) (files_of b.store) (files_of b.lost) a.published n suffix apart move.0.0
     within move.1 s.agrees in
     record {
       agrees = quiet (hist.published_of h) (λ i t. if hist.same_file n suffix i t then false else hist.is_file_lost h i
-          t) (hist.number_of h) dir save changes start (files_of b.store) (files_of b.lost) b.published
+          t) (hist.standing_of h) dir save changes extract start (files_of b.store) (files_of b.lost) b.published
           (renewed (hist.published_of h) (λ i t. if hist.same_file n suffix i t then false else hist.is_file_lost h i t)
-          (hist.number_of h) dir save changes start (files_of b.store) (files_of b.lost) (files_of b.store)
+          (hist.standing_of h) dir save changes extract start (files_of b.store) (files_of b.lost) (files_of b.store)
           (files_of b.lost) a.published b.published refl refl same done.0);
       allowed = (((move.0.0, within), done.1), s.allowed);
-      reported = none_more h s.reported;
+      reported = s.reported;
+      exported = x ∙ s.exported;
     }
-step_holds h (PutBack n suffix) NotThere dir save changes start a b apart s t = record {
-  agrees = still h dir save changes start a b s.agrees t.1 t.2 t.3;
+step_holds h (PutBack n suffix) NotThere dir save changes extract start a b apart s t x = record {
+  agrees = still h dir save changes extract start a b s.agrees t.1 t.2 t.3;
   allowed = (
     elim t.0 [
       | inl none ↦ inl (no_number h a.published n s.agrees.number (few (hist.published_of h) s.agrees.folder.sequences) none)
@@ -521,19 +963,21 @@ step_holds h (PutBack n suffix) NotThere dir save changes start a b apart s t = 
     ],
     s.allowed,
   );
-  reported = none_more h s.reported;
+  reported = s.reported;
+  exported = x ∙ s.exported;
 }
-step_holds h (PutBack n suffix) (Refused fault) dir save changes start a b apart s t = record {
-  agrees = still h dir save changes start a b s.agrees t.1 t.2 t.3;
+step_holds h (PutBack n suffix) (Refused fault) dir save changes extract start a b apart s t x = record {
+  agrees = still h dir save changes extract start a b s.agrees t.1 t.2 t.3;
   allowed = (t.0, s.allowed);
-  reported = none_more h s.reported;
+  reported = s.reported;
+  exported = x ∙ s.exported;
 }
-step_holds h (PutBack n suffix) r dir save changes start a b apart s t = absurd t
+step_holds h (PutBack n suffix) r dir save changes extract start a b apart s t x = absurd t
 
 -- before any operation
-pub starts_hold : (dir save changes : List ℕ) (w : World) → IsNew dir save (files_of w.store)
-    → files_of w.lost ≡ (λ name. None) → w.published ≡ 0 → Holds [] dir save changes (files_of w.store) w
-starts_hold dir save changes w new none zero_is = record {
+pub starts_hold : (dir save changes extract : List ℕ) (w : World) → IsNew dir save (files_of w.store)
+    → files_of w.lost ≡ (λ name. None) → w.published ≡ 0 → w.exported ≡ 0 → Holds [] dir save changes extract (files_of w.store) w
+starts_hold dir save changes extract w new none zero_is none_exported = record {
   agrees = record {
     folder = record {
       sequences = λ k above within. absurd (omega arith);
@@ -544,17 +988,25 @@ starts_hold dir save changes w new none zero_is = record {
     away = λ k s above most. ap (λ (f : Files). f (file_name_of dir k s)) none;
     fresh = λ k s past. refl;
     right = λ k s above within. absurd (omega arith);
+    zero = new.zero;
     saved = record {
-      value = no_save;
-      saved = rw new.saved refl;
-      number_is = refl;
-      in_step = record { within = omega arith; base = refl; mirror = mirror_of-nil; time = refl };
+      save_is = record {
+        value = no_save;
+        saved = rw new.saved refl;
+        base_is = refl;
+        number_is = refl;
+        in_step = record { within = omega arith; base = omega arith; mirror = mirror_of-nil; time = refl };
+      };
+      is_there = ap is_none new.saved;
+      extract_is = refl;
+      within = omega arith;
     };
     others = λ name o. refl;
     number = zero_is;
   };
   allowed = tt;
   reported = refl;
+  exported = none_exported;
 }
 
 zip-snoc : (es : List Operation) (rs : List Reply) (e : Operation) (r : Reply) → length rs ≡ length es
@@ -569,16 +1021,18 @@ pub history_of-snoc : (es : List Operation) (rs : List Reply) (e : Operation) (r
 history_of-snoc es rs e r h = rw (zip-snoc es rs e r h) (reverse-append (zip es rs) ((e, r) ∷ []))
 
 -- what a run says at its end
-pub holds_at_end : (operations : List Operation) (replies : List Reply) (dir save changes : List ℕ) (start : Files)
-    (w : World) → Holds (hist.history_of operations replies) dir save changes start w
-    → IsRun operations replies dir save changes start (files_of w.store)
-holds_at_end operations replies dir save changes start w s = record {
+pub holds_at_end : (operations : List Operation) (replies : List Reply) (dir save changes extract : List ℕ) (start : Files)
+    (w : World) → Holds (hist.history_of operations replies) dir save changes extract start w
+    → IsRun operations replies dir save changes extract start (files_of w.store)
+holds_at_end operations replies dir save changes extract start w s = record {
   allowed = s.allowed;
   in_step = record {
     folder = s.agrees.folder;
     each = s.agrees.each;
-    saved = s.agrees.saved;
+    saved = s.agrees.saved.save_is;
+    is_there = s.agrees.saved.is_there;
     reported = s.reported;
+    exported = s.agrees.saved.extract_is;
     others = s.agrees.others;
   };
 }

@@ -1,34 +1,52 @@
 -- Which reply may follow a history. The rows of an operation exclude one another, except that
--- memory may be refused instead, and that a run may be killed.
-use Rattle.std.specs.Prelude.{◌≡◌, ℕ, ◌+◌, ◌<◌, ◌≤◌, ◌⊎◌, length, List, [], ◌∷◌, true, false}
+-- memory may be refused instead, that a run may be killed, and that of a lost number the state may
+-- be read or not.
+use Rattle.std.specs.Prelude.{◌≡◌, ℕ, ◌+◌, ◌-◌, ◌<◌, ◌≤◌, ◌⊎◌, length, List, [], ◌∷◌, true, false}
 use Rattle.osm_model.specs.Change.{ChangeValue}
-use Rattle.osm_model.specs.Limits.{max_sequence}
+use Rattle.osm_model.specs.Content.{content_of}
+use Rattle.osm_model.specs.Data.{IsData}
+use Rattle.osm_model.specs.Limits.{max_file, max_sequence}
+use Rattle.osm_model.specs.declared.kind.Key.{Key}
+use Rattle.osm_mirror.specs.Mirror.{object_at}
 use Rattle.osm_save.specs.Save.{SpellsSave}
 use Rattle.osm_save.specs.declared.save.Saved.{Saved}
 use Rattle.osm_state.specs.declared.paths.Suffix.{Suffix}
 use Rattle.osm_state.specs.declared.paths.Suffix.TheVariants.{O5c, Opl, State}
-use Rattle.osm_follow.specs.Published.{PublishedValue, sequence_at}
+use Rattle.osm_follow.specs.Published.{PublishedValue, changes_up_to, sequence_at}
 use Rattle.osm_follow.specs.Publisher.{IsTooLarge}
+use Rattle.osm_folder.specs.DataForms.{HasNoDataForm, data_text_of}
+use Rattle.osm_folder.specs.Exporting.{HasDataForm}
 use Rattle.osm_folder.specs.Following.{IsInStep, follow_calls, max_save, ranges}
 use Rattle.osm_folder.specs.Numbered.{calls_before, file_read_after, numbered_calls}
 use Rattle.osm_folder.specs.Publication.{file_after}
-use Rattle.osm_folder.specs.Reports.{ReportValue, follow_report_of, publish_report_of}
-use Rattle.osm_folder.specs.declared.fault.FileName.TheVariants.{Changes, Save, Top}
+use Rattle.osm_folder.specs.Reports.{ReportValue, begin_report_of, convert_report_of}
+use Rattle.osm_folder.specs.Reports.{follow_report_of, publish_report_of}
+use Rattle.osm_folder.specs.declared.fault.FileName.TheVariants as files
+use Rattle.osm_folder.specs.declared.fault.FileName.TheVariants.{Changes, Output, Save, Top}
 use Rattle.osm_folder.specs.declared.fault.RunFault.{RunFault}
 use Rattle.osm_folder.specs.declared.fault.RunFault.TheVariants.{WantOfMemory, ReadFault}
 use Rattle.osm_folder.specs.declared.fault.RunFault.TheVariants.{WriteFault, TooLarge, Absent}
 use Rattle.osm_folder.specs.declared.fault.RunFault.TheVariants.{TimeBack, SequenceFull, BadNow}
 use Rattle.osm_folder.specs.declared.fault.RunFault.TheVariants.{BadSequence, Differs, TopAt}
+use Rattle.osm_folder.specs.declared.fault.RunFault.TheVariants.{UnknownForm}
 use Rattle.osm_operations.specs.History.{History, published_of, is_file_lost, number_of}
-use Rattle.osm_operations.specs.History.{is_number_lost, count_after, lost_after}
+use Rattle.osm_operations.specs.History.{is_number_lost, count_after, lost_after, is_saved}
+use Rattle.osm_operations.specs.History.{beginning_of}
+use Rattle.osm_operations.specs.Spoiling.{IsSpoiledFault}
 use Rattle.osm_operations.specs.declared.operation.Operation.{Operation}
 use Rattle.osm_operations.specs.declared.operation.Operation.TheVariants.{Publish, KilledPublish}
 use Rattle.osm_operations.specs.declared.operation.Operation.TheVariants.{PublishAs}
 use Rattle.osm_operations.specs.declared.operation.Operation.TheVariants.{KilledPublishAs}
 use Rattle.osm_operations.specs.declared.operation.Operation.TheVariants.{Follow, KilledFollow}
+use Rattle.osm_operations.specs.declared.operation.Operation.TheVariants.{FollowSpoiled}
+use Rattle.osm_operations.specs.declared.operation.Operation.TheVariants.{KilledFollowSpoiled}
+use Rattle.osm_operations.specs.declared.operation.Operation.TheVariants.{Export, KilledExport}
+use Rattle.osm_operations.specs.declared.operation.Operation.TheVariants.{Begin, KilledBegin}
 use Rattle.osm_operations.specs.declared.operation.Operation.TheVariants.{Lose, PutBack}
 use Rattle.osm_operations.specs.declared.operation.Reply.{Reply}
 use Rattle.osm_operations.specs.declared.operation.Reply.TheVariants.{Published, Followed}
+use Rattle.osm_operations.specs.declared.operation.Reply.TheVariants.{FollowedBefore}
+use Rattle.osm_operations.specs.declared.operation.Reply.TheVariants.{Exported, Begun}
 use Rattle.osm_operations.specs.declared.operation.Reply.TheVariants.{Refused, CutOff, Lost, IsBack}
 use Rattle.osm_operations.specs.declared.operation.Reply.TheVariants.{NotThere}
 
@@ -117,6 +135,78 @@ KilledFollowingRefused published number calls (WriteFault file) =
     (file ≡ Save) × (calls < follow_calls published number)
 KilledFollowingRefused published number calls fault = FollowingRefused published fault
 
+-- the follower's number can be exported, or can't for its size: something was saved, the name tells
+-- a form, and this holds of the data file of what published sequences 1 to the number leave
+pub record HasExport (h : History) (extract : List ℕ) (holds : List ℕ → Type 0) : Type 0 where
+  pub saved : is_saved h ≡ true
+  pub named : HasDataForm extract
+  pub objects : List ChangeValue
+  pub are_data : IsData objects
+  pub content : (k : Key)
+      → object_at objects k ≡ content_of (changes_up_to (published_of h) (number_of h)) k
+  pub fits : holds (data_text_of named.form objects)
+
+-- why an export that isn't killed isn't done: for its name, since nothing was saved, or if what it
+-- exports passes 64 MiB; never for what the save says
+abbrev pub ExportRefused : History → List ℕ → RunFault → Type 0
+ExportRefused h extract WantOfMemory = Unit {0}
+ExportRefused h extract UnknownForm = HasNoDataForm extract
+ExportRefused h extract (Absent file) =
+    (file ≡ Save) × HasDataForm extract × (is_saved h ≡ false)
+ExportRefused h extract (TooLarge file) =
+    (file ≡ Output) × HasExport h extract (λ text. max_file < length text)
+ExportRefused h extract fault = ⊥
+
+-- why an export that is killed after that many calls isn't done: for a call after the last one, if
+-- there were fewer than it makes; else only for what refuses a whole one
+abbrev pub KilledExportRefused : History → List ℕ → ℕ → RunFault → Type 0
+KilledExportRefused h extract calls (ReadFault file) =
+    (file ≡ Save) × HasDataForm extract × (calls < 2)
+KilledExportRefused h extract calls (WriteFault file) =
+    (file ≡ Output) × HasExport h extract (λ text. length text ≤ max_file) × (calls < 2)
+KilledExportRefused h extract calls fault = ExportRefused h extract fault
+
+-- a beginning has what it begins with: the name tells a form, and a number above 0 was exported,
+-- whose state is there
+pub record HasBeginning (h : History) (extract : List ℕ) : Type 0 where
+  pub named : HasDataForm extract
+  pub above : 0 < beginning_of h
+  pub there : is_file_lost h (beginning_of h) State ≡ false
+
+-- the save text of a follower of the published sequences that begins at that number passes 1 GiB
+pub record HasBigBeginning (published : List PublishedValue) (number : ℕ) : Type 0 where
+  pub value : Saved
+  pub text : List ℕ
+  pub base_is : value.base ≡ number
+  pub number_is : value.number ≡ number
+  pub in_step : IsInStep published value
+  pub spelled : SpellsSave text value
+  pub over : max_save < length text
+
+-- why a beginning that isn't killed isn't done: for its name, since no number above 0 was exported
+-- or the state of that number is lost, or for the size of its save; never for what the files say
+abbrev pub BeginRefused : History → List ℕ → RunFault → Type 0
+BeginRefused h extract WantOfMemory = Unit {0}
+BeginRefused h extract UnknownForm = HasNoDataForm extract
+BeginRefused h extract (Absent file) =
+    (file ≡ files.State) × HasDataForm extract
+    × ((beginning_of h ≡ 0) ⊎ (is_file_lost h (beginning_of h) State ≡ true))
+BeginRefused h extract (TooLarge file) =
+    (file ≡ Save) × HasBeginning h extract × HasBigBeginning (published_of h) (beginning_of h)
+BeginRefused h extract fault = ⊥
+
+-- why a beginning that is killed after that many calls isn't done: for a call after the last one,
+-- if there were fewer than it makes; else only for what refuses a whole one
+abbrev pub KilledBeginRefused : History → List ℕ → ℕ → RunFault → Type 0
+KilledBeginRefused h extract calls (ReadFault files.State) =
+    HasDataForm extract × (calls < 3)
+KilledBeginRefused h extract calls (ReadFault files.Base) =
+    HasBeginning h extract × (calls < 3)
+KilledBeginRefused h extract calls (ReadFault file) = ⊥
+KilledBeginRefused h extract calls (WriteFault file) =
+    (file ≡ Save) × HasBeginning h extract × (calls < 3)
+KilledBeginRefused h extract calls fault = BeginRefused h extract fault
+
 -- what a publication prints: the next number
 abbrev pub publication_report : History → ReportValue
 publication_report h = publish_report_of (length (published_of h) + 1)
@@ -204,6 +294,109 @@ AllowedKilledFollow h calls (Refused fault) =
     KilledFollowingRefused (published_of h) (number_of h) calls fault
 AllowedKilledFollow h calls r = ⊥
 
+-- the file of a number is that of a published one, and is there
+abbrev pub IsFileThere : History → ℕ → Suffix → Type 0
+IsFileThere h n s = (0 < n) × (n ≤ length (published_of h)) × (is_file_lost h n s ≡ false)
+
+-- when a file of a number is read, if the number's turn comes: a change file only if the state is
+-- there, and the OPL file only if there is no o5c file
+abbrev pub IsReadIn : History → ℕ → Suffix → Type 0
+IsReadIn h n State = Unit {0}
+IsReadIn h n O5c = is_file_lost h n State ≡ false
+IsReadIn h n Opl = (is_file_lost h n State ≡ false) × (is_file_lost h n O5c ≡ true)
+
+-- a run of the follower reads the file, which is one of the numbers that it can take
+abbrev pub IsOnTheWay : History → ℕ → Suffix → Type 0
+IsOnTheWay h n s =
+    (number_of h < n) × (n ≤ number_of h + count_after h (number_of h)) × IsReadIn h n s
+
+-- it may read the file: that, or the number is the next one, of which the state may be read though
+-- its changes are lost
+abbrev pub IsInTurn : History → ℕ → Suffix → Type 0
+IsInTurn h n s =
+    (number_of h < n) × (n ≤ number_of h + count_after h (number_of h) + 1) × IsReadIn h n s
+
+-- what a run of the follower prints that comes to the number before n
+abbrev pub before_report : History → ℕ → ReportValue
+before_report h n = follow_report_of (ranges (number_of h) (n - 1 - number_of h)) [] (n - 1)
+
+-- a run of the follower over a spoiled file is done as over the right one: it didn't read the file
+abbrev pub SpoiledDone : History → ℕ → Suffix → ReportValue → Type 0
+SpoiledDone h n s report =
+    IsFileThere h n s × (report ≡ following_report h) × (IsOnTheWay h n s → ⊥)
+
+-- it is done up to the number before the file's, which isn't the follower's own
+abbrev pub SpoiledBefore : History → ℕ → Suffix → ReportValue → RunFault → Type 0
+SpoiledBefore h n s report fault =
+    IsFileThere h n s × (report ≡ before_report h n) × IsInTurn h n s × (number_of h + 1 < n)
+    × IsSpoiledFault n s fault
+
+-- why it isn't done: for the spoiled file, if its number is the follower's next one; else only for
+-- what refuses a run over the right file
+abbrev pub SpoiledRefused : History → ℕ → Suffix → RunFault → Type 0
+SpoiledRefused h n s fault =
+    FollowingRefused (published_of h) fault
+    ⊎ (IsFileThere h n s × IsInTurn h n s × (n ≡ number_of h + 1) × IsSpoiledFault n s fault)
+
+-- why a killed one isn't done: for the device, else only for what refuses a whole one
+abbrev pub KilledSpoiledRefused : History → ℕ → Suffix → RunFault → Type 0
+KilledSpoiledRefused h n s (ReadFault file) = Unit {0}
+KilledSpoiledRefused h n s (WriteFault file) = file ≡ Save
+KilledSpoiledRefused h n s fault = SpoiledRefused h n s fault
+
+-- there is no file to spoil
+abbrev pub NothingToSpoil : History → ℕ → Suffix → Type 0
+NothingToSpoil h n s =
+    (n ≡ 0) ⊎ (length (published_of h) < n) ⊎ (is_file_lost h n s ≡ true)
+
+-- a run of the follower over a spoiled file is done, done up to it, or refused
+abbrev pub AllowedSpoiled : History → ℕ → Suffix → Reply → Type 0
+AllowedSpoiled h n s (Followed report) = SpoiledDone h n s report
+AllowedSpoiled h n s (FollowedBefore report fault) = SpoiledBefore h n s report fault
+AllowedSpoiled h n s (Refused fault) = SpoiledRefused h n s fault
+AllowedSpoiled h n s NotThere = NothingToSpoil h n s
+AllowedSpoiled h n s r = ⊥
+
+-- a killed one that is done had at least as many calls as the fewest that it makes
+abbrev pub AllowedKilledSpoiled : History → ℕ → Suffix → ℕ → Reply → Type 0
+AllowedKilledSpoiled h n s calls (Followed report) = SpoiledDone h n s report × (3 ≤ calls)
+AllowedKilledSpoiled h n s calls (FollowedBefore report fault) =
+    SpoiledBefore h n s report fault × (3 ≤ calls)
+AllowedKilledSpoiled h n s calls (Refused fault) = KilledSpoiledRefused h n s fault
+AllowedKilledSpoiled h n s calls NotThere = NothingToSpoil h n s
+AllowedKilledSpoiled h n s calls r = ⊥
+
+-- an export is done or refused
+abbrev pub AllowedExport : History → List ℕ → Reply → Type 0
+AllowedExport h extract (Exported report) =
+    (report ≡ convert_report_of) × HasExport h extract (λ text. length text ≤ max_file)
+AllowedExport h extract (Refused fault) = ExportRefused h extract fault
+AllowedExport h extract r = ⊥
+
+-- a killed export that is done had at least as many calls as it makes; one that the device refused
+-- had fewer
+abbrev pub AllowedKilledExport : History → List ℕ → ℕ → Reply → Type 0
+AllowedKilledExport h extract calls (Exported report) =
+    (report ≡ convert_report_of) × HasExport h extract (λ text. length text ≤ max_file)
+    × (2 ≤ calls)
+AllowedKilledExport h extract calls (Refused fault) = KilledExportRefused h extract calls fault
+AllowedKilledExport h extract calls r = ⊥
+
+-- a beginning is done or refused; it prints the number that was exported last
+abbrev pub AllowedBegin : History → List ℕ → Reply → Type 0
+AllowedBegin h extract (Begun report) =
+    (report ≡ begin_report_of (beginning_of h)) × HasBeginning h extract
+AllowedBegin h extract (Refused fault) = BeginRefused h extract fault
+AllowedBegin h extract r = ⊥
+
+-- a killed beginning that is done had at least as many calls as it makes; one that the device
+-- refused had fewer
+abbrev pub AllowedKilledBegin : History → List ℕ → ℕ → Reply → Type 0
+AllowedKilledBegin h extract calls (Begun report) =
+    (report ≡ begin_report_of (beginning_of h)) × HasBeginning h extract × (3 ≤ calls)
+AllowedKilledBegin h extract calls (Refused fault) = KilledBeginRefused h extract calls fault
+AllowedKilledBegin h extract calls r = ⊥
+
 -- the number is that of a published sequence
 abbrev pub IsPublishedNumber : History → ℕ → Type 0
 IsPublishedNumber h n = (0 < n) × (n ≤ length (published_of h))
@@ -224,18 +417,26 @@ AllowedPutBack h n s NotThere = IsNoNumber h n ⊎ (is_file_lost h n s ≡ false
 AllowedPutBack h n s (Refused fault) = fault ≡ WantOfMemory
 AllowedPutBack h n s r = ⊥
 
--- the reply may follow the history at that operation
-abbrev pub Allowed : History → Operation → Reply → Type 0
-Allowed h (Publish changes time) r = AllowedPublish h changes time r
-Allowed h (KilledPublish changes time calls) r = AllowedKilledPublish h changes time calls r
-Allowed h (PublishAs changes time n) r = AllowedPublishAs h changes time n r
-Allowed h (KilledPublishAs changes time n calls) r = AllowedKilledPublishAs h changes time n calls r
-Allowed h Follow r = AllowedFollow h r
-Allowed h (KilledFollow calls) r = AllowedKilledFollow h calls r
-Allowed h (Lose n s) r = AllowedLose h n s r
-Allowed h (PutBack n s) r = AllowedPutBack h n s r
+-- the reply may follow the history at that operation, if exports and beginnings are of that file
+abbrev pub Allowed : List ℕ → History → Operation → Reply → Type 0
+Allowed extract h (Publish changes time) r = AllowedPublish h changes time r
+Allowed extract h (KilledPublish changes time calls) r =
+    AllowedKilledPublish h changes time calls r
+Allowed extract h (PublishAs changes time n) r = AllowedPublishAs h changes time n r
+Allowed extract h (KilledPublishAs changes time n calls) r =
+    AllowedKilledPublishAs h changes time n calls r
+Allowed extract h Follow r = AllowedFollow h r
+Allowed extract h (KilledFollow calls) r = AllowedKilledFollow h calls r
+Allowed extract h (FollowSpoiled n s) r = AllowedSpoiled h n s r
+Allowed extract h (KilledFollowSpoiled n s calls) r = AllowedKilledSpoiled h n s calls r
+Allowed extract h Export r = AllowedExport h extract r
+Allowed extract h (KilledExport calls) r = AllowedKilledExport h extract calls r
+Allowed extract h Begin r = AllowedBegin h extract r
+Allowed extract h (KilledBegin calls) r = AllowedKilledBegin h extract calls r
+Allowed extract h (Lose n s) r = AllowedLose h n s r
+Allowed extract h (PutBack n s) r = AllowedPutBack h n s r
 
 -- each reply of a history is allowed after what came before it
-abbrev pub AreAllowed : History → Type 0
-AreAllowed [] = Unit {0}
-AreAllowed (p ∷ h) = Allowed h p.0 p.1 × AreAllowed h
+abbrev pub AreAllowed : List ℕ → History → Type 0
+AreAllowed extract [] = Unit {0}
+AreAllowed extract (p ∷ h) = Allowed extract h p.0 p.1 × AreAllowed extract h

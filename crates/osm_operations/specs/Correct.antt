@@ -1,51 +1,77 @@
--- The main statement over folders. After every list of publications, runs of the follower, runs of
--- either that are killed, losses and returns of files, on one store: the folder is that of the
--- sequences that the history published, and the save is that of the follower that holds exactly the
--- mirror and the counts of sequences 1 to its own number; and over the whole history these numbers
--- were reported once each, in order.
-use Rattle.std.specs.Prelude.{◌≡◌, ℕ, ◌<◌, ◌≤◌, List, length, None}
+-- The main statement over folders. After every list of publications, runs of the follower, exports
+-- and beginnings, any of these killed, and losses and returns of files, on one store: the folder is
+-- that of the sequences that the history published; the save is that of sequences base + 1 to its
+-- number over the objects of its base, where the base is the mirror of sequences 1 to it, as an
+-- earlier export gave it (0, the empty start, if there was no beginning), so it holds exactly the
+-- mirror of sequences 1 to its number and the counts of those after its base; the numbers that were
+-- reported since the last beginning are those after the base, once each, in order; and the extract
+-- holds the objects that sequences 1 to the exported number leave.
+use Rattle.std.specs.Prelude.{◌≡◌, ℕ, ◌-◌, ◌<◌, ◌≤◌, List, length, Option, Some, None}
+use Rattle.std.specs.Prelude.{is_none, not}
 use Rattle.osm_state.specs.declared.paths.Suffix.{Suffix}
+use Rattle.osm_state.specs.declared.paths.Suffix.TheVariants.{State}
+use Rattle.osm_follow.specs.Published.{PublishedValue}
 use Rattle.osm_follow.specs.Reach.{numbers}
+use Rattle.osm_folder.specs.Exporting.{IsExportOf}
 use Rattle.osm_folder.specs.Files.{Files}
 use Rattle.osm_folder.specs.Folder.{IsApart, IsFolderOf}
 use Rattle.osm_folder.specs.Following.{IsSaveOf}
 use Rattle.osm_folder.specs.Names.{file_name_of, top_name_of}
 use Rattle.osm_operations.specs.Allowed.{AreAllowed}
 use Rattle.osm_operations.specs.History.{History, history_of, published_of, file_of, number_of}
-use Rattle.osm_operations.specs.History.{reported_of}
+use Rattle.osm_operations.specs.History.{base_of, is_saved, exported_of, reported_of}
 use Rattle.osm_operations.specs.declared.operation.Operation.{Operation}
 use Rattle.osm_operations.specs.declared.operation.Reply.{Reply}
 
--- the save and the file of changes are outside the folder, and are two files
-pub record AreApart (dir save changes : List ℕ) : Type 0 where
+-- the save, the file of changes and the extract are outside the folder, and are three files
+pub record AreApart (dir save changes extract : List ℕ) : Type 0 where
   pub save_is : IsApart dir save
   pub changes_are : IsApart dir changes
+  pub extract_is : IsApart dir extract
   pub differ : save ≡ changes → ⊥
+  pub not_saved : extract ≡ save → ⊥
+  pub not_changed : extract ≡ changes → ⊥
 
--- nothing is published, and nothing is saved
+-- nothing is published, nothing is saved, and there is no state of number 0, the empty start, which
+-- is never published
 pub record IsNew (dir save : List ℕ) (files : Files) : Type 0 where
   pub top : files (top_name_of dir) ≡ None
   pub saved : files save ≡ None
+  pub zero : files (file_name_of dir 0 State) ≡ None
 
 -- the name is that of no file that the operations may touch
-pub record IsOther (dir save changes name : List ℕ) : Type 0 where
+pub record IsOther (dir save changes extract name : List ℕ) : Type 0 where
   pub folder : IsApart dir name
   pub save_is : name ≡ save → ⊥
   pub changes_are : name ≡ changes → ⊥
+  pub extract_is : name ≡ extract → ⊥
+
+-- the extract holds exactly the objects that published sequences 1 to the exported number leave; if
+-- nothing was exported, it is as it was
+abbrev pub IsExtractOf : List PublishedValue → Option ℕ → List ℕ → Option (List ℕ)
+    → Option (List ℕ) → Type 0
+IsExtractOf published None extract start told = told ≡ start
+IsExtractOf published (Some number) extract start told = IsExportOf published number extract told
 
 -- the files are what the history says: the folder is that of the sequences that it published, each
--- file as it was written unless it is lost; the save is that of sequences 1 to the follower's
--- number; these numbers were reported once each, in order; and no other file has changed
-pub record IsInStep (h : History) (dir save changes : List ℕ) (start files : Files) : Type 0 where
+-- file as it was written unless it is lost; the save is there exactly if something was saved, and
+-- is that of the follower's number, begun at its base; the numbers after the base were reported
+-- once each, in order; the extract is that of the number exported last; and no other file has
+-- changed
+pub record IsInStep (h : History) (dir save changes extract : List ℕ) (start files : Files) :
+    Type 0 where
   pub folder : IsFolderOf (published_of h) files dir
   pub each : (k : ℕ) (suffix : Suffix) → 0 < k → k ≤ length (published_of h)
       → files (file_name_of dir k suffix) ≡ file_of h k suffix
-  pub saved : IsSaveOf (published_of h) (number_of h) (files save)
-  pub reported : reported_of h ≡ numbers 0 (number_of h)
-  pub others : (name : List ℕ) → IsOther dir save changes name → files name ≡ start name
+  pub saved : IsSaveOf (published_of h) (base_of h) (number_of h) (files save)
+  pub is_there : is_none (files save) ≡ not (is_saved h)
+  pub reported : reported_of h ≡ numbers (base_of h) (number_of h - base_of h)
+  pub exported : IsExtractOf (published_of h) (exported_of h) extract (start extract)
+      (files extract)
+  pub others : (name : List ℕ) → IsOther dir save changes extract name → files name ≡ start name
 
 -- the replies to the operations and the files after them
 pub record IsRun (operations : List Operation) (replies : List Reply)
-    (dir save changes : List ℕ) (start files : Files) : Type 0 where
-  pub allowed : AreAllowed (history_of operations replies)
-  pub in_step : IsInStep (history_of operations replies) dir save changes start files
+    (dir save changes extract : List ℕ) (start files : Files) : Type 0 where
+  pub allowed : AreAllowed extract (history_of operations replies)
+  pub in_step : IsInStep (history_of operations replies) dir save changes extract start files

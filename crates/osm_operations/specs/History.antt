@@ -2,13 +2,14 @@
 -- history alone, and from no file. A history has its newest pair first.
 use Rattle.std.specs.Prelude.{ℕ, zero, suc, ◌+◌, ◌-◌, length, List, [], ◌∷◌, ◌++◌, min, filter}
 use Rattle.std.specs.Prelude.{Bool, true, false, ◌&&◌, ◌||◌, ◌==◌, if◌then◌else◌, reverse}
-use Rattle.std.specs.Prelude.{Option, Some, None}
+use Rattle.std.specs.Prelude.{Option, Some, None, unwrap_or}
 use Rattle.std.specs.List.{zip}
 use Rattle.osm_follow.specs.Published.{PublishedValue, sequence_at, written_of}
 use Rattle.osm_follow.specs.Reach.{numbers}
 use Rattle.osm_state.specs.declared.paths.Suffix.{Suffix}
 use Rattle.osm_state.specs.declared.paths.Suffix.TheVariants.{O5c, Opl, State}
 use Rattle.osm_operations.specs.Reported.{applied_in}
+use Rattle.osm_operations.specs.Spoiling.{number_before}
 use Rattle.osm_operations.specs.declared.operation.Operation.{Operation}
 use Rattle.osm_operations.specs.declared.operation.Operation.TheVariants.{Publish, KilledPublish}
 use Rattle.osm_operations.specs.declared.operation.Operation.TheVariants.{PublishAs}
@@ -16,6 +17,8 @@ use Rattle.osm_operations.specs.declared.operation.Operation.TheVariants.{Killed
 use Rattle.osm_operations.specs.declared.operation.Operation.TheVariants.{Lose, PutBack}
 use Rattle.osm_operations.specs.declared.operation.Reply.{Reply}
 use Rattle.osm_operations.specs.declared.operation.Reply.TheVariants.{Published, Followed}
+use Rattle.osm_operations.specs.declared.operation.Reply.TheVariants.{FollowedBefore}
+use Rattle.osm_operations.specs.declared.operation.Reply.TheVariants.{Exported, Begun}
 use Rattle.osm_operations.specs.declared.operation.Reply.TheVariants.{CutOff, Lost, IsBack}
 
 -- an operation and its reply
@@ -112,29 +115,88 @@ count_from is_lost n (suc most) =
 abbrev pub count_after : History → ℕ → ℕ
 count_after h n = count_from (is_number_lost h) n (length (published_of h) - n)
 
--- whether the reply is that of a run of the follower that was done
-abbrev pub is_followed : Reply → Bool
-is_followed (Followed report) = true
-is_followed r = false
+-- what a history says of the save: the number that the follower is at, the base after which its
+-- edits are counted, whether a save is there, and the number that was exported last, if any was
+pub record Standing : Type 0 where
+  pub number : ℕ
+  pub base : ℕ
+  pub is_saved : Bool
+  pub exported : Option ℕ
 
--- how many numbers the reply to an operation after a history adds to the follower's, from n on
-abbrev pub count_by : History → Reply → ℕ → ℕ
-count_by h r n = if is_followed r then count_after h n else 0
+-- before any operation
+abbrev pub standing_first : Standing
+standing_first = record { number = 0; base = 0; is_saved = false; exported = None }
+
+-- the number at which a beginning begins: the one that was exported last; 0 if none was
+abbrev pub begins_at : Standing → ℕ
+begins_at s = unwrap_or s.exported 0
+
+-- the same after a reply to an operation after that history. A run of the follower adds the numbers
+-- that it can take, or those before a faulty one, a beginning begins with what was exported last, and an export exports the
+-- follower's number
+abbrev pub standing_after : History → Reply → Standing → Standing
+standing_after h (Followed report) s = record {
+  number = s.number + count_after h s.number;
+  base = s.base;
+  is_saved = true;
+  exported = s.exported;
+}
+standing_after h (FollowedBefore report fault) s = record {
+  number = number_before fault;
+  base = s.base;
+  is_saved = true;
+  exported = s.exported;
+}
+standing_after h (Begun report) s = record {
+  number = begins_at s;
+  base = begins_at s;
+  is_saved = true;
+  exported = s.exported;
+}
+standing_after h (Exported report) s = record {
+  number = s.number;
+  base = s.base;
+  is_saved = s.is_saved;
+  exported = Some s.number;
+}
+standing_after h r s = s
+
+abbrev pub standing_of : History → Standing
+standing_of [] = standing_first
+standing_of (p ∷ h) = standing_after h p.1 (standing_of h)
 
 -- the number that the follower is at
 abbrev pub number_of : History → ℕ
-number_of [] = 0
-number_of (p ∷ h) = number_of h + count_by h p.1 (number_of h)
+number_of h = (standing_of h).number
 
--- the numbers that a reply says are applied: those of the lines of its report
-abbrev pub reported_by : Reply → List ℕ
-reported_by (Followed report) = applied_in report.text
-reported_by r = []
+-- the number that it began at; 0 if it never began with what was exported
+abbrev pub base_of : History → ℕ
+base_of h = (standing_of h).base
 
--- the numbers that were reported, in the order of the reports
+-- whether something was saved
+abbrev pub is_saved : History → Bool
+is_saved h = (standing_of h).is_saved
+
+-- the number that was exported last
+abbrev pub exported_of : History → Option ℕ
+exported_of h = (standing_of h).exported
+
+-- the number at which a beginning after the history begins
+abbrev pub beginning_of : History → ℕ
+beginning_of h = begins_at (standing_of h)
+
+-- the numbers that were reported so far, after one more reply: those of the lines of a follower's
+-- report are added, and a beginning begins anew
+abbrev pub reported_after : Reply → List ℕ → List ℕ
+reported_after (Followed report) so_far = so_far ++ applied_in report.text
+reported_after (FollowedBefore report fault) so_far = so_far ++ applied_in report.text
+reported_after (Begun report) so_far = []
+reported_after r so_far = so_far
+
+-- the numbers that were reported since the last beginning, in the order of the reports
 abbrev pub reported_of : History → List ℕ
 reported_of [] = []
-reported_of (p ∷ h) = reported_of h ++ reported_by p.1
+reported_of (p ∷ h) = reported_after p.1 (reported_of h)
 
 -- the lost numbers after n, up to the smaller of n + 64 and the last published one, rising
 abbrev pub lost_after : History → ℕ → List ℕ

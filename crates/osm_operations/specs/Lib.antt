@@ -4,3 +4,4 @@ pub mod Allowed
 pub mod Correct
 pub mod Publications
 pub mod Steps
+pub mod Spoiling

@@ -41,6 +41,30 @@ pub enum Operation {
     KilledFollow {
         calls: u64,
     },
+    /// The follower goes on from the save while a file of a published sequence is spoiled: it holds
+    /// the one byte `x`, which is no state and no changes. After the run it holds what it held.
+    FollowSpoiled {
+        number: u32,
+        suffix: Suffix,
+    },
+    /// The same, by a run that is killed.
+    KilledFollowSpoiled {
+        number: u32,
+        suffix: Suffix,
+        calls: u64,
+    },
+    /// The objects of the save are exported as a data file.
+    Export,
+    /// The same, by a run that is killed.
+    KilledExport {
+        calls: u64,
+    },
+    /// The save begins anew with the objects that were exported last, whatever it holds.
+    Begin,
+    /// The same, by a run that is killed.
+    KilledBegin {
+        calls: u64,
+    },
     /// A file of a published sequence is lost.
     Lose {
         number: u32,
@@ -61,6 +85,13 @@ pub enum Reply {
     Published(Report),
     /// A run of the follower is done, and this is what it prints.
     Followed(Report),
+    /// A run of the follower is done up to the number before a spoiled file: this is what it
+    /// prints, and then it ends with this fault.
+    FollowedBefore { report: Report, fault: RunFault },
+    /// An export is done, and this is what it prints.
+    Exported(Report),
+    /// A beginning is done, and this is what it prints.
+    Begun(Report),
     /// The run stopped, or the file wasn't moved.
     Refused(RunFault),
     /// The run stopped while it wrote the files of the newest sequence again, and the lost one in
@@ -70,6 +101,7 @@ pub enum Reply {
     Lost,
     /// The file is there again.
     IsBack,
-    /// The number isn't published, the file to lose is lost, or the file to put back isn't.
+    /// The number isn't published, the file to lose or to spoil is lost, or the file to put back
+    /// isn't.
     NotThere,
 }

@@ -1,17 +1,26 @@
 //! Runs over a store in memory, whole or killed.
 
-ghost use Rattle.std.specs.Prelude.{◌≡◌, ◌≤◌, IfErr, IfOk, None, OnErr, OnOk, Some};
+ghost use Rattle.std.specs.Prelude.{◌≡◌, ◌≤◌, IfErr, IfOk, IfSome, None, OnErr, OnOk, Some};
+ghost use Rattle.std.specs.Prelude.{is_some, true};
 ghost use Rattle.std.specs.Prelude.{decimal, string_bytes};
 ghost use Rattle.std.specs.Str.{IsAscii};
 ghost use Rattle.osm_model.specs.Limits.{max_sequence};
+ghost use Rattle.osm_folder.specs.Files.{Puts};
 ghost use Rattle.osm_folder.specs.Names.{file_name_of};
+ghost use Rattle.osm_folder.specs.Runs.{LacksCalls};
 ghost use Rattle.osm_folder.specs.Stores.{calls_of, files_of, inner_of};
-ghost use Rattle.osm_operations.specs.Steps.Stepping.{AreChangesPut, ChangesStop, FollowStep};
-ghost use Rattle.osm_operations.specs.Steps.Stepping.{IsNoDevice, IsReportOf};
+ghost use Rattle.osm_save.specs.Head.{BeginsSave};
+ghost use Rattle.osm_save.specs.declared.head.Head.{Head};
+ghost use Rattle.osm_operations.specs.Steps.Stepping.{AreChangesPut, BeginStep, ChangesStop};
+ghost use Rattle.osm_operations.specs.Steps.Stepping.{ExportStep, FollowStep, IsNoDevice};
+ghost use Rattle.osm_operations.specs.Steps.Stepping.{IsNumberOfSave, IsReportOf, IsSpoiledNow};
+ghost use Rattle.osm_operations.specs.Steps.Stepping.{SpoiledAnswer};
 ghost use Rattle.osm_operations.specs.Steps.Stepping.{LacksFollowCalls, Moves, NumberedStep};
 ghost use Rattle.osm_operations.specs.Steps.Stepping.{Returns, named};
-ghost use Rattle.osm_operations.specs.Steps.Stepping.{PublishStep};
+ghost use Rattle.osm_operations.specs.Steps.Stepping.{PublishStep, state_name_of};
 
+use osm_folder::begin::begin_run;
+use osm_folder::export::export_run;
 use osm_folder::fault::{FileName, RunFault};
 use osm_folder::fuse::Fuse;
 use osm_folder::memory_store::MemoryStore;
@@ -26,6 +35,8 @@ use osm_model::limits::MAX_SEQUENCE;
 use osm_model::memory::WantOfMemory;
 use osm_model::time::time_write;
 use osm_opl::opl::Opl;
+use osm_save::head::{head_read, laws_of_heads};
+use osm_state::laws::laws_of_state;
 use osm_state::paths::Suffix;
 use std::alloc::Global;
 use std::mem;
@@ -156,6 +167,200 @@ pub(crate) fn follow_killed(
     let progress = follow_progress(alloc, &mut fuse, dir, save);
     *store = fuse.into_inner();
     report_of(progress)
+}
+
+// The file of a sequence that is spoiled for a while, and the bytes that it held.
+#[derive(Drop)]
+struct Spoiled {
+    name: String,
+    bytes: Vec<u8>,
+}
+
+// Spoils the file of a sequence: it holds the one byte `x` then. None if it isn't there.
+fn spoil(
+    alloc: Global,
+    store: &mut MemoryStore,
+    dir: &str,
+    number: u32,
+    suffix: Suffix,
+) -> Result<Option<Spoiled>, WantOfMemory>
+    requires { number ≤ max_sequence }
+    ensures spoiled { IfOk result (λ o. IsSpoiledNow (file_name_of dir.now number suffix) o
+        (files_of store.old) (files_of store.new)) }
+    ensures refused { OnErr result (files_of store.new ≡ files_of store.old) }
+{
+    let name = file_name(alloc, dir, number, suffix)?;
+    let mut bytes = Vec::from_slice(alloc, b"x")?;
+    if !store.exchange(name.as_str(), &mut bytes) {
+        return Ok(None);
+    }
+    Ok(Some(Spoiled { name, bytes }))
+}
+
+// Puts back what a spoiled file held.
+fn mend(store: &mut MemoryStore, spoiled: Spoiled)
+    ensures { is_some (files_of store.old (string_bytes spoiled.name)) ≡ true
+        → Puts (files_of store.old) (string_bytes spoiled.name) (Some spoiled.bytes.items)
+        (files_of store.new) }
+{
+    let mut bytes = spoiled.bytes;
+    store.exchange(spoiled.name.as_str(), &mut bytes);
+}
+
+// Follows the folder while the file of a sequence is spoiled. None if that isn't there.
+pub(crate) fn follow_spoiled(
+    alloc: Global,
+    store: &mut MemoryStore,
+    dir: &str,
+    save: &str,
+    number: u32,
+    suffix: Suffix,
+) -> Option<Result<Progress, RunFault>>
+    requires { number ≤ max_sequence }
+    ensures answer { SpoiledAnswer dir.now save.now (file_name_of dir.now number suffix) result
+        (files_of store.old) (files_of store.new) }
+    ensures device { IfSome result (λ w. IfErr w IsNoDevice) }
+{
+    laws_of_state();
+    match spoil(alloc, store, dir, number, suffix) {
+        Err(WantOfMemory) => Some(Err(RunFault::WantOfMemory)),
+        Ok(None) => None,
+        Ok(Some(spoiled)) => {
+            let progress = follow_progress(alloc, store, dir, save);
+            mend(store, spoiled);
+            Some(progress)
+        }
+    }
+}
+
+// The same, by a run that is killed after that many calls.
+pub(crate) fn follow_spoiled_killed(
+    alloc: Global,
+    store: &mut MemoryStore,
+    dir: &str,
+    save: &str,
+    number: u32,
+    suffix: Suffix,
+    calls: u64,
+) -> Option<Result<Progress, RunFault>>
+    requires { number ≤ max_sequence }
+    ensures answer { SpoiledAnswer dir.now save.now (file_name_of dir.now number suffix) result
+        (files_of store.old) (files_of store.new) }
+    ensures left { IfSome result (λ w. OnOk w (3 ≤ calls)) }
+{
+    laws_of_state();
+    match spoil(alloc, store, dir, number, suffix) {
+        Err(WantOfMemory) => Some(Err(RunFault::WantOfMemory)),
+        Ok(None) => None,
+        Ok(Some(spoiled)) => {
+            let mut fuse = fuse_over(alloc, store, calls);
+            let progress = follow_progress(alloc, &mut fuse, dir, save);
+            *store = fuse.into_inner();
+            mend(store, spoiled);
+            Some(progress)
+        }
+    }
+}
+
+// Exports the objects of the save.
+pub(crate) fn export(
+    alloc: Global,
+    store: &mut MemoryStore,
+    save: &str,
+    extract: &str,
+) -> Result<Report, RunFault>
+    ensures step { ExportStep save.now extract.now result
+        (files_of store.old) (files_of store.new) }
+    ensures device { IfErr result IsNoDevice }
+{
+    export_run(alloc, store, save, extract)
+}
+
+// The same, by a run that is killed after that many calls.
+pub(crate) fn export_killed(
+    alloc: Global,
+    store: &mut MemoryStore,
+    save: &str,
+    extract: &str,
+    calls: u64,
+) -> Result<Report, RunFault>
+    ensures step { ExportStep save.now extract.now result
+        (files_of store.old) (files_of store.new) }
+    ensures left { OnOk result (2 ≤ calls) }
+    ensures lacks { IfErr result (LacksCalls 2 (Some calls)) }
+{
+    let mut fuse = fuse_over(alloc, store, calls);
+    let answer = export_run(alloc, &mut fuse, save, extract);
+    *store = fuse.into_inner();
+    answer
+}
+
+// The number of the save, from its head; 0 if there is none.
+pub(crate) fn saved_number(store: &MemoryStore, save: &str) -> u32
+    ensures { IsNumberOfSave result (files_of store.now save.now) }
+{
+    match store.get(save) {
+        None => 0,
+        Some(bytes) => number_of_head(bytes),
+    }
+}
+
+fn number_of_head(bytes: &[u8]) -> u32
+    ensures { (head : Head) → BeginsSave bytes.now head → result ≡ head.number }
+{
+    laws_of_heads();
+    match head_read(bytes) {
+        Ok(head) => head.number,
+        Err(_) => 0,
+    }
+}
+
+// Begins the save with what was exported, at the state of that number.
+pub(crate) fn begin(
+    alloc: Global,
+    store: &mut MemoryStore,
+    dir: &str,
+    number: u32,
+    extract: &str,
+    save: &str,
+) -> Result<Report, RunFault>
+    ensures step { BeginStep dir.now number extract.now save.now result
+        (files_of store.old) (files_of store.new) }
+    ensures device { IfErr result IsNoDevice }
+{
+    laws_of_state();
+    let state = state_name(alloc, dir, number)?;
+    begin_run(alloc, store, extract, state.as_str(), save)
+}
+
+// The same, by a run that is killed after that many calls.
+pub(crate) fn begin_killed(
+    alloc: Global,
+    store: &mut MemoryStore,
+    dir: &str,
+    number: u32,
+    extract: &str,
+    save: &str,
+    calls: u64,
+) -> Result<Report, RunFault>
+    ensures step { BeginStep dir.now number extract.now save.now result
+        (files_of store.old) (files_of store.new) }
+    ensures left { OnOk result (3 ≤ calls) }
+    ensures lacks { IfErr result (LacksCalls 3 (Some calls)) }
+{
+    laws_of_state();
+    let state = state_name(alloc, dir, number)?;
+    let mut fuse = fuse_over(alloc, store, calls);
+    let answer = begin_run(alloc, &mut fuse, extract, state.as_str(), save);
+    *store = fuse.into_inner();
+    answer
+}
+
+// The name of the state of a sequence. None has a number past the last one.
+fn state_name(alloc: Global, dir: &str, number: u32) -> Result<String, WantOfMemory>
+    ensures { IfOk result (λ name. string_bytes name ≡ state_name_of dir.now number) }
+{
+    file_name(alloc, dir, number.min(MAX_SEQUENCE), Suffix::State)
 }
 
 // The report of the word, or its fault: no number of a folder of published sequences is faulty, so

@@ -1,21 +1,28 @@
 //! A folder and a save over a list of operations.
 
-ghost use Rattle.std.specs.Prelude.{◌≡◌, ◌<◌, [], length, vec_capacity, IfOk, OnErr, None, Some};
+ghost use Rattle.std.specs.Prelude.{◌≡◌, ◌<◌, [], length, vec_capacity, IfOk, OnErr, OnOk, None};
+ghost use Rattle.std.specs.Prelude.{Some};
 ghost use Rattle.std.specs.Prelude.{string_bytes};
 ghost use Rattle.osm_folder.specs.Stores.{files_of};
 ghost use Rattle.osm_operations.specs.Correct.{AreApart, IsNew, IsRun};
-ghost use Rattle.osm_operations.specs.Steps.Stepping.{FollowTo, HasFollowCalls, HasPublishCalls};
-ghost use Rattle.osm_operations.specs.Steps.Stepping.{IsNumber, IsWhole, LoseTo, PublishAsTo};
+ghost use Rattle.osm_operations.specs.Steps.Stepping.{BeginTo, ExportTo, FollowTo, HasCallsOf};
+ghost use Rattle.osm_operations.specs.Steps.Stepping.{HasFollowCalls, HasPublishCalls, IsNumber};
+ghost use Rattle.osm_operations.specs.Steps.Stepping.{IsNumberOfSave, IsWhole, KeepsExported};
+ghost use Rattle.osm_operations.specs.Steps.Stepping.{KeepsOthers, LoseTo, PublishAsTo};
 ghost use Rattle.osm_operations.specs.Steps.Stepping.{PublishTo, PutBackTo, SettleTo, Step};
+ghost use Rattle.osm_operations.specs.Steps.Stepping.{HasSpoiledCalls, SpoiledTo, exported_reply};
+ghost use Rattle.osm_operations.specs.Steps.Stepping.{spoiled_reply as replied};
 ghost use Rattle.osm_operations.specs.Steps.Stepping.{stopped_reply as settled};
 
 use crate::operation::{Operation, Reply};
 use crate::runs::{
-    FormNames, follow, follow_killed, form_names, move_file, publish, publish_as,
-    publish_as_killed, publish_killed, returns,
+    FormNames, begin, begin_killed, export, export_killed, follow, follow_killed, follow_spoiled,
+    follow_spoiled_killed, form_names, move_file, publish, publish_as, publish_as_killed,
+    publish_killed, returns, saved_number,
 };
 use osm_folder::fault::RunFault;
 use osm_folder::memory_store::MemoryStore;
+use osm_folder::progress::Progress;
 use osm_folder::report::Report;
 use osm_model::batch::Batch;
 use osm_model::limits::MAX_SEQUENCE;
@@ -23,13 +30,15 @@ use osm_model::memory::WantOfMemory;
 use osm_state::paths::Suffix;
 use std::alloc::Global;
 
-// A store, the files that are lost, each under its name, and how many sequences are published.
+// A store, the files that are lost, each under its name, how many sequences are published, and the
+// number that was exported last, 0 if nothing was.
 #[derive(Drop)]
 struct World {
     alloc: Global,
     store: MemoryStore,
     lost: MemoryStore,
     published: u32,
+    exported: u32,
 }
 
 /// A store after some operations, and the reply to each of them.
@@ -40,20 +49,22 @@ pub struct Outcome {
 }
 
 /// Carries out the operations in order, on a folder and a save of the store. A publication first
-/// writes its changes, in OPL, to the file `changes`. If memory for the list of replies is refused,
-/// no operation was done.
+/// writes its changes, in OPL, to the file `changes`. An export writes the data file `extract`, and
+/// a beginning reads it, with the state in the folder of the number that was exported last. If
+/// memory for the list of replies is refused, no operation was done.
 pub fn run(
     alloc: Global,
     store: MemoryStore,
     dir: &str,
     save: &str,
     changes: &str,
+    extract: &str,
     operations: Vec<Operation>,
 ) -> Result<Outcome, WantOfMemory>
     ensures one_each { IfOk result (λ r. length r.replies.items ≡ length operations.items) }
-    ensures run { IfOk result (λ r. AreApart dir.now save.now changes.now
+    ensures run { IfOk result (λ r. AreApart dir.now save.now changes.now extract.now
         → IsNew dir.now save.now (files_of store)
-        → IsRun operations.items r.replies.items dir.now save.now changes.now
+        → IsRun operations.items r.replies.items dir.now save.now changes.now extract.now
         (files_of store) (files_of r.store)) }
 {
     let mut world = World {
@@ -61,10 +72,11 @@ pub fn run(
         store,
         lost: MemoryStore::new(alloc),
         published: 0,
+        exported: 0,
     };
     let mut replies = room_for_replies(alloc, operations.as_slice())?;
     for operation in operations {
-        let reply = world.step(dir, save, changes, operation);
+        let reply = world.step(dir, save, changes, extract, operation);
         replies.push(reply).unwrap();
     }
     Ok(Outcome {
@@ -83,8 +95,17 @@ fn room_for_replies(alloc: Global, operations: &[Operation]) -> Result<Vec<Reply
 }
 
 impl World {
-    fn step(&mut self, dir: &str, save: &str, changes: &str, operation: Operation) -> Reply
-        ensures { Step dir.now save.now changes.now operation result self.old self.new }
+    fn step(
+        &mut self,
+        dir: &str,
+        save: &str,
+        changes: &str,
+        extract: &str,
+        operation: Operation,
+    ) -> Reply
+        ensures step { Step dir.now save.now changes.now extract.now operation result
+            self.old self.new }
+        ensures exported { KeepsExported result self.old self.new }
     {
         match operation {
             Operation::Publish {
@@ -109,13 +130,26 @@ impl World {
             } => self.publish_as_killed(dir, changes, &batch, time, number, calls),
             Operation::Follow => self.follow(dir, save),
             Operation::KilledFollow { calls } => self.follow_killed(dir, save, calls),
+            Operation::FollowSpoiled { number, suffix } => {
+                self.follow_spoiled(dir, save, number, suffix)
+            }
+            Operation::KilledFollowSpoiled {
+                number,
+                suffix,
+                calls,
+            } => self.follow_spoiled_killed(dir, save, number, suffix, calls),
+            Operation::Export => self.export(save, extract),
+            Operation::KilledExport { calls } => self.export_killed(save, extract, calls),
+            Operation::Begin => self.begin(dir, save, extract),
+            Operation::KilledBegin { calls } => self.begin_killed(dir, save, extract, calls),
             Operation::Lose { number, suffix } => self.lose(dir, number, suffix),
             Operation::PutBack { number, suffix } => self.put_back(dir, number, suffix),
         }
     }
 
     fn publish(&mut self, dir: &str, changes: &str, batch: &Batch, time: u32) -> Reply
-        ensures { PublishTo None dir.now changes.now batch.now time result self.old self.new }
+        ensures step { PublishTo None dir.now changes.now batch.now time result self.old self.new }
+        ensures exported { self.new.exported ≡ self.old.exported }
     {
         match publish(self.alloc, &mut self.store, dir, changes, batch, time) {
             Err(fault) => Reply::Refused(fault),
@@ -137,6 +171,7 @@ impl World {
         ensures step { PublishTo (Some calls) dir.now changes.now batch.now time result
             self.old self.new }
         ensures left { HasPublishCalls calls result }
+        ensures exported { self.new.exported ≡ self.old.exported }
     {
         match publish_killed(
             self.alloc,
@@ -163,8 +198,9 @@ impl World {
         time: u32,
         number: u32,
     ) -> Reply
-        ensures { PublishAsTo None dir.now changes.now batch.now time number result
+        ensures step { PublishAsTo None dir.now changes.now batch.now time number result
             self.old self.new }
+        ensures exported { self.new.exported ≡ self.old.exported }
     {
         let Ok(names) = form_names(self.alloc, dir, number) else {
             return Reply::Refused(RunFault::WantOfMemory);
@@ -190,8 +226,9 @@ impl World {
         number: u32,
         calls: u64,
     ) -> Reply
-        ensures { PublishAsTo (Some calls) dir.now changes.now batch.now time number result
+        ensures step { PublishAsTo (Some calls) dir.now changes.now batch.now time number result
             self.old self.new }
+        ensures exported { self.new.exported ≡ self.old.exported }
     {
         let Ok(names) = form_names(self.alloc, dir, number) else {
             return Reply::Refused(RunFault::WantOfMemory);
@@ -214,6 +251,7 @@ impl World {
         ensures step { SettleTo answer (string_bytes names.now.o5c) (string_bytes names.now.opl)
             number result self.old self.new }
         ensures store { self.new.store ≡ self.old.store }
+        ensures exported { self.new.exported ≡ self.old.exported }
     {
         let o5c = returns(names.o5c.as_str(), &self.store, &mut self.lost);
         let opl = returns(names.opl.as_str(), &self.store, &mut self.lost);
@@ -229,6 +267,7 @@ impl World {
     fn follow(&mut self, dir: &str, save: &str) -> Reply
         ensures step { FollowTo dir.now save.now result self.old self.new }
         ensures whole { IsWhole result }
+        ensures exported { self.new.exported ≡ self.old.exported }
     {
         match follow(self.alloc, &mut self.store, dir, save) {
             Ok(report) => Reply::Followed(report),
@@ -239,6 +278,7 @@ impl World {
     fn follow_killed(&mut self, dir: &str, save: &str, calls: u64) -> Reply
         ensures step { FollowTo dir.now save.now result self.old self.new }
         ensures left { HasFollowCalls dir.now save.now calls result (files_of self.old.store) }
+        ensures exported { self.new.exported ≡ self.old.exported }
     {
         match follow_killed(self.alloc, &mut self.store, dir, save, calls) {
             Ok(report) => Reply::Followed(report),
@@ -246,8 +286,120 @@ impl World {
         }
     }
 
+    fn follow_spoiled(&mut self, dir: &str, save: &str, number: u32, suffix: Suffix) -> Reply
+        ensures step { SpoiledTo dir.now save.now number suffix result self.old self.new }
+        ensures whole { IsWhole result }
+        ensures exported { KeepsExported result self.old self.new }
+    {
+        if !is_number(self.published, number) {
+            return Reply::NotThere;
+        }
+        let answer = follow_spoiled(self.alloc, &mut self.store, dir, save, number, suffix);
+        spoiled_reply(answer)
+    }
+
+    fn follow_spoiled_killed(
+        &mut self,
+        dir: &str,
+        save: &str,
+        number: u32,
+        suffix: Suffix,
+        calls: u64,
+    ) -> Reply
+        ensures step { SpoiledTo dir.now save.now number suffix result self.old self.new }
+        ensures left { HasSpoiledCalls calls result }
+        ensures exported { KeepsExported result self.old self.new }
+    {
+        if !is_number(self.published, number) {
+            return Reply::NotThere;
+        }
+        let answer = follow_spoiled_killed(
+            self.alloc,
+            &mut self.store,
+            dir,
+            save,
+            number,
+            suffix,
+            calls,
+        );
+        spoiled_reply(answer)
+    }
+
+    fn export(&mut self, save: &str, extract: &str) -> Reply
+        ensures step { ExportTo save.now extract.now result self.old self.new }
+        ensures whole { IsWhole result }
+        ensures exported { KeepsExported result self.old self.new }
+    {
+        let answer = export(self.alloc, &mut self.store, save, extract);
+        self.export_reply(save, answer)
+    }
+
+    fn export_killed(&mut self, save: &str, extract: &str, calls: u64) -> Reply
+        ensures step { ExportTo save.now extract.now result self.old self.new }
+        ensures left { HasCallsOf 2 calls result }
+        ensures exported { KeepsExported result self.old self.new }
+    {
+        let answer = export_killed(self.alloc, &mut self.store, save, extract, calls);
+        self.export_reply(save, answer)
+    }
+
+    // The reply to an export. One that is done exported the number of the save.
+    fn export_reply(&mut self, save: &str, answer: Result<Report, RunFault>) -> Reply
+        ensures reply { result ≡ exported_reply answer }
+        ensures number { OnOk answer
+            (IsNumberOfSave self.new.exported (files_of self.old.store save.now)) }
+        ensures kept { OnErr answer (self.new.exported ≡ self.old.exported) }
+        ensures others { KeepsOthers self.old self.new }
+    {
+        match answer {
+            Ok(report) => {
+                self.exported = saved_number(&self.store, save);
+                Reply::Exported(report)
+            }
+            Err(fault) => Reply::Refused(fault),
+        }
+    }
+
+    fn begin(&mut self, dir: &str, save: &str, extract: &str) -> Reply
+        ensures step { BeginTo dir.now save.now extract.now result self.old self.new }
+        ensures whole { IsWhole result }
+        ensures exported { self.new.exported ≡ self.old.exported }
+    {
+        match begin(
+            self.alloc,
+            &mut self.store,
+            dir,
+            self.exported,
+            extract,
+            save,
+        ) {
+            Ok(report) => Reply::Begun(report),
+            Err(fault) => Reply::Refused(fault),
+        }
+    }
+
+    fn begin_killed(&mut self, dir: &str, save: &str, extract: &str, calls: u64) -> Reply
+        ensures step { BeginTo dir.now save.now extract.now result self.old self.new }
+        ensures left { HasCallsOf 3 calls result }
+        ensures exported { self.new.exported ≡ self.old.exported }
+    {
+        match begin_killed(
+            self.alloc,
+            &mut self.store,
+            dir,
+            self.exported,
+            extract,
+            save,
+            calls,
+        ) {
+            Ok(report) => Reply::Begun(report),
+            Err(fault) => Reply::Refused(fault),
+        }
+    }
+
     fn lose(&mut self, dir: &str, number: u32, suffix: Suffix) -> Reply
-        ensures { LoseTo dir.now number suffix result self.old self.new }
+        ensures step { LoseTo dir.now number suffix result self.old self.new }
+        ensures exported { self.new.exported ≡ self.old.exported }
     {
         if !is_number(self.published, number) {
             return Reply::NotThere;
@@ -268,7 +420,8 @@ impl World {
     }
 
     fn put_back(&mut self, dir: &str, number: u32, suffix: Suffix) -> Reply
-        ensures { PutBackTo dir.now number suffix result self.old self.new }
+        ensures step { PutBackTo dir.now number suffix result self.old self.new }
+        ensures exported { self.new.exported ≡ self.old.exported }
     {
         if !is_number(self.published, number) {
             return Reply::NotThere;
@@ -286,6 +439,18 @@ impl World {
             Ok(false) => Reply::NotThere,
             Err(WantOfMemory) => Reply::Refused(RunFault::WantOfMemory),
         }
+    }
+}
+
+// The reply to a run of the follower over a spoiled file; none was made if that isn't there.
+fn spoiled_reply(answer: Option<Result<Progress, RunFault>>) -> Reply
+    ensures { result ≡ replied answer }
+{
+    match answer {
+        None => Reply::NotThere,
+        Some(Ok(Progress::Whole(report))) => Reply::Followed(report),
+        Some(Ok(Progress::Before(report, fault))) => Reply::FollowedBefore { report, fault },
+        Some(Err(fault)) => Reply::Refused(fault),
     }
 }
 

@@ -1,25 +1,31 @@
 -- Steps of operations: what each does to the files of a store.
 use Rattle.std.specs.Prelude.{◌≡◌, ℕ, ◌+◌, ◌<◌, ◌≤◌, ◌⊎◌, List, length, Bool, true, false}
-use Rattle.std.specs.Prelude.{Option, Some, None, is_none, min, max}
-use Rattle.std.specs.Prelude.{IsTrue, Result, Ok, Err}
+use Rattle.std.specs.Prelude.{Option, Some, None, is_none, is_some, min, max, string_bytes}
+use Rattle.std.specs.Prelude.{IsTrue, Result, Ok, Err, IfErr, IfOk, OnErr}
 use Rattle.osm_model.specs.Batch.{IsBatch}
 use Rattle.osm_model.specs.Change.{ChangeValue}
 use Rattle.osm_model.specs.Limits.{max_file, max_sequence}
 use Rattle.osm_model.specs.Time.{Shows, TimeText}
 use Rattle.osm_opl.specs.Written.{opl_text}
 use Rattle.osm_reading.specs.Sequence.{SpellsSequence}
+use Rattle.osm_state.specs.StateLaws.{NoFaultBesideState}
 use Rattle.osm_state.specs.declared.paths.Suffix.{Suffix}
-use Rattle.osm_state.specs.declared.paths.Suffix.TheVariants.{O5c, Opl}
+use Rattle.osm_save.specs.declared.head.Head.{Head}
+use Rattle.osm_state.specs.declared.paths.Suffix.TheVariants.{O5c, Opl, State}
 use Rattle.osm_follow.specs.Published.{PublishedValue}
+use Rattle.osm_folder.specs.Beginning.{BeginStops, IsBaseOf, IsBegunFrom}
+use Rattle.osm_folder.specs.Exporting.{ExportStops, IsExportOf, IsExported}
 use Rattle.osm_folder.specs.Files.{Files, Puts}
 use Rattle.osm_folder.specs.Folder.{IsApart, IsFolderOf}
 use Rattle.osm_folder.specs.Following.{FollowRefuses, IsFollowed, IsSaveOf, follow_calls}
+use Rattle.osm_folder.specs.Lagging.{IsHead}
 use Rattle.osm_folder.specs.Numbered.{IsAddedAs, IsPublishedAs, NumberedOut, NumberedRefuses}
 use Rattle.osm_folder.specs.Numbered.{NumberedStops, numbered_calls}
+use Rattle.osm_folder.specs.Progress.{IsProgress, ProgressStops}
 use Rattle.osm_folder.specs.Publication.{FolderRefuses, GoesOnFrom, IsPublished, PublishOut}
 use Rattle.osm_folder.specs.Publication.{PublishStops}
 use Rattle.osm_folder.specs.Names.{file_name_of, top_name_of}
-use Rattle.osm_folder.specs.Reports.{ReportValue}
+use Rattle.osm_folder.specs.Reports.{ReportValue, begin_report_of, convert_report_of}
 use Rattle.osm_folder.specs.Runs.{LacksCalls}
 use Rattle.osm_folder.specs.Stores.{files_of}
 use Rattle.osm_folder.specs.declared.fault.FileName.TheVariants.{Changes}
@@ -28,16 +34,24 @@ use Rattle.osm_folder.specs.declared.progress.Progress.{Progress}
 use Rattle.osm_folder.specs.declared.progress.Progress.TheVariants.{Whole, Before}
 use Rattle.osm_folder.specs.declared.fault.RunFault.TheVariants.{WantOfMemory, ReadFault}
 use Rattle.osm_folder.specs.declared.fault.RunFault.TheVariants.{WriteFault, TooLarge}
+use Rattle.osm_operations.specs.Spoiling.{spoiled}
 use Rattle.osm_operations.specs.declared.operation.Operation.{Operation}
 use Rattle.osm_operations.specs.declared.operation.Operation.TheVariants.{Publish, KilledPublish}
 use Rattle.osm_operations.specs.declared.operation.Operation.TheVariants.{PublishAs}
 use Rattle.osm_operations.specs.declared.operation.Operation.TheVariants.{KilledPublishAs}
 use Rattle.osm_operations.specs.declared.operation.Operation.TheVariants.{Follow, KilledFollow}
+use Rattle.osm_operations.specs.declared.operation.Operation.TheVariants.{FollowSpoiled}
+use Rattle.osm_operations.specs.declared.operation.Operation.TheVariants.{KilledFollowSpoiled}
+use Rattle.osm_operations.specs.declared.operation.Operation.TheVariants.{Export, KilledExport}
+use Rattle.osm_operations.specs.declared.operation.Operation.TheVariants.{Begin, KilledBegin}
 use Rattle.osm_operations.specs.declared.operation.Operation.TheVariants.{Lose, PutBack}
 use Rattle.osm_operations.specs.declared.operation.Reply.{Reply}
 use Rattle.osm_operations.specs.declared.operation.Reply.TheVariants.{Published, Followed}
+use Rattle.osm_operations.specs.declared.operation.Reply.TheVariants.{FollowedBefore}
+use Rattle.osm_operations.specs.declared.operation.Reply.TheVariants.{Exported, Begun}
 use Rattle.osm_operations.specs.declared.operation.Reply.TheVariants.{Refused, CutOff, Lost, IsBack}
 use Rattle.osm_operations.specs.declared.operation.Reply.TheVariants.{NotThere}
+use Rattle.osm_operations.specs.declared.runs.Spoiled.{Spoiled}
 use Rattle.osm_operations.specs.declared.world.World.{World}
 
 -- the file holds the batch in OPL
@@ -144,9 +158,54 @@ IsReportOf (Err fault) result = result ≡ Err fault
 abbrev pub FollowStep : List ℕ → List ℕ → Result ReportValue RunFault → Files → Files → Type 0
 FollowStep dir save (Ok report) old new = IsFollowed dir save old new report
 FollowStep dir save (Err fault) old new =
-    (published : List PublishedValue) (number : ℕ) → IsFolderOf published old dir
-    → IsSaveOf published number (old save)
+    (published : List PublishedValue) (base number : ℕ) → IsFolderOf published old dir
+    → IsSaveOf published base number (old save)
     → (new ≡ old) × FollowRefuses published (old save) fault
+
+-- a run that exports
+pub record Exports (save extract : List ℕ) (report : ReportValue) (old new : Files) : Type 0 where
+  pub exported : IsExported save extract old new
+  pub in_step : (published : List PublishedValue) (base number : ℕ)
+      → IsSaveOf published base number (old save)
+      → IsExportOf published number extract (new extract)
+  pub report_is : report ≡ convert_report_of
+
+-- what an export did
+abbrev pub ExportStep : List ℕ → List ℕ → Result ReportValue RunFault → Files → Files → Type 0
+ExportStep save extract (Ok report) old new = Exports save extract report old new
+ExportStep save extract (Err fault) old new =
+    (new ≡ old) × ExportStops (IsTrue true) save extract old fault
+
+-- the number of what the file saves, by its head
+abbrev pub IsNumberOfSave : ℕ → Option (List ℕ) → Type 0
+IsNumberOfSave number told = (head : Head) → IsHead told head → number ≡ head.number
+
+-- the name of the state of a number; one that no sequence can have names that of another
+abbrev pub state_name_of : List ℕ → ℕ → List ℕ
+state_name_of dir number = file_name_of dir (min number max_sequence) State
+
+-- a run that begins
+pub record Begins (extract state save : List ℕ) (report : ReportValue) (old new : Files) :
+    Type 0 where
+  pub begun : IsBegunFrom extract state save old new report
+  pub in_step : (published : List PublishedValue) (number : ℕ)
+      → IsBaseOf published number extract state old
+      → IsSaveOf published number number (new save) × (report ≡ begin_report_of number)
+
+-- a run that begins stopped
+pub record StopsBeginning (extract state : List ℕ) (fault : RunFault) (old : Files) :
+    Type 0 where
+  pub stops : BeginStops (IsTrue true) extract state old fault
+  pub law : NoFaultBesideState
+
+-- what a beginning did, at the state of that number
+abbrev pub BeginStep : List ℕ → ℕ → List ℕ → List ℕ → Result ReportValue RunFault → Files → Files
+    → Type 0
+BeginStep dir number extract save (Ok report) old new =
+    Begins extract (state_name_of dir number) save report old new
+BeginStep dir number extract save (Err fault) old new =
+    (new ≡ old)
+    × ((fault ≡ WantOfMemory) ⊎ StopsBeginning extract (state_name_of dir number) fault old)
 
 -- a file is moved from one store to the other, or isn't there
 abbrev pub Moves : Bool → List ℕ → Files → Files → Files → Files → Type 0
@@ -254,6 +313,115 @@ FollowTo dir save (Refused fault) a b =
     × (b.lost ≡ a.lost) × (b.published ≡ a.published)
 FollowTo dir save r a b = ⊥
 
+-- the file of that name is spoiled, and these are the bytes that it held; nothing changes if it isn't
+-- there
+abbrev pub IsSpoiledNow : List ℕ → Option Spoiled → Files → Files → Type 0
+IsSpoiledNow name None old new = (old name ≡ None) × (new ≡ old)
+IsSpoiledNow name (Some it) old new =
+    (string_bytes it.name ≡ name) × (old name ≡ Some it.bytes.items)
+    × Puts old name (Some spoiled) new
+
+-- a run of the word `follow` while the file of that name is spoiled: the files before it and after
+-- it, and those that the run finds and leaves
+pub record IsSpoiledRun (dir save name : List ℕ) (w : Result Progress RunFault) (old new : Files) :
+    Type 0 where
+  pub bytes : List ℕ
+  pub there : old name ≡ Some bytes
+  pub during : Files
+  pub put : Puts old name (Some spoiled) during
+  pub after : Files
+  pub done : IfOk w (IsProgress (IsTrue true) dir save during after)
+  pub stops : IfErr w (ProgressStops (IsTrue true) dir save during)
+  pub kept : OnErr w (after ≡ during)
+  pub back : is_some (after name) ≡ true → Puts after name (Some bytes) new
+  pub law : NoFaultBesideState
+
+-- the same, or memory was refused before anything was done
+abbrev pub SpoiledStep :
+    List ℕ → List ℕ → List ℕ → Result Progress RunFault → Files → Files → Type 0
+SpoiledStep dir save name w old new =
+    ((w ≡ Err WantOfMemory) × (new ≡ old)) ⊎ IsSpoiledRun dir save name w old new
+
+-- what the run answers; nothing if there is no such file
+abbrev pub SpoiledAnswer :
+    List ℕ → List ℕ → List ℕ → Option (Result Progress RunFault) → Files → Files → Type 0
+SpoiledAnswer dir save name None old new = (old name ≡ None) × (new ≡ old)
+SpoiledAnswer dir save name (Some w) old new = SpoiledStep dir save name w old new
+
+-- the reply to what such a run answers
+abbrev pub spoiled_reply : Option (Result Progress RunFault) → Reply
+spoiled_reply None = NotThere
+spoiled_reply (Some (Ok (Whole report))) = Followed report
+spoiled_reply (Some (Ok (Before report fault))) = FollowedBefore report fault
+spoiled_reply (Some (Err fault)) = Refused fault
+
+-- a run over a spoiled file of a published number
+pub record IsSpoiledTo (dir save : List ℕ) (n : ℕ) (s : Suffix) (w : Result Progress RunFault)
+    (a b : World) : Type 0 where
+  pub number : IsNumber true a.published n
+  pub step : SpoiledStep dir save (file_name_of dir n s) w (files_of a.store) (files_of b.store)
+  pub lost : b.lost ≡ a.lost
+  pub published : b.published ≡ a.published
+
+abbrev pub SpoiledTo : List ℕ → List ℕ → ℕ → Suffix → Reply → World → World → Type 0
+SpoiledTo dir save n s (Followed report) a b = IsSpoiledTo dir save n s (Ok (Whole report)) a b
+SpoiledTo dir save n s (FollowedBefore report fault) a b =
+    IsSpoiledTo dir save n s (Ok (Before report fault)) a b
+SpoiledTo dir save n s (Refused fault) a b = IsSpoiledTo dir save n s (Err fault) a b
+SpoiledTo dir save n s NotThere a b =
+    (IsNumber false a.published n
+    ⊎ (IsNumber true a.published n × (files_of a.store (file_name_of dir n s) ≡ None)))
+    × (files_of b.store ≡ files_of a.store) × (b.lost ≡ a.lost) × (b.published ≡ a.published)
+SpoiledTo dir save n s r a b = ⊥
+
+-- what a reply says about the calls that a killed run over a spoiled file had
+abbrev pub HasSpoiledCalls : ℕ → Reply → Type 0
+HasSpoiledCalls calls (Followed report) = 3 ≤ calls
+HasSpoiledCalls calls (FollowedBefore report fault) = 3 ≤ calls
+HasSpoiledCalls calls r = Unit {0}
+
+-- the reply to an export, from what its run answered
+abbrev pub exported_reply : Result ReportValue RunFault → Reply
+exported_reply (Ok report) = Exported report
+exported_reply (Err fault) = Refused fault
+
+-- all is as it was but the number that was exported last
+pub record KeepsOthers (a b : World) : Type 0 where
+  pub store : b.store ≡ a.store
+  pub lost : b.lost ≡ a.lost
+  pub published : b.published ≡ a.published
+
+abbrev pub ExportTo : List ℕ → List ℕ → Reply → World → World → Type 0
+ExportTo save extract (Exported report) a b =
+    ExportStep save extract (Ok report) (files_of a.store) (files_of b.store)
+    × (b.lost ≡ a.lost) × (b.published ≡ a.published)
+    × IsNumberOfSave b.exported (files_of b.store save)
+ExportTo save extract (Refused fault) a b =
+    ExportStep save extract (Err fault) (files_of a.store) (files_of b.store)
+    × (b.lost ≡ a.lost) × (b.published ≡ a.published)
+ExportTo save extract r a b = ⊥
+
+abbrev pub BeginTo : List ℕ → List ℕ → List ℕ → Reply → World → World → Type 0
+BeginTo dir save extract (Begun report) a b =
+    BeginStep dir a.exported extract save (Ok report) (files_of a.store) (files_of b.store)
+    × (b.lost ≡ a.lost) × (b.published ≡ a.published)
+BeginTo dir save extract (Refused fault) a b =
+    BeginStep dir a.exported extract save (Err fault) (files_of a.store) (files_of b.store)
+    × (b.lost ≡ a.lost) × (b.published ≡ a.published)
+BeginTo dir save extract r a b = ⊥
+
+-- the number that was exported last stays, unless an export is done
+abbrev pub KeepsExported : Reply → World → World → Type 0
+KeepsExported (Exported report) a b = Unit {0}
+KeepsExported r a b = b.exported ≡ a.exported
+
+-- what a reply says about the calls that a killed export or beginning had, which makes so many
+abbrev pub HasCallsOf : ℕ → ℕ → Reply → Type 0
+HasCallsOf made calls (Exported report) = made ≤ calls
+HasCallsOf made calls (Begun report) = made ≤ calls
+HasCallsOf made calls (Refused fault) = LacksCalls made (Some calls) fault
+HasCallsOf made calls r = Unit {0}
+
 -- what a reply says about the calls that a killed publication had
 abbrev pub HasPublishCalls : ℕ → Reply → Type 0
 HasPublishCalls calls (Published report) = 6 ≤ calls
@@ -262,8 +430,8 @@ HasPublishCalls calls r = Unit {0}
 -- why a run of the follower that had that many calls is refused
 abbrev pub LacksFollowCalls : List ℕ → List ℕ → ℕ → Files → RunFault → Type 0
 LacksFollowCalls dir save calls files fault =
-    (published : List PublishedValue) (number : ℕ) → IsFolderOf published files dir
-    → IsSaveOf published number (files save)
+    (published : List PublishedValue) (base number : ℕ) → IsFolderOf published files dir
+    → IsSaveOf published base number (files save)
     → LacksCalls (follow_calls published number) (Some calls) fault
 
 -- what a reply says about the calls that a killed run of the follower had
@@ -316,16 +484,26 @@ PutBackTo dir n s (Refused fault) a b =
 PutBackTo dir n s r a b = ⊥
 
 -- an operation and its reply
-abbrev pub Step : List ℕ → List ℕ → List ℕ → Operation → Reply → World → World → Type 0
-Step dir save changes (Publish batch time) r a b = PublishTo None dir changes batch time r a b
-Step dir save changes (KilledPublish batch time calls) r a b =
+abbrev pub Step : List ℕ → List ℕ → List ℕ → List ℕ → Operation → Reply → World → World → Type 0
+Step dir save changes extract (Publish batch time) r a b =
+    PublishTo None dir changes batch time r a b
+Step dir save changes extract (KilledPublish batch time calls) r a b =
     PublishTo (Some calls) dir changes batch time r a b × HasPublishCalls calls r
-Step dir save changes (PublishAs batch time n) r a b =
+Step dir save changes extract (PublishAs batch time n) r a b =
     PublishAsTo None dir changes batch time n r a b
-Step dir save changes (KilledPublishAs batch time n calls) r a b =
+Step dir save changes extract (KilledPublishAs batch time n calls) r a b =
     PublishAsTo (Some calls) dir changes batch time n r a b
-Step dir save changes Follow r a b = FollowTo dir save r a b × IsWhole r
-Step dir save changes (KilledFollow calls) r a b =
+Step dir save changes extract Follow r a b = FollowTo dir save r a b × IsWhole r
+Step dir save changes extract (KilledFollow calls) r a b =
     FollowTo dir save r a b × HasFollowCalls dir save calls r (files_of a.store)
-Step dir save changes (Lose n s) r a b = LoseTo dir n s r a b
-Step dir save changes (PutBack n s) r a b = PutBackTo dir n s r a b
+Step dir save changes extract (FollowSpoiled n s) r a b = SpoiledTo dir save n s r a b × IsWhole r
+Step dir save changes extract (KilledFollowSpoiled n s calls) r a b =
+    SpoiledTo dir save n s r a b × HasSpoiledCalls calls r
+Step dir save changes extract Export r a b = ExportTo save extract r a b × IsWhole r
+Step dir save changes extract (KilledExport calls) r a b =
+    ExportTo save extract r a b × HasCallsOf 2 calls r
+Step dir save changes extract Begin r a b = BeginTo dir save extract r a b × IsWhole r
+Step dir save changes extract (KilledBegin calls) r a b =
+    BeginTo dir save extract r a b × HasCallsOf 3 calls r
+Step dir save changes extract (Lose n s) r a b = LoseTo dir n s r a b
+Step dir save changes extract (PutBack n s) r a b = PutBackTo dir n s r a b

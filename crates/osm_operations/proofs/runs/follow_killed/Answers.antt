@@ -21,7 +21,7 @@ pub returns-clause-lacks : goal.returns-clause-lacks
 returns-clause-lacks c =
     err_map _ _ c.report_of.result (progress_lacks _ _ _ _ c.follow_progress-progress.result c.report_of.result
     c.report_of.ensures c.follow_progress-progress.ensures.over)
-    (λ fault lacks p n folder saved.
+    (λ fault lacks p base n folder saved.
     subst (λ calls. LacksCalls (follow_calls p n) (Some calls) fault) c.fuse_over-fuse.ensures.calls
-    (lacks refl p n (subst (λ (f : Files). IsFolderOf p f c.args.dir.now) (sym c.fuse_over-fuse.ensures.inner) folder)
-    (subst (λ (f : Files). IsSaveOf p n (f c.args.save.now)) (sym c.fuse_over-fuse.ensures.inner) saved)))
+    (lacks refl p base n (subst (λ (f : Files). IsFolderOf p f c.args.dir.now) (sym c.fuse_over-fuse.ensures.inner) folder)
+    (subst (λ (f : Files). IsSaveOf p base n (f c.args.save.now)) (sym c.fuse_over-fuse.ensures.inner) saved)))

@@ -8,14 +8,14 @@ use Rattle.osm_operations.proofs.world.run.Goals as goal
 pub loop-operation-init : goal.loop-operation-init
 loop-operation-init c =
     let none : c.in_ok-replies.replies.items ≡ [] = search rules in
-    let world : World = record { alloc = c.args.alloc; store = c.args.store; lost = c.new.result; published = 0 } in
+    let world : World = record { alloc = c.args.alloc; store = c.args.store; lost = c.new.result; published = 0; exported = 0 } in
     record {
       room = grind (arith, common_steps);
       rest = grind (arith, common_steps);
       many = grind (arith, common_steps);
-      holds = λ apart new. starts_hold c.args.dir.now c.args.save.now c.args.changes.now _ new c.new.ensures refl;
-      run = λ apart new. rw none (holds_at_end [] [] c.args.dir.now c.args.save.now c.args.changes.now (files_of c.args.store) world
-          (starts_hold c.args.dir.now c.args.save.now c.args.changes.now world new c.new.ensures refl));
+      holds = λ apart new. starts_hold c.args.dir.now c.args.save.now c.args.changes.now c.args.extract.now _ new c.new.ensures refl refl;
+      run = λ apart new. rw none (holds_at_end [] [] c.args.dir.now c.args.save.now c.args.changes.now c.args.extract.now (files_of c.args.store) world
+          (starts_hold c.args.dir.now c.args.save.now c.args.changes.now c.args.extract.now world new c.new.ensures refl refl));
     }
 
 pub loop-operation-preserved : goal.loop-operation-preserved
@@ -30,10 +30,12 @@ loop-operation-preserved c =
         history_of-snoc c.loop-operation.yielded c.loop-operation.replies.items
             c.in-Some.operation c.step-reply.result c.loop-operation.invariant.many,
       )
-          (step_holds _ _ _ c.args.dir.now c.args.save.now c.args.changes.now _ _ _ apart (c.loop-operation.invariant.holds apart new) c.step-reply.ensures);
+          (step_holds _ _ _ c.args.dir.now c.args.save.now c.args.changes.now c.args.extract.now _ _ _ apart
+          (c.loop-operation.invariant.holds apart new) c.step-reply.ensures.step c.step-reply.ensures.exported);
       run = λ apart new. rw pushed (holds_at_end (c.loop-operation.yielded ++ c.in-Some.operation ∷ [])
-          (c.loop-operation.replies.items ++ c.step-reply.result ∷ []) c.args.dir.now c.args.save.now c.args.changes.now
+          (c.loop-operation.replies.items ++ c.step-reply.result ∷ []) c.args.dir.now c.args.save.now c.args.changes.now c.args.extract.now
           (files_of c.args.store) c.step-reply.new.self
           (rw (history_of-snoc c.loop-operation.yielded c.loop-operation.replies.items c.in-Some.operation c.step-reply.result c.loop-operation.invariant.many)
-          (step_holds _ _ _ c.args.dir.now c.args.save.now c.args.changes.now _ _ _ apart (c.loop-operation.invariant.holds apart new) c.step-reply.ensures)));
+          (step_holds _ _ _ c.args.dir.now c.args.save.now c.args.changes.now c.args.extract.now _ _ _ apart
+          (c.loop-operation.invariant.holds apart new) c.step-reply.ensures.step c.step-reply.ensures.exported)));
     }

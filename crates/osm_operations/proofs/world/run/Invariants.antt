@@ -12,8 +12,8 @@ invariant-loop-operation l = record {
   room : length l.fn.operations.items ≤ vec_capacity l.replies;
   rest : l.yielded ++ into_iter_items l.operation-iterator ≡ l.fn.operations.items;
   many : length l.replies.items ≡ length l.yielded;
-  holds : AreApart l.fn.dir l.fn.save l.fn.changes → IsNew l.fn.dir l.fn.save (files_of l.fn.store)
-      → Holds (history_of l.yielded l.replies.items) l.fn.dir l.fn.save l.fn.changes (files_of l.fn.store) l.world;
-  run : AreApart l.fn.dir l.fn.save l.fn.changes → IsNew l.fn.dir l.fn.save (files_of l.fn.store)
-      → IsRun l.yielded l.replies.items l.fn.dir l.fn.save l.fn.changes (files_of l.fn.store) (files_of l.world.store);
+  holds : AreApart l.fn.dir l.fn.save l.fn.changes l.fn.extract → IsNew l.fn.dir l.fn.save (files_of l.fn.store)
+      → Holds (history_of l.yielded l.replies.items) l.fn.dir l.fn.save l.fn.changes l.fn.extract (files_of l.fn.store) l.world;
+  run : AreApart l.fn.dir l.fn.save l.fn.changes l.fn.extract → IsNew l.fn.dir l.fn.save (files_of l.fn.store)
+      → IsRun l.yielded l.replies.items l.fn.dir l.fn.save l.fn.changes l.fn.extract (files_of l.fn.store) (files_of l.world.store);
 }

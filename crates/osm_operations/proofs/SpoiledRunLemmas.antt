@@ -1,0 +1,381 @@
+-- A run of the follower while the file of a published sequence is spoiled.
+use Rattle.std.proofs.Common.{◌≡◌, ℕ, zero, suc, ◌+◌, ◌-◌, ◌<◌, ◌≤◌, List, [], ◌∷◌, length, true, false, Option, Some, None, inl, inr, arith, refl, sym, ap, ◌∙◌, subst}
+use Rattle.std.specs.Prelude.{◌⊎◌, filter, is_none, min}
+use Rattle.std.proofs.lemmas.Bool.{cases_eq, cases_lt}
+use Rattle.std.proofs.lemmas.List.Elements.{filter-append}
+use Rattle.std.proofs.lemmas.Option.{same_Some}
+use Rattle.osm_model.specs.Limits.{max_sequence}
+use Rattle.osm_save.specs.Save.{SpellsSave}
+use Rattle.osm_save.specs.declared.save.Saved.{Saved}
+use Rattle.osm_state.specs.State.{StateValue}
+use Rattle.osm_state.specs.StateLaws.{NoFaultBesideState}
+use Rattle.osm_state.specs.declared.paths.Suffix.{Suffix}
+use Rattle.osm_state.specs.declared.paths.Suffix.TheVariants.{O5c, Opl, State}
+use Rattle.osm_follow.specs.Published.{PublishedValue, sequence_at}
+use Rattle.osm_follow.specs.Reach.{numbers}
+use Rattle.osm_folder.specs.Files.{Files, IsOver}
+use Rattle.osm_folder.specs.Folder.{IsAbsentOr, IsApart, IsFile, IsFolderOf, IsStateFile, IsThere}
+use Rattle.osm_folder.specs.Following.{AddsAll, BeyondStops, FollowRefuses, HasState, IsFollowing}
+use Rattle.osm_folder.specs.Following.{IsInStep, IsReached, IsSaveOf, IsStarted, NamesOther, NumberStops, SaveStops, StartStops}
+use Rattle.osm_folder.specs.Following.{is_lost, limit_of, ranges}
+use Rattle.osm_folder.specs.Names.{file_name_of, top_name_of}
+use Rattle.osm_folder.specs.Progress.{BeforeStops, ComesBefore, IsNextAfter, IsOfContent, ProgressStops}
+use Rattle.osm_folder.specs.Reports.{ReportValue, follow_report_of}
+use Rattle.osm_folder.specs.declared.fault.FileName.TheVariants.{Top, Sequence, Save}
+use Rattle.osm_folder.specs.declared.fault.RunFault.{RunFault}
+use Rattle.osm_folder.specs.declared.fault.RunFault.TheVariants.{WantOfMemory, ReadFault, WriteFault, TooLarge, Absent}
+use Rattle.osm_folder.specs.declared.fault.RunFault.TheVariants.{BadState, Mismatch, BadChange, BadSave, TopBehind}
+use Rattle.osm_folder.proofs.InStepLemmas.{all_in_step, not_bad, not_faulty, not_faulty_opl, not_other, not_over, one_saved, reached_of, top_number}
+use Rattle.osm_folder.proofs.NameLemmas.{top_is_no_file}
+use Rattle.osm_folder.proofs.StopLemmas.{follow_refuses}
+use Rattle.osm_folder.proofs.TakingLemmas.{adds_has, adds_number, has_not_lost}
+use Rattle.osm_operations.specs.Spoiling.{IsSpoiledFault, spoiled}
+use Rattle.osm_operations.proofs.SpoiledLemmas.{IsSpoiled, lost_alike, no_state, other_number, other_suffix, suffix_cases, there_same}
+use Rattle.osm_operations.proofs.SpoiledLemmas.{unread_among, unspoiled_all}
+
+-- when a file of number k is read, if its turn comes: a change file only if the state is there, and the OPL file only if
+-- there is no o5c file
+abbrev pub IsReadAt : Files → List ℕ → ℕ → Suffix → Type 0
+IsReadAt files dir k State = Unit {0}
+IsReadAt files dir k O5c = is_none (files (file_name_of dir k State)) ≡ false
+IsReadAt files dir k Opl =
+    (is_none (files (file_name_of dir k State)) ≡ false) × (is_none (files (file_name_of dir k O5c)) ≡ true)
+
+short : (s : Suffix) (told : Option (List ℕ)) → told ≡ Some spoiled → IsOver (limit_of s) told → ⊥
+short State told e over =
+    let long = ap length (same_Some spoiled over.bytes (sym e ∙ over.there)) in
+    let past = over.over in
+    omega (arith, long, past)
+short O5c told e over =
+    let long = ap length (same_Some spoiled over.bytes (sym e ∙ over.there)) in
+    let past = over.over in
+    omega (arith, long, past)
+short Opl told e over =
+    let long = ap length (same_Some spoiled over.bytes (sym e ∙ over.there)) in
+    let past = over.over in
+    omega (arith, long, past)
+
+there_some : (told : Option (List ℕ)) (holds : List ℕ → Type 0) → IsThere told holds → is_none told ≡ false
+there_some None holds h = absurd h
+there_some (Some bytes) holds h = refl
+
+-- what a run saved that came to the number before the spoiled file, and what it reports
+pub record IsSpoiledBefore (ps : List PublishedValue) (base number : ℕ) (dir : List ℕ) (k : ℕ) (s : Suffix) (old : Files)
+    (fault : RunFault) (text : List ℕ) (report : ReportValue) : Type 0 where
+  pub count : ℕ
+  pub value : Saved
+  pub spelled : SpellsSave text value
+  pub base_is : value.base ≡ base
+  pub value_is : value.number ≡ number + suc count
+  pub next_is : k ≡ number + suc count + 1
+  pub in_step : IsInStep ps value
+  pub each : (j : ℕ) → number < j → j < k → is_lost old dir j ≡ false
+  pub fault_is : IsSpoiledFault k s fault
+  pub read : IsReadAt old dir k s
+  pub report_is : report ≡ follow_report_of (ranges number (suc count)) [] (number + suc count)
+
+-- a number that was taken isn't lost
+taken_right : (files : Files) (dir : List ℕ) (count : ℕ) (a b : Saved) → AddsAll files dir count a b → (j : ℕ) → a.number < j
+    → j ≤ a.number + count → is_lost files dir j ≡ false
+taken_right files dir count a b added j above within =
+    let h = adds_has files dir count a b added j above within in
+    subst (λ n. is_lost files dir n ≡ false) h.1 (has_not_lost files dir h.0 h.2)
+
+-- the base stays
+all_base : (files : Files) (dir : List ℕ) (count : ℕ) (a b : Saved) → AddsAll files dir count a b → b.base ≡ a.base
+all_base files dir zero a b added = ap (λ (v : Saved). v.base) added
+all_base files dir (suc count) a b (between, first, last) = last.base ∙ all_base files dir count a between first
+
+-- the folder and the save that a run finds, but for the spoiled file of number k
+pub record IsSpoiledFolder (ps : List PublishedValue) (base number : ℕ) (dir save : List ℕ) (k : ℕ) (s : Suffix)
+    (old new : Files) : Type 0 where
+  pub folder : IsFolderOf ps old dir
+  pub saved : IsSaveOf ps base number (old save)
+  pub apart : IsApart dir save
+  pub above : 0 < k
+  pub within : k ≤ length ps
+  pub is : IsSpoiled dir k s old new
+
+few_over : {ps : List PublishedValue} {base number : ℕ} {dir save : List ℕ} {k : ℕ} {s : Suffix} {old new : Files}
+    → IsSpoiledFolder ps base number dir save k s old new → length ps ≤ max_sequence
+few_over {ps = ps} o =
+    let above = o.above in
+    let within = o.within in
+    (o.folder.sequences (length ps) (omega (arith, above, within)) (omega arith)).most
+
+module _ (ps : List PublishedValue) (base number : ℕ) (dir save : List ℕ) (k : ℕ) (s : Suffix) (old new : Files)
+    (o : IsSpoiledFolder ps base number dir save k s old new) where
+  save_same : new save ≡ old save
+  save_same = o.is.put.others save (λ e. o.apart.each k s o.is.most e)
+
+  top_same : new (top_name_of dir) ≡ old (top_name_of dir)
+  top_same = o.is.put.others (top_name_of dir) (λ e. top_is_no_file dir k s e)
+
+  start_same : (start : Saved) (top : StateValue) → IsStarted dir save new start top → IsStarted dir save old start top
+  start_same start top started = record { saved = rw (← save_same) started.saved; top_is = rw (← top_same) started.top_is }
+
+  -- a run starts at the save's number and the last published one
+  pub number_is : (start : Saved) (top : StateValue) → IsStarted dir save new start top → start.number ≡ number
+  number_is start top started =
+      ap (λ (v : Saved). v.number) (one_saved (old save) start o.saved.value (start_same start top started).saved o.saved.saved)
+      ∙ o.saved.number_is
+
+  step_is : (start : Saved) (top : StateValue) → IsStarted dir save new start top → IsInStep ps start
+  step_is start top started =
+      rw (one_saved (old save) start o.saved.value (start_same start top started).saved o.saved.saved) o.saved.in_step
+
+  base_is : (start : Saved) (top : StateValue) → IsStarted dir save new start top → start.base ≡ base
+  base_is start top started =
+      ap (λ (v : Saved). v.base) (one_saved (old save) start o.saved.value (start_same start top started).saved o.saved.saved)
+      ∙ o.saved.base_is
+
+  top_is : (start : Saved) (top : StateValue) → IsStarted dir save new start top → top.sequence ≡ length ps
+  top_is start top started =
+      top_number ps (old (top_name_of dir)) top o.folder.sequences o.folder.top (start_same start top started).top_is
+
+  -- ---- a run that isn't stopped by the spoiled file
+
+  reached_same : (reached top : ℕ) → reached ≤ top → top ≤ max_sequence → IsReached new dir reached top → IsReached old dir reached top
+  reached_same reached top until most far = elim (cases_lt reached top) [
+    | inr past ↦ inl (omega (arith, until, past))
+    | inl below ↦ elim far [
+      | inl e ↦ inl e
+      | inr lost ↦ inr (sym (lost_alike dir k (reached + 1) s old new o.is (omega (arith, below, most))) ∙ lost)
+    ]
+  ]
+
+  lost_same : (n count : ℕ) → n + count ≤ max_sequence → filter (is_lost new dir) (numbers n count) ≡ filter (is_lost old dir) (numbers n count)
+  lost_same n zero most = refl
+  lost_same n (suc count) most =
+      rw (
+        filter-append (is_lost new dir) (numbers n count) ((n + suc count) ∷ []),
+        filter-append (is_lost old dir) (numbers n count) ((n + suc count) ∷ []),
+        lost_same n count (omega (arith, most)),
+        lost_alike dir k (n + suc count) s old new o.is (omega (arith, most)),
+      ) refl
+
+  pub same_run : (text : List ℕ) (report : ReportValue) → IsFollowing dir save new text report → IsFollowing dir save old text report
+  same_run text report run =
+      let most = few_over o in
+      let top = top_is run.start run.top run.started in
+      let until = run.goes_on.until in
+      let sum = run.goes_on.number in
+      let n = run.reached.number in
+      let last = min_within n run.top.sequence in
+      record {
+        start = run.start;
+        top = run.top;
+        started = start_same run.start run.top run.started;
+        count = run.count;
+        reached = run.reached;
+        goes_on = record {
+          added = unspoiled_all dir k s old new run.count run.start run.reached o.is (omega (arith, sum, until, top, most)) run.goes_on.added;
+          number = sum;
+          until = until;
+          far = reached_same n run.top.sequence until (omega (arith, top, most)) run.goes_on.far;
+        };
+        spelled = run.spelled;
+        report_is = run.report_is ∙ ap (λ xs. follow_report_of (ranges run.start.number run.count) xs n)
+            (lost_same n (min 64 (run.top.sequence - n)) (omega (arith, last, until, top, most)));
+      }
+    where
+      min_within : (a b : ℕ) → min 64 (b - a) ≤ b - a
+      min_within a b = grind (arith)
+
+  -- the spoiled file isn't one that such a run reads
+  pub unread : (text : List ℕ) (report : ReportValue) (run : IsFollowing dir save new text report) → number < k → k ≤ number + run.count
+      → (s ≡ Opl) × (is_none (old (file_name_of dir k O5c)) ≡ false)
+  unread text report run above until =
+      let most = few_over o in
+      let top = top_is run.start run.top run.started in
+      let from = number_is run.start run.top run.started in
+      let below = run.goes_on.until in
+      let sum = run.goes_on.number in
+      unread_among dir k s old new run.count run.start run.reached o.is (omega (arith, sum, below, top, most)) run.goes_on.added
+      (omega (arith, from, above)) (omega (arith, from, until))
+
+  -- ---- faults in files
+
+  -- a file of a published number is right, or it is the spoiled one
+  right_or_spoiled : (j : ℕ) (t : Suffix) → 0 < j → j ≤ length ps
+      → IsAbsentOr (new (file_name_of dir j t)) (IsFile t (sequence_at ps j))
+      ⊎ ((j ≡ k) × (t ≡ s) × (new (file_name_of dir j t) ≡ Some spoiled))
+  right_or_spoiled j t above until =
+      let most = few_over o in
+      let right : IsAbsentOr (old (file_name_of dir j t)) (IsFile t (sequence_at ps j)) = o.folder.each j t above until in
+      elim (cases_eq j k) [
+        | inr apart ↦ inl (rw (other_number dir k j s t old new o.is (omega (arith, until, most)) apart) right)
+        | inl same ↦ elim (suffix_cases t s) [
+          | inr apart ↦ inl (rw (other_suffix dir k j s t old new o.is (omega (arith, until, most)) apart) right)
+          | inl too ↦ inr (same, too, rw (same, too) o.is.put.there)
+        ]
+      ]
+
+  state_there : is_none (new (file_name_of dir k State)) ≡ false → (s ≡ State → ⊥) → is_none (old (file_name_of dir k State)) ≡ false
+  state_there h apart = sym (ap is_none (other_suffix dir k k s State old new o.is o.is.most (λ e. apart (sym e)))) ∙ h
+
+  state_at : (j : ℕ) → j ≡ k → HasState new dir j → is_none (new (file_name_of dir k State)) ≡ false
+  state_at j same has =
+      there_some (new (file_name_of dir k State)) (IsStateFile k has.0)
+      (subst (λ n. IsThere (new (file_name_of dir n State)) (IsStateFile n has.0)) same has.1)
+
+  o5c_gone : is_none (new (file_name_of dir k O5c)) ≡ true → is_none (old (file_name_of dir k O5c)) ≡ true
+  o5c_gone h = sym (there_same dir k k s O5c old new o.is o.is.most) ∙ h
+
+  -- what a file holds is a reason to stop only if it is the spoiled one, and was read
+  pub content_stops : NoFaultBesideState → (known : Type 0) → known → (j : ℕ) → 0 < j → j ≤ length ps → (fault : RunFault)
+      → NumberStops known dir new j fault → (m : ℕ) → IsOfContent fault m
+      → (j ≡ k) × IsSpoiledFault k s fault × IsReadAt old dir k s
+  content_stops law known sure j above until (TooLarge (Sequence i t)) h m content = elim (right_or_spoiled j t above until) [
+    | inl right ↦ absurd (not_over (sequence_at ps j) t (new (file_name_of dir j t)) right (h.1 sure).1)
+    | inr it ↦ absurd (short t (new (file_name_of dir j t)) it.2 (h.1 sure).1)
+  ]
+  content_stops law known sure j above until (BadState (Sequence i State) cause) h m content = elim (right_or_spoiled j State above until) [
+    | inl right ↦ absurd (not_bad law (sequence_at ps j) (new (file_name_of dir j State)) cause right (h.1 sure))
+    | inr it ↦ (it.0, (h.0 ∙ it.0, sym it.1), subst (IsReadAt old dir k) it.1 tt)
+  ]
+  content_stops law known sure j above until (Mismatch i) h m content = elim (right_or_spoiled j State above until) [
+    | inl right ↦ absurd (not_other (sequence_at ps j) (new (file_name_of dir j State)) j (o.folder.sequences j above until).number_is right (h.1 sure))
+    | inr it ↦ absurd (no_other (new (file_name_of dir j State)) j it.2 (h.1 sure))
+  ]
+    where
+      no_other : (told : Option (List ℕ)) (n : ℕ) → told ≡ Some spoiled → NamesOther told n → ⊥
+      no_other told n e other = no_state _ (rw e at other.3).names
+  content_stops law known sure j above until (BadChange (Sequence i O5c) place why) h m content = elim (right_or_spoiled j O5c above until) [
+    | inl right ↦ absurd (not_faulty (sequence_at ps j) (new (file_name_of dir j O5c)) place right (h.1 sure).1)
+    | inr it ↦ (
+      it.0,
+      (h.0 ∙ it.0, sym it.1),
+      subst (IsReadAt old dir k) it.1 (state_there (state_at j it.0 (h.1 sure).0) (λ e. let bad : O5c ≡ State = it.1 ∙ e in cc)),
+    )
+  ]
+  content_stops law known sure j above until (BadChange (Sequence i Opl) place why) h m content = elim (right_or_spoiled j Opl above until) [
+    | inl right ↦ absurd (not_faulty_opl (sequence_at ps j) (new (file_name_of dir j Opl)) place right (h.1 sure).1)
+    | inr it ↦ (
+      it.0,
+      (h.0 ∙ it.0, sym it.1),
+      subst (IsReadAt old dir k) it.1 (
+        state_there (state_at j it.0 (h.1 sure).0.0) (λ e. let bad : Opl ≡ State = it.1 ∙ e in cc),
+        o5c_gone (ap is_none (subst (λ n. new (file_name_of dir n O5c) ≡ None) it.0 (h.1 sure).0.1)),
+      ),
+    )
+  ]
+  content_stops law known sure j above until (BadChange (Sequence i State) place why) h m content = absurd h
+  content_stops law known sure j above until fault h m content = absurd content
+
+  -- what comes before the spoiled file
+  pub before : NoFaultBesideState → (known : Type 0) → known → (fault : RunFault) (text : List ℕ) (report : ReportValue)
+      → ComesBefore known dir save new fault text report → IsSpoiledBefore ps base number dir k s old fault text report
+  before law known sure fault text report c =
+      let most = few_over o in
+      let top = top_is c.start c.top c.started in
+      let from = number_is c.start c.top c.started in
+      let sum = adds_number new dir (suc c.count) c.start c.reached c.added in
+      let below = c.below in
+      let faulty = content_stops law known sure (c.reached.number + 1) (omega arith) (omega (arith, below, top)) fault c.stops
+      (c.reached.number + 1) c.content in
+      let at : c.reached.number + 1 ≡ k = faulty.0 in
+      let added = unspoiled_all dir k s old new (suc c.count) c.start c.reached o.is (omega (arith, sum, below, top, most)) c.added in
+      let value_is : c.reached.number ≡ number + suc c.count = omega (arith, sum, from) in
+      record {
+        count = c.count;
+        value = c.reached;
+        spelled = c.spelled;
+        base_is = all_base old dir (suc c.count) c.start c.reached added ∙ base_is c.start c.top c.started;
+        value_is = value_is;
+        next_is = omega (arith, at, value_is);
+        in_step = all_in_step ps old dir (suc c.count) c.start c.reached o.folder (omega (arith, sum, below, top)) added (step_is c.start c.top c.started);
+        each = λ j past under.
+            taken_right old dir (suc c.count) c.start c.reached added j (omega (arith, from, past)) (omega (arith, from, under, at, value_is));
+        fault_is = faulty.1;
+        read = faulty.2;
+        report_is = c.report_is ∙ (ap (λ (n : ℕ). follow_report_of (ranges n (suc c.count)) [] c.reached.number) from
+            ∙ ap (λ (n : ℕ). follow_report_of (ranges number (suc c.count)) [] n) value_is);
+      }
+
+  -- ---- why the word stops
+
+  start_over : (known : Type 0) (fault : RunFault) → StartStops known dir save new fault → StartStops known dir save old fault
+  start_over known WantOfMemory h = tt
+  start_over known (ReadFault Save) h = tt
+  start_over known (TooLarge Save) h = λ yes. rw (← save_same) (h yes)
+  start_over known (BadSave line) h = λ yes. rw (← save_same) (h yes)
+  start_over known (ReadFault Top) h = λ yes. ((h yes).0, rw (← save_same) (h yes).1)
+  start_over known (Absent Top) h = λ yes. (((h yes).0.0, rw (← save_same) (h yes).0.1), rw (← top_same) (h yes).1)
+  start_over known (TooLarge Top) h = λ yes. (((h yes).0.0, rw (← save_same) (h yes).0.1), rw (← top_same) (h yes).1)
+  start_over known (BadState Top cause) h = λ yes. (((h yes).0.0, rw (← save_same) (h yes).0.1), rw (← top_same) (h yes).1)
+  start_over known TopBehind h = λ yes. (let b = h yes in record {
+    start = b.start;
+    top = b.top;
+    started = start_same b.start b.top b.started;
+    below = b.below;
+  })
+  start_over known fault h = absurd h
+
+  save_refuses : (known : Type 0) → known → (fault : RunFault) → SaveStops known dir save new fault → FollowRefuses ps (old save) fault
+  save_refuses known sure WantOfMemory h = tt
+  save_refuses known sure (TooLarge Save) h =
+      let t = h sure in
+      let r = reached_of ps base number dir save old t.0 t.1 o.folder o.saved (same_run t.0 t.1 t.2) in
+      (refl, inr (r.value, t.0, r.in_step, r.spelled, t.3))
+  save_refuses known sure (WriteFault Save) h = refl
+  save_refuses known sure fault h = absurd h
+
+  before_refuses : NoFaultBesideState → (known : Type 0) → known → (fault : RunFault) → BeforeStops known dir save new fault
+      → FollowRefuses ps (old save) fault
+  before_refuses law known sure (TooLarge Save) h =
+      let t = h sure in
+      let b = before law known sure t.0 t.1 t.2 t.3 in
+      (refl, inr (b.value, t.1, b.in_step, b.spelled, t.4))
+  before_refuses law known sure (WriteFault Save) h = refl
+  before_refuses law known sure fault h = absurd h
+
+  beyond_refuses : (known : Type 0) (fault : RunFault) → BeyondStops known dir save new fault → FollowRefuses ps (old save) fault
+  beyond_refuses known WantOfMemory h = tt
+  beyond_refuses known (ReadFault (Sequence j t)) h = tt
+  beyond_refuses known fault h = absurd h
+
+  -- a file that is no reason to stop a run, or is the spoiled one of the next number
+  abbrev IsNextSpoiled : RunFault → Type 0
+  IsNextSpoiled fault = (k ≡ number + 1) × IsSpoiledFault k s fault × IsReadAt old dir k s
+
+  next_spoiled : NoFaultBesideState → (known : Type 0) → known → (j : ℕ) → 0 < j → j ≤ length ps → (fault : RunFault)
+      → NumberStops known dir new j fault → (m : ℕ) → m ≡ j → IsOfContent fault m → IsNextAfter save new m → IsNextSpoiled fault
+  next_spoiled law known sure j above until fault h m same content next =
+      let at = content_stops law known sure j above until fault h m content in
+      let v : next.0.number ≡ number =
+      ap (λ (x : Saved). x.number) (one_saved (new save) next.0 o.saved.value next.1 (rw save_same o.saved.saved)) ∙ o.saved.number_is in
+      (sym at.0 ∙ (sym same ∙ (next.2 ∙ ap (λ (n : ℕ). n + 1) v)), at.1, at.2)
+
+  number_refuses : NoFaultBesideState → (known : Type 0) → known → (j : ℕ) → 0 < j → j ≤ length ps → (fault : RunFault)
+      → NumberStops known dir new j fault → ((m : ℕ) → IsOfContent fault m → IsNextAfter save new m)
+      → FollowRefuses ps (old save) fault ⊎ IsNextSpoiled fault
+  number_refuses law known sure j above until WantOfMemory h next = inl tt
+  number_refuses law known sure j above until (ReadFault (Sequence i t)) h next = inl tt
+  number_refuses law known sure j above until (TooLarge (Sequence i t)) h next =
+      inr (next_spoiled law known sure j above until (TooLarge (Sequence i t)) h i h.0 refl (next i refl))
+  number_refuses law known sure j above until (BadState (Sequence i State) cause) h next =
+      inr (next_spoiled law known sure j above until (BadState (Sequence i State) cause) h i h.0 refl (next i refl))
+  number_refuses law known sure j above until (Mismatch i) h next =
+      inr (next_spoiled law known sure j above until (Mismatch i) h i h.0 refl (next i refl))
+  number_refuses law known sure j above until (BadChange (Sequence i O5c) place why) h next =
+      inr (next_spoiled law known sure j above until (BadChange (Sequence i O5c) place why) h i h.0 refl (next i refl))
+  number_refuses law known sure j above until (BadChange (Sequence i Opl) place why) h next =
+      inr (next_spoiled law known sure j above until (BadChange (Sequence i Opl) place why) h i h.0 refl (next i refl))
+  number_refuses law known sure j above until fault h next = absurd h
+
+  -- for what stops a run over the folder, or for the spoiled file of the next number
+  pub progress_stops : NoFaultBesideState → (known : Type 0) → known → (fault : RunFault) → ProgressStops known dir save new fault
+      → FollowRefuses ps (old save) fault ⊎ ((k ≡ number + 1) × IsSpoiledFault k s fault × IsReadAt old dir k s)
+  progress_stops law known sure fault (inr b) = inl (before_refuses law known sure fault b)
+  progress_stops law known sure fault (inl f) = elim f.stops [
+    | inl a ↦ inl (follow_refuses law known ps base number dir save old fault sure o.folder o.saved (inl (start_over known fault a)))
+    | inr (inl at) ↦ (
+        let c = at.comes sure in
+        let above = c.above in
+        let until = c.until in
+        let top = top_is c.start c.top c.started in
+        number_refuses law known sure at.number (omega (arith, above)) (omega (arith, until, top)) fault at.stops (f.next sure))
+    | inr (inr (inl b)) ↦ inl (beyond_refuses known fault b)
+    | inr (inr (inr w)) ↦ inl (save_refuses known sure fault w)
+  ]

@@ -1,0 +1,21 @@
+use Rattle.std.proofs.Common.{refl, ◌∙◌}
+use Rattle.osm_folder.specs.Stores.{files_of, memory_state}
+use Rattle.osm_operations.proofs.RunLemmas.{begin_step, replaced_no_device}
+use Rattle.osm_operations.proofs.runs.begin.Goals as goal
+
+pub returns-clause-step : goal.returns-clause-step
+returns-clause-step c =
+    begin_step c.args.dir.now c.args.number c.args.extract.now c.as_str.result.now c.args.save.now (files_of c.args.store.now)
+    (files_of c.begin_run.new.store) (files_of c.args.store.now) (files_of c.begin_run.new.store) c.begin_run.result
+    (c.as_str.ensures.value ∙ c.in_ok-state.ensures) refl refl (record {
+      begun = c.begin_run.ensures.begun;
+      in_step = c.begin_run.ensures.in_step;
+      stops = c.begin_run.ensures.stops;
+      kept = c.begin_run.ensures.frame.files;
+      law = c.laws_of_state.ensures.no_fault_beside_state;
+    })
+
+pub returns-clause-device : goal.returns-clause-device
+returns-clause-device c =
+    replaced_no_device 3 (memory_state c.args.store.now) (memory_state c.begin_run.new.store) c.begin_run.result refl refl
+    c.begin_run.ensures.frame

@@ -1,0 +1,29 @@
+use Rattle.std.proofs.Common.{Some, ap, refl, ◌∙◌}
+use Rattle.osm_folder.specs.Stores.{files_of, fuse_state, memory_state}
+use Rattle.osm_operations.proofs.RunLemmas.{begin_step, replaced_calls, replaced_lacks}
+use Rattle.osm_operations.proofs.runs.begin_killed.Goals as goal
+
+pub returns-clause-step : goal.returns-clause-step
+returns-clause-step c =
+    begin_step c.args.dir.now c.args.number c.args.extract.now c.as_str.result.now c.args.save.now (files_of c.args.store.now)
+    (files_of c.begin_run-answer.new.store.inner) (files_of c.fuse_over-fuse.result.inner) (files_of c.into_inner.result)
+    c.begin_run-answer.result (c.as_str.ensures.value ∙ c.in_ok-state.ensures) c.fuse_over-fuse.ensures.inner
+    (ap files_of c.into_inner.ensures) (record {
+      begun = c.begin_run-answer.ensures.begun;
+      in_step = c.begin_run-answer.ensures.in_step;
+      stops = c.begin_run-answer.ensures.stops;
+      kept = c.begin_run-answer.ensures.frame.files;
+      law = c.laws_of_state.ensures.no_fault_beside_state;
+    })
+
+pub returns-clause-left : goal.returns-clause-left
+returns-clause-left c =
+    replaced_calls 3 c.args.calls (fuse_state memory_state c.fuse_over-fuse.result)
+    (fuse_state memory_state c.begin_run-answer.new.store) c.begin_run-answer.result (ap Some c.fuse_over-fuse.ensures.calls)
+    c.begin_run-answer.ensures.frame
+
+pub returns-clause-lacks : goal.returns-clause-lacks
+returns-clause-lacks c =
+    replaced_lacks 3 c.args.calls (fuse_state memory_state c.fuse_over-fuse.result)
+    (fuse_state memory_state c.begin_run-answer.new.store) c.begin_run-answer.result refl (ap Some c.fuse_over-fuse.ensures.calls)
+    c.begin_run-answer.ensures.frame

@@ -1,0 +1,20 @@
+use Rattle.std.proofs.Common.{refl}
+use Rattle.osm_folder.specs.Stores.{files_of, memory_state}
+use Rattle.osm_operations.proofs.RunLemmas.{export_step, replaced_no_device}
+use Rattle.osm_operations.proofs.runs.export.Goals as goal
+
+pub returns-clause-step : goal.returns-clause-step
+returns-clause-step c =
+    export_step c.args.save.now c.args.extract.now (files_of c.args.store.now) (files_of c.export_run.new.store)
+    (files_of c.args.store.now) (files_of c.export_run.new.store) c.export_run.result refl refl (record {
+      exported = c.export_run.ensures.exported;
+      in_step = c.export_run.ensures.in_step;
+      report = c.export_run.ensures.report;
+      stops = c.export_run.ensures.stops;
+      kept = c.export_run.ensures.frame.files;
+    })
+
+pub returns-clause-device : goal.returns-clause-device
+returns-clause-device c =
+    replaced_no_device 2 (memory_state c.args.store.now) (memory_state c.export_run.new.store) c.export_run.result refl refl
+    c.export_run.ensures.frame
