@@ -9,7 +9,7 @@ use Rattle.osm_model.specs.KeyOrder.{key_cmp}
 use Rattle.osm_model.specs.Limits.{max_file}
 use Rattle.osm_model.specs.declared.kind.Key.{Key}
 use Rattle.osm_mirror.specs.Mirror.{IsMirrorOf}
-use Rattle.osm_follow.specs.Published.{PublishedValue, changes_up_to}
+use Rattle.osm_follow.specs.Published.{PublishedValue, changes_after, changes_up_to}
 use Rattle.osm_folder.specs.DataForms.{HasDataEnd, data_text_of}
 use Rattle.osm_folder.specs.Exporting.{ExportStops, HasDataForm, Holds, IsExportOf, IsExportable, IsExported}
 use Rattle.osm_folder.specs.Files.{Files, Puts}
@@ -79,18 +79,19 @@ exported_of save output bytes text old new form objects end there small read tex
   put = subst (λ (t : List ℕ). Puts old output (Some t) new) (text_is ∙ ap (data_text_of form) read.objects_are) put;
 }
 
-pub export_of : (ps : List PublishedValue) (number : ℕ) (save output : List ℕ) (old new : Files)
-    → IsSaveOf ps number (old save) → IsExported save output old new → IsExportOf ps number output (new output)
-export_of ps number save output old new saved done =
+pub export_of : (ps : List PublishedValue) (base number : ℕ) (save output : List ℕ) (old new : Files)
+    → IsSaveOf ps base number (old save) → IsExported save output old new → IsExportOf ps number output (new output)
+export_of ps base number save output old new saved done =
     let held = done.made.held in
     let here : IsSaved (old save) held.saved = rw held.there (held.small, held.spelled) in
     let same : held.saved ≡ saved.value = one_saved (old save) held.saved saved.value here saved.saved in
-    let mirror : IsMirrorOf (changes_up_to ps number) (changes_up_to ps number) held.saved.mirror =
+    let mirror : IsMirrorOf (changes_up_to ps number) (changes_after ps saved.value.base number) held.saved.mirror =
     rw (same, ← saved.number_is) saved.in_step.mirror in
     record {
       named = done.made.named;
       objects = held.saved.mirror.objects;
       are_data = done.are_data;
+      fits = done.made.fits;
       content = mirror.objects;
       text = done.put.there;
     }

@@ -15,8 +15,8 @@ use Rattle.osm_state.specs.StateLaws.{NoFaultBesideState}
 use Rattle.osm_state.specs.declared.paths.Suffix.{Suffix}
 use Rattle.osm_state.specs.declared.paths.Suffix.TheVariants.{O5c, Opl, State}
 use Rattle.osm_state.specs.declared.state_text.StateError.{StateError}
-use Rattle.osm_follow.proofs.PublishedLemmas.{changes_next, time_next}
-use Rattle.osm_follow.specs.Published.{AreSequences, PublishedValue, changes_at, changes_up_to, sequence_at}
+use Rattle.osm_follow.proofs.PublishedLemmas.{after_next, changes_next, time_next}
+use Rattle.osm_follow.specs.Published.{AreSequences, PublishedValue, changes_after, changes_at, changes_up_to, sequence_at}
 use Rattle.osm_folder.specs.Files.{Files, IsOver}
 use Rattle.osm_folder.specs.Folder.{IsAbsentOr, IsFile, IsFolderOf, IsStateFile, IsThere, IsTop}
 use Rattle.osm_folder.specs.Following.{Adds, AddsAll, AreChanges, IsFollowed, IsFollowing, IsInStep, IsInStepAfter}
@@ -68,14 +68,18 @@ step_in_step ps files dir old new folder within add step =
     let changes : add.next.changes ≡ changes_at ps add.next.number =
     same_changes _ _ add.next (sequence_at ps add.next.number) add.there.changes
     (folder.each add.next.number O5c above at) (folder.each add.next.number Opl above at) in
-    let grown : IsMirrorOf (changes_up_to ps old.number ++ add.next.changes) (changes_up_to ps old.number ++ add.next.changes) new.mirror =
-    mirror_grown old.mirror new.mirror (changes_up_to ps old.number) (changes_up_to ps old.number) add.next.changes step.mirror add.applied in
+    let grown : IsMirrorOf (changes_up_to ps old.number ++ add.next.changes) (changes_after ps old.base old.number ++ add.next.changes) new.mirror =
+    mirror_grown old.mirror new.mirror (changes_up_to ps old.number) (changes_after ps old.base old.number) add.next.changes step.mirror add.applied in
     let joined : changes_up_to ps add.next.number ≡ changes_up_to ps old.number ++ add.next.changes =
     changes_next ps old.number add.next.number is at ∙ ap (λ cs. changes_up_to ps old.number ++ cs) (sym changes) in
+    let below = step.base in
+    let same_base = add.base in
+    let counted : changes_after ps old.base add.next.number ≡ changes_after ps old.base old.number ++ add.next.changes =
+    after_next ps old.base old.number add.next.number is below at ∙ ap (λ cs. changes_after ps old.base old.number ++ cs) (sym changes) in
     record {
       within = rw add.number at;
-      base = add.base ∙ step.base;
-      mirror = rw (add.number, joined) grown;
+      base = rw (add.number, same_base) (omega (arith, is, below));
+      mirror = rw (add.number, same_base, joined, counted) grown;
       time = add.time ∙ (ap (λ (n : ℕ). Some n) time ∙ rw add.number (sym (time_next ps old.number add.next.number is)));
     }
 
@@ -89,20 +93,26 @@ all_in_step ps files dir (suc count) old new folder within (between, before, las
     step_in_step ps files dir between new folder (omega (arith, number)) last
     (all_in_step ps files dir count old between folder (omega arith) before step)
 
+-- the base stays
+all_base : (files : Files) (dir : List ℕ) (count : ℕ) (old new : Saved) → AddsAll files dir count old new → new.base ≡ old.base
+all_base files dir zero old new add = ap (λ (v : Saved). v.base) add
+all_base files dir (suc count) old new (between, before, last) = last.base ∙ all_base files dir count old between before
+
 -- what a run reaches over the folder of published sequences, from a save in step with them
-pub record Reached (ps : List PublishedValue) (dir save : List ℕ) (files : Files) (number : ℕ) (text : List ℕ) (report : ReportValue) : Type 0 where
+pub record Reached (ps : List PublishedValue) (dir save : List ℕ) (files : Files) (base number : ℕ) (text : List ℕ) (report : ReportValue) : Type 0 where
   pub count : ℕ
   pub value : Saved
   pub spelled : SpellsSave text value
+  pub base_is : value.base ≡ base
   pub value_is : value.number ≡ number + count
   pub in_step : IsInStep ps value
   pub far : (number + count ≡ length ps) ⊎ (is_lost files dir (number + count + 1) ≡ true)
   pub report_is : report ≡ follow_report_of (ranges number count) (lost_numbers files dir (number + count) (length ps)) (number + count)
 
-pub reached_of : (ps : List PublishedValue) (number : ℕ) (dir save : List ℕ) (files : Files) (text : List ℕ)
-    (report : ReportValue) → IsFolderOf ps files dir → IsSaveOf ps number (files save)
-    → IsFollowing dir save files text report → Reached ps dir save files number text report
-reached_of ps number dir save files text report folder saved run =
+pub reached_of : (ps : List PublishedValue) (base number : ℕ) (dir save : List ℕ) (files : Files) (text : List ℕ)
+    (report : ReportValue) → IsFolderOf ps files dir → IsSaveOf ps base number (files save)
+    → IsFollowing dir save files text report → Reached ps dir save files base number text report
+reached_of ps base number dir save files text report folder saved run =
     let same : run.start ≡ saved.value = one_saved (files save) run.start saved.value run.started.saved saved.saved in
     let start_is : run.start.number ≡ number = ap (λ (v : Saved). v.number) same ∙ saved.number_is in
     let top_is : run.top.sequence ≡ length ps = top_number ps (files (top_name_of dir)) run.top folder.sequences folder.top run.started.top_is in
@@ -114,6 +124,7 @@ reached_of ps number dir save files text report folder saved run =
       count = run.count;
       value = run.reached;
       spelled = run.spelled;
+      base_is = all_base files dir run.count run.start run.reached run.goes_on.added ∙ (ap (λ (v : Saved). v.base) same ∙ saved.base_is);
       value_is = value_is;
       in_step = all_in_step ps files dir run.count run.start run.reached folder (omega (arith, sum, until, top_is)) run.goes_on.added step;
       far = elim run.goes_on.far [
@@ -123,16 +134,17 @@ reached_of ps number dir save files text report folder saved run =
       report_is = rw (← value_is, ← top_is, ← start_is) run.report_is;
     }
 
-pub in_step_after : (ps : List PublishedValue) (number : ℕ) (dir save : List ℕ) (old new : Files) (report : ReportValue)
-    → IsFolderOf ps old dir → IsSaveOf ps number (old save) → IsFollowed dir save old new report
-    → IsInStepAfter ps number dir save old new report
-in_step_after ps number dir save old new report folder saved run =
-    let r = reached_of ps number dir save old run.text report folder saved run.following in
+pub in_step_after : (ps : List PublishedValue) (base number : ℕ) (dir save : List ℕ) (old new : Files) (report : ReportValue)
+    → IsFolderOf ps old dir → IsSaveOf ps base number (old save) → IsFollowed dir save old new report
+    → IsInStepAfter ps base number dir save old new report
+in_step_after ps base number dir save old new report folder saved run =
+    let r = reached_of ps base number dir save old run.text report folder saved run.following in
     record {
       count = r.count;
       saved = record {
         value = r.value;
         saved = rw run.put.there (run.small, r.spelled);
+        base_is = r.base_is;
         number_is = r.value_is;
         in_step = r.in_step;
       };

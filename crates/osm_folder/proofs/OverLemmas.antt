@@ -57,44 +57,44 @@ number_keeps known dir changes now sequence old new (Err fault) over = λ sure p
 
 -- ---- a run of the follower
 
-pub follow_in_step : (dir save : List ℕ) (a b : StoreState) (r : Result ReportValue RunFault)
-    → (IsKnown a → (p : List PublishedValue) (n : ℕ) → IsFolderOf p a.files dir → IsSaveOf p n (a.files save)
-    → FollowsOver p n dir save a b r)
-    → IfOk r (λ report. IsKnown a → (p : List PublishedValue) (n : ℕ) → IsFolderOf p a.files dir
-    → IsSaveOf p n (a.files save) → IsInStepAfter p n dir save a.files b.files report)
-follow_in_step dir save a b (Ok report) over = λ sure p n is s. (over sure p n is s).in_step
-follow_in_step dir save a b (Err fault) over = tt
+pub follow_in_step : (dir save : List ℕ) (old new : StoreState) (r : Result ReportValue RunFault)
+    → (IsKnown old → (p : List PublishedValue) (b n : ℕ) → IsFolderOf p old.files dir → IsSaveOf p b n (old.files save)
+    → FollowsOver p b n dir save old new r)
+    → IfOk r (λ report. IsKnown old → (p : List PublishedValue) (b n : ℕ) → IsFolderOf p old.files dir
+    → IsSaveOf p b n (old.files save) → IsInStepAfter p b n dir save old.files new.files report)
+follow_in_step dir save old new (Ok report) over = λ sure p b n is s. (over sure p b n is s).in_step
+follow_in_step dir save old new (Err fault) over = tt
 
-pub follow_over_refuses : (dir save : List ℕ) (a b : StoreState) (r : Result ReportValue RunFault)
-    → (IsKnown a → (p : List PublishedValue) (n : ℕ) → IsFolderOf p a.files dir → IsSaveOf p n (a.files save)
-    → FollowsOver p n dir save a b r)
-    → IfErr r (λ fault. IsKnown a → (p : List PublishedValue) (n : ℕ) → IsFolderOf p a.files dir
-    → IsSaveOf p n (a.files save) → FollowRefuses p (a.files save) fault)
-follow_over_refuses dir save a b (Ok report) over = tt
-follow_over_refuses dir save a b (Err fault) over = λ sure p n is s. (over sure p n is s).refuses
+pub follow_over_refuses : (dir save : List ℕ) (old new : StoreState) (r : Result ReportValue RunFault)
+    → (IsKnown old → (p : List PublishedValue) (b n : ℕ) → IsFolderOf p old.files dir → IsSaveOf p b n (old.files save)
+    → FollowsOver p b n dir save old new r)
+    → IfErr r (λ fault. IsKnown old → (p : List PublishedValue) (b n : ℕ) → IsFolderOf p old.files dir
+    → IsSaveOf p b n (old.files save) → FollowRefuses p (old.files save) fault)
+follow_over_refuses dir save old new (Ok report) over = tt
+follow_over_refuses dir save old new (Err fault) over = λ sure p b n is s. (over sure p b n is s).refuses
 
-pub follow_lacks : (dir save : List ℕ) (a b : StoreState) (r : Result ReportValue RunFault)
-    → (IsKnown a → (p : List PublishedValue) (n : ℕ) → IsFolderOf p a.files dir → IsSaveOf p n (a.files save)
-    → FollowsOver p n dir save a b r)
-    → IfErr r (λ fault. IsKnown a → (p : List PublishedValue) (n : ℕ) → IsFolderOf p a.files dir
-    → IsSaveOf p n (a.files save) → LacksCalls (follow_calls p n) a.left fault)
-follow_lacks dir save a b (Ok report) over = tt
-follow_lacks dir save a b (Err fault) over = λ sure p n is s. (over sure p n is s).calls.lacks sure
+pub follow_lacks : (dir save : List ℕ) (old new : StoreState) (r : Result ReportValue RunFault)
+    → (IsKnown old → (p : List PublishedValue) (b n : ℕ) → IsFolderOf p old.files dir → IsSaveOf p b n (old.files save)
+    → FollowsOver p b n dir save old new r)
+    → IfErr r (λ fault. IsKnown old → (p : List PublishedValue) (b n : ℕ) → IsFolderOf p old.files dir
+    → IsSaveOf p b n (old.files save) → LacksCalls (follow_calls p n) old.left fault)
+follow_lacks dir save old new (Ok report) over = tt
+follow_lacks dir save old new (Err fault) over = λ sure p b n is s. (over sure p b n is s).calls.lacks sure
 
 -- ---- a lag
 
 pub lag_in_step : (known : Type 0) (dir save : List ℕ) (files : Files) (r : Result ReportValue RunFault)
-    → (known → (p : List PublishedValue) (n : ℕ) → IsFolderOf p files dir → IsSaveOf p n (files save)
+    → (known → (p : List PublishedValue) (b n : ℕ) → IsFolderOf p files dir → IsSaveOf p b n (files save)
     → LagsOver p n r)
-    → IfOk r (λ report. known → (p : List PublishedValue) (n : ℕ) → IsFolderOf p files dir → IsSaveOf p n (files save)
+    → IfOk r (λ report. known → (p : List PublishedValue) (b n : ℕ) → IsFolderOf p files dir → IsSaveOf p b n (files save)
     → IsLagOf p n report)
-lag_in_step known dir save files (Ok report) over = λ sure p n is s. (over sure p n is s).in_step
+lag_in_step known dir save files (Ok report) over = λ sure p b n is s. (over sure p b n is s).in_step
 lag_in_step known dir save files (Err fault) over = tt
 
 pub lag_over_refuses : (known : Type 0) (dir save : List ℕ) (files : Files) (r : Result ReportValue RunFault)
-    → (known → (p : List PublishedValue) (n : ℕ) → IsFolderOf p files dir → IsSaveOf p n (files save)
+    → (known → (p : List PublishedValue) (b n : ℕ) → IsFolderOf p files dir → IsSaveOf p b n (files save)
     → LagsOver p n r)
-    → IfErr r (λ fault. known → (p : List PublishedValue) (n : ℕ) → IsFolderOf p files dir → IsSaveOf p n (files save)
+    → IfErr r (λ fault. known → (p : List PublishedValue) (b n : ℕ) → IsFolderOf p files dir → IsSaveOf p b n (files save)
     → LagRefuses p n fault)
 lag_over_refuses known dir save files (Ok report) over = tt
-lag_over_refuses known dir save files (Err fault) over = λ sure p n is s. (over sure p n is s).refuses
+lag_over_refuses known dir save files (Err fault) over = λ sure p b n is s. (over sure p b n is s).refuses

@@ -10,18 +10,18 @@ use Rattle.osm_folder.specs.declared.fault.RunFault.{RunFault}
 use Rattle.osm_folder.specs.declared.fault.RunFault.TheVariants.{WantOfMemory, BadSave}
 use Rattle.osm_folder.proofs.InStepLemmas.{one_saved}
 
-pub shown_of : (ps : List PublishedValue) (number : ℕ) (told : Option (List ℕ)) (report : ReportValue)
-    → IsSaveOf ps number told → IsShown told report → IsShownOf ps number report
-shown_of ps number told report saved shown =
+pub shown_of : (ps : List PublishedValue) (base number : ℕ) (told : Option (List ℕ)) (report : ReportValue)
+    → IsSaveOf ps base number told → IsShown told report → IsShownOf ps base number report
+shown_of ps base number told report saved shown =
     let here : IsSaved told shown.saved = rw shown.there (shown.small, shown.spelled) in
     let same : shown.saved ≡ saved.value = one_saved told shown.saved saved.value here saved.saved in
     let step = saved.in_step in
     record {
       view = view_of_saved shown.saved;
       number_is = ap (λ (v : Saved). v.number) same ∙ saved.number_is;
-      base = ap (λ (v : Saved). v.base) same ∙ step.base;
+      base_is = ap (λ (v : Saved). v.base) same ∙ saved.base_is;
       time = ap (λ (v : Saved). v.time) same ∙ (step.time ∙ ap (time_at ps) saved.number_is);
-      mirror = rw (same, ← saved.number_is) step.mirror;
+      mirror = rw (same, ← saved.number_is, ← saved.base_is) step.mirror;
       held = refl;
       report_is = shown.report_is;
     }

@@ -106,18 +106,18 @@ none_published ps None (inl a) e = a.0
 none_published ps None (inr a) e = absurd a.1
 none_published ps (Some bytes) t e = (let bad : Some bytes ≡ None = e in cc)
 
-pub start_refuses : NoFaultBesideState → (known : Type 0) (ps : List PublishedValue) (number : ℕ) (dir save : List ℕ)
-    (files : Files) (fault : RunFault) → known → IsFolderOf ps files dir → IsSaveOf ps number (files save)
+pub start_refuses : NoFaultBesideState → (known : Type 0) (ps : List PublishedValue) (base number : ℕ) (dir save : List ℕ)
+    (files : Files) (fault : RunFault) → known → IsFolderOf ps files dir → IsSaveOf ps base number (files save)
     → StartStops known dir save files fault → StartRefuses ps (files save) fault
-start_refuses law known ps number dir save files WantOfMemory sure folder saved h = tt
-start_refuses law known ps number dir save files (ReadFault file) sure folder saved h = tt
-start_refuses law known ps number dir save files (TooLarge Save) sure folder saved h = (refl, h sure)
-start_refuses law known ps number dir save files (TooLarge Top) sure folder saved h = absurd (small_top ps (files (top_name_of dir)) folder.top (h sure).1)
-start_refuses law known ps number dir save files (BadSave line) sure folder saved h = no_bad_save (files save) saved.value saved.saved (h sure)
-start_refuses law known ps number dir save files (Absent Top) sure folder saved h = (refl, none_published ps (files (top_name_of dir)) folder.top (h sure).1)
-start_refuses law known ps number dir save files (BadState Top cause) sure folder saved h =
+start_refuses law known ps base number dir save files WantOfMemory sure folder saved h = tt
+start_refuses law known ps base number dir save files (ReadFault file) sure folder saved h = tt
+start_refuses law known ps base number dir save files (TooLarge Save) sure folder saved h = (refl, h sure)
+start_refuses law known ps base number dir save files (TooLarge Top) sure folder saved h = absurd (small_top ps (files (top_name_of dir)) folder.top (h sure).1)
+start_refuses law known ps base number dir save files (BadSave line) sure folder saved h = no_bad_save (files save) saved.value saved.saved (h sure)
+start_refuses law known ps base number dir save files (Absent Top) sure folder saved h = (refl, none_published ps (files (top_name_of dir)) folder.top (h sure).1)
+start_refuses law known ps base number dir save files (BadState Top cause) sure folder saved h =
     good_top law ps (files (top_name_of dir)) cause folder.top (h sure).1
-start_refuses law known ps number dir save files TopBehind sure folder saved h =
+start_refuses law known ps base number dir save files TopBehind sure folder saved h =
     let b = h sure in
     let start_is = ap (λ (v : Saved). v.number) (one_saved (files save) b.start saved.value b.started.saved saved.saved) in
     let top_is = top_number ps (files (top_name_of dir)) b.top folder.sequences folder.top b.started.top_is in
@@ -125,7 +125,7 @@ start_refuses law known ps number dir save files TopBehind sure folder saved h =
     let below = b.below in
     let number_is = saved.number_is in
     omega (arith, start_is, top_is, within, below)
-start_refuses law known ps number dir save files fault sure folder saved h = absurd h
+start_refuses law known ps base number dir save files fault sure folder saved h = absurd h
 
 follow_from_start : (ps : List PublishedValue) (told : Option (List ℕ)) (fault : RunFault) → StartRefuses ps told fault → FollowRefuses ps told fault
 follow_from_start ps told (TooLarge file) h = (h.0, inl h.1)
@@ -158,29 +158,29 @@ beyond_refuses known dir save ps files told WantOfMemory h = tt
 beyond_refuses known dir save ps files told (ReadFault (Sequence k s)) h = tt
 beyond_refuses known dir save ps files told fault h = absurd h
 
-save_refuses : (known : Type 0) (ps : List PublishedValue) (number : ℕ) (dir save : List ℕ) (files : Files)
-    (fault : RunFault) → known → IsFolderOf ps files dir → IsSaveOf ps number (files save)
+save_refuses : (known : Type 0) (ps : List PublishedValue) (base number : ℕ) (dir save : List ℕ) (files : Files)
+    (fault : RunFault) → known → IsFolderOf ps files dir → IsSaveOf ps base number (files save)
     → SaveStops known dir save files fault → FollowRefuses ps (files save) fault
-save_refuses known ps number dir save files WantOfMemory sure folder saved h = tt
-save_refuses known ps number dir save files (TooLarge Save) sure folder saved h =
+save_refuses known ps base number dir save files WantOfMemory sure folder saved h = tt
+save_refuses known ps base number dir save files (TooLarge Save) sure folder saved h =
     let t = h sure in
-    let r = reached_of ps number dir save files t.0 t.1 folder saved t.2 in
+    let r = reached_of ps base number dir save files t.0 t.1 folder saved t.2 in
     (refl, inr (r.value, t.0, r.in_step, r.spelled, t.3))
-save_refuses known ps number dir save files (WriteFault Save) sure folder saved h = refl
-save_refuses known ps number dir save files fault sure folder saved h = absurd h
+save_refuses known ps base number dir save files (WriteFault Save) sure folder saved h = refl
+save_refuses known ps base number dir save files fault sure folder saved h = absurd h
 
-pub follow_refuses : NoFaultBesideState → (known : Type 0) (ps : List PublishedValue) (number : ℕ) (dir save : List ℕ)
-    (files : Files) (fault : RunFault) → known → IsFolderOf ps files dir → IsSaveOf ps number (files save)
+pub follow_refuses : NoFaultBesideState → (known : Type 0) (ps : List PublishedValue) (base number : ℕ) (dir save : List ℕ)
+    (files : Files) (fault : RunFault) → known → IsFolderOf ps files dir → IsSaveOf ps base number (files save)
     → FollowStops known dir save files fault → FollowRefuses ps (files save) fault
-follow_refuses law known ps number dir save files fault sure folder saved (inl h) =
-    follow_from_start ps (files save) fault (start_refuses law known ps number dir save files fault sure folder saved h)
-follow_refuses law known ps number dir save files fault sure folder saved (inr (inl h)) =
+follow_refuses law known ps base number dir save files fault sure folder saved (inl h) =
+    follow_from_start ps (files save) fault (start_refuses law known ps base number dir save files fault sure folder saved h)
+follow_refuses law known ps base number dir save files fault sure folder saved (inr (inl h)) =
     let c = h.comes sure in
     let above = c.above in
     let until = c.until in
     let top_is = top_number ps (files (top_name_of dir)) c.top folder.sequences folder.top c.started.top_is in
     number_refuses law known ps dir files (files save) h.number fault sure folder (omega arith) (omega (arith, top_is)) h.stops
-follow_refuses law known ps number dir save files fault sure folder saved (inr (inr (inl h))) =
+follow_refuses law known ps base number dir save files fault sure folder saved (inr (inr (inl h))) =
     beyond_refuses known dir save ps files (files save) fault h
-follow_refuses law known ps number dir save files fault sure folder saved (inr (inr (inr h))) =
-    save_refuses known ps number dir save files fault sure folder saved h
+follow_refuses law known ps base number dir save files fault sure folder saved (inr (inr (inr h))) =
+    save_refuses known ps base number dir save files fault sure folder saved h

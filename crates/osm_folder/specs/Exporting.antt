@@ -50,6 +50,7 @@ pub record IsExportOf (published : List PublishedValue) (number : ℕ) (output :
   pub named : HasDataForm output
   pub objects : List ChangeValue
   pub are_data : IsData objects
+  pub fits : length (data_text_of named.form objects) ≤ max_file
   pub content : (k : Key) → object_at objects k ≡ content_of (changes_up_to published number) k
   pub text : told ≡ Some (data_text_of named.form objects)
 

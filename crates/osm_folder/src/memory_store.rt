@@ -1,6 +1,7 @@
 //! A store in memory, which tells its files.
 
 ghost use Rattle.std.specs.Prelude.{◌≡◌, ℕ, ◌<◌, ◌≤◌, List, length, take, Option, Some, None};
+ghost use Rattle.std.specs.Prelude.{true, false, is_some};
 ghost use Rattle.std.specs.Prelude.{IfOk, IfErr, string_bytes, OnOk, OnErr, MatchOption};
 ghost use Rattle.osm_folder.specs.Files.{Puts, Tells, IsWithin, prefix_of};
 ghost use Rattle.osm_folder.specs.Steps.Copying.{CopyStops};
@@ -10,6 +11,7 @@ use osm_model::memory::WantOfMemory;
 use std::alloc::Global;
 use std::collections::BTreeMap;
 use std::marker::Model;
+use std::mem::swap;
 
 /// The bytes of a file.
 #[derive(Debug, Drop)]
@@ -35,6 +37,13 @@ impl Content {
         ensures { result.now ≡ self.now }
     {
         self.bytes.as_slice()
+    }
+
+    fn exchange(&mut self, bytes: &mut Vec<u8>)
+        ensures put { self.new ≡ bytes.old.items }
+        ensures taken { bytes.new.items ≡ self.old }
+    {
+        swap(&mut self.bytes, bytes);
     }
 }
 
@@ -84,6 +93,25 @@ impl MemoryStore {
         ensures { Puts (files_of self.old) name.now None (files_of self.new) }
     {
         self.files.remove(name);
+    }
+
+    /// Exchanges the bytes of a file for others, which takes no memory. Tells whether the file is
+    /// there; if it isn't, nothing changes.
+    pub fn exchange(&mut self, name: &str, bytes: &mut Vec<u8>) -> bool
+        ensures there { result ≡ is_some (files_of self.old name.now) }
+        ensures put { result ≡ true
+            → Puts (files_of self.old) name.now (Some bytes.old.items) (files_of self.new) }
+        ensures taken { result ≡ true → files_of self.old name.now ≡ Some bytes.new.items }
+        ensures kept { result ≡ false
+            → (files_of self.new ≡ files_of self.old) × (bytes.new.items ≡ bytes.old.items) }
+    {
+        match self.files.get_mut(name) {
+            Some(content) => {
+                content.exchange(bytes);
+                true
+            }
+            None => false,
+        }
     }
 
     fn insert(&mut self, name: String, content: Content) -> Result<(), WantOfMemory>

@@ -14,8 +14,8 @@ returns-clause-stops g c =
     c.sequence-top.result fault c.in_ok-start.ensures.started c.sequence-top.ensures.sequence s)
 
 pub returns-clause-calls : goal.returns-clause-calls
-returns-clause-calls g c = λ yes p n folder saved.
-    way_calls p n c.args.dir.now c.args.save.now (g.S.Store.state c.args.store.now).files
+returns-clause-calls g c = λ yes p b n folder saved.
+    way_calls p b n c.args.dir.now c.args.save.now (g.S.Store.state c.args.store.now).files
     (saved_of c.in_ok-start.start.follower) c.in_ok-start.start.top c.sequence-top.result
     (g.S.Store.state c.args.store.now) (g.S.Store.state c.read_start.new.store) (g.S.Store.state c.go_on.new.store)
     c.in_ok-start.start c.go_on.result c.sequence-top.ensures.sequence folder saved (c.in_ok-start.ensures.started yes)

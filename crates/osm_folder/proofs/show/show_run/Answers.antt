@@ -16,8 +16,8 @@ returns-in_err-follower-clause-stops g c =
     (subst (λ xs. RestartStops xs c.in_err-follower.field-0.0) c.as_slice.ensures.value c.in_err-follower.ensures.stops))
 
 pub returns-clause-in_step : goal.returns-clause-in_step
-returns-clause-in_step g c = λ yes p n is.
-    shown_of p n ((g.S.Store.state c.args.store.now).files c.args.save.now) c.in_ok-report.report is (record {
+returns-clause-in_step g c = λ yes p b n is.
+    shown_of p b n ((g.S.Store.state c.args.store.now).files c.args.save.now) c.in_ok-report.report is (record {
       bytes = c.in_ok-text.text.items;
       saved = saved_of c.in_ok-follower.follower;
       there = c.in_ok-text.ensures.read yes;

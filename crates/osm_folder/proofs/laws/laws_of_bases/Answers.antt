@@ -1,0 +1,8 @@
+use Rattle.osm_folder.proofs.BeginLemmas.{base_of_export, handed}
+use Rattle.osm_folder.proofs.laws.laws_of_bases.Goals as goal
+
+pub returns-clause-handed_on : goal.returns-clause-handed_on
+returns-clause-handed_on c = handed
+
+pub returns-clause-is_base : goal.returns-clause-is_base
+returns-clause-is_base c = base_of_export
