@@ -274,8 +274,7 @@ triple_with : (word : Text) (rest : List Text) (f : Text × List Row) (s : Shape
     → bytes_eq a (codes "TIME") ≡ false → bytes_eq b (codes "TIME") ≡ false → bytes_eq c (codes "TIME") ≡ false
     → Meets word rest f s → (f.0 ≡ s.name) × HasWords f.1 (a ∷ b ∷ c ∷ [])
 triple_with word rest f s a b c are no_a no_b no_c h =
-    let has = entered_with word rest f s _ are (good_word a 1, (good_word b 2, (good_word c 3, (good_help 4, tt)))) h in
-    (
+    let has = entered_with word rest f s _ are (good_word a 1, (good_word b 2, (good_word c 3, (good_help 4, tt)))) h in (
       has.0,
       (has_word f.1 a no_a (has.1.0 refl), (has_word f.1 b no_b (has.1.1.0 refl), (has_word f.1 c no_c (has.1.1.1.0 refl), tt))),
     )

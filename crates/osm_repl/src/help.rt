@@ -68,15 +68,15 @@ pub(crate) const BEGIN: &str = "Begins a save with a data file; the ending of BA
 pub(crate) const BEGINNING: &str = "As in
   osmrepl begin extract.o5m state.txt follower.save
 
-BASE has the objects that the sequences up to some number left, as an extract or a file that export
-wrote, and STATE is the state file of that number. SAVE is written with these objects, at the number
-and the time of the state, whatever it held before. The number is printed, as 'number 7'.
-Then follow takes the numbers after it. Counts of edits are those of these numbers alone.
+BASE is a data file, as an extract or what export wrote, and STATE is the state file of the sequence
+that it is of. SAVE is written with the objects of BASE, at the number and the time of STATE, and
+without counts of edits; whatever it held before is replaced. The number is printed, as 'number 7'.
+What follow then counts are the edits of the numbers after it.
 
-A name that ends in .opl is that of an OPL file, and one that ends in .o5m that of an o5m file. It has
-at most 64 MiB, and its objects by rising keys, each with its metadata, and none that is deleted.
-A state of number 0 is refused: 'state: no sequence to begin at'. So what export writes of a save at
-number 0 can't be begun with.
+A name that ends in .opl is that of an OPL file, one that ends in .o5m that of an o5m file. It has
+at most 64 MiB. Its objects stand by rising keys: nodes, ways and relations, each by their ids. Each
+has its metadata, and none is deleted. A state of number 0 is refused, so what export writes of a
+save at number 0 is nothing to begin with.
 
 A fault names BASE as base, STATE as state, and SAVE as save.";
 
