@@ -16,6 +16,7 @@ TAKE_NO_MEMORY = set("""
     Batch::new Batch::within_limits Batch::limits Batch::changes Batch::into_changes check_next first_fault
     Change::node Change::way Change::relation Change::deleted Change::limits Change::key Change::meta
     Change::is_deletion Change::what
+    Filter::all Filter::new Filter::keeps Filter::limits Filter::nodes Filter::ways Filter::relations Filter::keys
     Tag::limits Member::limits i64::limits i64::copy Parts::new Parts::from_vec Parts::into_vec Parts::as_slice
     Meta::new Meta::limits Meta::version Meta::time Meta::changeset Meta::uid Meta::user
     Text::as_str Text::limits time_read time_write
@@ -35,7 +36,8 @@ TAKE_NO_MEMORY = set("""
     View::held
     World::publisher World::follower World::published
     ending_of_error ending_of_unread ending_of_fault head_read
-    Opl::laws O5c::laws laws_of_content laws_of_opl laws_of_data laws_of_o5c laws_of_state laws_of_holding
+    Opl::laws O5c::laws laws_of_content laws_of_filters laws_of_texts laws_of_opl laws_of_data laws_of_o5c laws_of_state
+    laws_of_holding
     laws_of_mirrors laws_of_saves laws_of_heads laws_of_deliveries laws_of_restarts laws_of_runs laws_of_replies
     laws_of_histories laws_of_progress laws_of_archives laws_of_views laws_of_order laws_of_replays
 """.split())

@@ -1,4 +1,4 @@
-//! Calls of a change, of its parts, and of a batch.
+//! Calls of a change, of its parts, of a batch, and of a filter.
 
 use crate::answers::{
     put_some, write_batch_or, write_change, write_change_or, write_changes, write_done,
@@ -8,6 +8,7 @@ use crate::subject::Subject;
 use anyhow::{Context, Result, bail};
 use osm_model::batch::{Batch, PushError};
 use osm_model::change::{Change, What};
+use osm_model::filter::Filter;
 use osm_model::kind::{Key, Kind};
 use osm_model::limits::MAX_TAGS;
 use osm_model::lists::{Member, Part, Parts, Refs, Tag, Tags};
@@ -18,13 +19,14 @@ use osm_opl::lines::read_line;
 use std::alloc::Global;
 use std::io::Write;
 
-/// A batch, a list of references, and a change for them.
+/// A batch, a list of references, a change for them, and a filter.
 #[derive(Drop)]
 pub(crate) struct Values {
     change: Option<Change>,
     batch: Batch,
     refs: Refs,
     spare: Option<Tags>,
+    filter: Option<Filter>,
 }
 
 impl Values {
@@ -34,6 +36,7 @@ impl Values {
             batch: Batch::new(alloc),
             refs: Parts::new(alloc),
             spare: None,
+            filter: None,
         }
     }
 
@@ -49,6 +52,11 @@ impl Values {
     fn copy_meta(&self, alloc: Global, out: &mut Vec<u8>) -> Result<()> {
         let change = self.change()?;
         write_meta_or(change.meta().copy(alloc), out)
+    }
+
+    fn copy_filter(&self, alloc: Global, out: &mut Vec<u8>) -> Result<()> {
+        let filter = self.filter.as_ref().context("no filter")?;
+        write_filter_or(filter.copy(alloc), out)
     }
 
     // Copies a list of the change, or the first part of one.
@@ -100,16 +108,46 @@ impl Subject for Values {
         match command.word {
             b"change" => put_some(read_line(alloc, command.given), &mut self.change),
             b"spare" => put_some(spare_tags(alloc), &mut self.spare),
+            b"filter" => put_some(filter_of(alloc, command.given), &mut self.filter),
             b"show" => self.show(out),
             b"Batch::push" => self.push(out),
             b"Batch::copy" => write_batch_or(self.batch.copy(alloc), out),
             b"Change::copy" => self.copy_change(alloc, out),
             b"Change::within_limits" => within_limits(alloc, self.spare.take(), out),
+            b"Filter::copy" => self.copy_filter(alloc, out),
             b"Meta::copy" => self.copy_meta(alloc, out),
             b"Parts::push" => write_done(self.refs.push(7), out),
             _ => self.copy_part(alloc, command.word, out),
         }
     }
+}
+
+// A filter of ways with the keys of a text, between single blanks; without keys if it is empty.
+fn filter_of(alloc: Global, given: &[u8]) -> Result<Filter> {
+    let mut keys = Vec::new(alloc);
+    for key in str::from_utf8(given)?.split(' ') {
+        if !key.is_empty() {
+            keys.push(Text::new(alloc, key)?)?;
+        }
+    }
+    Ok(Filter::new(false, true, false, keys)?)
+}
+
+// The kinds and the keys of a filter, or the error.
+fn write_filter_or(answer: Result<Filter, WantOfMemory>, out: &mut Vec<u8>) -> Result<()> {
+    match answer {
+        Ok(filter) => write_filter(&filter, out),
+        Err(error) => Ok(writeln!(out, "{error:?}")?),
+    }
+}
+
+fn write_filter(filter: &Filter, out: &mut Vec<u8>) -> Result<()> {
+    let kinds = (filter.nodes(), filter.ways(), filter.relations());
+    write!(out, "{kinds:?}")?;
+    for key in filter.keys() {
+        write!(out, " {}", key.as_str())?;
+    }
+    Ok(writeln!(out)?)
 }
 
 // A tag, with room for a hundred.

@@ -30,7 +30,7 @@ use Rattle.osm_folder.specs.DataForms.{HasDataEnd, data_end_of, data_text_of, sp
 use Rattle.osm_folder.specs.Exporting.{HasDataForm, IsExportOf, IsExported}
 use Rattle.osm_folder.specs.Files.{Files}
 use Rattle.osm_folder.specs.Folder.{IsStateFile, IsThere}
-use Rattle.osm_folder.specs.Following.{IsInStep, IsSaveOf, IsSaved, max_save}
+use Rattle.osm_folder.specs.Following.{IsSaveOf, IsSaved, max_save}
 use Rattle.osm_folder.specs.Reports.{ReportValue, begin_report_of}
 use Rattle.osm_folder.specs.Steps.Beginning.{BaseStops, BegunStops, IsBaseRead, StartStops}
 use Rattle.osm_folder.specs.Steps.Following.{MadeStops}
@@ -128,8 +128,7 @@ begun_in_step ps number base state save old new report of b =
     let above = of.above in
     let within = of.within in
     let start : b.s ≡ t = same_start (old state) b.s t b.beginning.start.there of.start in
-    let objects : b.beginning.objects ≡ of.objects = same_base base (old base) b.beginning.objects of.objects b.beginning.base_is of.base_is in
-    (
+    let objects : b.beginning.objects ≡ of.objects = same_base base (old base) b.beginning.objects of.objects b.beginning.base_is of.base_is in (
       record {
         value = begun_save t of.objects;
         saved = subst (IsSaved (new save)) (same_begun b.s t b.beginning.objects of.objects start objects)

@@ -1,7 +1,8 @@
 //! Beginning a save with a data file.
 
-ghost use Rattle.std.specs.Prelude.{◌≡◌, ◌<◌, ◌≤◌, ℕ, List, IfErr, IfOk, length};
+ghost use Rattle.std.specs.Prelude.{◌≡◌, ◌<◌, ◌≤◌, ℕ, List, Some, IfErr, IfOk, length};
 ghost use Rattle.osm_model.specs.Data.{IsData};
+ghost use Rattle.osm_model.specs.Limits.{max_file};
 ghost use Rattle.osm_save.specs.Save.{SpellsSave};
 ghost use Rattle.osm_follow.specs.Begin.{begun_of};
 ghost use Rattle.osm_follow.specs.Published.{PublishedValue};

@@ -1,6 +1,6 @@
--- The definitions at values that a person knows: the limits, and the order of keys.
-use Rattle.std.proofs.Common.{◌≡◌, refl}
-use Rattle.std.specs.Prelude.{ℕ, ◌-◌, ◌*◌, ◌^◌, ◌≤◌, ℤ, pos, negsuc, neg_ℤ, ◌≤ℤ◌, List, [], ◌∷◌, Some, length, Contains, ◌↔◌}
+-- The definitions at values that a person knows: the limits, the order of keys, and what a filter keeps.
+use Rattle.std.proofs.Common.{◌≡◌, refl, true, false}
+use Rattle.std.specs.Prelude.{ℕ, ◌-◌, ◌*◌, ◌^◌, ◌≤◌, ℤ, pos, negsuc, neg_ℤ, ◌≤ℤ◌, List, [], ◌∷◌, Some, length, Contains, ◌↔◌, codes}
 use Rattle.std.specs.List.{AllByRecursion}
 use Rattle.std.specs.List.Sorted.{IsStrictlySortedBy}
 use Rattle.std.specs.Str.{IsUtf8}
@@ -9,10 +9,15 @@ use Rattle.osm_model.specs.Batch.{IsBatch}
 use Rattle.osm_model.specs.Change.{AreMembers, AreRefs, AreTags, ChangeValue, HasMemberId, IsChange}
 use Rattle.osm_model.specs.Content.{object_after}
 use Rattle.osm_model.specs.Data.{IsData}
+use Rattle.osm_model.specs.Filter.{AreRising, FilterValue, keeps}
 use Rattle.osm_model.specs.KeyOrder.{key_cmp}
-use Rattle.osm_model.specs.Limits.{IsId, IsLatitude, IsLongitude, max_file, max_sequence}
+use Rattle.osm_model.specs.Limits.{IsId, IsLatitude, IsLongitude, max_file, max_keys, max_sequence}
 use Rattle.osm_model.specs.Lists.{IsRole, IsTag}
-use Rattle.osm_model.specs.Text.{IsText}
+use Rattle.osm_model.specs.Meta.{MetaValue}
+use Rattle.osm_model.specs.Text.{IsText, bytes_cmp}
+use Rattle.osm_model.specs.declared.change.What.{What}
+use Rattle.osm_model.specs.declared.change.What.TheVariants as whats
+use Rattle.osm_model.specs.declared.kind.Kind.{Kind}
 use Rattle.osm_model.specs.declared.lists.Member.{Member}
 use Rattle.osm_model.specs.declared.lists.Tag.{Tag}
 use Rattle.osm_model.specs.declared.kind.Kind.TheVariants.{Node, Way, Relation}
@@ -88,3 +93,75 @@ minus_2_before_minus_1 = refl
 
 nine_before_ten : key_cmp (record { kind = Node; id = pos 9 }) (record { kind = Node; id = pos 10 }) ≡ Less
 nine_before_ten = refl
+
+-- a filter has up to 100 keys
+keys_of_filters : max_keys ≡ 100
+keys_of_filters = refl
+
+-- texts are compared by their bytes: `B` comes before `a`, and `a` before `aa`
+capital_before_small : bytes_cmp (codes "B") (codes "a") ≡ Less
+capital_before_small = refl
+
+prefix_before_longer : bytes_cmp (codes "a") (codes "aa") ≡ Less
+prefix_before_longer = refl
+
+-- the keys `b`, `a` don't rise, and neither do `a`, `a`
+falling_keys : AreRising (codes "b" ∷ codes "a" ∷ []) → ⊥
+unfolding IsStrictlySortedBy
+falling_keys r = let e = r.0.0 in absurd cc
+
+repeated_keys : AreRising (codes "a" ∷ codes "a" ∷ []) → ⊥
+unfolding IsStrictlySortedBy
+repeated_keys r = let e = r.0.0 in absurd cc
+
+-- what the filter `w/highway` keeps
+ways_with_highway : FilterValue
+ways_with_highway = record { nodes = false; ways = true; relations = false; keys = codes "highway" ∷ [] }
+
+tag : List ℕ → List ℕ → Tag
+tag key value = record { key = key; value = value }
+
+changed : Kind → What → ChangeValue
+changed kind what =
+    let meta : MetaValue = record { version = 1; time = 1704067200; changeset = 7; uid = 5; user = codes "ann" } in
+    record { key = record { kind = kind; id = pos 10 }; meta = meta; what = what }
+
+-- a way with the key, whatever its value, also after a tag of another key
+way_with_key : (value : List ℕ) → keeps ways_with_highway (changed Way (whats.Way [] (tag (codes "highway") value ∷ []))) ≡ true
+unfolding keeps changed tag ways_with_highway
+way_with_key value = refl
+
+way_with_key_last : keeps ways_with_highway (changed Way (whats.Way [] (tag (codes "name") (codes "x") ∷ tag (codes "highway") (codes "path") ∷ []))) ≡ true
+unfolding keeps changed tag ways_with_highway
+way_with_key_last = refl
+
+-- not one with the key as a value, nor with a longer or a shorter key, nor without tags
+way_with_value : keeps ways_with_highway (changed Way (whats.Way [] (tag (codes "name") (codes "highway") ∷ []))) ≡ false
+unfolding keeps changed tag ways_with_highway
+way_with_value = refl
+
+way_with_longer_key : keeps ways_with_highway (changed Way (whats.Way [] (tag (codes "highway:lanes") (codes "2") ∷ []))) ≡ false
+unfolding keeps changed tag ways_with_highway
+way_with_longer_key = refl
+
+way_with_shorter_key : keeps ways_with_highway (changed Way (whats.Way [] (tag (codes "high") (codes "path") ∷ []))) ≡ false
+unfolding keeps changed tag ways_with_highway
+way_with_shorter_key = refl
+
+way_without_tags : keeps ways_with_highway (changed Way (whats.Way (pos 1 ∷ []) [])) ≡ false
+unfolding keeps changed ways_with_highway
+way_without_tags = refl
+
+-- no object of another kind, and no deletion
+node_with_key : keeps ways_with_highway (changed Node (whats.Node (pos 1) (pos 2) (tag (codes "highway") (codes "stop") ∷ []))) ≡ false
+unfolding keeps changed tag ways_with_highway
+node_with_key = refl
+
+deleted_way : keeps ways_with_highway (changed Way whats.Deleted) ≡ false
+unfolding keeps changed ways_with_highway
+deleted_way = refl
+
+-- a filter without keys keeps a relation by its kind alone
+relation_by_kind : keeps (record { nodes = false; ways = false; relations = true; keys = [] }) (changed Relation (whats.Relation [] [])) ≡ true
+unfolding keeps changed
+relation_by_kind = refl

@@ -12,4 +12,6 @@ pub mod Content
 pub mod ContentLaws
 pub mod ChangeForm
 pub mod Data
+pub mod Filter
+pub mod FilterLaws
 pub mod Steps

@@ -38,6 +38,10 @@ max_refs = 32000
 abbrev pub max_changes : ℕ
 max_changes = 100000
 
+-- the most keys of a filter
+abbrev pub max_keys : ℕ
+max_keys = 100
+
 -- the greatest length of a change file, in bytes: 64 MiB
 abbrev pub max_file : ℕ
 max_file = 67108864

@@ -6,6 +6,7 @@ pub mod batch;
 pub mod change;
 pub mod content;
 pub mod data;
+pub mod filter;
 pub mod form;
 pub mod kind;
 pub mod limits;

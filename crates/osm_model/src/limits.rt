@@ -21,6 +21,9 @@ pub const MAX_REFS: usize = 32_000;
 /// The most changes of a batch.
 pub const MAX_CHANGES: usize = 100_000;
 
+/// The most keys of a filter.
+pub const MAX_KEYS: usize = 100;
+
 /// The greatest length of a change file, in bytes.
 pub const MAX_FILE: usize = 67_108_864;
 

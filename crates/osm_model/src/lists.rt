@@ -10,7 +10,7 @@ use crate::text::Text;
 use std::alloc::Global;
 use std::marker::Model;
 
-/// What a list of an object holds: a tag, the id of a node, or a member.
+/// What a list holds: a tag, the id of a node or a member of an object, or a key of a filter.
 pub trait Part: Drop {
     /// The part is within the limits of its type.
     ghost within_limits: { Self → Type 0 };
@@ -96,6 +96,20 @@ impl Part for Member {
 
 /// The members of a relation, in order.
 pub type Members = Parts<Member>;
+
+impl Part for Text {
+    ghost use Rattle.osm_model.specs.Text.{IsText};
+
+    ghost within_limits = { IsText };
+
+    fn limits(&self) {
+        Text::limits(self)
+    }
+
+    fn copy(&self, alloc: Global) -> Result<Text, WantOfMemory> {
+        Text::copy(self, alloc)
+    }
+}
 
 // The most unused room that a list of a change keeps, in parts. Shrinking a list moves its parts,
 // so a short one is left alone.

@@ -1,7 +1,7 @@
 -- A text that is read is spelled, and what is spelled is read.
 use Rattle.std.proofs.Common.{◌≡◌, ℕ, ◌+◌, ◌<◌, ◌≤◌, Bool, true, false, cond, leb, List, [], ◌∷◌, ◌++◌, length, Some}
 use Rattle.std.proofs.Common.{None, refl, sym, ap, ◌∙◌, append_assoc, arith, lit<, lit≤, ◌/◌, ◌%◌, ltb}
-use Rattle.std.specs.Prelude.{◌≢◌, not}
+use Rattle.std.specs.Prelude.{◌≢◌, not, Result, Ok, Err, IfOk, IfErr, MatchResult}
 use Rattle.std.specs.Char.{encode_utf8, digit_value}
 use Rattle.std.specs.List.{list_all}
 use Rattle.std.specs.Str.{IsUtf8}
@@ -11,10 +11,13 @@ use Rattle.std.proofs.lemmas.Option.{same_Some}
 use Rattle.std.proofs.lemmas.Str.{IsUtf8-append, IsUtf8-encode, IsUtf8-nil, is_utf8-from_IsUtf8, encode_ascii}
 use lib.Utf8.{scalar, scalars, encodes}
 use Rattle.osm_model.specs.Text.{IsText}
-use Rattle.osm_opl.specs.Escape.{is_reserved, IsBare, NamesChar, SpellsText, end, bare, escape}
+use Rattle.osm_opl.specs.Escape.{is_reserved, IsBare, NamesChar, SpellsText, TextRefused, end, bare, escape}
 use Rattle.osm_reading.specs.Pieces.{joined, pieces}
 use Rattle.osm_opl.specs.Steps.Reading.{escape_at, is_free, run_at, runs_at, text_at}
-use Rattle.osm_reading.specs.Steps.Answers.{and_then}
+use Rattle.osm_reading.specs.Refusal.{IsWant}
+use Rattle.osm_reading.specs.Steps.Answers.{Gives, and_then}
+use Rattle.osm_reading.specs.declared.refusal.Refusal.{Refusal}
+use Rattle.osm_reading.specs.declared.refusal.Refusal.TheVariants.{WantOfMemory, Fault}
 use Rattle.osm_reading.proofs.StepLemmas.{both_held, some_then, guard_some}
 use Rattle.osm_reading.specs.Pieces.{Lacks}
 use Rattle.osm_reading.proofs.PieceLemmas.{lacks_append, joined-pieces, pieces-prefix, pieces-more, with_prefix}
@@ -186,6 +189,27 @@ text_again bytes text h is =
     let short : length text ≤ 1020 = is.short in
     let t : leb (length text) 1020 ≡ true = grind (arith, nat_tests) in
     rw (runs_again bytes text h, t) refl
+
+-- bytes spell at most one text
+pub one_text : (bytes a b : List ℕ) → SpellsText bytes a → SpellsText bytes b → a ≡ b
+one_text bytes a b p q = same_Some a b (sym (runs_again bytes a p) ∙ runs_again bytes b q)
+
+-- ---- what a reader answers
+
+pub text_spelled : (bytes : List ℕ) (r : Result (List ℕ) Refusal) → Gives (λ t. t) r (text_at bytes) → IfOk r (λ t. SpellsText bytes t)
+text_spelled bytes (Ok t) h = text_takes bytes t h
+text_spelled bytes (Err e) h = tt
+
+pub text_refused : (bytes : List ℕ) (r : Result (List ℕ) Refusal) → Gives (λ t. t) r (text_at bytes) → IfErr r (TextRefused bytes)
+text_refused bytes (Ok t) h = tt
+text_refused bytes (Err WantOfMemory) h = tt
+text_refused bytes (Err (Fault why)) h = λ t is s. let e = text_again bytes t s is in let z : None ≡ Some t = sym h ∙ e in absurd cc
+
+pub text_only : (bytes : List ℕ) (r : Result (List ℕ) Refusal) → Gives (λ t. t) r (text_at bytes) → (text : List ℕ)
+    → IsText text → SpellsText bytes text → MatchResult r (λ t. t ≡ text) IsWant
+text_only bytes (Ok t) h text is s = same_Some t text (sym h ∙ text_again bytes text s is)
+text_only bytes (Err WantOfMemory) h text is s = tt
+text_only bytes (Err (Fault why)) h text is s = absurd (text_refused bytes (Err (Fault why)) h text is s)
 
 -- a byte that can't be bare, other than `%`, occurs nowhere in a spelling of a text
 pub text_lacks : (s : ℕ) (bytes text : List ℕ) → is_reserved s ≡ true → s ≢ 37 → 16 ≤ digit_value s → SpellsText bytes text → Lacks s bytes

@@ -3,9 +3,10 @@
 use Rattle.std.proofs.Common.{◌≡◌, ℕ, zero, suc, ◌+◌, List, [], ◌∷◌, Some, None, refl}
 use Rattle.std.specs.Prelude.{codes, filter, not, pos, negsuc}
 use Rattle.std.specs.Fmt.{digits}
+use Rattle.std.specs.Str.{chars}
 use Rattle.osm_opl.specs.Escape.{is_reserved}
 use Rattle.osm_opl.specs.Steps.Reading.{digits_at, escape_at}
-use Rattle.osm_opl.specs.Written.{char_text, coordinate_text, decimals, hex_digits, is_written_bare}
+use Rattle.osm_opl.specs.Written.{char_text, coordinate_text, decimals, escaped_text, hex_digits, is_written_bare}
 
 -- that many numbers, from the first on
 numbers_from : ℕ → ℕ → List ℕ
@@ -63,6 +64,11 @@ five_digits = refl
 six_digits : char_text 0x10ffff ≡ codes "%10ffff%"
 unfolding char_text hex_digits
 six_digits = refl
+
+-- a text with a space and a comma
+space_and_comma : escaped_text (codes "a b,c") ≡ codes "a%20%b%2c%c"
+unfolding escaped_text chars char_text hex_digits
+space_and_comma = refl
 
 -- an escape of eight digits is read, and one of nine is not
 eight_digits_read : escape_at (codes "000065E5") ≡ Some 0x65e5

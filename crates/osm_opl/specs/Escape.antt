@@ -4,6 +4,9 @@ use Rattle.std.specs.Prelude.{◌≡◌, ◌≢◌, ℕ, ◌==◌, ◌≤◌, Bo
 use Rattle.std.specs.Prelude.{List, [], ◌∷◌, ◌++◌, length}
 use Rattle.std.specs.Char.{IsScalar, encode_utf8}
 use Rattle.std.specs.Str.Parse.{IsNumeral, digits_value}
+use Rattle.osm_model.specs.Text.{IsText}
+use Rattle.osm_reading.specs.declared.refusal.Refusal.{Refusal}
+use Rattle.osm_reading.specs.declared.refusal.Refusal.TheVariants.{WantOfMemory, Fault}
 
 -- U+0000, tab, line feed, carriage return, space, `%`, `,`, `=` and `@` can't be bare
 abbrev pub is_reserved : ℕ → Bool
@@ -31,3 +34,8 @@ pub data SpellsText : List ℕ → List ℕ → Type 0 where
   escape : (digits : List ℕ) (c : ℕ) (bytes text : List ℕ) → NamesChar digits c
       → SpellsText bytes text
       → SpellsText (37 ∷ digits ++ 37 ∷ bytes) (encode_utf8 c ++ text)
+
+-- bytes are refused with a fault only if they spell no text within the limits
+abbrev pub TextRefused : List ℕ → Refusal → Type 0
+TextRefused bytes WantOfMemory = Unit {0}
+TextRefused bytes (Fault why) = (text : List ℕ) → IsText text → SpellsText bytes text → ⊥

@@ -14,3 +14,4 @@ mod objects;
 pub mod opl;
 mod plain;
 mod prepend;
+pub mod texts;
