@@ -11,7 +11,7 @@ use std::alloc::Global;
 
 type File<'a> = (&'a str, &'a [u8]);
 
-/// The node as an o5m file (OSM wiki, O5m).
+// The node as an o5m file (OSM wiki, O5m).
 const NODE_O5M: &[u8] =
     b"\xff\xe0\x04o5m2\x10\x17\x02\x01\x80\x82\x90\xd9\x0c\x0e\x00\x05\x00ann\x00\
       \x80\xda\xc4\x09\x80\xb4\x89\x13\xfe";
