@@ -104,6 +104,8 @@ TEXTS = [
     Case("texts", "path", b"1234567", b"001/234/567.opl\n"),
     Case("texts", "state_write", b"1234567", b"sequenceNumber=1234567\ntimestamp=1970-01-01T00\\:00\\:01Z\n\n"),
     Case("texts", "order", b"osmrepl show save", b'Show { save: "save" }\n', refused={b"OutOfMemory\n": Refusal()}),
+    Case("texts", "order", b"osmrepl begin base state save", b'Begin { base: "base", state: "state", save: "save" }\n',
+         refused={b"OutOfMemory\n": Refusal()}),
     Case("texts", "order", b"osmrepl publish dir changes --now 2024 --sequence 7",
          b'PublishAs { dir: "dir", changes: "changes", now: "2024", sequence: "7" }\n',
          refused={b"OutOfMemory\n": Refusal()}),
@@ -334,8 +336,8 @@ SCRIPTS = [
 # ---- what the program's words do, over files in memory
 
 OUT_OF_MEMORY = b"out of memory\n"
-NAMES = ("changes", "save", "a.opl", "b.o5c", "dir/000/000/001.o5c", "dir/000/000/001.opl", "dir/000/000/001.state.txt",
-         "dir/state.txt")
+NAMES = ("changes", "state", "save", "a.opl", "a.o5m", "b.opl", "b.o5c", "b.o5m", "dir/000/000/001.o5c",
+         "dir/000/000/001.opl", "dir/000/000/001.state.txt", "dir/state.txt")
 O5C_ONE = BEGINNING + O5C_NODE + b"\xfe"
 TOP = state(3).replace(b"=3", b"=1")
 SEQUENCE = {"dir/000/000/001.o5c": O5C_ONE, "dir/000/000/001.opl": lines(NODE), "dir/000/000/001.state.txt": TOP}
@@ -361,13 +363,25 @@ CHANGES = {"changes": lines(NODE)}
 WHOLE = {**SEQUENCE, "dir/state.txt": TOP}
 SAVED = {"save": save(3, *PLENTY)}
 FOLLOWED = {"save": b"osmrepl-save 2\nbase 0\nsequence 1\n" + mirror(3, *ONE) + b"end\n"}
+KINDS = (NODE, WAY, RELATION)
+
+
+def begun(objects):
+    """The save that begins with those objects at sequence 3."""
+    return {"save": b"osmrepl-save 2\nbase 3\nsequence 3\n" + mirror(3, objects, (), ()) + b"end\n"}
+
+
 FILES = [
     word("replay", REPLIED + b"status 0\n", {}, given=ROW, script=ROW),
     word("publish", b"published 1\nstatus 0\n", CHANGES, WHOLE, is_part_published(CHANGES)),
     word("publish-as", b"published 1\nstatus 0\n", CHANGES, WHOLE, is_part_published(CHANGES)),
+    word("begin-opl", b"number 3\nstatus 0\n", {"a.opl": lines(*PLENTY[0]), "state": state(3)}, begun(PLENTY[0])),
+    word("begin-o5m", b"number 3\nstatus 0\n", {"a.o5m": DATA_FILE, "state": state(3), **SAVED}, begun(KINDS)),
     word("follow", b"applied 1..1\nnumber 1\nstatus 0\n", WHOLE, FOLLOWED),
     word("lag", b"behind 0\nseconds 0\nstatus 0\n", {"dir/state.txt": state(3), **SAVED}),
     word("show", show(3, *PLENTY) + b"status 0\n", SAVED),
+    word("export-opl", b"status 0\n", SAVED, {"b.opl": lines(*PLENTY[0])}),
+    word("export-o5m", b"status 0\n", begun(KINDS), {"b.o5m": DATA_FILE}),
     word("convert", b"status 0\n", {"a.opl": OPL_FILE}, {"b.o5c": O5C_FILE}),
 ]
 

@@ -1,3 +1,4 @@
+mod begin;
 mod files;
 mod numbered;
 mod runs;

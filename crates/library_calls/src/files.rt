@@ -84,9 +84,10 @@ impl Subject for Files {
     }
 }
 
-// The order of that name, over the files of a folder, a save, and changes in each form.
+// The order of that name, over the files of a folder, a save, and changes and data in each form.
 fn order_of(word: &[u8]) -> Option<Order<'static>> {
     let (dir, save, changes, now) = ("dir", "save", "changes", "2024-01-01T00:03:00Z");
+    let state = "state";
     match word {
         b"execute-replay" => Some(Order::Replay),
         b"execute-publish" => Some(Order::Publish { dir, changes, now }),
@@ -96,9 +97,27 @@ fn order_of(word: &[u8]) -> Option<Order<'static>> {
             now,
             sequence: "1",
         }),
+        b"execute-begin-opl" => Some(Order::Begin {
+            base: "a.opl",
+            state,
+            save,
+        }),
+        b"execute-begin-o5m" => Some(Order::Begin {
+            base: "a.o5m",
+            state,
+            save,
+        }),
         b"execute-follow" => Some(Order::Follow { dir, save }),
         b"execute-lag" => Some(Order::Lag { dir, save }),
         b"execute-show" => Some(Order::Show { save }),
+        b"execute-export-opl" => Some(Order::Export {
+            save,
+            output: "b.opl",
+        }),
+        b"execute-export-o5m" => Some(Order::Export {
+            save,
+            output: "b.o5m",
+        }),
         b"execute-convert" => Some(Order::Convert {
             input: "a.opl",
             output: "b.o5c",

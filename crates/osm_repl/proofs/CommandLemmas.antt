@@ -268,6 +268,17 @@ pair_with word rest f s a b are no_a no_b h =
     let has = entered_with word rest f s _ are (good_word a 1, (good_word b 2, (good_help 3, tt))) h in
     (has.0, (has_word f.1 a no_a (has.1.0 refl), (has_word f.1 b no_b (has.1.1.0 refl), tt)))
 
+-- such a command of three words
+triple_with : (word : Text) (rest : List Text) (f : Text × List Row) (s : Shape) (a b c : Text)
+    → s.rules ≡ built_word a 1 ∷ built_word b 2 ∷ built_word c 3 ∷ built_help 4 ∷ []
+    → bytes_eq a (codes "TIME") ≡ false → bytes_eq b (codes "TIME") ≡ false → bytes_eq c (codes "TIME") ≡ false
+    → Meets word rest f s → (f.0 ≡ s.name) × HasWords f.1 (a ∷ b ∷ c ∷ [])
+triple_with word rest f s a b c are no_a no_b no_c h =
+    let has = entered_with word rest f s _ are (good_word a 1, (good_word b 2, (good_word c 3, (good_help 4, tt)))) h in (
+      has.0,
+      (has_word f.1 a no_a (has.1.0 refl), (has_word f.1 b no_b (has.1.1.0 refl), (has_word f.1 c no_c (has.1.1.1.0 refl), tt))),
+    )
+
 named : (name : Text) (f : Text × List Row) → f.0 ≡ name → IsCommandOf name f.1 → IsCommand (Some f)
 named name f e is = subst (λ (n : Text). IsCommandOf n f.1) (sym e) is
 
@@ -286,20 +297,24 @@ is_command p f fine (inr (inl h)) =
       (has_value f.1 (codes "TIME") (has.1.1.1.0 refl), tt),
     )
 is_command p f fine (inr (inr (inl h))) =
-    let has = pair_with p.0 p.1 f _ (codes "DIR") (codes "SAVE") refl refl refl h in named (codes "follow") f has.0 (inr (inr (inl refl)), has.1, tt)
+    let has = triple_with p.0 p.1 f _ (codes "BASE") (codes "STATE") (codes "SAVE") refl refl refl refl h in
+    named (codes "begin") f has.0 (inr (inr (inl refl)), has.1, tt)
 is_command p f fine (inr (inr (inr (inl h)))) =
-    let has = pair_with p.0 p.1 f _ (codes "DIR") (codes "SAVE") refl refl refl h in named (codes "lag") f has.0 (inr (inr (inr (inl refl))), has.1, tt)
+    let has = pair_with p.0 p.1 f _ (codes "DIR") (codes "SAVE") refl refl refl h in named (codes "follow") f has.0 (inr (inr (inr (inl refl))), has.1, tt)
 is_command p f fine (inr (inr (inr (inr (inl h))))) =
-    let has = entered_with p.0 p.1 f _ (built_word (codes "SAVE") 1 ∷ built_help 2 ∷ []) refl (good_word (codes "SAVE") 1, (good_help 2, tt)) h in
-    named (codes "show") f has.0 (inr (inr (inr (inr (inl refl)))), (has_word f.1 (codes "SAVE") refl (has.1.0 refl), tt), tt)
+    let has = pair_with p.0 p.1 f _ (codes "DIR") (codes "SAVE") refl refl refl h in
+    named (codes "lag") f has.0 (inr (inr (inr (inr (inl refl)))), has.1, tt)
 is_command p f fine (inr (inr (inr (inr (inr (inl h)))))) =
-    let has = pair_with p.0 p.1 f _ (codes "SAVE") (codes "OUT") refl refl refl h in
-    named (codes "export") f has.0 (inr (inr (inr (inr (inr (inl refl))))), has.1, tt)
+    let has = entered_with p.0 p.1 f _ (built_word (codes "SAVE") 1 ∷ built_help 2 ∷ []) refl (good_word (codes "SAVE") 1, (good_help 2, tt)) h in
+    named (codes "show") f has.0 (inr (inr (inr (inr (inr (inl refl))))), (has_word f.1 (codes "SAVE") refl (has.1.0 refl), tt), tt)
 is_command p f fine (inr (inr (inr (inr (inr (inr (inl h))))))) =
+    let has = pair_with p.0 p.1 f _ (codes "SAVE") (codes "OUT") refl refl refl h in
+    named (codes "export") f has.0 (inr (inr (inr (inr (inr (inr (inl refl)))))), has.1, tt)
+is_command p f fine (inr (inr (inr (inr (inr (inr (inr (inl h)))))))) =
     let has = pair_with p.0 p.1 f _ (codes "IN") (codes "OUT") refl refl refl h in
-    named (codes "convert") f has.0 (inr (inr (inr (inr (inr (inr refl))))), has.1, tt)
-is_command p f fine (inr (inr (inr (inr (inr (inr (inr (inl h)))))))) = absurd (two_ways p.0 fine h.1)
-is_command p f fine (inr (inr (inr (inr (inr (inr (inr (inr h)))))))) = absurd h
+    named (codes "convert") f has.0 (inr (inr (inr (inr (inr (inr (inr refl)))))), has.1, tt)
+is_command p f fine (inr (inr (inr (inr (inr (inr (inr (inr (inl h))))))))) = absurd (two_ways p.0 fine h.1)
+is_command p f fine (inr (inr (inr (inr (inr (inr (inr (inr (inr h))))))))) = absurd h
 
 entered_command : (o : Option (Text × List Text)) → IsNoHelp o → is_some (entered (built osmrepl_app) o) ≡ true → entered_fault (built osmrepl_app) o ≡ []
     → IsCommand (entered (built osmrepl_app) o)

@@ -13,22 +13,22 @@ use Rattle.osm_folder.specs.declared.progress.Progress.TheVariants.{Whole, Befor
 use Rattle.osm_repl.specs.Execution.{HasFollowed, StopsOver}
 use Rattle.osm_repl.specs.declared.orders.Order.TheVariants.{Follow}
 
-pub has_followed : (dir save : Bor (List ℕ)) (a b : StoreState) (r : Result Progress RunFault)
-    → IfOk r (IsProgress (IsKnown a) dir.now save.now a.files b.files) → IfOk r IsProgressReport
-    → (IsKnown a → (p : List PublishedValue) (n : ℕ) → IsFolderOf p a.files dir.now → IsSaveOf p n (a.files save.now)
-    → IsWhole r (FollowsOver p n dir.now save.now a b))
-    → IfOk r (HasFollowed (IsKnown a) (Follow dir save) a.files b.files)
-has_followed dir save a b (Ok (Whole report)) done is over = record {
+pub has_followed : (dir save : Bor (List ℕ)) (old new : StoreState) (r : Result Progress RunFault)
+    → IfOk r (IsProgress (IsKnown old) dir.now save.now old.files new.files) → IfOk r IsProgressReport
+    → (IsKnown old → (p : List PublishedValue) (b n : ℕ) → IsFolderOf p old.files dir.now → IsSaveOf p b n (old.files save.now)
+    → IsWhole r (FollowsOver p b n dir.now save.now old new))
+    → IfOk r (HasFollowed (IsKnown old) (Follow dir save) old.files new.files)
+has_followed dir save old new (Ok (Whole report)) done is over = record {
   does = done;
-  over = λ sure p n folder saved. (over sure p n folder saved).in_step;
+  over = λ sure p b n folder saved. (over sure p b n folder saved).in_step;
   report_is = is;
 }
-has_followed dir save a b (Ok (Before report fault)) done is over = (done, is)
-has_followed dir save a b (Err fault) done is over = tt
+has_followed dir save old new (Ok (Before report fault)) done is over = (done, is)
+has_followed dir save old new (Err fault) done is over = tt
 
-pub stops_over : (dir save : Bor (List ℕ)) (a b : StoreState) (r : Result Progress RunFault)
-    → (IsKnown a → (p : List PublishedValue) (n : ℕ) → IsFolderOf p a.files dir.now → IsSaveOf p n (a.files save.now)
-    → IsWhole r (FollowsOver p n dir.now save.now a b))
-    → IfErr r (λ fault. IsKnown a → StopsOver (Follow dir save) a.files b.files fault)
-stops_over dir save a b (Ok progress) over = tt
-stops_over dir save a b (Err fault) over = λ sure p n folder saved. (over sure p n folder saved).refuses
+pub stops_over : (dir save : Bor (List ℕ)) (old new : StoreState) (r : Result Progress RunFault)
+    → (IsKnown old → (p : List PublishedValue) (b n : ℕ) → IsFolderOf p old.files dir.now → IsSaveOf p b n (old.files save.now)
+    → IsWhole r (FollowsOver p b n dir.now save.now old new))
+    → IfErr r (λ fault. IsKnown old → StopsOver (Follow dir save) old.files new.files fault)
+stops_over dir save old new (Ok progress) over = tt
+stops_over dir save old new (Err fault) over = λ sure p b n folder saved. (over sure p b n folder saved).refuses

@@ -5,7 +5,7 @@ use Rattle.clap.specs.Words.{with_rule, with_subcommand}
 use Rattle.clap.specs.declared.builder.value_parser.ValueParser.TheVariants.{NonEmptyString}
 use Rattle.osm_repl.specs.declared.orders.Order.{Order}
 use Rattle.osm_repl.specs.declared.orders.Order.TheVariants.{Replay, Publish, Follow, Lag, Show}
-use Rattle.osm_repl.specs.declared.orders.Order.TheVariants.{Convert, Export, PublishAs}
+use Rattle.osm_repl.specs.declared.orders.Order.TheVariants.{Begin, Convert, Export, PublishAs}
 
 -- a word that isn't empty
 abbrev pub filled_rule : Text → Rule
@@ -41,6 +41,12 @@ publish_next_app =
 abbrev pub publish_app : App
 publish_app = with_rule publish_next_app sequence_rule
 
+-- `begin BASE STATE SAVE`
+abbrev pub begin_app : App
+begin_app =
+    with_word (with_word (with_word (new_app (codes "begin")) (codes "BASE")) (codes "STATE"))
+    (codes "SAVE")
+
 -- `follow DIR SAVE`
 abbrev pub follow_app : App
 follow_app = with_word (with_word (new_app (codes "follow")) (codes "DIR")) (codes "SAVE")
@@ -71,8 +77,8 @@ program_app =
 abbrev pub osmrepl_app : App
 osmrepl_app =
     with_subcommand (with_subcommand (with_subcommand (with_subcommand (with_subcommand
-    (with_subcommand (with_subcommand program_app replay_app.top) publish_app.top) follow_app.top)
-    lag_app.top) show_app.top) export_app.top) convert_app.top
+    (with_subcommand (with_subcommand (with_subcommand program_app replay_app.top) publish_app.top)
+    begin_app.top) follow_app.top) lag_app.top) show_app.top) export_app.top) convert_app.top
 
 -- those are the values of those words
 abbrev pub AreValues : List Row → List (Text × Text) → Type 0
@@ -100,6 +106,8 @@ IsOrderIn found (Publish dir changes now) = IsFound found (codes "publish")
 IsOrderIn found (PublishAs dir changes now sequence) = IsFound found (codes "publish")
     ((codes "DIR", dir.now) ∷ (codes "CHANGES", changes.now) ∷ (codes "TIME", now.now)
     ∷ (codes "N", sequence.now) ∷ [])
+IsOrderIn found (Begin base state save) = IsFound found (codes "begin")
+    ((codes "BASE", base.now) ∷ (codes "STATE", state.now) ∷ (codes "SAVE", save.now) ∷ [])
 IsOrderIn found (Follow dir save) =
     IsFound found (codes "follow") ((codes "DIR", dir.now) ∷ (codes "SAVE", save.now) ∷ [])
 IsOrderIn found (Lag dir save) =
@@ -120,6 +128,8 @@ HasNoEmptyWord Replay = Unit {0}
 HasNoEmptyWord (Publish dir changes now) = (dir.now ≡ [] → ⊥) × (changes.now ≡ [] → ⊥)
 HasNoEmptyWord (PublishAs dir changes now sequence) =
     (dir.now ≡ [] → ⊥) × (changes.now ≡ [] → ⊥)
+HasNoEmptyWord (Begin base state save) =
+    (base.now ≡ [] → ⊥) × (state.now ≡ [] → ⊥) × (save.now ≡ [] → ⊥)
 HasNoEmptyWord (Follow dir save) = (dir.now ≡ [] → ⊥) × (save.now ≡ [] → ⊥)
 HasNoEmptyWord (Lag dir save) = (dir.now ≡ [] → ⊥) × (save.now ≡ [] → ⊥)
 HasNoEmptyWord (Show save) = save.now ≡ [] → ⊥

@@ -1,10 +1,11 @@
 -- What the program does for an order: it replays standard input, or it runs over the files and
 -- prints a report. `known` says that it is known what the files hold.
-use Rattle.std.specs.Prelude.{◌≡◌, ℕ, ◌⊎◌, List, Option, take}
+use Rattle.std.specs.Prelude.{◌≡◌, ℕ, ◌<◌, ◌⊎◌, List, Option, take}
 use Rattle.std.specs.Io.KnownBytes.{Appends}
 use Rattle.osm_follow.specs.Published.{PublishedValue}
 use Rattle.osm_follow.specs.View.{ViewValue}
 use Rattle.osm_reading.specs.Sequence.{SpellsSequence}
+use Rattle.osm_folder.specs.Beginning.{BeginStops, IsBaseOf, IsBegunFrom}
 use Rattle.osm_folder.specs.Conversion.{ConvertStops, IsConverted}
 use Rattle.osm_folder.specs.Exporting.{ExportStops, IsExported, IsExportOf}
 use Rattle.osm_folder.specs.Files.{Files}
@@ -15,8 +16,8 @@ use Rattle.osm_folder.specs.Lagging.{IsLag, IsLagOf, IsLagReport, LagRefuses, La
 use Rattle.osm_folder.specs.Numbered.{IsAddedAs, IsPublishedAs, NumberedRefuses, NumberedStops}
 use Rattle.osm_folder.specs.Progress.{IsFollowedBefore, IsProgressReport, ProgressStops}
 use Rattle.osm_folder.specs.Publication.{FolderRefuses, IsAdded, IsPublished, PublishStops}
-use Rattle.osm_folder.specs.Reports.{ReportValue, convert_report_of, publish_report_of}
-use Rattle.osm_folder.specs.Reports.{show_report_of}
+use Rattle.osm_folder.specs.Reports.{ReportValue, begin_report_of, convert_report_of}
+use Rattle.osm_folder.specs.Reports.{publish_report_of, show_report_of}
 use Rattle.osm_folder.specs.Runs.{Blames}
 use Rattle.osm_folder.specs.Showing.{IsShown, IsShownOf, ShowStops}
 use Rattle.osm_folder.specs.declared.fault.FileName.TheVariants.{Output}
@@ -27,7 +28,7 @@ use Rattle.osm_folder.specs.declared.progress.Progress.TheVariants.{Whole, Befor
 use Rattle.osm_repl.specs.Replay.{ReplayFault, ReplayLeaves, Replays}
 use Rattle.osm_repl.specs.declared.orders.Order.{Order}
 use Rattle.osm_repl.specs.declared.orders.Order.TheVariants.{Replay, Publish, Follow, Lag, Show}
-use Rattle.osm_repl.specs.declared.orders.Order.TheVariants.{Convert, Export, PublishAs}
+use Rattle.osm_repl.specs.declared.orders.Order.TheVariants.{Begin, Convert, Export, PublishAs}
 
 -- the order is a run over the files: each is, except a replay
 abbrev pub IsOverFiles : Order → Type 0
@@ -49,6 +50,7 @@ IsOtherRun order = Unit {0}
 abbrev pub calls_of : Order → ℕ
 calls_of (Publish dir changes now) = 6
 calls_of (PublishAs dir changes now sequence) = 5
+calls_of (Begin base state save) = 3
 calls_of (Follow dir save) = 3
 calls_of (Lag dir save) = 2
 calls_of (Show save) = 1
@@ -62,6 +64,8 @@ Does (Publish dir changes now) old new report =
     IsPublished dir.now changes.now now.now old new report
 Does (PublishAs dir changes now sequence) old new report =
     IsPublishedAs dir.now changes.now now.now sequence.now old new report
+Does (Begin base state save) old new report =
+    IsBegunFrom base.now state.now save.now old new report
 Does (Follow dir save) old new report = IsFollowed dir.now save.now old new report
 Does (Lag dir save) old new report = IsLag dir.now save.now old report
 Does (Show save) old new report = IsShown (old save.now) report
@@ -69,7 +73,8 @@ Does (Export save output) old new report = IsExported save.now output.now old ne
 Does (Convert input output) old new report = IsConverted input.now output.now old new
 Does Replay old new report = ⊥
 
--- the same, if the folder is that of published sequences, and the save is one of theirs
+-- the same, if the folder is that of published sequences, and the save or the data file is one of
+-- theirs
 abbrev pub DoesOver : Order → Files → Files → ReportValue → Type 0
 DoesOver (Publish dir changes now) old new report =
     (published : List PublishedValue) → IsFolderOf published old dir.now
@@ -77,18 +82,23 @@ DoesOver (Publish dir changes now) old new report =
 DoesOver (PublishAs dir changes now sequence) old new report =
     (published : List PublishedValue) → IsFolderOf published old dir.now
     → IsAddedAs published dir.now changes.now now.now sequence.now old new report
-DoesOver (Follow dir save) old new report =
-    (published : List PublishedValue) (number : ℕ) → IsFolderOf published old dir.now
-    → IsSaveOf published number (old save.now)
-    → IsInStepAfter published number dir.now save.now old new report
-DoesOver (Lag dir save) old new report =
-    (published : List PublishedValue) (number : ℕ) → IsFolderOf published old dir.now
-    → IsSaveOf published number (old save.now) → IsLagOf published number report
-DoesOver (Show save) old new report =
+DoesOver (Begin base state save) old new report =
     (published : List PublishedValue) (number : ℕ)
-    → IsSaveOf published number (old save.now) → IsShownOf published number report
+    → IsBaseOf published number base.now state.now old
+    → IsSaveOf published number number (new save.now) × (report ≡ begin_report_of number)
+DoesOver (Follow dir save) old new report =
+    (published : List PublishedValue) (base number : ℕ) → IsFolderOf published old dir.now
+    → IsSaveOf published base number (old save.now)
+    → IsInStepAfter published base number dir.now save.now old new report
+DoesOver (Lag dir save) old new report =
+    (published : List PublishedValue) (base number : ℕ) → IsFolderOf published old dir.now
+    → IsSaveOf published base number (old save.now) → IsLagOf published number report
+DoesOver (Show save) old new report =
+    (published : List PublishedValue) (base number : ℕ)
+    → IsSaveOf published base number (old save.now) → IsShownOf published base number report
 DoesOver (Export save output) old new report =
-    (published : List PublishedValue) (number : ℕ) → IsSaveOf published number (old save.now)
+    (published : List PublishedValue) (base number : ℕ)
+    → IsSaveOf published base number (old save.now)
     → IsExportOf published number output.now (new output.now)
 DoesOver order old new report = Unit {0}
 
@@ -97,6 +107,8 @@ abbrev pub IsReportOf : Order → ReportValue → Type 0
 IsReportOf (Publish dir changes now) report = (n : ℕ) × (report ≡ publish_report_of n)
 IsReportOf (PublishAs dir changes now sequence) report =
     (n : ℕ) × SpellsSequence sequence.now n × (report ≡ publish_report_of n)
+IsReportOf (Begin base state save) report =
+    (n : ℕ) × (0 < n) × (report ≡ begin_report_of n)
 IsReportOf (Follow dir save) report = IsFollowReport report
 IsReportOf (Lag dir save) report = IsLagReport report
 IsReportOf (Show save) report = (view : ViewValue) × (report ≡ show_report_of view)
@@ -110,6 +122,8 @@ RunStops known (Publish dir changes now) old new fault =
     PublishStops known dir.now changes.now now.now old new fault
 RunStops known (PublishAs dir changes now sequence) old new fault =
     NumberedStops known dir.now changes.now now.now sequence.now old new fault
+RunStops known (Begin base state save) old new fault =
+    BeginStops known base.now state.now old fault
 RunStops known (Follow dir save) old new fault = ProgressStops known dir.now save.now old fault
 RunStops known (Lag dir save) old new fault = LagStops known dir.now save.now old fault
 RunStops known (Show save) old new fault = ShowStops known (old save.now) fault
@@ -128,11 +142,12 @@ StopsOver (PublishAs dir changes now sequence) old new fault =
     (published : List PublishedValue) → IsFolderOf published old dir.now
     → NumberedRefuses published dir.now changes.now now.now sequence.now old fault
 StopsOver (Follow dir save) old new fault =
-    (published : List PublishedValue) (number : ℕ) → IsFolderOf published old dir.now
-    → IsSaveOf published number (old save.now) → FollowRefuses published (old save.now) fault
+    (published : List PublishedValue) (base number : ℕ) → IsFolderOf published old dir.now
+    → IsSaveOf published base number (old save.now)
+    → FollowRefuses published (old save.now) fault
 StopsOver (Lag dir save) old new fault =
-    (published : List PublishedValue) (number : ℕ) → IsFolderOf published old dir.now
-    → IsSaveOf published number (old save.now) → LagRefuses published number fault
+    (published : List PublishedValue) (base number : ℕ) → IsFolderOf published old dir.now
+    → IsSaveOf published base number (old save.now) → LagRefuses published number fault
 StopsOver order old new fault = Unit {0}
 
 -- what a run that stops leaves: all files as they were, or, for a publication, which may be cut
@@ -151,6 +166,7 @@ abbrev pub IsUntouched : Order → List ℕ → Type 0
 IsUntouched Replay name = Unit {0}
 IsUntouched (Publish dir changes now) name = IsApart dir.now name
 IsUntouched (PublishAs dir changes now sequence) name = IsApart dir.now name
+IsUntouched (Begin base state save) name = name ≡ save.now → ⊥
 IsUntouched (Follow dir save) name = name ≡ save.now → ⊥
 IsUntouched (Lag dir save) name = Unit {0}
 IsUntouched (Show save) name = Unit {0}

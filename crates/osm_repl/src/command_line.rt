@@ -5,7 +5,8 @@ ghost use Rattle.std.specs.Prelude.{true, false};
 ghost use Rattle.clap.specs.Words.{FailsBy, HasMatchesOf, app_of, fault_of, found_of, kind_of};
 ghost use Rattle.clap.specs.Words.{first_of, rows_of, rule_of, subcommand_rows_of, takes};
 ghost use Rattle.clap.specs.declared.builder.Command.TheViews.{out-Command as fields_of};
-ghost use Rattle.osm_repl.specs.CommandLine.{HasNoEmptyWord, IsOrderIn, IsOrderOf, convert_app};
+ghost use Rattle.osm_repl.specs.CommandLine.{HasNoEmptyWord, IsOrderIn, IsOrderOf, begin_app};
+ghost use Rattle.osm_repl.specs.CommandLine.{convert_app};
 ghost use Rattle.osm_repl.specs.CommandLine.{export_app, filled_rule, follow_app, lag_app};
 ghost use Rattle.osm_repl.specs.CommandLine.{osmrepl_app, program_app, publish_app};
 ghost use Rattle.osm_repl.specs.CommandLine.{publish_next_app};
@@ -46,6 +47,7 @@ fn order_of<'a>(matches: &ArgMatches<'a>) -> Order<'a>
     match name {
         "replay" => Order::Replay,
         "publish" => publish_of(given),
+        "begin" => begin_of(given),
         "follow" => follow_of(given),
         "lag" => lag_of(given),
         "show" => show_of(given),
@@ -71,6 +73,18 @@ fn publish_of<'a>(given: &ArgMatches<'a>) -> Order<'a>
             now,
             sequence,
         },
+    }
+}
+
+fn begin_of<'a>(given: &ArgMatches<'a>) -> Order<'a>
+    requires { HasWords (rows_of (found_of given.now)) (words_of (codes "begin")) }
+    ensures order { IsOrderIn (Some (codes "begin", rows_of (found_of given.now))) result }
+    ensures not_empty { HasNoEmptyWord result }
+{
+    Order::Begin {
+        base: nonempty(given, "BASE"),
+        state: nonempty(given, "STATE"),
+        save: nonempty(given, "SAVE"),
     }
 }
 
@@ -172,6 +186,7 @@ fn command<'a>(alloc: Global) -> Result<Command<'a>, AllocError>
     program(alloc)
         .subcommand(replay(alloc))?
         .subcommand(publish(alloc)?)?
+        .subcommand(begin(alloc)?)?
         .subcommand(follow(alloc)?)?
         .subcommand(lag(alloc)?)?
         .subcommand(show(alloc)?)?
@@ -216,6 +231,26 @@ fn publish_next<'a>(alloc: Global) -> Result<Command<'a>, AllocError>
         .arg(word(alloc, "DIR", "The folder; it is made if it isn't there"))?
         .arg(word(alloc, "CHANGES", "The changes, an OPL file"))?
         .arg(time(alloc))
+}
+
+fn begin<'a>(alloc: Global) -> Result<Command<'a>, AllocError>
+    ensures app { IfOk result (λ c. app_of c ≡ begin_app) }
+    ensures local { IfOk result (λ c. (fields_of c).has_globals ≡ false) }
+{
+    Command::new(alloc, "begin")
+        .about(help::BEGIN)
+        .after_help(help::BEGINNING)
+        .arg(word(alloc, "BASE", "The data file that is read"))?
+        .arg(word(
+            alloc,
+            "STATE",
+            "The state of the sequence that the data file is of",
+        ))?
+        .arg(word(
+            alloc,
+            "SAVE",
+            "The save that is written; what it held before is replaced",
+        ))
 }
 
 fn follow<'a>(alloc: Global) -> Result<Command<'a>, AllocError>

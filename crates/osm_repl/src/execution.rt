@@ -12,6 +12,7 @@ ghost use Rattle.osm_repl.specs.Execution.{Leaves, RunStops, StopsOver, calls_of
 use crate::orders::Order;
 use crate::replay::replay_run;
 use crate::writing::write_text;
+use osm_folder::begin::begin_run;
 use osm_folder::convert::convert_run;
 use osm_folder::export::export_run;
 use osm_folder::fault::RunFault;
@@ -168,6 +169,7 @@ fn run<S: Store>(alloc: Global, order: Order<'_>, store: &mut S) -> Result<Repor
             now,
             sequence,
         } => publish_as_run(alloc, store, dir, changes, now, sequence),
+        Order::Begin { base, state, save } => begin_run(alloc, store, base, state, save),
         Order::Lag { dir, save } => lag_run(alloc, store, dir, save),
         Order::Show { save } => show_run(alloc, store, save),
         Order::Export { save, output } => export_run(alloc, store, save, output),

@@ -5,6 +5,7 @@ pub(crate) const ABOUT: &str =
 
 pub(crate) const EXAMPLES: &str = "Examples:
   osmrepl publish folder changes.opl --now 2024-01-01T00:00:00Z --sequence 1
+  osmrepl begin extract.o5m state.txt follower.save
   osmrepl follow folder follower.save
   osmrepl lag folder follower.save
   osmrepl show follower.save
@@ -62,6 +63,23 @@ Without --sequence, the same command run again may publish the same changes a se
 A fault names a file of DIR by its path there, as state.txt or 000/000/001.o5c, and CHANGES as
 changes.";
 
+pub(crate) const BEGIN: &str = "Begins a save with a data file; the ending of BASE says the form";
+
+pub(crate) const BEGINNING: &str = "As in
+  osmrepl begin extract.o5m state.txt follower.save
+
+BASE is a data file, as an extract or what export wrote, and STATE is the state file of the sequence
+that it is of. SAVE is written with the objects of BASE, at the number and the time of STATE, and
+without counts of edits; whatever it held before is replaced. The number is printed, as 'number 7'.
+What follow then counts are the edits of the numbers after it.
+
+A name that ends in .opl is that of an OPL file, one that ends in .o5m that of an o5m file. It has
+at most 64 MiB. Its objects stand by rising keys: nodes, ways and relations, each by their ids. Each
+has its metadata, and none is deleted. A state of number 0 is refused, so what export writes of a
+save at number 0 is nothing to begin with.
+
+A fault names BASE as base, STATE as state, and SAVE as save.";
+
 pub(crate) const FOLLOW: &str = "Applies a folder's new sequences to a save";
 
 pub(crate) const FOLLOWING: &str = "As in
@@ -98,7 +116,8 @@ pub(crate) const SHOWING: &str = "As in
   osmrepl show follower.save
 
 It prints the number and the time, the objects as lines of an OPL file, and the users and the
-changesets with their counts of edits.
+changesets with their counts of edits. If the save began with a data file, 'base B' comes after the
+number: the counts are then those of the numbers after B.
 
 A fault names SAVE as save.";
 
@@ -111,6 +130,8 @@ pub(crate) const EXPORTING: &str = "As in
 The objects are written by rising keys: nodes, ways and relations, each by their ids. A name that
 ends in .opl is that of an OPL file, and one that ends in .o5m that of an o5m file, which has at most
 64 MiB. The number, the time and the counts of edits aren't written. Nothing is printed.
+
+With the state file of the save's number, OUT is what begin takes.
 
 A fault names SAVE as save, and OUT as output.";
 

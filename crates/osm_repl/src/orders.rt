@@ -18,6 +18,12 @@ pub enum Order<'a> {
         now: &'a str,
         sequence: &'a str,
     },
+    /// Writes a save that begins with the objects of a data file, at the state that belongs to it.
+    Begin {
+        base: &'a str,
+        state: &'a str,
+        save: &'a str,
+    },
     /// Takes a save as far as a folder goes.
     Follow {
         dir: &'a str,

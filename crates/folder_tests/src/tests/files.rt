@@ -1,6 +1,8 @@
 //! Runs over a store with a few files, and what they leave.
 
+use osm_folder::begin::begin_run;
 use osm_folder::convert::convert_run;
+use osm_folder::export::export_run;
 use osm_folder::fault::RunFault;
 use osm_folder::follow::follow_run;
 use osm_folder::lag::lag_run;
@@ -52,12 +54,16 @@ pub fn are_files(store: &MemoryStore, files: &[(&str, &[u8])]) -> bool {
 pub enum Run {
     /// Publishes the changes of `changes`, at New Year.
     Publish,
-    /// Follows from the save `save`.
+    /// Begins the save `save` with the data file of that name and the state `state`.
+    Begin(&'static str),
+    /// Follows from the save.
     Follow,
     /// Prints the lag of the save.
     Lag,
     /// Shows the save.
     Show,
+    /// Exports the save to the data file of that name.
+    Export(&'static str),
     /// Converts `a.opl` into `b.o5c`.
     Convert,
 }
@@ -66,9 +72,11 @@ pub enum Run {
 pub fn outcome<S: Store>(alloc: Global, store: &mut S, run: Run) -> Result<Report, RunFault> {
     match run {
         Run::Publish => publish_run(alloc, store, "dir", "changes", "2024-01-01T00:00:00Z"),
+        Run::Begin(base) => begin_run(alloc, store, base, "state", "save"),
         Run::Follow => follow_run(alloc, store, "dir", "save"),
         Run::Lag => lag_run(alloc, store, "dir", "save"),
         Run::Show => show_run(alloc, store, "save"),
+        Run::Export(output) => export_run(alloc, store, "save", output),
         Run::Convert => convert_run(alloc, store, "a.opl", "b.o5c"),
     }
 }

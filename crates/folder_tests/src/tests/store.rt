@@ -2,6 +2,7 @@
 
 use super::files::{is_file, store_with};
 use super::shown::is_shown;
+use osm_folder::data_form::{DataForm, data_form_of};
 use osm_folder::fault::{FileName, RunFault};
 use osm_folder::form::{Form, form_of};
 use osm_folder::fuse::Fuse;
@@ -204,10 +205,22 @@ fn the_end_of_a_name_tells_the_form(rt: HostRuntime) {
     ] {
         assert!(rt; form_of(name) == form, "{name}");
     }
+    for (name, form) in [
+        ("a.opl", Some(DataForm::Opl)),
+        ("a.opl.o5m", Some(DataForm::O5m)),
+        (".o5m", Some(DataForm::O5m)),
+        ("o5m", None),
+        ("a.O5M", None),
+        ("a.o5c", None),
+        ("a.osm", None),
+        ("", None),
+    ] {
+        assert!(rt; data_form_of(name) == form, "{name}");
+    }
 }
 
 // A fault, its text and its exit status.
-const FAULTS: [(RunFault, &str, u8); 21] = [
+const FAULTS: [(RunFault, &str, u8); 24] = [
     (RunFault::WantOfMemory, "out of memory", 3),
     (
         RunFault::ReadFault(FileName::Top),
@@ -230,6 +243,13 @@ const FAULTS: [(RunFault, &str, u8); 21] = [
         3,
     ),
     (RunFault::Absent(FileName::Save), "save: not there", 3),
+    (RunFault::Absent(FileName::Base), "base: not there", 3),
+    (
+        RunFault::BadState(FileName::State, StateError::MissingTime),
+        "state: bad state: MissingTime",
+        3,
+    ),
+    (RunFault::ZeroBase, "state: no sequence to begin at", 3),
     (
         RunFault::BadState(
             FileName::Sequence(1_002_003, Suffix::State),

@@ -27,19 +27,20 @@ HasValues rows (name ∷ names) = HasValue rows name × HasValues rows names
 -- the name of a command
 abbrev pub IsName : Text → Type 0
 IsName name =
-    (name ≡ codes "replay") ⊎ (name ≡ codes "publish") ⊎ (name ≡ codes "follow")
-    ⊎ (name ≡ codes "lag") ⊎ (name ≡ codes "show") ⊎ (name ≡ codes "export")
-    ⊎ (name ≡ codes "convert")
+    (name ≡ codes "replay") ⊎ (name ≡ codes "publish") ⊎ (name ≡ codes "begin")
+    ⊎ (name ≡ codes "follow") ⊎ (name ≡ codes "lag") ⊎ (name ≡ codes "show")
+    ⊎ (name ≡ codes "export") ⊎ (name ≡ codes "convert")
 
 -- the words of a command that may not be empty
 abbrev pub words_of : Text → List Text
 words_of name =
     if bytes_eq name (codes "publish") then codes "DIR" ∷ codes "CHANGES" ∷ []
+    else (if bytes_eq name (codes "begin") then codes "BASE" ∷ codes "STATE" ∷ codes "SAVE" ∷ []
     else (if bytes_eq name (codes "follow") then codes "DIR" ∷ codes "SAVE" ∷ []
     else (if bytes_eq name (codes "lag") then codes "DIR" ∷ codes "SAVE" ∷ []
     else (if bytes_eq name (codes "show") then codes "SAVE" ∷ []
     else (if bytes_eq name (codes "export") then codes "SAVE" ∷ codes "OUT" ∷ []
-    else (if bytes_eq name (codes "convert") then codes "IN" ∷ codes "OUT" ∷ [] else [])))))
+    else (if bytes_eq name (codes "convert") then codes "IN" ∷ codes "OUT" ∷ [] else []))))))
 
 -- those that may be empty
 abbrev pub times_of : Text → List Text
