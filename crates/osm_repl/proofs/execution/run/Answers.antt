@@ -7,6 +7,9 @@ use Rattle.osm_repl.proofs.execution.run.Goals as goal
 pub returns-in-Publish-clause-stops : goal.returns-in-Publish-clause-stops
 returns-in-Publish-clause-stops g c = rw c.in-Publish.is c.publish_run.ensures.stops
 
+pub returns-in-Begin-clause-over : goal.returns-in-Begin-clause-over
+returns-in-Begin-clause-over g c = rw c.in-Begin.is c.begin_run.ensures.in_step
+
 pub returns-in-Lag-clause-over : goal.returns-in-Lag-clause-over
 returns-in-Lag-clause-over g c = rw c.in-Lag.is (lag_in_step _ _ _ _ c.lag_run.result c.lag_run.ensures.over)
 
