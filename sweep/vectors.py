@@ -385,7 +385,8 @@ WRONG_SECOND_SAVES = [
 
 
 # Texts of version 1 that claim more objects than their number has room for.
-BOUNDED = [SAVE_START + b"objects 100001\n", b"osmrepl-save 1\nsequence 0\ntime none\nobjects 1\n"]
+BOUNDED = [SAVE_START + b"objects 100001\n", SAVE_START + b"objects 18446744073709551617\n",
+           b"osmrepl-save 1\nsequence 0\ntime none\nobjects 1\n"]
 
 
 def in_version_2(content):
