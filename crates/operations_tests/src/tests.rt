@@ -97,6 +97,25 @@ fn text_of(reply: &Reply) -> &[u8] {
     }
 }
 
+// What a list of operations comes to in a new store.
+fn outcome_of(alloc: Global, list: Vec<Operation>) -> Result<Outcome, Fail> {
+    let store = MemoryStore::new(alloc);
+    let outcome = run(alloc, store, "dir", "save", "changes", "extract.o5m", list)?;
+    Ok(outcome)
+}
+
+fn are_replies(outcome: &Outcome, texts: &[&str]) -> bool {
+    if outcome.replies.len() != texts.len() {
+        return false;
+    }
+    for (reply, text) in outcome.replies.iter().zip(texts) {
+        if text_of(reply) != text.as_bytes() {
+            return false;
+        }
+    }
+    true
+}
+
 fn is_file(outcome: &Outcome, name: &str, bytes: &[u8]) -> bool {
     match outcome.store.get(name) {
         None => false,
@@ -107,20 +126,8 @@ fn is_file(outcome: &Outcome, name: &str, bytes: &[u8]) -> bool {
 #[test]
 fn losses_and_kills_leave_each_number_reported_once(rt: HostRuntime) -> Result<(), Fail> {
     let alloc = rt.alloc();
-    let store = MemoryStore::new(alloc);
-    let outcome = run(
-        alloc,
-        store,
-        "dir",
-        "save",
-        "changes",
-        "extract.o5m",
-        operations(alloc)?,
-    )?;
-    assert!(rt; outcome.replies.len() == REPLIES.len());
-    for (reply, text) in outcome.replies.iter().zip(REPLIES) {
-        assert!(rt; text_of(reply) == text.as_bytes(), "{text}");
-    }
+    let outcome = outcome_of(alloc, operations(alloc)?)?;
+    assert!(rt; are_replies(&outcome, &REPLIES));
     let save = b"osmrepl-save 2\nbase 0\nsequence 4\ntime 2024-01-01T00:03:00Z\nobjects 0\n\
         users 0\nchangesets 0\nend\n";
     assert!(rt; is_file(&outcome, "save", save));
@@ -200,20 +207,8 @@ fn numbered(alloc: Global) -> Result<Vec<Operation>, Fail> {
 #[test]
 fn each_number_is_published_once(rt: HostRuntime) -> Result<(), Fail> {
     let alloc = rt.alloc();
-    let store = MemoryStore::new(alloc);
-    let outcome = run(
-        alloc,
-        store,
-        "dir",
-        "save",
-        "changes",
-        "extract.o5m",
-        numbered(alloc)?,
-    )?;
-    assert!(rt; outcome.replies.len() == NUMBERED.len());
-    for (reply, text) in outcome.replies.iter().zip(NUMBERED) {
-        assert!(rt; text_of(reply) == text.as_bytes(), "{text}");
-    }
+    let outcome = outcome_of(alloc, numbered(alloc)?)?;
+    assert!(rt; are_replies(&outcome, &NUMBERED));
     let state = b"sequenceNumber=2\ntimestamp=2024-01-01T00\\:01\\:00Z\n";
     assert!(rt; is_file(&outcome, "dir/state.txt", state));
     assert!(rt; outcome.store.get("dir/000/000/002.o5c").is_some());
@@ -306,20 +301,8 @@ fn beginnings(alloc: Global) -> Result<Vec<Operation>, Fail> {
 #[test]
 fn a_beginning_goes_back_to_what_was_exported(rt: HostRuntime) -> Result<(), Fail> {
     let alloc = rt.alloc();
-    let store = MemoryStore::new(alloc);
-    let outcome = run(
-        alloc,
-        store,
-        "dir",
-        "save",
-        "changes",
-        "extract.o5m",
-        beginnings(alloc)?,
-    )?;
-    assert!(rt; outcome.replies.len() == BEGUN.len());
-    for (reply, text) in outcome.replies.iter().zip(BEGUN) {
-        assert!(rt; text_of(reply) == text.as_bytes(), "{text}");
-    }
+    let outcome = outcome_of(alloc, beginnings(alloc)?)?;
+    assert!(rt; are_replies(&outcome, &BEGUN));
     let save = b"osmrepl-save 2\nbase 3\nsequence 3\ntime 2024-01-01T00:02:00Z\nobjects 0\n\
         users 0\nchangesets 0\nend\n";
     assert!(rt; is_file(&outcome, "save", save));
@@ -388,20 +371,8 @@ fn spoiled(alloc: Global) -> Result<Vec<Operation>, Fail> {
 #[test]
 fn what_comes_before_a_spoiled_file_is_saved(rt: HostRuntime) -> Result<(), Fail> {
     let alloc = rt.alloc();
-    let store = MemoryStore::new(alloc);
-    let outcome = run(
-        alloc,
-        store,
-        "dir",
-        "save",
-        "changes",
-        "extract.o5m",
-        spoiled(alloc)?,
-    )?;
-    assert!(rt; outcome.replies.len() == SPOILED.len());
-    for (reply, text) in outcome.replies.iter().zip(SPOILED) {
-        assert!(rt; text_of(reply) == text.as_bytes(), "{text}");
-    }
+    let outcome = outcome_of(alloc, spoiled(alloc)?)?;
+    assert!(rt; are_replies(&outcome, &SPOILED));
     assert!(rt; is_before(&outcome.replies[3], 2));
     assert!(rt; is_before(&outcome.replies[6], 3));
     let state = b"sequenceNumber=2\ntimestamp=2024-01-01T00\\:01\\:00Z\n";

@@ -188,5 +188,10 @@ pub reports_before : (h : hist.History) (report : ReportValue) (count last : ℕ
     → hist.reported_of h ≡ numbers (hist.base_of h) (hist.number_of h - hist.base_of h)
     → hist.reported_of h ++ applied_in report.text ≡ numbers (hist.base_of h) (last - hist.base_of h)
 reports_before h report count last last_is most below is so_far =
-    rw (is, so_far, report_says (numbers (hist.number_of h) count) [] last (numbers_small (hist.number_of h) count (omega (arith, last_is, most))) tt (omega (arith, most)))
+    rw (
+      is,
+      so_far,
+      report_says (numbers (hist.number_of h) count) [] last (numbers_small (hist.number_of h) count (omega (arith, last_is, most))) tt
+          (omega (arith, most)),
+    )
     (numbers_after (hist.base_of h) (hist.number_of h) count below ∙ ap (λ j. numbers (hist.base_of h) (j - hist.base_of h)) (sym last_is))

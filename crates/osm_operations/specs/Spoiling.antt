@@ -1,5 +1,5 @@
--- A file of a published sequence that is spoiled while the follower runs: it holds one byte, which is
--- no state, no o5c file and no line of OPL.
+-- A file of a published sequence that is spoiled while the follower runs: it holds one byte, which
+-- is no state, no o5c file and no line of OPL.
 use Rattle.std.specs.Prelude.{◌≡◌, ℕ, ◌-◌, List, [], ◌∷◌}
 use Rattle.osm_state.specs.declared.paths.Suffix.{Suffix}
 use Rattle.osm_state.specs.declared.paths.Suffix.TheVariants.{O5c, Opl, State}

@@ -1,5 +1,6 @@
-//! Tests of beginnings: the save that a data file and its state give, each refusal in its order, what
-//! the other runs do with such a save, and what is left when each call of the store fails in turn.
+//! Tests of beginnings: the save that a data file and its state give, each refusal in its order,
+//! what the other runs do with such a save, and what is left when each call of the store fails in
+//! turn.
 
 use super::files::{NODE, NODE_O5C, Run, are_files, is_file, refusal, reports, store_with};
 use osm_folder::fault::{FileName, RunFault};
@@ -161,8 +162,8 @@ const CUT_O5M: &[u8] =
     b"\xff\xe0\x04o5m2\x10\x17\x02\x01\x80\x82\x90\xd9\x0c\x0e\x00\x05\x00ann\x00\
       \x80\xda\xc4\x09\x80\xb4\x89\x13";
 
-// Data files that are wrong, with the place and the cause. A file of another sort goes wrong where it
-// begins.
+// Data files that are wrong, with the place and the cause. A file of another sort goes wrong at its
+// beginning.
 const WRONG_BASES: &[(&str, &[u8], u64, Why)] = &[
     ("a.opl", b"\nx1\n", 2, Why::BadKind),
     (
@@ -348,8 +349,8 @@ fn a_folder_below_the_base_is_refused(rt: HostRuntime) {
     assert!(rt; does(rt.alloc(), &[BEGUN_2], &[("dir/state.txt", STATE_2)], &runs));
 }
 
-// Whether a save that is exported in that form and begun with again has the same objects, number and
-// time, that number as its base, and no counts.
+// Whether a save that is exported in that form and begun with again has the same objects, number
+// and time, that number as its base, and no counts.
 fn is_handed_on(alloc: Global, output: &'static str, save: &[u8]) -> bool {
     let files = [("save", save), ("state", STATE_2)];
     let Ok(mut store) = store_with(alloc, &files) else {

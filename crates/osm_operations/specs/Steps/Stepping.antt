@@ -313,8 +313,8 @@ FollowTo dir save (Refused fault) a b =
     × (b.lost ≡ a.lost) × (b.published ≡ a.published)
 FollowTo dir save r a b = ⊥
 
--- the file of that name is spoiled, and these are the bytes that it held; nothing changes if it isn't
--- there
+-- the file of that name is spoiled, and these are the bytes that it held; nothing changes if it
+-- isn't there
 abbrev pub IsSpoiledNow : List ℕ → Option Spoiled → Files → Files → Type 0
 IsSpoiledNow name None old new = (old name ≡ None) × (new ≡ old)
 IsSpoiledNow name (Some it) old new =
