@@ -310,8 +310,8 @@ abbrev pub IsOnTheWay : History → ℕ → Suffix → Type 0
 IsOnTheWay h n s =
     (number_of h < n) × (n ≤ number_of h + count_after h (number_of h)) × IsReadIn h n s
 
--- it may read the file: that, or the number is the next one, of which the state may be read though
--- its changes are lost
+-- it may read the file: that, or the number is the next one, whose state may be read though its
+-- changes are lost
 abbrev pub IsInTurn : History → ℕ → Suffix → Type 0
 IsInTurn h n s =
     (number_of h < n) × (n ≤ number_of h + count_after h (number_of h) + 1) × IsReadIn h n s

@@ -114,7 +114,7 @@ fn is_refused(alloc: Global, files: &[File<'_>], run: Run, fault: RunFault) -> b
     refusal(alloc, &mut store, run) == Some(fault) && are_files(&store, files)
 }
 
-// Files of which the state is refused, before the data file, which is wrong too.
+// Files with a state that is refused, and with a data file that is wrong too.
 const WRONG_STATES: &[(&[File<'static>], RunFault)] = &[
     (&[("a.opl", b"x")], RunFault::Absent(FileName::State)),
     (
@@ -196,7 +196,7 @@ fn a_wrong_data_file_is_refused_at_its_place(rt: HostRuntime) {
     }
 }
 
-// That many bytes, of which none is a line feed.
+// That many bytes, and no line feed among them.
 fn bytes_of(alloc: Global, count: usize) -> Option<Vec<u8>> {
     let mut bytes = Vec::with_capacity(alloc, count).ok()?;
     for _ in 0..count {
@@ -239,7 +239,7 @@ fn files_over_their_limits_are_refused(rt: HostRuntime) {
     );
 }
 
-// A folder of which the sequences after the base are there, and nothing else.
+// A folder with the sequences after the base, and nothing else.
 const AFTER_1: &[File<'static>] = &[
     ("dir/state.txt", STATE_2),
     ("dir/000/000/002.state.txt", STATE_2),
