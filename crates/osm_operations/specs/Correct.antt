@@ -1,12 +1,12 @@
 -- The main statement over folders. After every list of publications, runs of the follower, exports
--- and beginnings, any of these killed, losses and returns of files, and files that are spoiled while
--- the follower runs, on one store: the folder is that of the sequences that the history published;
--- the save is that of sequences base + 1 to its number over the objects of its base. The base is the
--- mirror of sequences 1 to it, as an earlier export gave it, or 0, the empty start, if there was no
--- beginning; so the save holds exactly the mirror of sequences 1 to its number and the counts of
--- those after its base. The numbers that were reported since the last beginning are those after the
--- base, once each, in order; and the extract holds the objects that sequences 1 to the exported
--- number leave.
+-- and beginnings, any of these killed, losses and returns of files, and files that are spoiled
+-- while the follower runs, on one store: the folder is that of the sequences that the history
+-- published; the save is that of sequences base + 1 to its number over the objects of its base.
+-- The base is the mirror of sequences 1 to it, as an earlier export gave it, or 0, the empty
+-- start, if there was no beginning; so the save holds exactly the mirror of sequences 1 to its
+-- number and the counts of those after its base. The numbers that were reported since the last
+-- beginning are those after the base, once each, in order; and the extract holds the objects that
+-- sequences 1 to the exported number leave.
 use Rattle.std.specs.Prelude.{◌≡◌, ℕ, ◌-◌, ◌<◌, ◌≤◌, List, length, Option, Some, None}
 use Rattle.std.specs.Prelude.{is_none, not}
 use Rattle.osm_state.specs.declared.paths.Suffix.{Suffix}

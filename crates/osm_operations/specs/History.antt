@@ -131,9 +131,9 @@ standing_first = record { number = 0; base = 0; is_saved = false; exported = Non
 abbrev pub begins_at : Standing → ℕ
 begins_at s = unwrap_or s.exported 0
 
--- the same after a reply to an operation after that history. A run of the follower adds the numbers
--- that it can take, or those before a faulty one; a beginning begins with what was exported last; an
--- export exports the follower's number
+-- the same after a reply to an operation after that history. A run of the follower adds the
+-- numbers that it can take, or those before a faulty one; a beginning begins with what was
+-- exported last; an export exports the follower's number
 abbrev pub standing_after : History → Reply → Standing → Standing
 standing_after h (Followed report) s = record {
   number = s.number + count_after h s.number;
