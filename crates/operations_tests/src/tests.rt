@@ -373,17 +373,17 @@ fn what_comes_before_a_spoiled_file_is_saved(rt: HostRuntime) -> Result<(), Fail
     let alloc = rt.alloc();
     let outcome = outcome_of(alloc, spoiled(alloc)?)?;
     assert!(rt; are_replies(&outcome, &SPOILED));
-    assert!(rt; is_before(&outcome.replies[3], 2));
-    assert!(rt; is_before(&outcome.replies[6], 3));
+    assert!(rt; is_before(outcome.replies.get(3), 2));
+    assert!(rt; is_before(outcome.replies.get(6), 3));
     let state = b"sequenceNumber=2\ntimestamp=2024-01-01T00\\:01\\:00Z\n";
     assert!(rt; is_file(&outcome, "dir/000/000/002.state.txt", state));
     Ok(())
 }
 
 // Whether a run came to the number before that one.
-fn is_before(reply: &Reply, number: u32) -> bool {
+fn is_before(reply: Option<&Reply>, number: u32) -> bool {
     match reply {
-        Reply::FollowedBefore { report: _, fault } => match fault {
+        Some(Reply::FollowedBefore { report: _, fault }) => match fault {
             RunFault::BadState(FileName::Sequence(named, _), _)
             | RunFault::BadChange(FileName::Sequence(named, _), _, _) => *named == number,
             _ => false,
