@@ -57,21 +57,30 @@ pub fn take_lock<R: Files<File = File>>(files: &R, path: &str) -> Result<Lock, L
     }
 }
 
-// A file that is there is only read, so that another user's lock serves too.
-fn open_or_make<R: Files>(files: &R, path: &str) -> io::Result<R::File> {
+// It is opened for reading alone, so that another user's lock serves too, and so that no report is
+// written into it: where standard output is closed, its descriptor may be that of the lock.
+fn open_or_make<R: Files<File = File>>(files: &R, path: &str) -> io::Result<File> {
     match fs::open(files, path) {
         Err(error) if error.kind() == ErrorKind::NotFound => {}
         opened => return opened,
     }
-    match make(files, path) {
-        Err(error) if error.kind() == ErrorKind::NotFound => {}
-        made => return made,
-    }
-    make_folders(files, path)?;
-    make(files, path)
+    make_file(files, path)?;
+    fs::open(files, path)
 }
 
-fn make<R: Files>(files: &R, path: &str) -> io::Result<R::File> {
+// Makes an empty file, and the folders that it needs.
+fn make_file<R: Files<File = File>>(files: &R, path: &str) -> io::Result<()> {
+    match make(files, path) {
+        Ok(_file) => return Ok(()),
+        Err(error) if error.kind() == ErrorKind::NotFound => {}
+        Err(error) => return Err(error),
+    }
+    make_folders(files, path)?;
+    let _file = make(files, path)?;
+    Ok(())
+}
+
+fn make<R: Files<File = File>>(files: &R, path: &str) -> io::Result<File> {
     OpenOptions::new()
         .write(true)
         .create(true)
