@@ -64,6 +64,8 @@ static int is_lock(const char *path) {
 static int stops(const char *path, int flags) {
     int reads = (flags & O_ACCMODE) == O_RDONLY;
     if (!getenv("CALLS") || path[0] == '/' || is_lock(path)) return 0;
+    /* a folder that is asked for as one is none either if it isn't there */
+    if (flags & O_DIRECTORY) return 0;
     return (reads ? !is_folder(path) : is_new(path)) && fails(path, reads);
 }
 
