@@ -87,3 +87,7 @@ kept f objects k = kept_object f (objects k)
 -- away, as a deletion does
 abbrev pub left_by : FilterValue → Leaving
 left_by f c = kept_object f (object_after c)
+
+-- the filter keeps each of the objects
+abbrev pub AreKept : FilterValue → List ChangeValue → Type 0
+AreKept f objects = AllByRecursion (λ c. keeps f c ≡ true) objects
