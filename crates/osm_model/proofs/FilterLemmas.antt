@@ -191,12 +191,14 @@ kept_as f c (whats.Node lon lat tags) e = refl
 kept_as f c (whats.Way refs tags) e = refl
 kept_as f c (whats.Relation members tags) e = refl
 
--- a change that the filter keeps leaves itself
-pub left_by-kept : (f : FilterValue) (c : ChangeValue) → keeps f c ≡ true → left_by f c ≡ Some c
+-- a change that the filter keeps is no deletion
+pub object_after-kept : (f : FilterValue) (c : ChangeValue) → keeps f c ≡ true → object_after c ≡ Some c
 unfolding keeps
-left_by-kept f c e =
-    let is : object_after c ≡ Some c = kept_as f c c.what e in
-    ap (kept_object f) is ∙ ap (λ (b : Bool). if b then Some c else None) e
+object_after-kept f c e = kept_as f c c.what e
+
+-- it leaves itself
+pub left_by-kept : (f : FilterValue) (c : ChangeValue) → keeps f c ≡ true → left_by f c ≡ Some c
+left_by-kept f c e = ap (kept_object f) (object_after-kept f c e) ∙ ap (λ (b : Bool). if b then Some c else None) e
 
 -- any other leaves nothing
 pub left_by-dropped : (f : FilterValue) (c : ChangeValue) → keeps f c ≡ false → left_by f c ≡ None
