@@ -1,9 +1,9 @@
 -- What is known about a store: its process, and how its failures are counted.
 use Rattle.std.specs.Prelude.{◌≡◌, ℕ, ◌+◌, false, None, min}
 use Rattle.osm_disk.specs.declared.disk_store.DiskStore.{DiskStore}
-use Rattle.osm_folder.specs.Frames.{StoreState}
-use Rattle.osm_folder.specs.declared.store.StoreError.{StoreError}
-use Rattle.osm_folder.specs.declared.store.StoreError.TheVariants.{Device}
+use Rattle.osm_store.specs.Frames.{StoreState}
+use Rattle.osm_store.specs.declared.store.StoreError.{StoreError}
+use Rattle.osm_store.specs.declared.store.StoreError.TheVariants.{Device}
 
 -- the count of a store's failures
 abbrev pub failures_of : {R F D : Type 0} → DiskStore R F D → ℕ

@@ -4,8 +4,8 @@ use Rattle.std.specs.IoError.{error_kind}
 use Rattle.std.specs.declared.io.Error.{Error}
 use Rattle.std.specs.declared.io.ErrorKind.{ErrorKind}
 use Rattle.std.specs.declared.io.ErrorKind.TheVariants as Kind
-use Rattle.osm_folder.specs.declared.store.StoreError.{StoreError}
-use Rattle.osm_folder.specs.declared.store.StoreError.TheVariants.{Device, TooLarge, WantOfMemory}
+use Rattle.osm_store.specs.declared.store.StoreError.{StoreError}
+use Rattle.osm_store.specs.declared.store.StoreError.TheVariants.{Device, TooLarge, WantOfMemory}
 
 -- refused memory, or else the device
 abbrev pub cause_by_kind : ErrorKind → StoreError

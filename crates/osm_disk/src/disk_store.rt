@@ -2,12 +2,12 @@
 
 ghost use Rattle.std.specs.Prelude.{◌≡◌, ◌≤◌, IfErr, IfOk, OnOk};
 ghost use Rattle.osm_disk.specs.Counts.{Counts, state_of};
-ghost use Rattle.osm_folder.specs.Files.{HasFailed, IsWithin, NeverTooLarge};
-ghost use Rattle.osm_folder.specs.Frames.{IsDevice, ReadsBetween, ReplacesBetween};
+ghost use Rattle.osm_store.specs.Files.{HasFailed, IsWithin, NeverTooLarge};
+ghost use Rattle.osm_store.specs.Frames.{IsDevice, ReadsBetween, ReplacesBetween};
 
 use crate::reading::{cause_of, is_there, read_file, read_prefix};
 use crate::replacing::write_file;
-use osm_folder::store::{Store, StoreError};
+use osm_store::store::{Store, StoreError};
 use std::alloc::Global;
 use std::fs::Files;
 

@@ -2,9 +2,9 @@
 
 ghost use Rattle.std.specs.Prelude.{◌≡◌, ℕ, ◌≤◌, ◌<◌, length, take, IfErr, IfOk, IfSome};
 ghost use Rattle.osm_disk.specs.Reading.{IsTooLongOnly, cause};
-ghost use Rattle.osm_folder.specs.Files.{IsWithin, NeverTooLarge};
+ghost use Rattle.osm_store.specs.Files.{IsWithin, NeverTooLarge};
 
-use osm_folder::store::StoreError;
+use osm_store::store::StoreError;
 use std::alloc::Global;
 use std::fs::{self, Files};
 use std::io::{self, ErrorKind, Read};

@@ -28,7 +28,7 @@ use Rattle.osm_follow.specs.Restart.{saved_of}
 use Rattle.osm_folder.specs.Beginning.{BeginStops, HasBegun, HasStart, IsBase, IsBaseOf, IsBeginning, IsBegunFrom, IsStart, begun_save, handed_on}
 use Rattle.osm_folder.specs.DataForms.{HasDataEnd, data_end_of, data_text_of, spells_data}
 use Rattle.osm_folder.specs.Exporting.{HasDataForm, IsExportOf, IsExported}
-use Rattle.osm_folder.specs.Files.{Files}
+use Rattle.osm_store.specs.Files.{Files}
 use Rattle.osm_folder.specs.Folder.{IsStateFile, IsThere}
 use Rattle.osm_folder.specs.Following.{IsSaveOf, IsSaved, max_save}
 use Rattle.osm_folder.specs.Reports.{ReportValue, begin_report_of}

@@ -5,16 +5,16 @@ use Rattle.osm_save.specs.declared.save.Saved.{Saved}
 use Rattle.osm_state.specs.State.{StateValue}
 use Rattle.osm_follow.specs.Follower.{FollowerValue}
 use Rattle.osm_follow.specs.Published.{PublishedValue}
-use Rattle.osm_folder.specs.Files.{Files}
+use Rattle.osm_store.specs.Files.{Files}
 use Rattle.osm_folder.specs.Folder.{IsFolderOf}
 use Rattle.osm_folder.specs.Following.{IsSaveOf, IsStarted}
-use Rattle.osm_folder.specs.Frames.{StoreState}
+use Rattle.osm_store.specs.Frames.{StoreState}
 use Rattle.osm_folder.specs.Names.{top_name_of}
 use Rattle.osm_folder.specs.Runs.{CallsUpTo, IsDeviceFault}
 use Rattle.osm_folder.specs.Steps.Following.{MadeStops}
 use Rattle.osm_folder.specs.declared.fault.RunFault.{RunFault}
 use Rattle.osm_folder.specs.declared.fault.RunFault.TheVariants.{ReadFault, WriteFault}
-use Rattle.osm_folder.proofs.FrameLemmas.{at_most_both}
+use Rattle.osm_store.proofs.FrameLemmas.{at_most_both}
 use Rattle.osm_folder.proofs.InStepLemmas.{one_saved, top_number}
 
 -- the numbers from the save to the top

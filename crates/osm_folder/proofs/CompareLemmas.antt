@@ -6,7 +6,7 @@ use Rattle.osm_follow.specs.Published.{PublishedValue}
 use Rattle.osm_o5c.proofs.FrontLemmas as o5c_file
 use Rattle.osm_opl.proofs.FileLaws as opl_file
 use Rattle.osm_state.specs.declared.paths.Suffix.TheVariants.{O5c, Opl}
-use Rattle.osm_folder.specs.Files.{Files, IsOver}
+use Rattle.osm_store.specs.Files.{Files, IsOver}
 use Rattle.osm_folder.specs.Folder.{IsAbsentOr, IsFile}
 use Rattle.osm_folder.specs.Forms.{spells_of}
 use Rattle.osm_folder.specs.Names.{file_name_of}

@@ -2,7 +2,7 @@
 use Rattle.std.proofs.Common.{◌≡◌, ℕ, ◌≤◌, List, Some, length, inr, arith, refl}
 use Rattle.osm_model.specs.Limits.{max_file}
 use Rattle.osm_folder.specs.Conversion.{HaveForms, IsConvertible, ConvertStops}
-use Rattle.osm_folder.specs.Files.{Files}
+use Rattle.osm_store.specs.Files.{Files}
 use Rattle.osm_folder.specs.Forms.{ConvertRefused, HasEnd}
 use Rattle.osm_folder.specs.Steps.Reading.{PutStops}
 use Rattle.osm_folder.specs.declared.fault.FileName.TheVariants.{Input, Output}

@@ -12,7 +12,7 @@ use Rattle.osm_mirror.specs.Mirror.{IsMirrorOf}
 use Rattle.osm_follow.specs.Published.{PublishedValue, changes_after, changes_up_to}
 use Rattle.osm_folder.specs.DataForms.{HasDataEnd, data_text_of}
 use Rattle.osm_folder.specs.Exporting.{ExportStops, HasDataForm, Holds, IsExportOf, IsExportable, IsExported}
-use Rattle.osm_folder.specs.Files.{Files, Puts}
+use Rattle.osm_store.specs.Files.{Files, Puts}
 use Rattle.osm_folder.specs.Following.{IsSaveOf, IsSaved, max_save}
 use Rattle.osm_folder.specs.Steps.Exporting.{IsObjectsOf, TextStops}
 use Rattle.osm_folder.specs.Steps.Reading.{PutStops}

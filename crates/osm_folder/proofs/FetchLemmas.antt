@@ -11,7 +11,7 @@ use Rattle.osm_follow.specs.Follower.{FollowerValue}
 use Rattle.osm_follow.specs.Published.{PublishedValue}
 use Rattle.osm_follow.specs.declared.delivery.Delivered.{Delivered}
 use Rattle.osm_follow.specs.declared.delivery.Delivered.TheVariants.{Old, Again, Held, Applied}
-use Rattle.osm_folder.specs.Files.{Files}
+use Rattle.osm_store.specs.Files.{Files}
 use Rattle.osm_folder.specs.Folder.{IsStateFile, max_state}
 use Rattle.osm_folder.specs.Following.{AreChanges, HasFiles, HasState, NumberStops}
 use Rattle.osm_folder.specs.Forms.{place_of, spells_of}

@@ -16,7 +16,7 @@ use Rattle.osm_state.specs.State.{StateValue, IsState}
 use Rattle.osm_state.specs.StateText.{state_text}
 use Rattle.osm_state.specs.declared.paths.Suffix.{Suffix}
 use Rattle.osm_state.specs.declared.paths.Suffix.TheVariants.{O5c, Opl, State}
-use Rattle.osm_folder.specs.Files.{Files, Puts}
+use Rattle.osm_store.specs.Files.{Files, Puts}
 use Rattle.osm_folder.specs.Folder.{IsAbsentOr, IsApart, IsFile, IsFolderOf, IsStateFile, IsTop}
 use Rattle.osm_folder.specs.Names.{file_name_of, top_name_of}
 use Rattle.osm_folder.specs.Publication.{GoesOnFrom, IsReady, Writes, writes_of}

@@ -17,7 +17,7 @@ use Rattle.osm_state.specs.declared.paths.Suffix.TheVariants.{O5c, Opl, State}
 use Rattle.osm_state.specs.declared.state_text.StateError.{StateError}
 use Rattle.osm_follow.proofs.PublishedLemmas.{after_next, changes_next, time_next}
 use Rattle.osm_follow.specs.Published.{AreSequences, PublishedValue, changes_after, changes_at, changes_up_to, sequence_at}
-use Rattle.osm_folder.specs.Files.{Files, IsOver}
+use Rattle.osm_store.specs.Files.{Files, IsOver}
 use Rattle.osm_folder.specs.Folder.{IsAbsentOr, IsFile, IsFolderOf, IsStateFile, IsThere, IsTop}
 use Rattle.osm_folder.specs.Following.{Adds, AddsAll, AreChanges, IsFollowed, IsFollowing, IsInStep, IsInStepAfter}
 use Rattle.osm_folder.specs.Following.{IsSaveOf, IsSaved, NamesOther, is_lost, limit_of, lost_numbers, ranges}

@@ -8,7 +8,7 @@ use Rattle.osm_state.proofs.StateLemmas.{one_state}
 use Rattle.osm_state.specs.State.{StateValue}
 use Rattle.osm_state.specs.StateLaws.{NoFaultBesideState}
 use Rattle.osm_follow.specs.Published.{PublishedValue, sequence_at, time_at}
-use Rattle.osm_folder.specs.Files.{Files, prefix_of}
+use Rattle.osm_store.specs.Files.{Files, prefix_of}
 use Rattle.osm_folder.specs.Folder.{IsFolderOf, IsStateFile, IsThere, IsTop}
 use Rattle.osm_folder.specs.Following.{IsSaveOf, IsSaved}
 use Rattle.osm_folder.specs.Lagging.{IsBadHead, IsBegun, IsHead, IsLag, IsLagOf, LagRefuses, LagStops}

@@ -4,7 +4,7 @@ use Rattle.std.specs.Prelude.{◌⊎◌, if◌then◌else◌}
 use Rattle.std.proofs.lemmas.Bool.Decides.{nat_tests}
 use Rattle.std.proofs.lemmas.Option.{same_Some}
 use Rattle.osm_reading.specs.Sequence.{SpellsSequence}
-use Rattle.osm_folder.specs.Files.{Files, Spends, SpendsAtMost}
+use Rattle.osm_store.specs.Files.{Files, Spends, SpendsAtMost}
 use Rattle.osm_folder.specs.Names.{top_name_of}
 use Rattle.osm_folder.specs.Numbered.{NumberedOut, SpendsExactly, calls_before, file_read_after, numbered_calls}
 use Rattle.osm_folder.specs.Publication.{GoesOnFrom, PublishOut, file_after}
@@ -17,8 +17,8 @@ use Rattle.osm_follow.specs.Publisher.{PublisherValue}
 use Rattle.osm_folder.specs.declared.fault.FileName.{FileName}
 use Rattle.osm_folder.specs.declared.fault.RunFault.{RunFault}
 use Rattle.osm_folder.specs.declared.fault.RunFault.TheVariants.{WantOfMemory, ReadFault, WriteFault}
-use Rattle.osm_folder.proofs.FileLemmas.{spends_both, spends_none}
-use Rattle.osm_folder.proofs.FrameLemmas.{most_both, most_none}
+use Rattle.osm_store.proofs.FileLemmas.{spends_both, spends_none}
+use Rattle.osm_store.proofs.FrameLemmas.{most_both, most_none}
 
 -- how many calls were left before so many
 pub left_before : (calls count : ℕ) (a b : Option ℕ) → Spends calls a b → SpendsAtMost calls a b → b ≡ Some count → a ≡ Some (calls + count)

@@ -2,10 +2,10 @@
 use Rattle.std.proofs.Common.{ℕ, List}
 use Rattle.std.specs.Prelude.{Result, Ok, Err, IfErr, IfOk, OnErr}
 use Rattle.osm_follow.specs.Published.{PublishedValue}
-use Rattle.osm_folder.specs.Files.{Files}
+use Rattle.osm_store.specs.Files.{Files}
 use Rattle.osm_folder.specs.Folder.{IsFolderOf}
 use Rattle.osm_folder.specs.Following.{FollowRefuses, FollowsOver, IsInStepAfter, IsSaveOf, follow_calls}
-use Rattle.osm_folder.specs.Frames.{IsKnown, StoreState}
+use Rattle.osm_store.specs.Frames.{IsKnown, StoreState}
 use Rattle.osm_folder.specs.Lagging.{IsLagOf, LagRefuses, LagsOver}
 use Rattle.osm_folder.specs.Numbered.{IsAddedAs, NumberedRefuses, PublishesAsOver}
 use Rattle.osm_folder.specs.Publication.{FolderRefuses, IsAdded, PublishesOver}

@@ -10,12 +10,12 @@ use Rattle.osm_state.specs.State.{StateValue}
 use Rattle.osm_state.specs.StateLaws.{NoFaultBesideState}
 use Rattle.osm_state.specs.declared.paths.Suffix.TheVariants.{O5c, Opl, State}
 use Rattle.osm_follow.specs.Published.{PublishedValue}
-use Rattle.osm_folder.specs.Files.{Files}
+use Rattle.osm_store.specs.Files.{Files}
 use Rattle.osm_folder.specs.Folder.{IsAbsentOr, IsFile, IsStateFile, IsThere}
 use Rattle.osm_folder.specs.Following.{AddsAll, AreChanges, BeyondStops, ComesTo, FollowRefuses, FollowStops}
 use Rattle.osm_folder.specs.Following.{GoesOn, HasFiles, IsReadable, IsStarted, NumberStops, SaveStops, StartStops}
 use Rattle.osm_folder.specs.Following.{is_lost, lost_numbers, max_save, ranges}
-use Rattle.osm_folder.specs.Frames.{Makes, StoreState}
+use Rattle.osm_store.specs.Frames.{Makes, StoreState}
 use Rattle.osm_folder.specs.Names.{file_name_of, top_name_of}
 use Rattle.osm_folder.specs.Progress.{ComesBefore, IsOfContent, ProgressStops}
 use Rattle.osm_folder.specs.Reports.{ReportValue, follow_report_of}
@@ -27,8 +27,8 @@ use Rattle.osm_folder.specs.declared.fault.FileName.TheVariants.{Sequence, Save}
 use Rattle.osm_folder.specs.declared.fault.RunFault.{RunFault}
 use Rattle.osm_folder.specs.declared.fault.RunFault.TheVariants.{WantOfMemory, ReadFault, WriteFault, TooLarge}
 use Rattle.osm_folder.specs.declared.fault.RunFault.TheVariants.{BadState, Mismatch, BadChange}
-use Rattle.osm_folder.proofs.FileLemmas.{spends_both}
-use Rattle.osm_folder.proofs.FrameLemmas.{failed_after}
+use Rattle.osm_store.proofs.FileLemmas.{spends_both}
+use Rattle.osm_store.proofs.FrameLemmas.{failed_after}
 use Rattle.osm_folder.proofs.InStepLemmas.{not_bad, not_faulty, not_faulty_opl, not_other, not_over, one_saved}
 use Rattle.osm_folder.proofs.TakingLemmas.{has_not_lost}
 

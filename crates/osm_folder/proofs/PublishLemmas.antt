@@ -7,7 +7,7 @@ use Rattle.osm_model.specs.Time.{TimeText}
 use Rattle.osm_follow.specs.Published.{PublishedTexts, PublishedValue, written_of}
 use Rattle.osm_follow.specs.Publisher.{CanClose, PublisherValue, closing}
 use Rattle.osm_state.specs.State.{StateValue}
-use Rattle.osm_folder.specs.Files.{Files, Puts}
+use Rattle.osm_store.specs.Files.{Files, Puts}
 use Rattle.osm_folder.specs.Folder.{IsApart, IsFolderOf}
 use Rattle.osm_folder.specs.Names.{top_name_of}
 use Rattle.osm_folder.specs.Publication.{CutsOff, GoesOnFrom, IsAdded, IsRead, IsReady, NotReady, Writes, file_after, writes_of}

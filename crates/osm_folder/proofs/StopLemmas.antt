@@ -6,7 +6,7 @@ use Rattle.osm_state.specs.State.{StateValue}
 use Rattle.osm_state.specs.StateLaws.{NoFaultBesideState}
 use Rattle.osm_state.specs.declared.paths.Suffix.TheVariants.{O5c, Opl, State}
 use Rattle.osm_follow.specs.Published.{PublishedValue, sequence_at}
-use Rattle.osm_folder.specs.Files.{Files}
+use Rattle.osm_store.specs.Files.{Files}
 use Rattle.osm_folder.specs.Folder.{IsFolderOf, IsTop}
 use Rattle.osm_folder.specs.Following.{BeyondStops, FollowRefuses, FollowStops, GoesOn, HasText, IsBadSave, IsSaveOf, IsSaved}
 use Rattle.osm_folder.specs.Following.{IsStarted, NumberStops, SaveStops, StartRefuses, StartStops, max_save}

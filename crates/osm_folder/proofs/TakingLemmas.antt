@@ -15,7 +15,7 @@ use Rattle.osm_follow.specs.Reach.{between, numbers}
 use Rattle.osm_follow.specs.Restart.{saved_of}
 use Rattle.osm_follow.specs.declared.delivery.Delivered.{Delivered}
 use Rattle.osm_follow.specs.declared.delivery.Delivered.TheVariants.{Old, Again, Held, Applied}
-use Rattle.osm_folder.specs.Files.{Files}
+use Rattle.osm_store.specs.Files.{Files}
 use Rattle.osm_folder.specs.Folder.{IsFile, IsThere}
 use Rattle.osm_folder.specs.Following.{AddsAll, AreChanges, HasFiles, is_lost, ranges}
 use Rattle.osm_folder.specs.Names.{file_name_of}

@@ -13,7 +13,7 @@ use Rattle.osm_state.specs.State.{StateValue}
 use Rattle.osm_follow.specs.Published.{PublishedValue, changes_up_to, sequence_at}
 use Rattle.osm_folder.specs.DataForms.{HasNoDataForm, place_of_data, spells_data}
 use Rattle.osm_folder.specs.Exporting.{HasDataForm}
-use Rattle.osm_folder.specs.Files.{Files, IsOver, Puts}
+use Rattle.osm_store.specs.Files.{Files, IsOver, Puts}
 use Rattle.osm_folder.specs.Folder.{IsStateFile, IsThere, max_state}
 use Rattle.osm_folder.specs.Following.{max_save}
 use Rattle.osm_folder.specs.Publication.{IsBadState}

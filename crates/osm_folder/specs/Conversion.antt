@@ -1,7 +1,7 @@
 -- A conversion of one file into another. `known` says that it is known what the files hold.
 use Rattle.std.specs.Prelude.{◌≡◌, ℕ, ◌≤◌, ◌⊎◌, List, Some, None, length}
 use Rattle.osm_model.specs.Limits.{max_file}
-use Rattle.osm_folder.specs.Files.{Files, IsOver, Puts}
+use Rattle.osm_store.specs.Files.{Files, IsOver, Puts}
 use Rattle.osm_folder.specs.Forms.{Converts, HasEnd, IsFaulty, IsOutputTooLarge}
 use Rattle.osm_folder.specs.declared.fault.FileName.TheVariants.{Input, Output}
 use Rattle.osm_folder.specs.declared.fault.RunFault.{RunFault}

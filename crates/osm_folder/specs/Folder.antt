@@ -7,7 +7,7 @@ use Rattle.osm_opl.specs.File.{SpellsOpl}
 use Rattle.osm_state.specs.StateText.{StateOf}
 use Rattle.osm_state.specs.declared.paths.Suffix.{Suffix}
 use Rattle.osm_state.specs.declared.paths.Suffix.TheVariants.{O5c, Opl, State}
-use Rattle.osm_folder.specs.Files.{Files}
+use Rattle.osm_store.specs.Files.{Files}
 use Rattle.osm_folder.specs.Names.{file_name_of, top_name_of}
 
 -- the most bytes of a state file: 64 KiB

@@ -7,7 +7,7 @@ use Rattle.osm_save.specs.declared.save.Saved.{Saved}
 use Rattle.osm_state.specs.State.{StateValue}
 use Rattle.osm_follow.specs.Lag.{AreSeconds}
 use Rattle.osm_follow.specs.Published.{PublishedValue, sequence_at, time_at}
-use Rattle.osm_folder.specs.Files.{Files, IsOver}
+use Rattle.osm_store.specs.Files.{Files, IsOver}
 use Rattle.osm_folder.specs.Folder.{IsStateFile, IsThere, max_state}
 use Rattle.osm_folder.specs.Following.{IsSaved, no_save}
 use Rattle.osm_folder.specs.Names.{top_name_of}

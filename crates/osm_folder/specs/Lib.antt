@@ -3,12 +3,10 @@ pub mod Conversion
 pub mod DataForms
 pub mod Exporting
 pub mod Faults
-pub mod Files
 pub mod Folder
 pub mod Following
 pub mod Progress
 pub mod Forms
-pub mod Frames
 pub mod Lagging
 pub mod Names
 pub mod Numbered
@@ -17,4 +15,3 @@ pub mod Reports
 pub mod Runs
 pub mod Showing
 pub mod Steps
-pub mod Stores

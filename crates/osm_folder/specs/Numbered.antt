@@ -10,7 +10,7 @@ use Rattle.osm_opl.specs.File.{SpellsOpl}
 use Rattle.osm_reading.specs.Sequence.{SpellsSequence}
 use Rattle.osm_state.specs.declared.paths.Suffix.{Suffix}
 use Rattle.osm_state.specs.declared.paths.Suffix.TheVariants.{O5c, Opl, State}
-use Rattle.osm_folder.specs.Files.{Files, IsOver, Spends, SpendsAtMost}
+use Rattle.osm_store.specs.Files.{Files, IsOver, Spends, SpendsAtMost}
 use Rattle.osm_folder.specs.Folder.{IsAbsentOr, IsFile, IsFolderOf, IsThere, max_state}
 use Rattle.osm_folder.specs.Following.{is_lost}
 use Rattle.osm_folder.specs.Names.{file_name_of, top_name_of}

@@ -6,7 +6,7 @@ use Rattle.osm_save.specs.Save.{SpellsSave}
 use Rattle.osm_save.specs.declared.save.Saved.{Saved}
 use Rattle.osm_state.specs.State.{StateValue}
 use Rattle.osm_state.specs.declared.paths.Suffix.TheVariants.{State}
-use Rattle.osm_folder.specs.Files.{Files, Puts}
+use Rattle.osm_store.specs.Files.{Files, Puts}
 use Rattle.osm_folder.specs.Following.{AddsAll, FollowStops, IsFollowReport, IsFollowed}
 use Rattle.osm_folder.specs.Following.{IsSaved, IsStarted, NumberStops, max_save, ranges}
 use Rattle.osm_folder.specs.Reports.{ReportValue, follow_report_of}

@@ -10,7 +10,7 @@ use Rattle.osm_opl.specs.File.{SpellsOpl}
 use Rattle.osm_state.specs.StateFault.{FaultOf}
 use Rattle.osm_state.specs.declared.paths.Suffix.TheVariants.{O5c, Opl, State}
 use Rattle.osm_state.specs.declared.state_text.StateError.{StateError}
-use Rattle.osm_folder.specs.Files.{Files, IsOver, Puts}
+use Rattle.osm_store.specs.Files.{Files, IsOver, Puts}
 use Rattle.osm_folder.specs.Folder.{IsFolderOf, IsStateFile, IsThere, max_state}
 use Rattle.osm_folder.specs.Forms.{IsFaulty}
 use Rattle.osm_folder.specs.Names.{file_name_of, top_name_of}

@@ -1,8 +1,8 @@
 -- What all runs over a store have in common.
 use Rattle.std.specs.Prelude.{◌≡◌, ℕ, Option, Result, OnErr}
-use Rattle.osm_folder.specs.Files.{HasFailed, HasFewer}
-use Rattle.osm_folder.specs.Frames.{CallsBetween, Makes, MakesAtMost, ReadsBetween, StoreState}
-use Rattle.osm_folder.specs.Frames.{ReplacesBetween}
+use Rattle.osm_store.specs.Files.{HasFailed, HasFewer}
+use Rattle.osm_store.specs.Frames.{CallsBetween, Makes, MakesAtMost, ReadsBetween, StoreState}
+use Rattle.osm_store.specs.Frames.{ReplacesBetween}
 use Rattle.osm_folder.specs.declared.fault.RunFault.{RunFault}
 use Rattle.osm_folder.specs.declared.fault.RunFault.TheVariants.{ReadFault, WriteFault}
 

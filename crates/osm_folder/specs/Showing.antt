@@ -5,7 +5,7 @@ use Rattle.osm_save.specs.Save.{SpellsSave}
 use Rattle.osm_save.specs.declared.save.Saved.{Saved}
 use Rattle.osm_follow.specs.Published.{PublishedValue, changes_after, changes_up_to, time_at}
 use Rattle.osm_follow.specs.View.{ViewValue}
-use Rattle.osm_folder.specs.Files.{IsOver}
+use Rattle.osm_store.specs.Files.{IsOver}
 use Rattle.osm_folder.specs.Following.{IsBadSave, max_save}
 use Rattle.osm_folder.specs.Reports.{ReportValue, show_report_of}
 use Rattle.osm_folder.specs.declared.fault.FileName.TheVariants.{Save}

@@ -1,6 +1,5 @@
 -- Definitions that only clauses of private functions cite.
 pub mod Beginning
-pub mod Copying
 pub mod Exporting
 pub mod Following
 pub mod Lagging

@@ -9,7 +9,7 @@ ghost use Rattle.osm_follow.specs.Published.{PublishedValue};
 ghost use Rattle.osm_folder.specs.Beginning.{BeginStops, IsBaseOf, IsBegunFrom, IsStart, begun_save};
 ghost use Rattle.osm_folder.specs.Folder.{max_state};
 ghost use Rattle.osm_folder.specs.Following.{IsSaveOf, max_save};
-ghost use Rattle.osm_folder.specs.Frames.{IsKnown};
+ghost use Rattle.osm_store.specs.Frames.{IsKnown};
 ghost use Rattle.osm_folder.specs.Reports.{begin_report_of};
 ghost use Rattle.osm_folder.specs.Runs.{Reads, Replaces};
 ghost use Rattle.osm_folder.specs.Steps.Beginning.{BaseStops, BaseTextStops, BegunStops, IsBaseRead};
@@ -20,7 +20,6 @@ use crate::fault::{FileName, RunFault};
 use crate::files::{MAX_STATE, read_present, write_file};
 use crate::follow::save as save_text;
 use crate::report::{Report, begin_report};
-use crate::store::Store;
 use osm_follow::begin::BeginError;
 use osm_follow::follower::Follower;
 use osm_model::change::Change;
@@ -28,6 +27,7 @@ use osm_model::form::FormError;
 use osm_model::limits::MAX_FILE;
 use osm_state::state::State;
 use osm_state::state_text::state_read;
+use osm_store::store::Store;
 use std::alloc::Global;
 
 /// Writes a save that begins with the objects of a data file, at the sequence and the time of the

@@ -6,9 +6,9 @@ ghost use Rattle.osm_model.specs.Batch.{IsBatch};
 ghost use Rattle.osm_model.specs.Change.{IsChange};
 ghost use Rattle.osm_model.specs.Limits.{max_file, max_sequence};
 ghost use Rattle.osm_opl.specs.Written.{line_text};
-ghost use Rattle.osm_folder.specs.Files.{IsWithin, Tells};
+ghost use Rattle.osm_store.specs.Files.{IsWithin, Tells};
 ghost use Rattle.osm_folder.specs.Folder.{IsAbsentOr, IsStateFile, IsThere, max_state};
-ghost use Rattle.osm_folder.specs.Frames.{IsKnown};
+ghost use Rattle.osm_store.specs.Frames.{IsKnown};
 ghost use Rattle.osm_folder.specs.Names.{file_name_of};
 ghost use Rattle.osm_folder.specs.Numbered.{AreFilesOf};
 ghost use Rattle.osm_folder.specs.Runs.{Reads};
@@ -20,7 +20,6 @@ use crate::fault::{FileName, RunFault};
 use crate::files::{MAX_STATE, read_file};
 use crate::form::{Form, read_form};
 use crate::names::file_name;
-use crate::store::Store;
 use osm_model::batch::Batch;
 use osm_model::change::Change;
 use osm_model::form::FormError;
@@ -32,6 +31,7 @@ use osm_state::laws::laws_of_state;
 use osm_state::paths::Suffix;
 use osm_state::state::State;
 use osm_state::state_text::state_read;
+use osm_store::store::Store;
 use std::alloc::Global;
 
 // Refuses as `Differs` unless the files of the number are there: its state with that time, and

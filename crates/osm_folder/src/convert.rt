@@ -2,7 +2,7 @@
 
 ghost use Rattle.std.specs.Prelude.{◌≡◌, IfErr, IfOk, OnOk};
 ghost use Rattle.osm_folder.specs.Conversion.{ConvertStops, IsConverted};
-ghost use Rattle.osm_folder.specs.Frames.{IsKnown};
+ghost use Rattle.osm_store.specs.Frames.{IsKnown};
 ghost use Rattle.osm_folder.specs.Reports.{convert_report_of};
 ghost use Rattle.osm_folder.specs.Runs.{Replaces};
 
@@ -10,8 +10,8 @@ use crate::fault::{FileName, RunFault};
 use crate::files::{read_present, write_file};
 use crate::form::{convert, form_of};
 use crate::report::{Report, convert_report};
-use crate::store::Store;
 use osm_model::limits::MAX_FILE;
+use osm_store::store::Store;
 use std::alloc::Global;
 
 /// Writes the changes of the input to the output, in the form of its name. A name that ends in

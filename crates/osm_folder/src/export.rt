@@ -9,7 +9,7 @@ ghost use Rattle.osm_save.specs.declared.save.Saved.{Saved};
 ghost use Rattle.osm_folder.specs.DataForms.{data_text_of};
 ghost use Rattle.osm_folder.specs.Exporting.{ExportStops, IsExported, IsExportOf};
 ghost use Rattle.osm_folder.specs.Following.{IsSaveOf};
-ghost use Rattle.osm_folder.specs.Frames.{IsKnown};
+ghost use Rattle.osm_store.specs.Frames.{IsKnown};
 ghost use Rattle.osm_folder.specs.Reports.{convert_report_of};
 ghost use Rattle.osm_folder.specs.Runs.{Replaces};
 ghost use Rattle.osm_folder.specs.Steps.Exporting.{IsObjectsOf, TextStops};
@@ -20,10 +20,10 @@ use crate::fault::{FileName, RunFault};
 use crate::files::{read_present, write_file};
 use crate::report::{Report, convert_report};
 use crate::start::MAX_SAVE;
-use crate::store::Store;
 use osm_model::change::Change;
 use osm_model::data::DataError;
 use osm_save::save::{SaveError, Saved, save_read};
+use osm_store::store::Store;
 use std::alloc::Global;
 
 /// Writes the objects of a save, which has to be there, as a data file, in the form of the output's

@@ -3,9 +3,9 @@
 ghost use Rattle.std.specs.Prelude.{◌≡◌, ℕ, ◌≤◌, true, IfErr, IfOk, IfNone, OnOk};
 ghost use Rattle.std.specs.Prelude.{MatchOption, is_some, length};
 ghost use Rattle.osm_model.specs.Limits.{max_sequence};
-ghost use Rattle.osm_folder.specs.Files.{IsWithin, Tells};
+ghost use Rattle.osm_store.specs.Files.{IsWithin, Tells};
 ghost use Rattle.osm_folder.specs.Folder.{IsStateFile, max_state};
-ghost use Rattle.osm_folder.specs.Frames.{IsKnown};
+ghost use Rattle.osm_store.specs.Frames.{IsKnown};
 ghost use Rattle.osm_folder.specs.Following.{HasState, NumberStops, is_lost, limit_of};
 ghost use Rattle.osm_folder.specs.Names.{file_name_of};
 ghost use Rattle.osm_folder.specs.Runs.{Reads, ReadsUpTo};
@@ -18,10 +18,10 @@ use crate::fault::{FileName, RunFault};
 use crate::files::{MAX_STATE, is_there, read_file};
 use crate::form::Form;
 use crate::names::file_name;
-use crate::store::Store;
 use osm_model::limits::MAX_FILE;
 use osm_state::paths::Suffix;
 use osm_state::state_text::state_read;
+use osm_store::store::Store;
 use std::alloc::Global;
 
 // The state text of a sequence, and its changes in one of the two forms.

@@ -1,13 +1,13 @@
 //! Reading and writing the files of a run.
 
 ghost use Rattle.std.specs.Prelude.{◌≡◌, ◌≤◌, Some, IfErr, IfOk, OnOk, is_some, length};
-ghost use Rattle.osm_folder.specs.Files.{IsWithin, Puts, Tells, prefix_of};
-ghost use Rattle.osm_folder.specs.Frames.{IsKnown};
+ghost use Rattle.osm_store.specs.Files.{IsWithin, Puts, Tells, prefix_of};
+ghost use Rattle.osm_store.specs.Frames.{IsKnown};
 ghost use Rattle.osm_folder.specs.Runs.{Reads, Replaces};
 ghost use Rattle.osm_folder.specs.Steps.Reading.{FileStops, PrefixStops, PresentStops, PutStops};
 
 use crate::fault::{FileName, RunFault};
-use crate::store::{Store, StoreError};
+use osm_store::store::{Store, StoreError};
 use std::alloc::Global;
 
 // The most bytes of a state file.

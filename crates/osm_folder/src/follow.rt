@@ -10,9 +10,9 @@ ghost use Rattle.osm_follow.specs.Delivery.{IsDue};
 ghost use Rattle.osm_follow.specs.Follower.{held_at};
 ghost use Rattle.osm_follow.specs.Published.{PublishedValue};
 ghost use Rattle.osm_follow.specs.Restart.{saved_of};
-ghost use Rattle.osm_folder.specs.Files.{SpendsAtMost};
+ghost use Rattle.osm_store.specs.Files.{SpendsAtMost};
 ghost use Rattle.osm_folder.specs.Folder.{IsFolderOf};
-ghost use Rattle.osm_folder.specs.Frames.{IsKnown};
+ghost use Rattle.osm_store.specs.Frames.{IsKnown};
 ghost use Rattle.osm_folder.specs.Following.{FollowStops, FollowsOver, IsFollowReport, IsFollowed};
 ghost use Rattle.osm_folder.specs.Following.{IsFollowing, IsReached, IsSaveOf, NumberStops};
 ghost use Rattle.osm_folder.specs.Following.{is_lost, lost_numbers, max_save};
@@ -30,7 +30,6 @@ use crate::files::write_file;
 use crate::form::Form;
 use crate::report::{Report, follow_report};
 use crate::start::{MAX_SAVE, read_start};
-use crate::store::Store;
 use osm_follow::delivery::{DeliverError, Delivered};
 use osm_follow::follower::Follower;
 use osm_follow::view::ViewError;
@@ -40,6 +39,7 @@ use osm_o5c::o5c::O5c;
 use osm_opl::opl::Opl;
 use osm_state::laws::laws_of_state;
 use osm_state::paths::Suffix;
+use osm_store::store::Store;
 use std::alloc::Global;
 
 // How far after the number that was reached lost numbers are named.

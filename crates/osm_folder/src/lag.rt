@@ -4,7 +4,7 @@ ghost use Rattle.std.specs.Prelude.{◌≡◌, ℕ, List, IfErr, IfOk};
 ghost use Rattle.osm_save.specs.Head.{BeginsSave};
 ghost use Rattle.osm_follow.specs.Published.{PublishedValue};
 ghost use Rattle.osm_folder.specs.Folder.{IsFolderOf};
-ghost use Rattle.osm_folder.specs.Frames.{IsKnown};
+ghost use Rattle.osm_store.specs.Frames.{IsKnown};
 ghost use Rattle.osm_folder.specs.Following.{IsSaveOf};
 ghost use Rattle.osm_folder.specs.Lagging.{IsHead, IsLag, IsLagReport, LagStops, LagsOver};
 ghost use Rattle.osm_folder.specs.Runs.{Reads};
@@ -14,11 +14,11 @@ use crate::fault::{FileName, RunFault};
 use crate::files::read_prefix;
 use crate::report::{Report, lag_report};
 use crate::start::read_top;
-use crate::store::Store;
 use osm_follow::lag::{LagError, lag_from};
 use osm_save::head::{BadHead, Head, head_read};
 use osm_state::laws::laws_of_state;
 use osm_state::state::State;
+use osm_store::store::Store;
 use std::alloc::Global;
 
 // How many bytes of a save are read. A head has at most 75.

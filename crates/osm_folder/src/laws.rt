@@ -5,7 +5,7 @@ ghost use Rattle.osm_save.specs.declared.save.Saved.{Saved};
 ghost use Rattle.osm_follow.specs.Published.{PublishedValue, sequence_at};
 ghost use Rattle.osm_folder.specs.Beginning.{IsBaseOf, IsBegunFrom, handed_on};
 ghost use Rattle.osm_folder.specs.Exporting.{IsExportOf, IsExported};
-ghost use Rattle.osm_folder.specs.Files.{Files};
+ghost use Rattle.osm_store.specs.Files.{Files};
 ghost use Rattle.osm_folder.specs.Folder.{IsStateFile, IsThere};
 ghost use Rattle.osm_folder.specs.Following.{IsSaved};
 ghost use Rattle.osm_folder.specs.Reports.{ReportValue};

@@ -6,7 +6,7 @@ ghost use Rattle.osm_follow.specs.Published.{PublishedValue};
 ghost use Rattle.osm_folder.specs.Folder.{IsFolderOf};
 ghost use Rattle.osm_folder.specs.Following.{FollowStops, FollowsOver, IsFollowReport, IsSaveOf};
 ghost use Rattle.osm_folder.specs.Following.{max_save};
-ghost use Rattle.osm_folder.specs.Frames.{IsKnown};
+ghost use Rattle.osm_store.specs.Frames.{IsKnown};
 ghost use Rattle.osm_folder.specs.Progress.{IsOfContent, IsProgress, IsProgressReport, IsWhole};
 ghost use Rattle.osm_folder.specs.Progress.{ProgressStops};
 ghost use Rattle.osm_folder.specs.Runs.{ReadsAtLeast, ReplacesAtLeast};
@@ -18,9 +18,9 @@ use crate::files::write_file;
 use crate::follow::{Following, follow_run, go_on, number_of};
 use crate::report::Report;
 use crate::start::read_start;
-use crate::store::Store;
 use osm_state::laws::laws_of_state;
 use osm_state::paths::Suffix;
+use osm_store::store::Store;
 use std::alloc::Global;
 
 /// What the word `follow` did.

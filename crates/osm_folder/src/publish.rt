@@ -7,7 +7,7 @@ ghost use Rattle.osm_follow.specs.Publisher.{CanClose, IsSmall, closing};
 ghost use Rattle.osm_model.specs.Limits.{max_file, max_sequence};
 ghost use Rattle.osm_opl.specs.File.{SpellsOpl};
 ghost use Rattle.osm_folder.specs.Folder.{IsApart, IsFolderOf, IsStateFile, max_state};
-ghost use Rattle.osm_folder.specs.Frames.{IsKnown};
+ghost use Rattle.osm_store.specs.Frames.{IsKnown};
 ghost use Rattle.osm_folder.specs.Names.{top_name_of};
 ghost use Rattle.osm_folder.specs.Publication.{GoesOnFrom, IsPublished, NotReady, PublishOut};
 ghost use Rattle.osm_folder.specs.Publication.{PublishStops, PublishesOver, Writes};
@@ -24,7 +24,6 @@ use crate::files::{MAX_STATE, read_file, read_present, write_file};
 use crate::names::{file_name, top_name};
 use crate::report::{Report, publish_report};
 use crate::start::top_state;
-use crate::store::Store;
 use osm_follow::published::Published;
 use osm_follow::publisher::{CloseError, EditError, Publisher};
 use osm_model::batch::Batch;
@@ -36,6 +35,7 @@ use osm_opl::opl::Opl;
 use osm_state::laws::laws_of_state;
 use osm_state::paths::Suffix;
 use osm_state::state::State;
+use osm_store::store::Store;
 use std::alloc::Global;
 
 // The names of the files of one sequence, and of the newest state.

@@ -6,7 +6,7 @@ ghost use Rattle.osm_model.specs.Limits.{IsPositive, max_sequence};
 ghost use Rattle.osm_follow.specs.Published.{PublishedValue};
 ghost use Rattle.osm_reading.specs.Sequence.{SpellsSequence};
 ghost use Rattle.osm_folder.specs.Folder.{IsApart, IsFolderOf};
-ghost use Rattle.osm_folder.specs.Frames.{IsKnown};
+ghost use Rattle.osm_store.specs.Frames.{IsKnown};
 ghost use Rattle.osm_folder.specs.Names.{top_name_of};
 ghost use Rattle.osm_folder.specs.Numbered.{IsAsked, IsPublishedAs, NotNumbered, NumberedOut};
 ghost use Rattle.osm_folder.specs.Numbered.{NumberedStops, PublishesAsOver, SpendsExactly};
@@ -22,13 +22,13 @@ use crate::compare::check_published;
 use crate::fault::RunFault;
 use crate::publish::{Publication, make, newest, publisher_from, read_changes, write_files};
 use crate::report::{Report, publish_report};
-use crate::store::Store;
 use osm_follow::publisher::Publisher;
 use osm_model::batch::Batch;
 use osm_model::time::time_read;
 use osm_reading::sequence::sequence_read;
 use osm_state::laws::laws_of_state;
 use osm_state::state::State;
+use osm_store::store::Store;
 use std::alloc::Global;
 
 // The sequence that is asked for, and the folder's newest state.

@@ -4,7 +4,7 @@ ghost use Rattle.std.specs.Prelude.{◌≡◌, ℕ, List, false, IfErr, IfOk};
 ghost use Rattle.osm_follow.specs.Published.{PublishedValue};
 ghost use Rattle.osm_follow.specs.Restart.{saved_of};
 ghost use Rattle.osm_follow.specs.View.{ViewValue, view_of};
-ghost use Rattle.osm_folder.specs.Frames.{IsKnown};
+ghost use Rattle.osm_store.specs.Frames.{IsKnown};
 ghost use Rattle.osm_folder.specs.Following.{IsSaveOf};
 ghost use Rattle.osm_folder.specs.Reports.{show_report_of};
 ghost use Rattle.osm_folder.specs.Runs.{Reads};
@@ -15,10 +15,10 @@ use crate::fault::{FileName, RunFault};
 use crate::files::read_present;
 use crate::report::{Report, show_report};
 use crate::start::{MAX_SAVE, restart};
-use crate::store::Store;
 use osm_follow::follower::Follower;
 use osm_follow::view::{View, ViewError};
 use osm_model::memory::WantOfMemory;
+use osm_store::store::Store;
 use std::alloc::Global;
 
 /// The show text of a save, which has to be there. Changes no file.

@@ -4,7 +4,7 @@ ghost use Rattle.std.specs.Prelude.{◌≡◌, ◌≤◌, IfErr, IfOk, length};
 ghost use Rattle.osm_save.specs.Save.{SpellsSave};
 ghost use Rattle.osm_follow.specs.Restart.{follower_of, saved_of};
 ghost use Rattle.osm_folder.specs.Folder.{IsStateFile, IsThere, max_state};
-ghost use Rattle.osm_folder.specs.Frames.{IsKnown};
+ghost use Rattle.osm_store.specs.Frames.{IsKnown};
 ghost use Rattle.osm_folder.specs.Following.{IsSaved, IsStarted, StartStops, no_save};
 ghost use Rattle.osm_folder.specs.Names.{top_name_of};
 ghost use Rattle.osm_folder.specs.Runs.{Reads};
@@ -14,11 +14,11 @@ ghost use Rattle.osm_folder.specs.Steps.Following.{TopStateStops, TopTextStops};
 use crate::fault::{FileName, RunFault};
 use crate::files::{MAX_STATE, read_file, read_present};
 use crate::names::top_name;
-use crate::store::Store;
 use osm_follow::follower::Follower;
 use osm_follow::restart::RestartError;
 use osm_state::state::State;
 use osm_state::state_text::state_read;
+use osm_store::store::Store;
 use std::alloc::Global;
 
 // The most bytes of a save: 1 GiB.

@@ -9,7 +9,7 @@ use Rattle.osm_state.specs.State.{StateValue}
 use Rattle.osm_state.specs.StateFault.{FaultOf}
 use Rattle.osm_folder.specs.Beginning.{IsZeroState, begun_save}
 use Rattle.osm_folder.specs.DataForms.{place_of_data, spells_data}
-use Rattle.osm_folder.specs.Files.{IsOver}
+use Rattle.osm_store.specs.Files.{IsOver}
 use Rattle.osm_folder.specs.Folder.{IsStateFile, max_state}
 use Rattle.osm_folder.specs.Following.{max_save}
 use Rattle.osm_folder.specs.Publication.{IsBadState}

@@ -15,7 +15,7 @@ use Rattle.osm_follow.specs.Reach.{numbers}
 use Rattle.osm_follow.specs.Restart.{follower_of, saved_of}
 use Rattle.osm_follow.specs.declared.delivery.Delivered.{Delivered}
 use Rattle.osm_follow.specs.declared.delivery.Delivered.TheVariants.{Old, Again, Held, Applied}
-use Rattle.osm_folder.specs.Files.{Files, IsOver}
+use Rattle.osm_store.specs.Files.{Files, IsOver}
 use Rattle.osm_folder.specs.Folder.{IsStateFile, max_state}
 use Rattle.osm_folder.specs.Following.{AddsAll, GoesOn, HasFiles, IsBadSave, IsLookedFor}
 use Rattle.osm_folder.specs.Following.{IsReached, IsReadable, NumberStops, is_lost, lost_numbers}

@@ -7,7 +7,7 @@ use Rattle.osm_model.specs.Time.{TimeText}
 use Rattle.osm_follow.specs.Published.{PublishedValue}
 use Rattle.osm_reading.specs.Sequence.{SpellsSequence}
 use Rattle.osm_state.specs.declared.paths.Suffix.{Suffix}
-use Rattle.osm_folder.specs.Files.{Files, IsOver}
+use Rattle.osm_store.specs.Files.{Files, IsOver}
 use Rattle.osm_folder.specs.Folder.{IsThere}
 use Rattle.osm_folder.specs.Forms.{spells_of}
 use Rattle.osm_folder.specs.Numbered.{AreFilesOf, IsBigToWrite, IsEarly, IsFar, IsOld, IsOther}

@@ -9,7 +9,7 @@ use Rattle.osm_follow.specs.Publisher.{new_publisher}
 use Rattle.osm_opl.specs.File.{SpellsOpl}
 use Rattle.osm_state.specs.State.{StateValue}
 use Rattle.osm_state.specs.declared.paths.Suffix.TheVariants.{O5c, Opl, State}
-use Rattle.osm_folder.specs.Files.{Files, IsOver}
+use Rattle.osm_store.specs.Files.{Files, IsOver}
 use Rattle.osm_folder.specs.Folder.{max_state}
 use Rattle.osm_folder.specs.Forms.{IsFaulty}
 use Rattle.osm_folder.specs.Names.{file_name_of, top_name_of}

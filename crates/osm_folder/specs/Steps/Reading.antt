@@ -1,6 +1,6 @@
 -- Reading and writing one file of a run. `known` says that it is known what the files hold.
 use Rattle.std.specs.Prelude.{◌≡◌, ℕ, List, Option, None}
-use Rattle.osm_folder.specs.Files.{IsOver}
+use Rattle.osm_store.specs.Files.{IsOver}
 use Rattle.osm_folder.specs.declared.fault.FileName.{FileName}
 use Rattle.osm_folder.specs.declared.fault.RunFault.{RunFault}
 use Rattle.osm_folder.specs.declared.fault.RunFault.TheVariants.{WantOfMemory, ReadFault}

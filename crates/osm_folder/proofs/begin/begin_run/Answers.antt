@@ -1,7 +1,7 @@
 use Rattle.std.proofs.Common.{Some, subst, sym, ◌∙◌}
 use Rattle.std.specs.Prelude.{IsTrue}
-use Rattle.osm_folder.specs.Files.{Puts}
-use Rattle.osm_folder.specs.Frames.{IsKnown}
+use Rattle.osm_store.specs.Files.{Puts}
+use Rattle.osm_store.specs.Frames.{IsKnown}
 use Rattle.osm_folder.proofs.BeginLemmas.{base_stops, beginning_of, begun_in_step, put_stops, start_stops, text_stops}
 use Rattle.osm_folder.proofs.ResultLemmas.{same_err}
 use Rattle.osm_folder.proofs.begin.begin_run.Goals as goal

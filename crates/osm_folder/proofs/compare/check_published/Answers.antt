@@ -1,4 +1,4 @@
-use Rattle.osm_folder.specs.Frames.{IsKnown}
+use Rattle.osm_store.specs.Frames.{IsKnown}
 use Rattle.osm_folder.proofs.CompareLemmas.{o5c_stops, opl_stops}
 use Rattle.osm_folder.proofs.ResultLemmas.{same_err}
 use Rattle.osm_folder.proofs.compare.check_published.Goals as goal

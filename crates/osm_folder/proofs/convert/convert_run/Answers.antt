@@ -1,7 +1,7 @@
 use Rattle.std.proofs.Common.{subst, sym, Some}
 use Rattle.std.specs.Prelude.{IsTrue}
-use Rattle.osm_folder.specs.Frames.{IsKnown}
-use Rattle.osm_folder.specs.Files.{Puts}
+use Rattle.osm_store.specs.Frames.{IsKnown}
+use Rattle.osm_store.specs.Files.{Puts}
 use Rattle.osm_folder.proofs.ConversionLemmas.{text_stops, put_stops}
 use Rattle.osm_folder.proofs.ResultLemmas.{same_err}
 use Rattle.osm_folder.proofs.convert.convert_run.Goals as goal

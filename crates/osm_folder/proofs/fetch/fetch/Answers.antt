@@ -1,5 +1,5 @@
 use Rattle.std.proofs.Common.{subst}
-use Rattle.osm_folder.specs.Frames.{IsKnown}
+use Rattle.osm_store.specs.Frames.{IsKnown}
 use Rattle.osm_state.specs.declared.paths.Suffix.TheVariants.{State}
 use Rattle.osm_folder.specs.Names.{file_name_of}
 use Rattle.osm_folder.specs.Steps.Following.{IsStateRead}

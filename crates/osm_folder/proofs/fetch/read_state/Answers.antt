@@ -1,7 +1,7 @@
 use Rattle.std.proofs.Common.{subst}
-use Rattle.osm_folder.specs.Frames.{IsKnown}
+use Rattle.osm_store.specs.Frames.{IsKnown}
 use Rattle.osm_state.specs.declared.paths.Suffix.TheVariants.{State}
-use Rattle.osm_folder.specs.Files.{IsWithin, Tells}
+use Rattle.osm_store.specs.Files.{IsWithin, Tells}
 use Rattle.osm_folder.specs.Folder.{max_state}
 use Rattle.osm_folder.specs.Names.{file_name_of}
 use Rattle.osm_folder.specs.Steps.Following.{StateTextStops}

@@ -1,4 +1,4 @@
-use Rattle.osm_folder.specs.Frames.{IsKnown}
+use Rattle.osm_store.specs.Frames.{IsKnown}
 use Rattle.osm_folder.proofs.FetchLemmas.{deliver_stops, delivered_taken}
 use Rattle.osm_folder.proofs.ResultLemmas.{same_err}
 use Rattle.osm_folder.proofs.follow.deliver_number.Goals as goal

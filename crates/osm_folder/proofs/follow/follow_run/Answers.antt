@@ -1,10 +1,10 @@
 use Rattle.std.proofs.Common.{◌+◌, ◌-◌, ◌*◌, Some, arith, length, subst, sym}
 use Rattle.std.specs.Prelude.{IsTrue}
-use Rattle.osm_folder.specs.Files.{Puts}
+use Rattle.osm_store.specs.Files.{Puts}
 use Rattle.osm_folder.specs.Following.{FollowsOver}
-use Rattle.osm_folder.specs.Frames.{IsKnown}
+use Rattle.osm_store.specs.Frames.{IsKnown}
 use Rattle.osm_folder.specs.Runs.{IsDeviceFault}
-use Rattle.osm_folder.proofs.FrameLemmas.{at_most_both, at_most_more, most_both}
+use Rattle.osm_store.proofs.FrameLemmas.{at_most_both, at_most_more, most_both}
 use Rattle.osm_folder.proofs.InStepLemmas.{in_step_after}
 use Rattle.osm_folder.proofs.ResultLemmas.{same_result}
 use Rattle.osm_folder.proofs.StopLemmas.{follow_refuses, put_save_refuses}

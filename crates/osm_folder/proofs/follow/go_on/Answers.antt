@@ -1,4 +1,4 @@
-use Rattle.osm_folder.specs.Frames.{IsKnown}
+use Rattle.osm_store.specs.Frames.{IsKnown}
 use Rattle.osm_folder.proofs.ReportLemmas.{big_stops, follow_report_is}
 use Rattle.osm_folder.proofs.ResultLemmas.{err_map, ok_map}
 use Rattle.osm_folder.proofs.follow.go_on.Goals as goal

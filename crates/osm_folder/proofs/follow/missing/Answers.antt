@@ -1,7 +1,7 @@
 use Rattle.std.proofs.Common.{◌+◌, ◌-◌, ◌*◌, ◌<◌, arith}
 use Rattle.std.proofs.lemmas.Grind.{common_steps}
 use Rattle.osm_folder.specs.Runs.{IsDeviceFault}
-use Rattle.osm_folder.proofs.FrameLemmas.{reads_both, reads_err, reads_more, reads_ok}
+use Rattle.osm_store.proofs.FrameLemmas.{reads_both, reads_err, reads_more, reads_ok}
 use Rattle.osm_folder.proofs.MissingLemmas.{named_next}
 use Rattle.osm_folder.proofs.follow.missing.Goals as goal
 

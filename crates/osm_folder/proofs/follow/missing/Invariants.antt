@@ -1,5 +1,5 @@
 use Rattle.std.proofs.Common.{◌≤◌, ◌+◌, ◌-◌, ◌*◌, Ok}
-use Rattle.osm_folder.specs.Frames.{IsKnown}
+use Rattle.osm_store.specs.Frames.{IsKnown}
 use Rattle.osm_folder.specs.Runs.{ReadsUpTo}
 use Rattle.osm_folder.specs.Steps.Following.{AreNamed}
 use Rattle.osm_folder.proofs.follow.missing.Given as goal

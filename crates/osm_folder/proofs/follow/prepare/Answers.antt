@@ -1,4 +1,4 @@
-use Rattle.osm_folder.specs.Frames.{IsKnown}
+use Rattle.osm_store.specs.Frames.{IsKnown}
 use Rattle.osm_follow.specs.Restart.{saved_of}
 use Rattle.osm_folder.proofs.CallLemmas.{way_calls}
 use Rattle.osm_folder.proofs.ResultLemmas.{err_map}

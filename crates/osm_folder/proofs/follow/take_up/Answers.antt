@@ -1,9 +1,9 @@
 use Rattle.std.proofs.Common.{◌+◌, ◌-◌, ◌*◌, ◌<◌, arith}
 use Rattle.std.proofs.lemmas.Grind.{common_steps}
-use Rattle.osm_folder.specs.Frames.{IsKnown}
+use Rattle.osm_store.specs.Frames.{IsKnown}
 use Rattle.osm_folder.specs.Runs.{IsDeviceFault}
 use Rattle.osm_folder.specs.Steps.Following.{IsNoted}
-use Rattle.osm_folder.proofs.FrameLemmas.{reads_both, reads_err, reads_ok}
+use Rattle.osm_store.proofs.FrameLemmas.{reads_both, reads_err, reads_ok}
 use Rattle.osm_folder.proofs.TakingLemmas.{comes_next, taken_more}
 use Rattle.std.proofs.Common.{subst}
 use Rattle.osm_folder.proofs.follow.take_up.Goals as goal

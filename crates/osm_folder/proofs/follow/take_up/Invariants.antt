@@ -1,5 +1,5 @@
 use Rattle.std.proofs.Common.{◌≡◌, ◌≤◌, ◌-◌, ◌*◌, Ok}
-use Rattle.osm_folder.specs.Frames.{IsKnown}
+use Rattle.osm_store.specs.Frames.{IsKnown}
 use Rattle.osm_folder.specs.Runs.{ReadsUpTo}
 use Rattle.osm_folder.specs.Steps.Following.{IsTakenTo}
 use Rattle.osm_folder.proofs.follow.take_up.Given as goal

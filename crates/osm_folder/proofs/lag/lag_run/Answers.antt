@@ -1,4 +1,4 @@
-use Rattle.osm_folder.specs.Frames.{IsKnown}
+use Rattle.osm_store.specs.Frames.{IsKnown}
 use Rattle.osm_folder.specs.Lagging.{IsBegun, LagsOver}
 use Rattle.osm_folder.proofs.LagLemmas.{head_lags, is_lag, lag_of, lag_refuses, told_lags, top_lags}
 use Rattle.osm_folder.proofs.ResultLemmas.{err_map, ok_map, same_err, same_result}

@@ -1,6 +1,6 @@
 use Rattle.std.proofs.Common.{◌≡◌, Some, arith, rules}
-use Rattle.osm_folder.specs.Files.{prefix_of}
-use Rattle.osm_folder.specs.Frames.{IsKnown}
+use Rattle.osm_store.specs.Files.{prefix_of}
+use Rattle.osm_store.specs.Frames.{IsKnown}
 use Rattle.osm_folder.proofs.LagLemmas.{head_text_stops, head_there}
 use Rattle.osm_folder.proofs.ResultLemmas.{err_map, ok_map}
 use Rattle.osm_folder.proofs.lag.read_start.Goals as goal

@@ -1,7 +1,7 @@
 use Rattle.std.proofs.Common.{Some, subst, sym}
 use Rattle.std.specs.Prelude.{IsTrue}
-use Rattle.osm_folder.specs.Files.{Puts}
-use Rattle.osm_folder.specs.Frames.{IsKnown}
+use Rattle.osm_store.specs.Files.{Puts}
+use Rattle.osm_store.specs.Frames.{IsKnown}
 use Rattle.osm_folder.proofs.ProgressLemmas.{comes_before, made_before_stops, next_stops, put_before_stops}
 use Rattle.osm_folder.proofs.ResultLemmas.{same_err}
 use Rattle.osm_folder.proofs.progress.follow_before.Goals as goal

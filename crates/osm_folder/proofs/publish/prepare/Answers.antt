@@ -1,8 +1,8 @@
 use Rattle.std.proofs.Common.{arith, subst}
-use Rattle.osm_folder.specs.Frames.{IsKnown}
+use Rattle.osm_store.specs.Frames.{IsKnown}
 use Rattle.osm_model.specs.Time.{TimeText}
 use Rattle.osm_folder.specs.Runs.{IsDeviceFault}
-use Rattle.osm_folder.proofs.FrameLemmas.{reads_both, reads_done}
+use Rattle.osm_store.proofs.FrameLemmas.{reads_both, reads_done}
 use Rattle.osm_folder.proofs.OutLemmas.{close_without_device}
 use Rattle.osm_folder.proofs.PublishLemmas.{all_made, all_read, not_made}
 use Rattle.osm_folder.proofs.ResultLemmas.{err_map}

@@ -1,6 +1,6 @@
 use Rattle.std.proofs.Common.{◌≡◌, ℕ, ap, arith, inl, inr, subst, sym, ◌∙◌}
 use Rattle.std.specs.Prelude.{IsTrue, Ok, Err}
-use Rattle.osm_folder.specs.Frames.{IsKnown, Makes, StoreState}
+use Rattle.osm_store.specs.Frames.{IsKnown, Makes, StoreState}
 use Rattle.osm_follow.specs.Published.{PublishedTexts, written_of}
 use Rattle.osm_folder.specs.Folder.{IsFolderOf}
 use Rattle.osm_folder.specs.Numbered.{PublishesAsOver, SpendsExactly, numbered_calls}
@@ -9,7 +9,7 @@ use Rattle.osm_folder.specs.Steps.Numbering.{asked_for}
 use Rattle.osm_folder.specs.Steps.Publishing.{WritesOut, from_top}
 use Rattle.osm_folder.specs.declared.fault.RunFault.{RunFault}
 use Rattle.osm_folder.proofs.FolderLemmas.{writes_others}
-use Rattle.osm_folder.proofs.FrameLemmas.{makes_both}
+use Rattle.osm_store.proofs.FrameLemmas.{makes_both}
 use Rattle.osm_folder.proofs.NumberedLemmas.{made_writes, number_to_write, numbered_adds, numbered_keeps}
 use Rattle.osm_folder.proofs.NumberedLemmas.{cut_refuses, numbered_refuses, one_sequence, one_top, prepare_stops}
 use Rattle.osm_folder.proofs.OutLemmas.{calls_before_write, out_lacks, writes_numbered_out, writing_calls}

@@ -1,5 +1,5 @@
 use Rattle.std.proofs.Common.{subst}
-use Rattle.osm_folder.specs.Frames.{IsKnown}
+use Rattle.osm_store.specs.Frames.{IsKnown}
 use Rattle.osm_save.specs.Save.{SpellsSave}
 use Rattle.osm_follow.specs.Restart.{saved_of}
 use Rattle.osm_folder.specs.Steps.Following.{RestartStops}

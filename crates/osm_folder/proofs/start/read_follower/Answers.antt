@@ -1,7 +1,7 @@
 use Rattle.std.proofs.Common.{subst}
-use Rattle.osm_folder.specs.Files.{IsWithin, Tells}
+use Rattle.osm_store.specs.Files.{IsWithin, Tells}
 use Rattle.osm_folder.specs.Following.{max_save}
-use Rattle.osm_folder.specs.Frames.{IsKnown}
+use Rattle.osm_store.specs.Frames.{IsKnown}
 use Rattle.osm_folder.specs.Steps.Following.{FollowerStops, RestartStops}
 use Rattle.osm_folder.proofs.ResultLemmas.{err_map}
 use Rattle.osm_folder.proofs.ShowLemmas.{follower_stops}

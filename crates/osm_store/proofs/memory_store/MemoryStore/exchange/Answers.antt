@@ -1,9 +1,9 @@
 use Rattle.std.proofs.Common.{Some, refl, subst}
 use Rattle.std.proofs.lemmas.Map.Text.{btree_map_updates_text}
-use Rattle.osm_folder.specs.Files.{Puts}
-use Rattle.osm_folder.specs.Stores.{files_of}
-use Rattle.osm_folder.proofs.FileLemmas.{puts_from_update}
-use Rattle.osm_folder.proofs.memory_store.MemoryStore.exchange.Goals as goal
+use Rattle.osm_store.specs.Files.{Puts}
+use Rattle.osm_store.specs.Stores.{files_of}
+use Rattle.osm_store.proofs.FileLemmas.{puts_from_update}
+use Rattle.osm_store.proofs.memory_store.MemoryStore.exchange.Goals as goal
 
 pub returns-in-Some-clause-put : goal.returns-in-Some-clause-put
 returns-in-Some-clause-put c = λ yes.

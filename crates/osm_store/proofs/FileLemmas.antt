@@ -7,7 +7,7 @@ use Rattle.std.proofs.lemmas.Slice.Eq.{bytes_eq-Decides}
 use Rattle.std.proofs.lemmas.Map.{update_same, update_other}
 use Rattle.std.proofs.lemmas.Bool.{false_from_ne_true}
 use Rattle.std.proofs.lemmas.List.{take_all}
-use Rattle.osm_folder.specs.Files.{Files, Puts, Spends}
+use Rattle.osm_store.specs.Files.{Files, Puts, Spends}
 
 -- a short list is its own prefix
 pub take_whole : (n : ℕ) (xs : List ℕ) → length xs ≤ n → xs ≡ take n xs

@@ -1,8 +1,8 @@
 -- The frame of the calls of a store: what they leave as it was, and how many there are.
 use Rattle.std.specs.Prelude.{◌≡◌, ℕ, ◌≤◌, Bool, IsTrue, Option, Result, IfErr, OnErr, OnOk}
-use Rattle.osm_folder.specs.Files.{Files, HasFailed, HasFewer, Spends, SpendsAtMost}
-use Rattle.osm_folder.specs.declared.store.StoreError.{StoreError}
-use Rattle.osm_folder.specs.declared.store.StoreError.TheVariants.{Device}
+use Rattle.osm_store.specs.Files.{Files, HasFailed, HasFewer, Spends, SpendsAtMost}
+use Rattle.osm_store.specs.declared.store.StoreError.{StoreError}
+use Rattle.osm_store.specs.declared.store.StoreError.TheVariants.{Device}
 
 -- what contracts see of a store: what its files hold, whether that is known, how many calls are
 -- left before it refuses every call, none if it never stops, and how often its device failed

@@ -1,10 +1,10 @@
 //! Files behind a trait.
 
 ghost use Rattle.std.specs.Prelude.{◌≡◌, Some, IfErr, IfOk, OnOk, is_some};
-ghost use Rattle.osm_folder.specs.Files.{IsWithin, NeverTooLarge, Puts, ReadRefused, Tells};
-ghost use Rattle.osm_folder.specs.Files.{prefix_of};
-ghost use Rattle.osm_folder.specs.Frames.{IsDevice, IsKnown, ReadsBetween, ReplacesBetween};
-ghost use Rattle.osm_folder.specs.Frames.{StoreState};
+ghost use Rattle.osm_store.specs.Files.{IsWithin, NeverTooLarge, Puts, ReadRefused, Tells};
+ghost use Rattle.osm_store.specs.Files.{prefix_of};
+ghost use Rattle.osm_store.specs.Frames.{IsDevice, IsKnown, ReadsBetween, ReplacesBetween};
+ghost use Rattle.osm_store.specs.Frames.{StoreState};
 
 use std::alloc::Global;
 use thiserror::Error;

@@ -2,9 +2,9 @@
 use Rattle.std.proofs.Common.{◌≡◌, ℕ, ◌+◌, ◌<◌, ◌≤◌, Option, None, Some, inl, inr, arith, refl, subst, ◌∙◌}
 use Rattle.std.specs.Prelude.{◌⊎◌, Bool, IsTrue, Result, Ok, Err, IfErr}
 use Rattle.std.proofs.lemmas.Bool.{cases_lt}
-use Rattle.osm_folder.specs.Files.{HasFailed, HasFewer, SpendsAtMost}
-use Rattle.osm_folder.specs.Frames.{Makes, MakesAtMost, ReadsBetween, StoreState}
-use Rattle.osm_folder.proofs.FileLemmas.{spends_both, spends_none}
+use Rattle.osm_store.specs.Files.{HasFailed, HasFewer, SpendsAtMost}
+use Rattle.osm_store.specs.Frames.{Makes, MakesAtMost, ReadsBetween, StoreState}
+use Rattle.osm_store.proofs.FileLemmas.{spends_both, spends_none}
 
 pub most_none : (k : ℕ) (a : Option ℕ) → SpendsAtMost k a a
 most_none k None = refl

@@ -1,8 +1,8 @@
 -- What a store tells about its files: what each name holds, as bytes.
 use Rattle.std.specs.Prelude.{◌≡◌, ℕ, ◌+◌, ◌<◌, ◌≤◌, ◌⊎◌, List, length, take, Option, Some, None}
 use Rattle.std.specs.Prelude.{Vec}
-use Rattle.osm_folder.specs.declared.store.StoreError.{StoreError}
-use Rattle.osm_folder.specs.declared.store.StoreError.TheVariants.{TooLarge}
+use Rattle.osm_store.specs.declared.store.StoreError.{StoreError}
+use Rattle.osm_store.specs.declared.store.StoreError.TheVariants.{TooLarge}
 
 -- what the file of each name holds, none if there is no such file
 abbrev pub Files : Type 0

@@ -1,30 +1,30 @@
 //! A store that stops after a number of calls, as a killed process does.
 
 ghost use Rattle.std.specs.Prelude.{◌≡◌, ◌+◌, ◌≤◌, Some, OnOk, OnErr, IfErr, IfOk, is_some};
-ghost use Rattle.osm_folder.specs.Files.{HasFailed, IsWithin, NeverTooLarge, Puts, ReadRefused};
-ghost use Rattle.osm_folder.specs.Files.{Tells, prefix_of};
-ghost use Rattle.osm_folder.specs.Frames.{IsDevice, IsKnown, ReadsBetween, ReplacesBetween};
-ghost use Rattle.osm_folder.specs.Stores.{IsBlown, fuse_state};
+ghost use Rattle.osm_store.specs.Files.{HasFailed, IsWithin, NeverTooLarge, Puts, ReadRefused};
+ghost use Rattle.osm_store.specs.Files.{Tells, prefix_of};
+ghost use Rattle.osm_store.specs.Frames.{IsDevice, IsKnown, ReadsBetween, ReplacesBetween};
+ghost use Rattle.osm_store.specs.Stores.{IsStopped, stopping_state};
 
 use crate::store::{Store, StoreError};
 use std::alloc::Global;
 
 /// Passes a number of calls on to another store, and refuses every call after them.
 #[derive(Debug, Drop)]
-pub struct Fuse<S: Store> {
+pub struct StoppingStore<S: Store> {
     inner: S,
     calls: u64,
     refused: u64,
 }
 
-impl<S: Store> Fuse<S> {
-    ghost use Rattle.osm_folder.specs.Stores.{inner_of, calls_of};
+impl<S: Store> StoppingStore<S> {
+    ghost use Rattle.osm_store.specs.Stores.{inner_of, calls_of};
 
-    pub fn new(inner: S, calls: u64) -> Fuse<S>
+    pub fn new(inner: S, calls: u64) -> StoppingStore<S>
         ensures inner { inner_of result ≡ inner }
         ensures calls { calls_of result ≡ calls }
     {
-        Fuse {
+        StoppingStore {
             inner,
             calls,
             refused: 0,
@@ -64,8 +64,8 @@ fn spend(calls: &mut u64, refused: &mut u64) -> Result<(), StoreError>
     Ok(())
 }
 
-impl<S: Store> Store for Fuse<S> {
-    ghost state = { fuse_state S.Store.state };
+impl<S: Store> Store for StoppingStore<S> {
+    ghost state = { stopping_state S.Store.state };
 
     fn read(&mut self, alloc: Global, name: &str, limit: u64) -> Result<Option<Vec<u8>>, StoreError>
         ensures read { IfOk result (λ o. IsKnown (S.Store.state self.old.inner)
@@ -73,10 +73,10 @@ impl<S: Store> Store for Fuse<S> {
         ensures within { IfOk result (IsWithin limit) }
         ensures refused { IfErr result (ReadRefused (IsKnown (S.Store.state self.old.inner)) limit
             ((S.Store.state self.old.inner).files name.now)) }
-        ensures blown { IfErr result (IsBlown self.old.calls
+        ensures stopped { IfErr result (IsStopped self.old.calls
             (S.Store.state self.old.inner) (S.Store.state self.new.inner)) }
         ensures frame { ReadsBetween IsDevice 1 1
-            (fuse_state S.Store.state self.old) (fuse_state S.Store.state self.new) result }
+            (stopping_state S.Store.state self.old) (stopping_state S.Store.state self.new) result }
     {
         spend(&mut self.calls, &mut self.refused)?;
         self.inner.read(alloc, name, limit)
@@ -92,10 +92,10 @@ impl<S: Store> Store for Fuse<S> {
             → Tells o (prefix_of most ((S.Store.state self.old.inner).files name.now))) }
         ensures within { IfOk result (IsWithin most) }
         ensures refused { IfErr result NeverTooLarge }
-        ensures blown { IfErr result (IsBlown self.old.calls
+        ensures stopped { IfErr result (IsStopped self.old.calls
             (S.Store.state self.old.inner) (S.Store.state self.new.inner)) }
         ensures frame { ReadsBetween IsDevice 1 1
-            (fuse_state S.Store.state self.old) (fuse_state S.Store.state self.new) result }
+            (stopping_state S.Store.state self.old) (stopping_state S.Store.state self.new) result }
     {
         spend(&mut self.calls, &mut self.refused)?;
         self.inner.read_prefix(alloc, name, most)
@@ -105,10 +105,10 @@ impl<S: Store> Store for Fuse<S> {
         ensures there { IfOk result (λ is_there. IsKnown (S.Store.state self.old.inner)
             → is_there ≡ is_some ((S.Store.state self.old.inner).files name.now)) }
         ensures refused { IfErr result NeverTooLarge }
-        ensures blown { IfErr result (IsBlown self.old.calls
+        ensures stopped { IfErr result (IsStopped self.old.calls
             (S.Store.state self.old.inner) (S.Store.state self.new.inner)) }
         ensures frame { ReadsBetween IsDevice 1 1
-            (fuse_state S.Store.state self.old) (fuse_state S.Store.state self.new) result }
+            (stopping_state S.Store.state self.old) (stopping_state S.Store.state self.new) result }
     {
         spend(&mut self.calls, &mut self.refused)?;
         self.inner.is_there(name)
@@ -119,10 +119,10 @@ impl<S: Store> Store for Fuse<S> {
             → Puts (S.Store.state self.old.inner).files name.now (Some bytes.now)
             (S.Store.state self.new.inner).files) }
         ensures refused { IfErr result NeverTooLarge }
-        ensures blown { IfErr result (IsBlown self.old.calls
+        ensures stopped { IfErr result (IsStopped self.old.calls
             (S.Store.state self.old.inner) (S.Store.state self.new.inner)) }
         ensures frame { ReplacesBetween IsDevice 1 1
-            (fuse_state S.Store.state self.old) (fuse_state S.Store.state self.new) result }
+            (stopping_state S.Store.state self.old) (stopping_state S.Store.state self.new) result }
     {
         spend(&mut self.calls, &mut self.refused)?;
         self.inner.write(alloc, name, bytes)

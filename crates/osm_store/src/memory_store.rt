@@ -3,8 +3,8 @@
 ghost use Rattle.std.specs.Prelude.{◌≡◌, ℕ, ◌<◌, ◌≤◌, List, length, take, Option, Some, None};
 ghost use Rattle.std.specs.Prelude.{true, false, is_some};
 ghost use Rattle.std.specs.Prelude.{IfOk, IfErr, string_bytes, OnOk, OnErr, MatchOption};
-ghost use Rattle.osm_folder.specs.Files.{Puts, Tells, IsWithin, prefix_of};
-ghost use Rattle.osm_folder.specs.Steps.Copying.{CopyStops};
+ghost use Rattle.osm_store.specs.Files.{Puts, Tells, IsWithin, prefix_of};
+ghost use Rattle.osm_store.specs.Steps.Copying.{CopyStops};
 
 use crate::store::{Store, StoreError};
 use osm_model::memory::WantOfMemory;
@@ -54,7 +54,7 @@ pub struct MemoryStore {
 }
 
 impl MemoryStore {
-    ghost use Rattle.osm_folder.specs.Stores.{files_of};
+    ghost use Rattle.osm_store.specs.Stores.{files_of};
 
     /// A store with no files.
     pub fn new(alloc: Global) -> MemoryStore
@@ -172,7 +172,7 @@ fn first(bytes: &[u8], most: u64) -> &[u8]
 }
 
 impl Store for MemoryStore {
-    ghost use Rattle.osm_folder.specs.Stores.{memory_state};
+    ghost use Rattle.osm_store.specs.Stores.{memory_state};
 
     ghost state = { memory_state };
 
