@@ -1,4 +1,4 @@
--- The lines of a filter in a save text (our choice): a letter for each kind that it chooses, and its
+-- The lines of a filter in a save text (our choice): a letter for each kind that it keeps, and its
 -- keys as lines of OPL write them.
 use Rattle.std.specs.Prelude.{◌≡◌, ℕ, Bool, List, [], ◌∷◌, ◌++◌, codes, if◌then◌else◌}
 use Rattle.osm_model.specs.Filter.{FilterValue, everything}

@@ -1,4 +1,4 @@
--- The head of a save text: the lines before its lists (our choice).
+-- The head of a save text: the lines before its objects (our choice).
 use Rattle.std.specs.Prelude.{◌≡◌, ℕ, ◌-◌, ◌*◌, ◌<◌, ◌≤◌, List, [], ◌∷◌, ◌++◌, codes, decimal}
 use Rattle.std.specs.Prelude.{Bool, true, Option, Some, None}
 use Rattle.osm_model.specs.CivilTime.{time_text}
@@ -22,7 +22,7 @@ first_lines One base = codes "osmrepl-save 1" ∷ []
 first_lines Two base = codes "osmrepl-save 2" ∷ (codes "base " ++ decimal base) ∷ []
 first_lines Three base = codes "osmrepl-save 3" ∷ (codes "base " ++ decimal base) ∷ []
 
--- the lines before the lists, without their ends: from version 3 on the filter is among them
+-- the lines before the objects, without their ends: from version 3 on the filter is among them
 abbrev pub head_lines : Version → Head → FilterValue → List (List ℕ)
 head_lines version head f =
     first_lines version head.base

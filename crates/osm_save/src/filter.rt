@@ -10,10 +10,8 @@
 //!
 //! A line of a key is empty if the key is.
 
-ghost use Rattle.std.specs.Prelude.{◌≡◌, ◌<◌, ◌≤◌, ◌∷◌, [], ◌++◌, None, codes, length, true};
-ghost use Rattle.std.specs.Prelude.{IfOk, OnOk};
+ghost use Rattle.std.specs.Prelude.{◌≡◌, ◌<◌, ◌∷◌, [], ◌++◌, ◌&&◌, None, codes, IfOk, OnOk};
 ghost use Rattle.std.specs.Str.{bytes_eq};
-ghost use Rattle.std.specs.Prelude.{◌&&◌};
 ghost use Rattle.osm_model.specs.Filter.{IsFilter};
 ghost use Rattle.osm_model.specs.Text.{bytes_cmp};
 ghost use Rattle.osm_opl.specs.Steps.Reading.{text_at};

@@ -1,4 +1,4 @@
-//! The head of a save text: the lines before its lists, each read and written by a function of its
+//! The head of a save text: the lines before its objects, each read and written by a function of its
 //! own.
 
 ghost use Rattle.std.specs.Prelude.{◌≡◌, ℕ, List, ◌∷◌, [], ◌++◌, ◌≤◌, codes, decimal, take};

@@ -37,8 +37,10 @@ push-requires-clause-is_left c =
 
 pub loop-preserved : goal.loop-preserved
 loop-preserved c =
-    let read : object_at c.args.filter.now c.loop.last c.in-Ok.cut.0.now ≡ Some c.in-Ok-Some.object = sym (sym c.in-Ok-Some.field-0-is ∙ c.in-Ok-Some.ensures) in
-    let taken : TakesObject c.args.filter.now c.loop.last c.in-Ok.cut.0.now c.in-Ok-Some.object = object_takes c.args.filter.now c.loop.last c.in-Ok.cut.0.now c.in-Ok-Some.object read in
+    let read : object_at c.args.filter.now c.loop.last c.in-Ok.cut.0.now ≡ Some c.in-Ok-Some.object =
+    sym (sym c.in-Ok-Some.field-0-is ∙ c.in-Ok-Some.ensures) in
+    let taken : TakesObject c.args.filter.now c.loop.last c.in-Ok.cut.0.now c.in-Ok-Some.object =
+    object_takes c.args.filter.now c.loop.last c.in-Ok.cut.0.now c.in-Ok-Some.object read in
     rw (c.in_ok-push.ensures.pushed, c.key.ensures.key) (record {
       items = items_more (λ d. d.key) (object_at c.args.filter.now) c.args.many c.args.rest.now c.loop.counter c.loop.objects c.loop.last
           c.loop.rest.now c.in-Ok.cut.0.now c.in-Ok.cut.1.now c.in-Ok-Some.object c.loop-test.true
