@@ -3,11 +3,11 @@
 use crate::commands::Command;
 use crate::subject::Subject;
 use anyhow::{Context, Result};
-use osm_folder::memory_store::MemoryStore;
 use osm_model::memory::WantOfMemory;
 use osm_reading::pieces::cut;
 use osm_repl::execution::execute;
 use osm_repl::orders::Order;
+use osm_store::memory_store::MemoryStore;
 use std::alloc::Global;
 use std::io::Write;
 

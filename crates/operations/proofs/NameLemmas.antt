@@ -1,10 +1,10 @@
 -- The names of the program's folder, save, changes and extract meet the premises of the main statement.
 use Rattle.std.proofs.Common.{◌≡◌, ℕ, List, refl, arith, ap, get_or, None, Ok, Err, IfOk, codes}
 use Rattle.std.specs.Prelude.{Result}
-use Rattle.osm_folder.specs.Files.{Files}
+use Rattle.osm_store.specs.Files.{Files}
 use Rattle.osm_folder.specs.Folder.{IsApart}
 use Rattle.osm_folder.specs.Names.{file_name_of, top_name_of}
-use Rattle.osm_folder.specs.Stores.{files_of}
+use Rattle.osm_store.specs.Stores.{files_of}
 use Rattle.osm_model.specs.declared.memory.WantOfMemory.{WantOfMemory}
 use Rattle.osm_operations.specs.Correct.{AreApart, IsNew, IsRun}
 use Rattle.osm_operations.specs.declared.operation.Operation.{Operation}

@@ -5,13 +5,13 @@ ghost use Rattle.osm_model.specs.Limits.{max_sequence};
 
 use crate::outcome::{CHANGES, DIR, EXTRACT, SAVE};
 use anyhow::Result;
-use osm_folder::memory_store::MemoryStore;
 use osm_folder::names::{file_name, top_name};
 use osm_folder::report::Report;
 use osm_model::limits::MAX_SEQUENCE;
 use osm_operations::operation::Reply;
 use osm_operations::world::Outcome;
 use osm_state::paths::Suffix;
+use osm_store::memory_store::MemoryStore;
 use std::alloc::Global;
 use std::io::{self, Write};
 

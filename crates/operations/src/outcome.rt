@@ -1,13 +1,13 @@
 //! Running a list.
 
 ghost use Rattle.std.specs.Prelude.{None, IfOk, codes};
-ghost use Rattle.osm_folder.specs.Stores.{files_of};
+ghost use Rattle.osm_store.specs.Stores.{files_of};
 ghost use Rattle.osm_operations.specs.Correct.{IsRun};
 
-use osm_folder::memory_store::MemoryStore;
 use osm_model::memory::WantOfMemory;
 use osm_operations::operation::Operation;
 use osm_operations::world::{Outcome, run};
+use osm_store::memory_store::MemoryStore;
 use std::alloc::Global;
 
 pub(crate) const DIR: &str = "dir";

@@ -1,11 +1,11 @@
 //! Tests of the replies to operations, and of the files after them.
 
 use osm_folder::fault::{FileName, RunFault};
-use osm_folder::memory_store::MemoryStore;
 use osm_model::batch::Batch;
 use osm_operations::operation::{Operation, Reply};
 use osm_operations::world::{Outcome, run};
 use osm_state::paths::Suffix;
+use osm_store::memory_store::MemoryStore;
 use std::alloc::Global;
 use std::test::Fail;
 

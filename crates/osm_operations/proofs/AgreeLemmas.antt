@@ -25,7 +25,7 @@ use Rattle.osm_follow.specs.Published.{AreSequences, PublishedTexts, PublishedVa
 use Rattle.osm_follow.specs.Publisher.{PublisherValue, closing}
 use Rattle.osm_mirror.specs.Mirror.{IsMirrorOf}
 use Rattle.osm_save.specs.declared.save.Saved.{Saved}
-use Rattle.osm_folder.specs.Files.{Files, Puts}
+use Rattle.osm_store.specs.Files.{Files, Puts}
 use Rattle.osm_folder.specs.Folder.{IsAbsentOr, IsApart, IsFile, IsFolderOf, IsTop}
 use Rattle.osm_folder.specs.Following.{IsInStep, IsSaveOf}
 use Rattle.osm_folder.specs.Names.{file_name_of, top_name_of}

@@ -29,7 +29,7 @@ use Rattle.osm_folder.proofs.InStepLemmas.{one_saved}
 use Rattle.osm_folder.specs.Beginning.{BeginStops, HasStart, IsBase, IsBaseOf, IsBadBase, IsBeginning, begun_save}
 use Rattle.osm_folder.specs.DataForms.{data_text_of, spells_data}
 use Rattle.osm_folder.specs.Exporting.{ExportStops, HasDataForm, Holds, IsExportOf}
-use Rattle.osm_folder.specs.Files.{Files, IsOver, Puts}
+use Rattle.osm_store.specs.Files.{Files, IsOver, Puts}
 use Rattle.osm_folder.specs.Folder.{IsStateFile, IsThere, max_state}
 use Rattle.osm_folder.specs.Following.{IsInStep, IsSaveOf, IsSaved, max_save}
 use Rattle.osm_folder.specs.Lagging.{IsHead}

@@ -10,7 +10,7 @@ use Rattle.osm_state.specs.declared.paths.Suffix.{Suffix}
 use Rattle.osm_state.specs.declared.paths.Suffix.TheVariants.{O5c, Opl, State}
 use Rattle.osm_follow.specs.Published.{PublishedValue, sequence_at}
 use Rattle.osm_follow.specs.Reach.{numbers}
-use Rattle.osm_folder.specs.Files.{Files, IsOver}
+use Rattle.osm_store.specs.Files.{Files, IsOver}
 use Rattle.osm_folder.specs.Folder.{IsFile, IsThere}
 use Rattle.osm_folder.specs.Following.{AddsAll, AreChanges, FollowRefuses, HasFiles, IsFollowed, IsInStepAfter, IsSaved}
 use Rattle.osm_folder.specs.Following.{IsSaveOf, follow_calls, is_lost, lost_numbers, max_save, ranges}

@@ -8,7 +8,7 @@ use Rattle.osm_model.specs.Limits.{max_sequence}
 use Rattle.osm_state.specs.declared.paths.Suffix.{Suffix}
 use Rattle.osm_state.specs.declared.paths.Suffix.TheVariants.{O5c, Opl, State}
 use Rattle.osm_follow.specs.Published.{PublishedTexts, PublishedValue, sequence_at, written_of}
-use Rattle.osm_folder.specs.Files.{Files}
+use Rattle.osm_store.specs.Files.{Files}
 use Rattle.osm_folder.specs.Folder.{IsFolderOf}
 use Rattle.osm_folder.specs.Names.{file_name_of, top_name_of}
 use Rattle.osm_folder.specs.Publication.{Writes, writes_of}

@@ -14,7 +14,7 @@ use Rattle.osm_reading.specs.Sequence.{SpellsSequence}
 use Rattle.osm_state.specs.declared.paths.Suffix.{Suffix}
 use Rattle.osm_state.specs.declared.paths.Suffix.TheVariants.{O5c, Opl, State}
 use Rattle.osm_follow.specs.Published.{PublishedValue, sequence_at, written_of}
-use Rattle.osm_folder.specs.Files.{Files}
+use Rattle.osm_store.specs.Files.{Files}
 use Rattle.osm_folder.specs.Folder.{IsFolderOf, IsThere}
 use Rattle.osm_folder.specs.Following.{is_lost}
 use Rattle.osm_folder.specs.Names.{file_name_of, top_name_of}

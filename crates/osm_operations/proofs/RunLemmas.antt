@@ -10,17 +10,17 @@ use Rattle.osm_reading.specs.Sequence.{SpellsSequence}
 use Rattle.osm_state.specs.StateLaws.{NoFaultBesideState}
 use Rattle.osm_folder.specs.Beginning.{BeginStops, IsBaseOf, IsBegunFrom}
 use Rattle.osm_folder.specs.Exporting.{ExportStops, IsExportOf, IsExported}
-use Rattle.osm_folder.specs.Files.{Files, Spends}
+use Rattle.osm_store.specs.Files.{Files, Spends}
 use Rattle.osm_folder.specs.Folder.{IsApart, IsFolderOf}
 use Rattle.osm_folder.specs.Following.{FollowRefuses, FollowsOver, IsFollowed, IsSaveOf, follow_calls}
-use Rattle.osm_folder.specs.Frames.{IsKnown, StoreState}
+use Rattle.osm_store.specs.Frames.{IsKnown, StoreState}
 use Rattle.osm_folder.specs.Progress.{IsOfContent, IsProgress, IsProgressReport, IsWhole}
 use Rattle.osm_folder.specs.Runs.{LacksCalls, Replaces}
 use Rattle.osm_folder.specs.declared.progress.Progress.{Progress}
 use Rattle.osm_folder.specs.declared.progress.Progress.TheVariants.{Whole, Before}
 use Rattle.osm_folder.specs.declared.fault.RunFault.TheVariants.{ReadFault, WriteFault}
 use Rattle.osm_state.specs.declared.paths.Suffix.TheVariants.{O5c, Opl}
-use Rattle.osm_folder.specs.Stores.{files_of}
+use Rattle.osm_store.specs.Stores.{files_of}
 use Rattle.osm_folder.specs.Names.{file_name_of, top_name_of}
 use Rattle.osm_folder.specs.Numbered.{IsAddedAs, IsPublishedAs, NumberedOut, NumberedRefuses, NumberedStops, SpendsExactly, numbered_calls}
 use Rattle.osm_folder.specs.Publication.{FolderRefuses, GoesOnFrom, IsPublished, PublishOut, PublishStops}

@@ -21,7 +21,7 @@ use Rattle.osm_state.specs.StateText.{StateOf, sequence_key}
 use Rattle.osm_state.specs.declared.paths.Suffix.{Suffix}
 use Rattle.osm_state.specs.declared.paths.Suffix.TheVariants.{O5c, Opl, State}
 use Rattle.osm_follow.specs.Published.{PublishedValue}
-use Rattle.osm_folder.specs.Files.{Files, Puts}
+use Rattle.osm_store.specs.Files.{Files, Puts}
 use Rattle.osm_folder.specs.Folder.{IsFile, IsThere}
 use Rattle.osm_folder.specs.Following.{AddsAll, AreChanges, HasFiles, is_lost}
 use Rattle.osm_folder.specs.Names.{file_name_of}

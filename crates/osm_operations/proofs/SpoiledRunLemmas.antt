@@ -14,7 +14,7 @@ use Rattle.osm_state.specs.declared.paths.Suffix.{Suffix}
 use Rattle.osm_state.specs.declared.paths.Suffix.TheVariants.{O5c, Opl, State}
 use Rattle.osm_follow.specs.Published.{PublishedValue, sequence_at}
 use Rattle.osm_follow.specs.Reach.{numbers}
-use Rattle.osm_folder.specs.Files.{Files, IsOver}
+use Rattle.osm_store.specs.Files.{Files, IsOver}
 use Rattle.osm_folder.specs.Folder.{IsAbsentOr, IsApart, IsFile, IsFolderOf, IsStateFile, IsThere}
 use Rattle.osm_folder.specs.Following.{AddsAll, BeyondStops, FollowRefuses, HasState, IsFollowing}
 use Rattle.osm_folder.specs.Following.{IsInStep, IsReached, IsSaveOf, IsStarted, NamesOther, NumberStops, SaveStops, StartStops}

@@ -14,14 +14,14 @@ use Rattle.osm_state.specs.declared.paths.Suffix.TheVariants.{O5c, Opl, State}
 use Rattle.osm_follow.specs.Published.{PublishedValue, sequence_at}
 use Rattle.osm_follow.specs.Reach.{numbers}
 use Rattle.osm_folder.specs.Beginning.{BeginStops}
-use Rattle.osm_folder.specs.Files.{Files}
+use Rattle.osm_store.specs.Files.{Files}
 use Rattle.osm_folder.specs.Folder.{IsStateFile}
 use Rattle.osm_folder.specs.Following.{FollowRefuses, IsSaveOf, follow_calls, no_save, ranges}
 use Rattle.osm_folder.specs.Names.{file_name_of}
 use Rattle.osm_folder.specs.Numbered.{numbered_calls}
 use Rattle.osm_folder.specs.Reports.{ReportValue, begin_report_of, convert_report_of, follow_report_of, publish_report_of}
 use Rattle.osm_folder.specs.Runs.{LacksCalls}
-use Rattle.osm_folder.specs.Stores.{files_of}
+use Rattle.osm_store.specs.Stores.{files_of}
 use Rattle.osm_folder.specs.declared.fault.RunFault.{RunFault}
 use Rattle.osm_folder.specs.declared.fault.RunFault.TheVariants.{WantOfMemory, ReadFault, WriteFault, TooLarge, Absent}
 use Rattle.osm_folder.specs.declared.progress.Progress.TheVariants.{Whole, Before}

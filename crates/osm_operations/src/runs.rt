@@ -5,10 +5,10 @@ ghost use Rattle.std.specs.Prelude.{is_some, true};
 ghost use Rattle.std.specs.Prelude.{decimal, string_bytes};
 ghost use Rattle.std.specs.Str.{IsAscii};
 ghost use Rattle.osm_model.specs.Limits.{max_sequence};
-ghost use Rattle.osm_folder.specs.Files.{Puts};
+ghost use Rattle.osm_store.specs.Files.{Puts};
 ghost use Rattle.osm_folder.specs.Names.{file_name_of};
 ghost use Rattle.osm_folder.specs.Runs.{LacksCalls};
-ghost use Rattle.osm_folder.specs.Stores.{calls_of, files_of, inner_of};
+ghost use Rattle.osm_store.specs.Stores.{calls_of, files_of, inner_of};
 ghost use Rattle.osm_save.specs.Head.{BeginsSave};
 ghost use Rattle.osm_save.specs.declared.head.Head.{Head};
 ghost use Rattle.osm_operations.specs.Steps.Stepping.{AreChangesPut, BeginStep, ChangesStop};
@@ -22,8 +22,6 @@ ghost use Rattle.osm_operations.specs.Steps.Stepping.{PublishStep, state_name_of
 use osm_folder::begin::begin_run;
 use osm_folder::export::export_run;
 use osm_folder::fault::{FileName, RunFault};
-use osm_folder::fuse::Fuse;
-use osm_folder::memory_store::MemoryStore;
 use osm_folder::names::file_name;
 use osm_folder::progress::{Progress, follow_progress};
 use osm_folder::publish::publish_run;
@@ -38,6 +36,8 @@ use osm_opl::opl::Opl;
 use osm_save::head::{head_read, laws_of_heads};
 use osm_state::laws::laws_of_state;
 use osm_state::paths::Suffix;
+use osm_store::memory_store::MemoryStore;
+use osm_store::stopping_store::StoppingStore;
 use std::alloc::Global;
 use std::mem;
 
@@ -75,9 +75,9 @@ pub(crate) fn publish_killed(
 {
     write_changes(alloc, store, changes, batch)?;
     let now = time_write(time);
-    let mut fuse = fuse_over(alloc, store, calls);
-    let answer = publish_run(alloc, &mut fuse, dir, changes, text_of(&now));
-    *store = fuse.into_inner();
+    let mut stopping = stopping_over(alloc, store, calls);
+    let answer = publish_run(alloc, &mut stopping, dir, changes, text_of(&now));
+    *store = stopping.into_inner();
     answer
 }
 
@@ -117,16 +117,16 @@ pub(crate) fn publish_as_killed(
     let sequence = number_text(alloc, number)?;
     write_changes(alloc, store, changes, batch)?;
     let now = time_write(time);
-    let mut fuse = fuse_over(alloc, store, calls);
+    let mut stopping = stopping_over(alloc, store, calls);
     let answer = publish_as_run(
         alloc,
-        &mut fuse,
+        &mut stopping,
         dir,
         changes,
         text_of(&now),
         sequence.as_str(),
     );
-    *store = fuse.into_inner();
+    *store = stopping.into_inner();
     answer
 }
 
@@ -163,9 +163,9 @@ pub(crate) fn follow_killed(
     ensures lacks { IfErr result
         (LacksFollowCalls dir.now save.now calls (files_of store.old)) }
 {
-    let mut fuse = fuse_over(alloc, store, calls);
-    let progress = follow_progress(alloc, &mut fuse, dir, save);
-    *store = fuse.into_inner();
+    let mut stopping = stopping_over(alloc, store, calls);
+    let progress = follow_progress(alloc, &mut stopping, dir, save);
+    *store = stopping.into_inner();
     report_of(progress)
 }
 
@@ -253,9 +253,9 @@ pub(crate) fn follow_spoiled_killed(
         Err(WantOfMemory) => Some(Err(RunFault::WantOfMemory)),
         Ok(None) => None,
         Ok(Some(spoiled)) => {
-            let mut fuse = fuse_over(alloc, store, calls);
-            let progress = follow_progress(alloc, &mut fuse, dir, save);
-            *store = fuse.into_inner();
+            let mut stopping = stopping_over(alloc, store, calls);
+            let progress = follow_progress(alloc, &mut stopping, dir, save);
+            *store = stopping.into_inner();
             mend(store, spoiled);
             Some(progress)
         }
@@ -289,9 +289,9 @@ pub(crate) fn export_killed(
     ensures left { OnOk result (2 ≤ calls) }
     ensures lacks { IfErr result (LacksCalls 2 (Some calls)) }
 {
-    let mut fuse = fuse_over(alloc, store, calls);
-    let answer = export_run(alloc, &mut fuse, save, extract);
-    *store = fuse.into_inner();
+    let mut stopping = stopping_over(alloc, store, calls);
+    let answer = export_run(alloc, &mut stopping, save, extract);
+    *store = stopping.into_inner();
     answer
 }
 
@@ -350,9 +350,9 @@ pub(crate) fn begin_killed(
 {
     laws_of_state();
     let state = state_name(alloc, dir, number)?;
-    let mut fuse = fuse_over(alloc, store, calls);
-    let answer = begin_run(alloc, &mut fuse, extract, state.as_str(), save);
-    *store = fuse.into_inner();
+    let mut stopping = stopping_over(alloc, store, calls);
+    let answer = begin_run(alloc, &mut stopping, extract, state.as_str(), save);
+    *store = stopping.into_inner();
     answer
 }
 
@@ -375,12 +375,12 @@ fn report_of(progress: Result<Progress, RunFault>) -> Result<Report, RunFault>
     }
 }
 
-// The store, moved into a fuse; an empty one replaces it until it is moved back.
-fn fuse_over(alloc: Global, store: &mut MemoryStore, calls: u64) -> Fuse<MemoryStore>
+// The store, moved into a stopping one; an empty one replaces it until it is moved back.
+fn stopping_over(alloc: Global, store: &mut MemoryStore, calls: u64) -> StoppingStore<MemoryStore>
     ensures inner { files_of (inner_of result) ≡ files_of store.old }
     ensures calls { calls_of result ≡ calls }
 {
-    Fuse::new(mem::replace(store, MemoryStore::new(alloc)), calls)
+    StoppingStore::new(mem::replace(store, MemoryStore::new(alloc)), calls)
 }
 
 fn write_changes(

@@ -3,7 +3,7 @@
 ghost use Rattle.std.specs.Prelude.{◌≡◌, ◌<◌, [], length, vec_capacity, IfOk, OnErr, OnOk, None};
 ghost use Rattle.std.specs.Prelude.{Some};
 ghost use Rattle.std.specs.Prelude.{string_bytes};
-ghost use Rattle.osm_folder.specs.Stores.{files_of};
+ghost use Rattle.osm_store.specs.Stores.{files_of};
 ghost use Rattle.osm_operations.specs.Correct.{AreApart, IsNew, IsRun};
 ghost use Rattle.osm_operations.specs.Steps.Stepping.{BeginTo, ExportTo, FollowTo, HasCallsOf};
 ghost use Rattle.osm_operations.specs.Steps.Stepping.{HasFollowCalls, HasPublishCalls, IsNumber};
@@ -21,13 +21,13 @@ use crate::runs::{
     publish_killed, returns, saved_number,
 };
 use osm_folder::fault::RunFault;
-use osm_folder::memory_store::MemoryStore;
 use osm_folder::progress::Progress;
 use osm_folder::report::Report;
 use osm_model::batch::Batch;
 use osm_model::limits::MAX_SEQUENCE;
 use osm_model::memory::WantOfMemory;
 use osm_state::paths::Suffix;
+use osm_store::memory_store::MemoryStore;
 use std::alloc::Global;
 
 // A store, the files that are lost, each under its name, how many sequences are published, and the

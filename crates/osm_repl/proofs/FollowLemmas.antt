@@ -5,7 +5,7 @@ use Rattle.std.specs.Borrow.{Bor}
 use Rattle.osm_follow.specs.Published.{PublishedValue}
 use Rattle.osm_folder.specs.Folder.{IsFolderOf}
 use Rattle.osm_folder.specs.Following.{FollowsOver, IsSaveOf}
-use Rattle.osm_folder.specs.Frames.{IsKnown, StoreState}
+use Rattle.osm_store.specs.Frames.{IsKnown, StoreState}
 use Rattle.osm_folder.specs.Progress.{IsProgress, IsProgressReport, IsWhole}
 use Rattle.osm_folder.specs.declared.fault.RunFault.{RunFault}
 use Rattle.osm_folder.specs.declared.progress.Progress.{Progress}

@@ -8,7 +8,7 @@ use Rattle.osm_reading.specs.Sequence.{SpellsSequence}
 use Rattle.osm_folder.specs.Beginning.{BeginStops, IsBaseOf, IsBegunFrom}
 use Rattle.osm_folder.specs.Conversion.{ConvertStops, IsConverted}
 use Rattle.osm_folder.specs.Exporting.{ExportStops, IsExported, IsExportOf}
-use Rattle.osm_folder.specs.Files.{Files}
+use Rattle.osm_store.specs.Files.{Files}
 use Rattle.osm_folder.specs.Folder.{IsApart, IsFolderOf}
 use Rattle.osm_folder.specs.Following.{FollowRefuses, IsFollowReport, IsFollowed}
 use Rattle.osm_folder.specs.Following.{IsInStepAfter, IsSaveOf}

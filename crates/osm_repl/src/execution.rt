@@ -1,8 +1,8 @@
 //! Carrying out what the words of the command line ask for.
 
 ghost use Rattle.std.specs.Prelude.{◌≡◌, ℕ, ◌≤◌, List, IfOk, IfErr, OnOk, OnErr};
-ghost use Rattle.osm_folder.specs.Files.{Spends};
-ghost use Rattle.osm_folder.specs.Frames.{IsKnown};
+ghost use Rattle.osm_store.specs.Files.{Spends};
+ghost use Rattle.osm_store.specs.Frames.{IsKnown};
 ghost use Rattle.osm_folder.specs.Runs.{Blames};
 ghost use Rattle.osm_repl.specs.Execution.{Does, DoesOver, IsDone, IsNotDone, IsNotReplayed};
 ghost use Rattle.osm_repl.specs.Execution.{HasFollowed, IsFollow, IsOtherRun, IsOverFiles};
@@ -22,7 +22,7 @@ use osm_folder::publish::publish_run;
 use osm_folder::publish_as::publish_as_run;
 use osm_folder::report::Report;
 use osm_folder::show::show_run;
-use osm_folder::store::Store;
+use osm_store::store::Store;
 use std::alloc::Global;
 use std::io::{Read, Write};
 

@@ -4,7 +4,7 @@ use super::failing::{Countdown, Failing};
 use super::scratch::scratch;
 use osm_disk::disk_store::DiskStore;
 use osm_folder::follow::follow_run;
-use osm_folder::store::{Store, StoreError};
+use osm_store::store::{Store, StoreError};
 use std::alloc::Global;
 use std::fs::{self, Files};
 use std::io::ErrorKind;

@@ -4,10 +4,10 @@
 
 use super::files::{NODE, NODE_O5C, Run, are_files, is_file, refusal, reports, store_with};
 use osm_folder::fault::{FileName, RunFault};
-use osm_folder::fuse::Fuse;
-use osm_folder::memory_store::MemoryStore;
 use osm_model::form::Why;
 use osm_state::state_text::StateError;
+use osm_store::memory_store::MemoryStore;
+use osm_store::stopping_store::StoppingStore;
 use std::alloc::Global;
 
 type File<'a> = (&'a str, &'a [u8]);
@@ -92,8 +92,8 @@ fn a_save_begins_with_a_data_file_whatever_it_held(rt: HostRuntime) {
 
 // Why a beginning with a data file of that name is refused, over a store that takes no call.
 fn refusal_of_a_name(alloc: Global, base: &'static str) -> Option<RunFault> {
-    let mut fuse = Fuse::new(MemoryStore::new(alloc), 0);
-    refusal(alloc, &mut fuse, Run::Begin(base))
+    let mut stopping = StoppingStore::new(MemoryStore::new(alloc), 0);
+    refusal(alloc, &mut stopping, Run::Begin(base))
 }
 
 #[test]
@@ -402,9 +402,9 @@ fn is_stopped(
             return false;
         }
     }
-    let mut fuse = Fuse::new(store, calls);
-    let is_so = refusal(alloc, &mut fuse, run) == fault && fuse.calls() == 0;
-    let mut store = fuse.into_inner();
+    let mut stopping = StoppingStore::new(store, calls);
+    let is_so = refusal(alloc, &mut stopping, run) == fault && stopping.calls() == 0;
+    let mut store = stopping.into_inner();
     let left = if fault.is_none() { Some(new) } else { old };
     let is_left = store.get(name) == left && are_files(&store, files);
     let is_again = reports(alloc, &mut store, run, (0, text)) && is_file(&store, name, new);

@@ -6,12 +6,12 @@ use osm_folder::export::export_run;
 use osm_folder::fault::RunFault;
 use osm_folder::follow::follow_run;
 use osm_folder::lag::lag_run;
-use osm_folder::memory_store::MemoryStore;
 use osm_folder::publish::publish_run;
 use osm_folder::report::Report;
 use osm_folder::show::show_run;
-use osm_folder::store::Store;
 use osm_model::memory::WantOfMemory;
+use osm_store::memory_store::MemoryStore;
+use osm_store::store::Store;
 use std::alloc::Global;
 
 /// A node, as an OPL file.

@@ -3,11 +3,11 @@
 
 use super::files::{NODE, NODE_O5C, are_files, is_file, store_with};
 use osm_folder::fault::{FileName, RunFault};
-use osm_folder::fuse::Fuse;
-use osm_folder::memory_store::MemoryStore;
 use osm_folder::publish_as::publish_as_run;
-use osm_folder::store::Store;
 use osm_state::paths::Suffix;
+use osm_store::memory_store::MemoryStore;
+use osm_store::stopping_store::StoppingStore;
+use osm_store::store::Store;
 use std::alloc::Global;
 
 type File<'a> = (&'a str, &'a [u8]);
@@ -73,9 +73,9 @@ fn is_answered(
     let Ok(store) = store_with(alloc, files) else {
         return false;
     };
-    let mut fuse = Fuse::new(store, calls);
-    let is_so = answers(alloc, &mut fuse, words, expected) && fuse.calls() == 0;
-    is_so && are_files(&fuse.into_inner(), files)
+    let mut stopping = StoppingStore::new(store, calls);
+    let is_so = answers(alloc, &mut stopping, words, expected) && stopping.calls() == 0;
+    is_so && are_files(&stopping.into_inner(), files)
 }
 
 #[test]
@@ -251,13 +251,13 @@ fn is_done_again(alloc: Global, (calls, count): (u64, usize), file: FileName) ->
     let Ok(store) = store_with(alloc, &[CHANGES]) else {
         return false;
     };
-    let mut fuse = Fuse::new(store, calls);
+    let mut stopping = StoppingStore::new(store, calls);
     let fault = match calls {
         0 | 1 => RunFault::ReadFault(file),
         _ => RunFault::WriteFault(file),
     };
-    let is_stopped = answers(alloc, &mut fuse, (NEW_YEAR, "1"), Err(fault));
-    let mut store = fuse.into_inner();
+    let is_stopped = answers(alloc, &mut stopping, (NEW_YEAR, "1"), Err(fault));
+    let mut store = stopping.into_inner();
     let is_cut = is_stopped && holds_the_first(&store, count);
     is_cut
         && answers(alloc, &mut store, (NEW_YEAR, "1"), Ok("published 1\n"))

@@ -6,11 +6,11 @@ use super::files::{
 };
 use osm_folder::convert::convert_run;
 use osm_folder::fault::{FileName, RunFault};
-use osm_folder::fuse::Fuse;
-use osm_folder::memory_store::MemoryStore;
 use osm_folder::progress::{Progress, follow_progress};
 use osm_folder::publish::publish_run;
 use osm_state::paths::Suffix;
+use osm_store::memory_store::MemoryStore;
+use osm_store::stopping_store::StoppingStore;
 use std::alloc::Global;
 
 const EMPTY_O5C: &[u8] = b"\xff\xe0\x04o5c2\xfe";
@@ -200,8 +200,8 @@ fn a_wrong_folder_and_an_absent_save_are_refused(rt: HostRuntime) {
 
 // Why a conversion to a name of another end is refused, over a store that takes no call.
 fn refusal_of_a_name(alloc: Global) -> Option<RunFault> {
-    let mut fuse = Fuse::new(MemoryStore::new(alloc), 0);
-    convert_run(alloc, &mut fuse, "a.opl", "b.osc").err()
+    let mut stopping = StoppingStore::new(MemoryStore::new(alloc), 0);
+    convert_run(alloc, &mut stopping, "a.opl", "b.osc").err()
 }
 
 #[test]
@@ -232,9 +232,9 @@ fn is_stopped(
     let Ok(store) = store_with(alloc, case.files) else {
         return false;
     };
-    let mut fuse = Fuse::new(store, calls);
-    let is_refused = refusal(alloc, &mut fuse, case.run) == fault && fuse.calls() == 0;
-    is_refused && holds_the_first(&fuse.into_inner(), case, count)
+    let mut stopping = StoppingStore::new(store, calls);
+    let is_refused = refusal(alloc, &mut stopping, case.run) == fault && stopping.calls() == 0;
+    is_refused && holds_the_first(&stopping.into_inner(), case, count)
 }
 
 fn read_fault(number: u32, suffix: Suffix) -> Option<RunFault> {
@@ -308,9 +308,9 @@ fn each_store_call_of_the_other_runs_failing_in_turn(rt: HostRuntime) {
 // What a run that is stopped after that many calls leaves.
 fn left_after(alloc: Global, case: &Case, calls: u64) -> Option<MemoryStore> {
     let store = store_with(alloc, case.files).ok()?;
-    let mut fuse = Fuse::new(store, calls);
-    let _ = refusal(alloc, &mut fuse, case.run)?;
-    Some(fuse.into_inner())
+    let mut stopping = StoppingStore::new(store, calls);
+    let _ = refusal(alloc, &mut stopping, case.run)?;
+    Some(stopping.into_inner())
 }
 
 // Whether a publication that was cut off is done again, with other changes.
@@ -344,14 +344,14 @@ fn asks_for_the_window(alloc: Global) -> bool {
     let Ok(store) = store_with(alloc, &[("dir/state.txt", TOP_100)]) else {
         return false;
     };
-    let mut fuse = Fuse::new(store, 67);
-    let is_reported = match outcome(alloc, &mut fuse, Run::Follow) {
+    let mut stopping = StoppingStore::new(store, 67);
+    let is_reported = match outcome(alloc, &mut stopping, Run::Follow) {
         Ok(report) => report
             .text()
             .ends_with(b"missing 63\nmissing 64\nnumber 0\n"),
         Err(_) => false,
     };
-    is_reported && fuse.calls() == 0
+    is_reported && stopping.calls() == 0
 }
 
 #[test]
@@ -421,9 +421,9 @@ fn past_a_lost_number_it_is_asked_only_what_is_there(rt: HostRuntime) {
 // Why a run over the folder that stops after that many calls isn't done, and whether it makes them
 // all.
 fn stop_over_a_gap(alloc: Global, calls: u64) -> Option<(Option<RunFault>, bool)> {
-    let mut fuse = Fuse::new(with_third(alloc, NOTHING_WRONG)?, calls);
-    let fault = refusal(alloc, &mut fuse, Run::Follow);
-    Some((fault, fuse.calls() == 0))
+    let mut stopping = StoppingStore::new(with_third(alloc, NOTHING_WRONG)?, calls);
+    let fault = refusal(alloc, &mut stopping, Run::Follow);
+    Some((fault, stopping.calls() == 0))
 }
 
 #[test]
@@ -491,8 +491,8 @@ fn what_comes_before_a_faulty_number_is_kept(rt: HostRuntime) {
 
 // Why a publication at a wrong time is refused, over a store that takes no call.
 fn refusal_at_no_time(alloc: Global) -> Option<RunFault> {
-    let mut fuse = Fuse::new(MemoryStore::new(alloc), 0);
-    publish_run(alloc, &mut fuse, "dir", "changes", "2024").err()
+    let mut stopping = StoppingStore::new(MemoryStore::new(alloc), 0);
+    publish_run(alloc, &mut stopping, "dir", "changes", "2024").err()
 }
 
 #[test]

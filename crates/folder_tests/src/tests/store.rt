@@ -5,14 +5,14 @@ use super::shown::is_shown;
 use osm_folder::data_form::{DataForm, data_form_of};
 use osm_folder::fault::{FileName, RunFault};
 use osm_folder::form::{Form, form_of};
-use osm_folder::fuse::Fuse;
-use osm_folder::memory_store::MemoryStore;
 use osm_folder::names::{file_name, top_name};
 use osm_folder::report::{follow_report, lag_report};
-use osm_folder::store::{Store, StoreError};
 use osm_model::form::Why;
 use osm_state::paths::Suffix;
 use osm_state::state_text::StateError;
+use osm_store::memory_store::MemoryStore;
+use osm_store::stopping_store::StoppingStore;
+use osm_store::store::{Store, StoreError};
 use std::alloc::Global;
 
 // Whether reading the file with that limit answers as expected.
@@ -93,32 +93,32 @@ fn a_store_in_memory_holds_what_was_put(rt: HostRuntime) {
     assert!(rt; is_a_store(rt.alloc()));
 }
 
-// Whether a fuse with four calls left passes them on, and no more.
-fn passes_four_calls(alloc: Global, fuse: &mut Fuse<MemoryStore>) -> bool {
-    let is_first = is_read(alloc, fuse, ("a", 3), Ok(Some(b"one".as_slice())));
-    let is_prefix = is_prefix_read(alloc, fuse, ("a", 2), Ok(Some(b"on".as_slice())));
-    let is_there = fuse.is_there("a") == Ok(true);
-    let is_fourth = fuse.write(alloc, "a", b"two") == Ok(());
-    let is_refused = fuse.write(alloc, "a", b"three") == Err(StoreError::Device);
-    let is_unread = is_read(alloc, fuse, ("a", 3), Err(StoreError::Device));
-    let is_no_prefix = is_prefix_read(alloc, fuse, ("a", 2), Err(StoreError::Device));
-    let is_unknown = fuse.is_there("a") == Err(StoreError::Device);
+// Whether a stopping store with four calls left passes them on, and no more.
+fn passes_four_calls(alloc: Global, stopping: &mut StoppingStore<MemoryStore>) -> bool {
+    let is_first = is_read(alloc, stopping, ("a", 3), Ok(Some(b"one".as_slice())));
+    let is_prefix = is_prefix_read(alloc, stopping, ("a", 2), Ok(Some(b"on".as_slice())));
+    let is_there = stopping.is_there("a") == Ok(true);
+    let is_fourth = stopping.write(alloc, "a", b"two") == Ok(());
+    let is_refused = stopping.write(alloc, "a", b"three") == Err(StoreError::Device);
+    let is_unread = is_read(alloc, stopping, ("a", 3), Err(StoreError::Device));
+    let is_no_prefix = is_prefix_read(alloc, stopping, ("a", 2), Err(StoreError::Device));
+    let is_unknown = stopping.is_there("a") == Err(StoreError::Device);
     let is_passing = is_first && is_prefix && is_there && is_fourth;
     is_passing && is_refused && is_unread && is_no_prefix && is_unknown
 }
 
-fn is_a_fuse(alloc: Global) -> bool {
+fn stops_after_four_calls(alloc: Global) -> bool {
     let Ok(store) = store_with(alloc, &[("a", b"one")]) else {
         return false;
     };
-    let mut fuse = Fuse::new(store, 4);
-    let is_passing = passes_four_calls(alloc, &mut fuse);
-    is_passing && is_file(&fuse.into_inner(), "a", b"two")
+    let mut stopping = StoppingStore::new(store, 4);
+    let is_passing = passes_four_calls(alloc, &mut stopping);
+    is_passing && is_file(&stopping.into_inner(), "a", b"two")
 }
 
 #[test]
-fn a_fuse_passes_on_so_many_calls(rt: HostRuntime) {
-    assert!(rt; is_a_fuse(rt.alloc()));
+fn a_stopping_store_passes_on_so_many_calls(rt: HostRuntime) {
+    assert!(rt; stops_after_four_calls(rt.alloc()));
 }
 
 // Ranges that were applied, numbers that are missing, the number reached, the status and the text.

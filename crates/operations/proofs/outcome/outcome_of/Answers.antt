@@ -1,4 +1,4 @@
-use Rattle.osm_folder.specs.Stores.{files_of}
+use Rattle.osm_store.specs.Stores.{files_of}
 use Rattle.operations.proofs.NameLemmas.{holds_in_new_store}
 use Rattle.operations.proofs.outcome.outcome_of.Goals as goal
 

@@ -1,5 +1,5 @@
 use Rattle.std.proofs.Common.{refl}
-use Rattle.osm_folder.specs.Stores.{files_of}
+use Rattle.osm_store.specs.Stores.{files_of}
 use Rattle.osm_operations.proofs.RunLemmas.{follow_step, progress_over_refuses}
 use Rattle.osm_operations.proofs.runs.follow.Goals as goal
 

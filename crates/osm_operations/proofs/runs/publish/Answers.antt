@@ -1,5 +1,5 @@
 use Rattle.std.proofs.Common.{None}
-use Rattle.osm_folder.specs.Stores.{files_of}
+use Rattle.osm_store.specs.Stores.{files_of}
 use Rattle.osm_folder.proofs.OverLemmas.{publish_refuses, publish_keeps}
 use Rattle.osm_operations.proofs.RunLemmas.{run_step}
 use Rattle.osm_operations.proofs.runs.publish.Goals as goal

@@ -1,5 +1,5 @@
 use Rattle.std.proofs.Common.{None, ◌∙◌}
-use Rattle.osm_folder.specs.Stores.{files_of}
+use Rattle.osm_store.specs.Stores.{files_of}
 use Rattle.osm_folder.proofs.OverLemmas.{number_adds, number_refuses, number_keeps}
 use Rattle.osm_operations.proofs.RunLemmas.{number_is_text, number_step, ok_calls}
 use Rattle.osm_operations.proofs.runs.publish_as.Goals as goal

@@ -1,17 +1,17 @@
 use Rattle.std.proofs.Common.{Some, ap, ◌∙◌}
-use Rattle.osm_folder.specs.Stores.{files_of}
+use Rattle.osm_store.specs.Stores.{files_of}
 use Rattle.osm_folder.proofs.OverLemmas.{number_adds, number_refuses, number_keeps}
 use Rattle.osm_operations.proofs.RunLemmas.{number_is_text, number_step_over, ok_calls}
 use Rattle.osm_operations.proofs.runs.publish_as_killed.Goals as goal
 
 pub returns : goal.returns
 returns c = record {
-  step = number_step_over (Some c.args.calls) (Some c.fuse_over-fuse.result.calls)
+  step = number_step_over (Some c.args.calls) (Some c.stopping_over-stopping.result.calls)
       c.args.dir.now c.args.changes.now c.text_of.result.now c.as_str.result.now c.args.batch.now c.args.time c.args.number
-      (files_of c.args.store.now) (files_of c.write_changes.new.store) (files_of c.fuse_over-fuse.result.inner)
+      (files_of c.args.store.now) (files_of c.write_changes.new.store) (files_of c.stopping_over-stopping.result.inner)
       (files_of c.publish_as_run-answer.new.store.inner) (files_of c.into_inner.result) c.publish_as_run-answer.result
-      (ap Some c.fuse_over-fuse.ensures.calls)
-      c.fuse_over-fuse.ensures.inner
+      (ap Some c.stopping_over-stopping.ensures.calls)
+      c.stopping_over-stopping.ensures.inner
       (ap files_of c.into_inner.ensures)
       (number_is_text c.args.number c.as_str.result.now c.number_text.ensures.fits (c.as_str.ensures.value ∙ c.in_ok-sequence.ensures.text))
       (rw c.text_of.ensures c.time_write-now.ensures.shows)
@@ -20,8 +20,8 @@ returns c = record {
       (record {
         published = c.publish_as_run-answer.ensures.published;
         added = number_adds _ _ _ _ _ _ _ c.publish_as_run-answer.result c.publish_as_run-answer.ensures.over;
-        exact = ok_calls c.publish_as_run-answer.result c.args.dir.now c.as_str.result.now (files_of c.fuse_over-fuse.result.inner)
-            (Some c.fuse_over-fuse.result.calls) (Some c.publish_as_run-answer.new.store.calls) c.publish_as_run-answer.ensures.exact;
+        exact = ok_calls c.publish_as_run-answer.result c.args.dir.now c.as_str.result.now (files_of c.stopping_over-stopping.result.inner)
+            (Some c.stopping_over-stopping.result.calls) (Some c.publish_as_run-answer.new.store.calls) c.publish_as_run-answer.ensures.exact;
         stops = c.publish_as_run-answer.ensures.stops;
         refuses = number_refuses _ _ _ _ _ _ _ c.publish_as_run-answer.result c.publish_as_run-answer.ensures.over;
         keeps = number_keeps _ _ _ _ _ _ _ c.publish_as_run-answer.result c.publish_as_run-answer.ensures.over;

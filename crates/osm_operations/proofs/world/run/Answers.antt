@@ -1,6 +1,6 @@
 use Rattle.std.proofs.Common.{rules, arith, ◌≡◌, ◌++◌, ◌∷◌, [], refl}
 use Rattle.std.proofs.lemmas.Grind.{common_steps}
-use Rattle.osm_folder.specs.Stores.{files_of}
+use Rattle.osm_store.specs.Stores.{files_of}
 use Rattle.osm_operations.specs.declared.world.World.{World}
 use Rattle.osm_operations.proofs.StepLemmas.{history_of-snoc, holds_at_end, starts_hold, step_holds}
 use Rattle.osm_operations.proofs.world.run.Goals as goal

@@ -1,7 +1,7 @@
 use Rattle.std.specs.Vec.Iter.{into_iter_items}
 use Rattle.std.specs.Vec.{vec_capacity}
 use Rattle.std.proofs.Common.{◌≤◌, ◌++◌, ◌≡◌, length}
-use Rattle.osm_folder.specs.Stores.{files_of}
+use Rattle.osm_store.specs.Stores.{files_of}
 use Rattle.osm_operations.specs.Correct.{AreApart, IsNew, IsRun}
 use Rattle.osm_operations.specs.History.{history_of}
 use Rattle.osm_operations.proofs.StepLemmas.{Holds}
