@@ -12,6 +12,7 @@ use osm_mirror::mirror::Mirror;
 use osm_mirror::objects::Objects;
 use osm_model::batch::Batch;
 use osm_model::change::Change;
+use osm_model::filter::Filter;
 use osm_model::form::ChangeForm;
 use osm_model::memory::WantOfMemory;
 use osm_opl::lines::read_line;
@@ -36,7 +37,7 @@ pub(crate) struct Mirrors {
 impl Mirrors {
     pub(crate) fn new(alloc: Global) -> Mirrors {
         Mirrors {
-            saved: saved_of(Mirror::new(alloc)),
+            saved: saved_of(alloc, Mirror::new(alloc)),
             objects: Objects::new(alloc),
             counts: Counts::new(alloc),
             holding: None,
@@ -49,14 +50,14 @@ impl Mirrors {
     fn apply(&mut self, alloc: Global, out: &mut Vec<u8>) -> Result<()> {
         let changes = std::mem::replace(&mut self.changes, Batch::new(alloc));
         let mut mirror = Mirror::new(alloc);
-        write_done(mirror.apply(changes.into_changes()), out)?;
-        self.saved = saved_of(mirror);
+        write_done(mirror.apply(&Filter::all(alloc), changes.into_changes()), out)?;
+        self.saved = saved_of(alloc, mirror);
         Ok(())
     }
 
-    fn put(&mut self, out: &mut Vec<u8>) -> Result<()> {
+    fn put(&mut self, alloc: Global, out: &mut Vec<u8>) -> Result<()> {
         let change = self.change.take().context("no change")?;
-        write_done(self.objects.put(change), out)
+        write_done(self.objects.put(&Filter::all(alloc), change), out)
     }
 
     // Counts one edit of a user without any.
@@ -88,11 +89,12 @@ impl Mirrors {
     }
 }
 
-fn saved_of(mirror: Mirror) -> Saved {
+fn saved_of(alloc: Global, mirror: Mirror) -> Saved {
     Saved {
         number: 0,
         base: 0,
         time: None,
+        filter: Filter::all(alloc),
         mirror,
     }
 }
@@ -103,7 +105,7 @@ fn save_of(alloc: Global, saved: &Saved) -> Result<Vec<u8>, WantOfMemory> {
         base: saved.base,
         time: saved.time,
     };
-    save_write(alloc, head, &saved.mirror)
+    save_write(alloc, head, &saved.filter, &saved.mirror)
 }
 
 fn write_held(area: &HoldingArea, out: &mut Vec<u8>) -> Result<()> {
@@ -136,7 +138,7 @@ impl Subject for Mirrors {
             b"save_read" => put_or(save_read(alloc, given), &mut self.saved, out),
             b"save_write" => write_bytes_or(save_of(alloc, &self.saved), out),
             b"Mirror::apply" => self.apply(alloc, out),
-            b"Objects::put" => self.put(out),
+            b"Objects::put" => self.put(alloc, out),
             b"Counts::add_one" => self.count(alloc, out),
             b"HoldingArea::new" => put_or(
                 HoldingArea::new(alloc, 7).map(Some),

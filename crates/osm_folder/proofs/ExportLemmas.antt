@@ -5,10 +5,12 @@ use Rattle.std.specs.List.Sorted.{IsStrictlySortedBy}
 use Rattle.std.specs.declared.cmp.Ordering.TheVariants.{Less}
 use Rattle.osm_model.specs.Change.{ChangeValue}
 use Rattle.osm_model.specs.Data.{IsData, IsFirstFault}
+use Rattle.osm_model.specs.Filter.{everything}
 use Rattle.osm_model.specs.KeyOrder.{key_cmp}
 use Rattle.osm_model.specs.Limits.{max_file}
 use Rattle.osm_model.specs.declared.kind.Key.{Key}
 use Rattle.osm_mirror.specs.Mirror.{IsMirrorOf}
+use Rattle.osm_follow.proofs.BeginLemmas.{everything_left}
 use Rattle.osm_follow.specs.Published.{PublishedValue, changes_after, changes_up_to}
 use Rattle.osm_folder.specs.DataForms.{HasDataEnd, data_text_of}
 use Rattle.osm_folder.specs.Exporting.{ExportStops, HasDataForm, Holds, IsExportOf, IsExportable, IsExported}
@@ -85,14 +87,14 @@ export_of ps base number save output old new saved done =
     let held = done.made.held in
     let here : IsSaved (old save) held.saved = rw held.there (held.small, held.spelled) in
     let same : held.saved ≡ saved.value = one_saved (old save) held.saved saved.value here saved.saved in
-    let mirror : IsMirrorOf (changes_up_to ps number) (changes_after ps saved.value.base number) held.saved.mirror =
+    let mirror : IsMirrorOf everything (changes_up_to ps number) (changes_after ps saved.value.base number) held.saved.mirror =
     rw (same, ← saved.number_is) saved.in_step.mirror in
     record {
       named = done.made.named;
       objects = held.saved.mirror.objects;
       are_data = done.are_data;
       fits = done.made.fits;
-      content = mirror.objects;
+      content = λ k. mirror.objects k ∙ everything_left (changes_up_to ps number) k;
       text = done.put.there;
     }
 

@@ -96,9 +96,10 @@ taken_applied known files dir f number g h applied more p low high t is has next
             next = p;
             number_is = omega (arith, is, next);
             there = has yes;
-            applied = subst (λ cs. Applies g.mirror cs h.mirror) changes takes.applied;
+            applied = subst (λ cs. Applies g.filter g.mirror cs h.mirror) changes takes.applied;
             number = number_is ∙ sym is;
             base = takes.base;
+            same_filter = takes.same_filter;
             time = time;
           },
         );

@@ -2,6 +2,7 @@
 
 ghost use Rattle.std.specs.Prelude.{◌≡◌, ◌<◌, ◌≤◌, ℕ, List, Some, IfErr, IfOk, length};
 ghost use Rattle.osm_model.specs.Data.{IsData};
+ghost use Rattle.osm_model.specs.Filter.{everything};
 ghost use Rattle.osm_model.specs.Limits.{max_file};
 ghost use Rattle.osm_save.specs.Save.{SpellsSave};
 ghost use Rattle.osm_follow.specs.Begin.{begun_of};
@@ -145,7 +146,8 @@ fn begun_text(alloc: Global, start: &State, objects: Vec<Change>) -> Result<Vec<
 fn begun(alloc: Global, start: &State, objects: Vec<Change>) -> Result<Follower, RunFault>
     requires above { 0 < start.now.sequence }
     requires are_data { IsData objects.items }
-    ensures begun { IfOk result (λ f. f ≡ begun_of start.now objects.items) }
+    ensures begun { IfOk result (λ f. f ≡ begun_of everything start.now objects.items) }
+    ensures all { IfOk result (λ f. f.mirror.objects ≡ objects.items) }
     ensures stops { IfErr result (λ fault. fault ≡ RunFault.WantOfMemory) }
 {
     match Follower::begin(alloc, start, objects) {

@@ -6,6 +6,7 @@ use Rattle.std.specs.List.{zip}
 use Rattle.std.proofs.lemmas.Bool.{eq-eqb, ne_eqb}
 use Rattle.std.proofs.lemmas.List.{reverse-append}
 use Rattle.osm_model.specs.Change.{ChangeValue}
+use Rattle.osm_model.specs.Filter.{everything}
 use Rattle.osm_model.specs.Limits.{max_file, max_sequence}
 use Rattle.osm_mirror.proofs.MirrorLemmas.{mirror_of-nil}
 use Rattle.osm_save.specs.Head.{head_of}
@@ -995,7 +996,7 @@ starts_hold dir save changes extract w new none zero_is none_exported = record {
         saved = rw new.saved refl;
         base_is = refl;
         number_is = refl;
-        in_step = record { within = omega arith; base = omega arith; mirror = mirror_of-nil; time = refl };
+        in_step = record { within = omega arith; base = omega arith; filter_is = refl; mirror = mirror_of-nil everything; time = refl };
       };
       is_there = ap is_none new.saved;
       extract_is = refl;
