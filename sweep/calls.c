@@ -3,7 +3,7 @@
    A call reads a file, and begins with opening it, whether it is there or not; or it replaces a file, and begins
    with opening a temporary file for writing, which is opened once more if its folders had to be made; or it asks
    whether a file is there, by `statx`, as `follow` does of the files of sequences, which it never writes. Folders
-   that are opened and names that begin with a slash are no files of the store. Standard error says which call it
+   that are opened, locks, and names that begin with a slash are no files of the store. Standard error says which call it
    was. */
 #define _GNU_SOURCE
 #include <dlfcn.h>
@@ -54,10 +54,16 @@ static int fails(const char *path, int reads) {
     return 1;
 }
 
+/* Whether a name is that of a lock: no file of the store has such a name. */
+static int is_lock(const char *path) {
+    size_t length = strlen(path);
+    return length >= 4 && strcmp(path + length - 4, "lock") == 0;
+}
+
 /* Whether a file is opened by a call that fails. */
 static int stops(const char *path, int flags) {
     int reads = (flags & O_ACCMODE) == O_RDONLY;
-    if (!getenv("CALLS") || path[0] == '/') return 0;
+    if (!getenv("CALLS") || path[0] == '/' || is_lock(path)) return 0;
     return (reads ? !is_folder(path) : is_new(path)) && fails(path, reads);
 }
 

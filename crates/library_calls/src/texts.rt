@@ -5,17 +5,20 @@ use crate::answers::{put_some, write_bytes_or};
 use crate::commands::Command;
 use crate::subject::Subject;
 use anyhow::{Context, Result, bail};
+use osm_folder::fault::{FileName, RunFault};
 use osm_model::limits::MAX_SEQUENCE;
 use osm_model::text::Text;
 use osm_reading::sequence::sequence_read;
-use osm_repl::command_line::order;
+use osm_repl::causes::{Cause, cause_text, path_of};
+use osm_repl::command_line::asked;
 use osm_repl::echo::echoes;
+use osm_repl::orders::Order;
 use osm_state::paths::{Suffix, path};
 use osm_state::state::State;
 use osm_state::state_text::state_write;
 use std::alloc::Global;
 use std::fmt::Debug;
-use std::io::Write;
+use std::io::{ErrorKind, Write};
 
 /// A text that may be copied.
 #[derive(Drop)]
@@ -54,7 +57,9 @@ impl Subject for Texts {
             b"Text::copy" => self.write_copy(alloc, out),
             b"path" => write_path(alloc, given, out),
             b"state_write" => write_state(alloc, given, out),
-            b"order" => write_order(alloc, given, out),
+            b"asked" => write_asked(alloc, given, out),
+            b"path_of" => write_path_of_fault(alloc, given, out),
+            b"cause_text" => write_cause(alloc, given, out),
             b"echoes" => write_echoes(alloc, given, out),
             _ => bail!("no such call"),
         }
@@ -103,12 +108,36 @@ fn words_of(text: &str) -> ([&str; MOST_WORDS], usize) {
     (words, count)
 }
 
-fn write_order(alloc: Global, given: &str, out: &mut Vec<u8>) -> Result<()> {
+fn write_asked(alloc: Global, given: &str, out: &mut Vec<u8>) -> Result<()> {
     let (words, count) = words_of(given);
     let words = words.get(..count).context("too many words")?;
-    match order(alloc, words) {
-        Ok(order) => writeln!(out, "{order:?}")?,
+    match asked(alloc, words) {
+        Ok(found) => writeln!(out, "{:?}", found.order)?,
         Err(error) => writeln!(out, "{:?}", error.kind())?,
+    }
+    Ok(())
+}
+
+// The path of a save that isn't there.
+fn write_path_of_fault(alloc: Global, given: &str, out: &mut Vec<u8>) -> Result<()> {
+    let fault = RunFault::Absent(FileName::Save);
+    match path_of(alloc, Order::Show { save: given }, fault) {
+        Ok(path) => writeln!(out, "{path}")?,
+        Err(error) => writeln!(out, "{error:?}")?,
+    }
+    Ok(())
+}
+
+// A cause with that path, and all other parts.
+fn write_cause(alloc: Global, given: &str, out: &mut Vec<u8>) -> Result<()> {
+    let cause = Cause {
+        path: given,
+        said: Some(ErrorKind::NotFound.into()),
+        hint: "a hint",
+    };
+    match cause_text(alloc, cause) {
+        Ok(text) => writeln!(out, "{text}")?,
+        Err(error) => writeln!(out, "{error:?}")?,
     }
     Ok(())
 }

@@ -11,7 +11,7 @@ failures_of store = store.failures
 
 -- the process that names a store's temporary files
 abbrev pub process_of : {R F D : Type 0} → DiskStore R F D → ℕ
-process_of store = store.process
+process_of store = store.writer.process
 
 -- what contracts see of a store: nothing is known of its files, and it never stops
 abbrev pub state_of : {R F D : Type 0} → DiskStore R F D → StoreState

@@ -5,7 +5,9 @@ use Rattle.std.specs.declared.io.Error.{Error}
 use Rattle.std.specs.declared.io.ErrorKind.{ErrorKind}
 use Rattle.std.specs.declared.io.ErrorKind.TheVariants as Kind
 use Rattle.osm_store.specs.declared.store.StoreError.{StoreError}
-use Rattle.osm_store.specs.declared.store.StoreError.TheVariants.{Device, TooLarge, WantOfMemory}
+use Rattle.osm_store.specs.declared.store.StoreError.TheVariants.{Device, WantOfMemory}
+use Rattle.osm_disk.specs.declared.reading.ReadError.{ReadError}
+use Rattle.osm_disk.specs.declared.reading.ReadError.TheVariants as errors
 
 -- refused memory, or else the device
 abbrev pub cause_by_kind : ErrorKind → StoreError
@@ -17,6 +19,6 @@ abbrev pub cause : Error → StoreError
 cause error = cause_by_kind (error_kind error)
 
 -- too large only if there are more bytes than the limit
-abbrev pub IsTooLongOnly : ℕ → List ℕ → StoreError → Type 0
-IsTooLongOnly limit bytes TooLarge = limit < length bytes
+abbrev pub IsTooLongOnly : ℕ → List ℕ → ReadError → Type 0
+IsTooLongOnly limit bytes errors.TooLarge = limit < length bytes
 IsTooLongOnly limit bytes e = Unit {0}

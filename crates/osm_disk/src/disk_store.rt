@@ -5,19 +5,21 @@ ghost use Rattle.osm_disk.specs.Counts.{Counts, state_of};
 ghost use Rattle.osm_store.specs.Files.{HasFailed, IsWithin, NeverTooLarge};
 ghost use Rattle.osm_store.specs.Frames.{IsDevice, ReadsBetween, ReplacesBetween};
 
-use crate::reading::{cause_of, is_there, read_file, read_prefix};
-use crate::replacing::write_file;
+use crate::reading::{ReadError, cause_of, is_there, read_file, read_prefix};
+use crate::replacing::{Writer, write_file};
 use osm_store::store::{Store, StoreError};
 use std::alloc::Global;
 use std::fs::Files;
+use std::io;
 
 /// The files of the disk, by their paths. Each write replaces a whole file. A killed process leaves
 /// at most a temporary file beside it.
 #[derive(Debug, Drop)]
 pub struct DiskStore<R: Files> {
     files: R,
-    process: u32,
+    writer: Writer,
     failures: u64,
+    said: Option<io::Error>,
 }
 
 impl<R: Files> DiskStore<R> {
@@ -30,9 +32,27 @@ impl<R: Files> DiskStore<R> {
     {
         DiskStore {
             files,
-            process,
+            writer: Writer {
+                process,
+                is_alone: false,
+            },
             failures: 0,
+            said: None,
         }
+    }
+
+    /// Removes, from now on, temporary files that killed processes left of a file that is written.
+    /// Only for a process that holds a lock, since another's may be in use.
+    pub fn set_alone(&mut self)
+        ensures none { failures_of self.new ≡ failures_of self.old }
+        ensures named { process_of self.new ≡ process_of self.old }
+    {
+        self.writer.is_alone = true;
+    }
+
+    /// What the system said of the last call that failed; None if none did.
+    pub fn said(&self) -> Option<io::Error> {
+        self.said
     }
 
     /// How many calls failed because of the device.
@@ -40,6 +60,18 @@ impl<R: Files> DiskStore<R> {
         ensures { result ≡ failures_of self.now }
     {
         self.failures
+    }
+
+    // Keeps what the system said, and counts a failure of the device.
+    fn fail(&mut self, error: io::Error) -> StoreError
+        ensures refused { NeverTooLarge result }
+        ensures counted { Counts self.old.failures self.new.failures result }
+        ensures kept { self.old.failures ≤ self.new.failures }
+        ensures failed { result ≡ StoreError.Device
+            → HasFailed self.old.failures self.new.failures }
+    {
+        self.said = Some(error);
+        self.count_failure(cause_of(&error))
     }
 
     // Counts a failure of the device.
@@ -69,7 +101,8 @@ impl<R: Files> Store for DiskStore<R> {
     {
         match read_file(alloc, &self.files, name, limit) {
             Ok(found) => Ok(found),
-            Err(error) => Err(self.count_failure(error)),
+            Err(ReadError::TooLarge) => Err(StoreError::TooLarge),
+            Err(ReadError::Failed(error)) => Err(self.fail(error)),
         }
     }
 
@@ -88,7 +121,7 @@ impl<R: Files> Store for DiskStore<R> {
     {
         match read_prefix(alloc, &self.files, name, most) {
             Ok(found) => Ok(found),
-            Err(error) => Err(self.count_failure(error)),
+            Err(error) => Err(self.fail(error)),
         }
     }
 
@@ -101,7 +134,7 @@ impl<R: Files> Store for DiskStore<R> {
     {
         match is_there(&self.files, name) {
             Ok(is_there) => Ok(is_there),
-            Err(error) => Err(self.count_failure(error)),
+            Err(error) => Err(self.fail(error)),
         }
     }
 
@@ -112,9 +145,9 @@ impl<R: Files> Store for DiskStore<R> {
         ensures none { OnOk result (self.new.failures ≡ self.old.failures) }
         ensures counted { IfErr result (Counts self.old.failures self.new.failures) }
     {
-        match write_file(alloc, &self.files, self.process, name, bytes) {
+        match write_file(alloc, &self.files, self.writer, name, bytes) {
             Ok(()) => Ok(()),
-            Err(error) => Err(self.count_failure(cause_of(&error))),
+            Err(error) => Err(self.fail(error)),
         }
     }
 }

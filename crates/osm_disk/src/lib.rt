@@ -1,7 +1,8 @@
-//! Files on the disk, each replaced whole.
+//! Files on the disk, each replaced whole, and locks.
 #![tactic(auto)]
 
 pub mod disk_store;
+pub mod lock;
 pub mod names;
-mod reading;
+pub mod reading;
 mod replacing;

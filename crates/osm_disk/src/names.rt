@@ -1,4 +1,4 @@
-//! Names that belong to a path: its folder, its temporary file, and where a link leads.
+//! Names that belong to a path: its folder, its temporary file, its lock, and where a link leads.
 
 ghost use Rattle.std.specs.Prelude.{◌≡◌, ◌<◌, ◌++◌, IfOk, MatchBool, MatchOption, codes, length};
 ghost use Rattle.std.specs.Prelude.{slice_index, string_bytes};
@@ -29,6 +29,33 @@ pub fn temporary_of(alloc: Global, path: &str, process: u32) -> Result<String, A
         None => hidden(alloc, path, process),
         Some((folder, name)) => hidden_below(alloc, folder, name, process),
     }
+}
+
+/// The lock of the file at that path: `PATH.lock`.
+pub fn lock_of_file(alloc: Global, path: &str) -> Result<String, AllocError>
+    ensures { IfOk result (λ lock. string_bytes lock ≡ path.now ++ codes ".lock") }
+{
+    format!(in alloc; "{path}.lock")
+}
+
+/// The lock of a folder of sequences: `DIR/.osmrepl-lock`.
+pub fn lock_of_folder(alloc: Global, dir: &str) -> Result<String, AllocError>
+    ensures { IfOk result (λ lock. string_bytes lock ≡ dir.now ++ codes "/.osmrepl-lock") }
+{
+    format!(in alloc; "{dir}/.osmrepl-lock")
+}
+
+/// The process whose temporary file of the file at that path has this name.
+pub fn process_of(path: &str, name: &[u8]) -> Option<u32> {
+    let file = match split(path) {
+        None => path,
+        Some((_, file)) => file,
+    };
+    let rest = name.strip_prefix(b".")?.strip_prefix(file.as_bytes())?;
+    str::from_utf8(rest.strip_prefix(b".osmrepl-")?)
+        .ok()?
+        .parse()
+        .ok()
 }
 
 /// The path that a symbolic link leads to, from the link's own path and its text.

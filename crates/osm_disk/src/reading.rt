@@ -2,12 +2,21 @@
 
 ghost use Rattle.std.specs.Prelude.{◌≡◌, ℕ, ◌≤◌, ◌<◌, length, take, IfErr, IfOk, IfSome};
 ghost use Rattle.osm_disk.specs.Reading.{IsTooLongOnly, cause};
-ghost use Rattle.osm_store.specs.Files.{IsWithin, NeverTooLarge};
+ghost use Rattle.osm_store.specs.Files.{IsWithin};
 
 use osm_store::store::StoreError;
 use std::alloc::Global;
 use std::fs::{self, Files};
 use std::io::{self, ErrorKind, Read};
+
+/// Why a file isn't read whole.
+#[derive(Clone, Copy, Debug)]
+pub enum ReadError {
+    /// It has more bytes than the limit.
+    TooLarge,
+    /// The system said so.
+    Failed(io::Error),
+}
 
 /// All bytes of a file, or `TooLarge` if there are more than the limit; None if there is no such
 /// file.
@@ -16,14 +25,14 @@ pub fn read_file<R: Files>(
     files: &R,
     path: &str,
     limit: u64,
-) -> Result<Option<Vec<u8>>, StoreError>
+) -> Result<Option<Vec<u8>>, ReadError>
     ensures within { IfOk result (IsWithin limit) }
 {
     match fs::open(files, path) {
         Ok(file) => Ok(Some(read_limited(alloc, file, limit)?)),
         Err(error) => match error.kind() {
             ErrorKind::NotFound => Ok(None),
-            _ => Err(cause_of(&error)),
+            _ => Err(ReadError::Failed(error)),
         },
     }
 }
@@ -34,34 +43,28 @@ pub fn read_prefix<R: Files>(
     files: &R,
     path: &str,
     most: u64,
-) -> Result<Option<Vec<u8>>, StoreError>
+) -> io::Result<Option<Vec<u8>>>
     ensures within { IfOk result (IsWithin most) }
-    ensures refused { IfErr result NeverTooLarge }
 {
     match fs::open(files, path) {
         Ok(file) => Ok(Some(read_first(alloc, file, most)?)),
         Err(error) => match error.kind() {
             ErrorKind::NotFound => Ok(None),
-            _ => Err(cause_of(&error)),
+            _ => Err(error),
         },
     }
 }
 
 /// The first bytes that the reader has, at most so many. Reads no more, and asks for memory as the
 /// bytes come.
-pub fn read_first<R: Read + Drop>(
-    alloc: Global,
-    reader: R,
-    most: u64,
-) -> Result<Vec<u8>, StoreError>
+pub fn read_first<R: Read + Drop>(alloc: Global, reader: R, most: u64) -> io::Result<Vec<u8>>
     ensures read { IfOk result
         (λ bytes. IfSome (R.remaining reader) (λ all. bytes.items ≡ take most all)) }
     ensures within { IfOk result (λ bytes. length bytes.items ≤ most) }
-    ensures refused { IfErr result NeverTooLarge }
 {
     let mut bytes = Vec::new(alloc);
     if let Err(error) = reader.take(most).read_to_end(&mut bytes) {
-        return Err(cause_of(&error));
+        return Err(error);
     }
     cut(&mut bytes, most);
     Ok(bytes)
@@ -78,13 +81,8 @@ fn cut(bytes: &mut Vec<u8>, most: u64)
 }
 
 /// Whether there is a file or a folder at the path. Links are followed.
-pub fn is_there<R: Files>(files: &R, path: &str) -> Result<bool, StoreError>
-    ensures refused { IfErr result NeverTooLarge }
-{
-    match fs::exists(files, path) {
-        Ok(is_there) => Ok(is_there),
-        Err(error) => Err(cause_of(&error)),
-    }
+pub fn is_there<R: Files>(files: &R, path: &str) -> io::Result<bool> {
+    fs::exists(files, path)
 }
 
 /// All bytes that the reader has, or `TooLarge` if there are more than the limit. Reads at most one
@@ -93,7 +91,7 @@ pub fn read_limited<R: Read + Drop>(
     alloc: Global,
     reader: R,
     limit: u64,
-) -> Result<Vec<u8>, StoreError>
+) -> Result<Vec<u8>, ReadError>
     ensures read { IfOk result (λ bytes. IfSome (R.remaining reader) (λ all. bytes.items ≡ all)) }
     ensures within { IfOk result (λ bytes. length bytes.items ≤ limit) }
     ensures over { IfErr result
@@ -101,10 +99,10 @@ pub fn read_limited<R: Read + Drop>(
 {
     let mut bytes = Vec::new(alloc);
     if let Err(error) = reader.take(limit.saturating_add(1)).read_to_end(&mut bytes) {
-        return Err(cause_of(&error));
+        return Err(ReadError::Failed(error));
     }
     if bytes.len() as u64 > limit {
-        return Err(StoreError::TooLarge);
+        return Err(ReadError::TooLarge);
     }
     Ok(bytes)
 }

@@ -25,7 +25,7 @@ use Rattle.clap.specs.Walk.{first_of, rows_after}
 use Rattle.std.specs.Option.{option_map_or}
 use Rattle.std.specs.Borrow.{Bor}
 use Rattle.clap.specs.declared.error.kind.ErrorKind.TheVariants.{InvalidValue}
-use Rattle.osm_repl.specs.CommandLine.{osmrepl_app, sequence_rule, time_rule, word_rule}
+use Rattle.osm_repl.specs.CommandLine.{flag_rule, is_raised, osmrepl_app, sequence_rule, time_rule, word_rule}
 use Rattle.osm_repl.specs.Steps.Commands.{HasValue, HasWord, HasWords, IsCommand, IsCommandOf}
 use Rattle.osm_repl.proofs.WordLemmas.{Each, HasValueIn, IsGoodRule, IsGoodValue, Passes, first_passes, level_passes, second_passes, words_have_values}
 
@@ -187,7 +187,7 @@ two_ways word fine h =
 
 -- ---- the words of the commands
 
--- the rules of a word, of the time, of the number and of help, as they are built
+-- the rules of a word, of the time, of the number, of a flag and of help, as they are built
 abbrev built_word : Text → ℕ → Rule
 built_word id i = with_index i (filled (word_rule id))
 
@@ -197,41 +197,57 @@ built_time i = with_index i (filled time_rule)
 abbrev built_sequence : ℕ → Rule
 built_sequence i = with_index i (filled sequence_rule)
 
+abbrev built_flag : Text → ℕ → Rule
+built_flag name i = with_index i (filled (flag_rule name))
+
 abbrev built_help : ℕ → Rule
 built_help i = with_index i (filled help_rule)
 
 good_word : (id : Text) (i : ℕ) → IsGoodRule (built_word id i)
 good_word id i = record {
-  use_is = inr (record {
+  use_is = inr (inl (record {
     is_set = refl;
     some = λ h. let bad : ◌≡◌ {A = Kinds} (InvalidValue ∷ []) [] = h in absurd cc;
     empty = λ h. let bad : ◌≡◌ {A = Kinds} (InvalidValue ∷ []) [] = h in absurd cc;
-  });
-  no_default = refl;
+  }));
+  default_is = inl refl;
 }
 
 good_time : (i : ℕ) → IsGoodRule (built_time i)
 good_time i = record {
-  use_is = inr (record {
+  use_is = inr (inl (record {
     is_set = refl;
     some = λ h. let bad : ◌≡◌ {A = Kinds} (InvalidValue ∷ []) [] = h in absurd cc;
     empty = λ h. refl;
-  });
-  no_default = refl;
+  }));
+  default_is = inl refl;
 }
 
 good_sequence : (i : ℕ) → IsGoodRule (built_sequence i)
 good_sequence i = record {
-  use_is = inr (record {
+  use_is = inr (inl (record {
     is_set = refl;
     some = λ h. let bad : ◌≡◌ {A = Kinds} (InvalidValue ∷ []) [] = h in absurd cc;
     empty = λ h. let bad : ◌≡◌ {A = Kinds} (InvalidValue ∷ []) [] = h in absurd cc;
-  });
-  no_default = refl;
+  }));
+  default_is = inl refl;
 }
 
 good_help : (i : ℕ) → IsGoodRule (built_help i)
-good_help i = record { use_is = inl refl; no_default = refl }
+good_help i = record { use_is = inl refl; default_is = inl refl }
+
+no_text : (x : ℕ) (xs : Text) (id : Text) → x ∷ xs ≡ [] → id ≡ codes "TIME"
+no_text x xs id h = absurd cc
+
+good_flag : (name : Text) (i : ℕ) → IsGoodRule (built_flag name i)
+good_flag name i = record {
+  use_is = inr (inr (record {
+    is_flag = refl;
+    some = no_text _ _ name;
+    empty = λ h. let bad : ◌≡◌ {A = Kinds} (InvalidValue ∷ []) [] = h in absurd cc;
+  }));
+  default_is = inr (no_text _ _ name);
+}
 
 has_word : (rows : List Row) (id : Text) → bytes_eq id (codes "TIME") ≡ false → IsGoodValue id (first_of id rows) → HasWord rows id
 has_word rows id other good = go (first_of id rows) refl good
@@ -268,13 +284,13 @@ pair_with word rest f s a b are no_a no_b h =
     let has = entered_with word rest f s _ are (good_word a 1, (good_word b 2, (good_help 3, tt))) h in
     (has.0, (has_word f.1 a no_a (has.1.0 refl), (has_word f.1 b no_b (has.1.1.0 refl), tt)))
 
--- such a command of three words
+-- such a command of three words and `--no-lock`
 triple_with : (word : Text) (rest : List Text) (f : Text × List Row) (s : Shape) (a b c : Text)
-    → s.rules ≡ built_word a 1 ∷ built_word b 2 ∷ built_word c 3 ∷ built_help 4 ∷ []
+    → s.rules ≡ built_word a 1 ∷ built_word b 2 ∷ built_word c 3 ∷ built_flag (codes "no-lock") 4 ∷ built_help 4 ∷ []
     → bytes_eq a (codes "TIME") ≡ false → bytes_eq b (codes "TIME") ≡ false → bytes_eq c (codes "TIME") ≡ false
     → Meets word rest f s → (f.0 ≡ s.name) × HasWords f.1 (a ∷ b ∷ c ∷ [])
 triple_with word rest f s a b c are no_a no_b no_c h =
-    let has = entered_with word rest f s _ are (good_word a 1, (good_word b 2, (good_word c 3, (good_help 4, tt)))) h in (
+    let has = entered_with word rest f s _ are (good_word a 1, (good_word b 2, (good_word c 3, (good_flag (codes "no-lock") 4, (good_help 4, tt))))) h in (
       has.0,
       (has_word f.1 a no_a (has.1.0 refl), (has_word f.1 b no_b (has.1.1.0 refl), (has_word f.1 c no_c (has.1.1.1.0 refl), tt))),
     )
@@ -286,10 +302,23 @@ is_command : (p : Text × List Text) (f : Text × List Row) → bytes_eq p.0 (co
     → AnyOf (Meets p.0 p.1 f) (built osmrepl_app).subs → IsCommand (Some f)
 is_command p f fine (inl h) = named (codes "replay") f (ap (λ (q : Text × List Row). q.0) h.0) (inl refl, tt, tt)
 is_command p f fine (inr (inl h)) =
-    let rules : List Rule = built_word (codes "DIR") 1 ∷ built_word (codes "CHANGES") 2 ∷ built_time 3 ∷ built_sequence 3 ∷ built_help 3 ∷ [] in
+    let rules : List Rule = built_word (codes "DIR") 1 ∷ built_word (codes "CHANGES") 2 ∷ built_time 3 ∷ built_sequence 3
+    ∷ built_flag (codes "any-time") 3 ∷ built_flag (codes "no-lock") 3 ∷ built_help 3 ∷ [] in
     let has = entered_with p.0 p.1 f _ rules refl (
       good_word (codes "DIR") 1,
-      (good_word (codes "CHANGES") 2, (good_time 3, (good_sequence 3, (good_help 3, tt)))),
+      (
+        good_word (codes "CHANGES") 2,
+        (
+          good_time 3,
+          (
+            good_sequence 3,
+            (
+              good_flag (codes "any-time") 3,
+              (good_flag (codes "no-lock") 3, (good_help 3, tt)),
+            ),
+          ),
+        ),
+      ),
     ) h in
     named (codes "publish") f has.0 (
       inr (inl refl),
@@ -300,7 +329,16 @@ is_command p f fine (inr (inr (inl h))) =
     let has = triple_with p.0 p.1 f _ (codes "BASE") (codes "STATE") (codes "SAVE") refl refl refl refl h in
     named (codes "begin") f has.0 (inr (inr (inl refl)), has.1, tt)
 is_command p f fine (inr (inr (inr (inl h)))) =
-    let has = pair_with p.0 p.1 f _ (codes "DIR") (codes "SAVE") refl refl refl h in named (codes "follow") f has.0 (inr (inr (inr (inl refl))), has.1, tt)
+    let rules : List Rule = built_word (codes "DIR") 1 ∷ built_word (codes "SAVE") 2 ∷ built_flag (codes "no-lock") 3 ∷ built_help 3 ∷ [] in
+    let has = entered_with p.0 p.1 f _ rules refl (
+      good_word (codes "DIR") 1,
+      (good_word (codes "SAVE") 2, (good_flag (codes "no-lock") 3, (good_help 3, tt))),
+    ) h in
+    named (codes "follow") f has.0 (
+      inr (inr (inr (inl refl))),
+      (has_word f.1 (codes "DIR") refl (has.1.0 refl), (has_word f.1 (codes "SAVE") refl (has.1.1.0 refl), tt)),
+      tt,
+    )
 is_command p f fine (inr (inr (inr (inr (inl h))))) =
     let has = pair_with p.0 p.1 f _ (codes "DIR") (codes "SAVE") refl refl refl h in
     named (codes "lag") f has.0 (inr (inr (inr (inr (inl refl)))), has.1, tt)
@@ -342,6 +380,13 @@ pub no_value : (found : Option (Bor Text)) (name : Text) (rows : List Row) → f
 no_value found name rows none is has =
     let bad : ◌≡◌ {A = Option Text} None (Some has.value) = sym (ap (option_map (λ (s : Bor Text). s.now)) none) ∙ (is ∙ has.is_first) in
     absurd cc
+
+-- a flag that was given has the value `true`
+pub raised : (found : Option (Bor Text)) (name : Text) (rows : List Row)
+    → option_map (λ (s : Bor Text). s.now) found ≡ first_of name rows
+    → option_map_or (λ (s : Bor Text). bytes_eq s.now (codes "true")) found false ≡ is_raised name rows
+raised None name rows is = ap (λ (o : Option Text). option_map_or (λ v. bytes_eq v (codes "true")) o false) is
+raised (Some s) name rows is = ap (λ (o : Option Text). option_map_or (λ v. bytes_eq v (codes "true")) o false) is
 
 -- a word with a value, or without one
 pub may_have : (found : Option (Bor Text)) (name : Text) (rows : List Row)

@@ -1,3 +1,4 @@
+pub mod CheckLemmas
 pub mod ScriptLemmas
 pub mod EchoLemmas
 pub mod ReplayLemmas

@@ -20,15 +20,16 @@ use Rattle.clap.specs.Walk.{option, option_met, option_word, plain, plain_word, 
 use Rattle.clap.specs.Walk.{refused, rows_after, settled, settled_rows, short_met, short_or_plain, subcommand}
 use Rattle.clap.specs.Walk.{subcommand_met, subcommand_or_other, takes_several, takes_values, to_positional, trailing}
 use Rattle.clap.specs.Walk.{used, used_as, used_by_id, value, values_or_missing, waits, walk, walk_from, walked}
-use Rattle.clap.specs.Walk.{walked_from, with_default, without, word_met}
+use Rattle.clap.specs.Walk.{walked_from, with_default, with_values, without, word_met}
 use Rattle.clap.specs.Faults.{action_fault, bundle_fault, bundle_step_fault, check_fault, defaults_fault}
 use Rattle.clap.specs.Faults.{flag_word_fault, flags_fault, level_fault, long_fault, option_fault, other_fault}
 use Rattle.clap.specs.Faults.{positional_fault, react_fault, repeat_fault, set_fault, settle_fault, short_fault}
 use Rattle.clap.specs.Faults.{step_fault, stray_fault, turn_fault, use_fault, values_fault, walk_fault, word_fault}
 use Rattle.clap.specs.declared.builder.action.ArgAction.{ArgAction}
-use Rattle.clap.specs.declared.builder.action.ArgAction.TheVariants.{Help, Set}
+use Rattle.clap.specs.declared.builder.action.ArgAction.TheVariants.{Help, Set, SetTrue}
 use Rattle.clap.specs.declared.error.kind.ErrorKind.TheVariants.{TooManyValues}
-use Rattle.clap.specs.declared.parser.matches.ValueSource.TheVariants.{CommandLine}
+use Rattle.clap.specs.declared.parser.matches.ValueSource.{ValueSource}
+use Rattle.clap.specs.declared.parser.matches.ValueSource.TheVariants.{CommandLine, DefaultValue}
 
 -- if two steps pass, the first does
 pub first_passes : (a b : Kinds) → or_else a b ≡ [] → a ≡ []
@@ -98,10 +99,16 @@ pub record TakesValue (a : Rule) : Type 0 where
   pub some : range_kinds (unwrap_or_range a.range).start_inclusive (most_values a) 0 ≡ [] → ⊥
   pub empty : value_kinds a.ignore_case (parser_of_value a.parser) [] ≡ [] → a.id ≡ codes "TIME"
 
--- a rule whose uses give a value or answer with help, and that has no default
+-- a use of a flag gives the value that stands for one without a value, and no value of a word can be empty
+pub record IsFlag (a : Rule) : Type 0 where
+  pub is_flag : action_of a ≡ SetTrue
+  pub some : HasFirst a.id a.missing
+  pub empty : value_kinds a.ignore_case (parser_of_value a.parser) [] ≡ [] → a.id ≡ codes "TIME"
+
+-- a rule whose uses answer with help, or give a value, and so does its default if it has one
 pub record IsGoodRule (a : Rule) : Type 0 where
-  pub use_is : (action_of a ≡ Help) ⊎ TakesValue a
-  pub no_default : a.defaults ≡ []
+  pub use_is : (action_of a ≡ Help) ⊎ TakesValue a ⊎ IsFlag a
+  pub default_is : (a.defaults ≡ []) ⊎ HasFirst a.id a.defaults
 
 -- ---- one use
 
@@ -114,6 +121,31 @@ at_row_good id change missing (r ∷ rs) changed new old = go (bytes_eq r.id id)
     go true later = each_of_both IsGoodRow (change r) rs (changed r old.0) old.1
     go false later = (old.0, later)
 
+-- the row of an argument, once it has these values
+with_good : (a : Rule) (source : ValueSource) (values : List Text) (rows : List Row) → HasFirst a.id values → Each IsGoodRow rows
+    → Each IsGoodRow (with_values a.id (reading_by a) source values rows)
+with_good a source values rows good old = at_row_good a.id (more_values source values) _ rows (λ r h. (has_first_more r.id r.values values h, tt)) (good, tt) old
+
+without_good : (id : Text) (rows : List Row) → Each IsGoodRow rows → Each IsGoodRow (without id rows)
+without_good id rows old = at_row_good id (λ _. []) [] rows (λ r h. tt) tt old
+
+-- a use whose values pass
+values_good : (a : Rule) (v : Text) (vs : List Text) → (value_kinds a.ignore_case (parser_of_value a.parser) [] ≡ [] → a.id ≡ codes "TIME")
+    → values_fault a (v ∷ vs) ≡ [] → HasFirst a.id (v ∷ vs)
+values_good a v vs empty all none =
+    let first : value_kinds a.ignore_case (parser_of_value a.parser) v ≡ [] = first_passes _ (values_fault a vs) all in
+    empty (subst (λ (t : Text). value_kinds a.ignore_case (parser_of_value a.parser) t ≡ []) none first)
+
+flag_used_good : (again : Bool) (a : Rule) (values : List Text) (rows : List Row) → IsFlag a → use_fault again a values rows ≡ [] → Each IsGoodRow rows
+    → Each IsGoodRow (used_as SetTrue a.id (reading_by a) (values_or_missing a values) rows)
+flag_used_good again a [] rows flag passes old = with_good a CommandLine a.missing (without a.id rows) flag.some (without_good a.id rows old)
+flag_used_good again a (v ∷ vs) rows flag passes old =
+    let acts : action_fault (action_of a) again a (v ∷ vs) rows ≡ [] =
+    second_passes (range_kinds (unwrap_or_range a.range).start_inclusive (most_values a) (length (v ∷ vs))) _ passes in
+    let sets : set_fault again a (v ∷ vs) rows ≡ [] = subst (λ (x : ArgAction). action_fault x again a (v ∷ vs) rows ≡ []) flag.is_flag acts in
+    let all : values_fault a (v ∷ vs) ≡ [] = second_passes (repeat_fault again a.id rows) _ sets in
+    with_good a CommandLine (v ∷ vs) (without a.id rows) (values_good a v vs flag.empty all) (without_good a.id rows old)
+
 set_good : (again : Bool) (a : Rule) (values : List Text) (rows : List Row) → TakesValue a → use_fault again a values rows ≡ [] → Each IsGoodRow rows
     → Each IsGoodRow (used_as Set a.id (reading_by a) (values_or_missing a values) rows)
 set_good again a [] rows takes passes old =
@@ -123,17 +155,16 @@ set_good again a (v ∷ vs) rows takes passes old =
     second_passes (range_kinds (unwrap_or_range a.range).start_inclusive (most_values a) (length (v ∷ vs))) _ passes in
     let sets : set_fault again a (v ∷ vs) rows ≡ [] = subst (λ (x : ArgAction). action_fault x again a (v ∷ vs) rows ≡ []) takes.is_set acts in
     let all : values_fault a (v ∷ vs) ≡ [] = second_passes (repeat_fault again a.id rows) _ sets in
-    let first : value_kinds a.ignore_case (parser_of_value a.parser) v ≡ [] = first_passes _ (values_fault a vs) all in
-    let good : HasFirst a.id (v ∷ vs) = λ none. takes.empty (subst (λ (t : Text). value_kinds a.ignore_case (parser_of_value a.parser) t ≡ []) none first) in
-    let others : Each IsGoodRow (without a.id rows) = at_row_good a.id (λ _. []) [] rows (λ r h. tt) tt old in
-    at_row_good a.id (more_values CommandLine (v ∷ vs)) _ (without a.id rows) (λ r h. (has_first_more r.id r.values (v ∷ vs) h, tt)) (good, tt) others
+    with_good a CommandLine (v ∷ vs) (without a.id rows) (values_good a v vs takes.empty all) (without_good a.id rows old)
 
 used_good : (again : Bool) (a : Rule) (values : List Text) (rows : List Row) → IsGoodRule a → use_fault again a values rows ≡ [] → Each IsGoodRow rows
     → Each IsGoodRow (used a values rows)
 used_good again a values rows good passes old = elim good.use_is [
   | inl help ↦ subst (λ (x : ArgAction). Each IsGoodRow (used_as x a.id (reading_by a) (values_or_missing a values) rows)) (sym help) old
-  | inr takes ↦ subst (λ (x : ArgAction). Each IsGoodRow (used_as x a.id (reading_by a) (values_or_missing a values) rows)) (sym takes.is_set)
+  | inr (inl takes) ↦ subst (λ (x : ArgAction). Each IsGoodRow (used_as x a.id (reading_by a) (values_or_missing a values) rows)) (sym takes.is_set)
       (set_good again a values rows takes passes old)
+  | inr (inr flag) ↦ subst (λ (x : ArgAction). Each IsGoodRow (used_as x a.id (reading_by a) (values_or_missing a values) rows)) (sym flag.is_flag)
+      (flag_used_good again a values rows flag passes old)
 ]
 
 -- ---- the walk
@@ -296,13 +327,18 @@ module _ (s : Shape) (names : Names) (good : Each IsGoodRule s.rules) where
 
 -- ---- after the walk
 
-no_defaults : (rows : List Row) (c : List Rule) → Each IsGoodRule c → fold with_default rows c ≡ rows
-no_defaults rows [] good = refl
-no_defaults rows (a ∷ rest) good = ap (λ (rs : List Row). fold with_default rs rest) (go (has_row a.id rows)) ∙ no_defaults rows rest good.1
+defaults_good : (rows : List Row) (c : List Rule) → Each IsGoodRule c → Each IsGoodRow rows → Each IsGoodRow (fold with_default rows c)
+defaults_good rows [] good old = old
+defaults_good rows (a ∷ rest) good old = defaults_good (with_default rows a) rest good.1 (go (has_row a.id rows))
   where
-    go : (b : Bool) → cond b rows (default_rows a.id (reading_by a) a.defaults rows) ≡ rows
-    go true = refl
-    go false = ap (λ (d : List Text). default_rows a.id (reading_by a) d rows) good.0.no_default
+    given : (d : List Text) → (d ≡ []) ⊎ HasFirst a.id d → Each IsGoodRow (default_rows a.id (reading_by a) d rows)
+    given [] is = old
+    given (v ∷ vs) (inl none) = absurd cc
+    given (v ∷ vs) (inr first) = with_good a DefaultValue (v ∷ vs) rows first old
+
+    go : (b : Bool) → Each IsGoodRow (cond b rows (default_rows a.id (reading_by a) a.defaults rows))
+    go true = old
+    go false = given a.defaults good.0.default_is
 
 -- a required argument was given
 abbrev IsGiven : List Row → Rule → Type 0
@@ -373,5 +409,5 @@ words_have_values s words good passes =
     let end : Held = (walk s.rules [] nothing_held words).held in
     let over_words : Each IsGoodRow end.rows = walk_good s [] good (walk_from nothing_held) words p.walks tt in
     let settles : Each IsGoodRow (settled s.rules end).rows = settled_good s.rules s.args_override_self good end p.settles over_words in
-    let rows : Each IsGoodRow (finished s.rules end) = subst (Each IsGoodRow) (sym (no_defaults (settled s.rules end).rows s.rules good)) settles in
+    let rows : Each IsGoodRow (finished s.rules end) = defaults_good (settled s.rules end).rows s.rules good settles in
     each_value (finished s.rules end) s.rules rows (required_given s (finished s.rules end) p.checks)

@@ -1,8 +1,12 @@
 -- The command line: the words that are taken, and the order that they give.
-use Rattle.std.specs.Prelude.{◌≡◌, List, [], ◌∷◌, Option, Some, None, codes, true}
+use Rattle.std.specs.Prelude.{◌≡◌, Bool, List, [], ◌∷◌, Option, Some, None, codes, true, false}
+use Rattle.std.specs.Option.{option_map_or}
+use Rattle.std.specs.Str.{bytes_eq}
 use Rattle.clap.specs.Words.{App, Row, Rule, Text, first_of, new_app, new_rule, subcommand_of}
 use Rattle.clap.specs.Words.{with_rule, with_subcommand}
 use Rattle.clap.specs.declared.builder.value_parser.ValueParser.TheVariants.{NonEmptyString}
+use Rattle.clap.specs.declared.builder.action.ArgAction.TheVariants.{SetTrue}
+use Rattle.osm_repl.specs.declared.orders.Options.{Options}
 use Rattle.osm_repl.specs.declared.orders.Order.{Order}
 use Rattle.osm_repl.specs.declared.orders.Order.TheVariants.{Replay, Publish, Follow, Lag, Show}
 use Rattle.osm_repl.specs.declared.orders.Order.TheVariants.{Begin, Convert, Export, PublishAs}
@@ -23,6 +27,10 @@ time_rule = record (new_rule (codes "TIME")) { long = Some (codes "now"); requir
 abbrev pub sequence_rule : Rule
 sequence_rule = record (filled_rule (codes "N")) { long = Some (codes "sequence") }
 
+-- `--NAME`, which has no value
+abbrev pub flag_rule : Text → Rule
+flag_rule name = record (new_rule name) { long = Some name; action = Some SetTrue }
+
 -- the command with one more word
 abbrev pub with_word : App → Text → App
 with_word app name = with_rule app (word_rule name)
@@ -38,18 +46,31 @@ publish_next_app =
     time_rule
 
 -- the same, and perhaps `--sequence N`
+abbrev pub publish_number_app : App
+publish_number_app = with_rule publish_next_app sequence_rule
+
+-- the command with `--no-lock`
+abbrev pub with_lock : App → App
+with_lock app = with_rule app (flag_rule (codes "no-lock"))
+
+-- the same, and perhaps `--any-time` and `--no-lock`
 abbrev pub publish_app : App
-publish_app = with_rule publish_next_app sequence_rule
+publish_app = with_lock (with_rule publish_number_app (flag_rule (codes "any-time")))
 
 -- `begin BASE STATE SAVE`
-abbrev pub begin_app : App
-begin_app =
+abbrev pub begin_words_app : App
+begin_words_app =
     with_word (with_word (with_word (new_app (codes "begin")) (codes "BASE")) (codes "STATE"))
     (codes "SAVE")
 
--- `follow DIR SAVE`
+-- the same, and perhaps `--no-lock`
+abbrev pub begin_app : App
+begin_app = with_lock begin_words_app
+
+-- `follow DIR SAVE`, and perhaps `--no-lock`
 abbrev pub follow_app : App
-follow_app = with_word (with_word (new_app (codes "follow")) (codes "DIR")) (codes "SAVE")
+follow_app =
+    with_lock (with_word (with_word (new_app (codes "follow")) (codes "DIR")) (codes "SAVE"))
 
 -- `lag DIR SAVE`
 abbrev pub lag_app : App
@@ -121,6 +142,23 @@ IsOrderIn found (Convert input output) =
 -- the order is the one for the words, as clap reads them
 abbrev pub IsOrderOf : List Text → Order → Type 0
 IsOrderOf words = IsOrderIn (subcommand_of osmrepl_app words)
+
+-- a flag was given: clap gives it the value `true` then
+abbrev pub is_raised : Text → List Row → Bool
+is_raised name rows =
+    option_map_or (λ value. bytes_eq value (codes "true")) (first_of name rows) false
+
+-- the options of the command that was found
+abbrev pub options_in : Option (Text × List Row) → Options
+options_in None = record { no_lock = false; any_time = false }
+options_in (Some found) = record {
+  no_lock = is_raised (codes "no-lock") found.1;
+  any_time = is_raised (codes "any-time") found.1;
+}
+
+-- the options of the words, as clap reads them
+abbrev pub options_of : List Text → Options
+options_of words = options_in (subcommand_of osmrepl_app words)
 
 -- no word of the order is empty, except a time; the number of a sequence isn't either, by its rule
 abbrev pub HasNoEmptyWord : Order → Type 0

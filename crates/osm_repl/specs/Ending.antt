@@ -1,4 +1,5 @@
 -- How a run ends that has nothing to print, or can't print it.
+use Rattle.std.specs.Prelude.{ℕ}
 use Rattle.std.specs.Borrow.{Bor}
 use Rattle.std.specs.declared.io.ErrorKind.{ErrorKind as IoKind}
 use Rattle.std.specs.declared.io.ErrorKind.TheVariants as io_kinds
@@ -9,7 +10,10 @@ use Rattle.clap.specs.declared.error.kind.ErrorKind.TheVariants as kinds
 use Rattle.osm_repl.specs.declared.ending.Ending.{Ending}
 use Rattle.osm_repl.specs.declared.ending.Message.{Message}
 use Rattle.osm_repl.specs.declared.ending.Message.TheVariants.{ByClap, Fault, NotText}
+use Rattle.osm_repl.specs.declared.ending.Message.TheVariants as messages
 use Rattle.osm_repl.specs.declared.ending.Stream.TheVariants.{Output, Error}
+use Rattle.osm_repl.specs.declared.refusal.Refusal.{Refusal}
+use Rattle.osm_repl.specs.declared.refusal.Refusal.TheVariants.{FolderInUse, SaveInUse}
 use Rattle.osm_folder.specs.Faults.{status_of}
 use Rattle.osm_folder.specs.declared.fault.RunFault.{RunFault}
 use Rattle.osm_folder.specs.declared.fault.RunFault.TheVariants.{WantOfMemory}
@@ -21,6 +25,20 @@ refused_words message = record { message = message; stream = Error; status = 2 }
 -- a fault is said on standard error, and the status is that of the fault
 abbrev pub ending_of_fault : RunFault → Ending
 ending_of_fault fault = record { message = Fault fault; stream = Error; status = status_of fault }
+
+-- 4 if another run is at work there, 3 for any other refusal
+abbrev pub status_of_refusal : Refusal → ℕ
+status_of_refusal FolderInUse = 4
+status_of_refusal SaveInUse = 4
+status_of_refusal refusal = 3
+
+-- a run that isn't begun is said on standard error, and the status is that of the refusal
+abbrev pub ending_of_refusal : Refusal → Ending
+ending_of_refusal refusal = record {
+  message = messages.Refusal refusal;
+  stream = Error;
+  status = status_of_refusal refusal;
+}
 
 -- an error of clap of that kind: help and the version go to standard output, and the status is 0;
 -- if clap is out of memory, that is a fault; for any other kind clap's text goes to standard error,

@@ -1,6 +1,8 @@
 pub mod Script
 pub mod Replies
+pub mod Locks
 pub mod Replay
+pub mod Checks
 pub mod CommandLine
 pub mod Ending
 pub mod Execution

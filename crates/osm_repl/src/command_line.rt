@@ -6,33 +6,54 @@ ghost use Rattle.clap.specs.Words.{FailsBy, HasMatchesOf, app_of, fault_of, foun
 ghost use Rattle.clap.specs.Words.{first_of, rows_of, rule_of, subcommand_rows_of, takes};
 ghost use Rattle.clap.specs.declared.builder.Command.TheViews.{out-Command as fields_of};
 ghost use Rattle.osm_repl.specs.CommandLine.{HasNoEmptyWord, IsOrderIn, IsOrderOf, begin_app};
+ghost use Rattle.osm_repl.specs.CommandLine.{begin_words_app};
 ghost use Rattle.osm_repl.specs.CommandLine.{convert_app};
-ghost use Rattle.osm_repl.specs.CommandLine.{export_app, filled_rule, follow_app, lag_app};
+ghost use Rattle.osm_repl.specs.CommandLine.{export_app, filled_rule, flag_rule, follow_app};
+ghost use Rattle.osm_repl.specs.CommandLine.{is_raised, lag_app, options_in, options_of};
 ghost use Rattle.osm_repl.specs.CommandLine.{osmrepl_app, program_app, publish_app};
-ghost use Rattle.osm_repl.specs.CommandLine.{publish_next_app};
+ghost use Rattle.osm_repl.specs.CommandLine.{publish_next_app, publish_number_app};
 ghost use Rattle.osm_repl.specs.CommandLine.{replay_app, sequence_rule, show_app, time_rule};
 ghost use Rattle.osm_repl.specs.CommandLine.{word_rule};
 ghost use Rattle.osm_repl.specs.Steps.Commands.{HasValue, HasValues, HasWord, HasWords, IsCommand};
 ghost use Rattle.osm_repl.specs.Steps.Commands.{times_of, words_of};
 
 use crate::help;
-use crate::orders::Order;
+use crate::orders::{Asked, Options, Order};
 use clap::builder::ValueParser;
 use clap::error::ErrorKind;
-use clap::{Arg, ArgMatches, Command, Error};
+use clap::{Arg, ArgAction, ArgMatches, Command, Error};
 use std::alloc::{AllocError, Global};
 
 /// What the words, with the program's name first, ask for. No word of the order is empty except a
 /// time. Refused if `clap` refuses the words, and if they ask for help or the version.
-pub fn order<'a>(alloc: Global, words: &'a [&'a str]) -> Result<Order<'a>, Error>
-    ensures order { IfOk result (IsOrderOf (map (λ s. s.now) words.entry.now)) }
-    ensures not_empty { IfOk result HasNoEmptyWord }
+pub fn asked<'a>(alloc: Global, words: &'a [&'a str]) -> Result<Asked<'a>, Error>
+    ensures order { IfOk result (λ a. IsOrderOf (map (λ s. s.now) words.entry.now) a.order) }
+    ensures options { IfOk result
+        (λ a. a.options ≡ options_of (map (λ s. s.now) words.entry.now)) }
+    ensures not_empty { IfOk result (λ a. HasNoEmptyWord a.order) }
     ensures taken { IfErr result (λ e. takes osmrepl_app (map (λ s. s.now) words.entry.now) ≡ true
         → kind_of e ≡ ErrorKind.OutOfMemory) }
     ensures kinds { FailsBy (fault_of osmrepl_app (map (λ s. s.now) words.entry.now)) result }
 {
     let matches = matches(alloc, words)?;
-    Ok(order_of(&matches))
+    Ok(Asked {
+        order: order_of(&matches),
+        options: options_of(&matches),
+    })
+}
+
+// The options of the command that was found.
+fn options_of(matches: &ArgMatches<'_>) -> Options
+    requires { IsCommand (subcommand_rows_of matches.now) }
+    ensures { result ≡ options_in (subcommand_rows_of matches.now) }
+{
+    let Some((_, given)) = matches.subcommand() else {
+        unreachable!()
+    };
+    Options {
+        no_lock: is_raised(given, "no-lock"),
+        any_time: is_raised(given, "any-time"),
+    }
 }
 
 // The order for the command that was found, with its words.
@@ -151,6 +172,16 @@ fn nonempty<'a>(given: &ArgMatches<'a>, name: &str) -> &'a str
     value(given, name)
 }
 
+// Whether a flag was given: its value is `true` then.
+fn is_raised(given: &ArgMatches<'_>, name: &str) -> bool
+    ensures { result ≡ is_raised name.now (rows_of (found_of given.now)) }
+{
+    match optional(given, name) {
+        Some(value) => value == "true",
+        None => false,
+    }
+}
+
 // The first value of a word, if it has one.
 fn optional<'a>(given: &ArgMatches<'a>, name: &str) -> Option<&'a str>
     ensures { MatchOption result (first_of name.now (rows_of (found_of given.now)) ≡ None)
@@ -217,6 +248,16 @@ fn publish<'a>(alloc: Global) -> Result<Command<'a>, AllocError>
     ensures app { IfOk result (λ c. app_of c ≡ publish_app) }
     ensures local { IfOk result (λ c. (fields_of c).has_globals ≡ false) }
 {
+    publish_number(alloc)?
+        .arg(any_time(alloc))?
+        .arg(no_lock(alloc))
+}
+
+// `publish` with its words, and without its flags.
+fn publish_number<'a>(alloc: Global) -> Result<Command<'a>, AllocError>
+    ensures app { IfOk result (λ c. app_of c ≡ publish_number_app) }
+    ensures local { IfOk result (λ c. (fields_of c).has_globals ≡ false) }
+{
     publish_next(alloc)?.arg(sequence(alloc))
 }
 
@@ -235,6 +276,14 @@ fn publish_next<'a>(alloc: Global) -> Result<Command<'a>, AllocError>
 
 fn begin<'a>(alloc: Global) -> Result<Command<'a>, AllocError>
     ensures app { IfOk result (λ c. app_of c ≡ begin_app) }
+    ensures local { IfOk result (λ c. (fields_of c).has_globals ≡ false) }
+{
+    begin_words(alloc)?.arg(no_lock(alloc))
+}
+
+// `begin` with its words, and without its flag.
+fn begin_words<'a>(alloc: Global) -> Result<Command<'a>, AllocError>
+    ensures app { IfOk result (λ c. app_of c ≡ begin_words_app) }
     ensures local { IfOk result (λ c. (fields_of c).has_globals ≡ false) }
 {
     Command::new(alloc, "begin")
@@ -265,7 +314,8 @@ fn follow<'a>(alloc: Global) -> Result<Command<'a>, AllocError>
             alloc,
             "SAVE",
             "The save; if it isn't there, it begins at number 0",
-        ))
+        ))?
+        .arg(no_lock(alloc))
 }
 
 fn lag<'a>(alloc: Global) -> Result<Command<'a>, AllocError>
@@ -353,4 +403,39 @@ fn sequence<'a>(alloc: Global) -> Arg<'a>
 {
     let says = "The number of the sequence; the same command can then be run again";
     filled(alloc, "N", says).long("sequence")
+}
+
+// `--no-lock`
+fn no_lock<'a>(alloc: Global) -> Arg<'a>
+    ensures rule { rule_of result ≡ flag_rule (codes "no-lock") }
+    ensures local { result.global ≡ false }
+{
+    flag(
+        alloc,
+        "no-lock",
+        "Takes no lock; nothing else may write there then",
+    )
+}
+
+// `--any-time`
+fn any_time<'a>(alloc: Global) -> Arg<'a>
+    ensures rule { rule_of result ≡ flag_rule (codes "any-time") }
+    ensures local { result.global ≡ false }
+{
+    flag(
+        alloc,
+        "any-time",
+        "Takes a TIME that is more than a day ahead of the clock",
+    )
+}
+
+// `--NAME`, which has no value.
+fn flag<'a>(alloc: Global, name: &'a str, says: &'a str) -> Arg<'a>
+    ensures rule { rule_of result ≡ flag_rule name.now }
+    ensures local { result.global ≡ false }
+{
+    Arg::new(alloc, name)
+        .long(name)
+        .help(says)
+        .action(ArgAction::SetTrue)
 }

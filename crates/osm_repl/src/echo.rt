@@ -49,7 +49,7 @@ fn is_cut(word: &str) -> bool
     word.chars().nth(MOST_SHOWN).is_some()
 }
 
-fn push_shown(character: char, echo: &mut String) -> Result<(), AllocError>
+pub(crate) fn push_shown(character: char, echo: &mut String) -> Result<(), AllocError>
     ensures { OnOk result
         (string_bytes echo.new ≡ string_bytes echo.old ++ spec.shown_char character) }
 {

@@ -1,8 +1,10 @@
 //! What the program says last, and its exit status.
 
 ghost use Rattle.std.specs.Prelude.{◌≡◌};
-ghost use Rattle.osm_repl.specs.Ending.{ending_of_error, ending_of_fault, ending_of_unread};
+ghost use Rattle.osm_repl.specs.Ending.{ending_of_error, ending_of_fault, ending_of_refusal};
+ghost use Rattle.osm_repl.specs.Ending.{ending_of_unread};
 
+use crate::refusal::Refusal;
 use clap::Error;
 use clap::error::ErrorKind;
 use osm_folder::fault::RunFault;
@@ -22,6 +24,8 @@ pub enum Message<'a> {
     ByClap(&'a Error),
     /// One line, `osmrepl: ` and the fault.
     Fault(RunFault),
+    /// One line, `osmrepl: ` and why the run isn't begun.
+    Refusal(Refusal),
     /// One line: the words of the command line aren't text.
     NotText,
 }
@@ -77,5 +81,16 @@ pub fn ending_of_fault<'a>(fault: RunFault) -> Ending<'a>
         message: Message::Fault(fault),
         stream: Stream::Error,
         status: fault.status(),
+    }
+}
+
+/// The ending of a run that isn't begun.
+pub fn ending_of_refusal<'a>(refusal: Refusal) -> Ending<'a>
+    ensures { result ≡ ending_of_refusal refusal }
+{
+    Ending {
+        message: Message::Refusal(refusal),
+        stream: Stream::Error,
+        status: refusal.status(),
     }
 }

@@ -17,7 +17,8 @@ Exit statuses:
   0  done
   1  done, but numbers are missing, which follow printed
   2  the words of the command line are refused
-  3  any other fault, out of memory included; one line on standard error says which";
+  3  any other fault, out of memory included; one line on standard error says which
+  4  another run is at work in the folder or on the save; nothing was done";
 
 pub(crate) const REPLAY: &str =
     "Runs a script of edits, closes and deliveries, and writes the replies";
@@ -60,6 +61,10 @@ command can be run again:
   any other number                         refused: state.txt: at the newest number
 Without --sequence, the same command run again may publish the same changes a second time.
 
+A run locks DIR by the file DIR/.osmrepl-lock, which stays there. If another run is at work in DIR:
+'folder: in use', and the status is 4. A TIME that is more than a day ahead of the clock is refused:
+'time ahead'.
+
 A fault names a file of DIR by its path there, as state.txt or 000/000/001.o5c, and CHANGES as
 changes.";
 
@@ -72,6 +77,9 @@ BASE is a data file, as an extract or what export wrote, and STATE is the state 
 that it is of. SAVE is written with the objects of BASE, at the number and the time of STATE, and
 without counts of edits; whatever it held before is replaced. The number is printed, as 'number 7'.
 What follow then counts are the edits of the numbers after it.
+
+A run locks SAVE by the file SAVE.lock, which stays there. If another run is at work on SAVE:
+'save: in use', and the status is 4.
 
 A name that ends in .opl is that of an OPL file, one that ends in .o5m that of an o5m file. It has
 at most 64 MiB. Its objects stand by rising keys: nodes, ways and relations, each by their ids. Each
@@ -96,6 +104,9 @@ After SAVE is written, this is printed:
 A file that is there but faulty stops the run at its number, with the place and the cause: SAVE and
 what was printed are those of the numbers before it. Put the right file there, or remove it, and
 follow again.
+
+A run locks SAVE by the file SAVE.lock, which stays there. If another run is at work on SAVE:
+'save: in use', and the status is 4.
 
 A fault names a file of DIR by its path there, as state.txt or 000/000/001.o5c, and SAVE as save.";
 

@@ -2,12 +2,16 @@
 #![tactic(auto)]
 
 mod asks;
+pub mod causes;
+pub mod checks;
 pub mod command_line;
 pub mod echo;
 pub mod ending;
 pub mod execution;
 mod help;
+pub mod locks;
 pub mod orders;
+pub mod refusal;
 pub mod replay;
 pub mod replies;
 pub mod script;

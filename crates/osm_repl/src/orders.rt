@@ -1,5 +1,21 @@
 //! What the words of the command line ask for.
 
+/// A command with its words, and how it is to be run.
+#[derive(Clone, Copy, Debug, PartialEq, Eq)]
+pub struct Asked<'a> {
+    pub order: Order<'a>,
+    pub options: Options,
+}
+
+/// How a command is to be run.
+#[derive(Clone, Copy, Debug, PartialEq, Eq)]
+pub struct Options {
+    /// No other run is kept out by a lock.
+    pub no_lock: bool,
+    /// The time of a publication may be far ahead of the clock.
+    pub any_time: bool,
+}
+
 /// A command of the program, with its words.
 #[derive(Clone, Copy, Debug, PartialEq, Eq)]
 pub enum Order<'a> {
@@ -48,4 +64,66 @@ pub enum Order<'a> {
         input: &'a str,
         output: &'a str,
     },
+}
+
+impl<'a> Order<'a> {
+    /// The folder of sequences, or nothing.
+    pub fn dir(self) -> &'a str {
+        match self {
+            Order::Publish { dir, .. } | Order::PublishAs { dir, .. } => dir,
+            Order::Follow { dir, .. } | Order::Lag { dir, .. } => dir,
+            _ => "",
+        }
+    }
+
+    /// The save, or nothing.
+    pub fn save(self) -> &'a str {
+        match self {
+            Order::Begin { save, .. } | Order::Follow { save, .. } => save,
+            Order::Lag { save, .. } | Order::Export { save, .. } => save,
+            Order::Show { save } => save,
+            _ => "",
+        }
+    }
+
+    /// The data file and the state that a save begins with, or nothing.
+    pub fn base(self) -> (&'a str, &'a str) {
+        match self {
+            Order::Begin { base, state, .. } => (base, state),
+            _ => ("", ""),
+        }
+    }
+
+    /// The file of changes that are published, or nothing.
+    pub fn changes(self) -> &'a str {
+        match self {
+            Order::Publish { changes, .. } | Order::PublishAs { changes, .. } => changes,
+            _ => "",
+        }
+    }
+
+    /// The time of a publication, or nothing.
+    pub fn now(self) -> &'a str {
+        match self {
+            Order::Publish { now, .. } | Order::PublishAs { now, .. } => now,
+            _ => "",
+        }
+    }
+
+    /// What is read, of a conversion or a replay, or nothing.
+    pub fn input(self) -> &'a str {
+        match self {
+            Order::Convert { input, .. } => input,
+            Order::Replay => "standard input",
+            _ => "",
+        }
+    }
+
+    /// What is written at last.
+    pub fn output(self) -> &'a str {
+        match self {
+            Order::Export { output, .. } | Order::Convert { output, .. } => output,
+            _ => "standard output",
+        }
+    }
 }

@@ -1,20 +1,22 @@
 //! The program `osmrepl`, over the library `osm_repl`.
 #![tactic(auto)]
 
-use clap::Error;
-use osm_disk::disk_store::DiskStore;
-use osm_folder::fault::{FileName, RunFault};
-use osm_repl::command_line::order;
-use osm_repl::echo::echoes;
-use osm_repl::ending::{
-    Ending, Message, Stream, ending_of_error, ending_of_fault, ending_of_unread,
-};
-use osm_repl::execution::execute;
-use osm_repl::orders::Order;
-use std::process::ExitCode;
-use std::{env, io, process};
+mod locking;
+mod saying;
 
-const NOT_TEXT: &str = "the words of the command line aren't text";
+use crate::locking::{locked, seconds};
+use crate::saying::{end, explain, refuse, report, report_of_run};
+use osm_disk::disk_store::DiskStore;
+use osm_folder::fault::RunFault;
+use osm_repl::checks::{check_words, is_ahead};
+use osm_repl::command_line::asked;
+use osm_repl::ending::ending_of_unread;
+use osm_repl::execution::execute;
+use osm_repl::locks::lock_of;
+use osm_repl::orders::Asked;
+use osm_repl::refusal::Refusal;
+use std::process::ExitCode;
+use std::{env, process};
 
 fn main(rt: HostRuntime) -> ExitCode {
     ExitCode::from(run(&rt))
@@ -25,7 +27,7 @@ fn run(rt: &HostRuntime) -> u8 {
     let alloc = rt.alloc();
     let given = match env::args(rt) {
         Ok(given) => given,
-        Err(error) => return end(rt, ending_of_unread(error.kind())),
+        Err(error) => return end(rt, ending_of_unread(error.kind()), ""),
     };
     let Ok(arguments) = given.collect::<Vec<String>>(alloc) else {
         return report(rt, RunFault::WantOfMemory);
@@ -37,71 +39,44 @@ fn run(rt: &HostRuntime) -> u8 {
     else {
         return report(rt, RunFault::WantOfMemory);
     };
-    match order(alloc, words.as_slice()) {
-        Ok(order) => done(rt, order),
+    match asked(alloc, words.as_slice()) {
+        Ok(asked) => begun(rt, asked),
         Err(error) => explain(rt, &error, words.as_slice()),
     }
 }
 
-// Does what the order asks for, over the files on the disk.
-fn done(rt: &HostRuntime, order: Order<'_>) -> u8 {
+// Looks at the words, takes the lock, and does what was asked for. The lock is held to the end.
+fn begun(rt: &HostRuntime, asked: Asked<'_>) -> u8 {
+    if let Err(fault) = check_words(asked.order) {
+        return report_of_run(rt, asked.order, fault, None);
+    }
+    if !asked.options.any_time && is_ahead(asked.order, seconds(rt)) {
+        let hint = "--any-time takes it";
+        return refuse(rt, Refusal::TimeAhead, asked.order.now(), None, hint);
+    }
+    let Some(lock) = lock_of(asked) else {
+        return done(rt, asked, false);
+    };
+    match locked(rt, lock) {
+        Ok(held) => done(rt, asked, held.is_some()),
+        Err(status) => status,
+    }
+}
+
+// Does what was asked for, over the files on the disk. A run that holds its lock is alone there.
+fn done(rt: &HostRuntime, asked: Asked<'_>, is_alone: bool) -> u8 {
     let mut store = DiskStore::new(rt, process::id(rt.process()));
+    if is_alone {
+        store.set_alone();
+    }
     match execute(
         rt.alloc(),
-        order,
+        asked.order,
         &mut store,
         &mut rt.stdin(),
         &mut rt.stdout(),
     ) {
         Ok(status) => status,
-        Err(fault) => report(rt, fault),
-    }
-}
-
-// Says why the words gave no order. `clap` makes the text from the words' echoes, since it repeats
-// a word that it refuses.
-fn explain(rt: &HostRuntime, error: &Error, words: &[&str]) -> u8 {
-    let alloc = rt.alloc();
-    let Ok(echoes) = echoes(alloc, words) else {
-        return report(rt, RunFault::WantOfMemory);
-    };
-    let Ok(echoed) = echoes
-        .iter()
-        .map(|word| word.as_str())
-        .collect::<Vec<&str>>(alloc)
-    else {
-        return report(rt, RunFault::WantOfMemory);
-    };
-    match order(alloc, echoed.as_slice()) {
-        Ok(_) => end(rt, ending_of_error(error)),
-        Err(shown) => end(rt, ending_of_error(&shown)),
-    }
-}
-
-fn report(rt: &HostRuntime, fault: RunFault) -> u8 {
-    end(rt, ending_of_fault(fault))
-}
-
-// Prints the text of the ending, and gives its status. It is a fault if standard output doesn't
-// take the text.
-fn end(rt: &HostRuntime, ending: Ending) -> u8 {
-    match (say(rt, ending.message, ending.stream), ending.stream) {
-        (Err(_), Stream::Output) => {
-            let fault = ending_of_fault(RunFault::WriteFault(FileName::Output));
-            let _ = say(rt, fault.message, fault.stream);
-            fault.status
-        }
-        _ => ending.status,
-    }
-}
-
-fn say(rt: &HostRuntime, message: Message, stream: Stream) -> io::Result<()> {
-    match (message, stream) {
-        (Message::ByClap(error), Stream::Output) => print!(rt; "{error}"),
-        (Message::ByClap(error), Stream::Error) => eprint!(rt; "{error}"),
-        (Message::Fault(fault), Stream::Output) => println!(rt; "osmrepl: {fault}"),
-        (Message::Fault(fault), Stream::Error) => eprintln!(rt; "osmrepl: {fault}"),
-        (Message::NotText, Stream::Output) => println!(rt; "osmrepl: {NOT_TEXT}"),
-        (Message::NotText, Stream::Error) => eprintln!(rt; "osmrepl: {NOT_TEXT}"),
+        Err(fault) => report_of_run(rt, asked.order, fault, store.said()),
     }
 }

@@ -49,12 +49,12 @@ fn a_write_with_each_call_failing_leaves_the_old_file_or_the_new_one(
     let alloc = rt.alloc();
     let folder = scratch(alloc, &rt, process::id(rt.process()), "failing")?;
     let path = format!(in alloc; "{folder}save")?;
-    // Two looks at what is there, opening the temporary file, two writes, the sync and the rename;
-    // then opening the folder and its sync.
-    for calls in 0..9 {
-        assert!(rt; fails(&rt, (calls, path.as_str()), calls > 6)?, "{calls}");
+    // Two looks at what is there, opening the temporary file and a look at its mode, two writes, the
+    // sync and the rename; then opening the folder and its sync.
+    for calls in 0..10 {
+        assert!(rt; fails(&rt, (calls, path.as_str()), calls > 7)?, "{calls}");
     }
-    let unharmed = write_failing(alloc, &rt, (9, ErrorKind::Other), path.as_str())?;
+    let unharmed = write_failing(alloc, &rt, (10, ErrorKind::Other), path.as_str())?;
     assert!(rt; unharmed == (Ok(()), 0));
     assert!(rt; holds(&rt, path.as_str(), NEW));
     Ok(())
@@ -66,12 +66,12 @@ fn a_folder_that_cannot_be_synced_takes_files(rt: HostRuntime) -> Result<(), Fai
     let folder = scratch(alloc, &rt, process::id(rt.process()), "unreadable")?;
     let path = format!(in alloc; "{folder}save")?;
     // The folder may not be read, or its file system syncs none. Before the rename such errors
-    // count.
+    // count. The last two replace a file, and look at the mode of the new one.
     for (calls, kind, expected) in [
         (6, ErrorKind::PermissionDenied, (Err(StoreError::Device), 1)),
         (7, ErrorKind::PermissionDenied, (Ok(()), 0)),
-        (8, ErrorKind::InvalidInput, (Ok(()), 0)),
-        (8, ErrorKind::Unsupported, (Ok(()), 0)),
+        (9, ErrorKind::InvalidInput, (Ok(()), 0)),
+        (9, ErrorKind::Unsupported, (Ok(()), 0)),
     ] {
         let answer = write_failing(alloc, &rt, (calls, kind), path.as_str())?;
         assert!(rt; answer == expected, "{calls}");

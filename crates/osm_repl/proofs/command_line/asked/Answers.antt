@@ -1,7 +1,7 @@
 use Rattle.std.proofs.Common.{sym, subst, map, refl}
 use Rattle.osm_repl.specs.Steps.Commands.{IsCommand}
 use Rattle.osm_repl.proofs.CommandLemmas.{names_command}
-use Rattle.osm_repl.proofs.command_line.order.Goals as goal
+use Rattle.osm_repl.proofs.command_line.asked.Goals as goal
 
 -- words that `clap` takes name a command, and give it the values of its words
 pub order_of-requires : goal.order_of-requires

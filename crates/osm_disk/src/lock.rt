@@ -1,0 +1,79 @@
+//! Advisory locks, which keep a second run out of what one is at work on.
+
+use crate::names::{lock_of_file, lock_of_folder};
+use crate::replacing::{found, led, make_folders};
+use std::alloc::Global;
+use std::fs::{self, File, Files, OpenOptions, TryLockError};
+use std::io::{self, ErrorKind};
+
+/// Why a lock isn't held.
+#[derive(Clone, Copy, Debug)]
+pub enum LockError {
+    /// Another process holds it.
+    InUse,
+    /// Its file can't be made, opened or locked.
+    Failed(io::Error),
+}
+
+impl From<io::Error> for LockError {
+    fn from(error: io::Error) -> LockError {
+        LockError::Failed(error)
+    }
+}
+
+/// A lock that is held until this value is dropped. The system frees it when the process ends,
+/// however it ends. Its file is never removed: another process may have opened it already.
+#[derive(Drop)]
+pub struct Lock {
+    _file: File,
+}
+
+/// The path of a save's lock. If the save is a symbolic link, the lock is beside the file that the
+/// link leads to, since that one is replaced. None if the save is no plain file, as a device is.
+pub fn save_lock<R: Files>(alloc: Global, files: &R, save: &str) -> io::Result<Option<String>> {
+    match found(files.metadata(save))? {
+        Some(there) if !there.is_file() => Ok(None),
+        None if save.ends_with('/') => Ok(None),
+        _ => {
+            let path = led(alloc, files, save)?;
+            Ok(Some(lock_of_file(alloc, path.as_str())?))
+        }
+    }
+}
+
+/// The path of a folder's lock.
+pub fn folder_lock(alloc: Global, dir: &str) -> io::Result<String> {
+    Ok(lock_of_folder(alloc, dir)?)
+}
+
+/// Takes the lock at that path, unless another process holds it, and makes its file and the folders
+/// that it needs.
+pub fn take_lock<R: Files<File = File>>(files: &R, path: &str) -> Result<Lock, LockError> {
+    let file = open_or_make(files, path)?;
+    match file.try_lock() {
+        Ok(()) => Ok(Lock { _file: file }),
+        Err(TryLockError::WouldBlock) => Err(LockError::InUse),
+        Err(TryLockError::Error(error)) => Err(LockError::Failed(error)),
+    }
+}
+
+// A file that is there is only read, so that another user's lock serves too.
+fn open_or_make<R: Files>(files: &R, path: &str) -> io::Result<R::File> {
+    match fs::open(files, path) {
+        Err(error) if error.kind() == ErrorKind::NotFound => {}
+        opened => return opened,
+    }
+    match make(files, path) {
+        Err(error) if error.kind() == ErrorKind::NotFound => {}
+        made => return made,
+    }
+    make_folders(files, path)?;
+    make(files, path)
+}
+
+fn make<R: Files>(files: &R, path: &str) -> io::Result<R::File> {
+    OpenOptions::new()
+        .write(true)
+        .create(true)
+        .open(files, path)
+}

@@ -1,0 +1,186 @@
+//! What is said of a fault besides its text: in brackets after it, where it is, what the system
+//! said, and what may help.
+
+ghost use Rattle.std.specs.Prelude.{◌≡◌, IfOk, string_bytes};
+ghost use Rattle.std.specs.List.{flat_map};
+ghost use Rattle.std.specs.Str.{chars};
+ghost use Rattle.osm_repl.specs.Echo.{shown_char};
+
+use crate::echo::push_shown;
+use crate::orders::Order;
+use osm_folder::fault::{FileName, RunFault};
+use osm_folder::form::form_of;
+use osm_state::paths::Suffix;
+use std::alloc::{AllocError, Global};
+use std::io;
+
+/// What is known of a fault.
+#[derive(Clone, Copy)]
+pub struct Cause<'a> {
+    /// The path that it is about, or nothing.
+    pub path: &'a str,
+    /// What the system said.
+    pub said: Option<io::Error>,
+    /// What may help, or nothing.
+    pub hint: &'a str,
+}
+
+/// ` (PATH: WHAT THE SYSTEM SAID; HINT)`, of these parts the ones that there are, or nothing. No
+/// control character is in it.
+pub fn cause_text(alloc: Global, cause: Cause<'_>) -> Result<String, AllocError> {
+    let mut parts = shown(alloc, cause.path)?;
+    if let Some(error) = cause.said {
+        let said = said(alloc, error)?;
+        add_part(&mut parts, ": ", shown(alloc, said.as_str())?.as_str())?;
+    }
+    add_part(&mut parts, "; ", shown(alloc, cause.hint)?.as_str())?;
+    if parts.is_empty() {
+        return Ok(parts);
+    }
+    format!(in alloc; " ({parts})")
+}
+
+fn add_part(parts: &mut String, between: &str, part: &str) -> Result<(), AllocError> {
+    if part.is_empty() {
+        return Ok(());
+    }
+    if !parts.is_empty() {
+        parts.push_str(between)?;
+    }
+    parts.push_str(part)
+}
+
+// What the system said, without the number of the error and its first letter's case, as it is in
+// the middle of a line.
+fn said(alloc: Global, error: io::Error) -> Result<String, AllocError> {
+    let whole = format!(in alloc; "{error}")?;
+    let mut said = String::new(alloc);
+    for character in without_number(whole.as_str()).chars() {
+        if said.is_empty() {
+            said.push(character.to_ascii_lowercase())?;
+        } else {
+            said.push(character)?;
+        }
+    }
+    Ok(said)
+}
+
+fn without_number(text: &str) -> &str {
+    match text.rsplit_once(" (os error ") {
+        Some((message, _)) => message,
+        None => text,
+    }
+}
+
+// A text with control characters as escapes.
+fn shown(alloc: Global, text: &str) -> Result<String, AllocError>
+    ensures { IfOk result (λ shown. string_bytes shown ≡ flat_map shown_char (chars text.now)) }
+{
+    let mut shown = String::new(alloc);
+    for character in text.chars() {
+        push_shown(character, &mut shown)?;
+    }
+    Ok(shown)
+}
+
+/// The path or the word that a fault of an order's run is about, or nothing.
+pub fn path_of(alloc: Global, order: Order<'_>, fault: RunFault) -> Result<String, AllocError> {
+    match file_of(fault) {
+        Some(file) => path_of_file(alloc, order, file),
+        None => String::from_str(alloc, word_of(order, fault)),
+    }
+}
+
+// The file that a fault is about.
+fn file_of(fault: RunFault) -> Option<FileName> {
+    match fault {
+        RunFault::ReadFault(file) | RunFault::WriteFault(file) => Some(file),
+        RunFault::TooLarge(file) | RunFault::Absent(file) => Some(file),
+        RunFault::BadState(file, _) | RunFault::BadChange(file, _, _) => Some(file),
+        RunFault::Mismatch(number) => Some(FileName::Sequence(number, Suffix::State)),
+        RunFault::Differs(number) => Some(FileName::Sequence(number, Suffix::State)),
+        RunFault::ZeroBase => Some(FileName::State),
+        RunFault::BadSave(_) => Some(FileName::Save),
+        RunFault::BadScript(_) => Some(FileName::Input),
+        RunFault::TopBehind | RunFault::TimeBehind => Some(FileName::Top),
+        RunFault::TimeBack | RunFault::SequenceFull => Some(FileName::Top),
+        RunFault::TopAt(_) => Some(FileName::Top),
+        _ => None,
+    }
+}
+
+fn path_of_file(alloc: Global, order: Order<'_>, file: FileName) -> Result<String, AllocError> {
+    let word = match file {
+        FileName::Top | FileName::Sequence(_, _) => return path_in(alloc, order.dir(), file),
+        FileName::Save => order.save(),
+        FileName::Base => order.base().0,
+        FileName::State => order.base().1,
+        FileName::Changes => order.changes(),
+        FileName::Input => order.input(),
+        FileName::Output => order.output(),
+    };
+    String::from_str(alloc, word)
+}
+
+fn path_in(alloc: Global, dir: &str, file: FileName) -> Result<String, AllocError> {
+    if dir.ends_with('/') {
+        format!(in alloc; "{dir}{file}")
+    } else {
+        format!(in alloc; "{dir}/{file}")
+    }
+}
+
+// The word that is wrong in itself.
+fn word_of<'a>(order: Order<'a>, fault: RunFault) -> &'a str {
+    match (fault, order) {
+        (RunFault::BadNow, _) => order.now(),
+        (RunFault::BadSequence, Order::PublishAs { sequence, .. }) => sequence,
+        (RunFault::UnknownForm, Order::Convert { input, output }) => match form_of(input) {
+            None => input,
+            Some(_) => output,
+        },
+        (RunFault::UnknownForm, Order::Export { output, .. }) => output,
+        (RunFault::UnknownForm, Order::Begin { base, .. }) => base,
+        _ => "",
+    }
+}
+
+/// What may help with a fault of an order's run, or nothing.
+pub fn hint_of(order: Order<'_>, fault: RunFault) -> &'static str {
+    match (fault, order) {
+        (RunFault::BadNow, _) => "a time is written as 2024-01-01T00:00:00Z",
+        (RunFault::BadSequence, _) => "a number has 1 to 9 digits",
+        (RunFault::UnknownForm, Order::Convert { .. }) => {
+            "the name of a change file ends in .opl or .o5c"
+        }
+        (RunFault::UnknownForm, _) => "the name of a data file ends in .opl or .o5m",
+        (RunFault::TimeBack, _) => "its time is after that of --now",
+        _ => "",
+    }
+}
+
+/// Whether a fault is in what a file holds.
+pub fn is_of_content(fault: RunFault) -> bool {
+    match fault {
+        RunFault::BadState(_, _) | RunFault::BadChange(_, _, _) | RunFault::BadSave(_) => true,
+        _ => false,
+    }
+}
+
+/// What the first bytes of a file look like, if that isn't what its name says, or nothing.
+pub fn look_of(name: &str, bytes: &[u8]) -> &'static str {
+    let name = name.as_bytes();
+    if bytes.starts_with(b"\x1f\x8b") {
+        "gzip data"
+    } else if bytes.starts_with(b"BZh") {
+        "bzip2 data"
+    } else if bytes.starts_with(b"<") || bytes.starts_with(b"\xef\xbb\xbf<") {
+        "XML"
+    } else if bytes.starts_with(b"\xff\xe0\x04o5c") && !name.ends_with(b".o5c") {
+        "o5c data"
+    } else if bytes.starts_with(b"\xff\xe0\x04o5m") && !name.ends_with(b".o5m") {
+        "o5m data"
+    } else {
+        ""
+    }
+}

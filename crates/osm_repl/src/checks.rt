@@ -1,0 +1,102 @@
+//! What is looked at before a run takes its lock: its words and its time.
+
+ghost use Rattle.std.specs.Prelude.{◌≡◌, ◌+◌, ◌<◌, ◌≤◌, IfErr, MatchBool, OnOk};
+ghost use Rattle.osm_folder.specs.DataForms.{HasNoDataForm};
+ghost use Rattle.osm_folder.specs.Exporting.{HasDataForm};
+ghost use Rattle.osm_folder.specs.Publication.{HasTime};
+ghost use Rattle.osm_folder.specs.declared.fault.RunFault.{RunFault};
+ghost use Rattle.osm_repl.specs.Checks.{AreGoodWords, HasNoNumber, HasNoTime, HasNumber};
+ghost use Rattle.osm_repl.specs.Checks.{IsAhead, IsPast, RefusesNumbered, RefusesWords};
+
+use crate::orders::Order;
+use osm_folder::data_form::data_form_of;
+use osm_folder::fault::RunFault;
+use osm_model::time::time_read;
+use osm_reading::sequence::sequence_read;
+
+// A day.
+const MOST_SECONDS_AHEAD: u64 = 86_400;
+
+/// Refuses the words of a run with a lock that the run itself would refuse before it reads a file.
+pub fn check_words(order: Order<'_>) -> Result<(), RunFault>
+    ensures good { OnOk result (AreGoodWords order.entry) }
+    ensures refused { IfErr result (RefusesWords order.entry) }
+{
+    match order {
+        Order::Publish { now, .. } => check_time(now),
+        Order::PublishAs { now, sequence, .. } => check_numbered(now, sequence),
+        Order::Begin { base, .. } => check_base(base),
+        _ => Ok(()),
+    }
+}
+
+fn check_numbered(now: &str, sequence: &str) -> Result<(), RunFault>
+    ensures good { OnOk result (HasTime now.now × HasNumber sequence.now) }
+    ensures refused { IfErr result (RefusesNumbered now.now sequence.now) }
+{
+    match check_time(now) {
+        Ok(()) => {}
+        Err(fault) => return Err(fault),
+    }
+    match check_sequence(sequence) {
+        Ok(()) => Ok(()),
+        Err(fault) => Err(fault),
+    }
+}
+
+fn check_time(now: &str) -> Result<(), RunFault>
+    ensures good { OnOk result (HasTime now.now) }
+    ensures refused { IfErr result (λ fault. (fault ≡ RunFault.BadNow) × HasNoTime now.now) }
+{
+    match time_read(now.as_bytes()) {
+        Some(_) => Ok(()),
+        None => Err(RunFault::BadNow),
+    }
+}
+
+fn check_sequence(sequence: &str) -> Result<(), RunFault>
+    ensures good { OnOk result (HasNumber sequence.now) }
+    ensures refused { IfErr result
+        (λ fault. (fault ≡ RunFault.BadSequence) × HasNoNumber sequence.now) }
+{
+    match sequence_read(sequence.as_bytes()) {
+        Some(_) => Ok(()),
+        None => Err(RunFault::BadSequence),
+    }
+}
+
+fn check_base(base: &str) -> Result<(), RunFault>
+    ensures good { OnOk result (HasDataForm base.now) }
+    ensures refused { IfErr result
+        (λ fault. (fault ≡ RunFault.UnknownForm) × HasNoDataForm base.now) }
+{
+    match data_form_of(base) {
+        Some(_) => Ok(()),
+        None => Err(RunFault::UnknownForm),
+    }
+}
+
+/// Whether a publication's time is more than a day past that of the clock, in seconds since 1970.
+pub fn is_ahead(order: Order<'_>, clock: u64) -> bool
+    ensures { MatchBool result (IsAhead order.entry clock) (IsAhead order.entry clock → ⊥) }
+{
+    match order {
+        Order::Publish { now, .. } | Order::PublishAs { now, .. } => is_past(now, clock),
+        _ => false,
+    }
+}
+
+fn is_past(now: &str, clock: u64) -> bool
+    ensures { MatchBool result (IsPast now.now clock) (IsPast now.now clock → ⊥) }
+{
+    match time_read(now.as_bytes()) {
+        Some(time) => is_far(time, clock),
+        None => false,
+    }
+}
+
+fn is_far(time: u32, clock: u64) -> bool
+    ensures { MatchBool result (clock + 86400 < time) (time ≤ clock + 86400) }
+{
+    clock < (time as u64).saturating_sub(MOST_SECONDS_AHEAD)
+}

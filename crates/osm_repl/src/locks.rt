@@ -1,0 +1,29 @@
+//! What a run keeps other runs out of.
+
+ghost use Rattle.std.specs.Prelude.{◌≡◌};
+ghost use Rattle.osm_repl.specs.Locks.{lock_of};
+
+use crate::orders::{Asked, Order};
+
+/// What one run at a time may write.
+#[derive(Clone, Copy, Debug, PartialEq, Eq)]
+pub enum Lock<'a> {
+    /// The folder of sequences.
+    Folder(&'a str),
+    /// The save.
+    Save(&'a str),
+}
+
+/// The lock that a run holds: of the folder that it publishes in, or of the save that it writes.
+pub fn lock_of<'a>(asked: Asked<'a>) -> Option<Lock<'a>>
+    ensures { result ≡ lock_of asked.entry }
+{
+    if asked.options.no_lock {
+        return None;
+    }
+    match asked.order {
+        Order::Publish { dir, .. } | Order::PublishAs { dir, .. } => Some(Lock::Folder(dir)),
+        Order::Begin { save, .. } | Order::Follow { save, .. } => Some(Lock::Save(save)),
+        _ => None,
+    }
+}

@@ -1,0 +1,39 @@
+//! Why a run isn't begun, though its words are right.
+
+ghost use Rattle.std.specs.Prelude.{◌≡◌};
+ghost use Rattle.osm_repl.specs.Ending.{status_of_refusal};
+
+use thiserror::Error;
+
+/// Why a run isn't begun. Nothing was read or written then, except that the lock's file and its
+/// folders may have been made.
+#[derive(Clone, Copy, Debug, PartialEq, Eq, Error)]
+pub enum Refusal {
+    /// The time of a publication is more than a day past the clock's.
+    #[error("time ahead")]
+    TimeAhead,
+    /// Another run holds the folder's lock.
+    #[error("folder: in use")]
+    FolderInUse,
+    /// Another run holds the save's lock.
+    #[error("save: in use")]
+    SaveInUse,
+    /// The file of the folder's lock can't be made or locked.
+    #[error("folder: lock failed")]
+    FolderLockFailed,
+    /// The file of the save's lock can't be made or locked.
+    #[error("save: lock failed")]
+    SaveLockFailed,
+}
+
+impl Refusal {
+    /// The exit status of the program: 4 if another run is at work there, else 3.
+    pub fn status(self) -> u8
+        ensures { result ≡ status_of_refusal self }
+    {
+        match self {
+            Refusal::FolderInUse | Refusal::SaveInUse => 4,
+            _ => 3,
+        }
+    }
+}

@@ -1,0 +1,128 @@
+//! What the program says last.
+
+use clap::Error;
+use osm_disk::reading::read_prefix;
+use osm_folder::fault::{FileName, RunFault};
+use osm_repl::causes::{Cause, cause_text, hint_of, is_of_content, look_of, path_of};
+use osm_repl::command_line::asked;
+use osm_repl::echo::echoes;
+use osm_repl::ending::{
+    Ending, Message, Stream, ending_of_error, ending_of_fault, ending_of_refusal,
+};
+use osm_repl::orders::Order;
+use osm_repl::refusal::Refusal;
+use std::alloc::AllocError;
+use std::io;
+
+const NOT_TEXT: &str = "the words of the command line aren't text";
+
+// The first bytes of a file say what it is.
+const LOOKED_AT: u64 = 7;
+
+// Says why the words gave no order. `clap` makes the text from the words' echoes, since it repeats
+// a word that it refuses.
+pub(crate) fn explain(rt: &HostRuntime, error: &Error, words: &[&str]) -> u8 {
+    let alloc = rt.alloc();
+    let Ok(echoes) = echoes(alloc, words) else {
+        return report(rt, RunFault::WantOfMemory);
+    };
+    let Ok(echoed) = echoes
+        .iter()
+        .map(|word| word.as_str())
+        .collect::<Vec<&str>>(alloc)
+    else {
+        return report(rt, RunFault::WantOfMemory);
+    };
+    match asked(alloc, echoed.as_slice()) {
+        Ok(_) => end(rt, ending_of_error(error), ""),
+        Err(shown) => end(rt, ending_of_error(&shown), ""),
+    }
+}
+
+pub(crate) fn report(rt: &HostRuntime, fault: RunFault) -> u8 {
+    end(rt, ending_of_fault(fault), "")
+}
+
+// Reports the fault of an order's run with its cause. If there is no memory for the cause, it is
+// left out.
+pub(crate) fn report_of_run(
+    rt: &HostRuntime,
+    order: Order<'_>,
+    fault: RunFault,
+    said: Option<io::Error>,
+) -> u8 {
+    match cause_of(rt, order, fault, said) {
+        Ok(cause) => end(rt, ending_of_fault(fault), cause.as_str()),
+        Err(_) => report(rt, fault),
+    }
+}
+
+// The cause of a fault. What the system said last belongs to it only if a call on files failed.
+fn cause_of(
+    rt: &HostRuntime,
+    order: Order<'_>,
+    fault: RunFault,
+    said: Option<io::Error>,
+) -> Result<String, AllocError> {
+    let path = path_of(rt.alloc(), order, fault)?;
+    let said = match fault {
+        RunFault::ReadFault(_) | RunFault::WriteFault(_) => said,
+        _ => None,
+    };
+    let hint = if is_of_content(fault) {
+        look(rt, path.as_str())
+    } else {
+        hint_of(order, fault)
+    };
+    let path = path.as_str();
+    cause_text(rt.alloc(), Cause { path, said, hint })
+}
+
+// What a file looks like by its first bytes, or nothing.
+fn look(rt: &HostRuntime, path: &str) -> &'static str {
+    match read_prefix(rt.alloc(), rt, path, LOOKED_AT) {
+        Ok(Some(bytes)) => look_of(path, bytes.as_slice()),
+        _ => "",
+    }
+}
+
+// Says why the run isn't begun. If there is no memory for the cause, it is left out.
+pub(crate) fn refuse(
+    rt: &HostRuntime,
+    refusal: Refusal,
+    path: &str,
+    said: Option<io::Error>,
+    hint: &str,
+) -> u8 {
+    let ending = ending_of_refusal(refusal);
+    match cause_text(rt.alloc(), Cause { path, said, hint }) {
+        Ok(cause) => end(rt, ending, cause.as_str()),
+        Err(_) => end(rt, ending, ""),
+    }
+}
+
+// Prints the text of the ending and the cause, and gives its status. It is a fault if standard
+// output doesn't take the text.
+pub(crate) fn end(rt: &HostRuntime, ending: Ending<'_>, cause: &str) -> u8 {
+    match (say(rt, ending.message, ending.stream, cause), ending.stream) {
+        (Err(_), Stream::Output) => {
+            let fault = ending_of_fault(RunFault::WriteFault(FileName::Output));
+            let _ = say(rt, fault.message, fault.stream, " (standard output)");
+            fault.status
+        }
+        _ => ending.status,
+    }
+}
+
+fn say(rt: &HostRuntime, message: Message<'_>, stream: Stream, cause: &str) -> io::Result<()> {
+    match (message, stream) {
+        (Message::ByClap(error), Stream::Output) => print!(rt; "{error}"),
+        (Message::ByClap(error), Stream::Error) => eprint!(rt; "{error}"),
+        (Message::Fault(fault), Stream::Output) => println!(rt; "osmrepl: {fault}{cause}"),
+        (Message::Fault(fault), Stream::Error) => eprintln!(rt; "osmrepl: {fault}{cause}"),
+        (Message::Refusal(refusal), Stream::Output) => println!(rt; "osmrepl: {refusal}{cause}"),
+        (Message::Refusal(refusal), Stream::Error) => eprintln!(rt; "osmrepl: {refusal}{cause}"),
+        (Message::NotText, Stream::Output) => println!(rt; "osmrepl: {NOT_TEXT}"),
+        (Message::NotText, Stream::Error) => eprintln!(rt; "osmrepl: {NOT_TEXT}"),
+    }
+}
