@@ -89,7 +89,9 @@ def can_be_stub(lines, function):
 
 
 def calls_itself(lines, function):
-    return re.search(rf"\b{function.name()}\(", "\n".join(lines[function.body + 1:function.last])) is not None
+    name, holder = function.name(), function.path.split("::")[-2:-1]
+    call = rf"(?<![\w.:]){name}\(|\b(?:self\.|Self::|{''.join(holder)}::){name}\("
+    return re.search(call, "\n".join(lines[function.body + 1:function.last])) is not None
 
 
 def stub(lines, function):
