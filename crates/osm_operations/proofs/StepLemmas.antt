@@ -405,7 +405,7 @@ export_more h dir save changes extract start a b report apart s (done, lost, cou
     let agrees = export_agrees (hist.published_of h) (hist.is_file_lost h) (hist.standing_of h) dir save changes extract start
     (files_of a.store) (files_of b.store) (files_of a.lost) a.published report apart s done in
     let made = done.exported.made in
-    let save_is = agrees.saved.save_is in (
+    let save_is = s.saved.save_is in (
       quiet (hist.published_of h) (hist.is_file_lost h) (hist.standing_after h (Exported report) (hist.standing_of h)) dir save changes
           extract start (files_of b.store) (files_of b.lost) b.published
           (renewed (hist.published_of h) (hist.is_file_lost h) (hist.standing_after h (Exported report) (hist.standing_of h)) dir save
@@ -413,7 +413,7 @@ export_more h dir save changes extract start a b report apart s (done, lost, cou
           (ap files_of lost) count agrees),
       done.report_is,
       has_export h extract (files_of a.store save) (λ text. length text ≤ max_file) made.named made.held s.saved.save_is s.saved.is_there made.fits,
-      number (head_of save_is.value) (saved_head (files_of b.store save) save_is.value save_is.saved) ∙ save_is.number_is,
+      number (head_of save_is.value) (saved_head (files_of a.store save) save_is.value save_is.saved) ∙ save_is.number_is,
     )
 
 -- an export is refused

@@ -395,7 +395,7 @@ abbrev pub ExportTo : List ℕ → List ℕ → Reply → World → World → Ty
 ExportTo save extract (Exported report) a b =
     ExportStep save extract (Ok report) (files_of a.store) (files_of b.store)
     × (b.lost ≡ a.lost) × (b.published ≡ a.published)
-    × IsNumberOfSave b.exported (files_of b.store save)
+    × IsNumberOfSave b.exported (files_of a.store save)
 ExportTo save extract (Refused fault) a b =
     ExportStep save extract (Err fault) (files_of a.store) (files_of b.store)
     × (b.lost ≡ a.lost) × (b.published ≡ a.published)
