@@ -181,6 +181,8 @@ def is_partly_applied(text):
 
 PUTS = tuple(command for number in range(1, 16) for command in (("change", node(number)), ("Objects::put", b"")))
 EMPTY = save(0, *NOTHING)
+HEAD_WITH_A_KEY = lines(b"osmrepl-save 3", b"base 0", b"kinds w", b"keys 1", LONG, b"sequence 3",
+                        b"time 2024-01-01T00:00:00Z")
 COPIES = [("Mirror::objects", lines(*PLENTY[0])), ("Mirror::users", b"[(5, 3)]\n"),
           ("Mirror::changesets", b"[(7, 3)]\n"), ("Objects::to_vec", lines(*PLENTY[0])),
           ("Counts::to_vec", b"[(5, 3)]\n"), ("save_write", save(3, *PLENTY) + b"\n")]
@@ -190,6 +192,7 @@ MIRRORS = [
          refused={WANT: Refusal(left=is_partly_applied)}),
     *[Case("mirrors", call, answer=answer, before=(("saved", save(3, *PLENTY)),), left=save(3, *PLENTY))
       for call, answer in COPIES],
+    Case("mirrors", "head_read", HEAD_WITH_A_KEY, b"3\n", left=EMPTY),
     Case("mirrors", "save_read", save(3, *PLENTY), b"done\n", left=EMPTY, after=save(3, *PLENTY)),
     Case("mirrors", "save_read", save(1, *MORE), b"done\n", left=EMPTY, after=save(1, *MORE)),
     Case("mirrors", "Objects::put", answer=b"done\n", before=(("change", NODE),), again=(("change", NODE),),
@@ -252,6 +255,15 @@ BEGUN = b"number 2\nbase 2\n" + mirror(2, PLENTY[0], (), ()) + b"held 0\n"
 FOLLOWERS = [
     Case("follower", "Follower::begin", state(2), b"done\n", before=(("objects", lines(*PLENTY[0])), *HOLDS),
          again=(("objects", lines(*PLENTY[0])),), left=show(0, *NOTHING, held=(2, 3)), after=BEGUN),
+    Case("follower", "Follower::begin_with", state(2), b"done\n",
+         before=(("filter", b"nwr none"), ("objects", lines(*PLENTY[0])), *HOLDS),
+         again=(("filter", b"nwr none"), ("objects", lines(*PLENTY[0]))), left=show(0, *NOTHING, held=(2, 3)),
+         after=b"number 2\nbase 2\n" + mirror(2, (), (), ()) + b"held 0\n"),
+    Case("follower", "Follower::with_filter", answer=b"done\n", before=(*AT_FULL, ("filter", b"w highway")),
+         again=(("filter", b"w highway"),), left=show(1, *FULL), after=show(0, *NOTHING)),
+    Case("follower", "Follower::from_save", save(3, *PLENTY), b"done\n", before=HOLDS,
+         left=show(0, *NOTHING, held=(2, 3)), after=show(3, *PLENTY)),
+    Case("follower", "saved_filter", save(3, *PLENTY), b"0 keys\n", left=show(0, *NOTHING)),
     Case("follower", "Follower::new", answer=b"done\n", before=AT_FULL, left=show(1, *FULL),
          after=show(0, *NOTHING)),
     Case("follower", "Follower::deliver::<Opl>", delivery(1, lines(NODE)), b"Applied { low: 1, high: 1 }\n",

@@ -17,7 +17,7 @@ use osm_model::form::ChangeForm;
 use osm_model::memory::WantOfMemory;
 use osm_opl::lines::read_line;
 use osm_opl::opl::Opl;
-use osm_save::head::Head;
+use osm_save::head::{Head, head_read};
 use osm_save::save::{Saved, save_read, save_write};
 use std::alloc::Global;
 use std::fmt::Debug;
@@ -50,7 +50,10 @@ impl Mirrors {
     fn apply(&mut self, alloc: Global, out: &mut Vec<u8>) -> Result<()> {
         let changes = std::mem::replace(&mut self.changes, Batch::new(alloc));
         let mut mirror = Mirror::new(alloc);
-        write_done(mirror.apply(&Filter::all(alloc), changes.into_changes()), out)?;
+        write_done(
+            mirror.apply(&Filter::all(alloc), changes.into_changes()),
+            out,
+        )?;
         self.saved = saved_of(alloc, mirror);
         Ok(())
     }
@@ -87,6 +90,15 @@ impl Mirrors {
             None => Ok(()),
         }
     }
+}
+
+// The number that a save begins with, or why there is none.
+fn write_number_of(alloc: Global, save: &[u8], out: &mut Vec<u8>) -> Result<()> {
+    match head_read(alloc, save) {
+        Ok(head) => writeln!(out, "{}", head.number)?,
+        Err(error) => writeln!(out, "{error:?}")?,
+    }
+    Ok(())
 }
 
 fn saved_of(alloc: Global, mirror: Mirror) -> Saved {
@@ -136,6 +148,7 @@ impl Subject for Mirrors {
             b"saved" => put(save_read(alloc, given), &mut self.saved),
             b"show" => self.show(alloc, out),
             b"save_read" => put_or(save_read(alloc, given), &mut self.saved, out),
+            b"head_read" => write_number_of(alloc, given, out),
             b"save_write" => write_bytes_or(save_of(alloc, &self.saved), out),
             b"Mirror::apply" => self.apply(alloc, out),
             b"Objects::put" => self.put(alloc, out),
