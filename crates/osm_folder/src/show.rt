@@ -1,6 +1,7 @@
 //! Showing what a save holds.
 
 ghost use Rattle.std.specs.Prelude.{◌≡◌, ℕ, List, false, IfErr, IfOk};
+ghost use Rattle.osm_save.specs.Save.{SpellsSave};
 ghost use Rattle.osm_follow.specs.Published.{PublishedValue};
 ghost use Rattle.osm_follow.specs.Restart.{saved_of};
 ghost use Rattle.osm_follow.specs.View.{ViewValue, view_of};
@@ -9,7 +10,7 @@ ghost use Rattle.osm_folder.specs.Following.{IsSaveOf};
 ghost use Rattle.osm_folder.specs.Reports.{show_report_of};
 ghost use Rattle.osm_folder.specs.Runs.{Reads};
 ghost use Rattle.osm_folder.specs.Showing.{IsShown, IsShownOf, ShowStops, view_of_saved};
-ghost use Rattle.osm_folder.specs.Steps.Following.{IsFresh};
+ghost use Rattle.osm_folder.specs.Steps.Following.{IsFresh, RestartStops};
 
 use crate::fault::{FileName, RunFault};
 use crate::files::read_present;
@@ -35,9 +36,18 @@ pub fn show_run<S: Store>(alloc: Global, store: &mut S, save: &str) -> Result<Re
     ensures frame { Reads 1 (S.state store.old) (S.state store.new) result }
 {
     let text = read_present(alloc, store, FileName::Save, save, MAX_SAVE)?;
-    let follower = restart(alloc, text.as_slice())?;
+    let follower = restarted(alloc, text)?;
     let report = show(alloc, &follower)?;
     Ok(report)
+}
+
+// The follower that goes on from a save text. The text is dropped before a view is made.
+fn restarted(alloc: Global, text: Vec<u8>) -> Result<Follower, RunFault>
+    ensures spelled { IfOk result (λ f. SpellsSave text.items (saved_of f)) }
+    ensures fresh { IfOk result IsFresh }
+    ensures stops { IfErr result (RestartStops text.items) }
+{
+    restart(alloc, text.as_slice())
 }
 
 fn show(alloc: Global, follower: &Follower) -> Result<Report, WantOfMemory>
