@@ -114,7 +114,8 @@ start_refuses law known ps base number dir save files (ReadFault file) sure fold
 start_refuses law known ps base number dir save files (TooLarge Save) sure folder saved h = (refl, h sure)
 start_refuses law known ps base number dir save files (TooLarge Top) sure folder saved h = absurd (small_top ps (files (top_name_of dir)) folder.top (h sure).1)
 start_refuses law known ps base number dir save files (BadSave line) sure folder saved h = no_bad_save (files save) saved.value saved.saved (h sure)
-start_refuses law known ps base number dir save files (Absent Top) sure folder saved h = (refl, none_published ps (files (top_name_of dir)) folder.top (h sure).1)
+start_refuses law known ps base number dir save files (Absent Top) sure folder saved h =
+    (refl, none_published ps (files (top_name_of dir)) folder.top (h sure).1)
 start_refuses law known ps base number dir save files (BadState Top cause) sure folder saved h =
     good_top law ps (files (top_name_of dir)) cause folder.top (h sure).1
 start_refuses law known ps base number dir save files TopBehind sure folder saved h =

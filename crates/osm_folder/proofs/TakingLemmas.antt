@@ -78,7 +78,8 @@ taken_applied known files dir f number g h applied more p low high t is has next
     let changes : p.changes ++ between (changes_held g) p.number takes.count ≡ p.changes =
     ap (λ c. p.changes ++ between (changes_held g) p.number c) alone ∙ append-nil p.changes in
     let none_at : held_at g high ≡ None = t.none high in
-    let time : h.time ≡ Some p.time = takes.time ∙ ap (λ (o : Option PublishedValue). Some (option_map_or (λ (q : PublishedValue). q.time) o p.time)) none_at in (
+    let time : h.time ≡ Some p.time =
+    takes.time ∙ ap (λ (o : Option PublishedValue). Some (option_map_or (λ (q : PublishedValue). q.time) o p.time)) none_at in (
       number_is,
       record {
         whole = takes.whole;

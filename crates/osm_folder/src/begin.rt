@@ -6,14 +6,16 @@ ghost use Rattle.osm_model.specs.Limits.{max_file};
 ghost use Rattle.osm_save.specs.Save.{SpellsSave};
 ghost use Rattle.osm_follow.specs.Begin.{begun_of};
 ghost use Rattle.osm_follow.specs.Published.{PublishedValue};
-ghost use Rattle.osm_folder.specs.Beginning.{BeginStops, IsBaseOf, IsBegunFrom, IsStart, begun_save};
+ghost use Rattle.osm_folder.specs.Beginning.{BeginStops, IsBaseOf, IsBegunFrom, IsStart};
+ghost use Rattle.osm_folder.specs.Beginning.{begun_save};
 ghost use Rattle.osm_folder.specs.Folder.{max_state};
 ghost use Rattle.osm_folder.specs.Following.{IsSaveOf, max_save};
 ghost use Rattle.osm_store.specs.Frames.{IsKnown};
 ghost use Rattle.osm_folder.specs.Reports.{begin_report_of};
 ghost use Rattle.osm_folder.specs.Runs.{Reads, Replaces};
-ghost use Rattle.osm_folder.specs.Steps.Beginning.{BaseStops, BaseTextStops, BegunStops, IsBaseRead};
-ghost use Rattle.osm_folder.specs.Steps.Beginning.{IsObjectsOf, StartStops, StartTextStops};
+ghost use Rattle.osm_folder.specs.Steps.Beginning.{BaseStops, BaseTextStops, BegunStops};
+ghost use Rattle.osm_folder.specs.Steps.Beginning.{IsBaseRead, IsObjectsOf, StartStops};
+ghost use Rattle.osm_folder.specs.Steps.Beginning.{StartTextStops};
 
 use crate::data_form::{DataForm, data_form_of, read_data};
 use crate::fault::{FileName, RunFault};
@@ -33,8 +35,8 @@ use std::alloc::Global;
 /// Writes a save that begins with the objects of a data file, at the sequence and the time of the
 /// state that belongs to it, whatever the save held before. Its counts are those of the sequences
 /// after that one. A name that ends in `.opl` or `.o5m` tells the form of the data file; any other
-/// is refused as `UnknownForm`. A state of sequence 0 is refused as `ZeroBase`. A refusal leaves all
-/// files as they were.
+/// is refused as `UnknownForm`. A state of sequence 0 is refused as `ZeroBase`. A refusal leaves
+/// all files as they were.
 pub fn begin_run<S: Store>(
     alloc: Global,
     store: &mut S,

@@ -27,8 +27,9 @@ use osm_store::store::Store;
 use std::alloc::Global;
 
 /// Writes the objects of a save, which has to be there, as a data file, in the form of the output's
-/// name. A name that ends in `.opl` or `.o5m` tells the form; any other is refused as `UnknownForm`.
-/// A file of more than 64 MiB is refused as too large. A refusal leaves all files as they were.
+/// name. A name that ends in `.opl` or `.o5m` tells the form; any other is refused as
+/// `UnknownForm`. A file of more than 64 MiB is refused as too large. A refusal leaves all files as
+/// they were.
 pub fn export_run<S: Store>(
     alloc: Global,
     store: &mut S,

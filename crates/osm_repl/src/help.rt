@@ -74,7 +74,7 @@ without counts of edits; whatever it held before is replaced. The number is prin
 What follow then counts are the edits of the numbers after it.
 
 A name that ends in .opl is that of an OPL file, one that ends in .o5m that of an o5m file. It has
-at most 64 MiB. Its objects stand by rising keys: nodes, ways and relations, each by their ids. Each
+at most 64 MiB. Its objects come by rising keys: nodes, ways and relations, each by their ids. Each
 has its metadata, and none is deleted. A state of number 0 is refused, so what export writes of a
 save at number 0 is nothing to begin with.
 
@@ -128,7 +128,7 @@ pub(crate) const EXPORTING: &str = "As in
   osmrepl export follower.save objects.o5m
 
 The objects are written by rising keys: nodes, ways and relations, each by their ids. A name that
-ends in .opl is that of an OPL file, and one that ends in .o5m that of an o5m file, which has at most
+ends in .opl is that of an OPL file, and one that ends in .o5m that of an o5m file. It has at most
 64 MiB. The number, the time and the counts of edits aren't written. Nothing is printed.
 
 With the state file of the save's number, OUT is what begin takes.
