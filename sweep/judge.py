@@ -2,8 +2,9 @@
 """A second, unproved judge of reply texts: which replies may answer a script, if memory may be refused at any
 growth? It shares only the language of scripts with the program and its definitions, and works as a person who
 reads the replies one by one. As a program it reads a script, a line `--` and a text, as the proved judge does,
-and says `allowed`, `forbidden` or `not judged`; if files are named it says so for each. It takes any spelling
-of a line, and leaves the limits to the program.
+and says `allowed`, `forbidden` or `not judged`; if files are named it says so for each. A first line
+`# filter: w highway` names the filter of the world: the kinds that are kept, and the keys as lines spell them.
+It takes any spelling of a line, and leaves the limits to the program.
 
 The sizes of o5c files are those of files that write a string as a number whenever a number names it."""
 
@@ -12,6 +13,7 @@ import functools
 import re
 import sys
 from pathlib import Path
+from typing import NamedTuple
 
 MOST_CHANGES = 100_000
 MOST_SEQUENCES = 999_999_999
@@ -133,6 +135,27 @@ class Change:
         return " M" + ",".join(f"{kind}{key}@{written(role)}" for kind, key, role in self.members)
 
 
+class Filter(NamedTuple):
+    """The kinds that are kept, and the keys of which an object has to have one, if there are any."""
+    kinds: str = "nwr"
+    keys: frozenset[str] = frozenset()
+
+    def keeps(self, change):
+        """Whether the change leaves an object that is kept."""
+        if change.is_deletion or change.kind not in self.kinds:
+            return False
+        return not self.keys or any(key in self.keys for key, _ in change.tags)
+
+
+EVERYTHING = Filter()
+NAMED = re.compile(rb"# filter: (.*)\n")
+
+
+def filter_of(words):
+    """The filter that words name: the kinds, and the keys as lines spell them."""
+    return Filter(words[0], frozenset(map(meant, words[1:]))) if words else EVERYTHING
+
+
 # Events: each line of a script is one of these.
 
 EVENT = re.compile(
@@ -164,7 +187,8 @@ class World:
     """What the replies so far say. An event's method gives the replies that are allowed now: a dictionary from
     a reply's text to what the reply does, or to None if it changes nothing."""
 
-    def __init__(self):
+    def __init__(self, kept_by):
+        self.kept_by = kept_by
         self.pending, self.published = [], []
         self.saved, self.saved_base = None, 0
         self.restart_at(0, 0)
@@ -228,15 +252,16 @@ class World:
         self.broken = True
 
     def needs_new_entry(self, high):
-        """Whether a change up to that number is the first one of its user or changeset, or brings
-        an object whose key has none: nothing else takes memory once an application has begun."""
+        """Whether a change up to that number is the first one of its user or changeset, or brings an
+        object to keep whose key has none: nothing else takes memory once an application has begun."""
         objects, users, changesets = self.content()
         for change in self.changes_up_to(high)[len(self.changes_up_to(self.number)):]:
             if change.user not in users or change.changeset not in changesets:
                 return True
-            if not change.is_deletion and change.key not in objects:
+            is_kept = self.kept_by.keeps(change)
+            if is_kept and change.key not in objects:
                 return True
-            if change.is_deletion:
+            if not is_kept:
                 objects.pop(change.key, None)
         return False
 
@@ -269,10 +294,11 @@ class World:
         return [change for changes, _ in self.published[:number] for change in changes]
 
     def content(self):
-        """The objects of the follower, and its counts: those of the sequences after its base."""
+        """The objects of the follower, and its counts: all those of the sequences after its base."""
         changes = self.changes_up_to(self.number)
         after = changes[len(self.changes_up_to(self.base)):]
-        return content(changes)[0], *content(after)[1:]
+        left = content(changes)[0]
+        return {key: left[key] for key in left if self.kept_by.keeps(left[key])}, *content(after)[1:]
 
     def view(self):
         objects, users, changesets = self.content()
@@ -380,9 +406,9 @@ def part_size(change, counters, strings):
                for kind, key, role in change.members)
 
 
-def judge(script, text):
+def judge(script, text, kept_by=EVERYTHING):
     """Raises Forbidden if a reply isn't allowed after those before it."""
-    world, rest = World(), text
+    world, rest = World(kept_by), text
     for word, value in list(events_of(script)):
         replies = getattr(world, word)(value)
         for reply, effect in replies.items():
@@ -400,8 +426,9 @@ def judge(script, text):
 
 def judged(answer):
     script, text = re.split(rb"^--\n", answer, maxsplit=1, flags=re.MULTILINE)
+    named = NAMED.match(script)
     try:
-        judge(script, text)
+        judge(script, text, filter_of(named[1].decode().split(" ") if named else []))
         return "allowed"
     except Forbidden:
         return "forbidden"

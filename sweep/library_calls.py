@@ -1,6 +1,8 @@
-"""What the built program `library_calls` answers to commands."""
+"""What the built program `library_calls` answers to commands. As a program it writes what a world with the filter that
+its words name replies to the script on standard input."""
 
 import subprocess
+import sys
 from pathlib import Path
 
 PROGRAM = Path(__file__).resolve().parent.parent / "crates" / "library_calls" / "out" / "library_calls"
@@ -27,6 +29,17 @@ def answers(on, commands, environment=None):
     return found[:-1]
 
 
+def replayed(words, script):
+    """What a world replies to a script, if its filter is the one that the words name: the kinds that are kept, and the
+    keys as lines spell them."""
+    named = " ".join(words).encode()
+    return answers("world", [("filter", named), ("events", script), ("World::run_with", b""), ("reply", b"")])[-1]
+
+
 def expect(what, found, wanted):
     if found != wanted:
         raise Wrong(f"{what} is {found!r}, where it should be {wanted!r}")
+
+
+if __name__ == "__main__":
+    sys.stdout.buffer.write(replayed(sys.argv[1:], sys.stdin.buffer.read()))

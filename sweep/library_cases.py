@@ -71,7 +71,7 @@ def mirror(number, objects, users, changesets):
 
 
 def save(number, *parts):
-    return b"osmrepl-save 2\nbase 0\nsequence %d\n" % number + mirror(number, *parts) + b"end\n"
+    return b"osmrepl-save 3\nbase 0\nkinds nwr\nkeys 0\nsequence %d\n" % number + mirror(number, *parts) + b"end\n"
 
 
 def show(number, *parts, held=()):
@@ -131,7 +131,7 @@ VALUES = [
     Case("values", "Change::within_limits", answer=b"n1 v1 dV c1 t1970-01-01T00:00:01Z i1 u Ta=b x0 y0\n",
          before=(("spare", b""),), again=(("spare", b""),), left=b"[]\n", refused={}),
     Case("values", "Filter::copy", answer=b"(false, true, false) " + LONG + b" highway\n",
-         before=(("filter", LONG + b" highway"),), left=b"[]\n"),
+         before=(("filter", b"w " + LONG + b" highway"),), left=b"[]\n"),
     Case("values", "Meta::copy", answer=LONG + b"\n", before=(("change", NAMED),), left=lines(b"[]", b"and " + NAMED)),
     Case("values", "Tag::copy", answer=LONG + b"=path\n", before=(("change", TAGGED),),
          left=lines(b"[]", b"and " + TAGGED)),
@@ -181,6 +181,8 @@ def is_partly_applied(text):
 
 PUTS = tuple(command for number in range(1, 16) for command in (("change", node(number)), ("Objects::put", b"")))
 EMPTY = save(0, *NOTHING)
+HEAD_WITH_A_KEY = lines(b"osmrepl-save 3", b"base 0", b"kinds w", b"keys 1", LONG, b"sequence 3",
+                        b"time 2024-01-01T00:00:00Z")
 COPIES = [("Mirror::objects", lines(*PLENTY[0])), ("Mirror::users", b"[(5, 3)]\n"),
           ("Mirror::changesets", b"[(7, 3)]\n"), ("Objects::to_vec", lines(*PLENTY[0])),
           ("Counts::to_vec", b"[(5, 3)]\n"), ("save_write", save(3, *PLENTY) + b"\n")]
@@ -190,6 +192,7 @@ MIRRORS = [
          refused={WANT: Refusal(left=is_partly_applied)}),
     *[Case("mirrors", call, answer=answer, before=(("saved", save(3, *PLENTY)),), left=save(3, *PLENTY))
       for call, answer in COPIES],
+    Case("mirrors", "head_read", HEAD_WITH_A_KEY, b"3\n", left=EMPTY),
     Case("mirrors", "save_read", save(3, *PLENTY), b"done\n", left=EMPTY, after=save(3, *PLENTY)),
     Case("mirrors", "save_read", save(1, *MORE), b"done\n", left=EMPTY, after=save(1, *MORE)),
     Case("mirrors", "Objects::put", answer=b"done\n", before=(("change", NODE),), again=(("change", NODE),),
@@ -252,6 +255,15 @@ BEGUN = b"number 2\nbase 2\n" + mirror(2, PLENTY[0], (), ()) + b"held 0\n"
 FOLLOWERS = [
     Case("follower", "Follower::begin", state(2), b"done\n", before=(("objects", lines(*PLENTY[0])), *HOLDS),
          again=(("objects", lines(*PLENTY[0])),), left=show(0, *NOTHING, held=(2, 3)), after=BEGUN),
+    Case("follower", "Follower::begin_with", state(2), b"done\n",
+         before=(("filter", b"nwr none"), ("objects", lines(*PLENTY[0])), *HOLDS),
+         again=(("filter", b"nwr none"), ("objects", lines(*PLENTY[0]))), left=show(0, *NOTHING, held=(2, 3)),
+         after=b"number 2\nbase 2\n" + mirror(2, (), (), ()) + b"held 0\n"),
+    Case("follower", "Follower::with_filter", answer=b"done\n", before=(*AT_FULL, ("filter", b"w highway")),
+         again=(("filter", b"w highway"),), left=show(1, *FULL), after=show(0, *NOTHING)),
+    Case("follower", "Follower::from_save", save(3, *PLENTY), b"done\n", before=HOLDS,
+         left=show(0, *NOTHING, held=(2, 3)), after=show(3, *PLENTY)),
+    Case("follower", "saved_filter", save(3, *PLENTY), b"0 keys\n", left=show(0, *NOTHING)),
     Case("follower", "Follower::new", answer=b"done\n", before=AT_FULL, left=show(1, *FULL),
          after=show(0, *NOTHING)),
     Case("follower", "Follower::deliver::<Opl>", delivery(1, lines(NODE)), b"Applied { low: 1, high: 1 }\n",
@@ -286,7 +298,7 @@ FOLLOWERS = [
 
 # ---- worlds, scripts and their replies
 
-NO_MEMORY = b"no memory\n"
+NO_MEMORY, ALL_KINDS = b"no memory\n", b"nwr"
 PUBLISH = b"edit " + NODE + b"\nclose " + minute(1) + b"\n"
 ROW = PUBLISH + b"deliver 1 opl\nshow\n"
 REPLIED = b"edited\nclosed 1\napplied 1..1\n" + show(1, *ONE)
@@ -302,21 +314,29 @@ FIRST = world((), PUBLISHED, show(0, *NOTHING))
 APPLIED = world((), PUBLISHED, show(1, *ONE))
 
 
-def step(event, answer, left, after=None, script=b"", refused=None, again=()):
-    """A step after those of a script."""
-    before = (("events", script), ("World::run", b""), ("reply", b""), ("events", event))
+def step(event, answer, left, after=None, script=b"", refused=None, again=(), kept=ALL_KINDS):
+    """A step after those of a script, in a world with a filter."""
+    before = (("filter", kept), ("events", script), ("World::run_with", b""), ("reply", b""), ("events", event))
     return Case("world", "World::step", answer=answer, left=left, after=after, before=before,
                 again=(*again, ("events", event)), told="reply", refused=refused or {NO_MEMORY: Refusal()})
 
 
 BEGUN_AT_1 = b"number 1\nbase 1\n" + mirror(1, ONE[0], (), ()) + b"held 0\n"
+FOR_TAGS = (("filter", b"nw " + LONG + b" highway"),)
+APPLIED_FOR_TAGS = world((), PUBLISHED, show(1, (), *ONE[1:]))
+BEGUN_FOR_TAGS = b"number 1\nbase 1\n" + mirror(1, (), (), ()) + b"held 0\n"
 RESTART = (("events", b"restart\n"), ("World::step", b""), ("reply", b""))
 BROKEN_FIRST = {NO_MEMORY: Refusal(), b"broke\n": Refusal(left=world((), PUBLISHED, BROKEN))}
 WORLDS = [
     Case("world", "World::new", answer=b"done\n", before=(("events", ROW), ("World::run", b""), ("reply", b"")),
          left=APPLIED, after=NEW),
+    Case("world", "World::with_filter", answer=b"done\n",
+         before=(("events", ROW), ("World::run", b""), ("reply", b""), *FOR_TAGS), left=APPLIED, after=NEW,
+         again=FOR_TAGS),
     Case("world", "World::run", answer=REPLIED, before=(("events", ROW),), left=NEW, after=APPLIED,
          again=(("events", ROW),), told="reply", script=ROW),
+    Case("world", "World::run_with", answer=REPLIED, before=(("filter", b"n"), ("events", ROW)), left=NEW, after=APPLIED,
+         again=(("filter", b"n"), ("events", ROW)), told="reply", script=ROW),
     step(b"edit " + NODE, b"edited\n", NEW, world((NODE,), b"", show(0, *NOTHING))),
     step(b"close " + minute(1), b"closed 1\n", world((NODE,), b"", show(0, *NOTHING)), FIRST, b"edit " + NODE),
     step(b"deliver 1 opl", b"applied 1..1\n", FIRST, APPLIED, PUBLISH, BROKEN_FIRST, RESTART),
@@ -324,6 +344,7 @@ WORLDS = [
     step(b"show", show(1, *ONE), APPLIED, script=ROW),
     step(b"save", b"saved 1\n", APPLIED, script=ROW),
     step(b"begin 1", b"begun 1\n", APPLIED, world((), PUBLISHED, BEGUN_AT_1), ROW),
+    step(b"begin 1", b"begun 1\n", APPLIED_FOR_TAGS, world((), PUBLISHED, BEGUN_FOR_TAGS), ROW, kept=FOR_TAGS[0][1]),
     step(b"restart", b"restarted 1\n", APPLIED, script=ROW + b"save",
          refused={NO_MEMORY: Refusal(left=world((), PUBLISHED, BROKEN))}),
 ]
@@ -365,13 +386,13 @@ def word(name, answer, old, new=None, left=None, given=b"", script=None):
 CHANGES = {"changes": lines(NODE)}
 WHOLE = {**SEQUENCE, "dir/state.txt": TOP}
 SAVED = {"save": save(3, *PLENTY)}
-FOLLOWED = {"save": b"osmrepl-save 2\nbase 0\nsequence 1\n" + mirror(3, *ONE) + b"end\n"}
+FOLLOWED = {"save": b"osmrepl-save 3\nbase 0\nkinds nwr\nkeys 0\nsequence 1\n" + mirror(3, *ONE) + b"end\n"}
 KINDS = (NODE, WAY, RELATION)
 
 
 def begun(objects):
     """The save that begins with those objects at sequence 3."""
-    return {"save": b"osmrepl-save 2\nbase 3\nsequence 3\n" + mirror(3, objects, (), ()) + b"end\n"}
+    return {"save": b"osmrepl-save 3\nbase 3\nkinds nwr\nkeys 0\nsequence 3\n" + mirror(3, objects, (), ()) + b"end\n"}
 
 
 FILES = [
@@ -396,7 +417,7 @@ STILL = [
     ("texts", "Text::copy", b"", b"short\n", (("text", b"short"),)),
     ("values", "Change::copy", b"", lines(NODE), (("change", NODE),)),
     ("values", "Batch::copy", b"", b"", ()),
-    ("values", "Filter::copy", b"", b"(false, true, false)\n", (("filter", b""),)),
+    ("values", "Filter::copy", b"", b"(false, true, false)\n", (("filter", b"w"),)),
     ("forms", "read_text", b"twenty-two-bytes-long!", b"twenty-two-bytes-long!\n", ()),
     ("forms", "Opl::read", b"", b"", ()),
     ("forms", "O5c::read", BEGINNING + b"\xfe", b"", ()),

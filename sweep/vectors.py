@@ -341,7 +341,7 @@ WRONG_FIRST_SAVES = [
     (b'\n', 1),
     (b'osmrepl-save 1', 1),
     (b'osmrepl-save 1\r\nsequence 0\n', 1),
-    (b'osmrepl-save 3\n', 1),
+    (b'osmrepl-save 4\n', 1),
     (b'osmrepl-save 1\nbase 0\nsequence 1\n', 2),
     (b'\xef\xbb\xbfosmrepl-save 1\n', 1),
     (b'osmrepl-save 1\n', 2),
@@ -383,6 +383,31 @@ WRONG_SECOND_SAVES = [
     (b'osmrepl-save 2\nbase 1\nsequence 2\ntime 2024-01-01T00:00:00Z\nobjects 0\nusers 1\n5 100001\n', 7),
 ]
 
+# The same in version 3, which has the filter after the line `base`.
+WRONG_THIRD_SAVES = [
+    (b'osmrepl-save 3\n', 2),
+    (b'osmrepl-save 3\nsequence 1\n', 2),
+    (b'osmrepl-save 3\nbase 0\n', 3),
+    (b'osmrepl-save 3\nbase 0\nsequence 1\n', 3),
+    *[(b'osmrepl-save 3\nbase 0\nkinds' + kinds + b'\nkeys 0\n', 3)
+      for kinds in (b'', b' ', b' wn', b' nn', b' x', b' N', b' nwr ', b'  nwr', b' n w')],
+    (b'osmrepl-save 3\nbase 0\nkinds nwr\n', 4),
+    *[(b'osmrepl-save 3\nbase 0\nkinds w\nkeys' + keys + b'\na\nb\n', 4)
+      for keys in (b'', b' ', b' 00', b' 02', b' 101', b' -1', b' 2 ', b' 18446744073709551617')],
+    (b'osmrepl-save 3\nbase 0\nkinds w\nkeys 0\n', 5),
+    (b'osmrepl-save 3\nbase 0\nkinds w\nkeys 1\n', 5),
+    (b'osmrepl-save 3\nbase 0\nkinds w\nkeys 1\na b\nsequence 0\n', 5),
+    (b'osmrepl-save 3\nbase 0\nkinds w\nkeys 1\n%61%\nsequence 0\n', 5),
+    (b'osmrepl-save 3\nbase 0\nkinds w\nkeys 1\na\r\nsequence 0\n', 5),
+    (b'osmrepl-save 3\nbase 0\nkinds w\nkeys 2\na\nsequence 0\n', 6),
+    (b'osmrepl-save 3\nbase 0\nkinds w\nkeys 2\nb\na\nsequence 0\n', 6),
+    (b'osmrepl-save 3\nbase 0\nkinds w\nkeys 2\na\na\nsequence 0\n', 6),
+    (b'osmrepl-save 3\nbase 2\nkinds w\nkeys 0\nsequence 1\n', 5),
+    *[(b'osmrepl-save 3\nbase 0\nkinds w\nkeys 1\nhighway\nsequence 1\ntime 2024-01-01T00:00:00Z\nobjects 1\n'
+       + line + b'\nusers 0\nchangesets 0\nend\n', 9)
+      for line in (NODE, WAY.replace(b'highway', b'high'), WAY.replace(b'highway=path', b'path=highway'))],
+]
+
 
 # Texts of version 1 that claim more objects than their number has room for.
 BOUNDED = [SAVE_START + b"objects 100001\n", SAVE_START + b"objects 18446744073709551617\n",
@@ -393,11 +418,18 @@ def in_version_2(content):
     return content.replace(b"osmrepl-save 1\n", b"osmrepl-save 2\nbase 0\n")
 
 
+def in_version_3(content):
+    return content.replace(b"osmrepl-save 1\n", b"osmrepl-save 3\nbase 0\nkinds nwr\nkeys 0\n")
+
+
 WRONG_FIRST_SAVES += [(SAVE_START + lists, line) for lists, line in WRONG_LISTS]
 WRONG_SECOND_SAVES += [(in_version_2(text), line + 1) for text, line in WRONG_FIRST_SAVES
                        if line > 1 and b"base" not in text and text not in BOUNDED]
 WRONG_SECOND_SAVES += [(in_version_2(text), 6) for text in BOUNDED]
-WRONG_SAVES = WRONG_FIRST_SAVES + WRONG_SECOND_SAVES
+WRONG_THIRD_SAVES += [(in_version_3(text), line + 3) for text, line in WRONG_FIRST_SAVES
+                      if line > 1 and b"base" not in text and text not in BOUNDED]
+WRONG_THIRD_SAVES += [(in_version_3(text), 8) for text in BOUNDED]
+WRONG_SAVES = WRONG_FIRST_SAVES + WRONG_SECOND_SAVES + WRONG_THIRD_SAVES
 
 # Scripts, and the first line that is no event.
 REFUSED_SCRIPTS = [

@@ -1,11 +1,18 @@
 //! Tells whether a reply text may answer a script. Standard input is the script, a line `--` and
 //! the text. The program writes `allowed` and ends with 0, or `forbidden` and ends with 1.
+//!
+//! Words name the filter of the world: the kinds that are kept, as `nw`, and then the keys, rising,
+//! as lines spell them. Without words every object is kept.
 #![tactic(auto)]
 
 ghost use Rattle.std.specs.Prelude.{◌<◌, length};
 
 use osm_folder::fault::RunFault;
 use osm_judge::judge::may_answer;
+use osm_model::filter::Filter;
+use osm_opl::texts::read_text;
+use std::alloc::Global;
+use std::env;
 use std::io::Read;
 use std::process::ExitCode;
 
@@ -23,10 +30,11 @@ fn main(rt: HostRuntime) -> ExitCode {
     }
 }
 
-// Why there is no judgement: the input can't be read, has no separator, or has no script before
-// one.
+// Why there is no judgement: the words name no filter, or the input can't be read, has no
+// separator, or has no script before one.
 #[derive(Clone, Copy, Debug)]
 enum Unjudged {
+    NoFilter,
     Input,
     NoSeparator,
     NoScript(RunFault),
@@ -34,6 +42,9 @@ enum Unjudged {
 
 fn judged(rt: &HostRuntime) -> Result<bool, Unjudged> {
     let alloc = rt.alloc();
+    let Some(filter) = filter_in(rt) else {
+        return Err(Unjudged::NoFilter);
+    };
     let mut input = Vec::new(alloc);
     let Ok(_) = rt.stdin().read_to_end(&mut input) else {
         return Err(Unjudged::Input);
@@ -41,10 +52,28 @@ fn judged(rt: &HostRuntime) -> Result<bool, Unjudged> {
     let Some((script, text)) = parts(input.as_slice()) else {
         return Err(Unjudged::NoSeparator);
     };
-    match may_answer(alloc, script, text) {
+    match may_answer(alloc, &filter, script, text) {
         Ok(is_right) => Ok(is_right),
         Err(fault) => Err(Unjudged::NoScript(fault)),
     }
+}
+
+// The filter that the words of the command line name, after the program's.
+fn filter_in(rt: &HostRuntime) -> Option<Filter> {
+    let words = env::args(rt).ok()?.collect::<Vec<String>>(rt.alloc()).ok()?;
+    filter_of(rt.alloc(), words.get(1..)?)
+}
+
+fn filter_of(alloc: Global, words: &[String]) -> Option<Filter> {
+    let Some((kinds, names)) = words.split_first() else {
+        return Some(Filter::all(alloc));
+    };
+    let mut keys = Vec::new(alloc);
+    for name in names {
+        keys.push(read_text(alloc, name.as_bytes()).ok()?).ok()?;
+    }
+    let nodes = kinds.contains('n');
+    Filter::new(nodes, kinds.contains('w'), kinds.contains('r'), keys).ok()
 }
 
 // The bytes before the first line `--`, and those after it.

@@ -11,6 +11,7 @@
 mod answers;
 mod commands;
 mod files;
+mod filters;
 mod followers;
 mod forms;
 mod lines;

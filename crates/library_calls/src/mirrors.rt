@@ -12,11 +12,12 @@ use osm_mirror::mirror::Mirror;
 use osm_mirror::objects::Objects;
 use osm_model::batch::Batch;
 use osm_model::change::Change;
+use osm_model::filter::Filter;
 use osm_model::form::ChangeForm;
 use osm_model::memory::WantOfMemory;
 use osm_opl::lines::read_line;
 use osm_opl::opl::Opl;
-use osm_save::head::Head;
+use osm_save::head::{Head, head_read};
 use osm_save::save::{Saved, save_read, save_write};
 use std::alloc::Global;
 use std::fmt::Debug;
@@ -36,7 +37,7 @@ pub(crate) struct Mirrors {
 impl Mirrors {
     pub(crate) fn new(alloc: Global) -> Mirrors {
         Mirrors {
-            saved: saved_of(Mirror::new(alloc)),
+            saved: saved_of(alloc, Mirror::new(alloc)),
             objects: Objects::new(alloc),
             counts: Counts::new(alloc),
             holding: None,
@@ -49,14 +50,17 @@ impl Mirrors {
     fn apply(&mut self, alloc: Global, out: &mut Vec<u8>) -> Result<()> {
         let changes = std::mem::replace(&mut self.changes, Batch::new(alloc));
         let mut mirror = Mirror::new(alloc);
-        write_done(mirror.apply(changes.into_changes()), out)?;
-        self.saved = saved_of(mirror);
+        write_done(
+            mirror.apply(&Filter::all(alloc), changes.into_changes()),
+            out,
+        )?;
+        self.saved = saved_of(alloc, mirror);
         Ok(())
     }
 
-    fn put(&mut self, out: &mut Vec<u8>) -> Result<()> {
+    fn put(&mut self, alloc: Global, out: &mut Vec<u8>) -> Result<()> {
         let change = self.change.take().context("no change")?;
-        write_done(self.objects.put(change), out)
+        write_done(self.objects.put(&Filter::all(alloc), change), out)
     }
 
     // Counts one edit of a user without any.
@@ -88,11 +92,21 @@ impl Mirrors {
     }
 }
 
-fn saved_of(mirror: Mirror) -> Saved {
+// The number that a save begins with, or why there is none.
+fn write_number_of(alloc: Global, save: &[u8], out: &mut Vec<u8>) -> Result<()> {
+    match head_read(alloc, save) {
+        Ok(head) => writeln!(out, "{}", head.number)?,
+        Err(error) => writeln!(out, "{error:?}")?,
+    }
+    Ok(())
+}
+
+fn saved_of(alloc: Global, mirror: Mirror) -> Saved {
     Saved {
         number: 0,
         base: 0,
         time: None,
+        filter: Filter::all(alloc),
         mirror,
     }
 }
@@ -103,7 +117,7 @@ fn save_of(alloc: Global, saved: &Saved) -> Result<Vec<u8>, WantOfMemory> {
         base: saved.base,
         time: saved.time,
     };
-    save_write(alloc, head, &saved.mirror)
+    save_write(alloc, head, &saved.filter, &saved.mirror)
 }
 
 fn write_held(area: &HoldingArea, out: &mut Vec<u8>) -> Result<()> {
@@ -134,9 +148,10 @@ impl Subject for Mirrors {
             b"saved" => put(save_read(alloc, given), &mut self.saved),
             b"show" => self.show(alloc, out),
             b"save_read" => put_or(save_read(alloc, given), &mut self.saved, out),
+            b"head_read" => write_number_of(alloc, given, out),
             b"save_write" => write_bytes_or(save_of(alloc, &self.saved), out),
             b"Mirror::apply" => self.apply(alloc, out),
-            b"Objects::put" => self.put(out),
+            b"Objects::put" => self.put(alloc, out),
             b"Counts::add_one" => self.count(alloc, out),
             b"HoldingArea::new" => put_or(
                 HoldingArea::new(alloc, 7).map(Some),

@@ -4,6 +4,7 @@ use crate::answers::{
     put_some, write_batch_or, write_change, write_change_or, write_changes, write_done,
 };
 use crate::commands::Command;
+use crate::filters::filter_of;
 use crate::subject::Subject;
 use anyhow::{Context, Result, bail};
 use osm_model::batch::{Batch, PushError};
@@ -120,17 +121,6 @@ impl Subject for Values {
             _ => self.copy_part(alloc, command.word, out),
         }
     }
-}
-
-// A filter of ways with the keys of a text, between single blanks; without keys if it is empty.
-fn filter_of(alloc: Global, given: &[u8]) -> Result<Filter> {
-    let mut keys = Vec::new(alloc);
-    for key in str::from_utf8(given)?.split(' ') {
-        if !key.is_empty() {
-            keys.push(Text::new(alloc, key)?)?;
-        }
-    }
-    Ok(Filter::new(false, true, false, keys)?)
 }
 
 // The kinds and the keys of a filter, or the error.

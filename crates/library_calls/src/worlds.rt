@@ -1,11 +1,13 @@
 //! Calls of a world.
 
-use crate::answers::{put, put_or, write_changes};
+use crate::answers::{put, put_or, put_some, write_changes};
 use crate::commands::Command;
+use crate::filters::filter_of;
 use crate::followers;
 use crate::publishers::write_published;
 use crate::subject::Subject;
 use anyhow::{Context, Result, bail};
+use osm_model::filter::Filter;
 use osm_model::memory::WantOfMemory;
 use osm_repl::replies::write_replies;
 use osm_repl::script::parse_script;
@@ -14,10 +16,11 @@ use osm_world::world::{Run, World};
 use std::alloc::Global;
 use std::io::Write;
 
-/// A world, events for it, and its replies since they were told.
+/// A world, a filter and events for one, and its replies since they were told.
 #[derive(Drop)]
 pub(crate) struct Worlds {
     world: World,
+    filter: Option<Filter>,
     events: Vec<Event>,
     replies: Vec<Reply>,
 }
@@ -27,24 +30,46 @@ impl Worlds {
         let replies = Vec::with_capacity(alloc, 100)?;
         Ok(Worlds {
             world: World::new(alloc)?,
+            filter: None,
             events: Vec::new(alloc),
             replies,
         })
     }
 
-    // A world after all the events, in place of the old one.
-    fn run(&mut self, alloc: Global, out: &mut Vec<u8>) -> Result<()> {
-        let events = std::mem::replace(&mut self.events, Vec::new(alloc));
-        match World::run(alloc, events) {
-            Ok(run) => self.keep(run),
-            Err(error) => Ok(writeln!(out, "{error:?}")?),
-        }
+    fn take_filter(&mut self) -> Result<Filter> {
+        Ok(self.filter.take().context("no filter")?)
     }
 
-    fn keep(&mut self, run: Run) -> Result<()> {
-        self.world = run.world;
-        for reply in run.replies {
-            self.replies.push(reply)?;
+    fn take_events(&mut self, alloc: Global) -> Vec<Event> {
+        std::mem::replace(&mut self.events, Vec::new(alloc))
+    }
+
+    fn with_filter(&mut self, alloc: Global, out: &mut Vec<u8>) -> Result<()> {
+        let filter = self.take_filter()?;
+        put_or(World::with_filter(alloc, filter), &mut self.world, out)
+    }
+
+    fn run(&mut self, alloc: Global, out: &mut Vec<u8>) -> Result<()> {
+        let events = self.take_events(alloc);
+        self.keep(World::run(alloc, events), out)
+    }
+
+    fn run_with(&mut self, alloc: Global, out: &mut Vec<u8>) -> Result<()> {
+        let filter = self.take_filter()?;
+        let events = self.take_events(alloc);
+        self.keep(World::run_with(alloc, filter, events), out)
+    }
+
+    // A world after all the events, in place of the old one.
+    fn keep(&mut self, answer: Result<Run, WantOfMemory>, out: &mut Vec<u8>) -> Result<()> {
+        match answer {
+            Ok(run) => {
+                self.world = run.world;
+                for reply in run.replies {
+                    self.replies.push(reply)?;
+                }
+            }
+            Err(error) => writeln!(out, "{error:?}")?,
         }
         Ok(())
     }
@@ -79,11 +104,14 @@ impl Worlds {
 impl Subject for Worlds {
     fn take(&mut self, alloc: Global, command: &Command<'_>, out: &mut Vec<u8>) -> Result<()> {
         match command.word {
+            b"filter" => put_some(filter_of(alloc, command.given), &mut self.filter),
             b"events" => put(parse_script(alloc, command.given), &mut self.events),
             b"reply" => self.reply(alloc, out),
             b"show" => self.show(alloc, out),
             b"World::new" => put_or(World::new(alloc), &mut self.world, out),
+            b"World::with_filter" => self.with_filter(alloc, out),
             b"World::run" => self.run(alloc, out),
+            b"World::run_with" => self.run_with(alloc, out),
             b"World::step" => self.step(),
             _ => bail!("no such call"),
         }

@@ -128,7 +128,8 @@ fn losses_and_kills_leave_each_number_reported_once(rt: HostRuntime) -> Result<(
     let alloc = rt.alloc();
     let outcome = outcome_of(alloc, operations(alloc)?)?;
     assert!(rt; are_replies(&outcome, &REPLIES));
-    let save = b"osmrepl-save 2\nbase 0\nsequence 4\ntime 2024-01-01T00:03:00Z\nobjects 0\n\
+    let save = b"osmrepl-save 3\nbase 0\nkinds nwr\nkeys 0\n\
+        sequence 4\ntime 2024-01-01T00:03:00Z\nobjects 0\n\
         users 0\nchangesets 0\nend\n";
     assert!(rt; is_file(&outcome, "save", save));
     let state = b"sequenceNumber=4\ntimestamp=2024-01-01T00\\:03\\:00Z\n";
@@ -303,7 +304,8 @@ fn a_beginning_goes_back_to_what_was_exported(rt: HostRuntime) -> Result<(), Fai
     let alloc = rt.alloc();
     let outcome = outcome_of(alloc, beginnings(alloc)?)?;
     assert!(rt; are_replies(&outcome, &BEGUN));
-    let save = b"osmrepl-save 2\nbase 3\nsequence 3\ntime 2024-01-01T00:02:00Z\nobjects 0\n\
+    let save = b"osmrepl-save 3\nbase 3\nkinds nwr\nkeys 0\n\
+        sequence 3\ntime 2024-01-01T00:02:00Z\nobjects 0\n\
         users 0\nchangesets 0\nend\n";
     assert!(rt; is_file(&outcome, "save", save));
     assert!(rt; is_file(&outcome, "extract.o5m", b"\xff\xe0\x04o5m2\xfe"));

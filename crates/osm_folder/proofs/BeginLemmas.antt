@@ -8,6 +8,7 @@ use Rattle.std.proofs.lemmas.Option.{same_Some}
 use Rattle.osm_model.specs.Change.{ChangeValue}
 use Rattle.osm_model.specs.Content.{content_of}
 use Rattle.osm_model.specs.Data.{IsData}
+use Rattle.osm_model.specs.Filter.{everything}
 use Rattle.osm_model.specs.declared.kind.Key.{Key}
 use Rattle.osm_mirror.specs.Mirror.{IsMirrorOf, object_at}
 use Rattle.osm_o5c.proofs.FileLimitLemmas.{data_limits}
@@ -20,6 +21,7 @@ use Rattle.osm_save.specs.Save.{SpellsSave}
 use Rattle.osm_save.specs.declared.save.Saved.{Saved}
 use Rattle.osm_state.proofs.StateLemmas.{one_state}
 use Rattle.osm_state.specs.State.{StateValue}
+use Rattle.osm_follow.proofs.BeginLemmas.{everything_left}
 use Rattle.osm_follow.proofs.PublishedLemmas.{time_next}
 use Rattle.osm_follow.specs.Begin.{begun_of}
 use Rattle.osm_follow.specs.Follower.{FollowerValue}
@@ -100,7 +102,7 @@ none_after ps k within = ap (flat_map (λ (p : PublishedValue). p.changes)) (dro
 
 uncounted : (cs : List ChangeValue) (counted objects : List ChangeValue) → IsData objects
     → ((k : Key) → object_at objects k ≡ content_of cs k) → counted ≡ []
-    → IsMirrorOf cs counted (record { objects = objects; users = []; changesets = [] })
+    → IsMirrorOf everything cs counted (record { objects = objects; users = []; changesets = [] })
 unfolding IsStrictlySortedBy
 uncounted cs counted objects are content none = rw none (record {
   orderly = record {
@@ -108,7 +110,7 @@ uncounted cs counted objects are content none = rw none (record {
     users = record { rising = tt; above = tt };
     changesets = record { rising = tt; above = tt };
   };
-  objects = content;
+  objects = λ k. content k ∙ sym (everything_left cs k);
   users = λ uid. refl;
   changesets = λ id. refl;
 })
@@ -138,6 +140,7 @@ begun_in_step ps number base state save old new report of b =
         in_step = record {
           within = within;
           base = omega arith;
+          filter_is = refl;
           mirror = uncounted (changes_up_to ps number) (changes_after ps number number) of.objects
               (spelled_data of.base_is.named.form of.base_is.bytes of.objects of.base_is.spelled) of.content (none_after ps number within);
           time = sym (time_next ps (number - 1) number (omega (arith, above)));
@@ -174,6 +177,7 @@ handed save out state again before after files new v time report saved time_is e
       number = v.number;
       base = v.number;
       time = o;
+      filter = everything;
       mirror = record { objects = v.mirror.objects; users = []; changesets = [] };
     } in
     subst (IsSaved (new again)) (same_begun b.s t b.beginning.objects v.mirror.objects start objects ∙ ap at_time (sym time_is))
@@ -246,12 +250,19 @@ beginning_of base state text files form s objects end start read spelled = recor
   spelled = spelled;
 }
 
-pub made_begun : (f : FollowerValue) (s : StateValue) (objects : List ChangeValue) → f ≡ begun_of s objects → (fault : RunFault)
-    → MadeStops f fault → BegunStops s objects fault
-made_begun f s objects is WantOfMemory h = tt
-made_begun f s objects is (TooLarge file) h =
-    rw h.0 (h.1.text, subst (λ (g : FollowerValue). SpellsSave h.1.text (saved_of g)) is h.1.spelled, h.1.over)
-made_begun f s objects is fault h = absurd h
+-- a follower that begins with all of the objects saves them
+pub saves_begun : (f : FollowerValue) (s : StateValue) (objects : List ChangeValue) → f ≡ begun_of everything s objects
+    → f.mirror.objects ≡ objects → saved_of f ≡ begun_save s objects
+saves_begun f s objects is all =
+    let with : List ChangeValue → Saved = begun_save s in
+    ap saved_of is ∙ ap with (sym (ap (λ (g : FollowerValue). g.mirror.objects) is) ∙ all)
+
+pub made_begun : (f : FollowerValue) (s : StateValue) (objects : List ChangeValue) → f ≡ begun_of everything s objects
+    → f.mirror.objects ≡ objects → (fault : RunFault) → MadeStops f fault → BegunStops s objects fault
+made_begun f s objects is all WantOfMemory h = tt
+made_begun f s objects is all (TooLarge file) h =
+    rw h.0 (h.1.text, subst (SpellsSave h.1.text) (saves_begun f s objects is all) h.1.spelled, h.1.over)
+made_begun f s objects is all fault h = absurd h
 
 pub text_stops : (known : Type 0) (base state : List ℕ) (files : Files) (form : DataForm) (s : StateValue) (objects : List ChangeValue)
     → HasDataEnd base form → (known → IsStart (files state) s) → (known → IsBaseRead form (files base) objects) → (fault : RunFault)

@@ -1,15 +1,19 @@
 -- The objects of a save are data; what an export leaves, and why one stops.
-use Rattle.std.proofs.Common.{◌≡◌, ℕ, ◌<◌, ◌≤◌, List, [], ◌∷◌, ◌++◌, length, map, Option, Some, ap, ◌∙◌, subst}
+use Rattle.std.proofs.Common.{◌≡◌, ℕ, ◌<◌, ◌≤◌, List, [], ◌∷◌, ◌++◌, length, map, Option, Some, ap, refl, ◌∙◌, subst}
 use Rattle.std.specs.List.{AllByRecursion}
 use Rattle.std.specs.List.Sorted.{IsStrictlySortedBy}
 use Rattle.std.specs.declared.cmp.Ordering.TheVariants.{Less}
-use Rattle.osm_model.specs.Change.{ChangeValue}
-use Rattle.osm_model.specs.Data.{IsData, IsFirstFault}
+use Rattle.osm_model.specs.Change.{ChangeValue, IsChange}
+use Rattle.osm_model.specs.Data.{IsData, IsFirstFault, IsLeft}
+use Rattle.osm_model.specs.Filter.{everything}
 use Rattle.osm_model.specs.KeyOrder.{key_cmp}
 use Rattle.osm_model.specs.Limits.{max_file}
 use Rattle.osm_model.specs.declared.kind.Key.{Key}
-use Rattle.osm_mirror.specs.Mirror.{IsMirrorOf}
+use Rattle.osm_mirror.specs.Mirror.{IsMirrorOf, IsObject}
+use Rattle.osm_follow.proofs.BeginLemmas.{everything_left}
 use Rattle.osm_follow.specs.Published.{PublishedValue, changes_after, changes_up_to}
+use Rattle.osm_save.specs.Save.{SpellsSave}
+use Rattle.osm_save.specs.declared.save.Saved.{Saved}
 use Rattle.osm_folder.specs.DataForms.{HasDataEnd, data_text_of}
 use Rattle.osm_folder.specs.Exporting.{ExportStops, HasDataForm, Holds, IsExportOf, IsExportable, IsExported}
 use Rattle.osm_store.specs.Files.{Files, Puts}
@@ -51,6 +55,27 @@ no_fault objects index are fault =
       rising = rising_up fault.before fault.change fault.after whole.rising;
     })
 
+-- the objects of a mirror are data
+each_limits : (cs : List ChangeValue) → AllByRecursion IsObject cs → AllByRecursion IsChange cs
+each_limits [] all = tt
+each_limits (c ∷ cs) all = (all.0.limits, each_limits cs all.1)
+
+each_left : (cs : List ChangeValue) → AllByRecursion IsObject cs → AllByRecursion IsLeft cs
+each_left [] all = tt
+each_left (c ∷ cs) all = (all.0.is_left, each_left cs all.1)
+
+pub saved_objects : (text : List ℕ) (v : Saved) → SpellsSave text v → IsObjectsOf text v.mirror.objects
+saved_objects text v spelled = record {
+  saved = v;
+  spelled = spelled;
+  objects_are = refl;
+  are_data = record {
+    limits = each_limits v.mirror.objects spelled.savable.mirror.objects;
+    left = each_left v.mirror.objects spelled.savable.mirror.objects;
+    rising = spelled.savable.mirror.orderly.objects;
+  };
+}
+
 -- ---- what an export leaves
 
 -- what was read is what the save holds
@@ -85,14 +110,14 @@ export_of ps base number save output old new saved done =
     let held = done.made.held in
     let here : IsSaved (old save) held.saved = rw held.there (held.small, held.spelled) in
     let same : held.saved ≡ saved.value = one_saved (old save) held.saved saved.value here saved.saved in
-    let mirror : IsMirrorOf (changes_up_to ps number) (changes_after ps saved.value.base number) held.saved.mirror =
+    let mirror : IsMirrorOf everything (changes_up_to ps number) (changes_after ps saved.value.base number) held.saved.mirror =
     rw (same, ← saved.number_is) saved.in_step.mirror in
     record {
       named = done.made.named;
       objects = held.saved.mirror.objects;
       are_data = done.are_data;
       fits = done.made.fits;
-      content = mirror.objects;
+      content = λ k. mirror.objects k ∙ everything_left (changes_up_to ps number) k;
       text = done.put.there;
     }
 

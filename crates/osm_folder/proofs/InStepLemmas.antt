@@ -3,6 +3,7 @@ use Rattle.std.proofs.Common.{◌≡◌, ℕ, zero, suc, ◌+◌, ◌<◌, ◌�
 use Rattle.std.specs.Prelude.{◌⊎◌}
 use Rattle.std.proofs.lemmas.Option.{same_Some}
 use Rattle.osm_mirror.specs.Mirror.{IsMirrorOf}
+use Rattle.osm_model.specs.Filter.{everything}
 use Rattle.osm_mirror.proofs.MirrorLemmas.{mirror_grown}
 use Rattle.osm_o5c.proofs.FrontLemmas as o5c_file
 use Rattle.osm_opl.proofs.FileLaws as opl_file
@@ -68,8 +69,9 @@ step_in_step ps files dir old new folder within add step =
     let changes : add.next.changes ≡ changes_at ps add.next.number =
     same_changes _ _ add.next (sequence_at ps add.next.number) add.there.changes
     (folder.each add.next.number O5c above at) (folder.each add.next.number Opl above at) in
-    let grown : IsMirrorOf (changes_up_to ps old.number ++ add.next.changes) (changes_after ps old.base old.number ++ add.next.changes) new.mirror =
-    mirror_grown old.mirror new.mirror (changes_up_to ps old.number) (changes_after ps old.base old.number) add.next.changes step.mirror add.applied in
+    let grown : IsMirrorOf everything (changes_up_to ps old.number ++ add.next.changes) (changes_after ps old.base old.number ++ add.next.changes) new.mirror =
+    mirror_grown everything old.mirror new.mirror (changes_up_to ps old.number) (changes_after ps old.base old.number) add.next.changes step.mirror
+    (rw (← step.filter_is) add.applied) in
     let joined : changes_up_to ps add.next.number ≡ changes_up_to ps old.number ++ add.next.changes =
     changes_next ps old.number add.next.number is at ∙ ap (λ cs. changes_up_to ps old.number ++ cs) (sym changes) in
     let below = step.base in
@@ -79,6 +81,7 @@ step_in_step ps files dir old new folder within add step =
     record {
       within = rw add.number at;
       base = rw (add.number, same_base) (omega (arith, is, below));
+      filter_is = add.same_filter ∙ step.filter_is;
       mirror = rw (add.number, same_base, joined, counted) grown;
       time = add.time ∙ (ap (λ (n : ℕ). Some n) time ∙ rw add.number (sym (time_next ps old.number add.next.number is)));
     }

@@ -1,7 +1,7 @@
 -- A lag that is told, and why one isn't.
 use Rattle.std.proofs.Common.{◌≡◌, ℕ, ◌≤◌, List, length, take, Option, Some, None, inl, inr, arith, refl, sym, ap, ◌∙◌}
 use Rattle.std.proofs.lemmas.Option.{same_Some}
-use Rattle.osm_save.specs.Head.{BeginsSave, head_of}
+use Rattle.osm_save.specs.Head.{BeginsSave, head_of, max_head}
 use Rattle.osm_save.specs.declared.head.Head.{Head}
 use Rattle.osm_save.specs.declared.save.Saved.{Saved}
 use Rattle.osm_state.proofs.StateLemmas.{one_state}
@@ -34,7 +34,7 @@ head_there None most bytes head is b = absurd (let e = is in cc)
 head_there (Some all) most bytes head is b =
     begins_more most all head (let same : take most all ≡ bytes = same_Some (take most all) bytes is in rw same b)
 
-pub bad_head : (told : Option (List ℕ)) (most : ℕ) (bytes : List ℕ) → 75 ≤ most → prefix_of most told ≡ Some bytes
+pub bad_head : (told : Option (List ℕ)) (most : ℕ) (bytes : List ℕ) → max_head ≤ most → prefix_of most told ≡ Some bytes
     → ((head : Head) → BeginsSave bytes head → ⊥) → IsBadHead told
 bad_head None most bytes enough is nothing = absurd (let e = is in cc)
 bad_head (Some all) most bytes enough is nothing = record {
@@ -44,8 +44,9 @@ bad_head (Some all) most bytes enough is nothing = record {
       rw (← same) (begins_first most all head enough b));
 }
 
-pub head_text_stops : (known : Type 0) (told : Option (List ℕ)) (most : ℕ) (bytes : List ℕ) (fault : RunFault) → 75 ≤ most
+pub head_text_stops : (known : Type 0) (told : Option (List ℕ)) (most : ℕ) (bytes : List ℕ) (fault : RunFault) → max_head ≤ most
     → (known → prefix_of most told ≡ Some bytes) → HeadTextStops bytes fault → HeadStops known told fault
+head_text_stops known told most bytes WantOfMemory enough is h = tt
 head_text_stops known told most bytes (BadSave line) enough is h = λ yes. bad_head told most bytes enough (is yes) h
 head_text_stops known told most bytes fault enough is h = absurd h
 

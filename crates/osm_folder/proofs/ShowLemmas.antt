@@ -5,9 +5,9 @@ use Rattle.osm_follow.specs.Published.{PublishedValue, time_at}
 use Rattle.osm_folder.specs.Following.{IsSaveOf, IsSaved, max_save}
 use Rattle.osm_folder.specs.Reports.{ReportValue}
 use Rattle.osm_folder.specs.Showing.{IsShown, IsShownOf, ShowStops, view_of_saved}
-use Rattle.osm_folder.specs.Steps.Following.{FollowerStops, RestartStops}
+use Rattle.osm_folder.specs.Steps.Following.{FollowerStops, RestartStops, SavedStops}
 use Rattle.osm_folder.specs.declared.fault.RunFault.{RunFault}
-use Rattle.osm_folder.specs.declared.fault.RunFault.TheVariants.{WantOfMemory, BadSave}
+use Rattle.osm_folder.specs.declared.fault.RunFault.TheVariants.{WantOfMemory, BadSave, OtherFilter}
 use Rattle.osm_folder.proofs.InStepLemmas.{one_saved}
 
 pub shown_of : (ps : List PublishedValue) (base number : ℕ) (told : Option (List ℕ)) (report : ReportValue)
@@ -26,16 +26,24 @@ shown_of ps base number told report saved shown =
       report_is = shown.report_is;
     }
 
--- a text that no follower restarts from
-pub restart_stops : (known : Type 0) (told : Option (List ℕ)) (bytes : List ℕ) (fault : RunFault)
-    → (known → told ≡ Some bytes) → length bytes ≤ max_save → RestartStops bytes fault → ShowStops known told fault
-restart_stops known told bytes WantOfMemory there small h = tt
-restart_stops known told bytes (BadSave line) there small h = λ sure. record { bytes = bytes; there = there sure; small = small; nothing = h }
-restart_stops known told bytes fault there small h = absurd h
+-- a text that isn't read
+pub saved_stops : (known : Type 0) (told : Option (List ℕ)) (bytes : List ℕ) (fault : RunFault)
+    → (known → told ≡ Some bytes) → length bytes ≤ max_save → SavedStops bytes fault → ShowStops known told fault
+saved_stops known told bytes WantOfMemory there small h = tt
+saved_stops known told bytes (BadSave line) there small h = λ sure. record { bytes = bytes; there = there sure; small = small; nothing = h }
+saved_stops known told bytes fault there small h = absurd h
 
--- such a text stops what goes on from it as well
+-- such a text stops what goes on from it as well, and one of another filter does
 pub follower_stops : (known : Type 0) (told : Option (List ℕ)) (bytes : List ℕ) (fault : RunFault)
     → (known → told ≡ Some bytes) → length bytes ≤ max_save → RestartStops bytes fault → FollowerStops known told fault
 follower_stops known told bytes WantOfMemory there small h = tt
 follower_stops known told bytes (BadSave line) there small h = λ sure. record { bytes = bytes; there = there sure; small = small; nothing = h }
+follower_stops known told bytes OtherFilter there small h = λ sure. record {
+  bytes = bytes;
+  value = h.0;
+  there = there sure;
+  small = small;
+  spelled = h.1;
+  other = h.2;
+}
 follower_stops known told bytes fault there small h = absurd h

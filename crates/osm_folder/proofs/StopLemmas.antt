@@ -1,5 +1,5 @@
 -- Why a run of the follower stops, and what the folder of published sequences refuses.
-use Rattle.std.proofs.Common.{◌≡◌, ℕ, ◌<◌, ◌≤◌, List, length, Option, Some, None, inl, inr, arith, refl, ap, subst}
+use Rattle.std.proofs.Common.{◌≡◌, ℕ, ◌<◌, ◌≤◌, List, length, Option, Some, None, inl, inr, arith, refl, ap, ◌∙◌, subst}
 use Rattle.std.proofs.lemmas.Option.{same_Some}
 use Rattle.osm_save.specs.declared.save.Saved.{Saved}
 use Rattle.osm_state.specs.State.{StateValue}
@@ -8,7 +8,7 @@ use Rattle.osm_state.specs.declared.paths.Suffix.TheVariants.{O5c, Opl, State}
 use Rattle.osm_follow.specs.Published.{PublishedValue, sequence_at}
 use Rattle.osm_store.specs.Files.{Files}
 use Rattle.osm_folder.specs.Folder.{IsFolderOf, IsTop}
-use Rattle.osm_folder.specs.Following.{BeyondStops, FollowRefuses, FollowStops, GoesOn, HasText, IsBadSave, IsSaveOf, IsSaved}
+use Rattle.osm_folder.specs.Following.{BeyondStops, FollowRefuses, FollowStops, GoesOn, HasText, IsBadSave, IsOtherSave, IsSaveOf, IsSaved}
 use Rattle.osm_folder.specs.Following.{IsStarted, NumberStops, SaveStops, StartRefuses, StartStops, max_save}
 use Rattle.osm_folder.specs.Names.{file_name_of, top_name_of}
 use Rattle.osm_folder.specs.Steps.Following.{GoOnStops, MissingStops, StopsOnTheWay, TextStops}
@@ -16,7 +16,7 @@ use Rattle.osm_folder.specs.Steps.Reading.{PutStops}
 use Rattle.osm_folder.specs.declared.fault.FileName.TheVariants.{Top, Sequence, Save}
 use Rattle.osm_folder.specs.declared.fault.RunFault.{RunFault}
 use Rattle.osm_folder.specs.declared.fault.RunFault.TheVariants.{WantOfMemory, ReadFault, WriteFault, TooLarge, Absent}
-use Rattle.osm_folder.specs.declared.fault.RunFault.TheVariants.{BadState, Mismatch, BadChange, BadSave, TopBehind}
+use Rattle.osm_folder.specs.declared.fault.RunFault.TheVariants.{BadState, Mismatch, BadChange, BadSave, OtherFilter, TopBehind}
 use Rattle.osm_folder.proofs.InStepLemmas.{not_bad, not_faulty, not_faulty_opl, not_other, not_over, one_saved, reached_of, top_number}
 use Rattle.osm_folder.proofs.RefusalLemmas.{good_top, small_top}
 use Rattle.osm_folder.proofs.ReportLemmas.{following}
@@ -101,6 +101,12 @@ no_bad_save : (told : Option (List ℕ)) (v : Saved) → IsSaved told v → IsBa
 no_bad_save None v s b = (let e = b.there in cc)
 no_bad_save (Some bytes) v s b = b.nothing v (rw (← same_Some bytes b.bytes b.there) s.1)
 
+no_other_save : (ps : List PublishedValue) (base number : ℕ) (told : Option (List ℕ)) → IsSaveOf ps base number told → IsOtherSave told → ⊥
+no_other_save ps base number told saved o =
+    let here : IsSaved told o.value = rw o.there (o.small, o.spelled) in
+    let same : o.value ≡ saved.value = one_saved told o.value saved.value here saved.saved in
+    o.other (ap (λ (v : Saved). v.filter) same ∙ saved.in_step.filter_is)
+
 pub none_published : (ps : List PublishedValue) (told : Option (List ℕ)) → IsTop ps told → told ≡ None → length ps ≡ 0
 none_published ps None (inl a) e = a.0
 none_published ps None (inr a) e = absurd a.1
@@ -114,7 +120,10 @@ start_refuses law known ps base number dir save files (ReadFault file) sure fold
 start_refuses law known ps base number dir save files (TooLarge Save) sure folder saved h = (refl, h sure)
 start_refuses law known ps base number dir save files (TooLarge Top) sure folder saved h = absurd (small_top ps (files (top_name_of dir)) folder.top (h sure).1)
 start_refuses law known ps base number dir save files (BadSave line) sure folder saved h = no_bad_save (files save) saved.value saved.saved (h sure)
-start_refuses law known ps base number dir save files (Absent Top) sure folder saved h = (refl, none_published ps (files (top_name_of dir)) folder.top (h sure).1)
+start_refuses law known ps base number dir save files OtherFilter sure folder saved h =
+    absurd (no_other_save ps base number (files save) saved (h sure))
+start_refuses law known ps base number dir save files (Absent Top) sure folder saved h =
+    (refl, none_published ps (files (top_name_of dir)) folder.top (h sure).1)
 start_refuses law known ps base number dir save files (BadState Top cause) sure folder saved h =
     good_top law ps (files (top_name_of dir)) cause folder.top (h sure).1
 start_refuses law known ps base number dir save files TopBehind sure folder saved h =

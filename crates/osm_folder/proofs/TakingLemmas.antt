@@ -78,7 +78,8 @@ taken_applied known files dir f number g h applied more p low high t is has next
     let changes : p.changes ++ between (changes_held g) p.number takes.count ≡ p.changes =
     ap (λ c. p.changes ++ between (changes_held g) p.number c) alone ∙ append-nil p.changes in
     let none_at : held_at g high ≡ None = t.none high in
-    let time : h.time ≡ Some p.time = takes.time ∙ ap (λ (o : Option PublishedValue). Some (option_map_or (λ (q : PublishedValue). q.time) o p.time)) none_at in (
+    let time : h.time ≡ Some p.time =
+    takes.time ∙ ap (λ (o : Option PublishedValue). Some (option_map_or (λ (q : PublishedValue). q.time) o p.time)) none_at in (
       number_is,
       record {
         whole = takes.whole;
@@ -96,9 +97,10 @@ taken_applied known files dir f number g h applied more p low high t is has next
             next = p;
             number_is = omega (arith, is, next);
             there = has yes;
-            applied = subst (λ cs. Applies g.mirror cs h.mirror) changes takes.applied;
+            applied = subst (λ cs. Applies g.filter g.mirror cs h.mirror) changes takes.applied;
             number = number_is ∙ sym is;
             base = takes.base;
+            same_filter = takes.same_filter;
             time = time;
           },
         );
@@ -122,6 +124,15 @@ pub taken_more : (known : Type 0) (files : Files) (dir : List ℕ) (f : Follower
     → IsNoted known files dir number g h applied more true → (h.number ≡ number) × IsTakenTo known files dir f h more
 taken_more known files dir f number g h applied more next t noted =
     taken_some known files dir f number g h applied more noted.answer next t noted.taken noted.noted (sym noted.is_so)
+
+-- a number that is lost changes nothing
+pub not_taken : (known : Type 0) (files : Files) (dir : List ℕ) (number : ℕ) (f g : FollowerValue) (old new : List (ℕ × ℕ))
+    → IsNoted known files dir number f g old new false → g ≡ f
+not_taken known files dir number f g old new noted = by_answer noted.answer noted.taken noted.is_so
+  where
+    by_answer : (o : Option Delivered) → IsTaken known files dir number f o g → false ≡ is_some o → g ≡ f
+    by_answer None t is = t.1
+    by_answer (Some answer) t is = absurd cc
 
 -- the next number is read
 pub comes_next : (known : Type 0) (files : Files) (dir : List ℕ) (f : FollowerValue) (number top : ℕ) (g : FollowerValue)

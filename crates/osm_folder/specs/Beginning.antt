@@ -4,6 +4,7 @@ use Rattle.std.specs.Prelude.{◌≡◌, ℕ, ◌<◌, ◌≤◌, List, [], leng
 use Rattle.osm_model.specs.Change.{ChangeValue}
 use Rattle.osm_model.specs.ChangeForm.{SpellsNothing}
 use Rattle.osm_model.specs.Content.{content_of}
+use Rattle.osm_model.specs.Filter.{everything}
 use Rattle.osm_model.specs.Limits.{max_file}
 use Rattle.osm_model.specs.declared.kind.Key.{Key}
 use Rattle.osm_mirror.specs.Mirror.{object_at}
@@ -25,13 +26,14 @@ use Rattle.osm_folder.specs.declared.fault.RunFault.TheVariants.{WriteFault, Too
 use Rattle.osm_folder.specs.declared.fault.RunFault.TheVariants.{BadState, BadChange}
 use Rattle.osm_folder.specs.declared.fault.RunFault.TheVariants.{UnknownForm, ZeroBase}
 
--- what a beginning saves: its number, its base and its time are the state's, its objects those of
--- the data file, and no edits are counted
+-- what a beginning saves: its number, its base and its time are the state's, its objects all those
+-- of the data file, and no edits are counted
 abbrev pub begun_save : StateValue → List ChangeValue → Saved
 begun_save s objects = record {
   number = s.sequence;
   base = s.sequence;
   time = Some s.time;
+  filter = everything;
   mirror = record { objects = objects; users = []; changesets = [] };
 }
 
@@ -130,11 +132,12 @@ BeginStops known base state files (WriteFault Save) =
 BeginStops known base state files fault = ⊥
 
 -- what a beginning from the export of a save gives: its number, time and objects, that number as
--- the base, and no counts
+-- the base, the filter of all objects, and no counts
 abbrev pub handed_on : Saved → Saved
 handed_on v = record {
   number = v.number;
   base = v.number;
   time = v.time;
+  filter = everything;
   mirror = record { objects = v.mirror.objects; users = []; changesets = [] };
 }

@@ -1,4 +1,5 @@
--- Exporting the objects of a save as a data file. `known` says that it is known what the files hold.
+-- Exporting the objects of a save as a data file. `known` says that it is known what the files
+-- hold.
 use Rattle.std.specs.Prelude.{◌≡◌, ℕ, ◌<◌, ◌≤◌, List, Option, Some, None, length}
 use Rattle.osm_model.specs.Change.{ChangeValue}
 use Rattle.osm_model.specs.Data.{IsData}

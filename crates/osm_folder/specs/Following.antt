@@ -3,6 +3,7 @@
 use Rattle.std.specs.Prelude.{◌≡◌, ◌≢◌, ℕ, zero, suc, ◌+◌, ◌-◌, ◌*◌, ◌<◌, ◌≤◌, ◌⊎◌, ◌↔◌, List}
 use Rattle.std.specs.Prelude.{[], length, map, filter, min, Bool, true, false, ◌||◌, ◌&&◌, Option}
 use Rattle.std.specs.Prelude.{Some, None, is_none, Result, IfErr, IfOk}
+use Rattle.osm_model.specs.Filter.{everything}
 use Rattle.osm_model.specs.Limits.{max_file}
 use Rattle.osm_mirror.specs.Mirror.{Applies, IsMirrorOf, no_mirror}
 use Rattle.osm_save.specs.Save.{SpellsSave}
@@ -25,18 +26,18 @@ use Rattle.osm_folder.specs.declared.fault.RunFault.{RunFault}
 use Rattle.osm_folder.specs.declared.fault.RunFault.TheVariants.{WantOfMemory, ReadFault}
 use Rattle.osm_folder.specs.declared.fault.RunFault.TheVariants.{WriteFault, TooLarge, Absent}
 use Rattle.osm_folder.specs.declared.fault.RunFault.TheVariants.{BadState, Mismatch, BadChange}
-use Rattle.osm_folder.specs.declared.fault.RunFault.TheVariants.{BadSave, TopBehind}
+use Rattle.osm_folder.specs.declared.fault.RunFault.TheVariants.{BadSave, OtherFilter, TopBehind}
 use Rattle.osm_folder.specs.declared.form.Form.TheVariants as forms
 
 -- the most bytes of a save: 1 GiB
 abbrev pub max_save : ℕ
 max_save = 1073741824
 
--- what a follower goes on from if it saved nothing
+-- what a follower of all objects goes on from if it saved nothing
 abbrev pub no_save : Saved
-no_save = record { number = 0; base = 0; time = None; mirror = no_mirror }
+no_save = record { number = 0; base = 0; time = None; filter = everything; mirror = no_mirror }
 
--- what a save holds; no save is the start
+-- what a save holds, under any filter; no save is the start
 abbrev pub IsSaved : Option (List ℕ) → Saved → Type 0
 IsSaved None v = v ≡ no_save
 IsSaved (Some bytes) v = (length bytes ≤ max_save) × SpellsSave bytes v
@@ -62,14 +63,15 @@ pub record HasFiles (files : Files) (dir : List ℕ) (p : PublishedValue) : Type
 abbrev pub IsReadable : Files → List ℕ → ℕ → Type 0
 IsReadable files dir k = (p : PublishedValue) × (p.number ≡ k) × HasFiles files dir p
 
--- the next number's changes are applied
+-- the next number's changes are applied under the filter, which stays
 pub record Adds (files : Files) (dir : List ℕ) (old new : Saved) : Type 0 where
   pub next : PublishedValue
   pub number_is : next.number ≡ old.number + 1
   pub there : HasFiles files dir next
-  pub applied : Applies old.mirror next.changes new.mirror
+  pub applied : Applies old.filter old.mirror next.changes new.mirror
   pub number : new.number ≡ next.number
   pub base : new.base ≡ old.base
+  pub same_filter : new.filter ≡ old.filter
   pub time : new.time ≡ Some next.time
 
 -- those of that many numbers are applied, one after the other
@@ -99,10 +101,11 @@ pub record GoesOn (files : Files) (dir : List ℕ) (start : Saved) (top count : 
   pub until : reached.number ≤ top
   pub far : IsReached files dir reached.number top
 
--- the save and the top state were read
+-- the save, which is one of all objects, and the top state were read
 pub record IsStarted (dir save : List ℕ) (files : Files) (start : Saved) (top : StateValue) :
     Type 0 where
   pub saved : IsSaved (files save) start
+  pub filter_is : start.filter ≡ everything
   pub top_is : IsThere (files (top_name_of dir)) (IsStateFile top.sequence top.time)
 
 -- what a run of the follower saves and prints
@@ -136,9 +139,9 @@ pub record IsFollowReport (report : ReportValue) : Type 0 where
   pub report_is : report ≡ follow_report_of (ranges start count) missing (start + count)
   pub gap : (missing ≡ []) ↔ (start + count ≡ top)
 
--- a save can be read
+-- a save of all objects can be read
 abbrev pub HasSave : List ℕ → Files → Type 0
-HasSave save files = (v : Saved) × IsSaved (files save) v
+HasSave save files = (v : Saved) × IsSaved (files save) v × (v.filter ≡ everything)
 
 -- the save is no save text
 pub record IsBadSave (told : Option (List ℕ)) : Type 0 where
@@ -146,6 +149,15 @@ pub record IsBadSave (told : Option (List ℕ)) : Type 0 where
   pub there : told ≡ Some bytes
   pub small : length bytes ≤ max_save
   pub nothing : (v : Saved) → SpellsSave bytes v → ⊥
+
+-- the save is that of an extract: it was saved under another filter than that of all objects
+pub record IsOtherSave (told : Option (List ℕ)) : Type 0 where
+  pub bytes : List ℕ
+  pub value : Saved
+  pub there : told ≡ Some bytes
+  pub small : length bytes ≤ max_save
+  pub spelled : SpellsSave bytes value
+  pub other : value.filter ≢ everything
 
 -- the top state is below the save
 pub record IsTopBehind (dir save : List ℕ) (files : Files) : Type 0 where
@@ -160,6 +172,7 @@ StartStops known dir save files WantOfMemory = Unit {0}
 StartStops known dir save files (ReadFault Save) = Unit {0}
 StartStops known dir save files (TooLarge Save) = known → IsOver max_save (files save)
 StartStops known dir save files (BadSave line) = known → IsBadSave (files save)
+StartStops known dir save files OtherFilter = known → IsOtherSave (files save)
 StartStops known dir save files (ReadFault Top) = known → HasSave save files
 StartStops known dir save files (Absent Top) =
     known → HasSave save files × (files (top_name_of dir) ≡ None)
@@ -282,11 +295,12 @@ FollowStops known dir save files fault =
     ⊎ BeyondStops known dir save files fault ⊎ SaveStops known dir save files fault
 
 -- exactly the mirror and the time of published sequences 1 to the number, and the counts of those
--- after the base
+-- after the base, under the filter of all objects
 pub record IsInStep (published : List PublishedValue) (v : Saved) : Type 0 where
   pub within : v.number ≤ length published
   pub base : v.base ≤ v.number
-  pub mirror : IsMirrorOf (changes_up_to published v.number)
+  pub filter_is : v.filter ≡ everything
+  pub mirror : IsMirrorOf everything (changes_up_to published v.number)
       (changes_after published v.base v.number) v.mirror
   pub time : v.time ≡ time_at published v.number
 

@@ -1,6 +1,7 @@
 -- Showing what a save holds. `known` says that it is known what the files hold.
 use Rattle.std.specs.Prelude.{◌≡◌, ℕ, ◌≤◌, List, [], length, Option, Some, None}
 use Rattle.osm_mirror.specs.Mirror.{IsMirrorOf}
+use Rattle.osm_model.specs.Filter.{everything}
 use Rattle.osm_save.specs.Save.{SpellsSave}
 use Rattle.osm_save.specs.declared.save.Saved.{Saved}
 use Rattle.osm_follow.specs.Published.{PublishedValue, changes_after, changes_up_to, time_at}
@@ -23,7 +24,7 @@ view_of_saved v = record {
   held = [];
 }
 
--- the save is there, and what it saves is shown
+-- the save is there, and what it saves is shown, whatever its filter is
 pub record IsShown (told : Option (List ℕ)) (report : ReportValue) : Type 0 where
   pub bytes : List ℕ
   pub saved : Saved
@@ -40,7 +41,7 @@ pub record IsShownOf (published : List PublishedValue) (base number : ℕ) (repo
   pub number_is : view.number ≡ number
   pub base_is : view.base ≡ base
   pub time : view.time ≡ time_at published number
-  pub mirror : IsMirrorOf (changes_up_to published number)
+  pub mirror : IsMirrorOf everything (changes_up_to published number)
       (changes_after published base number) view.mirror
   pub held : view.held ≡ []
   pub report_is : report ≡ show_report_of view

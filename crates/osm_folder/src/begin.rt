@@ -2,18 +2,21 @@
 
 ghost use Rattle.std.specs.Prelude.{◌≡◌, ◌<◌, ◌≤◌, ℕ, List, Some, IfErr, IfOk, length};
 ghost use Rattle.osm_model.specs.Data.{IsData};
+ghost use Rattle.osm_model.specs.Filter.{everything};
 ghost use Rattle.osm_model.specs.Limits.{max_file};
 ghost use Rattle.osm_save.specs.Save.{SpellsSave};
 ghost use Rattle.osm_follow.specs.Begin.{begun_of};
 ghost use Rattle.osm_follow.specs.Published.{PublishedValue};
-ghost use Rattle.osm_folder.specs.Beginning.{BeginStops, IsBaseOf, IsBegunFrom, IsStart, begun_save};
+ghost use Rattle.osm_folder.specs.Beginning.{BeginStops, IsBaseOf, IsBegunFrom, IsStart};
+ghost use Rattle.osm_folder.specs.Beginning.{begun_save};
 ghost use Rattle.osm_folder.specs.Folder.{max_state};
 ghost use Rattle.osm_folder.specs.Following.{IsSaveOf, max_save};
 ghost use Rattle.osm_store.specs.Frames.{IsKnown};
 ghost use Rattle.osm_folder.specs.Reports.{begin_report_of};
 ghost use Rattle.osm_folder.specs.Runs.{Reads, Replaces};
-ghost use Rattle.osm_folder.specs.Steps.Beginning.{BaseStops, BaseTextStops, BegunStops, IsBaseRead};
-ghost use Rattle.osm_folder.specs.Steps.Beginning.{IsObjectsOf, StartStops, StartTextStops};
+ghost use Rattle.osm_folder.specs.Steps.Beginning.{BaseStops, BaseTextStops, BegunStops};
+ghost use Rattle.osm_folder.specs.Steps.Beginning.{IsBaseRead, IsObjectsOf, StartStops};
+ghost use Rattle.osm_folder.specs.Steps.Beginning.{StartTextStops};
 
 use crate::data_form::{DataForm, data_form_of, read_data};
 use crate::fault::{FileName, RunFault};
@@ -33,8 +36,8 @@ use std::alloc::Global;
 /// Writes a save that begins with the objects of a data file, at the sequence and the time of the
 /// state that belongs to it, whatever the save held before. Its counts are those of the sequences
 /// after that one. A name that ends in `.opl` or `.o5m` tells the form of the data file; any other
-/// is refused as `UnknownForm`. A state of sequence 0 is refused as `ZeroBase`. A refusal leaves all
-/// files as they were.
+/// is refused as `UnknownForm`. A state of sequence 0 is refused as `ZeroBase`. A refusal leaves
+/// all files as they were.
 pub fn begin_run<S: Store>(
     alloc: Global,
     store: &mut S,
@@ -145,7 +148,8 @@ fn begun_text(alloc: Global, start: &State, objects: Vec<Change>) -> Result<Vec<
 fn begun(alloc: Global, start: &State, objects: Vec<Change>) -> Result<Follower, RunFault>
     requires above { 0 < start.now.sequence }
     requires are_data { IsData objects.items }
-    ensures begun { IfOk result (λ f. f ≡ begun_of start.now objects.items) }
+    ensures begun { IfOk result (λ f. f ≡ begun_of everything start.now objects.items) }
+    ensures all { IfOk result (λ f. f.mirror.objects ≡ objects.items) }
     ensures stops { IfErr result (λ fault. fault ≡ RunFault.WantOfMemory) }
 {
     match Follower::begin(alloc, start, objects) {

@@ -13,7 +13,7 @@ ghost use Rattle.osm_store.specs.Frames.{IsKnown};
 ghost use Rattle.osm_folder.specs.Reports.{convert_report_of};
 ghost use Rattle.osm_folder.specs.Runs.{Replaces};
 ghost use Rattle.osm_folder.specs.Steps.Exporting.{IsObjectsOf, TextStops};
-ghost use Rattle.osm_folder.specs.Steps.Following.{RestartStops};
+ghost use Rattle.osm_folder.specs.Steps.Following.{SavedStops};
 
 use crate::data_form::{DataForm, data_form_of, write_data};
 use crate::fault::{FileName, RunFault};
@@ -26,9 +26,10 @@ use osm_save::save::{SaveError, Saved, save_read};
 use osm_store::store::Store;
 use std::alloc::Global;
 
-/// Writes the objects of a save, which has to be there, as a data file, in the form of the output's
-/// name. A name that ends in `.opl` or `.o5m` tells the form; any other is refused as `UnknownForm`.
-/// A file of more than 64 MiB is refused as too large. A refusal leaves all files as they were.
+/// Writes the objects of a save, which has to be there, whatever its filter, as a data file, in the
+/// form of the output's name. A name that ends in `.opl` or `.o5m` tells the form; any other is
+/// refused as `UnknownForm`. A file of more than 64 MiB is refused as too large. A refusal leaves
+/// all files as they were.
 pub fn export_run<S: Store>(
     alloc: Global,
     store: &mut S,
@@ -61,7 +62,7 @@ pub fn export_run<S: Store>(
 // mirror at the end.
 fn read_objects(alloc: Global, text: Vec<u8>) -> Result<Vec<Change>, RunFault>
     ensures read { IfOk result (λ objects. IsObjectsOf text.items objects.items) }
-    ensures stops { IfErr result (RestartStops text.items) }
+    ensures stops { IfErr result (SavedStops text.items) }
 {
     let read = read_saved(alloc, text.as_slice());
     drop(text);
@@ -72,7 +73,7 @@ fn read_objects(alloc: Global, text: Vec<u8>) -> Result<Vec<Change>, RunFault>
 // What a save text saves.
 fn read_saved(alloc: Global, text: &[u8]) -> Result<Saved, RunFault>
     ensures spelled { IfOk result (SpellsSave text.now) }
-    ensures stops { IfErr result (RestartStops text.now) }
+    ensures stops { IfErr result (SavedStops text.now) }
 {
     match save_read(alloc, text) {
         Ok(saved) => Ok(saved),

@@ -95,6 +95,9 @@ pub enum RunFault {
     /// A line of a save, counted from 1, is wrong.
     #[error("save: line {0}")]
     BadSave(u64),
+    /// The save is that of an extract: a filter was given when it began.
+    #[error("save: other filter")]
+    OtherFilter,
     /// A line of a script, counted from 1 over all lines, isn't an event.
     #[error("input: line {0}")]
     BadScript(u64),

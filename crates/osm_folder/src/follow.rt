@@ -94,7 +94,8 @@ fn prepare<S: Store>(
     ensures report { IfOk result (λ a. IsFollowReport a.report) }
     ensures stops { IfErr result (FollowStops (IsKnown (S.state store.old))
         dir.now save.now (S.state store.old).files) }
-    ensures calls { IsKnown (S.state store.old) → (published : List PublishedValue) (base number : ℕ)
+    ensures calls { IsKnown (S.state store.old)
+        → (published : List PublishedValue) (base number : ℕ)
         → IsFolderOf published (S.state store.old).files dir.now
         → IsSaveOf published base number ((S.state store.old).files save.now)
         → CallsUpTo (2 + 3 * (length published - number))

@@ -15,18 +15,19 @@ use crate::files::read_prefix;
 use crate::report::{Report, lag_report};
 use crate::start::read_top;
 use osm_follow::lag::{LagError, lag_from};
-use osm_save::head::{BadHead, Head, head_read};
+use osm_save::head::{Head, HeadError, head_read};
 use osm_state::laws::laws_of_state;
 use osm_state::state::State;
 use osm_store::store::Store;
 use std::alloc::Global;
 
-// How many bytes of a save are read. A head has at most 75.
-const HEAD: u64 = 1024;
+// How many bytes of a save are read, if it has as many. A head has at most 408,194, most of them
+// the keys of its filter.
+const HEAD: u64 = 409_600;
 
 /// How many numbers and seconds a save, or the start if there is none, is behind the folder's
-/// newest state. Changes no file. Of the save only the head is read, so a fault after it isn't
-/// found.
+/// newest state, whatever the filter of the save. Changes no file. Of the save only the head is
+/// read, so a fault after it isn't found.
 pub fn lag_run<S: Store>(
     alloc: Global,
     store: &mut S,
@@ -59,7 +60,7 @@ fn read_start<S: Store>(alloc: Global, store: &mut S, save: &str) -> Result<Head
     ensures frame { Reads 1 (S.state store.old) (S.state store.new) result }
 {
     match read_prefix(alloc, store, FileName::Save, save, HEAD) {
-        Ok(Some(bytes)) => read_head(bytes.as_slice()),
+        Ok(Some(bytes)) => read_head(alloc, bytes.as_slice()),
         Ok(None) => Ok(Head {
             number: 0,
             base: 0,
@@ -69,13 +70,14 @@ fn read_start<S: Store>(alloc: Global, store: &mut S, save: &str) -> Result<Head
     }
 }
 
-fn read_head(bytes: &[u8]) -> Result<Head, RunFault>
+fn read_head(alloc: Global, bytes: &[u8]) -> Result<Head, RunFault>
     ensures begins { IfOk result (BeginsSave bytes.now) }
     ensures stops { IfErr result (HeadTextStops bytes.now) }
 {
-    match head_read(bytes) {
+    match head_read(alloc, bytes) {
         Ok(head) => Ok(head),
-        Err(BadHead { line }) => Err(RunFault::BadSave(line)),
+        Err(HeadError::BadHead { line }) => Err(RunFault::BadSave(line)),
+        Err(HeadError::WantOfMemory) => Err(RunFault::WantOfMemory),
     }
 }
 

@@ -1,6 +1,7 @@
 //! What a follower's run starts from: its save and the folder's newest state.
 
 ghost use Rattle.std.specs.Prelude.{◌≡◌, ◌≤◌, IfErr, IfOk, length};
+ghost use Rattle.osm_model.specs.Filter.{everything};
 ghost use Rattle.osm_save.specs.Save.{SpellsSave};
 ghost use Rattle.osm_follow.specs.Restart.{follower_of, saved_of};
 ghost use Rattle.osm_folder.specs.Folder.{IsStateFile, IsThere, max_state};
@@ -24,7 +25,7 @@ use std::alloc::Global;
 // The most bytes of a save: 1 GiB.
 pub(crate) const MAX_SAVE: u64 = 1_073_741_824;
 
-// A follower that goes on from its save, and the folder's newest state.
+// A follower of all objects that goes on from its save, and the folder's newest state.
 #[derive(Drop)]
 pub(crate) struct Start {
     pub(crate) follower: Follower,
@@ -49,10 +50,11 @@ pub(crate) fn read_start<S: Store>(
     Ok(Start { follower, top })
 }
 
-// The follower that goes on from a save, or from the start if there is none.
+// The follower of all objects that goes on from a save, or from the start if there is none.
 fn read_follower<S: Store>(alloc: Global, store: &mut S, save: &str) -> Result<Follower, RunFault>
     ensures saved { IfOk result (λ f. IsKnown (S.state store.old)
         → IsSaved ((S.state store.old).files save.now) (saved_of f)) }
+    ensures filter { IfOk result (λ f. f.filter ≡ everything) }
     ensures fresh { IfOk result IsFresh }
     ensures stops { IfErr result
         (FollowerStops (IsKnown (S.state store.old)) ((S.state store.old).files save.now)) }
@@ -72,9 +74,10 @@ fn new_follower(alloc: Global) -> Result<Follower, RunFault>
     Ok(Follower::new(alloc)?)
 }
 
-// The follower that goes on from a save text.
-pub(crate) fn restart(alloc: Global, text: &[u8]) -> Result<Follower, RunFault>
+// The follower of all objects that goes on from a save text.
+fn restart(alloc: Global, text: &[u8]) -> Result<Follower, RunFault>
     ensures spelled { IfOk result (λ f. SpellsSave text.now (saved_of f)) }
+    ensures filter { IfOk result (λ f. f.filter ≡ everything) }
     ensures fresh { IfOk result IsFresh }
     ensures stops { IfErr result (RestartStops text.now) }
 {
@@ -82,6 +85,7 @@ pub(crate) fn restart(alloc: Global, text: &[u8]) -> Result<Follower, RunFault>
     match follower.restart(alloc, Some(text)) {
         Ok(()) => Ok(follower),
         Err(RestartError::BadSave { line }) => Err(RunFault::BadSave(line)),
+        Err(RestartError::OtherFilter) => Err(RunFault::OtherFilter),
         Err(RestartError::WantOfMemory) => Err(RunFault::WantOfMemory),
     }
 }

@@ -1,5 +1,5 @@
 -- One more held sequence, and what is left when held ones are applied.
-use Rattle.std.proofs.Common.{◌≡◌, ℕ, ◌+◌, ◌-◌, ◌*◌, ◌<◌, ◌≤◌, List, [], ◌∷◌, ◌++◌, length, refl, ap, sym, ◌∙◌, true, false}
+use Rattle.std.proofs.Common.{◌≡◌, ℕ, ◌+◌, ◌-◌, ◌*◌, ◌<◌, ◌≤◌, List, [], ◌∷◌, ◌++◌, refl, ap, sym, ◌∙◌, true, false}
 use Rattle.std.proofs.Common.{arith, None, Some, Option, append-nil, append_assoc, inl, inr}
 use Rattle.std.specs.Map.{lookup}
 use Rattle.std.specs.Option.{option_map, option_map_or}
@@ -9,9 +9,11 @@ use Rattle.osm_holding.specs.Holding as area
 use Rattle.osm_holding.specs.Holding.{ChangesAt, HoldingValue, IsHolding}
 use Rattle.osm_holding.specs.declared.holding.Held.{Held}
 use Rattle.osm_mirror.proofs.MemoryLemmas.{NeedsMemory-after, NeedsMemory-before}
+use Rattle.osm_mirror.proofs.MirrorLaws.{stays_kept}
 use Rattle.osm_mirror.proofs.MirrorLemmas.{Applies-append}
 use Rattle.osm_mirror.specs.Mirror.{Applies, IsWithin, MirrorValue, NeedsMemory}
 use Rattle.osm_model.specs.Change.{ChangeValue}
+use Rattle.osm_model.specs.Filter.{FilterValue}
 use Rattle.osm_model.specs.Limits.{IsPositive, max_changes}
 use Rattle.osm_follow.specs.Delivery.{Breaks, Takes}
 use Rattle.osm_follow.specs.Follower.{FollowerValue, IsWhole, changes_in, is_in, most_edits, sequence_in, time_in}
@@ -33,11 +35,12 @@ none_is None number is = refl
 none_is (Some h) number is = let bad : Some (numbered number h) ≡ None = is in cc
 
 -- what was applied so far
-pub record IsDrained (m : MirrorValue) (holding : HoldingValue) (first : Held) (n : MirrorValue) (left : HoldingValue) (last : ℕ) : Type 0 where
+pub record IsDrained (by : FilterValue) (m : MirrorValue) (holding : HoldingValue) (first : Held) (n : MirrorValue)
+    (left : HoldingValue) (last : ℕ) : Type 0 where
   pub count : ℕ
   pub reached : left.reached ≡ holding.reached + 1 + count
   pub all : (j : ℕ) → holding.reached + 1 < j → j ≤ left.reached → is_in holding j ≡ true
-  pub applied : Applies m (first.batch ++ between (changes_in holding) (holding.reached + 1) count) n
+  pub applied : Applies by m (first.batch ++ between (changes_in holding) (holding.reached + 1) count) n
   pub within : IsWithin (max_changes * left.reached) n
   pub widened : WidensBy (max_changes * (count + 1)) m n
   pub time : last ≡ time_in holding left.reached first.time
@@ -50,11 +53,11 @@ widened_more a b c m n o first second sum = record {
 }
 
 -- the first sequence was applied
-pub drained_first : (m n : MirrorValue) (holding left : HoldingValue) (first : Held)
-    → sequence_in holding (holding.reached + 1) ≡ None → Applies m first.batch n
+pub drained_first : (by : FilterValue) (m n : MirrorValue) (holding left : HoldingValue) (first : Held)
+    → sequence_in holding (holding.reached + 1) ≡ None → Applies by m first.batch n
     → left ≡ record holding { reached = holding.reached + 1 } → IsWithin (max_changes * left.reached) n
-    → WidensBy max_changes m n → IsDrained m holding first n left first.time
-drained_first m n holding left first free applied moved within widened =
+    → WidensBy max_changes m n → IsDrained by m holding first n left first.time
+drained_first by m n holding left first free applied moved within widened =
     let reached : left.reached ≡ holding.reached + 1 = ap (λ (h : HoldingValue). h.reached) moved in
     record {
       count = 0;
@@ -68,10 +71,10 @@ drained_first m n holding left first free applied moved within widened =
     }
 
 -- the next sequence was held from the start
-next_held : (m n : MirrorValue) (holding left : HoldingValue) (first held : Held) (last : ℕ)
-    → IsDrained m holding first n left last → area.held_at left (left.reached + 1) ≡ Some held
+next_held : (by : FilterValue) (m n : MirrorValue) (holding left : HoldingValue) (first held : Held) (last : ℕ)
+    → IsDrained by m holding first n left last → area.held_at left (left.reached + 1) ≡ Some held
     → sequence_in holding (left.reached + 1) ≡ Some (numbered (left.reached + 1) held)
-next_held m n holding left first held last i value =
+next_held by m n holding left first held last i value =
     sym (i.rest (left.reached + 1) (omega arith)) ∙ ap (option_map (numbered (left.reached + 1))) value
 
 changes_more : (holding : HoldingValue) (count : ℕ) (k : ℕ) (first held : Held) → k ≡ holding.reached + 1 + count + 1
@@ -84,14 +87,14 @@ changes_more holding count k first held is there =
     ∙ sym (append_assoc first.batch (between (changes_in holding) (holding.reached + 1) count) held.batch)
 
 -- one more held sequence was applied
-pub drained_more : (m n o : MirrorValue) (holding left mid next : HoldingValue) (first held : Held) (last : ℕ)
-    → IsDrained m holding first n left last → area.held_at left (left.reached + 1) ≡ Some held
-    → ChangesAt left mid (left.reached + 1) None → Applies n held.batch o → next ≡ record mid { reached = mid.reached + 1 }
+pub drained_more : (by : FilterValue) (m n o : MirrorValue) (holding left mid next : HoldingValue) (first held : Held) (last : ℕ)
+    → IsDrained by m holding first n left last → area.held_at left (left.reached + 1) ≡ Some held
+    → ChangesAt left mid (left.reached + 1) None → Applies by n held.batch o → next ≡ record mid { reached = mid.reached + 1 }
     → IsWithin (max_changes * next.reached) o → WidensBy max_changes n o
-    → IsDrained m holding first o next held.time
-drained_more m n o holding left mid next first held last i value taken applied moved within widened =
+    → IsDrained by m holding first o next held.time
+drained_more by m n o holding left mid next first held last i value taken applied moved within widened =
     let k : ℕ = left.reached + 1 in
-    let there : sequence_in holding k ≡ Some (numbered k held) = next_held m n holding left first held last i value in
+    let there : sequence_in holding k ≡ Some (numbered k held) = next_held by m n holding left first held last i value in
     let reached : next.reached ≡ k = ap (λ (h : HoldingValue). h.reached) moved ∙ ap (λ (b : ℕ). b + 1) taken.reached in
     let at : left.reached ≡ holding.reached + 1 + i.count = i.reached in
     record {
@@ -99,7 +102,7 @@ drained_more m n o holding left mid next first held last i value taken applied m
       reached = omega arith;
       all = λ j above below. all_more (is_in holding) (holding.reached + 1) left.reached i.all (ap is_some there) j above (omega arith);
       applied = rw (changes_more holding i.count k first held (omega arith) there)
-          (Applies-append m n o (first.batch ++ between (changes_in holding) (holding.reached + 1) i.count) held.batch
+          (Applies-append by m n o (first.batch ++ between (changes_in holding) (holding.reached + 1) i.count) held.batch
           i.applied applied);
       within = within;
       widened = widened_more (max_changes * (i.count + 1)) max_changes (max_changes * (i.count + 1 + 1)) m n o i.widened widened (omega arith);
@@ -109,10 +112,10 @@ drained_more m n o holding left mid next first held last i value taken applied m
     }
 
 -- no more sequences are held without a gap
-pub drained_all : (m n : MirrorValue) (holding left mid : HoldingValue) (first : Held) (last : ℕ)
-    → IsDrained m holding first n left last → area.held_at left (left.reached + 1) ≡ None
-    → ChangesAt left mid (left.reached + 1) None → Drains m holding first n mid last
-drained_all m n holding left mid first last i value taken =
+pub drained_all : (by : FilterValue) (m n : MirrorValue) (holding left mid : HoldingValue) (first : Held) (last : ℕ)
+    → IsDrained by m holding first n left last → area.held_at left (left.reached + 1) ≡ None
+    → ChangesAt left mid (left.reached + 1) None → Drains by m holding first n mid last
+drained_all by m n holding left mid first last i value taken =
     let reached : mid.reached ≡ left.reached = taken.reached in
     let at : left.reached ≡ holding.reached + 1 + i.count = i.reached in
     let none : sequence_in holding (left.reached + 1) ≡ None =
@@ -131,25 +134,26 @@ drained_all m n holding left mid first last i value taken =
     }
 
 -- the application stopped at the first sequence, or at a held one
-pub stopped_first : (m : MirrorValue) (holding : HoldingValue) (first : Held) → NeedsMemory m first.batch → Stops m holding first
-stopped_first m holding first needs = record {
+pub stopped_first : (by : FilterValue) (m : MirrorValue) (holding : HoldingValue) (first : Held)
+    → NeedsMemory by m first.batch → Stops by m holding first
+stopped_first by m holding first needs = record {
   count = 0;
   all = λ j above below. absurd (omega arith);
   needs = rw (append-nil first.batch) needs;
 }
 
-pub stopped_later : (m n : MirrorValue) (holding left : HoldingValue) (first held : Held) (last : ℕ)
-    → IsDrained m holding first n left last → area.held_at left (left.reached + 1) ≡ Some held → NeedsMemory n held.batch
-    → Stops m holding first
-stopped_later m n holding left first held last i value needs =
+pub stopped_later : (by : FilterValue) (m n : MirrorValue) (holding left : HoldingValue) (first held : Held) (last : ℕ)
+    → IsDrained by m holding first n left last → area.held_at left (left.reached + 1) ≡ Some held → NeedsMemory by n held.batch
+    → Stops by m holding first
+stopped_later by m n holding left first held last i value needs =
     let k : ℕ = left.reached + 1 in
     let at : left.reached ≡ holding.reached + 1 + i.count = i.reached in
-    let there : sequence_in holding k ≡ Some (numbered k held) = next_held m n holding left first held last i value in
+    let there : sequence_in holding k ≡ Some (numbered k held) = next_held by m n holding left first held last i value in
     record {
       count = i.count + 1;
       all = λ j above below. all_more (is_in holding) (holding.reached + 1) left.reached i.all (ap is_some there) j above (omega arith);
       needs = rw (changes_more holding i.count k first held (omega arith) there)
-          (NeedsMemory-after m n (first.batch ++ between (changes_in holding) (holding.reached + 1) i.count) held.batch
+          (NeedsMemory-after by m n (first.batch ++ between (changes_in holding) (holding.reached + 1) i.count) held.batch
           i.applied needs);
     }
 
@@ -164,7 +168,7 @@ highest (e ∷ entries) = let rest = highest entries in (
 
 -- what stops within some of the held sequences stops within all that are reached without a gap
 pub breaks : (f g : FollowerValue) (p : PublishedValue) (time : ℕ) → p.number ≡ f.holding.reached + 1
-    → Stops f.mirror f.holding (record { batch = p.changes; time = time }) → g ≡ record f {
+    → Stops f.filter f.mirror f.holding (record { batch = p.changes; time = time }) → g ≡ record f {
       mirror = g.mirror;
       holding =
           g.holding;
@@ -182,7 +186,7 @@ breaks f g p time number stops rest =
           let bad : true ≡ false = sym is ∙ reached.1.next in cc)
     ] in
     let more : ℕ = reached.0 - (p.number + stops.count) in
-    let needs : NeedsMemory f.mirror (p.changes ++ between (changes_in f.holding) p.number stops.count) = rw number stops.needs in
+    let needs : NeedsMemory f.filter f.mirror (p.changes ++ between (changes_in f.holding) p.number stops.count) = rw number stops.needs in
     record {
       high = reached.0;
       count = stops.count + more;
@@ -194,7 +198,7 @@ breaks f g p time number stops rest =
             (between (changes_in f.holding) p.number stops.count)
             (between (changes_in f.holding) (p.number + stops.count) more),
       )
-          (NeedsMemory-before f.mirror (p.changes ++ between (changes_in f.holding) p.number stops.count)
+          (NeedsMemory-before f.filter f.mirror (p.changes ++ between (changes_in f.holding) p.number stops.count)
           (between (changes_in f.holding) (p.number + stops.count) more) needs);
       rest = rest;
     }
@@ -209,16 +213,17 @@ none_below holding j is below = by_slot (area.held_at holding j) refl
         let window = is.within j there in let above = window.above in omega arith)
 
 pub takes : (f g : FollowerValue) (p : PublishedValue) (time last : ℕ) → p.number ≡ f.holding.reached + 1
-    → Drains f.mirror f.holding (record { batch = p.changes; time = p.time }) g.mirror g.holding last
-    → IsHolding g.holding → g.number ≡ g.holding.reached → g.base ≡ f.base → g.time ≡ Some last → g.is_broken ≡ false
-    → Takes f p g.holding.reached g
-takes f g p time last number d is at base timed whole = record {
+    → Drains f.filter f.mirror f.holding (record { batch = p.changes; time = p.time }) g.mirror g.holding last
+    → IsHolding g.holding → g.number ≡ g.holding.reached → g.base ≡ f.base → g.filter ≡ f.filter → g.time ≡ Some last
+    → g.is_broken ≡ false → Takes f p g.holding.reached g
+takes f g p time last number d is at base same timed whole = record {
   count = d.count;
   high_is = (let reached = d.reached in omega arith);
   reach = rw number d.reach;
   applied = rw number d.applied;
   number = at;
   base = base;
+  same_filter = same;
   time = timed ∙ ap (λ (t : ℕ). Some t) d.time;
   whole = whole;
   gone = λ j below. none_below g.holding j is below;
@@ -232,9 +237,9 @@ timed_one (Some p) other one positive = one
 
 -- a follower is whole after the application
 pub still_whole : (f g : FollowerValue) (first : Held) (last : ℕ) → IsWhole f → IsPositive first.time
-    → Drains f.mirror f.holding first g.mirror g.holding last → IsHolding g.holding → g.number ≡ g.holding.reached
-    → g.base ≡ f.base → g.time ≡ Some last → IsWhole g
-still_whole f g first last w positive d is at base timed =
+    → Drains f.filter f.mirror f.holding first g.mirror g.holding last → IsHolding g.holding → g.number ≡ g.holding.reached
+    → g.base ≡ f.base → g.filter ≡ f.filter → g.time ≡ Some last → IsWhole g
+still_whole f g first last w positive d is at base same timed =
     let reached = d.reached in
     let from : f.holding.reached ≡ f.number = w.reached in
     let below : f.base ≤ f.number = w.base in
@@ -242,6 +247,7 @@ still_whole f g first last w positive d is at base timed =
     record {
       base = omega arith;
       counts = rw most (d.widened.within (most_edits f) w.counts);
+      kept = rw same (stays_kept f.filter f.mirror g.mirror _ w.kept d.applied);
       timed = rw timed (λ none. absurd (let bad : Some last ≡ None = none in cc), λ zero_is. absurd (omega arith));
       time = rw (timed, d.time) (timed_one (sequence_in f.holding g.holding.reached) first.time (w.times g.holding.reached) positive);
       reached = sym at;

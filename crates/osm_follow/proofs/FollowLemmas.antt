@@ -5,6 +5,7 @@ use Rattle.std.proofs.lemmas.Bool.{cases_eq, cases_lt, eq-eqb, ne_eqb, or_left, 
 use Rattle.std.specs.Option.{option_map_or}
 use Rattle.std.specs.Prelude.{◌==◌, ◌||◌, if◌then◌else◌, Result, Ok, Err, is_some}
 use Rattle.osm_model.specs.Change.{ChangeValue}
+use Rattle.osm_model.specs.Filter.{FilterValue}
 use Rattle.osm_state.specs.StateText.{StateOf}
 use Rattle.osm_follow.specs.Delivery as table
 use Rattle.osm_follow.specs.Follower.{FollowerValue, Follows, IsState, changes_held, held_at, is_held}
@@ -20,22 +21,24 @@ use Rattle.osm_mirror.proofs.MirrorLemmas.{mirror_grown}
 use Rattle.osm_follow.proofs.PublishedLemmas.{after_next, after_run, after_within, changes_within, sequence_within, time_within, time_next}
 
 -- above its number a follower holds exactly what was accepted
-pub held_accepted : (ps : List PublishedValue) (base start : ℕ) (acc : ℕ → Bool) (f : FollowerValue) → IsState ps base start acc f
+pub held_accepted : (by : FilterValue) (ps : List PublishedValue) (base start : ℕ) (acc : ℕ → Bool) (f : FollowerValue) → IsState by ps base start acc f
     → (j : ℕ) → f.number < j → is_held f j ≡ acc j
-held_accepted ps base start acc f s j past = ap is_some (s.held j past) ∙ by_test (acc j)
+held_accepted by ps base start acc f s j past = ap is_some (s.held j past) ∙ by_test (acc j)
   where
     by_test : (b : Bool) → is_some (if b then Some (sequence_at ps j) else None) ≡ b
     by_test true = refl
     by_test false = refl
 
 -- so the held numbers reach as far as the accepted ones
-pub reaches_accepted : (ps : List PublishedValue) (base start : ℕ) (acc : ℕ → Bool) (f : FollowerValue) (k high : ℕ)
-    → IsState ps base start acc f → f.number < k → Reaches (is_held f) k high → Reaches acc k high
-reaches_accepted ps base start acc f k high s above r = reaches_same (is_held f) acc k high (λ j past. held_accepted ps base start acc f s j (omega arith)) r
+pub reaches_accepted : (by : FilterValue) (ps : List PublishedValue) (base start : ℕ) (acc : ℕ → Bool) (f : FollowerValue) (k high : ℕ)
+    → IsState by ps base start acc f → f.number < k → Reaches (is_held f) k high → Reaches acc k high
+reaches_accepted by ps base start acc f k high s above r =
+    reaches_same (is_held f) acc k high (λ j past. held_accepted by ps base start acc f s j (omega arith)) r
 
-pub reaches_held : (ps : List PublishedValue) (base start : ℕ) (acc : ℕ → Bool) (f : FollowerValue) (k high : ℕ)
-    → IsState ps base start acc f → f.number < k → Reaches acc k high → Reaches (is_held f) k high
-reaches_held ps base start acc f k high s above r = reaches_same acc (is_held f) k high (λ j past. sym (held_accepted ps base start acc f s j (omega arith))) r
+pub reaches_held : (by : FilterValue) (ps : List PublishedValue) (base start : ℕ) (acc : ℕ → Bool) (f : FollowerValue) (k high : ℕ)
+    → IsState by ps base start acc f → f.number < k → Reaches acc k high → Reaches (is_held f) k high
+reaches_held by ps base start acc f k high s above r =
+    reaches_same acc (is_held f) k high (λ j past. sym (held_accepted by ps base start acc f s j (omega arith))) r
 
 -- a number for which nothing is held
 none_held : (f : FollowerValue) (j : ℕ) → ((p : PublishedValue) → held_at f j ≡ Some p → ⊥) → held_at f j ≡ None
@@ -75,12 +78,13 @@ pub follows_held : (ps : List PublishedValue) (k : ℕ) (f g : FollowerValue) �
 follows_held ps k f g s early within there number h =
     let same : g.number ≡ f.number = ap (λ (x : FollowerValue). x.number) h.rest in
     let base : g.base ≡ f.base = ap (λ (x : FollowerValue). x.base) h.rest in
+    let by : g.filter ≡ f.filter = ap (λ (x : FollowerValue). x.filter) h.rest in
     let mirror : g.mirror ≡ f.mirror = ap (λ (x : FollowerValue). x.mirror) h.rest in
     let time : g.time ≡ f.time = ap (λ (x : FollowerValue). x.time) h.rest in
     record {
       base = rw (same, base) s.base;
       within = rw same s.within;
-      mirror = rw (same, base, mirror) s.mirror;
+      mirror = rw (same, base, by, mirror) s.mirror;
       time = rw (same, time) s.time;
       held = λ j p e. elim (cases_eq j k) [
         | inl is ↦ (let here : held_at g k ≡ Some (sequence_at ps k) = rw number at h.here in
@@ -123,7 +127,7 @@ follows_taken ps k high f g s next there number t =
     record {
       base = rw (t.number, t.base) (let from_it : k ≤ high = from in omega arith);
       within = rw t.number within;
-      mirror = rw (t.number, t.base, joined 0 (omega arith), joined f.base s.base) (mirror_grown f.mirror g.mirror
+      mirror = rw (t.number, t.base, t.same_filter, joined 0 (omega arith), joined f.base s.base) (mirror_grown f.filter f.mirror g.mirror
           (changes_up_to ps f.number) (changes_after ps f.base f.number)
           (changes_at ps k ++ between (changes_held f) k t.count) s.mirror (rw number at t.applied));
       time = t.time ∙ (ap (λ (n : ℕ). Some n) time ∙ rw t.number (sym (time_next ps (high - 1) high (omega arith))));
@@ -139,14 +143,15 @@ follows_taken ps k high f g s next there number t =
     }
 
 -- what a follower is after it has accepted one more number
-state_parts : (ps : List PublishedValue) (base start : ℕ) (acc more : ℕ → Bool) (k : ℕ) (f g : FollowerValue)
-    → IsState ps base start acc f → g.base ≡ f.base → ((j : ℕ) → more j ≡ ((k == j) || acc j)) → f.number < k → Follows ps g
+state_parts : (by : FilterValue) (ps : List PublishedValue) (base start : ℕ) (acc more : ℕ → Bool) (k : ℕ) (f g : FollowerValue)
+    → IsState by ps base start acc f → g.base ≡ f.base → g.filter ≡ f.filter → ((j : ℕ) → more j ≡ ((k == j) || acc j)) → f.number < k → Follows ps g
     → f.number ≤ g.number → ((j : ℕ) → f.number < j → j ≤ g.number → more j ≡ true) → more (g.number + 1) ≡ false
     → ((j : ℕ) → g.number < j → held_at g j ≡ (if more j then Some (sequence_at ps j) else None))
-    → IsState ps base start more g
-state_parts ps base start acc more k f g s same is above follows onward all next held =
+    → IsState by ps base start more g
+state_parts by ps base start acc more k f g s same by_it is above follows onward all next held =
     let from = s.reach.from in
     record {
+      filter_is = by_it ∙ s.filter_is;
       base_is = same ∙ s.base_is;
       reach = record {
         from = omega arith;
@@ -167,12 +172,13 @@ more_here acc more k j is same = is j ∙ or_left (k == j) (acc j) (eq-eqb k j s
 more_other : (acc more : ℕ → Bool) (k j : ℕ) → ((i : ℕ) → more i ≡ ((k == i) || acc i)) → (k ≡ j → ⊥) → more j ≡ acc j
 more_other acc more k j is apart = is j ∙ ap (λ (b : Bool). b || acc j) (ne_eqb k j apart)
 
-pub state_held : (ps : List PublishedValue) (base start : ℕ) (acc more : ℕ → Bool) (k : ℕ) (f g : FollowerValue)
-    → IsState ps base start acc f → ((j : ℕ) → more j ≡ ((k == j) || acc j)) → f.number + 1 < k → k ≤ f.number + 64
-    → k ≤ length ps → (sequence_at ps k).number ≡ k → table.Holds f (sequence_at ps k) g → IsState ps base start more g
-state_held ps base start acc more k f g s is early within there number h =
+pub state_held : (by : FilterValue) (ps : List PublishedValue) (base start : ℕ) (acc more : ℕ → Bool) (k : ℕ) (f g : FollowerValue)
+    → IsState by ps base start acc f → ((j : ℕ) → more j ≡ ((k == j) || acc j)) → f.number + 1 < k → k ≤ f.number + 64
+    → k ≤ length ps → (sequence_at ps k).number ≡ k → table.Holds f (sequence_at ps k) g → IsState by ps base start more g
+state_held by ps base start acc more k f g s is early within there number h =
     let same : g.number ≡ f.number = ap (λ (x : FollowerValue). x.number) h.rest in
-    state_parts ps base start acc more k f g s (ap (λ (x : FollowerValue). x.base) h.rest) is (omega arith)
+    state_parts by ps base start acc more k f g s (ap (λ (x : FollowerValue). x.base) h.rest)
+    (ap (λ (x : FollowerValue). x.filter) h.rest) is (omega arith)
     (follows_held ps k f g s.follows early within there number h) (omega arith)
     (λ j above below. absurd (omega arith))
     (rw same (more_other acc more k (f.number + 1) is (λ e. omega arith) ∙ s.reach.next))
@@ -184,14 +190,15 @@ state_held ps base start acc more k f g s is early within there number h =
           rw was (h.others j (λ d. apart (sym (d ∙ number))) ∙ s.held j (omega arith)))
     ])
 
-pub state_taken : (ps : List PublishedValue) (base start : ℕ) (acc more : ℕ → Bool) (k high : ℕ) (f g : FollowerValue)
-    → IsState ps base start acc f → ((j : ℕ) → more j ≡ ((k == j) || acc j)) → k ≡ f.number + 1 → k ≤ length ps
-    → (sequence_at ps k).number ≡ k → table.Takes f (sequence_at ps k) high g → IsState ps base start more g
-state_taken ps base start acc more k high f g s is next there number t =
-    let reach : Reaches acc k high = reaches_accepted ps base start acc f k high s (omega arith) (rw number at t.reach) in
+pub state_taken : (by : FilterValue) (ps : List PublishedValue) (base start : ℕ) (acc more : ℕ → Bool) (k high : ℕ) (f g : FollowerValue)
+    → IsState by ps base start acc f → ((j : ℕ) → more j ≡ ((k == j) || acc j)) → k ≡ f.number + 1 → k ≤ length ps
+    → (sequence_at ps k).number ≡ k → table.Takes f (sequence_at ps k) high g → IsState by ps base start more g
+state_taken by ps base start acc more k high f g s is next there number t =
+    let reach : Reaches acc k high = reaches_accepted by ps base start acc f k high s (omega arith) (rw number at t.reach) in
     let from = reach.from in
     let at : g.number ≡ high = t.number in
-    state_parts ps base start acc more k f g s t.base is (omega arith) (follows_taken ps k high f g s.follows next there number t) (omega arith)
+    state_parts by ps base start acc more k f g s t.base t.same_filter is (omega arith)
+    (follows_taken ps k high f g s.follows next there number t) (omega arith)
     (λ j above below. elim (cases_eq k j) [
       | inl here ↦ more_here acc more k j is here
       | inr apart ↦ more_other acc more k j is apart ∙ reach.all j (omega arith) (omega arith)
@@ -229,3 +236,18 @@ follows_kept spells fp one apart ps f g k state bytes answer each s above there 
     by_answer (Ok Again) w t = same t.3
     by_answer (Ok Held) w t = follows_held ps k f g s (rw number at t.1) (rw number at t.0.within) there number t.2
     by_answer (Ok (Applied low high)) w t = follows_taken ps k high f g s (sym number ∙ t.1) there number t.3
+
+-- no answer changes the filter
+pub delivers_under_it : (spells : table.Spelling) (fault_place : table.FaultPlaces) (f g : FollowerValue) (state bytes : List ℕ)
+    (answer : Result Delivered DeliverError) → table.Delivers spells fault_place f state bytes answer g → g.filter ≡ f.filter
+delivers_under_it spells fp f g state bytes (Ok Held) d = ap (λ (x : FollowerValue). x.filter) d.6.rest
+delivers_under_it spells fp f g state bytes (Ok (Applied low high)) d = d.7.same_filter
+delivers_under_it spells fp f g state bytes (Ok Old) d = ap (λ (x : FollowerValue). x.filter) d.1
+delivers_under_it spells fp f g state bytes (Ok Again) d = ap (λ (x : FollowerValue). x.filter) d.1
+delivers_under_it spells fp f g state bytes (Err Broke) d = ap (λ (x : FollowerValue). x.filter) d.6.rest
+delivers_under_it spells fp f g state bytes (Err (BadChange e)) d = ap (λ (x : FollowerValue). x.filter) d.3
+delivers_under_it spells fp f g state bytes (Err WantOfMemory) d = ap (λ (x : FollowerValue). x.filter) d.4
+delivers_under_it spells fp f g state bytes (Err Broken) d = ap (λ (x : FollowerValue). x.filter) d.1
+delivers_under_it spells fp f g state bytes (Err (BadState e)) d = ap (λ (x : FollowerValue). x.filter) d.1
+delivers_under_it spells fp f g state bytes (Err BadSequence) d = ap (λ (x : FollowerValue). x.filter) d.1
+delivers_under_it spells fp f g state bytes (Err TooEarly) d = ap (λ (x : FollowerValue). x.filter) d.1

@@ -38,17 +38,18 @@ pub record Holds (f : FollowerValue) (p : PublishedValue) (g : FollowerValue) : 
   pub others : (j : ℕ) → j ≢ p.number → held_at g j ≡ held_at f j
   pub rest : g ≡ record f { holding = g.holding }
 
--- the sequence was applied, and after it those that were held, in the order of their numbers, up to
--- the greatest number that is reached without a gap
+-- the sequence was applied under the follower's filter, and after it those that were held, in the
+-- order of their numbers, up to the greatest number that is reached without a gap
 pub record Takes (f : FollowerValue) (p : PublishedValue) (high : ℕ) (g : FollowerValue)
     : Type 0 where
   pub count : ℕ
   pub high_is : high ≡ p.number + count
   pub reach : Reaches (is_held f) p.number high
   pub applied :
-      Applies f.mirror (p.changes ++ between (changes_held f) p.number count) g.mirror
+      Applies f.filter f.mirror (p.changes ++ between (changes_held f) p.number count) g.mirror
   pub number : g.number ≡ high
   pub base : g.base ≡ f.base
+  pub same_filter : g.filter ≡ f.filter
   pub time : g.time ≡ Some (time_in f.holding high p.time)
   pub whole : g.is_broken ≡ false
   pub gone : (j : ℕ) → j ≤ high → held_at g j ≡ None
@@ -60,7 +61,7 @@ pub record Breaks (f : FollowerValue) (p : PublishedValue) (g : FollowerValue) :
   pub count : ℕ
   pub high_is : high ≡ p.number + count
   pub reach : Reaches (is_held f) p.number high
-  pub needs : NeedsMemory f.mirror (p.changes ++ between (changes_held f) p.number count)
+  pub needs : NeedsMemory f.filter f.mirror (p.changes ++ between (changes_held f) p.number count)
   pub rest : g ≡ record f { mirror = g.mirror; holding = g.holding; is_broken = true }
 
 -- the answers that are given before the bytes are read, and when: they depend on the follower and

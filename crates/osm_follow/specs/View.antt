@@ -6,6 +6,7 @@ use Rattle.std.specs.Ordering.{nat_cmp}
 use Rattle.osm_holding.specs.Holding.{numbers_of}
 use Rattle.osm_follow.specs.Follower.{FollowerValue}
 use Rattle.osm_mirror.specs.Mirror.{MirrorValue, HoldsSome, IsMirrorOf}
+use Rattle.osm_model.specs.Filter.{FilterValue}
 use Rattle.osm_follow.specs.Published.{PublishedValue, changes_after, changes_up_to, time_at}
 use Rattle.osm_follow.specs.Reach.{Reaches}
 use Rattle.osm_follow.specs.declared.view.ViewError.{ViewError}
@@ -34,16 +35,16 @@ ViewRefused f Broken = f.is_broken ≡ true
 ViewRefused f WantOfMemory =
     (f.is_broken ≡ false) × (HoldsSome f.mirror ⊎ (0 < length (numbers_of f.holding)))
 
--- the view of a follower with that base, which started at `start` and accepted those of the
--- published numbers: the objects are in the order of their keys, users and changesets rise and have
--- counts above 0, and the held numbers rise
-pub record IsView (published : List PublishedValue) (base start : ℕ) (is_accepted : ℕ → Bool)
-    (v : ViewValue) : Type 0 where
+-- the view of a follower with that filter and that base, which started at `start` and accepted
+-- those of the published numbers: the objects are those that the filter keeps, in the order of
+-- their keys, users and changesets rise and have counts above 0, and the held numbers rise
+pub record IsView (given : FilterValue) (published : List PublishedValue) (base start : ℕ)
+    (is_accepted : ℕ → Bool) (v : ViewValue) : Type 0 where
   pub base_is : v.base ≡ base
   pub below : base ≤ v.number
   pub reach : Reaches is_accepted start v.number
   pub time : v.time ≡ time_at published v.number
-  pub mirror :
-      IsMirrorOf (changes_up_to published v.number) (changes_after published base v.number) v.mirror
+  pub mirror : IsMirrorOf given (changes_up_to published v.number)
+      (changes_after published base v.number) v.mirror
   pub rising : IsStrictlySortedBy nat_cmp v.held
   pub held : (j : ℕ) → Contains v.held j ↔ ((v.number < j) × (is_accepted j ≡ true))

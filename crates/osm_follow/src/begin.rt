@@ -1,12 +1,16 @@
 //! How a follower begins with the objects of a mirror.
 
-ghost use Rattle.std.specs.Prelude.{◌≡◌, [], IfOk};
-ghost use Rattle.osm_model.specs.Data.{IsData};
+ghost use Rattle.std.specs.Prelude.{◌≡◌, [], ◌∷◌, ◌++◌, IfOk, OnOk};
+ghost use Rattle.osm_mirror.specs.Mirror.{AreRising};
+ghost use Rattle.osm_model.specs.Data.{IsData, IsLeft};
+ghost use Rattle.osm_model.specs.Filter.{AreKept};
+ghost use Rattle.osm_follow.specs.Begin.{kept_objects};
 
 use osm_mirror::counts::Counts;
 use osm_mirror::mirror::Mirror;
 use osm_mirror::objects::Objects;
 use osm_model::change::Change;
+use osm_model::filter::Filter;
 use osm_model::memory::WantOfMemory;
 use std::alloc::Global;
 use thiserror::Error;
@@ -26,15 +30,37 @@ pub enum BeginError {
     WantOfMemory,
 }
 
-/// The mirror of these objects, with no edits counted.
-pub(crate) fn mirror_of(alloc: Global, objects: Vec<Change>) -> Result<Mirror, WantOfMemory>
+/// The mirror of those of the objects that the filter keeps, with no edits counted.
+pub(crate) fn mirror_of(
+    alloc: Global,
+    filter: &Filter,
+    objects: Vec<Change>,
+) -> Result<Mirror, WantOfMemory>
     requires { IsData objects.items }
-    ensures { IfOk result (λ m. m
-        ≡ record { objects = objects.items; users = []; changesets = [] }) }
+    ensures mirror { IfOk result (λ m. m ≡ record {
+      objects = kept_objects filter.now objects.items;
+      users = [];
+      changesets = [];
+    }) }
+    ensures kept { IfOk result (λ m. AreKept filter.now m.objects) }
 {
     let mut kept = Objects::new(alloc);
     for object in objects {
-        kept.push(object)?;
+        let Ok(()) = add(&mut kept, filter, object) else {
+            return Err(WantOfMemory);
+        };
     }
     Ok(Mirror::from_parts(kept, Counts::new(alloc), Counts::new(alloc)))
+}
+
+// Adds an object whose key is above all others, if the filter keeps it.
+fn add(kept: &mut Objects, filter: &Filter, object: Change) -> Result<(), WantOfMemory>
+    requires rising { AreRising (kept.old ++ object ∷ []) }
+    requires is_left { IsLeft object }
+    ensures { OnOk result (kept.new ≡ kept.old ++ kept_objects filter.now (object ∷ [])) }
+{
+    if filter.keeps(&object) {
+        kept.push(object)?;
+    }
+    Ok(())
 }

@@ -7,17 +7,21 @@ ghost use Rattle.std.specs.Option.{option_map};
 ghost use Rattle.std.specs.List.Sorted.{IsStrictlySortedBy};
 ghost use Rattle.std.specs.Ordering.{nat_cmp};
 ghost use Rattle.osm_model.specs.Data.{IsData};
+ghost use Rattle.osm_model.specs.Filter.{AreKept, IsFilter, everything};
 ghost use Rattle.osm_model.specs.Limits.{max_sequence};
 ghost use Rattle.osm_follow.specs.Begin.{Begins, begun_of};
 ghost use Rattle.osm_follow.specs.Delivery.{AnswersUnread, Delivers, Holds, IsDue, sequence_of};
 ghost use Rattle.osm_follow.specs.Follower.{held_at, is_held, most_edits, new_follower};
+ghost use Rattle.osm_follow.specs.Follower.{new_follower_of};
 ghost use Rattle.osm_follow.specs.Lag.{Lags, MissingRefused};
 ghost use Rattle.osm_holding.specs.Holding.{window};
 ghost use Rattle.osm_mirror.specs.Mirror.{IsOrderly, IsWithin, count_at, no_mirror, object_at};
 ghost use Rattle.osm_save.specs.Head.{IsTimeOf, head_of, most_counted};
 ghost use Rattle.osm_save.specs.Save.{SpellsSave};
 ghost use Rattle.osm_follow.specs.Reach.{missing_numbers};
-ghost use Rattle.osm_follow.specs.Restart.{Restarts, SavingRefused, follower_of, saved_of};
+ghost use Rattle.osm_save.specs.declared.save.Saved.{Saved};
+ghost use Rattle.osm_follow.specs.Restart.{ReadingRefused, Restarts, SavingRefused};
+ghost use Rattle.osm_follow.specs.Restart.{follower_of, saved_of};
 ghost use Rattle.osm_follow.specs.Steps.Taking.{TakeAnswers};
 ghost use Rattle.osm_follow.specs.View.{ViewRefused, view_of};
 ghost use Rattle.osm_follow.specs.declared.delivery.Delivered.{Delivered};
@@ -34,6 +38,7 @@ use osm_mirror::mirror::Mirror;
 use osm_model::batch::Batch;
 use osm_model::change::Change;
 use osm_model::data::first_fault;
+use osm_model::filter::{Filter, laws_of_filters};
 use osm_model::form::{ChangeForm, FormError};
 use osm_model::kind::Key;
 use osm_model::memory::WantOfMemory;
@@ -45,16 +50,17 @@ use std::alloc::{AllocError, Global};
 use std::marker::Model;
 use thiserror::Error;
 
-/// The mirror of sequences 1 to the follower's number, the counts of edits of those after its base,
-/// and those of the next 64 that came early.
+/// What the filter keeps of the mirror of sequences 1 to the follower's number, the counts of all
+/// edits of those after its base, and those of the next 64 that came early.
 ///
-/// A follower is broken after an application ran out of memory part-way, or a restart was refused.
-/// A broken follower shows nothing of its mirror until it is restarted.
+/// The filter never changes. A follower is broken after an application ran out of memory part-way,
+/// or a restart was refused. A broken follower shows nothing of its mirror until it is restarted.
 #[derive(Debug, Drop)]
 pub struct Follower {
     number: u32,
     base: u32,
     time: Option<u32>,
+    filter: Filter,
     mirror: Mirror,
     holding: HoldingArea,
     is_broken: bool,
@@ -69,6 +75,7 @@ impl Model for Follower {
       number = a.number;
       base = a.base;
       time = a.time;
+      filter = a.filter;
       mirror = a.mirror;
       holding = a.holding;
       is_broken = a.is_broken;
@@ -78,6 +85,7 @@ impl Model for Follower {
       number = a.number;
       base = a.base;
       time = a.time;
+      filter = a.filter;
       mirror = a.mirror;
       holding = a.holding;
       is_broken = a.is_broken;
@@ -90,16 +98,25 @@ impl Model for Follower {
 pub struct Broken;
 
 impl Follower {
-    /// A follower at sequence 0, with an empty mirror and nothing held. Takes all the memory that
-    /// its holding area ever needs.
+    /// A follower of all objects at sequence 0, with an empty mirror and nothing held. Takes all
+    /// the memory that its holding area ever needs.
     pub fn new(alloc: Global) -> Result<Follower, WantOfMemory>
         ensures new { IfOk result (λ f. f ≡ new_follower) }
     {
+        Follower::with_filter(alloc, Filter::all(alloc))
+    }
+
+    /// A new follower of the objects that the filter keeps.
+    pub fn with_filter(alloc: Global, filter: Filter) -> Result<Follower, WantOfMemory>
+        ensures new { IfOk result (λ f. f ≡ new_follower_of filter) }
+    {
         let holding = HoldingArea::new(alloc, 0)?;
+        filter.limits();
         Ok(Follower {
             number: 0,
             base: 0,
             time: None,
+            filter,
             mirror: Mirror::new(alloc),
             holding,
             is_broken: false,
@@ -109,7 +126,22 @@ impl Follower {
     /// A follower that begins with the objects of a mirror, and counts the edits of the sequences
     /// after it. Its number, its base and its time are the state's, and nothing is held.
     pub fn begin(alloc: Global, state: &State, objects: Vec<Change>) -> Result<Follower, BeginError>
-        ensures { Begins state.now objects.items result }
+        ensures begins { Begins everything state.now objects.items result }
+        ensures all { IfOk result (λ f. f.mirror.objects ≡ objects.items) }
+    {
+        Follower::begin_with(alloc, Filter::all(alloc), state, objects)
+    }
+
+    /// A follower that begins with those objects of a mirror that the filter keeps, and counts all
+    /// edits of the sequences after it. The objects are the whole mirror's, or at least those of it
+    /// that the filter keeps.
+    pub fn begin_with(
+        alloc: Global,
+        filter: Filter,
+        state: &State,
+        objects: Vec<Change>,
+    ) -> Result<Follower, BeginError>
+        ensures { Begins filter state.now objects.items result }
     {
         if state.sequence() == 0 {
             return Err(BeginError::BadSequence);
@@ -117,7 +149,7 @@ impl Follower {
         if let Some(index) = first_fault(objects.as_slice()) {
             return Err(BeginError::NotData { index });
         }
-        match begun(alloc, state, objects) {
+        match begun(alloc, filter, state, objects) {
             Ok(follower) => Ok(follower),
             Err(WantOfMemory) => Err(BeginError::WantOfMemory),
         }
@@ -209,7 +241,8 @@ impl Follower {
     {
         let low = state.sequence();
         let time = state.time();
-        let Ok(last) = drain(&mut self.mirror, &mut self.holding, Held { batch, time }) else {
+        let first = Held { batch, time };
+        let Ok(last) = drain(&self.filter, &mut self.mirror, &mut self.holding, first) else {
             self.is_broken = true;
             return Err(DeliverError::Broke);
         };
@@ -225,6 +258,14 @@ impl Follower {
         ensures { result ≡ self.now.is_broken }
     {
         self.is_broken
+    }
+
+    /// The filter, whether the follower is broken or not.
+    pub fn filter(&self) -> &Filter
+        ensures filter { result.now ≡ self.now.filter }
+        ensures limits { IsFilter self.now.filter }
+    {
+        &self.filter
     }
 
     /// The number of the last sequence that was applied, or that the follower began with; 0 before
@@ -401,7 +442,7 @@ impl Follower {
         if self.is_broken {
             return Err(ViewError::Broken);
         }
-        match save_write(alloc, self.head(), &self.mirror) {
+        match save_write(alloc, self.head(), &self.filter, &self.mirror) {
             Ok(text) => Ok(text),
             Err(_) => Err(ViewError::WantOfMemory),
         }
@@ -418,21 +459,21 @@ impl Follower {
         }
     }
 
-    /// Restarts from a save text, or, if there is none, from sequence 0, which takes no memory and
-    /// always succeeds. The old mirror and all that is held are dropped before the text is read.
-    /// A broken follower can be restarted too.
+    /// Restarts from a text that was saved under the follower's filter, or, if there is none, from
+    /// sequence 0, which takes no memory and always succeeds. The old mirror and all that is held
+    /// are dropped before the text is read. A broken follower can be restarted too.
     pub fn restart(&mut self, alloc: Global, saved: Option<&[u8]>) -> Result<(), RestartError>
         ensures { Restarts self.old (option_map (λ text. text.now) saved.entry) result self.new }
     {
         self.drop_all(alloc);
         match saved {
             None => {
-                self.go_on(Saved {
+                let start = Head {
                     number: 0,
                     base: 0,
                     time: None,
-                    mirror: Mirror::new(alloc),
-                });
+                };
+                self.go_on(start, Mirror::new(alloc));
                 Ok(())
             }
             Some(text) => self.read(alloc, text),
@@ -456,46 +497,115 @@ impl Follower {
         requires { self.old.is_broken ≡ true }
         ensures { Restarts self.old (Some text.now) result self.new }
     {
-        match save_read(alloc, text) {
-            Ok(saved) => {
-                self.go_on(saved);
-                Ok(())
-            }
-            Err(SaveError::BadSave { line }) => Err(RestartError::BadSave { line }),
-            Err(SaveError::WantOfMemory) => Err(RestartError::WantOfMemory),
+        let Saved {
+            number,
+            base,
+            time,
+            filter,
+            mirror,
+        } = read_saved(alloc, text)?;
+        if !are_same(&filter, &self.filter) {
+            return Err(RestartError::OtherFilter);
         }
+        self.go_on(Head { number, base, time }, mirror);
+        Ok(())
     }
 
-    // Continues from what was saved, not broken, and with nothing held.
-    fn go_on(&mut self, saved: Saved)
-        requires most { saved.number ≤ max_sequence }
-        requires base { saved.base ≤ saved.number }
-        requires time { IsTimeOf saved.number saved.time }
-        requires within { IsWithin (most_counted (head_of saved)) saved.mirror }
-        ensures { self.new ≡ follower_of saved }
+    // Continues from what was saved under the follower's filter, not broken, and with nothing held.
+    fn go_on(&mut self, head: Head, mirror: Mirror)
+        requires most { head.number ≤ max_sequence }
+        requires base { head.base ≤ head.number }
+        requires time { IsTimeOf head.number head.time }
+        requires within { IsWithin (most_counted head) mirror }
+        requires kept { AreKept self.old.filter mirror.objects }
+        ensures { self.new ≡ follower_of (record {
+          number = head.number;
+          base = head.base;
+          time = head.time;
+          filter = self.old.filter;
+          mirror = mirror;
+        }) }
     {
-        self.holding.reset(saved.number);
-        self.number = saved.number;
-        self.base = saved.base;
-        self.time = saved.time;
-        self.mirror = saved.mirror;
+        self.holding.reset(head.number);
+        self.number = head.number;
+        self.base = head.base;
+        self.time = head.time;
+        self.mirror = mirror;
         self.is_broken = false;
+    }
+
+    /// The follower that continues from a save text, under the filter that it was saved under, with
+    /// nothing held.
+    pub fn from_save(alloc: Global, text: &[u8]) -> Result<Follower, RestartError>
+        ensures saved { IfOk result (λ f.
+            (v : Saved) × SpellsSave text.now v × (f ≡ follower_of v)) }
+        ensures refused { IfErr result (ReadingRefused text.now) }
+    {
+        let saved = read_saved(alloc, text)?;
+        let Ok(holding) = HoldingArea::new(alloc, saved.number) else {
+            return Err(RestartError::WantOfMemory);
+        };
+        Ok(Follower {
+            number: saved.number,
+            base: saved.base,
+            time: saved.time,
+            filter: saved.filter,
+            mirror: saved.mirror,
+            holding,
+            is_broken: false,
+        })
     }
 }
 
-// The follower that begins with these objects.
-fn begun(alloc: Global, state: &State, objects: Vec<Change>) -> Result<Follower, WantOfMemory>
+/// The filter that a text was saved under. All of the text is read.
+pub fn saved_filter(alloc: Global, text: &[u8]) -> Result<Filter, RestartError>
+    ensures filter { IfOk result (λ f. (v : Saved) × SpellsSave text.now v × (v.filter ≡ f)) }
+    ensures refused { IfErr result (ReadingRefused text.now) }
+{
+    let saved = read_saved(alloc, text)?;
+    Ok(saved.filter)
+}
+
+// Whether two filters are equal.
+fn are_same(filter: &Filter, other: &Filter) -> bool
+    ensures { IsTrue result ↔ (filter.now ≡ other.now) }
+{
+    laws_of_filters();
+    filter == other
+}
+
+// What a text saves.
+fn read_saved(alloc: Global, text: &[u8]) -> Result<Saved, RestartError>
+    ensures spelled { IfOk result (λ saved. SpellsSave text.now saved) }
+    ensures refused { IfErr result (ReadingRefused text.now) }
+{
+    match save_read(alloc, text) {
+        Ok(saved) => Ok(saved),
+        Err(SaveError::BadSave { line }) => Err(RestartError::BadSave { line }),
+        Err(SaveError::WantOfMemory) => Err(RestartError::WantOfMemory),
+    }
+}
+
+// The follower with that filter that begins with these objects.
+fn begun(
+    alloc: Global,
+    filter: Filter,
+    state: &State,
+    objects: Vec<Change>,
+) -> Result<Follower, WantOfMemory>
     requires above { 0 < state.now.sequence }
     requires data { IsData objects.items }
-    ensures { IfOk result (λ f. f ≡ begun_of state.now objects.items) }
+    ensures { IfOk result (λ f. f ≡ begun_of filter state.now objects.items) }
 {
-    let mirror = mirror_of(alloc, objects)?;
+    filter.limits();
+    let mirror = mirror_of(alloc, &filter, objects)?;
     let number = state.sequence();
     let holding = HoldingArea::new(alloc, number)?;
     Ok(Follower {
         number,
         base: number,
         time: Some(state.time()),
+        filter,
         mirror,
         holding,
         is_broken: false,

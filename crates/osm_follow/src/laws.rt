@@ -1,7 +1,14 @@
-//! Laws of deliveries and of restarts, which hold whatever the code does.
+//! Laws of beginnings, of deliveries and of restarts, which hold whatever the code does.
 
-ghost use Rattle.std.specs.Prelude.{◌≡◌, ◌⊎◌, ℕ, ◌<◌, ◌≤◌, List, length, Some, Result, Ok, Err};
+ghost use Rattle.std.specs.Prelude.{◌≡◌, ◌≢◌, ◌⊎◌, ℕ, ◌<◌, ◌≤◌, List, length, Option, Some};
+ghost use Rattle.std.specs.Prelude.{Result, Ok, Err};
+ghost use Rattle.osm_model.specs.Change.{ChangeValue};
+ghost use Rattle.osm_model.specs.Data.{IsData};
+ghost use Rattle.osm_model.specs.Filter.{AreKept, FilterValue, everything, kept};
+ghost use Rattle.osm_model.specs.declared.kind.Key.{Key};
+ghost use Rattle.osm_mirror.specs.Mirror.{object_at};
 ghost use Rattle.osm_state.specs.StateText.{StateOf};
+ghost use Rattle.osm_follow.specs.Begin.{kept_objects};
 ghost use Rattle.osm_follow.specs.Delivery.{Delivers};
 ghost use Rattle.osm_follow.specs.Follower.{FollowerValue, Follows};
 ghost use Rattle.osm_follow.specs.Published.{AreSequences, PublishedValue, changes_at, sequence_at};
@@ -15,9 +22,23 @@ use osm_model::form::ChangeForm;
 use osm_save::save::laws_of_saves;
 use osm_state::laws::laws_of_state;
 
+/// What a follower begins with: the objects that its filter keeps are exactly what is kept of them
+/// by key, and all of them if all are kept, as they are by the filter of all objects. Does nothing
+/// at run time.
+pub fn laws_of_beginnings()
+    ensures at { (f : FilterValue) (objects : List ChangeValue) → IsData objects
+        → (k : Key) → object_at (kept_objects f objects) k ≡ kept f (object_at objects) k }
+    ensures kept { (f : FilterValue) (objects : List ChangeValue)
+        → AreKept f (kept_objects f objects) }
+    ensures all { (f : FilterValue) (objects : List ChangeValue)
+        → AreKept f objects → kept_objects f objects ≡ objects }
+    ensures everything { (objects : List ChangeValue) → IsData objects
+        → AreKept everything objects }
+{}
+
 /// A follower that follows what was published still does after a delivery of any text that names a
 /// published sequence with its time, and of any bytes that spell its changes, except after the
-/// answer `Broke`. Does nothing at run time.
+/// answer `Broke`. No delivery changes the filter. Does nothing at run time.
 pub fn laws_of_deliveries<F: ChangeForm>()
     ensures follows { (published : List PublishedValue) (f g : FollowerValue) (k : ℕ)
         (state bytes : List ℕ) (answer : Result Delivered DeliverError)
@@ -26,19 +47,33 @@ pub fn laws_of_deliveries<F: ChangeForm>()
         → F.spells bytes (changes_at published k)
         → Delivers F.spells F.fault_place f state bytes answer g
         → (answer ≡ Err DeliverError.Broke → ⊥) → Follows published g }
+    ensures same_filter { (f g : FollowerValue) (state bytes : List ℕ)
+        (answer : Result Delivered DeliverError)
+        → Delivers F.spells F.fault_place f state bytes answer g → g.filter ≡ f.filter }
 {
     F::laws();
     laws_of_state();
 }
 
-/// A follower that is restarted from the text that another saved has the other's number, time and
-/// mirror, and holds nothing, unless memory was refused. Does nothing at run time.
+/// A follower that is restarted from the text that another with an equal filter saved has the
+/// other's number, time and mirror, and holds nothing, unless memory was refused. From the text of
+/// a follower with another filter it isn't restarted. No restart changes the filter. Does nothing
+/// at run time.
 pub fn laws_of_restarts()
     ensures as_saved { (saved f g : FollowerValue) (text : List ℕ)
         (answer : Result (Unit {0}) RestartError)
-        → SpellsSave text (saved_of saved) → Restarts f (Some text) answer g
+        → SpellsSave text (saved_of saved) → saved.filter ≡ f.filter
+        → Restarts f (Some text) answer g
         → ((answer ≡ Ok tt) × (g ≡ follower_of (saved_of saved)))
         ⊎ (answer ≡ Err RestartError.WantOfMemory) }
+    ensures other_filter { (saved f g : FollowerValue) (text : List ℕ)
+        (answer : Result (Unit {0}) RestartError)
+        → SpellsSave text (saved_of saved) → saved.filter ≢ f.filter
+        → Restarts f (Some text) answer g
+        → (answer ≡ Err RestartError.OtherFilter) ⊎ (answer ≡ Err RestartError.WantOfMemory) }
+    ensures same_filter { (f g : FollowerValue) (text : Option (List ℕ))
+        (answer : Result (Unit {0}) RestartError)
+        → Restarts f text answer g → g.filter ≡ f.filter }
 {
     laws_of_saves();
 }

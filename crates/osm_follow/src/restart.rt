@@ -9,6 +9,9 @@ pub enum RestartError {
     /// before it, or one past the last line if the text ends too early.
     #[error("BadSave")]
     BadSave { line: u64 },
+    /// The bytes are the save text of a follower with another filter.
+    #[error("OtherFilter")]
+    OtherFilter,
     /// Memory was refused.
     #[error("WantOfMemory")]
     WantOfMemory,

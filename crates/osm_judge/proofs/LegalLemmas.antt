@@ -7,6 +7,7 @@ use Rattle.std.proofs.lemmas.Bool.{cases_lt}
 use Rattle.std.specs.List.{flat_map, zip}
 use Rattle.std.specs.Prelude.{◌↔◌, IsTrue}
 use Rattle.osm_model.specs.Change.{ChangeValue}
+use Rattle.osm_model.specs.Filter.{FilterValue}
 use Rattle.osm_model.specs.Limits.{max_changes}
 use Rattle.osm_world.specs.History.{History, accepted_of, pending_of, published_of, start_of}
 use Rattle.osm_world.proofs.LegalLemmas.{legal_none, legal_more}
@@ -165,44 +166,47 @@ broke_row h k reached high r number reach told = (
         omega arith
 
 -- a history is legal if its newest reply is allowed, and what came before is legal
-pub legal-nil : (r : Bool) → r ≡ true → IsTrue r ↔ IsLegal []
-legal-nil r is = (λ t. legal_none, λ legal. is)
+pub legal-nil : (f : FilterValue) (r : Bool) → r ≡ true → IsTrue r ↔ IsLegal f []
+legal-nil f r is = (λ t. legal_none f, λ legal. is)
 
-legal_before : (h : History) (e : Event) (r : Reply) → IsLegal ((e, r) ∷ h) → IsLegal h
-legal_before h e r legal = record { each = λ later before d q is. legal.each ((e, r) ∷ later) before d q (ap (λ (p : History). (e, r) ∷ p) is) }
+legal_before : (f : FilterValue) (h : History) (e : Event) (r : Reply) → IsLegal f ((e, r) ∷ h) → IsLegal f h
+legal_before f h e r legal = record { each = λ later before d q is. legal.each ((e, r) ∷ later) before d q (ap (λ (p : History). (e, r) ∷ p) is) }
 
-pub legal-cons : (h : History) (e : Event) (r : Reply) (b : Bool) → IsLegal h → IsTrue b ↔ Allowed h e r → IsTrue b ↔ IsLegal ((e, r) ∷ h)
-legal-cons h e r b before told = (λ t. legal_more h e r before (told.0 t), λ legal. told.1 (legal.each [] h e r refl))
+pub legal-cons : (f : FilterValue) (h : History) (e : Event) (r : Reply) (b : Bool) → IsLegal f h → IsTrue b ↔ Allowed f h e r
+    → IsTrue b ↔ IsLegal f ((e, r) ∷ h)
+legal-cons f h e r b before told = (λ t. legal_more f h e r before (told.0 t), λ legal. told.1 (legal.each [] h e r refl))
 
-pub not_legal : (h : History) (e : Event) (r : Reply) (a b : Bool) → a ≡ false → b ≡ false → IsTrue a ↔ IsLegal h → IsTrue b ↔ IsLegal ((e, r) ∷ h)
-not_legal h e r a b is out told = (
+pub not_legal : (f : FilterValue) (h : History) (e : Event) (r : Reply) (a b : Bool) → a ≡ false → b ≡ false → IsTrue a ↔ IsLegal f h
+    → IsTrue b ↔ IsLegal f ((e, r) ∷ h)
+not_legal f h e r a b is out told = (
   λ t. absurd (let bad : false ≡ true = sym out ∙ t in cc),
   λ legal. absurd (let bad : false ≡ true =
-      sym is ∙ told.1 (legal_before h e r legal) in cc),
+      sym is ∙ told.1 (legal_before f h e r legal) in cc),
 )
 
 -- after a legal history at most as many edits are pending as a batch can have
-few_more : (h : History) (e : Event) (r : Reply) → Allowed h e r → length (pending_of h) ≤ max_changes → length (pending_of ((e, r) ∷ h)) ≤ max_changes
-few_more h (Edit c) Edited allowed few = let grown : length (pending_of h ++ c ∷ []) ≡ length (pending_of h) + 1 =
+few_more : (f : FilterValue) (h : History) (e : Event) (r : Reply) → Allowed f h e r → length (pending_of h) ≤ max_changes
+    → length (pending_of ((e, r) ∷ h)) ≤ max_changes
+few_more f h (Edit c) Edited allowed few = let grown : length (pending_of h ++ c ∷ []) ≡ length (pending_of h) + 1 =
     length-append (pending_of h) (c ∷ []) in omega (arith, grown, allowed)
-few_more h (Edit c) BatchFull allowed few = rw (append-nil (pending_of h)) few
-few_more h (Edit c) WantOfMemory allowed few = rw (append-nil (pending_of h)) few
-few_more h (Edit c) r allowed few = absurd allowed
-few_more h (Close t) (Closed n) allowed few = omega arith
-few_more h (Close t) SequenceFull allowed few = rw (append-nil (pending_of h)) few
-few_more h (Close t) TimeBack allowed few = rw (append-nil (pending_of h)) few
-few_more h (Close t) TooLarge allowed few = rw (append-nil (pending_of h)) few
-few_more h (Close t) WantOfMemory allowed few = rw (append-nil (pending_of h)) few
-few_more h (Close t) r allowed few = absurd allowed
-few_more h (Deliver k form) r allowed few = rw (append-nil (pending_of h)) few
-few_more h Show r allowed few = rw (append-nil (pending_of h)) few
-few_more h Save r allowed few = rw (append-nil (pending_of h)) few
-few_more h Restart r allowed few = rw (append-nil (pending_of h)) few
-few_more h (Begin k) r allowed few = rw (append-nil (pending_of h)) few
+few_more f h (Edit c) BatchFull allowed few = rw (append-nil (pending_of h)) few
+few_more f h (Edit c) WantOfMemory allowed few = rw (append-nil (pending_of h)) few
+few_more f h (Edit c) r allowed few = absurd allowed
+few_more f h (Close t) (Closed n) allowed few = omega arith
+few_more f h (Close t) SequenceFull allowed few = rw (append-nil (pending_of h)) few
+few_more f h (Close t) TimeBack allowed few = rw (append-nil (pending_of h)) few
+few_more f h (Close t) TooLarge allowed few = rw (append-nil (pending_of h)) few
+few_more f h (Close t) WantOfMemory allowed few = rw (append-nil (pending_of h)) few
+few_more f h (Close t) r allowed few = absurd allowed
+few_more f h (Deliver k form) r allowed few = rw (append-nil (pending_of h)) few
+few_more f h Show r allowed few = rw (append-nil (pending_of h)) few
+few_more f h Save r allowed few = rw (append-nil (pending_of h)) few
+few_more f h Restart r allowed few = rw (append-nil (pending_of h)) few
+few_more f h (Begin k) r allowed few = rw (append-nil (pending_of h)) few
 
-pub few_pending : (h : History) → IsLegal h → length (pending_of h) ≤ max_changes
-few_pending [] legal = omega arith
-few_pending ((e, r) ∷ h) legal = few_more h e r (legal.each [] h e r refl) (few_pending h (legal_before h e r legal))
+pub few_pending : (f : FilterValue) (h : History) → IsLegal f h → length (pending_of h) ≤ max_changes
+few_pending f [] legal = omega arith
+few_pending f ((e, r) ∷ h) legal = few_more f h e r (legal.each [] h e r refl) (few_pending f h (legal_before f h e r legal))
 
 -- if one list is empty, no pair is left
 pub no_first : {X Y : Type 0} (xs : List X) (ys : List Y) (n : ℕ) → n ≡ length xs → n ≡ 0 → zip xs ys ≡ []

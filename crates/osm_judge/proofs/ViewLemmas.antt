@@ -22,6 +22,7 @@ use Rattle.std.specs.Prelude.{if◌then◌else◌, ◌==◌, ◌↔◌, count_by
 use Rattle.std.specs.List.{AllByRecursion}
 use Rattle.osm_model.specs.Change.{ChangeValue, IsChange}
 use Rattle.osm_model.specs.Content.{content_of, last_of, later_of, edits_by_user, edits_by_changeset}
+use Rattle.osm_model.specs.Filter.{FilterValue, kept}
 use Rattle.osm_model.specs.KeyOrder.{same_key}
 use Rattle.osm_model.specs.declared.kind.Key.{Key}
 use Rattle.osm_model.proofs.ContentLemmas.{same_key-only}
@@ -55,13 +56,13 @@ at_change P (c ∷ cs) k o is all = by_last (last_of cs k) refl is (λ p there. 
     by_last (Some p) there is rest = rest p there
 
 -- objects that are right at the keys of both lists are right everywhere, since elsewhere neither has one
-pub right_everywhere : (os cs : List ChangeValue) → AllByRecursion (λ c. object_at os c.key ≡ content_of cs c.key) os
-    → AllByRecursion (λ c. object_at os c.key ≡ content_of cs c.key) cs → (k : Key) → object_at os k ≡ content_of cs k
-right_everywhere os cs here there k = by_object (object_at os k) refl (last_of cs k) refl
+pub right_everywhere : (f : FilterValue) (os cs : List ChangeValue) → AllByRecursion (λ c. object_at os c.key ≡ kept f (content_of cs) c.key) os
+    → AllByRecursion (λ c. object_at os c.key ≡ kept f (content_of cs) c.key) cs → (k : Key) → object_at os k ≡ kept f (content_of cs) k
+right_everywhere f os cs here there k = by_object (object_at os k) refl (last_of cs k) refl
   where
-    by_object : (o : Option ChangeValue) → object_at os k ≡ o → (l : Option ChangeValue) → last_of cs k ≡ l → object_at os k ≡ content_of cs k
-    by_object (Some o) is l last = at_object (λ q. object_at os q ≡ content_of cs q) os k o is here
-    by_object None is (Some c) last = at_change (λ q. object_at os q ≡ content_of cs q) cs k c last there
+    by_object : (o : Option ChangeValue) → object_at os k ≡ o → (l : Option ChangeValue) → last_of cs k ≡ l → object_at os k ≡ kept f (content_of cs) k
+    by_object (Some o) is l last = at_object (λ q. object_at os q ≡ kept f (content_of cs) q) os k o is here
+    by_object None is (Some c) last = at_change (λ q. object_at os q ≡ kept f (content_of cs) q) cs k c last there
     by_object None is None last = rw (is, last) refl
 
 same_number : (n m : ℕ) → is_at (nat_cmp n) m ≡ true → n ≡ m
@@ -165,12 +166,13 @@ pub all_held : (Q : ℕ → Type 0) (held : List ℕ) → ((j : ℕ) → Contain
 all_held Q held exact = recursion_from_All Q held (λ k d within. (exact (slice_index_or held k d)).0 (All-contains_itself held k d within))
 
 -- number, time and mirror are those that the history asks for, so that the held numbers decide
-pub view_row : (h : History) (v : ViewValue) (n : ℕ) (r : Bool) → Reaches (accepted_of h) (start_of h) n → v.number ≡ n → v.base ≡ base_of h → base_of h ≤ n
-    → v.time ≡ time_at (published_of h) n → IsMirrorOf (changes_up_to (published_of h) n) (changes_after (published_of h) (base_of h) n) v.mirror
+pub view_row : (f : FilterValue) (h : History) (v : ViewValue) (n : ℕ) (r : Bool) → Reaches (accepted_of h) (start_of h) n → v.number ≡ n
+    → v.base ≡ base_of h → base_of h ≤ n
+    → v.time ≡ time_at (published_of h) n → IsMirrorOf f (changes_up_to (published_of h) n) (changes_after (published_of h) (base_of h) n) v.mirror
     → IsTrue r ↔ (IsStrictlySortedBy nat_cmp v.held
-    × ((j : ℕ) → Contains v.held j ↔ ((n < j) × (accepted_of h j ≡ true)))) → IsTrue r ↔ IsView (published_of h)
+    × ((j : ℕ) → Contains v.held j ↔ ((n < j) × (accepted_of h j ≡ true)))) → IsTrue r ↔ IsView f (published_of h)
     (base_of h) (start_of h) (accepted_of h) v
-view_row h v n r reach number base below time mirror told = (
+view_row f h v n r reach number base below time mirror told = (
   λ t. (let both = told.0 t in record {
     base_is = base;
     below = rw number below;

@@ -11,18 +11,24 @@ use crate::history::Pair;
 use crate::legal::is_legal;
 use crate::reading::{NotAReply, read_reply};
 use osm_folder::fault::RunFault;
+use osm_model::filter::Filter;
 use osm_model::memory::WantOfMemory;
 use osm_repl::replies::write_replies;
 use osm_repl::script::parse_script;
 use osm_world::event::{Event, Reply};
 use std::alloc::Global;
 
-/// True only if the text may answer the script: it is the text of one reply for each event, each
-/// reply is allowed after what came before it, and the follower breaks only at a new entry. Fails
-/// if the script can't be read or if out of memory.
-pub fn may_answer(alloc: Global, script: &[u8], text: &[u8]) -> Result<bool, RunFault>
+/// True only if the text may answer the script in a world with that filter: it is the text of one
+/// reply for each event, each reply is allowed after what came before it, and the follower breaks
+/// only at a new entry. Fails if the script can't be read or if out of memory.
+pub fn may_answer(
+    alloc: Global,
+    filter: &Filter,
+    script: &[u8],
+    text: &[u8],
+) -> Result<bool, RunFault>
     requires { length script.now < 2 ^ 63 }
-    ensures { IfOk result (λ b. IsTrue b → MayAnswer script.now text.now) }
+    ensures { IfOk result (λ b. IsTrue b → MayAnswer filter.now script.now text.now) }
 {
     let events = parse_script(alloc, script)?;
     let replies = match read_replies(alloc, text, events.len()) {
@@ -40,16 +46,17 @@ pub fn may_answer(alloc: Global, script: &[u8], text: &[u8]) -> Result<bool, Run
         return Ok(false);
     }
     let history = pair_up(alloc, events, replies)?;
-    match is_right(alloc, history.as_slice()) {
+    match is_right(alloc, filter, history.as_slice()) {
         Ok(is_right) => Ok(is_right),
         Err(WantOfMemory) => Err(RunFault::WantOfMemory),
     }
 }
 
-fn is_right(alloc: Global, history: &[Pair]) -> Result<bool, WantOfMemory>
-    ensures { IfOk result (λ b. IsTrue b → IsLegal history.now × AreBreaksNeeded history.now) }
+fn is_right(alloc: Global, filter: &Filter, history: &[Pair]) -> Result<bool, WantOfMemory>
+    ensures { IfOk result (λ b. IsTrue b
+        → IsLegal filter.now history.now × AreBreaksNeeded filter.now history.now) }
 {
-    Ok(is_legal(alloc, history)? && are_breaks_needed(alloc, history)?)
+    Ok(is_legal(alloc, filter, history)? && are_breaks_needed(alloc, filter, history)?)
 }
 
 fn read_replies(alloc: Global, text: &[u8], count: usize) -> Result<Vec<Reply>, NotAReply> {

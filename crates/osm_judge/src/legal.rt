@@ -21,6 +21,7 @@ use crate::history::{
 use crate::views::is_view;
 use osm_model::batch::{Batch, PushError};
 use osm_model::change::Change;
+use osm_model::filter::Filter;
 use osm_model::form::{ChangeForm, FormError};
 use osm_model::limits::{MAX_CHANGES, MAX_SEQUENCE};
 use osm_model::memory::WantOfMemory;
@@ -52,17 +53,18 @@ impl From<WantOfMemory> for Unjudged {
     }
 }
 
-/// Whether each reply of a history may follow what came before it. The oldest is judged first.
-pub fn is_legal(alloc: Global, history: &[Pair]) -> Result<bool, WantOfMemory>
-    ensures { IfOk result (λ b. IsTrue b ↔ IsLegal history.now) }
+/// Whether each reply of a history may follow what came before it, if the follower keeps what the
+/// filter keeps. The oldest is judged first.
+pub fn is_legal(alloc: Global, filter: &Filter, history: &[Pair]) -> Result<bool, WantOfMemory>
+    ensures { IfOk result (λ b. IsTrue b ↔ IsLegal filter.now history.now) }
 {
     let Some((pair, before)) = history.split_first() else {
         return Ok(true);
     };
-    if !is_legal(alloc, before)? {
+    if !is_legal(alloc, filter, before)? {
         return Ok(false);
     }
-    is_allowed_next(alloc, before, &pair.0, &pair.1)
+    is_allowed_next(alloc, filter, before, &pair.0, &pair.1)
 }
 
 // Whether the reply may follow a legal history, after which no more edits are pending than a batch
@@ -70,35 +72,39 @@ pub fn is_legal(alloc: Global, history: &[Pair]) -> Result<bool, WantOfMemory>
 #[tactic(auto, using(crate::proofs::LegalLemmas::few_pending))]
 fn is_allowed_next(
     alloc: Global,
+    filter: &Filter,
     history: &[Pair],
     event: &Event,
     reply: &Reply,
 ) -> Result<bool, WantOfMemory>
-    requires { IsLegal history.now }
-    ensures { IfOk result (λ b. IsTrue b ↔ Allowed history.now event.now reply.now) }
+    requires { IsLegal filter.now history.now }
+    ensures { IfOk result (λ b. IsTrue b ↔ Allowed filter.now history.now event.now reply.now) }
 {
-    match is_allowed(alloc, history, event, reply) {
+    match is_allowed(alloc, filter, history, event, reply) {
         Ok(is_allowed) => Ok(is_allowed),
         Err(Unjudged::WantOfMemory) => Err(WantOfMemory),
         Err(Unjudged::TooManyPending) => unreachable!(),
     }
 }
 
-/// Whether the reply may answer the event after that history.
+/// Whether the reply may answer the event after that history, if the follower keeps what the filter
+/// keeps.
 pub fn is_allowed(
     alloc: Global,
+    filter: &Filter,
     history: &[Pair],
     event: &Event,
     reply: &Reply,
 ) -> Result<bool, Unjudged>
-    ensures judged { IfOk result (λ b. IsTrue b ↔ Allowed history.now event.now reply.now) }
+    ensures judged { IfOk result (λ b. IsTrue b
+        ↔ Allowed filter.now history.now event.now reply.now) }
     ensures refused { IfErr result (IsUnjudged history.now) }
 {
     match event {
         Event::Edit(_) => Ok(is_edit_allowed(alloc, history, reply)?),
         Event::Close(time) => is_close_allowed(alloc, history, *time, reply),
         Event::Deliver { number, .. } => Ok(is_deliver_allowed(alloc, history, *number, reply)?),
-        Event::Show => Ok(is_show_allowed(alloc, history, reply)?),
+        Event::Show => Ok(is_show_allowed(alloc, filter, history, reply)?),
         Event::Save => Ok(is_save_allowed(history, reply)),
         Event::Restart => Ok(is_restart_allowed(history, reply)),
         Event::Begin(number) => Ok(is_begin_allowed(history, *number, reply)),
@@ -353,13 +359,18 @@ fn have_changes(
     Ok(before.len() < after.len())
 }
 
-fn is_show_allowed(alloc: Global, history: &[Pair], reply: &Reply) -> Result<bool, WantOfMemory>
-    ensures { IfOk result (λ b. IsTrue b ↔ AllowedShow history.now reply.now) }
+fn is_show_allowed(
+    alloc: Global,
+    filter: &Filter,
+    history: &[Pair],
+    reply: &Reply,
+) -> Result<bool, WantOfMemory>
+    ensures { IfOk result (λ b. IsTrue b ↔ AllowedShow filter.now history.now reply.now) }
 {
     match reply {
         Reply::Broken => Ok(is_broken(history)),
         Reply::WantOfMemory => Ok(!is_broken(history)),
-        Reply::Shown(view) => Ok(!is_broken(history) && is_view(alloc, history, view)?),
+        Reply::Shown(view) => Ok(!is_broken(history) && is_view(alloc, filter, history, view)?),
         _ => Ok(false),
     }
 }

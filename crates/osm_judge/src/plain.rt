@@ -3,8 +3,10 @@
 
 ghost use Rattle.std.specs.Prelude.{◌≡◌, option_copied};
 ghost use Rattle.osm_model.specs.Content.{content_of, edits_by_changeset, edits_by_user, last_of};
+ghost use Rattle.osm_model.specs.Filter.{kept};
 
 use osm_model::change::Change;
+use osm_model::filter::Filter;
 use osm_model::kind::Key;
 
 /// The last change with that key in the list.
@@ -30,6 +32,22 @@ pub fn plain_content_of<'a>(changes: &'a [Change], key: Key) -> Option<&'a Chang
                 None
             } else {
                 Some(change)
+            }
+        }
+        None => None,
+    }
+}
+
+/// What the filter keeps of that object.
+pub fn plain_kept<'a>(filter: &Filter, changes: &'a [Change], key: Key) -> Option<&'a Change>
+    ensures { option_copied result ≡ kept filter.now (content_of changes.entry.now) key }
+{
+    match plain_content_of(changes, key) {
+        Some(object) => {
+            if filter.keeps(object) {
+                Some(object)
+            } else {
+                None
             }
         }
         None => None,

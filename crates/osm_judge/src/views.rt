@@ -7,6 +7,7 @@ ghost use Rattle.std.specs.List.Sorted.{IsStrictlySortedBy};
 ghost use Rattle.std.specs.Ordering.{nat_cmp};
 ghost use Rattle.std.specs.declared.cmp.Ordering.TheVariants.{Less};
 ghost use Rattle.osm_model.specs.Content.{content_of, edits_by_changeset, edits_by_user};
+ghost use Rattle.osm_model.specs.Filter.{kept};
 ghost use Rattle.osm_model.specs.KeyOrder.{key_cmp};
 ghost use Rattle.osm_model.specs.declared.kind.Key.{Key};
 ghost use Rattle.osm_world.specs.History.{accepted_of, base_of, published_of, start_of};
@@ -19,17 +20,23 @@ use crate::history::{
     Pair, accepted_by, counted_changes, follower_base, follower_number, is_accepted, is_starting,
     joined_changes, time_of_sequence,
 };
-use crate::plain::{plain_content_of, plain_edits_by_changeset, plain_edits_by_user};
+use crate::plain::{plain_edits_by_changeset, plain_edits_by_user, plain_kept};
 use osm_follow::view::View;
 use osm_model::change::Change;
+use osm_model::filter::Filter;
 use osm_model::kind::Key;
 use osm_model::memory::WantOfMemory;
 use osm_opl::lines::write_line;
 use std::alloc::Global;
 
-/// Whether the view may be shown after the history.
-pub fn is_view(alloc: Global, history: &[Pair], view: &View) -> Result<bool, WantOfMemory>
-    ensures { IfOk result (λ b. IsTrue b ↔ IsView (published_of history.now)
+/// Whether the view may be shown after the history, by a follower that keeps what the filter keeps.
+pub fn is_view(
+    alloc: Global,
+    filter: &Filter,
+    history: &[Pair],
+    view: &View,
+) -> Result<bool, WantOfMemory>
+    ensures { IfOk result (λ b. IsTrue b ↔ IsView filter.now (published_of history.now)
         (base_of history.now) (start_of history.now) (accepted_of history.now) view.now) }
 {
     let number = follower_number(history);
@@ -42,7 +49,7 @@ pub fn is_view(alloc: Global, history: &[Pair], view: &View) -> Result<bool, Wan
     }
     let changes = joined_changes(alloc, history, number)?;
     let counted = counted_changes(alloc, history, base, number)?;
-    let is_mirror = is_mirror_of(alloc, view, changes.as_slice(), counted.as_slice())?;
+    let is_mirror = is_mirror_of(alloc, filter, view, changes.as_slice(), counted.as_slice())?;
     if !is_mirror {
         return Ok(false);
     }
@@ -51,17 +58,19 @@ pub fn is_view(alloc: Global, history: &[Pair], view: &View) -> Result<bool, Wan
 
 fn is_mirror_of(
     alloc: Global,
+    filter: &Filter,
     view: &View,
     changes: &[Change],
     counted: &[Change],
 ) -> Result<bool, WantOfMemory>
-    ensures { IfOk result (λ b. IsTrue b ↔ IsMirrorOf changes.now counted.now view.now.mirror) }
+    ensures { IfOk result (λ b. IsTrue b
+        ↔ IsMirrorOf filter.now changes.now counted.now view.now.mirror) }
 {
     let is_orderly = are_rising(view.objects())
         && are_counts(view.users())
         && are_counts(view.changesets());
     let is_counted = are_users(view.users(), counted) && are_changesets(view.changesets(), counted);
-    Ok(are_objects(alloc, view.objects(), changes)? && is_orderly && is_counted)
+    Ok(are_objects(alloc, filter, view.objects(), changes)? && is_orderly && is_counted)
 }
 
 // Whether the held numbers rise, and are exactly the accepted numbers above `number`.
@@ -189,45 +198,52 @@ fn are_above_zero(counts: &[(u32, u64)]) -> bool
     }
 }
 
-// Whether the objects are those that the changes leave, at each key.
-fn are_objects(alloc: Global, objects: &[Change], changes: &[Change]) -> Result<bool, WantOfMemory>
+// Whether the objects are what the filter keeps of those that the changes leave, at each key.
+fn are_objects(
+    alloc: Global,
+    filter: &Filter,
+    objects: &[Change],
+    changes: &[Change],
+) -> Result<bool, WantOfMemory>
     ensures { IfOk result (λ b. IsTrue b
-        ↔ ((k : Key) → object_at objects.now k ≡ content_of changes.now k)) }
+        ↔ ((k : Key) → object_at objects.now k ≡ kept filter.now (content_of changes.now) k)) }
 {
-    let is_first = are_objects_at(alloc, objects, changes, objects)?;
-    let is_second = are_objects_at(alloc, objects, changes, changes)?;
+    let is_first = are_objects_at(alloc, filter, objects, changes, objects)?;
+    let is_second = are_objects_at(alloc, filter, objects, changes, changes)?;
     Ok(is_first && is_second)
 }
 
 // The same, only at the keys of the changes in `list`.
 fn are_objects_at(
     alloc: Global,
+    filter: &Filter,
     objects: &[Change],
     changes: &[Change],
     list: &[Change],
 ) -> Result<bool, WantOfMemory>
-    ensures { IfOk result (λ b. IsTrue b ↔ AllByRecursion
-        (λ c. object_at objects.now c.key ≡ content_of changes.now c.key) list.now) }
+    ensures { IfOk result (λ b. IsTrue b ↔ AllByRecursion (λ c. object_at objects.now c.key
+        ≡ kept filter.now (content_of changes.now) c.key) list.now) }
 {
     match list {
         [] => Ok(true),
         [first, others @ ..] => {
-            let is_first = is_object(alloc, objects, changes, first.key())?;
-            Ok(is_first && are_objects_at(alloc, objects, changes, others)?)
+            let is_first = is_object(alloc, filter, objects, changes, first.key())?;
+            Ok(is_first && are_objects_at(alloc, filter, objects, changes, others)?)
         }
     }
 }
 
 fn is_object(
     alloc: Global,
+    filter: &Filter,
     objects: &[Change],
     changes: &[Change],
     key: Key,
 ) -> Result<bool, WantOfMemory>
     ensures { IfOk result (λ b. IsTrue b
-        ↔ (object_at objects.now key ≡ content_of changes.now key)) }
+        ↔ (object_at objects.now key ≡ kept filter.now (content_of changes.now) key)) }
 {
-    match (object_with(objects, key), plain_content_of(changes, key)) {
+    match (object_with(objects, key), plain_kept(filter, changes, key)) {
         (None, None) => Ok(true),
         (Some(object), Some(change)) => is_same(alloc, object, change),
         _ => Ok(false),

@@ -1,14 +1,16 @@
 -- A mirror after one list of changes and then another.
-use Rattle.std.proofs.Common.{◌≡◌, ℕ, ◌+◌, ◌*◌, ◌≤◌, List, [], ◌∷◌, ◌++◌, length, refl, ap, sym, ◌∙◌, None, Option, arith, inl, inr, length-append}
+use Rattle.std.proofs.Common.{◌≡◌, ℕ, ◌+◌, ◌*◌, ◌≤◌, List, [], ◌∷◌, ◌++◌, length, refl, ap, sym, ◌∙◌, Option, arith, inl, inr, length-append}
 use Rattle.std.proofs.lemmas.List.Sums.{count_by-le-length}
 use Rattle.std.specs.List.Sorted.{IsStrictlySortedBy}
 use Rattle.std.specs.Ordering.{nat_cmp}
 use Rattle.std.specs.Prelude.{◌==◌}
 use Rattle.std.specs.declared.cmp.Ordering.{Ordering}
 use Rattle.osm_model.specs.Change.{ChangeValue}
-use Rattle.osm_model.specs.Content.{over_at, last_of, edits_by_user, edits_by_changeset}
+use Rattle.osm_model.specs.Content.{content_of, nothing, object_after, over_at, last_of, edits_by_user, edits_by_changeset}
+use Rattle.osm_model.specs.Filter.{FilterValue, kept_object, left_by}
 use Rattle.osm_model.specs.KeyOrder.{key_cmp}
 use Rattle.osm_model.proofs.ContentLemmas.{over-append, edits_by_user-append, edits_by_changeset-append}
+use Rattle.osm_model.proofs.FilterLemmas.{extracts_are_kept_up}
 use Rattle.osm_mirror.specs.Room.{GrowsBy, HasRoom}
 use Rattle.osm_mirror.specs.Mirror.{MirrorValue, object_at, Applies, IsOrderly, NeedsMemory, NeedsNewEntry, IsMirrorOf, IsWithin, no_mirror}
 
@@ -17,8 +19,8 @@ unfolding IsStrictlySortedBy
 rising-nil cmp = tt
 
 -- the empty mirror is that of no changes
-pub mirror_of-nil : IsMirrorOf [] [] no_mirror
-mirror_of-nil = record {
+pub mirror_of-nil : (f : FilterValue) → IsMirrorOf f [] [] no_mirror
+mirror_of-nil f = record {
   orderly = record {
     objects = rising-nil key_cmp;
     users = record { rising = rising-nil nat_cmp; above = tt };
@@ -29,20 +31,22 @@ mirror_of-nil = record {
   changesets = λ id. refl;
 }
 
-pub Applies-nil : (m : MirrorValue) → IsOrderly m → Applies m [] m
-Applies-nil m orderly = record {
+pub Applies-nil : (f : FilterValue) (m : MirrorValue) → IsOrderly m → Applies f m [] m
+Applies-nil f m orderly = record {
   orderly = orderly;
   objects = λ k. refl;
   users = λ uid. omega arith;
   changesets = λ id. omega arith;
 }
 
-pub Applies-append : (a b c : MirrorValue) (xs ys : List ChangeValue) → Applies a xs b → Applies b ys c → Applies a (xs ++ ys) c
-Applies-append a b c xs ys f g = record {
+pub Applies-append : (f : FilterValue) (a b c : MirrorValue) (xs ys : List ChangeValue) → Applies f a xs b
+    → Applies f b ys c → Applies f a (xs ++ ys) c
+Applies-append f a b c xs ys h g = record {
   orderly = g.orderly;
-  objects = λ k. g.objects k ∙ (ap (λ (o : Option ChangeValue). over_at o (last_of ys k)) (f.objects k) ∙ sym (over-append (object_at a.objects) xs ys k));
-  users = λ uid. (let p = f.users uid in let q = g.users uid in let r = edits_by_user-append xs ys uid in omega arith);
-  changesets = λ id. (let p = f.changesets id in let q = g.changesets id in let r = edits_by_changeset-append xs ys id in omega arith);
+  objects = λ k. g.objects k ∙ (ap (λ (o : Option ChangeValue). over_at (left_by f) o (last_of ys k)) (h.objects k)
+      ∙ sym (over-append (left_by f) (object_at a.objects) xs ys k));
+  users = λ uid. (let p = h.users uid in let q = g.users uid in let r = edits_by_user-append xs ys uid in omega arith);
+  changesets = λ id. (let p = h.changesets id in let q = g.changesets id in let r = edits_by_changeset-append xs ys id in omega arith);
 }
 
 pub edits_by_user-most : (cs : List ChangeValue) (uid : ℕ) → edits_by_user cs uid ≤ length cs
@@ -52,9 +56,9 @@ pub edits_by_changeset-most : (cs : List ChangeValue) (id : ℕ) → edits_by_ch
 edits_by_changeset-most cs id = count_by-le-length (λ (c : ChangeValue). c.meta.changeset == id) cs
 
 -- room for all is room for one after those before it
-pub room_left : (a b : MirrorValue) (before after : List ChangeValue) (c : ChangeValue)
-    → HasRoom (length (before ++ c ∷ after)) a → Applies a before b → HasRoom 1 b
-room_left a b before after c room f =
+pub room_left : (filter : FilterValue) (a b : MirrorValue) (before after : List ChangeValue) (c : ChangeValue)
+    → HasRoom (length (before ++ c ∷ after)) a → Applies filter a before b → HasRoom 1 b
+room_left filter a b before after c room f =
     let all : length (before ++ c ∷ after) ≡ length before + length (c ∷ after) = length-append before (c ∷ after) in
     record {
       users = λ uid. (let r = room.users uid in let p = f.users uid in let q = edits_by_user-most before uid in omega arith);
@@ -62,29 +66,31 @@ room_left a b before after c room f =
     }
 
 -- what needs an entry after some changes needs one among them all
-pub needs_memory : (a b : MirrorValue) (before after : List ChangeValue) (c : ChangeValue) → Applies a before b
-    → NeedsNewEntry b [] c → NeedsMemory a (before ++ c ∷ after)
-needs_memory a b before after c f entry = record { before = before; change = c; after = after; is = refl; entry = by_entry entry }
+pub needs_memory : (filter : FilterValue) (a b : MirrorValue) (before after : List ChangeValue) (c : ChangeValue)
+    → Applies filter a before b → NeedsNewEntry filter b [] c → NeedsMemory filter a (before ++ c ∷ after)
+needs_memory filter a b before after c f entry = record { before = before; change = c; after = after; is = refl; entry = by_entry entry }
   where
-    by_entry : NeedsNewEntry b [] c → NeedsNewEntry a before c
+    by_entry : NeedsNewEntry filter b [] c → NeedsNewEntry filter a before c
     by_entry (inl user) = inl (let p = f.users c.meta.uid in omega arith)
     by_entry (inr (inl changeset)) = inr (inl (let p = f.changesets c.meta.changeset in omega arith))
     by_entry (inr (inr object)) = inr (inr (object.0, sym (f.objects c.key) ∙ object.1))
 
 -- the mirror of some changes, with more applied, is the mirror of them all
-pub mirror_grown : (a b : MirrorValue) (xs counted ys : List ChangeValue) → IsMirrorOf xs counted a → Applies a ys b
-    → IsMirrorOf (xs ++ ys) (counted ++ ys) b
-mirror_grown a b xs counted ys m f = record {
+pub mirror_grown : (filter : FilterValue) (a b : MirrorValue) (xs counted ys : List ChangeValue) → IsMirrorOf filter xs counted a
+    → Applies filter a ys b → IsMirrorOf filter (xs ++ ys) (counted ++ ys) b
+mirror_grown filter a b xs counted ys m f = record {
   orderly = f.orderly;
-  objects = λ k. f.objects k ∙ (ap (λ (o : Option ChangeValue). over_at o (last_of ys k)) (m.objects k) ∙ sym (over-append (λ key. None) xs ys k));
+  objects = λ k. f.objects k ∙ (ap (λ (o : Option ChangeValue). over_at (left_by filter) o (last_of ys k)) (m.objects k)
+      ∙ (extracts_are_kept_up filter (content_of xs) ys k
+      ∙ ap (kept_object filter) (sym (over-append object_after nothing xs ys k))));
   users = λ uid. (let p = f.users uid in let q = m.users uid in let r = edits_by_user-append counted ys uid in omega arith);
   changesets = λ id. (let p = f.changesets id in let q = m.changesets id in let r = edits_by_changeset-append counted ys id in omega arith);
 }
 
 -- the bounds of a number, for the next number
-pub within_more : (a b : MirrorValue) (ys : List ChangeValue) (n most : ℕ) → IsWithin (100000 * n) a → Applies a ys b
-    → GrowsBy (length ys) a b → length ys ≤ 100000 → most ≡ 100000 * (n + 1) → IsWithin most b
-within_more a b ys n most w f g few is =
+pub within_more : (filter : FilterValue) (a b : MirrorValue) (ys : List ChangeValue) (n most : ℕ) → IsWithin (100000 * n) a
+    → Applies filter a ys b → GrowsBy (length ys) a b → length ys ≤ 100000 → most ≡ 100000 * (n + 1) → IsWithin most b
+within_more filter a b ys n most w f g few is =
     let u = w.users in
     let s = w.changesets in
     let gu = g.users in

@@ -9,10 +9,10 @@ use Rattle.std.specs.Map.{lookup}
 use Rattle.std.specs.Ordering.{nat_cmp}
 use Rattle.osm_model.specs.Change.{ChangeValue, IsChange}
 use Rattle.osm_model.specs.Content.{content_of, over, object_after}
+use Rattle.osm_model.specs.Filter.{AreKept, FilterValue, kept, left_by}
 use Rattle.osm_model.specs.Content.{edits_by_user, edits_by_changeset}
 use Rattle.osm_model.specs.KeyOrder.{key_cmp, same_key}
 use Rattle.osm_model.specs.Limits.{IsPositive}
-use Rattle.osm_model.specs.declared.change.What.TheVariants.{Deleted}
 use Rattle.osm_model.specs.declared.kind.Key.{Key}
 
 -- a number with its count of edits
@@ -69,54 +69,73 @@ pub record IsMirror (m : MirrorValue) : Type 0 where
   pub users : AllByRecursion HasNumber m.users
   pub changesets : AllByRecursion HasNumber m.changesets
 
--- the mirror has exactly the objects that `changes` leave, and counts exactly the edits of
--- `counted`
-pub record IsMirrorOf (changes counted : List ChangeValue) (m : MirrorValue) : Type 0 where
+-- the mirror has exactly what the filter keeps of the objects that `changes` leave, and counts
+-- exactly the edits of `counted`, whatever the filter keeps
+pub record IsMirrorOf (f : FilterValue) (changes counted : List ChangeValue) (m : MirrorValue)
+    : Type 0 where
   pub orderly : IsOrderly m
-  pub objects : (k : Key) → object_at m.objects k ≡ content_of changes k
+  pub objects : (k : Key) → object_at m.objects k ≡ kept f (content_of changes) k
   pub users : (uid : ℕ) → count_at m.users uid ≡ edits_by_user counted uid
   pub changesets : (id : ℕ) → count_at m.changesets id ≡ edits_by_changeset counted id
 
--- the new mirror is the old one with the changes applied in order, each counted once
-pub record Applies (old : MirrorValue) (changes : List ChangeValue) (new : MirrorValue)
-    : Type 0 where
+-- the new mirror is the old one with the changes applied in order, each counted once, and each
+-- leaving only what the filter keeps
+pub record Applies (f : FilterValue) (old : MirrorValue) (changes : List ChangeValue)
+    (new : MirrorValue) : Type 0 where
   pub orderly : IsOrderly new
-  pub objects : (k : Key) → object_at new.objects k ≡ over (object_at old.objects) changes k
+  pub objects : (k : Key) →
+      object_at new.objects k ≡ over (left_by f) (object_at old.objects) changes k
   pub users : (uid : ℕ) →
       count_at new.users uid ≡ count_at old.users uid + edits_by_user changes uid
   pub changesets : (id : ℕ) →
       count_at new.changesets id ≡ count_at old.changesets id + edits_by_changeset changes id
 
--- the change needs a new entry for its user, its changeset or its key
-abbrev pub NeedsNewEntry : MirrorValue → List ChangeValue → ChangeValue → Type 0
-NeedsNewEntry m before c =
+-- the change needs a new entry for its user or its changeset, or it is kept and needs one for its
+-- key
+abbrev pub NeedsNewEntry :
+    FilterValue → MirrorValue → List ChangeValue → ChangeValue → Type 0
+NeedsNewEntry f m before c =
     (count_at m.users c.meta.uid ≡ 0)
     ⊎ (count_at m.changesets c.meta.changeset ≡ 0)
-    ⊎ ((object_after c ≡ Some c) × (over (object_at m.objects) before c.key ≡ None))
+    ⊎ ((left_by f c ≡ Some c) × (over (left_by f) (object_at m.objects) before c.key ≡ None))
 
 -- some change needs a new entry, after those before it
-pub record NeedsMemory (m : MirrorValue) (changes : List ChangeValue) : Type 0 where
+pub record NeedsMemory (f : FilterValue) (m : MirrorValue) (changes : List ChangeValue)
+    : Type 0 where
   pub before : List ChangeValue
   pub change : ChangeValue
   pub after : List ChangeValue
   pub is : changes ≡ before ++ change ∷ after
-  pub entry : NeedsNewEntry m before change
+  pub entry : NeedsNewEntry f m before change
 
 -- the user and the changeset of the change already have edits
 pub record IsByKnown (m : MirrorValue) (c : ChangeValue) : Type 0 where
   pub user : 0 < count_at m.users c.meta.uid
   pub changeset : 0 < count_at m.changesets c.meta.changeset
 
--- such a change that is a deletion: it needs no new entry
-pub record IsKnownDeletion (m : MirrorValue) (c : ChangeValue) : Type 0 where
+-- such a change that leaves nothing, as a deletion does, or a change that the filter doesn't keep:
+-- it needs no new entry
+pub record IsKnownRemoval (f : FilterValue) (m : MirrorValue) (c : ChangeValue) : Type 0 where
   pub known : IsByKnown m c
-  pub deletes : c.what ≡ Deleted
+  pub removes : left_by f c ≡ None
 
--- such a change that edits an object of the mirror and doesn't delete it: it needs none either
-pub record IsKnownEdit (m : MirrorValue) (c : ChangeValue) : Type 0 where
+-- such a change that is kept and edits an object of the mirror: it needs none either
+pub record IsKnownEdit (f : FilterValue) (m : MirrorValue) (c : ChangeValue) : Type 0 where
   pub known : IsByKnown m c
-  pub edits : object_after c ≡ Some c
+  pub edits : left_by f c ≡ Some c
   pub there : IsSome (object_at m.objects c.key)
+
+-- a mirror that was kept by a filter stays so
+abbrev pub StaysKept : Type 0
+StaysKept = (f : FilterValue) (a b : MirrorValue) (changes : List ChangeValue)
+    → AreKept f a.objects → Applies f a changes b → AreKept f b.objects
+
+-- such a mirror, with changes applied, has what the filter keeps of all that the changes leave over
+-- it
+abbrev pub KeepsWhatIsLeft : Type 0
+KeepsWhatIsLeft = (f : FilterValue) (a b : MirrorValue) (changes : List ChangeValue) (k : Key)
+    → AreKept f a.objects → Applies f a changes b
+    → object_at b.objects k ≡ kept f (over object_after (object_at a.objects) changes) k
 
 -- the empty mirror
 abbrev pub no_mirror : MirrorValue

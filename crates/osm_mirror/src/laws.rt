@@ -2,15 +2,21 @@
 
 ghost use Rattle.std.specs.Prelude.{List, Contains};
 ghost use Rattle.osm_model.specs.Change.{ChangeValue};
-ghost use Rattle.osm_mirror.specs.Mirror.{IsKnownDeletion, IsKnownEdit, MirrorValue, NeedsMemory};
+ghost use Rattle.osm_model.specs.Filter.{FilterValue};
+ghost use Rattle.osm_mirror.specs.Mirror.{IsKnownEdit, IsKnownRemoval, KeepsWhatIsLeft, MirrorValue};
+ghost use Rattle.osm_mirror.specs.Mirror.{NeedsMemory, StaysKept};
 
-/// Changes by users and in changesets that already have edits need no memory if all of them are
-/// deletions, or if none is and the mirror has all their objects. Does nothing at run time.
+/// Changes by users and in changesets that already have edits need no memory if all of them remove
+/// their objects, as deletions do, or if all are kept and the mirror has all their objects. What a
+/// filter keeps of a mirror stays what it keeps of the mirror, whatever is applied to it. Does
+/// nothing at run time.
 pub fn laws_of_mirrors()
-    ensures deletions { (m : MirrorValue) (changes : List ChangeValue)
-        → ((c : ChangeValue) → Contains changes c → IsKnownDeletion m c)
-        → NeedsMemory m changes → ⊥ }
-    ensures edits { (m : MirrorValue) (changes : List ChangeValue)
-        → ((c : ChangeValue) → Contains changes c → IsKnownEdit m c)
-        → NeedsMemory m changes → ⊥ }
+    ensures removals { (f : FilterValue) (m : MirrorValue) (changes : List ChangeValue)
+        → ((c : ChangeValue) → Contains changes c → IsKnownRemoval f m c)
+        → NeedsMemory f m changes → ⊥ }
+    ensures edits { (f : FilterValue) (m : MirrorValue) (changes : List ChangeValue)
+        → ((c : ChangeValue) → Contains changes c → IsKnownEdit f m c)
+        → NeedsMemory f m changes → ⊥ }
+    ensures kept { StaysKept }
+    ensures left { KeepsWhatIsLeft }
 {}

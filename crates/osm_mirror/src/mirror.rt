@@ -9,12 +9,13 @@ ghost use Rattle.osm_mirror.specs.Room.{GrowsBy, HasRoom};
 use crate::counts::Counts;
 use crate::objects::Objects;
 use osm_model::change::Change;
+use osm_model::filter::Filter;
 use osm_model::kind::Key;
 use osm_model::memory::WantOfMemory;
 use std::alloc::Global;
 use std::marker::Model;
 
-/// All objects that aren't deleted, by their keys, and the edits counted by user and by changeset.
+/// The objects that aren't deleted, or those of them that a filter keeps, by their keys, and the edits counted by user and by changeset.
 #[derive(Debug, Drop)]
 pub struct Mirror {
     objects: Objects,
@@ -46,28 +47,29 @@ impl Mirror {
         }
     }
 
-    /// Applies the changes in order, and counts each of them. After a refusal some of them may have
-    /// been applied.
-    pub fn apply(&mut self, changes: Vec<Change>) -> Result<(), WantOfMemory>
+    /// Applies the changes in order, and counts each of them. One that the filter doesn't keep
+    /// removes its object, as a deletion does, and is counted all the same. After a refusal some of
+    /// the changes may have been applied.
+    pub fn apply(&mut self, filter: &Filter, changes: Vec<Change>) -> Result<(), WantOfMemory>
         requires { HasRoom (length changes.items) self.old }
-        ensures applied { OnOk result (Applies self.old changes.items self.new) }
+        ensures applied { OnOk result (Applies filter.now self.old changes.items self.new) }
         ensures grown { OnOk result (GrowsBy (length changes.items) self.old self.new) }
-        ensures refused { OnErr result (NeedsMemory self.old changes.items) }
+        ensures refused { OnErr result (NeedsMemory filter.now self.old changes.items) }
     {
         self.limits();
         for change in changes {
-            let Ok(()) = self.apply_one(change) else {
+            let Ok(()) = self.apply_one(filter, change) else {
                 return Err(WantOfMemory);
             };
         }
         Ok(())
     }
 
-    fn apply_one(&mut self, change: Change) -> Result<(), WantOfMemory>
+    fn apply_one(&mut self, filter: &Filter, change: Change) -> Result<(), WantOfMemory>
         requires { HasRoom 1 self.old }
-        ensures applied { OnOk result (Applies self.old (change ∷ []) self.new) }
+        ensures applied { OnOk result (Applies filter.now self.old (change ∷ []) self.new) }
         ensures grown { OnOk result (GrowsBy 1 self.old self.new) }
-        ensures refused { OnErr result (NeedsNewEntry self.old [] change) }
+        ensures refused { OnErr result (NeedsNewEntry filter.now self.old [] change) }
     {
         change.meta().limits();
         let Ok(()) = self.users.add_one(change.meta().uid()) else {
@@ -76,7 +78,7 @@ impl Mirror {
         let Ok(()) = self.changesets.add_one(change.meta().changeset()) else {
             return Err(WantOfMemory);
         };
-        let Ok(()) = self.objects.put(change) else {
+        let Ok(()) = self.objects.put(filter, change) else {
             return Err(WantOfMemory);
         };
         self.limits();

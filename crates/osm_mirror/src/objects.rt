@@ -7,12 +7,14 @@ ghost use Rattle.std.specs.List.{AllByRecursion};
 ghost use Rattle.std.specs.Map.Iter.{ShowsInOrder, deref};
 ghost use Rattle.osm_model.specs.Change.{ChangeValue};
 ghost use Rattle.osm_model.specs.Content.{object_after};
+ghost use Rattle.osm_model.specs.Filter.{left_by};
 ghost use Rattle.osm_model.specs.KeyOrder.{key_cmp, same_key};
 ghost use Rattle.osm_model.specs.declared.kind.Key.{Key};
 ghost use Rattle.osm_mirror.specs.Steps.Entries.{AreObjects, objects_of};
 ghost use Rattle.osm_mirror.specs.Mirror.{AreRising, IsObject, object_at};
 
 use osm_model::change::Change;
+use osm_model::filter::Filter;
 use osm_model::kind::Key;
 use osm_model::memory::WantOfMemory;
 use std::alloc::{AllocError, Global};
@@ -58,21 +60,21 @@ impl Objects {
         self.objects.get(&key)
     }
 
-    /// Applies one change: a deletion removes its object, any other becomes the object of its key.
-    /// After a refusal nothing has changed.
-    pub fn put(&mut self, change: Change) -> Result<(), WantOfMemory>
+    /// Applies one change: one that the filter keeps becomes the object of its key, and any other,
+    /// such as a deletion, removes its object. After a refusal nothing has changed.
+    pub fn put(&mut self, filter: &Filter, change: Change) -> Result<(), WantOfMemory>
         ensures put { OnOk result ((k : Key) → object_at self.new k
-            ≡ (if same_key change.key k then object_after change else object_at self.old k)) }
+            ≡ (if same_key change.key k then left_by filter.now change else object_at self.old k)) }
         ensures grown { length self.new ≤ length self.old + 1 }
         ensures refused { OnErr result
-            ((object_after change ≡ Some change) × (object_at self.old change.key ≡ None)) }
+            ((left_by filter.now change ≡ Some change) × (object_at self.old change.key ≡ None)) }
         ensures unchanged { OnErr result (self.new ≡ self.old) }
     {
-        if change.is_deletion() {
+        if filter.keeps(&change) {
+            enter(&mut self.objects, change)
+        } else {
             take_out(&mut self.objects, change.key());
             Ok(())
-        } else {
-            enter(&mut self.objects, change)
         }
     }
 

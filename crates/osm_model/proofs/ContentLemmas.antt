@@ -8,7 +8,7 @@ use Rattle.std.specs.declared.cmp.Ordering.TheVariants.{Less, Equal, Greater}
 use Rattle.std.proofs.lemmas.List.Sums.{sum_by-append}
 use Rattle.std.proofs.lemmas.Map.Lookups.{exact_signed}
 use Rattle.osm_model.specs.Change.{ChangeValue}
-use Rattle.osm_model.specs.Content.{last_of, later_of, over_at, over, nothing, content_of, object_after, edits_by_user, edits_by_changeset}
+use Rattle.osm_model.specs.Content.{Leaving, last_of, later_of, over_at, over, nothing, content_of, object_after, edits_by_user, edits_by_changeset}
 use Rattle.osm_model.specs.ContentLaws.{KindsAreOrdered, KeysAreTold, ContentsJoin, EditsAdd}
 use Rattle.osm_model.specs.KeyOrder.{key_cmp, same_key}
 use Rattle.osm_model.specs.declared.kind.Key.{Key}
@@ -56,23 +56,28 @@ pub last_of-append : (a b : List ChangeValue) (k : Key) → last_of (a ++ b) k �
 last_of-append [] b k = sym (later_of-none (last_of b k))
 last_of-append (c ∷ a) b k = rw (last_of-append a b k) (later_of-assoc (if same_key c.key k then Some c else None) (last_of a k) (last_of b k))
 
-over_at-later_of : (before x y : Option ChangeValue) → over_at before (later_of x y) ≡ over_at (over_at before x) y
-over_at-later_of before x None = refl
-over_at-later_of before x (Some y) = refl
+over_at-later_of : (left : Leaving) (before x y : Option ChangeValue)
+    → over_at left before (later_of x y) ≡ over_at left (over_at left before x) y
+over_at-later_of left before x None = refl
+over_at-later_of left before x (Some y) = refl
 
 -- one list of changes after another is their joined list
-pub over-append : (before : Key → Option ChangeValue) (a b : List ChangeValue) (k : Key) → over before (a ++ b) k ≡ over (over before a) b k
-over-append before a b k = ap (over_at (before k)) (last_of-append a b k) ∙ over_at-later_of (before k) (last_of a k) (last_of b k)
+pub over-append : (left : Leaving) (before : Key → Option ChangeValue) (a b : List ChangeValue) (k : Key)
+    → over left before (a ++ b) k ≡ over left (over left before a) b k
+over-append left before a b k =
+    ap (over_at left (before k)) (last_of-append a b k) ∙ over_at-later_of left (before k) (last_of a k) (last_of b k)
 
 -- the content of two lists joined is the second over the content of the first
-pub content_of-append : (a b : List ChangeValue) (k : Key) → content_of (a ++ b) k ≡ over (content_of a) b k
-content_of-append a b k = over-append nothing a b k
+pub content_of-append : (a b : List ChangeValue) (k : Key) → content_of (a ++ b) k ≡ over object_after (content_of a) b k
+content_of-append a b k = over-append object_after nothing a b k
 
 -- one change over what was there before
-pub over-one : (before : Key → Option ChangeValue) (c : ChangeValue) (k : Key) → over before (c ∷ []) k ≡ (if same_key c.key k then object_after c else before k)
-over-one before c k = by_test (same_key c.key k)
+pub over-one : (left : Leaving) (before : Key → Option ChangeValue) (c : ChangeValue) (k : Key)
+    → over left before (c ∷ []) k ≡ (if same_key c.key k then left c else before k)
+over-one left before c k = by_test (same_key c.key k)
   where
-    by_test : (b : Bool) → over_at (before k) (later_of (if b then Some c else None) None) ≡ (if b then object_after c else before k)
+    by_test : (b : Bool) → over_at left (before k) (later_of (if b then Some c else None) None)
+        ≡ (if b then left c else before k)
     by_test true = refl
     by_test false = refl
 

@@ -1,7 +1,7 @@
 -- Keys that rise by their bytes: when they do, and where a search among them ends. What holds of all filters.
 use Rattle.std.proofs.Common.{◌≡◌, ℕ, zero, suc, ◌+◌, ◌<◌, List, [], ◌∷◌, length, get_or, refl, sym, ap, subst, ◌∙◌, Bool, true, false}
-use Rattle.std.proofs.Common.{Ok, Err, Result, Some, Option, arith, inl, inr, true≢false}
-use Rattle.std.specs.Prelude.{◌↔◌, ◌&&◌}
+use Rattle.std.proofs.Common.{Ok, Err, Result, None, Some, Option, arith, inl, inr, true≢false}
+use Rattle.std.specs.Prelude.{◌↔◌, ◌&&◌, if◌then◌else◌}
 use Rattle.std.specs.Bool.{Decides, IsTrue}
 use Rattle.std.specs.Cmp.{booleans_Decides, first_so, second_so}
 use Rattle.std.specs.Cmp.Lexicographic.{nat_list_cmp_total, pointwise, pointwise_decides}
@@ -20,11 +20,14 @@ use Rattle.std.proofs.lemmas.Map.Text.{is_eq-slice_cmp}
 use Rattle.std.proofs.lemmas.Slice.Eq.{bytes_eq-Decides}
 use Rattle.osm_model.proofs.DataLemmas.{less_of}
 use Rattle.osm_model.specs.Change.{ChangeValue}
-use Rattle.osm_model.specs.Filter.{AreRising, FilterValue, IsFilter, everything, is_among, keeps, keeps_object}
+use Rattle.osm_model.specs.Filter.{AreRising, FilterValue, IsFilter, everything, is_among, keeps, keeps_object, kept_object, left_by}
 use Rattle.osm_model.specs.contracts.filter.FilterPartialEq.TheImpl.{ghosts as equality}
-use Rattle.osm_model.specs.FilterLaws.{DeletionsAreDropped, EverythingIsKept, FiltersAreTold}
+use Rattle.osm_model.specs.FilterLaws.{DeletionsAreDropped, EverythingIsKept, EverythingIsLeft, ExtractsAreEnough}
+use Rattle.osm_model.specs.FilterLaws.{ExtractsAreKeptUp, FiltersAreTold, KeptAreObjects}
 use Rattle.osm_model.specs.Text.{bytes_cmp}
-use Rattle.osm_model.specs.Content.{object_after}
+use Rattle.osm_model.specs.Content.{last_of, object_after, object_as, over_at}
+use Rattle.osm_model.specs.declared.change.What.{What}
+use Rattle.osm_model.specs.declared.change.What.TheVariants as whats
 use Rattle.osm_model.specs.declared.kind.Kind.{Kind}
 use Rattle.osm_model.specs.declared.kind.Kind.TheVariants.{Node, Way, Relation}
 
@@ -126,3 +129,81 @@ everything_is_kept c e = by_kind c.key.kind (object_after c) c e refl
 pub deletions_are_dropped : DeletionsAreDropped
 unfolding keeps
 deletions_are_dropped f c e = ap (keeps_object f) e
+
+-- ---- what is kept
+
+kept_if : (b : Bool) (c d : ChangeValue) → (if b then Some c else None) ≡ Some d → (Some c ≡ Some d) × (b ≡ true)
+kept_if true c d e = (e, refl)
+kept_if false c d e = absurd (let bad : None ≡ Some d = e in cc)
+
+pub kept_are_objects : KeptAreObjects
+kept_are_objects f None c = (λ e. absurd (let bad : None ≡ Some c = e in cc), λ h. absurd (let bad : None ≡ Some c = h.0 in cc))
+kept_are_objects f (Some d) c = (
+  λ e. (let both = kept_if (keeps f d) d c e in let same : d ≡ c = cc in (both.0, rw (← same) both.1)),
+  λ h. (let same : d ≡ c = cc in rw (same, h.1) refl),
+)
+
+-- an object is left as itself
+left_as : (c d : ChangeValue) (w : What) → object_as c w ≡ Some d → c ≡ d
+left_as c d whats.Deleted e = absurd (let bad : None ≡ Some d = e in cc)
+left_as c d (whats.Node lon lat tags) e = cc
+left_as c d (whats.Way refs tags) e = cc
+left_as c d (whats.Relation members tags) e = cc
+
+pub everything_is_left : EverythingIsLeft
+everything_is_left c = by_object (object_after c) refl
+  where
+    by_object : (o : Option ChangeValue) → object_after c ≡ o → kept_object everything o ≡ o
+    by_object None e = refl
+    by_object (Some d) e =
+        let same : c ≡ d = left_as c d c.what e in
+        let is : keeps everything d ≡ true = everything_is_kept d (subst (λ x. object_after x ≡ Some x) same (e ∙ ap (λ (x : ChangeValue). Some x) (sym same))) in
+        rw is refl
+
+pub extracts_are_kept_up : ExtractsAreKeptUp
+extracts_are_kept_up f objects changes k = by_last (last_of changes k)
+  where
+    by_last : (o : Option ChangeValue) → over_at (left_by f) (kept_object f (objects k)) o ≡ kept_object f (over_at object_after (objects k) o)
+    by_last None = refl
+    by_last (Some c) = refl
+
+kept_twice : (f : FilterValue) (o : Option ChangeValue) → kept_object f (kept_object f o) ≡ kept_object f o
+kept_twice f None = refl
+kept_twice f (Some c) = by_test (keeps f c) refl
+  where
+    by_test : (b : Bool) → keeps f c ≡ b → kept_object f (if b then Some c else None) ≡ (if b then Some c else None)
+    by_test true e = rw e refl
+    by_test false e = refl
+
+pub extracts_are_enough : ExtractsAreEnough
+extracts_are_enough f objects changes k = by_last (last_of changes k)
+  where
+    by_last : (o : Option ChangeValue) → kept_object f (over_at object_after (kept_object f (objects k)) o)
+        ≡ kept_object f (over_at object_after (objects k) o)
+    by_last None = kept_twice f (objects k)
+    by_last (Some c) = refl
+
+-- ---- what a change leaves, by whether the filter keeps it
+
+kept_as : (f : FilterValue) (c : ChangeValue) (w : What) → keeps_object f (object_as c w) ≡ true → object_as c w ≡ Some c
+kept_as f c whats.Deleted e = absurd (true≢false (sym e))
+kept_as f c (whats.Node lon lat tags) e = refl
+kept_as f c (whats.Way refs tags) e = refl
+kept_as f c (whats.Relation members tags) e = refl
+
+-- a change that the filter keeps is no deletion
+pub object_after-kept : (f : FilterValue) (c : ChangeValue) → keeps f c ≡ true → object_after c ≡ Some c
+unfolding keeps
+object_after-kept f c e = kept_as f c c.what e
+
+-- it leaves itself
+pub left_by-kept : (f : FilterValue) (c : ChangeValue) → keeps f c ≡ true → left_by f c ≡ Some c
+left_by-kept f c e = ap (kept_object f) (object_after-kept f c e) ∙ ap (λ (b : Bool). if b then Some c else None) e
+
+-- any other leaves nothing
+pub left_by-dropped : (f : FilterValue) (c : ChangeValue) → keeps f c ≡ false → left_by f c ≡ None
+left_by-dropped f c e = by_object (object_after c) refl
+  where
+    by_object : (o : Option ChangeValue) → object_after c ≡ o → kept_object f o ≡ None
+    by_object None is = refl
+    by_object (Some d) is = let same : c ≡ d = left_as c d c.what is in ap (λ (b : Bool). if b then Some d else None) (subst (λ x. keeps f x ≡ false) same e)

@@ -26,14 +26,19 @@ object_as c what = Some c
 abbrev pub object_after : ChangeValue → Option ChangeValue
 object_after c = object_as c c.what
 
+-- what a change leaves of its object: `object_after`, or what a filter keeps of that
+abbrev pub Leaving : Type 0
+Leaving = ChangeValue → Option ChangeValue
+
 -- what the last change leaves, or what was there before if there is no change
-abbrev pub over_at : Option ChangeValue → Option ChangeValue → Option ChangeValue
-over_at before None = before
-over_at before (Some c) = object_after c
+abbrev pub over_at : Leaving → Option ChangeValue → Option ChangeValue → Option ChangeValue
+over_at left before None = before
+over_at left before (Some c) = left c
 
 -- the objects after the changes, over what was there before them
-abbrev pub over : (Key → Option ChangeValue) → List ChangeValue → Key → Option ChangeValue
-over before changes k = over_at (before k) (last_of changes k)
+abbrev pub over :
+    Leaving → (Key → Option ChangeValue) → List ChangeValue → Key → Option ChangeValue
+over left before changes k = over_at left (before k) (last_of changes k)
 
 -- no object
 abbrev pub nothing : Key → Option ChangeValue
@@ -41,7 +46,7 @@ nothing k = None
 
 -- the objects that a list of changes leaves
 abbrev pub content_of : List ChangeValue → Key → Option ChangeValue
-content_of changes = over nothing changes
+content_of changes = over object_after nothing changes
 
 -- the edits of a user in a list of changes: deletions and overwritten versions count
 abbrev pub edits_by_user : List ChangeValue → ℕ → ℕ

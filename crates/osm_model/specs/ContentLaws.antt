@@ -2,7 +2,8 @@
 use Rattle.std.specs.Prelude.{◌≡◌, ℕ, ◌+◌, List, ◌++◌, true, ◌↔◌}
 use Rattle.std.specs.Ordering.{nat_cmp}
 use Rattle.osm_model.specs.Change.{ChangeValue}
-use Rattle.osm_model.specs.Content.{content_of, over, edits_by_user, edits_by_changeset}
+use Rattle.osm_model.specs.Content.{content_of, object_after, over}
+use Rattle.osm_model.specs.Content.{edits_by_user, edits_by_changeset}
 use Rattle.osm_model.specs.KeyOrder.{kind_rank, same_key}
 use Rattle.osm_model.specs.contracts.kind.KindOrd.TheImpl.{ghosts as kind_order}
 use Rattle.osm_model.specs.declared.kind.Kind.{Kind}
@@ -19,7 +20,8 @@ KeysAreTold = (a b : Key) → (same_key a b ≡ true) ↔ (a ≡ b)
 -- the content of two lists joined is the second made over the content of the first: a deletion in
 -- the second takes out what the first left
 abbrev pub ContentsJoin : Type 0
-ContentsJoin = (a b : List ChangeValue) (k : Key) → content_of (a ++ b) k ≡ over (content_of a) b k
+ContentsJoin = (a b : List ChangeValue) (k : Key)
+    → content_of (a ++ b) k ≡ over object_after (content_of a) b k
 
 -- the edits of two lists joined are those of both
 abbrev pub EditsAdd : Type 0

@@ -2,16 +2,17 @@
 -- (Osmium manual, osmium-tags-filter: `w/highway` names the ways with a tag of that key, whatever
 -- its value; that the keys are listed once each and in order is our choice).
 use Rattle.std.specs.Prelude.{◌≡◌, ℕ, ◌==◌, ◌≤◌, Bool, true, false, ◌&&◌, ◌||◌, List, [], length}
-use Rattle.std.specs.Prelude.{Option, Some, None}
+use Rattle.std.specs.Prelude.{Option, Some, None, if◌then◌else◌}
 use Rattle.std.specs.List.{AllByRecursion, list_any}
 use Rattle.std.specs.List.Sorted.{IsStrictlySortedBy}
 use Rattle.std.specs.Str.{bytes_eq}
 use Rattle.osm_model.specs.Change.{ChangeValue}
-use Rattle.osm_model.specs.Content.{object_after}
+use Rattle.osm_model.specs.Content.{Leaving, object_after}
 use Rattle.osm_model.specs.Limits.{max_keys}
 use Rattle.osm_model.specs.Text.{IsText, bytes_cmp}
 use Rattle.osm_model.specs.declared.change.What.{What}
 use Rattle.osm_model.specs.declared.change.What.TheVariants as whats
+use Rattle.osm_model.specs.declared.kind.Key.{Key}
 use Rattle.osm_model.specs.declared.kind.Kind.{Kind}
 use Rattle.osm_model.specs.declared.kind.Kind.TheVariants.{Node, Way, Relation}
 use Rattle.osm_model.specs.declared.lists.Tag.{Tag}
@@ -72,3 +73,21 @@ keeps_object f (Some c) = chooses f c.key.kind && keeps_tags f.keys (tags_of c.w
 -- whether what a change leaves of its object is kept: a deletion leaves nothing
 unfoldable pub keeps : FilterValue → ChangeValue → Bool
 keeps f c = keeps_object f (object_after c)
+
+-- an object if the filter keeps it, otherwise none
+abbrev pub kept_object : FilterValue → Option ChangeValue → Option ChangeValue
+kept_object f None = None
+kept_object f (Some c) = if keeps f c then Some c else None
+
+-- those of the objects that the filter keeps
+abbrev pub kept : FilterValue → (Key → Option ChangeValue) → Key → Option ChangeValue
+kept f objects k = kept_object f (objects k)
+
+-- what the filter keeps of what a change leaves: a change that it doesn't keep takes its object
+-- away, as a deletion does
+abbrev pub left_by : FilterValue → Leaving
+left_by f c = kept_object f (object_after c)
+
+-- the filter keeps each of the objects
+abbrev pub AreKept : FilterValue → List ChangeValue → Type 0
+AreKept f objects = AllByRecursion (λ c. keeps f c ≡ true) objects

@@ -6,7 +6,9 @@ ghost use Rattle.std.specs.Prelude.{IfOk, IsErrOf, IsTrue, OnErr};
 ghost use Rattle.std.specs.List.{list_any};
 ghost use Rattle.osm_model.specs.Filter.{AreRising, IsFilter, everything, has_kind};
 ghost use Rattle.osm_model.specs.Filter.{is_among, keeps, keeps_tags};
-ghost use Rattle.osm_model.specs.FilterLaws.{DeletionsAreDropped, EverythingIsKept, FiltersAreTold};
+ghost use Rattle.osm_model.specs.FilterLaws.{DeletionsAreDropped, EverythingIsKept, EverythingIsLeft};
+ghost use Rattle.osm_model.specs.FilterLaws.{ExtractsAreEnough, ExtractsAreKeptUp, FiltersAreTold};
+ghost use Rattle.osm_model.specs.FilterLaws.{KeptAreObjects};
 ghost use Rattle.osm_model.specs.Limits.{max_keys};
 
 use crate::change::{Change, What};
@@ -196,12 +198,17 @@ impl Filter {
 }
 
 /// Tells the prover the laws of filters: two are equal exactly if they choose the same kinds and
-/// keys; the filter of all objects keeps each that is left, and no filter keeps a deletion. Does
-/// nothing at run time.
+/// keys; the filter of all objects keeps each that is left, and no filter keeps a deletion. What is
+/// kept of a mirror is enough to apply changes to: with each of them leaving only what is kept, it
+/// becomes what is kept of the whole mirror with the changes applied. Does nothing at run time.
 pub fn laws_of_filters()
     ensures told { FiltersAreTold }
     ensures all { EverythingIsKept }
     ensures deletions { DeletionsAreDropped }
+    ensures kept { KeptAreObjects }
+    ensures left { EverythingIsLeft }
+    ensures kept_up { ExtractsAreKeptUp }
+    ensures enough { ExtractsAreEnough }
 {}
 
 // Whether each key is above the one before it.

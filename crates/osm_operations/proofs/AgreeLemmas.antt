@@ -10,6 +10,7 @@ use Rattle.std.proofs.lemmas.Option.{same_Some}
 use Rattle.osm_model.proofs.TimeLemmas.{shown_by_digits}
 use Rattle.osm_model.specs.Change.{ChangeValue}
 use Rattle.osm_model.specs.Content.{content_of}
+use Rattle.osm_model.specs.Filter.{everything}
 use Rattle.osm_model.specs.Limits.{max_sequence}
 use Rattle.osm_model.specs.Steps.Clock.{loose_moment}
 use Rattle.osm_model.specs.Time.{Shows}
@@ -181,8 +182,9 @@ save_before p x base number told s = record {
         record {
           within = grind (arith, length-append);
           base = is.base;
-          mirror = subst (λ cs. IsMirrorOf cs (changes_after (p ++ x ∷ []) v.base v.number) v.mirror) (sym (changes_within p (x ∷ []) v.number within))
-              (subst (λ cs. IsMirrorOf (changes_up_to p v.number) cs v.mirror) (sym (after_within p (x ∷ []) v.base v.number within)) is.mirror);
+          filter_is = is.filter_is;
+          mirror = subst (λ cs. IsMirrorOf everything cs (changes_after (p ++ x ∷ []) v.base v.number) v.mirror) (sym (changes_within p (x ∷ []) v.number within))
+              (subst (λ cs. IsMirrorOf everything (changes_up_to p v.number) cs v.mirror) (sym (after_within p (x ∷ []) v.base v.number within)) is.mirror);
           time = is.time ∙ sym (time_within p (x ∷ []) v.number within);
         }
 

@@ -10,6 +10,7 @@ use Rattle.std.proofs.lemmas.Option.{same_Some}
 use Rattle.osm_model.specs.Change.{ChangeValue, IsChange}
 use Rattle.osm_model.specs.Content.{content_of}
 use Rattle.osm_model.specs.Data.{IsData, IsLeft}
+use Rattle.osm_model.specs.Filter.{everything}
 use Rattle.osm_model.specs.Limits.{max_file, max_sequence}
 use Rattle.osm_model.specs.declared.kind.Key.{Key}
 use Rattle.osm_mirror.specs.Mirror.{IsMirror, IsMirrorOf, IsObject, MirrorValue, object_at}
@@ -22,6 +23,7 @@ use Rattle.osm_state.specs.declared.state_text.StateError.{StateError}
 use Rattle.osm_state.specs.StateLaws.{NoFaultBesideState}
 use Rattle.osm_state.specs.declared.paths.Suffix.{Suffix}
 use Rattle.osm_state.specs.declared.paths.Suffix.TheVariants.{State}
+use Rattle.osm_follow.proofs.BeginLemmas.{everything_left}
 use Rattle.osm_follow.proofs.PublishedLemmas.{time_next}
 use Rattle.osm_follow.specs.Published.{PublishedValue, changes_after, changes_up_to, sequence_at}
 use Rattle.osm_folder.proofs.BeginLemmas.{base_of_export, one_form, same_base, same_start, spelled_data}
@@ -101,14 +103,15 @@ pub has_export : (h : hist.History) (extract : List ℕ) (told : Option (List �
 has_export h extract told holds named held save there fits =
     let here : IsSaved told held.saved = rw held.there (held.small, held.spelled) in
     let same : held.saved ≡ save.value = one_saved told held.saved save.value here save.saved in
-    let mirror : IsMirrorOf (changes_up_to (hist.published_of h) save.value.number)
+    let mirror : IsMirrorOf everything (changes_up_to (hist.published_of h) save.value.number)
     (changes_after (hist.published_of h) save.value.base save.value.number) held.saved.mirror = rw same save.in_step.mirror in
     record {
       saved = is_there_not (hist.is_saved h) told held.bytes there held.there;
       named = named;
       objects = held.saved.mirror.objects;
       are_data = mirror_data held.saved.mirror held.spelled.savable.mirror;
-      content = λ k. mirror.objects k ∙ ap (λ n. content_of (changes_up_to (hist.published_of h) n) k) save.number_is;
+      content = λ k. mirror.objects k ∙ (everything_left (changes_up_to (hist.published_of h) save.value.number) k
+          ∙ ap (λ n. content_of (changes_up_to (hist.published_of h) n) k) save.number_is);
       fits = fits;
     }
 
@@ -268,7 +271,7 @@ none_after : (p : List PublishedValue) (k : ℕ) → k ≤ length p → changes_
 none_after p k within = ap (flat_map (λ (q : PublishedValue). q.changes)) (drop_all k (take k p) (omega (arith, length-take-le k p within)))
 
 uncounted : (cs counted objects : List ChangeValue) → IsData objects → ((k : Key) → object_at objects k ≡ content_of cs k) → counted ≡ []
-    → IsMirrorOf cs counted (record { objects = objects; users = []; changesets = [] })
+    → IsMirrorOf everything cs counted (record { objects = objects; users = []; changesets = [] })
 unfolding IsStrictlySortedBy
 uncounted cs counted objects are content none = rw none (record {
   orderly = record {
@@ -276,7 +279,7 @@ uncounted cs counted objects are content none = rw none (record {
     users = record { rising = tt; above = tt };
     changesets = record { rising = tt; above = tt };
   };
-  objects = content;
+  objects = λ k. content k ∙ sym (everything_left cs k);
   users = λ uid. refl;
   changesets = λ id. refl;
 })
@@ -292,6 +295,7 @@ big_beginning p number extract state f of s text b over = record {
   in_step = subst (IsInStep p) (sym same) (record {
     within = of.within;
     base = omega arith;
+    filter_is = refl;
     mirror = uncounted (changes_up_to p number) (changes_after p number number) of.objects
         (spelled_data of.base_is.named.form of.base_is.bytes of.objects of.base_is.spelled) of.content (none_after p number of.within);
     time = sym (time_next p (number - 1) number (let above = of.above in omega (arith, above)));

@@ -253,7 +253,7 @@ export_step save extract f g f' g' (Ok report) same same_after a =
     (record { exported = a.exported refl; in_step = a.in_step refl; report_is = a.report }))
 export_step save extract f g f' g' (Err fault) same same_after a = (
   same_after ∙ (a.kept ∙ same),
-  subst (λ (x : Files). ExportStops (IsTrue true) save extract x fault) same a.stops,
+  inr (subst (λ (x : Files). ExportStops (IsTrue true) save extract x fault) same a.stops),
 )
 
 -- what the contract of a beginning says of its answer

@@ -168,6 +168,7 @@ unspoiled_all dir k s old new (suc count) a b is most (between, before, last) =
         applied = last.applied;
         number = last.number;
         base = last.base;
+        same_filter = last.same_filter;
         time = last.time;
       },
     )

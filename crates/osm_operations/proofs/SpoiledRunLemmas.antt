@@ -25,7 +25,7 @@ use Rattle.osm_folder.specs.Reports.{ReportValue, follow_report_of}
 use Rattle.osm_folder.specs.declared.fault.FileName.TheVariants.{Top, Sequence, Save}
 use Rattle.osm_folder.specs.declared.fault.RunFault.{RunFault}
 use Rattle.osm_folder.specs.declared.fault.RunFault.TheVariants.{WantOfMemory, ReadFault, WriteFault, TooLarge, Absent}
-use Rattle.osm_folder.specs.declared.fault.RunFault.TheVariants.{BadState, Mismatch, BadChange, BadSave, TopBehind}
+use Rattle.osm_folder.specs.declared.fault.RunFault.TheVariants.{BadState, Mismatch, BadChange, BadSave, OtherFilter, TopBehind}
 use Rattle.osm_folder.proofs.InStepLemmas.{all_in_step, not_bad, not_faulty, not_faulty_opl, not_other, not_over, one_saved, reached_of, top_number}
 use Rattle.osm_folder.proofs.NameLemmas.{top_is_no_file}
 use Rattle.osm_folder.proofs.StopLemmas.{follow_refuses}
@@ -113,7 +113,11 @@ module _ (ps : List PublishedValue) (base number : ℕ) (dir save : List ℕ) (k
   top_same = o.is.put.others (top_name_of dir) (λ e. top_is_no_file dir k s e)
 
   start_same : (start : Saved) (top : StateValue) → IsStarted dir save new start top → IsStarted dir save old start top
-  start_same start top started = record { saved = rw (← save_same) started.saved; top_is = rw (← top_same) started.top_is }
+  start_same start top started = record {
+    saved = rw (← save_same) started.saved;
+    filter_is = started.filter_is;
+    top_is = rw (← top_same) started.top_is;
+  }
 
   -- a run starts at the save's number and the last published one
   pub number_is : (start : Saved) (top : StateValue) → IsStarted dir save new start top → start.number ≡ number
@@ -301,10 +305,11 @@ module _ (ps : List PublishedValue) (base number : ℕ) (dir save : List ℕ) (k
   start_over known (ReadFault Save) h = tt
   start_over known (TooLarge Save) h = λ yes. rw (← save_same) (h yes)
   start_over known (BadSave line) h = λ yes. rw (← save_same) (h yes)
-  start_over known (ReadFault Top) h = λ yes. ((h yes).0, rw (← save_same) (h yes).1)
-  start_over known (Absent Top) h = λ yes. (((h yes).0.0, rw (← save_same) (h yes).0.1), rw (← top_same) (h yes).1)
-  start_over known (TooLarge Top) h = λ yes. (((h yes).0.0, rw (← save_same) (h yes).0.1), rw (← top_same) (h yes).1)
-  start_over known (BadState Top cause) h = λ yes. (((h yes).0.0, rw (← save_same) (h yes).0.1), rw (← top_same) (h yes).1)
+  start_over known OtherFilter h = λ yes. rw (← save_same) (h yes)
+  start_over known (ReadFault Top) h = λ yes. ((h yes).0, rw (← save_same) (h yes).1, (h yes).2)
+  start_over known (Absent Top) h = λ yes. (((h yes).0.0, rw (← save_same) (h yes).0.1, (h yes).0.2), rw (← top_same) (h yes).1)
+  start_over known (TooLarge Top) h = λ yes. (((h yes).0.0, rw (← save_same) (h yes).0.1, (h yes).0.2), rw (← top_same) (h yes).1)
+  start_over known (BadState Top cause) h = λ yes. (((h yes).0.0, rw (← save_same) (h yes).0.1, (h yes).0.2), rw (← top_same) (h yes).1)
   start_over known TopBehind h = λ yes. (let b = h yes in record {
     start = b.start;
     top = b.top;

@@ -6,6 +6,7 @@ use Rattle.std.specs.List.{zip}
 use Rattle.std.proofs.lemmas.Bool.{eq-eqb, ne_eqb}
 use Rattle.std.proofs.lemmas.List.{reverse-append}
 use Rattle.osm_model.specs.Change.{ChangeValue}
+use Rattle.osm_model.specs.Filter.{everything}
 use Rattle.osm_model.specs.Limits.{max_file, max_sequence}
 use Rattle.osm_mirror.proofs.MirrorLemmas.{mirror_of-nil}
 use Rattle.osm_save.specs.Head.{head_of}
@@ -404,7 +405,7 @@ export_more h dir save changes extract start a b report apart s (done, lost, cou
     let agrees = export_agrees (hist.published_of h) (hist.is_file_lost h) (hist.standing_of h) dir save changes extract start
     (files_of a.store) (files_of b.store) (files_of a.lost) a.published report apart s done in
     let made = done.exported.made in
-    let save_is = agrees.saved.save_is in (
+    let save_is = s.saved.save_is in (
       quiet (hist.published_of h) (hist.is_file_lost h) (hist.standing_after h (Exported report) (hist.standing_of h)) dir save changes
           extract start (files_of b.store) (files_of b.lost) b.published
           (renewed (hist.published_of h) (hist.is_file_lost h) (hist.standing_after h (Exported report) (hist.standing_of h)) dir save
@@ -412,7 +413,7 @@ export_more h dir save changes extract start a b report apart s (done, lost, cou
           (ap files_of lost) count agrees),
       done.report_is,
       has_export h extract (files_of a.store save) (λ text. length text ≤ max_file) made.named made.held s.saved.save_is s.saved.is_there made.fits,
-      number (head_of save_is.value) (saved_head (files_of b.store save) save_is.value save_is.saved) ∙ save_is.number_is,
+      number (head_of save_is.value) (saved_head (files_of a.store save) save_is.value save_is.saved) ∙ save_is.number_is,
     )
 
 -- an export is refused
@@ -423,7 +424,10 @@ export_stopped : (h : hist.History) (dir save changes extract : List ℕ) (start
     × KilledExportRefused h extract calls fault
 export_stopped h dir save changes extract start a b calls fault lacks s (stops, lost, count) = (
   still h dir save changes extract start a b s stops.0 (ap files_of lost) count,
-  export_row h extract save calls (files_of a.store) fault lacks s.saved.save_is s.saved.is_there stops.1,
+  elim stops.1 [
+    | inl want ↦ subst (KilledExportRefused h extract calls) (sym want) tt
+    | inr run ↦ export_row h extract save calls (files_of a.store) fault lacks s.saved.save_is s.saved.is_there run
+  ],
 )
 
 -- the name of the state that a beginning reads
@@ -995,7 +999,7 @@ starts_hold dir save changes extract w new none zero_is none_exported = record {
         saved = rw new.saved refl;
         base_is = refl;
         number_is = refl;
-        in_step = record { within = omega arith; base = omega arith; mirror = mirror_of-nil; time = refl };
+        in_step = record { within = omega arith; base = omega arith; filter_is = refl; mirror = mirror_of-nil everything; time = refl };
       };
       is_there = ap is_none new.saved;
       extract_is = refl;

@@ -33,7 +33,7 @@ use osm_model::limits::MAX_SEQUENCE;
 use osm_model::memory::WantOfMemory;
 use osm_model::time::time_write;
 use osm_opl::opl::Opl;
-use osm_save::head::{head_read, laws_of_heads};
+use osm_save::head::{HeadError, head_read, laws_of_heads};
 use osm_state::laws::laws_of_state;
 use osm_state::paths::Suffix;
 use osm_store::memory_store::MemoryStore;
@@ -296,22 +296,28 @@ pub(crate) fn export_killed(
 }
 
 // The number of the save, from its head; 0 if there is none.
-pub(crate) fn saved_number(store: &MemoryStore, save: &str) -> u32
-    ensures { IsNumberOfSave result (files_of store.now save.now) }
+pub(crate) fn saved_number(
+    alloc: Global,
+    store: &MemoryStore,
+    save: &str,
+) -> Result<u32, WantOfMemory>
+    ensures { IfOk result (λ number. IsNumberOfSave number (files_of store.now save.now)) }
 {
     match store.get(save) {
-        None => 0,
-        Some(bytes) => number_of_head(bytes),
+        None => Ok(0),
+        Some(bytes) => number_of_head(alloc, bytes),
     }
 }
 
-fn number_of_head(bytes: &[u8]) -> u32
-    ensures { (head : Head) → BeginsSave bytes.now head → result ≡ head.number }
+fn number_of_head(alloc: Global, bytes: &[u8]) -> Result<u32, WantOfMemory>
+    ensures { IfOk result (λ number. (head : Head)
+        → BeginsSave bytes.now head → number ≡ head.number) }
 {
     laws_of_heads();
-    match head_read(bytes) {
-        Ok(head) => head.number,
-        Err(_) => 0,
+    match head_read(alloc, bytes) {
+        Ok(head) => Ok(head.number),
+        Err(HeadError::BadHead { .. }) => Ok(0),
+        Err(HeadError::WantOfMemory) => Err(WantOfMemory),
     }
 }
 

@@ -7,7 +7,7 @@ ghost use Rattle.osm_store.specs.Stores.{files_of};
 ghost use Rattle.osm_operations.specs.Correct.{AreApart, IsNew, IsRun};
 ghost use Rattle.osm_operations.specs.Steps.Stepping.{BeginTo, ExportTo, FollowTo, HasCallsOf};
 ghost use Rattle.osm_operations.specs.Steps.Stepping.{HasFollowCalls, HasPublishCalls, IsNumber};
-ghost use Rattle.osm_operations.specs.Steps.Stepping.{IsNumberOfSave, IsWhole, KeepsExported};
+ghost use Rattle.osm_operations.specs.Steps.Stepping.{IsWhole, KeepsExported};
 ghost use Rattle.osm_operations.specs.Steps.Stepping.{KeepsOthers, LoseTo, PublishAsTo};
 ghost use Rattle.osm_operations.specs.Steps.Stepping.{PublishTo, PutBackTo, SettleTo, Step};
 ghost use Rattle.osm_operations.specs.Steps.Stepping.{HasSpoiledCalls, SpoiledTo, exported_reply};
@@ -330,8 +330,11 @@ impl World {
         ensures whole { IsWhole result }
         ensures exported { KeepsExported result self.old self.new }
     {
+        let Ok(number) = saved_number(self.alloc, &self.store, save) else {
+            return Reply::Refused(RunFault::WantOfMemory);
+        };
         let answer = export(self.alloc, &mut self.store, save, extract);
-        self.export_reply(save, answer)
+        self.export_reply(number, answer)
     }
 
     fn export_killed(&mut self, save: &str, extract: &str, calls: u64) -> Reply
@@ -339,21 +342,23 @@ impl World {
         ensures left { HasCallsOf 2 calls result }
         ensures exported { KeepsExported result self.old self.new }
     {
+        let Ok(number) = saved_number(self.alloc, &self.store, save) else {
+            return Reply::Refused(RunFault::WantOfMemory);
+        };
         let answer = export_killed(self.alloc, &mut self.store, save, extract, calls);
-        self.export_reply(save, answer)
+        self.export_reply(number, answer)
     }
 
-    // The reply to an export. One that is done exported the number of the save.
-    fn export_reply(&mut self, save: &str, answer: Result<Report, RunFault>) -> Reply
+    // The reply to an export of a save of that number. One that is done exported the number.
+    fn export_reply(&mut self, number: u32, answer: Result<Report, RunFault>) -> Reply
         ensures reply { result ≡ exported_reply answer }
-        ensures number { OnOk answer
-            (IsNumberOfSave self.new.exported (files_of self.old.store save.now)) }
+        ensures number { OnOk answer (self.new.exported ≡ number) }
         ensures kept { OnErr answer (self.new.exported ≡ self.old.exported) }
         ensures others { KeepsOthers self.old self.new }
     {
         match answer {
             Ok(report) => {
-                self.exported = saved_number(&self.store, save);
+                self.exported = number;
                 Reply::Exported(report)
             }
             Err(fault) => Reply::Refused(fault),

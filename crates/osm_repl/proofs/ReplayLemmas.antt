@@ -4,6 +4,7 @@ use Rattle.std.proofs.lemmas.List.Elements.{filter-append}
 use Rattle.std.specs.Io.KnownBytes.{Consumes, IsAtEnd}
 use Rattle.std.specs.List.{AllZip}
 use Rattle.std.specs.Prelude.{not, IfSome}
+use Rattle.osm_model.specs.Filter.{FilterValue, everything}
 use Rattle.osm_reading.specs.Lines.{lines_of, is_skipped}
 use Rattle.osm_repl.specs.Replay.{IsWriteFault, ReplayFault, ReplayLeaves, RepliesTo}
 use Rattle.osm_repl.specs.Replies.{reply_text}
@@ -12,7 +13,7 @@ use Rattle.osm_repl.specs.Script.{IsEventLine, ScriptOf, IsBadLine, unskipped}
 use Rattle.std.proofs.lemmas.List.{flat_map_more}
 use Rattle.osm_world.specs.Correct.{IsRun}
 use Rattle.osm_world.specs.Step.{Step}
-use Rattle.osm_world.specs.World.{WorldValue}
+use Rattle.osm_world.specs.World.{WorldValue, new_world, new_world_of}
 use Rattle.osm_world.specs.declared.event.Event.{Event}
 use Rattle.osm_world.specs.declared.event.Reply.{Reply}
 use Rattle.osm_folder.specs.declared.fault.RunFault.{RunFault}
@@ -57,15 +58,24 @@ silent input old new fault h not_written = h
 
 -- what the laws of runs say about one more step
 abbrev pub RunsOn : Type 0
-RunsOn = (events : List Event) (replies : List Reply) (w : WorldValue) (e : Event) (r : Reply) (v : WorldValue)
-    → IsRun events replies w → Step w e r v → IsRun (events ++ e ∷ []) (replies ++ r ∷ []) v
+RunsOn = (f : FilterValue) (events : List Event) (replies : List Reply) (w : WorldValue) (e : Event) (r : Reply) (v : WorldValue)
+    → IsRun f events replies w → Step w e r v → IsRun f (events ++ e ∷ []) (replies ++ r ∷ []) v
+
+-- no event is answered by a new world
+pub answered_none : ((f : FilterValue) → IsRun f [] [] (new_world_of f)) → (world : WorldValue) (text : List ℕ) → world ≡ new_world → text ≡ []
+    → IsAnswered [] world text
+answered_none first world text new none = record {
+  replies = [];
+  is_run = subst (IsRun everything [] []) (sym new) (first everything);
+  text_is = none;
+}
 
 -- one more event is answered
 pub answered_more : (next : RunsOn) (events : List Event) (old : WorldValue) (text : List ℕ) (event : Event) (reply : Reply) (new : WorldValue) (more : List ℕ)
     → IsAnswered events old text → Step old event reply new → more ≡ text ++ reply_text reply → IsAnswered (events ++ event ∷ []) new more
 answered_more next events old text event reply new more a step is = record {
   replies = a.replies ++ reply ∷ [];
-  is_run = next events a.replies old event reply new a.is_run step;
+  is_run = next everything events a.replies old event reply new a.is_run step;
   text_is = is ∙ (ap (λ (xs : List ℕ). xs ++ reply_text reply) a.text_is ∙ flat_map_more reply_text [] a.replies reply);
 }
 

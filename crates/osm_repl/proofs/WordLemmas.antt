@@ -1,6 +1,6 @@
 -- Rows of a command whose words pass: each has a first value, and only a time's may be empty.
 use Rattle.std.proofs.Common.{◌≡◌, ◌∙◌, ◌++◌, ◌&&◌, ◌||◌, ◌⊎◌, inl, inr, ℕ, zero, suc, Bool, true, false, not, List, []}
-use Rattle.std.proofs.Common.{◌∷◌, Option, Some, None, refl, ap, sym, subst, is_some, codes, length, drop}
+use Rattle.std.proofs.Common.{◌∷◌, Option, Some, None, refl, sym, subst, is_some, codes, length, drop}
 use Rattle.std.specs.Prelude.{cond, encode_utf8, find, fold, option_and_then, slice_get}
 use Rattle.std.specs.Option.{option_map_or}
 use Rattle.std.specs.List.{list_any}
@@ -124,7 +124,8 @@ at_row_good id change missing (r ∷ rs) changed new old = go (bytes_eq r.id id)
 -- the row of an argument, once it has these values
 with_good : (a : Rule) (source : ValueSource) (values : List Text) (rows : List Row) → HasFirst a.id values → Each IsGoodRow rows
     → Each IsGoodRow (with_values a.id (reading_by a) source values rows)
-with_good a source values rows good old = at_row_good a.id (more_values source values) _ rows (λ r h. (has_first_more r.id r.values values h, tt)) (good, tt) old
+with_good a source values rows good old =
+    at_row_good a.id (more_values source values) _ rows (λ r h. (has_first_more r.id r.values values h, tt)) (good, tt) old
 
 without_good : (id : Text) (rows : List Row) → Each IsGoodRow rows → Each IsGoodRow (without id rows)
 without_good id rows old = at_row_good id (λ _. []) [] rows (λ r h. tt) tt old

@@ -1,6 +1,7 @@
 -- What a replay reads and writes.
 use Rattle.std.specs.Prelude.{◌≡◌, ℕ, ◌<◌, ◌≤◌, List, length, Option, take, IfSome}
 use Rattle.std.specs.Io.KnownBytes.{Consumes, Appends}
+use Rattle.osm_model.specs.Filter.{everything}
 use Rattle.osm_model.specs.Limits.{max_file}
 use Rattle.osm_world.specs.Correct.{IsRun}
 use Rattle.osm_world.specs.World.{WorldValue}
@@ -13,13 +14,13 @@ use Rattle.osm_folder.specs.declared.fault.RunFault.{RunFault}
 use Rattle.osm_folder.specs.declared.fault.RunFault.TheVariants.{WantOfMemory, ReadFault}
 use Rattle.osm_folder.specs.declared.fault.RunFault.TheVariants.{WriteFault, TooLarge, BadScript}
 
--- the text is the reply text of a run over the events of the script
+-- the text is the reply text of a run over the events of the script, with no filter
 pub record RepliesTo (script text : List ℕ) : Type 0 where
   pub events : List Event
   pub is_script : ScriptOf script events
   pub replies : List Reply
   pub world : WorldValue
-  pub is_run : IsRun events replies world
+  pub is_run : IsRun everything events replies world
   pub text_is : text ≡ replies_text replies
 
 -- if the reader's bytes are known, those that were read are a script of at most 64 MiB, and its

@@ -100,7 +100,7 @@ fn file_of(fault: RunFault) -> Option<FileName> {
         RunFault::Mismatch(number) => Some(FileName::Sequence(number, Suffix::State)),
         RunFault::Differs(number) => Some(FileName::Sequence(number, Suffix::State)),
         RunFault::ZeroBase => Some(FileName::State),
-        RunFault::BadSave(_) => Some(FileName::Save),
+        RunFault::BadSave(_) | RunFault::OtherFilter => Some(FileName::Save),
         RunFault::BadScript(_) => Some(FileName::Input),
         RunFault::TopBehind | RunFault::TimeBehind => Some(FileName::Top),
         RunFault::TimeBack | RunFault::SequenceFull => Some(FileName::Top),

@@ -82,7 +82,7 @@ A run locks SAVE by the file SAVE.lock, which stays there. If another run is at 
 'save: in use', and the status is 4.
 
 A name that ends in .opl is that of an OPL file, one that ends in .o5m that of an o5m file. It has
-at most 64 MiB. Its objects stand by rising keys: nodes, ways and relations, each by their ids. Each
+at most 64 MiB. Its objects come by rising keys: nodes, ways and relations, each by their ids. Each
 has its metadata, and none is deleted. A state of number 0 is refused, so what export writes of a
 save at number 0 is nothing to begin with.
 
@@ -139,7 +139,7 @@ pub(crate) const EXPORTING: &str = "As in
   osmrepl export follower.save objects.o5m
 
 The objects are written by rising keys: nodes, ways and relations, each by their ids. A name that
-ends in .opl is that of an OPL file, and one that ends in .o5m that of an o5m file, which has at most
+ends in .opl is that of an OPL file, and one that ends in .o5m that of an o5m file. It has at most
 64 MiB. The number, the time and the counts of edits aren't written. Nothing is printed.
 
 With the state file of the save's number, OUT is what begin takes.

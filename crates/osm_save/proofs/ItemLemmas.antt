@@ -9,7 +9,8 @@ use Rattle.std.specs.declared.cmp.Ordering.{Ordering}
 use Rattle.std.specs.declared.cmp.Ordering.TheVariants.{Less, Equal, Greater}
 use Rattle.osm_reading.specs.Pieces.{cut_at}
 use Rattle.osm_reading.specs.Steps.Answers.{and_then}
-use Rattle.osm_save.specs.Steps.Answers.{Fails, Stops}
+use Rattle.std.specs.Prelude.{Err, Result}
+use Rattle.osm_save.specs.Steps.Answers.{Fails, Stops, WantedIf, WantsOnlyIf}
 use Rattle.osm_save.specs.Steps.Reading.{is_above, items_at}
 use Rattle.osm_save.specs.declared.stop.Stop.{Stop}
 use Rattle.osm_save.specs.declared.stop.Stop.TheVariants.{WantOfMemory, Wrong}
@@ -73,6 +74,14 @@ pub any_stop : {A : Type 0} (s t : Stop) (r : Option A) → Fails s r → Stops 
 any_stop WantOfMemory t r bad = absurd bad
 any_stop (Wrong left) WantOfMemory r none = tt
 any_stop (Wrong left) (Wrong other) r none = none
+
+wanted_from : (P Q : Type 0) (s : Stop) → WantedIf P s → (P → Q) → WantedIf Q s
+wanted_from P Q WantOfMemory h f = f h
+wanted_from P Q (Wrong left) h f = tt
+
+-- memory is refused to the whole reading only if it is refused to its part
+pub wants_from : {A : Type 0} (P Q : Type 0) (s : Stop) (r : Result A Stop) → WantedIf P s → (P → Q) → r ≡ Err s → WantsOnlyIf Q r
+wants_from P Q s r h f e = rw e (wanted_from P Q s h f)
 
 -- ---- rising
 

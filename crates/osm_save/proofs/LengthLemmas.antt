@@ -17,8 +17,9 @@ use Rattle.osm_opl.specs.Line.{status_text}
 use Rattle.osm_opl.specs.Written.{coordinate_field, coordinate_text, escaped_text, items_text, key_text, line_text}
 use Rattle.osm_opl.specs.Written.{member_text, members_field, meta_text, number_field, ref_text, refs_field, tag_text}
 use Rattle.osm_opl.specs.Written.{tags_field, user_fields, version_fields, what_text}
-use Rattle.osm_save.specs.Head.{ended, head_lines, head_of}
-use Rattle.osm_save.specs.Save.{count_text, list_lines, save_text}
+use Rattle.osm_save.specs.Head.{head_lines, head_of}
+use Rattle.osm_save.specs.Lines.{ended, list_lines}
+use Rattle.osm_save.specs.Save.{count_text, save_text}
 use Rattle.osm_save.specs.declared.save.Saved.{Saved}
 use Rattle.osm_save.specs.declared.version.Version.{Version}
 use Rattle.osm_save.proofs.TextLemmas.{before, mirror_text, save_text_is}
@@ -178,4 +179,4 @@ text_long version v =
     length (mirror_text v.mirror) = both (43 * length v.mirror.objects) (4 * length v.mirror.users
     + (4 * length v.mirror.changesets + 0)) (objects_of v) (users_of v ++ (changesets_of v ++ last)) objects
     three in
-    rw (save_text_is version v) (omega (arith, lists, before_long (head_lines version (head_of v)) (mirror_text v.mirror)))
+    rw (save_text_is version v) (omega (arith, lists, before_long (head_lines version (head_of v) v.filter) (mirror_text v.mirror)))

@@ -5,6 +5,8 @@ pub mod ObjectLemmas
 pub mod TextLemmas
 pub mod LineLemmas
 pub mod ListLemmas
+pub mod FilterLemmas
+pub mod KeyLengthLemmas
 pub mod MirrorLemmas
 pub mod HeadLemmas
 pub mod SaveLemmas

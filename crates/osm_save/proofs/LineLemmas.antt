@@ -59,7 +59,7 @@ fixed_again text rest lacks =
 
 -- ---- a word and a number
 
-word_takes : (word bytes rest : List ℕ) → after_word word bytes ≡ Some rest → bytes ≡ word ++ rest
+pub word_takes : (word bytes rest : List ℕ) → after_word word bytes ≡ Some rest → bytes ≡ word ++ rest
 word_takes word bytes rest e =
     let g = guard_some (bytes_eq (take (length word) bytes) word) (Some (drop (length word) bytes)) rest e in
     let same : take (length word) bytes ≡ word = (bytes_eq-Decides (take (length word) bytes) word).0 g.0 in
@@ -78,7 +78,7 @@ pub record TakesNumbered (word : List ℕ) (most : ℕ) (bytes : List ℕ) (n : 
   pub few : n ≤ most
   pub small : n < 1000000000000000000
 
-same_line : (word line digits text after : List ℕ) → line ≡ word ++ digits → digits ≡ text → line ++ 10 ∷ after ≡ (word ++ text) ++ 10 ∷ after
+pub same_line : (word line digits text after : List ℕ) → line ≡ word ++ digits → digits ≡ text → line ++ 10 ∷ after ≡ (word ++ text) ++ 10 ∷ after
 same_line word line digits text after p q = rw (p, q) refl
 
 pub numbered_takes : (word : List ℕ) (most : ℕ) (bytes : List ℕ) (r : ℕ × List ℕ) → numbered_at word most bytes ≡ Some r → TakesNumbered word most bytes r.0 r.1

@@ -10,6 +10,7 @@ use Rattle.std.specs.declared.cmp.Ordering.{Ordering}
 use Rattle.std.specs.declared.cmp.Ordering.TheVariants.{Less, Equal, Greater}
 use Rattle.std.proofs.lemmas.Cmp.{nat_cmp_total, tied_itself}
 use Rattle.osm_model.specs.Change.{ChangeValue}
+use Rattle.osm_model.specs.Filter.{AreKept, FilterValue}
 use Rattle.osm_model.specs.KeyOrder.{key_cmp}
 use Rattle.osm_model.specs.Limits.{IsPositive}
 use Rattle.osm_mirror.specs.Mirror.{Counted, HasNumber, IsAboveZero, IsObject}
@@ -21,41 +22,54 @@ use Rattle.osm_opl.proofs.ListLaws.{line_feed}
 use Rattle.osm_opl.proofs.RoundTrip.{line_spells}
 use Rattle.osm_reading.specs.Pieces.{Lacks}
 use Rattle.osm_reading.proofs.PieceLemmas.{lacks_append}
-use Rattle.osm_save.specs.Head.{ended}
-use Rattle.osm_save.specs.Save.{count_text, list_lines}
+use Rattle.osm_save.specs.Lines.{ended, list_lines}
+use Rattle.osm_save.specs.Save.{count_text}
 use Rattle.osm_save.specs.Steps.Reading.{count_at, counts_at, object_at, objects_at}
 use Rattle.osm_save.proofs.CountLemmas.{count_again, count_takes}
 use Rattle.osm_save.proofs.LineLemmas.{lacks_by}
 use Rattle.osm_save.proofs.ListLemmas.{IsItem, TakesList, list_again, list_takes}
 use Rattle.osm_save.proofs.NumberLemmas.{decimal_lacks}
-use Rattle.osm_save.proofs.ObjectLemmas.{object_again, object_takes}
+use Rattle.osm_save.proofs.ObjectLemmas.{IsKept, object_again, object_takes}
 
 -- ---- objects
 
-object_item : IsItem key_cmp (λ (c : ChangeValue). c.key) line_text IsObject object_at
-object_item = record {
-  takes = λ last line c e. (let t = object_takes last line c e in (t.text, t.object, t.above));
-  again = λ last c good above. object_again last c good above;
-  lacks = λ c good. line_lacks 10 line_feed (line_text c) c (λ e. omega (arith, e)) (line_spells c good.limits);
+object_item : (f : FilterValue) → IsItem key_cmp (λ (c : ChangeValue). c.key) line_text (IsKept f) (object_at f)
+object_item f = record {
+  takes = λ last line c e. (let t = object_takes f last line c e in (t.text, t.good, t.above));
+  again = λ last c good above. object_again f last c good above;
+  lacks = λ c good. line_lacks 10 line_feed (line_text c) c (λ e. omega (arith, e)) (line_spells c good.object.limits);
 }
 
-abbrev pub TakesObjects : ℕ → List ℕ → List ChangeValue × List ℕ → Type 0
-TakesObjects most bytes r = TakesList key_cmp (λ (c : ChangeValue). c.key) line_text IsObject (codes "objects ") most bytes r.0 r.1
+abbrev pub TakesObjects : FilterValue → ℕ → List ℕ → List ChangeValue × List ℕ → Type 0
+TakesObjects f most bytes r = TakesList key_cmp (λ (c : ChangeValue). c.key) line_text (IsKept f) (codes "objects ") most bytes r.0 r.1
 
-pub objects_take : (most : ℕ) (bytes : List ℕ) (r : List ChangeValue × List ℕ) → objects_at most bytes ≡ Some r → TakesObjects most bytes r
+pub objects_take : (f : FilterValue) (most : ℕ) (bytes : List ℕ) (r : List ChangeValue × List ℕ) → objects_at f most bytes ≡ Some r
+    → TakesObjects f most bytes r
 unfolding objects_at
-objects_take most bytes r e = list_takes key_cmp keys_total (λ (c : ChangeValue). c.key) line_text IsObject object_at
-    object_item (codes "objects ") most bytes r e
+objects_take f most bytes r e = list_takes key_cmp keys_total (λ (c : ChangeValue). c.key) line_text (IsKept f)
+    (object_at f) (object_item f) (codes "objects ") most bytes r e
 
 objects_lack : Lacks 10 (codes "objects ")
 objects_lack = lacks_by 10 (codes "objects ") refl
 
-pub objects_again : (most : ℕ) (cs : List ChangeValue) (rest : List ℕ) → length cs ≤ most → most < 1000000000000000000
-    → AllByRecursion IsObject cs → IsStrictlySortedBy key_cmp (map (λ (c : ChangeValue). c.key) cs)
-    → objects_at most (ended (list_lines (codes "objects ") line_text cs) ++ rest) ≡ Some (cs, rest)
+pub objects_again : (f : FilterValue) (most : ℕ) (cs : List ChangeValue) (rest : List ℕ) → length cs ≤ most → most < 1000000000000000000
+    → AllByRecursion (IsKept f) cs → IsStrictlySortedBy key_cmp (map (λ (c : ChangeValue). c.key) cs)
+    → objects_at f most (ended (list_lines (codes "objects ") line_text cs) ++ rest) ≡ Some (cs, rest)
 unfolding objects_at
-objects_again most cs rest few small good rising = list_again key_cmp keys_total (λ (c : ChangeValue). c.key) line_text
-    IsObject object_at object_item (codes "objects ") most cs rest objects_lack few small good rising
+objects_again f most cs rest few small good rising = list_again key_cmp keys_total (λ (c : ChangeValue). c.key)
+    line_text (IsKept f) (object_at f) (object_item f) (codes "objects ") most cs rest objects_lack few small good rising
+
+pub objects_of : (f : FilterValue) (cs : List ChangeValue) → AllByRecursion (IsKept f) cs → AllByRecursion IsObject cs
+objects_of f [] all = tt
+objects_of f (c ∷ cs) all = (all.0.object, objects_of f cs all.1)
+
+pub kept_of : (f : FilterValue) (cs : List ChangeValue) → AllByRecursion (IsKept f) cs → AreKept f cs
+kept_of f [] all = tt
+kept_of f (c ∷ cs) all = (all.0.kept, kept_of f cs all.1)
+
+pub kept_objects : (f : FilterValue) (cs : List ChangeValue) → AllByRecursion IsObject cs → AreKept f cs → AllByRecursion (IsKept f) cs
+kept_objects f [] objects kept = tt
+kept_objects f (c ∷ cs) objects kept = (record { object = objects.0; kept = kept.0 }, kept_objects f cs objects.1 kept.1)
 
 -- ---- counts
 

@@ -1,11 +1,12 @@
 -- The line of an object.
-use Rattle.std.proofs.Common.{◌≡◌, ℕ, List, refl, ap, sym, Bool, true, ◌&&◌, Option, Some, None, subst}
-use Rattle.std.specs.Prelude.{is_some, if◌then◌else◌}
+use Rattle.std.proofs.Common.{◌≡◌, ℕ, List, refl, sym, Bool, true, ◌&&◌, Option, Some, None, subst}
+use Rattle.std.specs.Prelude.{if◌then◌else◌}
 use Rattle.std.specs.Str.{bytes_eq}
 use Rattle.std.proofs.lemmas.Option.{same_Some}
 use Rattle.std.proofs.lemmas.Slice.Eq.{bytes_eq-Decides}
 use Rattle.osm_model.specs.Change.{ChangeValue}
 use Rattle.osm_model.specs.Content.{object_as, object_after}
+use Rattle.osm_model.specs.Filter.{FilterValue, keeps, keeps_object}
 use Rattle.osm_model.specs.KeyOrder.{key_cmp}
 use Rattle.osm_model.specs.declared.change.What.{What}
 use Rattle.osm_model.specs.declared.change.What.TheVariants.{Deleted, Node, Relation, Way}
@@ -27,39 +28,53 @@ no_change line none = by_reading (line_at line) refl
     by_reading None e = sym e
     by_reading (Some c) e = absurd (none c (line_takes line c e))
 
-abbrev is_kept : Option Key → List ℕ → ChangeValue → Bool
-is_kept last line c = bytes_eq (line_text c) line && is_some (object_after c) && is_above key_cmp last c.key
+abbrev is_read : FilterValue → Option Key → List ℕ → ChangeValue → Bool
+is_read f last line c = bytes_eq (line_text c) line && keeps f c && is_above key_cmp last c.key
+
+-- an object that the filter keeps
+pub record IsKept (f : FilterValue) (c : ChangeValue) : Type 0 where
+  pub object : IsObject c
+  pub kept : keeps f c ≡ true
 
 -- what is read from a line
-pub record TakesObject (last : Option Key) (line : List ℕ) (c : ChangeValue) : Type 0 where
+pub record TakesObject (f : FilterValue) (last : Option Key) (line : List ℕ) (c : ChangeValue) : Type 0 where
   pub text : line ≡ line_text c
-  pub object : IsObject c
+  pub good : IsKept f c
   pub above : is_above key_cmp last c.key ≡ true
 
-left_as : (c : ChangeValue) (w : What) → is_some (object_as c w) ≡ true → object_as c w ≡ Some c
-left_as c Deleted e = absurd cc
-left_as c (Node lon lat tags) e = refl
-left_as c (Way refs tags) e = refl
-left_as c (Relation members tags) e = refl
+left_as : (f : FilterValue) (c : ChangeValue) (w : What) → keeps_object f (object_as c w) ≡ true → object_as c w ≡ Some c
+left_as f c Deleted e = absurd cc
+left_as f c (Node lon lat tags) e = refl
+left_as f c (Way refs tags) e = refl
+left_as f c (Relation members tags) e = refl
 
-pub object_takes : (last : Option Key) (line : List ℕ) (c : ChangeValue) → object_at last line ≡ Some c → TakesObject last line c
+-- no filter keeps a deletion
+is_left_of : (f : FilterValue) (c : ChangeValue) → keeps f c ≡ true → object_after c ≡ Some c
+unfolding keeps
+is_left_of f c e = left_as f c c.what e
+
+pub object_takes : (f : FilterValue) (last : Option Key) (line : List ℕ) (c : ChangeValue) → object_at f last line ≡ Some c
+    → TakesObject f last line c
 unfolding object_at
-object_takes last line c e =
-    let r = some_then (line_at line) (λ (d : ChangeValue). if is_kept last line d then Some d else None) c e in
-    let g = guard_some (is_kept last line r.0) (Some r.0) c r.2 in
-    let p = both_held (bytes_eq (line_text r.0) line && is_some (object_after r.0)) (is_above key_cmp last r.0.key) g.0 in
-    let q = both_held (bytes_eq (line_text r.0) line) (is_some (object_after r.0)) p.0 in
-    subst (λ (d : ChangeValue). TakesObject last line d) (same_Some r.0 c g.1) (record {
+object_takes f last line c e =
+    let r = some_then (line_at line) (λ (d : ChangeValue). if is_read f last line d then Some d else None) c e in
+    let g = guard_some (is_read f last line r.0) (Some r.0) c r.2 in
+    let p = both_held (bytes_eq (line_text r.0) line && keeps f r.0) (is_above key_cmp last r.0.key) g.0 in
+    let q = both_held (bytes_eq (line_text r.0) line) (keeps f r.0) p.0 in
+    subst (λ (d : ChangeValue). TakesObject f last line d) (same_Some r.0 c g.1) (record {
       text = sym ((bytes_eq-Decides (line_text r.0) line).0 q.0);
-      object = record { limits = (line_takes line r.0 r.1).limits; is_left = left_as r.0 r.0.what q.1 };
+      good = record {
+        object = record { limits = (line_takes line r.0 r.1).limits; is_left = is_left_of f r.0 q.1 };
+        kept = q.1;
+      };
       above = p.1;
     })
 
 -- what is written is read
-pub object_again : (last : Option Key) (c : ChangeValue) → IsObject c → is_above key_cmp last c.key ≡ true → object_at last (line_text c) ≡ Some c
+pub object_again : (f : FilterValue) (last : Option Key) (c : ChangeValue) → IsKept f c → is_above key_cmp last c.key ≡ true
+    → object_at f last (line_text c) ≡ Some c
 unfolding object_at
-object_again last c is above =
-    let line : line_at (line_text c) ≡ Some c = line_again (line_text c) c (line_spells c is.limits) in
+object_again f last c is above =
+    let line : line_at (line_text c) ≡ Some c = line_again (line_text c) c (line_spells c is.object.limits) in
     let same : bytes_eq (line_text c) (line_text c) ≡ true = (bytes_eq-Decides (line_text c) (line_text c)).1 refl in
-    let is_left : is_some (object_after c) ≡ true = ap is_some is.is_left in
-    rw (line, same, is_left, above) refl
+    rw (line, same, is.kept, above) refl

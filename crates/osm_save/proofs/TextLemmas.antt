@@ -4,8 +4,9 @@ use Rattle.std.proofs.lemmas.List.{append_assoc, map-append}
 use Rattle.std.specs.Prelude.{codes}
 use Rattle.osm_opl.specs.Written.{line_text}
 use Rattle.osm_mirror.specs.Mirror.{MirrorValue}
-use Rattle.osm_save.specs.Head.{ended, head_lines, head_of}
-use Rattle.osm_save.specs.Save.{count_text, list_lines, save_lines, save_text}
+use Rattle.osm_save.specs.Head.{head_lines, head_of}
+use Rattle.osm_save.specs.Lines.{ended, list_lines}
+use Rattle.osm_save.specs.Save.{count_text, save_lines, save_text}
 use Rattle.osm_save.specs.declared.save.Saved.{Saved}
 use Rattle.osm_save.specs.declared.version.Version.{Version}
 
@@ -36,6 +37,10 @@ ended_before [] rest = refl
 ended_before (line ∷ lines) rest =
     append_assoc line (10 ∷ ended lines) rest ∙ ap (λ (l : List ℕ). line ++ 10 ∷ l) (ended_before lines rest)
 
+pub before-append : (a b : List (List ℕ)) (rest : List ℕ) → before (a ++ b) rest ≡ before a (before b rest)
+before-append [] b rest = refl
+before-append (line ∷ a) b rest = ap (λ (l : List ℕ). line ++ 10 ∷ l) (before-append a b rest)
+
 -- the lists of a mirror, and `end`
 abbrev pub mirror_text : MirrorValue → List ℕ
 mirror_text m = ended (list_lines (codes "objects ") line_text m.objects)
@@ -53,23 +58,23 @@ lists_joined h a b c d =
     ∙ (joined_before (h ++ a) b (ended c ++ ended d) ∙ joined_before h a (ended b ++ (ended c ++ ended d))))
 
 -- a save text, its head and then its lists
-pub save_text_is : (version : Version) (v : Saved) → save_text version v ≡ before (head_lines version (head_of v)) (mirror_text v.mirror)
+pub save_text_is : (version : Version) (v : Saved) → save_text version v ≡ before (head_lines version (head_of v) v.filter) (mirror_text v.mirror)
 unfolding save_text save_lines
 save_text_is version v =
-    lists_joined (head_lines version (head_of v)) (list_lines (codes "objects ") line_text v.mirror.objects)
+    lists_joined (head_lines version (head_of v) v.filter) (list_lines (codes "objects ") line_text v.mirror.objects)
     (list_lines (codes "users ") count_text v.mirror.users)
     (list_lines (codes "changesets ") count_text v.mirror.changesets) (codes "end" ∷ [])
-    ∙ ended_before (head_lines version (head_of v)) (mirror_text v.mirror)
+    ∙ ended_before (head_lines version (head_of v) v.filter) (mirror_text v.mirror)
 
 -- what is written, part after part, is the save text
-pub save_written : (version : Version) (v : Saved) (s o u c e : List ℕ) → s ≡ ended (head_lines version (head_of v))
+pub save_written : (version : Version) (v : Saved) (s o u c e : List ℕ) → s ≡ ended (head_lines version (head_of v) v.filter)
     → o ≡ s ++ ended (list_lines (codes "objects ") line_text v.mirror.objects)
     → u ≡ o ++ ended (list_lines (codes "users ") count_text v.mirror.users)
     → c ≡ u ++ ended (list_lines (codes "changesets ") count_text v.mirror.changesets) → e ≡ c ++ codes "end\n"
     → e ≡ save_text version v
 unfolding save_text save_lines
 save_written version v s o u c e p q r t w =
-    let start : List (List ℕ) = head_lines version (head_of v) in
+    let start : List (List ℕ) = head_lines version (head_of v) v.filter in
     let objects : List (List ℕ) = list_lines (codes "objects ") line_text v.mirror.objects in
     let users : List (List ℕ) = list_lines (codes "users ") count_text v.mirror.users in
     let changesets : List (List ℕ) = list_lines (codes "changesets ") count_text v.mirror.changesets in

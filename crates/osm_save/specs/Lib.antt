@@ -1,3 +1,5 @@
+pub mod Lines
+pub mod Filters
 pub mod Head
 pub mod Save
 pub mod Refusal

@@ -1,26 +1,26 @@
--- The save text: a follower's base, number and time, its mirror and its counts (our choice).
-use Rattle.std.specs.Prelude.{◌≡◌, ℕ, ◌*◌, ◌≤◌, List, [], ◌∷◌, ◌++◌, length, map, codes, decimal}
+-- The save text: a follower's base, number and time, its filter, its mirror and its counts (our
+-- choice).
+use Rattle.std.specs.Prelude.{◌≡◌, ℕ, ◌*◌, ◌≤◌, List, [], ◌∷◌, ◌++◌, length, codes, decimal}
+use Rattle.osm_model.specs.Filter.{AreKept, FilterValue, IsFilter}
 use Rattle.osm_model.specs.Limits.{max_changes}
 use Rattle.osm_mirror.specs.Mirror.{Counted, IsMirror, IsWithin, MirrorValue}
 use Rattle.osm_opl.specs.Written.{line_text}
-use Rattle.osm_save.specs.Head.{IsHeadIn, ended, head_lines, head_of, most_counted}
+use Rattle.osm_save.specs.Filters.{TellsFilter}
+use Rattle.osm_save.specs.Head.{IsHeadIn, head_lines, head_of, most_counted}
+use Rattle.osm_save.specs.Lines.{ended, list_lines}
 use Rattle.osm_save.specs.declared.head.Head.{Head}
 use Rattle.osm_save.specs.declared.save.Saved.{Saved}
 use Rattle.osm_save.specs.declared.version.Version.{Version}
-use Rattle.osm_save.specs.declared.version.Version.TheVariants.{One, Two}
+use Rattle.osm_save.specs.declared.version.Version.TheVariants.{One, Three, Two}
 
 -- `NUMBER COUNT`
 abbrev pub count_text : Counted → List ℕ
 count_text e = decimal e.0 ++ 32 ∷ decimal e.1
 
--- a word with the number of values, and then a line for each value
-abbrev pub list_lines : {X : Type 0} → List ℕ → (X → List ℕ) → List X → List (List ℕ)
-list_lines word text xs = (word ++ decimal (length xs)) ∷ map text xs
-
 -- the lines of a save text of that version, without their ends
 unfoldable pub save_lines : Version → Saved → List (List ℕ)
 save_lines version v =
-    head_lines version (head_of v)
+    head_lines version (head_of v) v.filter
     ++ list_lines (codes "objects ") line_text v.mirror.objects
     ++ list_lines (codes "users ") count_text v.mirror.users
     ++ list_lines (codes "changesets ") count_text v.mirror.changesets
@@ -31,12 +31,13 @@ save_lines version v =
 unfoldable pub save_text : Version → Saved → List ℕ
 save_text version v = ended (save_lines version v)
 
--- what is saved with that head
-abbrev pub saved_with : Head → MirrorValue → Saved
-saved_with head mirror = record {
+-- what is saved with that head, of a mirror under that filter
+abbrev pub saved_with : Head → FilterValue → MirrorValue → Saved
+saved_with head f mirror = record {
   number = head.number;
   base = head.base;
   time = head.time;
+  filter = f;
   mirror = mirror;
 }
 
@@ -45,16 +46,20 @@ saved_with head mirror = record {
 abbrev pub most_objects : Version → ℕ → ℕ
 most_objects One number = max_changes * number
 most_objects Two number = 999999999999999999
+most_objects Three number = 999999999999999999
 
--- what a text of that version can save: of users, of changesets and in a count no more than the
--- sequences after the base can have edits
+-- what a text of that version can save: objects that the filter keeps; and of users, of changesets
+-- and in a count no more than the sequences after the base can have edits
 pub record IsSavable (version : Version) (v : Saved) : Type 0 where
   pub head : IsHeadIn version (head_of v)
+  pub filter : IsFilter v.filter
+  pub tells : TellsFilter version v.filter
   pub mirror : IsMirror v.mirror
+  pub kept : AreKept v.filter v.mirror.objects
   pub within : IsWithin (most_counted (head_of v)) v.mirror
   pub objects : length v.mirror.objects ≤ most_objects version v.number
 
--- the bytes are the save text, of either version, of something that it can save
+-- the bytes are the save text, of some version, of something that it can save
 pub record SpellsSave (bytes : List ℕ) (v : Saved) : Type 0 where
   pub version : Version
   pub savable : IsSavable version v

@@ -1,8 +1,8 @@
 //! The counts of edits in a save text: a line `NUMBER COUNT` each.
 
 ghost use Rattle.std.specs.Prelude.{◌≡◌, ◌++◌, ◌∷◌, [], None, length, OnOk};
-ghost use Rattle.osm_save.specs.Head.{ended};
-ghost use Rattle.osm_save.specs.Save.{count_text, list_lines};
+ghost use Rattle.osm_save.specs.Lines.{ended, list_lines};
+ghost use Rattle.osm_save.specs.Save.{count_text};
 ghost use Rattle.osm_save.specs.Steps.Answers.{Gives};
 ghost use Rattle.osm_save.specs.Steps.Reading.{count_at, counts_at, items_at};
 

@@ -1,25 +1,30 @@
-//! The head of a save text: the lines before its lists, each read and written by a function of its
+//! The head of a save text: the lines before its objects, each read and written by a function of its
 //! own.
 
 ghost use Rattle.std.specs.Prelude.{◌≡◌, ℕ, List, ◌∷◌, [], ◌++◌, ◌≤◌, codes, decimal, take};
-ghost use Rattle.std.specs.Prelude.{IfOk, OnErr, OnOk};
+ghost use Rattle.std.specs.Prelude.{◌<◌, length, IfErr, IfOk, OnOk};
 ghost use Rattle.osm_model.specs.Limits.{max_sequence};
 ghost use Rattle.osm_opl.specs.Steps.Reading.{time_at};
-ghost use Rattle.osm_save.specs.Head.{BeginsSave, ended, head_lines, head_of, max_head};
+ghost use Rattle.osm_save.specs.Head.{BeginsSave, HasKeys, head_lines, head_of, max_head};
 ghost use Rattle.osm_save.specs.Head.{maybe_time_text};
+ghost use Rattle.osm_save.specs.Lines.{ended};
+ghost use Rattle.osm_save.specs.Refusal.{HeadRefused};
 ghost use Rattle.osm_save.specs.Save.{SpellsSave};
-ghost use Rattle.osm_save.specs.Steps.Answers.{Finds};
+ghost use Rattle.osm_save.specs.Steps.Answers.{Finds, Gives, WantsOnlyIf};
 ghost use Rattle.osm_save.specs.Steps.Reading.{base_at, head_at, sequence_at, time_line_at};
 ghost use Rattle.osm_save.specs.Steps.Reading.{version_at};
 ghost use Rattle.osm_save.specs.declared.save.Saved.{Saved};
-ghost use Rattle.osm_save.specs.declared.version.Version.TheVariants.{Two};
+ghost use Rattle.osm_save.specs.declared.version.Version.TheVariants.{Three};
 
+use crate::filter::{read_filter, write_filter};
 use crate::lines::{fixed_line, line_number, next_line, numbered_line, write_numbered};
 use crate::stop::Stop;
 use crate::version::Version;
+use osm_model::filter::Filter;
 use osm_model::limits::MAX_SEQUENCE;
 use osm_model::memory::WantOfMemory;
 use osm_model::time::{time_read, time_write};
+use std::alloc::Global;
 use thiserror::Error;
 
 /// What the head of a save text says.
@@ -34,44 +39,49 @@ pub struct Head {
     pub time: Option<u32>,
 }
 
-/// The bytes begin with the head of no save text.
+/// Why a head isn't read.
 #[derive(Clone, Copy, Debug, PartialEq, Eq, Error)]
-#[error("BadHead")]
-pub struct BadHead {
-    /// The line, counted from 1, that can't follow those before it, or one past the last line if
-    /// the bytes end too early.
-    pub line: u64,
+pub enum HeadError {
+    /// The bytes begin with the head of no save text. The line, counted from 1, is the first that
+    /// can't follow those before it, or one past the last line if the bytes end too early.
+    #[error("BadHead")]
+    BadHead { line: u64 },
+    /// Memory was refused, which only the keys of a filter need.
+    #[error("WantOfMemory")]
+    WantOfMemory,
 }
 
-/// Reads the head of a save text of either version. The bytes are that text, or its beginning: 75
-/// are enough. What follows the head isn't looked at.
-pub fn head_read(bytes: &[u8]) -> Result<Head, BadHead>
+/// Reads the head of a save text of any version. The bytes are that text, or its beginning: 408,194
+/// are enough. The filter has to be right too. What follows the head isn't looked at.
+pub fn head_read(alloc: Global, bytes: &[u8]) -> Result<Head, HeadError>
     ensures begins { IfOk result (BeginsSave bytes.now) }
-    ensures refused { OnErr result ((head : Head) → BeginsSave bytes.now head → ⊥) }
+    ensures refused { IfErr result (HeadRefused bytes.now) }
 {
-    match read_head(bytes) {
-        Ok((_version, head, _rest)) => Ok(head),
-        Err(Stop::Wrong(left)) => Err(BadHead {
+    match read_head(alloc, bytes) {
+        Ok((_version, head, _filter, _rest)) => Ok(head),
+        Err(Stop::Wrong(left)) => Err(HeadError::BadHead {
             line: line_number(bytes, left),
         }),
-        Err(Stop::WantOfMemory) => unreachable!(),
+        Err(Stop::WantOfMemory) => Err(HeadError::WantOfMemory),
     }
 }
 
-// Reads the head, and gives the version and the bytes after the head.
+// Reads the head, and gives the version, the filter and the bytes after the head too.
 #[tactic(auto, unfolding(crate::specs::Steps::Reading::head_at))]
-pub(crate) fn read_head(bytes: &[u8]) -> Result<(Version, Head, &[u8]), Stop>
-    ensures value { Finds (λ r. (r.0, r.1, r.2.now)) result (head_at bytes.now) }
+pub(crate) fn read_head(alloc: Global, bytes: &[u8]) -> Result<(Version, Head, Filter, &[u8]), Stop>
+    ensures value { Gives (λ r. (r.0, r.1, r.2, r.3.now)) result (head_at bytes.now) }
+    ensures wants { WantsOnlyIf (HasKeys bytes.now) result }
     ensures limit { IfOk result (λ r. r.1.number ≤ max_sequence) }
     ensures base { IfOk result (λ r. r.1.base ≤ r.1.number) }
 {
     let (version, rest) = version_line(bytes)?;
     let (base, rest) = base_line(version, rest)?;
+    let (filter, rest) = read_filter(alloc, version, rest)?;
     let (number, rest) = sequence_line(base, rest)?;
     let (time, rest) = time_line(number, rest)?;
     let number = number as u32;
     let base = base as u32;
-    Ok((version, Head { number, base, time }, rest))
+    Ok((version, Head { number, base, time }, filter, rest))
 }
 
 // Reads the line that names the version.
@@ -80,6 +90,9 @@ fn version_line(bytes: &[u8]) -> Result<(Version, &[u8]), Stop>
     ensures { Finds (λ r. (r.0, r.1.now)) result (version_at bytes.now) }
 {
     let (line, rest) = next_line(bytes)?;
+    if line == b"osmrepl-save 3".as_slice() {
+        return Ok((Version::Three, rest));
+    }
     if line == b"osmrepl-save 2".as_slice() {
         return Ok((Version::Two, rest));
     }
@@ -96,7 +109,7 @@ fn base_line(version: Version, rest: &[u8]) -> Result<(u64, &[u8]), Stop>
 {
     match version {
         Version::One => Ok((0, rest)),
-        Version::Two => numbered_line(b"base ", MAX_SEQUENCE as u64, rest),
+        Version::Two | Version::Three => numbered_line(b"base ", MAX_SEQUENCE as u64, rest),
     }
 }
 
@@ -140,12 +153,14 @@ fn read_time(text: &[u8]) -> Option<u32>
     time_read(text)
 }
 
-// Appends the head of version 2.
-pub(crate) fn write_head(head: Head, out: &mut Vec<u8>) -> Result<(), WantOfMemory>
-    ensures { OnOk result (out.new.items ≡ out.old.items ++ ended (head_lines Two head)) }
+// Appends the head of version 3.
+pub(crate) fn write_head(head: Head, filter: &Filter, out: &mut Vec<u8>) -> Result<(), WantOfMemory>
+    ensures { OnOk result
+        (out.new.items ≡ out.old.items ++ ended (head_lines Three head filter.now)) }
 {
-    out.extend_from_slice(b"osmrepl-save 2\n")?;
+    out.extend_from_slice(b"osmrepl-save 3\n")?;
     write_numbered(b"base ", head.base as u64, out)?;
+    write_filter(filter, out)?;
     write_numbered(b"sequence ", head.number as u64, out)?;
     write_time_line(head.time, out)?;
     Ok(())
@@ -169,11 +184,14 @@ fn write_time_line(time: Option<u32>, out: &mut Vec<u8>) -> Result<(), WantOfMem
     }
 }
 
-/// Laws of heads: bytes begin with at most one, and the first 75 bytes or more of a save text with
-/// the head of what it saves. Does nothing at run time.
+/// Laws of heads: bytes begin with at most one, and the first 408,194 bytes or more of a save text
+/// with the head of what it saves. The bytes of a save text have keys only if its filter does. Does
+/// nothing at run time.
 pub fn laws_of_heads()
     ensures one_head { (bytes : List ℕ) (a b : Head)
         → BeginsSave bytes a → BeginsSave bytes b → a ≡ b }
     ensures begins { (bytes : List ℕ) (v : Saved) (most : ℕ)
         → SpellsSave bytes v → max_head ≤ most → BeginsSave (take most bytes) (head_of v) }
+    ensures keys { (bytes : List ℕ) (v : Saved) (most : ℕ)
+        → SpellsSave bytes v → HasKeys (take most bytes) → 0 < length v.filter.keys }
 {}

@@ -1,7 +1,9 @@
-//! The save text: a follower's base, number, time and mirror. A text saves one thing at most.
+//! The save text: a follower's base, number, time, filter and mirror. A text saves one thing at
+//! most.
 #![tactic(auto)]
 
 mod counts;
+mod filter;
 pub mod head;
 mod lines;
 mod numbers;

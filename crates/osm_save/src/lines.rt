@@ -2,7 +2,7 @@
 
 ghost use Rattle.std.specs.Prelude.{◌≡◌, ◌≤◌, ◌++◌, ◌∷◌, [], decimal, IfOk, OnOk};
 ghost use Rattle.osm_reading.specs.Pieces.{cut_at};
-ghost use Rattle.osm_save.specs.Head.{ended};
+ghost use Rattle.osm_save.specs.Lines.{ended};
 ghost use Rattle.osm_save.specs.Steps.Answers.{Finds};
 ghost use Rattle.osm_save.specs.Steps.Reading.{fixed_at, numbered_at};
 

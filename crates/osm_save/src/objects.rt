@@ -1,15 +1,14 @@
 //! The objects of a save text, one a line, as `write_line` of OPL writes it.
 
 ghost use Rattle.std.specs.Prelude.{◌≡◌, ◌++◌, ◌∷◌, ◌&&◌, [], None, codes};
-ghost use Rattle.std.specs.Prelude.{is_some, IfOk, OnOk};
+ghost use Rattle.std.specs.Prelude.{IfOk, OnOk};
 ghost use Rattle.std.specs.Str.{bytes_eq};
 ghost use Rattle.osm_model.specs.Change.{ChangeValue};
-ghost use Rattle.osm_model.specs.Content.{object_after};
+ghost use Rattle.osm_model.specs.Filter.{keeps};
 ghost use Rattle.osm_model.specs.KeyOrder.{key_cmp};
 ghost use Rattle.osm_opl.specs.Steps.Reading.{line_at};
 ghost use Rattle.osm_opl.specs.Written.{line_text};
-ghost use Rattle.osm_save.specs.Head.{ended};
-ghost use Rattle.osm_save.specs.Save.{list_lines};
+ghost use Rattle.osm_save.specs.Lines.{ended, list_lines};
 ghost use Rattle.osm_save.specs.Steps.Answers.{Fails, Gives, Stops};
 ghost use Rattle.osm_save.specs.Steps.Reading.{is_above, items_at, object_at, objects_at};
 
@@ -19,12 +18,13 @@ use crate::order::is_key_above;
 use crate::stop::Stop;
 use osm_mirror::objects::Objects;
 use osm_model::change::Change;
+use osm_model::filter::Filter;
 use osm_model::kind::Key;
 use osm_model::memory::WantOfMemory;
 use osm_opl::lines::{LineError, read_line, write_line};
 use std::alloc::Global;
 
-/// The most objects of a text of version 2.
+/// The most objects of a text, from version 2 on.
 pub(crate) const MOST_OBJECTS: u64 = 999_999_999_999_999_999;
 
 /// Appends the list of all objects.
@@ -47,38 +47,44 @@ fn write_object(change: &Change, out: &mut Vec<u8>) -> Result<(), WantOfMemory>
     Ok(())
 }
 
-/// Reads the list of objects, and gives the bytes after it. There are at most `most`.
+/// Reads the list of objects, which the filter keeps, and gives the bytes after it. There are at
+/// most `most`.
 #[tactic(auto, unfolding(crate::specs::Steps::Reading::objects_at))]
-pub(crate) fn read_objects(alloc: Global, most: u64, rest: &[u8]) -> Result<(Objects, &[u8]), Stop>
-    ensures { Gives (λ r. (r.0, r.1.now)) result (objects_at most rest.now) }
+pub(crate) fn read_objects<'a>(
+    alloc: Global,
+    filter: &Filter,
+    most: u64,
+    rest: &'a [u8],
+) -> Result<(Objects, &'a [u8]), Stop>
+    ensures { Gives (λ r. (r.0, r.1.now)) result (objects_at filter.now most rest.now) }
 {
     match numbered_line(b"objects ", most, rest) {
-        Ok((many, after)) => read_object_lines(alloc, many, after),
-        Err(stop) => Err(refused_at(alloc, most, rest, stop)),
+        Ok((many, after)) => read_object_lines(alloc, filter, many, after),
+        Err(stop) => Err(refused_at(alloc, filter, most, rest, stop)),
     }
 }
 
 // Where the list is refused whose number was refused with `stop`.
-fn refused_at(alloc: Global, most: u64, rest: &[u8], stop: Stop) -> Stop
-    requires { Fails stop (objects_at most rest.now) }
-    ensures { Stops result (objects_at most rest.now) }
+fn refused_at(alloc: Global, filter: &Filter, most: u64, rest: &[u8], stop: Stop) -> Stop
+    requires { Fails stop (objects_at filter.now most rest.now) }
+    ensures { Stops result (objects_at filter.now most rest.now) }
 {
     if most < MOST_OBJECTS {
         return stop;
     }
-    end_of_objects(alloc, rest, stop)
+    end_of_objects(alloc, filter, rest, stop)
 }
 
 // `stop`, or the line where the objects end if their number has only too many digits: the number of
 // objects has no bound of its own from version 2 on, so more than there can be are missed there.
-fn end_of_objects(alloc: Global, rest: &[u8], stop: Stop) -> Stop {
+fn end_of_objects(alloc: Global, filter: &Filter, rest: &[u8], stop: Stop) -> Stop {
     if !has_long_number(rest) {
         return stop;
     }
     let Ok((_line, after)) = next_line(rest) else {
         return stop;
     };
-    match read_object_lines(alloc, u64::MAX, after) {
+    match read_object_lines(alloc, filter, u64::MAX, after) {
         Ok(_) => stop,
         Err(end) => end,
     }
@@ -100,9 +106,14 @@ fn has_long_number(rest: &[u8]) -> bool {
 }
 
 // Reads `many` lines. Memory is taken only for lines that are there.
-fn read_object_lines(alloc: Global, many: u64, rest: &[u8]) -> Result<(Objects, &[u8]), Stop>
+fn read_object_lines<'a>(
+    alloc: Global,
+    filter: &Filter,
+    many: u64,
+    rest: &'a [u8],
+) -> Result<(Objects, &'a [u8]), Stop>
     ensures { Gives (λ r. (r.0, r.1.now)) result
-        (items_at (λ c. c.key) object_at many None rest.now) }
+        (items_at (λ c. c.key) (object_at filter.now) many None rest.now) }
 {
     let mut objects = Objects::new(alloc);
     let mut written = Vec::new(alloc);
@@ -113,7 +124,7 @@ fn read_object_lines(alloc: Global, many: u64, rest: &[u8]) -> Result<(Objects, 
             Ok(cut) => cut,
             Err(stop) => return Err(stop),
         };
-        let object = match read_object(alloc, last, line, &mut written) {
+        let object = match read_object(alloc, filter, last, line, &mut written) {
             Ok(Some(object)) => object,
             Ok(None) => return Err(Stop::Wrong(rest.len())),
             Err(WantOfMemory) => return Err(Stop::WantOfMemory),
@@ -125,21 +136,22 @@ fn read_object_lines(alloc: Global, many: u64, rest: &[u8]) -> Result<(Objects, 
     Ok((objects, rest))
 }
 
-// The object that is written as this line, if its key comes after the last one. `written` is a
-// buffer that all lines share; its contents are overwritten.
+// The object that is written as this line, if the filter keeps it and its key comes after the last
+// one. `written` is a buffer that all lines share; its contents are overwritten.
 #[tactic(auto, unfolding(crate::specs::Steps::Reading::object_at))]
 fn read_object(
     alloc: Global,
+    filter: &Filter,
     last: Option<Key>,
     line: &[u8],
     written: &mut Vec<u8>,
 ) -> Result<Option<Change>, WantOfMemory>
-    ensures { IfOk result (λ r. r ≡ object_at last line.now) }
+    ensures { IfOk result (λ r. r ≡ object_at filter.now last line.now) }
 {
     let Some(change) = change_of(alloc, line)? else {
         return Ok(None);
     };
-    if is_next(&change, last, line, written)? {
+    if is_next(&change, filter, last, line, written)? {
         Ok(Some(change))
     } else {
         Ok(None)
@@ -157,24 +169,19 @@ fn change_of(alloc: Global, line: &[u8]) -> Result<Option<Change>, WantOfMemory>
     }
 }
 
-// Whether the change is written as this line, isn't a deletion, and has a key after the last one.
+// Whether the change is written as this line, leaves an object that the filter keeps, and has a key
+// after the last one.
 fn is_next(
     change: &Change,
+    filter: &Filter,
     last: Option<Key>,
     line: &[u8],
     written: &mut Vec<u8>,
 ) -> Result<bool, WantOfMemory>
     ensures { IfOk result (λ r. r ≡ (bytes_eq (line_text change.now) line.now
-        && is_some (object_after change.now) && is_above key_cmp last change.now.key)) }
+        && keeps filter.now change.now && is_above key_cmp last change.now.key)) }
 {
     written.clear();
     write_line(change, written)?;
-    Ok(written.as_slice() == line && leaves_object(change) && is_key_above(last, change.key()))
-}
-
-// Whether the change leaves an object: it isn't a deletion.
-fn leaves_object(change: &Change) -> bool
-    ensures { result ≡ is_some (object_after change.now) }
-{
-    !change.is_deletion()
+    Ok(written.as_slice() == line && filter.keeps(change) && is_key_above(last, change.key()))
 }

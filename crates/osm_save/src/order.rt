@@ -3,9 +3,11 @@
 ghost use Rattle.std.specs.Prelude.{◌≡◌, ℕ};
 ghost use Rattle.std.specs.Ordering.{nat_cmp};
 ghost use Rattle.osm_model.specs.KeyOrder.{key_cmp};
-ghost use Rattle.osm_save.specs.Steps.Reading.{is_above};
+ghost use Rattle.osm_model.specs.Text.{bytes_cmp};
+ghost use Rattle.osm_save.specs.Steps.Reading.{is_above, last_of};
 
 use osm_model::kind::Key;
+use osm_model::text::Text;
 
 /// Whether a key comes after the one before it.
 pub(crate) fn is_key_above(last: Option<Key>, key: Key) -> bool
@@ -24,5 +26,15 @@ pub(crate) fn is_number_above(last: Option<u32>, number: u32) -> bool
     match last {
         None => true,
         Some(last) => last.cmp(&number).is_lt(),
+    }
+}
+
+/// Whether a text comes after the last of those before it.
+pub(crate) fn is_text_above(before: &[Text], text: &Text) -> bool
+    ensures { result ≡ is_above bytes_cmp (last_of before.now) text.now }
+{
+    match before.last() {
+        None => true,
+        Some(last) => last.cmp(text).is_lt(),
     }
 }

@@ -1,8 +1,10 @@
-//! What a follower saves, and its text (our choice). Version 2 is written:
+//! What a follower saves, and its text (our choice). Version 3 is written:
 //!
 //! ```text
-//! osmrepl-save 2
+//! osmrepl-save 3
 //! base 0
+//! kinds nwr
+//! keys 0
 //! sequence 1
 //! time 2024-01-01T00:00:00Z
 //! objects 1
@@ -14,10 +16,12 @@
 //! end
 //! ```
 //!
-//! Version 1, which begins with `osmrepl-save 1` and has no line `base`, is read as base 0.
+//! Version 2, which begins with `osmrepl-save 2` and has no lines `kinds` and `keys`, is read as
+//! keeping everything; version 1, which has no line `base` either, so at base 0.
 
 ghost use Rattle.std.specs.Prelude.{◌≡◌, ◌*◌, ◌-◌, ◌<◌, ◌≤◌, [], List, ℕ, length};
 ghost use Rattle.std.specs.Prelude.{vec_capacity, IfOk, IfErr, OnErr};
+ghost use Rattle.osm_model.specs.Filter.{AreKept, FilterValue};
 ghost use Rattle.osm_model.specs.Limits.{max_sequence};
 ghost use Rattle.osm_mirror.specs.Mirror.{HoldsSome, IsWithin};
 ghost use Rattle.osm_save.specs.Head.{IsHeadIn, most_counted};
@@ -27,7 +31,7 @@ ghost use Rattle.osm_save.specs.Steps.Answers.{Gives};
 ghost use Rattle.osm_save.specs.Steps.Reading.{mirror_at, save_at};
 ghost use Rattle.osm_save.specs.declared.head.Head.{Head};
 ghost use Rattle.osm_save.specs.declared.version.Version.{Version};
-ghost use Rattle.osm_save.specs.declared.version.Version.TheVariants.{Two};
+ghost use Rattle.osm_save.specs.declared.version.Version.TheVariants.{Three};
 
 use crate::counts::{read_counts, write_counts};
 use crate::head::{Head, read_head, write_head};
@@ -36,6 +40,7 @@ use crate::objects::{MOST_OBJECTS, read_objects, write_objects};
 use crate::stop::Stop;
 use crate::version::Version;
 use osm_mirror::mirror::Mirror;
+use osm_model::filter::Filter;
 use osm_model::limits::MAX_CHANGES;
 use osm_model::memory::WantOfMemory;
 use std::alloc::Global;
@@ -51,6 +56,8 @@ pub struct Saved {
     pub base: u32,
     /// The time of the last sequence, in seconds since 1970-01-01T00:00:00Z; none at number 0.
     pub time: Option<u32>,
+    /// Which objects are kept.
+    pub filter: Filter,
     /// The objects, and the edits after the base, counted by user and by changeset.
     pub mirror: Mirror,
 }
@@ -67,16 +74,23 @@ pub enum SaveError {
     WantOfMemory,
 }
 
-/// Writes the save text of a head and a mirror, in version 2.
-pub fn save_write(alloc: Global, head: Head, mirror: &Mirror) -> Result<Vec<u8>, WantOfMemory>
+/// Writes the save text of a head, a filter and a mirror, in version 3.
+pub fn save_write(
+    alloc: Global,
+    head: Head,
+    filter: &Filter,
+    mirror: &Mirror,
+) -> Result<Vec<u8>, WantOfMemory>
     ensures text { IfOk result (λ text.
-        text.items ≡ save_text Two (saved_with head mirror.now)) }
-    ensures spelled { IsHeadIn Two head → IsWithin (most_counted head) mirror.now
-        → IfOk result (λ text. SpellsSave text.items (saved_with head mirror.now)) }
+        text.items ≡ save_text Three (saved_with head filter.now mirror.now)) }
+    ensures spelled { IsHeadIn Three head → IsWithin (most_counted head) mirror.now
+        → AreKept filter.now mirror.now.objects
+        → IfOk result (λ text. SpellsSave text.items (saved_with head filter.now mirror.now)) }
 {
     mirror.limits();
+    filter.limits();
     let mut text = room_for_text(alloc, mirror)?;
-    write_head(head, &mut text)?;
+    write_head(head, filter, &mut text)?;
     write_objects(mirror.objects_by_key(), &mut text)?;
     write_counts(b"users ", mirror.user_counts(), &mut text)?;
     write_counts(b"changesets ", mirror.changeset_counts(), &mut text)?;
@@ -87,8 +101,8 @@ pub fn save_write(alloc: Global, head: Head, mirror: &Mirror) -> Result<Vec<u8>,
 // An empty text with room for no more than the shortest save text of the mirror.
 fn room_for_text(alloc: Global, mirror: &Mirror) -> Result<Vec<u8>, WantOfMemory>
     ensures empty { IfOk result (λ text. text.items ≡ []) }
-    ensures room { IfOk result (λ text. (version : Version) (head : Head)
-        → vec_capacity text ≤ length (save_text version (saved_with head mirror.now))) }
+    ensures room { IfOk result (λ text. (version : Version) (head : Head) (f : FilterValue)
+        → vec_capacity text ≤ length (save_text version (saved_with head f mirror.now))) }
     ensures refused { OnErr result (HoldsSome mirror.now) }
 {
     Ok(Vec::with_capacity(alloc, least_length(mirror))?)
@@ -97,8 +111,8 @@ fn room_for_text(alloc: Global, mirror: &Mirror) -> Result<Vec<u8>, WantOfMemory
 // A lower bound on the length of the text, in bytes: an object's line has at least 43, a count's at
 // least 4.
 fn least_length(mirror: &Mirror) -> usize
-    ensures least { (version : Version) (head : Head)
-        → result ≤ length (save_text version (saved_with head mirror.now)) }
+    ensures least { (version : Version) (head : Head) (f : FilterValue)
+        → result ≤ length (save_text version (saved_with head f mirror.now)) }
     ensures some { 0 < result → HoldsSome mirror.now }
 {
     let objects = mirror.objects_by_key().len().saturating_mul(43);
@@ -125,18 +139,25 @@ pub fn save_read(alloc: Global, bytes: &[u8]) -> Result<Saved, SaveError>
 fn read_save(alloc: Global, bytes: &[u8]) -> Result<Saved, Stop>
     ensures { Gives (λ saved. saved) result (save_at bytes.now) }
 {
-    let (version, head, rest) = read_head(bytes)?;
-    read_mirror(alloc, version, head, rest)
+    let (version, head, filter, rest) = read_head(alloc, bytes)?;
+    read_mirror(alloc, version, head, filter, rest)
 }
 
 // Reads the lists and the line `end`.
 #[tactic(auto, unfolding(crate::specs::Steps::Reading::mirror_at))]
-fn read_mirror(alloc: Global, version: Version, head: Head, rest: &[u8]) -> Result<Saved, Stop>
+fn read_mirror(
+    alloc: Global,
+    version: Version,
+    head: Head,
+    filter: Filter,
+    rest: &[u8],
+) -> Result<Saved, Stop>
     requires number { head.number ≤ max_sequence }
     requires base { head.base ≤ head.number }
-    ensures { Gives (λ saved. saved) result (mirror_at version head rest.now) }
+    ensures { Gives (λ saved. saved) result (mirror_at version head filter rest.now) }
 {
-    let (objects, rest) = read_objects(alloc, objects_limit(version, head.number), rest)?;
+    let most = objects_limit(version, head.number);
+    let (objects, rest) = read_objects(alloc, &filter, most, rest)?;
     let most = MAX_CHANGES as u64 * (head.number - head.base) as u64;
     let (users, rest) = read_counts(alloc, b"users ", most, rest)?;
     let (changesets, rest) = read_counts(alloc, b"changesets ", most, rest)?;
@@ -148,6 +169,7 @@ fn read_mirror(alloc: Global, version: Version, head: Head, rest: &[u8]) -> Resu
         number: head.number,
         base: head.base,
         time: head.time,
+        filter,
         mirror: Mirror::from_parts(objects, users, changesets),
     })
 }
@@ -159,7 +181,7 @@ fn objects_limit(version: Version, number: u32) -> u64
 {
     match version {
         Version::One => MAX_CHANGES as u64 * number as u64,
-        Version::Two => MOST_OBJECTS,
+        Version::Two | Version::Three => MOST_OBJECTS,
     }
 }
 

@@ -6,6 +6,8 @@ pub enum Version {
     /// Has no base, which is 0, and a bound on the number of objects. It is read, but no longer
     /// written.
     One,
-    /// The one that is written.
+    /// Has no filter: it keeps everything. It is read, but no longer written.
     Two,
+    /// The one that is written.
+    Three,
 }

@@ -1,5 +1,6 @@
 mod answers;
 mod begin;
+mod filters;
 mod follower;
 mod holding;
 mod judge;

@@ -16,6 +16,7 @@ use Rattle.std.proofs.lemmas.Map.Lookups.{exact_unsigned}
 use Rattle.std.proofs.lemmas.Map.Views.{Contains-keys_from_lookup, IsSome-lookup_from_Contains}
 use Rattle.osm_model.proofs.ContentLemmas.{one_key}
 use Rattle.osm_model.specs.Change.{ChangeValue}
+use Rattle.osm_model.specs.Filter.{FilterValue}
 use Rattle.osm_model.specs.KeyOrder.{key_cmp, kind_rank}
 use Rattle.osm_model.specs.declared.kind.Key.{Key}
 use Rattle.osm_mirror.specs.Mirror.{AreCountsAboveZero, AreRising, Counted, IsAboveZero, IsMirrorOf, MirrorValue, count_at, object_at}
@@ -73,7 +74,7 @@ same_found None (Some w) p q e = absurd (let above : 0 < w = q w refl in let non
 same_found (Some v) None p q e = absurd (let above : 0 < v = p v refl in let none : v ≡ 0 = e in omega arith)
 same_found (Some v) (Some w) p q e = ap (λ (n : ℕ). Some n) e
 
-one_counts : (a b : List Counted) → AreCountsAboveZero a → AreCountsAboveZero b → ((n : ℕ) → count_at a n ≡ count_at b n) → a ≡ b
+pub one_counts : (a b : List Counted) → AreCountsAboveZero a → AreCountsAboveZero b → ((n : ℕ) → count_at a n ≡ count_at b n) → a ≡ b
 one_counts a b p q same = one_list nat_cmp nat_cmp_total exact_unsigned a b p.rising q.rising
     (λ n. same_found (lookup (is_at (nat_cmp n)) a) (lookup (is_at (nat_cmp n)) b)
     (λ v. found_above (is_at (nat_cmp n)) a v p.above) (λ v. found_above (is_at (nat_cmp n)) b v q.above) (same n))
@@ -110,10 +111,11 @@ one_objects a b p q same =
 made : List ChangeValue → List Counted → List Counted → MirrorValue
 made objects users changesets = record { objects = objects; users = users; changesets = changesets }
 
--- two lists of changes have only one mirror
-pub one_mirror : (cs counted : List ChangeValue) (a b : MirrorValue) → IsMirrorOf cs counted a → IsMirrorOf cs counted b → a ≡ b
+-- two lists of changes have only one mirror under a filter
+pub one_mirror : (filter : FilterValue) (cs counted : List ChangeValue) (a b : MirrorValue) → IsMirrorOf filter cs counted a
+    → IsMirrorOf filter cs counted b → a ≡ b
 unfolding made
-one_mirror cs counted a b p q =
+one_mirror filter cs counted a b p q =
     let objects : a.objects ≡ b.objects = one_objects a.objects b.objects p.orderly.objects q.orderly.objects (λ k. p.objects k ∙ sym (q.objects k)) in
     let users : a.users ≡ b.users = one_counts a.users b.users p.orderly.users q.orderly.users (λ n. p.users n ∙ sym (q.users n)) in
     let changesets : a.changesets ≡ b.changesets =
@@ -163,30 +165,31 @@ one_rising xs ys s t same =
 
 -- ---- a state, its follower and its view
 
-abbrev Same : (ℕ → Bool) → (ℕ → Bool) → Type 0
+abbrev pub Same : (ℕ → Bool) → (ℕ → Bool) → Type 0
 Same acc acd = (j : ℕ) → acc j ≡ acd j
 
-one_number : (acc acd : ℕ → Bool) (start n m : ℕ) → Same acc acd → Reaches acc start n → Reaches acd start m → n ≡ m
+pub one_number : (acc acd : ℕ → Bool) (start n m : ℕ) → Same acc acd → Reaches acc start n → Reaches acd start m → n ≡ m
 one_number acc acd start n m same r s = one_reach acd start n m (reaches_same acc acd start n (λ j above. same j) r) s
 
-pub state_alike : (ps : List PublishedValue) (base start : ℕ) (acc acd : ℕ → Bool) (f g : FollowerValue) → Same acc acd
-    → IsState ps base start acc f → IsState ps base start acd g → AreAlike f g
-state_alike ps base start acc acd f g same s t =
+pub state_alike : (filter : FilterValue) (ps : List PublishedValue) (base start : ℕ) (acc acd : ℕ → Bool) (f g : FollowerValue)
+    → Same acc acd → IsState filter ps base start acc f → IsState filter ps base start acd g → AreAlike f g
+state_alike filter ps base start acc acd f g same s t =
     let number : f.number ≡ g.number = one_number acc acd start f.number g.number same s.reach t.reach in
     let based : f.base ≡ g.base = s.base_is ∙ sym t.base_is in
     record {
+      filter = s.filter_is ∙ sym t.filter_is;
       number = number;
       base = based;
       time = s.follows.time ∙ (ap (time_at ps) number ∙ sym t.follows.time);
-      mirror = one_mirror (changes_up_to ps g.number) (changes_after ps g.base g.number) f.mirror g.mirror
-          (rw (number, based) at s.follows.mirror) t.follows.mirror;
+      mirror = one_mirror filter (changes_up_to ps g.number) (changes_after ps g.base g.number) f.mirror g.mirror
+          (rw (number, based, s.filter_is) at s.follows.mirror) (rw t.filter_is at t.follows.mirror);
       held = λ j. elim (cases_lt f.number j) [
         | inl above ↦ s.held j above ∙ (ap (λ b. if b then Some (sequence_at ps j) else None) (same j) ∙ sym (t.held j (omega arith)))
         | inr below ↦ none_held f s j below ∙ sym (none_held g t j (omega arith))
       ];
     }
   where
-    none_held : {ac : ℕ → Bool} (x : FollowerValue) → IsState ps base start ac x → (j : ℕ) → j ≤ x.number → held_at x j ≡ None
+    none_held : {ac : ℕ → Bool} (x : FollowerValue) → IsState filter ps base start ac x → (j : ℕ) → j ≤ x.number → held_at x j ≡ None
     none_held x is j below = by_case (held_at x j) refl
       where
         by_case : (o : Option PublishedValue) → held_at x j ≡ o → o ≡ None
@@ -196,13 +199,13 @@ state_alike ps base start acc acd f g same s t =
 made_view : ℕ → ℕ → Option ℕ → MirrorValue → List ℕ → ViewValue
 made_view number base time mirror held = record { number = number; base = base; time = time; mirror = mirror; held = held }
 
-pub one_view : (ps : List PublishedValue) (base start : ℕ) (acc acd : ℕ → Bool) (v w : ViewValue) → Same acc acd
-    → IsView ps base start acc v → IsView ps base start acd w → v ≡ w
+pub one_view : (filter : FilterValue) (ps : List PublishedValue) (base start : ℕ) (acc acd : ℕ → Bool) (v w : ViewValue) → Same acc acd
+    → IsView filter ps base start acc v → IsView filter ps base start acd w → v ≡ w
 unfolding made_view
-one_view ps base start acc acd v w same s t =
+one_view filter ps base start acc acd v w same s t =
     let number : v.number ≡ w.number = one_number acc acd start v.number w.number same s.reach t.reach in
     let time : v.time ≡ w.time = s.time ∙ (ap (time_at ps) number ∙ sym t.time) in
-    let mirror : v.mirror ≡ w.mirror = one_mirror (changes_up_to ps w.number) (changes_after ps base w.number) v.mirror
+    let mirror : v.mirror ≡ w.mirror = one_mirror filter (changes_up_to ps w.number) (changes_after ps base w.number) v.mirror
     w.mirror (rw number at s.mirror) t.mirror in
     let based : v.base ≡ w.base = s.base_is ∙ sym t.base_is in
     let held : v.held ≡ w.held = one_rising v.held w.held s.rising t.rising (λ j. (

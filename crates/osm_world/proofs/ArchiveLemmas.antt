@@ -2,6 +2,7 @@
 use Rattle.std.proofs.Common.{◌≡◌, ℕ, ◌+◌, ◌-◌, ◌<◌, ◌≤◌, List, [], ◌∷◌, ◌++◌, length, get_or, ap, sym, ◌∙◌, arith, inl, inr, length-append}
 use Rattle.std.proofs.lemmas.Bool.{cases_lt}
 use Rattle.std.proofs.lemmas.List.{get_or_append_left, get_or-append-add, get_or_default}
+use Rattle.osm_model.specs.Filter.{FilterValue}
 use Rattle.osm_model.specs.Limits.{max_file}
 use Rattle.osm_state.proofs.StateLemmas.{one_state}
 use Rattle.osm_state.proofs.WrittenLemmas.{written_is_read}
@@ -12,21 +13,24 @@ use Rattle.osm_follow.specs.Publisher.{IsSmall}
 use Rattle.osm_world.specs.Step.{DeliverStep, DeliversTo, Replies, bytes_in, fault_in, spells_in}
 use Rattle.osm_world.specs.World.{WorldValue}
 use Rattle.osm_world.specs.declared.event.Reply.{Reply}
-use Rattle.osm_world.specs.declared.event.Reply.TheVariants.{NotPublished}
-use Rattle.osm_world.specs.Steps.Archive.{AreReadable, IsArchive, IsReadable, IsSaveText}
+use Rattle.osm_world.specs.declared.event.Reply.TheVariants.{NotPublished, Broken, Old, Again, TooEarly, WantOfMemory, Held, Applied, Broke}
+use Rattle.osm_world.specs.Steps.Archive.{AreReadable, IsArchive, IsReadable, IsSaveUnder}
 use Rattle.std.proofs.Common.{Option, Some, None, suc, subst}
 use Rattle.std.specs.Prelude.{Err, IfSome, Ok}
 use Rattle.osm_opl.specs.File.{SpellsOpl, FaultLine}
-use Rattle.osm_follow.specs.Delivery.{Delivers}
-use Rattle.osm_follow.specs.declared.delivery.Delivered.TheVariants.{Applied}
+use Rattle.osm_follow.specs.Delivery.{Delivers, FaultPlaces, Spelling}
+use Rattle.osm_follow.specs.declared.delivery.Delivered.TheVariants as answers
+use Rattle.osm_follow.specs.declared.delivery.DeliverError.TheVariants as errors
+use Rattle.osm_follow.proofs.FollowLemmas.{delivers_under_it}
 use Rattle.osm_world.specs.Step.{IsFed}
 use Rattle.osm_follow.specs.Follower.{FollowerValue}
 use Rattle.osm_follow.specs.Restart.{Restarts}
-use Rattle.osm_follow.specs.declared.restart.RestartError.TheVariants.{BadSave}
+use Rattle.osm_save.specs.declared.save.Saved.{Saved}
+use Rattle.osm_follow.specs.declared.restart.RestartError.TheVariants.{BadSave, OtherFilter}
 use Rattle.osm_world.specs.declared.event.Form.{Form}
 use Rattle.osm_world.specs.declared.event.Form.TheVariants.{Opl, O5c}
 use Rattle.osm_follow.proofs.DeliveryLemmas.{state_of}
-use Rattle.osm_world.proofs.StepLemmas.{AreLawful}
+use Rattle.osm_world.proofs.StepLemmas.{AreLawful, OneSave}
 
 readable_in : AreLawful → (form : Form) (p : PublishedValue) → 0 < p.number → IsSequence p.number p
     → length (bytes_in form (written_of p)) ≤ max_file → IsReadable (spells_in form) (written_of p).state
@@ -89,23 +93,43 @@ delivered_step a b k i form r p below is index above there replies rest =
     by_reply NotPublished t = absurd t.replies
     by_reply q t = t
 
+-- no delivery changes the filter
+pub replies_under_it : (spells : Spelling) (fault_place : FaultPlaces) (f : FollowerValue) (state bytes : List ℕ) (r : Reply)
+    (g : FollowerValue) → Replies spells fault_place f state bytes r g → g.filter ≡ f.filter
+replies_under_it spells fp f state bytes Broken g t = delivers_under_it spells fp f g state bytes (Err errors.Broken) t
+replies_under_it spells fp f state bytes Old g t = delivers_under_it spells fp f g state bytes (Ok answers.Old) t
+replies_under_it spells fp f state bytes Again g t = delivers_under_it spells fp f g state bytes (Ok answers.Again) t
+replies_under_it spells fp f state bytes TooEarly g t = delivers_under_it spells fp f g state bytes (Err errors.TooEarly) t
+replies_under_it spells fp f state bytes WantOfMemory g t = delivers_under_it spells fp f g state bytes (Err errors.WantOfMemory) t
+replies_under_it spells fp f state bytes Held g t = delivers_under_it spells fp f g state bytes (Ok answers.Held) t
+replies_under_it spells fp f state bytes (Applied low high) g t = delivers_under_it spells fp f g state bytes (Ok (answers.Applied low high)) t
+replies_under_it spells fp f state bytes Broke g t = delivers_under_it spells fp f g state bytes (Err errors.Broke) t
+replies_under_it spells fp f state bytes r g t = absurd t
+
 -- what was saved last is never refused as a bad save
-pub no_bad_save : (text : Option (List ℕ)) (f g : FollowerValue) (line : ℕ) → IfSome text IsSaveText
+pub no_bad_save : (text : Option (List ℕ)) (f g : FollowerValue) (line : ℕ) → IfSome text (IsSaveUnder f.filter)
     → Restarts f text (Err (BadSave line)) g → ⊥
 no_bad_save None f g line is t = t
 no_bad_save (Some text) f g line is t = t.0 is.0 is.1
 
+-- nor as that of another filter
+pub no_other_filter : OneSave → (text : Option (List ℕ)) (f g : FollowerValue) → IfSome text (IsSaveUnder f.filter)
+    → Restarts f text (Err OtherFilter) g → ⊥
+no_other_filter one None f g is t = t
+no_other_filter one (Some text) f g is t =
+    let same : t.0 ≡ is.0 = one text t.0 is.0 t.1 is.1 in t.2 (ap (λ (v : Saved). v.filter) same ∙ is.2)
+
 -- one more sequence was given
-pub fed_more : (archive : List PublishedTexts) (i low high : ℕ) (e f : FollowerValue) (p : PublishedTexts) → i < length archive
-    → p ≡ get_or archive i p → IsFed archive i e → Delivers SpellsOpl FaultLine e p.state p.opl (Ok (Applied low high)) f
-    → IsFed archive (i + 1) f
-fed_more archive i low high e f p below is fed given =
+pub fed_more : (filter : FilterValue) (archive : List PublishedTexts) (i low high : ℕ) (e f : FollowerValue) (p : PublishedTexts)
+    → i < length archive → p ≡ get_or archive i p → IsFed filter archive i e
+    → Delivers SpellsOpl FaultLine e p.state p.opl (Ok (answers.Applied low high)) f → IsFed filter archive (i + 1) f
+fed_more filter archive i low high e f p below is fed given =
     let index : suc i - 1 ≡ i = omega arith in
     let here : texts_at archive (suc i) ≡ p = ap (λ (j : ℕ). get_or archive j no_texts) index ∙ (get_or_default archive i no_texts p below ∙ sym is) in
     let next : suc i ≡ i + 1 = omega arith in
-    subst (λ (n : ℕ). IsFed archive n f) next (
+    subst (λ (n : ℕ). IsFed filter archive n f) next (
       e,
       (low, high),
       fed,
-      subst (λ (x : PublishedTexts). Delivers SpellsOpl FaultLine e x.state x.opl (Ok (Applied low high)) f) (sym here) given,
+      subst (λ (x : PublishedTexts). Delivers SpellsOpl FaultLine e x.state x.opl (Ok (answers.Applied low high)) f) (sym here) given,
     )

@@ -2,6 +2,7 @@
 use Rattle.std.proofs.Common.{◌≡◌, ℕ, ◌+◌, ◌<◌, ◌≤◌, List, [], ◌∷◌, ◌++◌, length, refl, sym, ◌∙◌, Bool, true, false, arith, inl, inr, length-append}
 use Rattle.std.specs.Prelude.{◌==◌, ◌||◌, Contains}
 use Rattle.std.proofs.lemmas.Bool.{cases_lt, eqb-true, or_cases, or_right}
+use Rattle.osm_model.specs.Filter.{FilterValue}
 use Rattle.osm_world.specs.History as hist
 use Rattle.osm_world.specs.Legal.{IsLegal, IsWanted, Allowed}
 use Rattle.osm_follow.specs.Published.{PublishedValue}
@@ -72,11 +73,11 @@ none_accepted count saved start s t = record {
   window = λ n j reach has. absurd (let bad : false ≡ true = has in cc);
 }
 
-bounded : (h : hist.History) → IsLegal h → Bounded h
-bounded [] legal = none_accepted 0 0 0 (omega arith) (omega arith)
-bounded (p ∷ h) legal = by_pair p.0 p.1 (legal.each [] h p.0 p.1 refl) (bounded h (legal_before h p.0 p.1 legal))
+bounded : (filter : FilterValue) (h : hist.History) → IsLegal filter h → Bounded h
+bounded filter [] legal = none_accepted 0 0 0 (omega arith) (omega arith)
+bounded filter (p ∷ h) legal = by_pair p.0 p.1 (legal.each [] h p.0 p.1 refl) (bounded filter h (legal_before filter h p.0 p.1 legal))
   where
-    by_pair : (e : Event) (r : Reply) → Allowed h e r → Bounded h → Bounded ((e, r) ∷ h)
+    by_pair : (e : Event) (r : Reply) → Allowed filter h e r → Bounded h → Bounded ((e, r) ∷ h)
     by_pair (Edit c) Edited a before = before
     by_pair (Edit c) BatchFull a before = before
     by_pair (Edit c) WantOfMemory a before = before
@@ -124,14 +125,15 @@ bounded (p ∷ h) legal = by_pair p.0 p.1 (legal.each [] h p.0 p.1 refl) (bounde
     by_pair (Begin k) WantOfMemory a before = before
     by_pair (Begin k) r a before = absurd a
 
-pub shown_number : (h : hist.History) (v : ViewValue) → IsLegal h → Allowed h Show (Shown v) → v.number ≤ length (hist.published_of h)
-shown_number h v legal a = number_in (length (hist.published_of h)) (hist.saved_of h) (hist.start_of h) v.number
-    (hist.accepted_of h) (bounded h legal) a.1.reach
+pub shown_number : (filter : FilterValue) (h : hist.History) (v : ViewValue) → IsLegal filter h → Allowed filter h Show (Shown v)
+    → v.number ≤ length (hist.published_of h)
+shown_number filter h v legal a = number_in (length (hist.published_of h)) (hist.saved_of h) (hist.start_of h) v.number
+    (hist.accepted_of h) (bounded filter h legal) a.1.reach
 
-pub shown_held : (h : hist.History) (v : ViewValue) (j : ℕ) → IsLegal h → Allowed h Show (Shown v) → Contains v.held j
+pub shown_held : (filter : FilterValue) (h : hist.History) (v : ViewValue) (j : ℕ) → IsLegal filter h → Allowed filter h Show (Shown v) → Contains v.held j
     → (v.number + 1 < j) × (j ≤ v.number + 64) × (j ≤ length (hist.published_of h))
-shown_held h v j legal a has =
-    let b : Bounded h = bounded h legal in
+shown_held filter h v j legal a has =
+    let b : Bounded h = bounded filter h legal in
     let both = (a.1.held j).0 has in
     let past : v.number < j = both.0 in
     let was : hist.accepted_of h j ≡ true = both.1 in (

@@ -2,6 +2,7 @@
 use Rattle.std.proofs.Common.{◌≡◌, ℕ, zero, suc, ◌+◌, ◌<◌, ◌≤◌, List, [], ◌∷◌, ◌++◌, refl, sym, ◌∙◌, Bool, true, false, arith, inl, inr, append-nil}
 use Rattle.std.specs.Prelude.{◌==◌, ◌||◌, ◌⊎◌, ◌↔◌}
 use Rattle.std.proofs.lemmas.Bool.{cases_lt, eq-eqb, eqb-true, or_cases, or_left, or_right}
+use Rattle.osm_model.specs.Filter.{FilterValue}
 use Rattle.osm_world.specs.Deliveries.{IsSubsequence, delivered_of, is_confirmed}
 use Rattle.osm_world.specs.History as hist
 use Rattle.osm_world.specs.Legal.{IsLegal, IsNumber, Allowed}
@@ -15,8 +16,8 @@ use Rattle.osm_world.specs.declared.event.Reply.TheVariants.{TooEarly, Held, App
 use Rattle.osm_world.proofs.ReachLemmas.{one_reach, reaches_more}
 use Rattle.osm_world.proofs.ReportLemmas.{legal_before}
 
-legal_last : (h : hist.History) (e : Event) (r : Reply) → IsLegal ((e, r) ∷ h) → Allowed h e r
-legal_last h e r legal = legal.each [] h e r refl
+legal_last : (filter : FilterValue) (h : hist.History) (e : Event) (r : Reply) → IsLegal filter ((e, r) ∷ h) → Allowed filter h e r
+legal_last filter h e r legal = legal.each [] h e r refl
 
 -- a subsequence ends before the last member, or with it
 subsequence-snoc : (xs ys : List ℕ) (x y : ℕ) → IsSubsequence (xs ++ x ∷ []) (ys ++ y ∷ []) → IsSubsequence (xs ++ x ∷ []) ys ⊎ ((x ≡ y) × IsSubsequence xs ys)
@@ -103,12 +104,13 @@ none_delivered start n (suc count) from is = absurd (none (numbers start count) 
     none [] s = s
     none (x ∷ xs) s = s
 
-pub catches_up : (h : hist.History) (n : ℕ) → IsLegal h → hist.is_broken h ≡ false → IsNumber h n → Reached h (hist.start_of h) n
-catches_up [] n legal whole number count is = none_delivered 0 n count number.from is
-catches_up (p ∷ h) n legal whole number count is = by_pair p.0 p.1 (legal_last h p.0 p.1 legal) whole number
-    (λ ok m at. catches_up h m (legal_before h p.0 p.1 legal) ok at) count is
+pub catches_up : (filter : FilterValue) (h : hist.History) (n : ℕ) → IsLegal filter h → hist.is_broken h ≡ false → IsNumber h n
+    → Reached h (hist.start_of h) n
+catches_up filter [] n legal whole number count is = none_delivered 0 n count number.from is
+catches_up filter (p ∷ h) n legal whole number count is = by_pair p.0 p.1 (legal_last filter h p.0 p.1 legal) whole number
+    (λ ok m at. catches_up filter h m (legal_before filter h p.0 p.1 legal) ok at) count is
   where
-    by_pair : (e : Event) (r : Reply) → Allowed h e r → hist.is_broken ((e, r) ∷ h) ≡ false → IsNumber ((e, r) ∷ h) n
+    by_pair : (e : Event) (r : Reply) → Allowed filter h e r → hist.is_broken ((e, r) ∷ h) ≡ false → IsNumber ((e, r) ∷ h) n
         → Before h → Reached ((e, r) ∷ h) (hist.start_of ((e, r) ∷ h)) n
     by_pair (Edit c) Edited a ok at before = quiet_pair h n ok at before
     by_pair (Edit c) BatchFull a ok at before = quiet_pair h n ok at before
@@ -179,11 +181,12 @@ taken_pair h k j above before = (
   ],
 )
 
-pub accepts_what_is_confirmed : (h : hist.History) (j : ℕ) → IsLegal h → Known h j
-accepts_what_is_confirmed [] j legal = (λ has. absurd (let bad : false ≡ true = has in cc), λ both. both.1)
-accepts_what_is_confirmed (p ∷ h) j legal = by_pair p.0 p.1 (legal_last h p.0 p.1 legal) (accepts_what_is_confirmed h j (legal_before h p.0 p.1 legal))
+pub accepts_what_is_confirmed : (filter : FilterValue) (h : hist.History) (j : ℕ) → IsLegal filter h → Known h j
+accepts_what_is_confirmed filter [] j legal = (λ has. absurd (let bad : false ≡ true = has in cc), λ both. both.1)
+accepts_what_is_confirmed filter (p ∷ h) j legal =
+    by_pair p.0 p.1 (legal_last filter h p.0 p.1 legal) (accepts_what_is_confirmed filter h j (legal_before filter h p.0 p.1 legal))
   where
-    by_pair : (e : Event) (r : Reply) → Allowed h e r → Known h j → Known ((e, r) ∷ h) j
+    by_pair : (e : Event) (r : Reply) → Allowed filter h e r → Known h j → Known ((e, r) ∷ h) j
     by_pair (Edit c) Edited a before = before
     by_pair (Edit c) BatchFull a before = before
     by_pair (Edit c) WantOfMemory a before = before

@@ -9,6 +9,7 @@ pub mod LawLemmas
 pub mod OrderLemmas
 pub mod BoundLemmas
 pub mod AlikeLemmas
+pub mod ExtractLemmas
 pub mod ReplyLemmas
 pub mod FewLemmas
 pub mod NewLemmas

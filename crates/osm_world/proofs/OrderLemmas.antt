@@ -3,6 +3,7 @@ use Rattle.std.proofs.Common.{◌≡◌, ℕ, ◌+◌, ◌<◌, ◌≤◌, [], �
 use Rattle.std.specs.Prelude.{◌==◌, ◌||◌, Contains}
 use Rattle.std.proofs.lemmas.Bool.{cases_lt, eq-eqb, or_left, or_right}
 use Rattle.std.proofs.lemmas.List.Elements.{Contains-push_cases}
+use Rattle.osm_model.specs.Filter.{FilterValue}
 use Rattle.osm_world.specs.Deliveries.{delivered_of}
 use Rattle.osm_world.specs.History as hist
 use Rattle.osm_world.specs.Legal.{IsLegal, IsNumber, Allowed}
@@ -43,11 +44,11 @@ new_takes h k j before ok above below is = elim (Contains-push_cases (delivered_
   | inr same ↦ or_left (k == j) (hist.accepted_of h j) (eq-eqb k j same)
 ]
 
-delivered_is_taken : (h : hist.History) (j : ℕ) → IsLegal h → Taken h j
-delivered_is_taken [] j legal = λ ok above below is. absurd (let short = is.1 in omega arith)
-delivered_is_taken (p ∷ h) j legal = by_pair p.0 p.1 (legal.each [] h p.0 p.1 refl) (delivered_is_taken h j (legal_before h p.0 p.1 legal))
+delivered_is_taken : (filter : FilterValue) (h : hist.History) (j : ℕ) → IsLegal filter h → Taken h j
+delivered_is_taken filter [] j legal = λ ok above below is. absurd (let short = is.1 in omega arith)
+delivered_is_taken filter (p ∷ h) j legal = by_pair p.0 p.1 (legal.each [] h p.0 p.1 refl) (delivered_is_taken filter h j (legal_before filter h p.0 p.1 legal))
   where
-    by_pair : (e : Event) (r : Reply) → Allowed h e r → Taken h j → Taken ((e, r) ∷ h) j
+    by_pair : (e : Event) (r : Reply) → Allowed filter h e r → Taken h j → Taken ((e, r) ∷ h) j
     by_pair (Edit c) Edited a before = quiet_takes h j before
     by_pair (Edit c) BatchFull a before = quiet_takes h j before
     by_pair (Edit c) WantOfMemory a before = quiet_takes h j before
@@ -84,14 +85,14 @@ delivered_is_taken (p ∷ h) j legal = by_pair p.0 p.1 (legal.each [] h p.0 p.1 
     by_pair (Begin k) WantOfMemory a before = quiet_takes h j before
     by_pair (Begin k) r a before = absurd a
 
-pub any_order : (h : hist.History) (n count : ℕ) → IsLegal h → hist.is_broken h ≡ false → IsNumber h n → count ≤ 64
+pub any_order : (filter : FilterValue) (h : hist.History) (n count : ℕ) → IsLegal filter h → hist.is_broken h ≡ false → IsNumber h n → count ≤ 64
     → ((j : ℕ) → hist.start_of h < j → j ≤ hist.start_of h + count → Contains (delivered_of h) j) → hist.start_of h
     + count ≤ n
-any_order h n count legal ok number few all = elim (cases_lt n (hist.start_of h + count)) [
+any_order filter h n count legal ok number few all = elim (cases_lt n (hist.start_of h + count)) [
   | inr le ↦ le
   | inl less ↦ absurd (
       let from = number.from in
       let is : Contains (delivered_of h) (n + 1) = all (n + 1) (omega arith) (omega arith) in
-      let has : hist.accepted_of h (n + 1) ≡ true = delivered_is_taken h (n + 1) legal ok (omega arith) (omega arith) is in
+      let has : hist.accepted_of h (n + 1) ≡ true = delivered_is_taken filter h (n + 1) legal ok (omega arith) (omega arith) is in
       apart (hist.accepted_of h (n + 1)) has number.next)
 ]

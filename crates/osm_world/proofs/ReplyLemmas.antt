@@ -3,6 +3,7 @@ use Rattle.std.proofs.Common.{◌≡◌, ℕ, ◌+◌, ◌<◌, ◌≤◌, [], �
 use Rattle.std.specs.Prelude.{◌==◌, ◌||◌, if◌then◌else◌, nat_le, nat_lt}
 use Rattle.std.proofs.lemmas.Bool.{eq-eqb, ne_eqb, or_from, or_left, or_right}
 use Rattle.std.proofs.lemmas.Bool.Decides.{nat_tests}
+use Rattle.osm_model.specs.Filter.{FilterValue}
 use Rattle.osm_model.specs.Limits.{max_changes, max_file, max_sequence}
 use Rattle.osm_o5c.specs.Written.{o5c_text}
 use Rattle.osm_opl.specs.Written.{opl_text}
@@ -179,19 +180,20 @@ begin_is_due h k q r a b p o = absurd a
 broken_apart : (b : Bool) → b ≡ true → b ≡ false → ⊥
 broken_apart b is out = let bad : true ≡ false = sym is ∙ out in cc
 
-one_show : (h : hist.History) (q r : Reply) → AllowedShow h q → AllowedShow h r → is_want_of_memory q ≡ false → is_want_of_memory r ≡ false → q ≡ r
-one_show h Broken Broken a b p o = refl
-one_show h Broken (Shown w) a b p o = absurd (broken_apart (hist.is_broken h) a b.0)
-one_show h Broken WantOfMemory a b p o = cc
-one_show h Broken r a b p o = absurd b
-one_show h (Shown v) Broken a b p o = absurd (broken_apart (hist.is_broken h) b a.0)
-one_show h (Shown v) (Shown w) a b p o =
-    ap (λ (x : ViewValue). Shown x) (one_view (hist.published_of h) (hist.base_of h) (hist.start_of h) (hist.accepted_of h)
+one_show : (filter : FilterValue) (h : hist.History) (q r : Reply) → AllowedShow filter h q → AllowedShow filter h r
+    → is_want_of_memory q ≡ false → is_want_of_memory r ≡ false → q ≡ r
+one_show filter h Broken Broken a b p o = refl
+one_show filter h Broken (Shown w) a b p o = absurd (broken_apart (hist.is_broken h) a b.0)
+one_show filter h Broken WantOfMemory a b p o = cc
+one_show filter h Broken r a b p o = absurd b
+one_show filter h (Shown v) Broken a b p o = absurd (broken_apart (hist.is_broken h) b a.0)
+one_show filter h (Shown v) (Shown w) a b p o =
+    ap (λ (y : ViewValue). Shown y) (one_view filter (hist.published_of h) (hist.base_of h) (hist.start_of h) (hist.accepted_of h)
     (hist.accepted_of h) v w (λ j. refl) a.1 b.1)
-one_show h (Shown v) WantOfMemory a b p o = cc
-one_show h (Shown v) r a b p o = absurd b
-one_show h WantOfMemory r a b p o = cc
-one_show h q r a b p o = absurd a
+one_show filter h (Shown v) WantOfMemory a b p o = cc
+one_show filter h (Shown v) r a b p o = absurd b
+one_show filter h WantOfMemory r a b p o = cc
+one_show filter h q r a b p o = absurd a
 
 -- no number above all that were delivered was accepted
 delivered_to : Event → ℕ
@@ -223,16 +225,17 @@ accepted_within (p ∷ h) j above =
 reached_from : (h : hist.History) (n : ℕ) → (m : ℕ) × Reaches (hist.accepted_of h) n m
 reached_from h n = reaches_some (hist.accepted_of h) n (top_of h) (λ j above. accepted_within h j (omega arith))
 
-pub one_reply : (h : hist.History) (e : Event) (q r : Reply) → Allowed h e q → Allowed h e r → is_want_of_memory q ≡ false → is_want_of_memory r ≡ false → q ≡ r
-one_reply h (Edit c) q r a b p o = edit_is_due h q a p ∙ sym (edit_is_due h r b o)
-one_reply h (Close t) q r a b p o = close_is_due h t q a p ∙ sym (close_is_due h t r b o)
-one_reply h (Deliver k form) q r a b p o =
+pub one_reply : (filter : FilterValue) (h : hist.History) (e : Event) (q r : Reply) → Allowed filter h e q → Allowed filter h e r
+    → is_want_of_memory q ≡ false → is_want_of_memory r ≡ false → q ≡ r
+one_reply filter h (Edit c) q r a b p o = edit_is_due h q a p ∙ sym (edit_is_due h r b o)
+one_reply filter h (Close t) q r a b p o = close_is_due h t q a p ∙ sym (close_is_due h t r b o)
+one_reply filter h (Deliver k form) q r a b p o =
     let number = reached_from h (hist.start_of h) in
     let reach = reached_from h k in
     delivery_is_due h k number.0 reach.0 q number.1 reach.1 a p ∙ sym (delivery_is_due h k number.0 reach.0 r number.1 reach.1 b o)
-one_reply h Show q r a b p o = one_show h q r a b p o
-one_reply h Save q r a b p o =
+one_reply filter h Show q r a b p o = one_show filter h q r a b p o
+one_reply filter h Save q r a b p o =
     let number = reached_from h (hist.start_of h) in
     save_is_due h number.0 q number.1 a p ∙ sym (save_is_due h number.0 r number.1 b o)
-one_reply h Restart q r a b p o = restart_is_due h q a p ∙ sym (restart_is_due h r b o)
-one_reply h (Begin k) q r a b p o = begin_is_due h k q r a b p o
+one_reply filter h Restart q r a b p o = restart_is_due h q a p ∙ sym (restart_is_due h r b o)
+one_reply filter h (Begin k) q r a b p o = begin_is_due h k q r a b p o

@@ -4,9 +4,10 @@ use Rattle.std.proofs.Common.{true, false, arith, append-nil, length-append, inl
 use Rattle.std.specs.Prelude.{◌==◌, ◌||◌}
 use Rattle.std.proofs.lemmas.Bool.{cases_lt}
 use Rattle.std.proofs.lemmas.List.{get_or_append_left, get_or-append-add}
+use Rattle.osm_model.specs.Filter.{FilterValue}
 use Rattle.osm_world.specs.Correct.{IsReported}
 use Rattle.osm_world.specs.History as hist
-use Rattle.osm_world.specs.Legal.{IsLegal, IsNumber, Allowed}
+use Rattle.osm_world.specs.Legal.{IsLegal, IsNumber, Allowed, AllowedDeliver}
 use Rattle.osm_follow.specs.Reach.{Reaches, numbers}
 use Rattle.osm_follow.proofs.ReachLemmas.{between-append}
 use Rattle.osm_world.proofs.ReachLemmas.{one_reach, reaches_with_next, reaches_with_later}
@@ -36,8 +37,8 @@ get_or-numbers n (suc count) i below =
           last ∙ omega arith)
     ]
 
-pub legal_before : (h : hist.History) (e : Event) (r : Reply) → IsLegal ((e, r) ∷ h) → IsLegal h
-legal_before h e r legal = record { each = λ later before d q is. legal.each ((e, r) ∷ later) before d q (ap (λ (x : hist.History). (e, r) ∷ x) is) }
+pub legal_before : (filter : FilterValue) (h : hist.History) (e : Event) (r : Reply) → IsLegal filter ((e, r) ∷ h) → IsLegal filter h
+legal_before filter h e r legal = record { each = λ later before d q is. legal.each ((e, r) ∷ later) before d q (ap (λ (x : hist.History). (e, r) ∷ x) is) }
 
 -- what a pair that reports nothing leaves as it was
 record IsSilent (h : hist.History) (e : Event) (r : Reply) : Type 0 where
@@ -61,7 +62,7 @@ quiet_reports h e r n q before ok number =
     rw (q.start, q.reported, append-nil) (before (sym q.broken ∙ ok) at)
 
 -- a pair that reports the next sequences
-applied_reports : (h : hist.History) (k low high n : ℕ) (form : Form) → Allowed h (Deliver k form) (Applied low high)
+applied_reports : (h : hist.History) (k low high n : ℕ) (form : Form) → AllowedDeliver h k (Applied low high)
     → ((m : ℕ) → hist.is_broken h ≡ false → IsNumber h m → IsReported (hist.reported_of h) (hist.start_of h) m)
     → IsNumber ((Deliver k form, Applied low high) ∷ h) n
     → IsReported (hist.reported_of ((Deliver k form, Applied low high) ∷ h)) (hist.start_of h) n
@@ -87,7 +88,7 @@ applied_reports h k low high n form allowed before number =
     }
 
 -- a pair that holds a sequence reports nothing, and leaves the number
-held_reports : (h : hist.History) (k n : ℕ) (form : Form) → Allowed h (Deliver k form) Held
+held_reports : (h : hist.History) (k n : ℕ) (form : Form) → AllowedDeliver h k Held
     → ((m : ℕ) → hist.is_broken h ≡ false → IsNumber h m → IsReported (hist.reported_of h) (hist.start_of h) m)
     → IsNumber ((Deliver k form, Held) ∷ h) n → IsReported (hist.reported_of ((Deliver k form, Held) ∷ h))
     (hist.start_of h) n
@@ -106,12 +107,13 @@ none_reported start n number = elim (cases_lt start n) [
   | inr none ↦ (let from = number.from in record { count = 0; number_is = omega arith; reported_is = refl })
 ]
 
-pub reported_is : (h : hist.History) (n : ℕ) → IsLegal h → hist.is_broken h ≡ false → IsNumber h n → IsReported (hist.reported_of h) (hist.start_of h) n
-reported_is [] n legal ok number = none_reported 0 n number
-reported_is (p ∷ h) n legal ok number =
-    by_pair p.0 p.1 (legal.each [] h p.0 p.1 refl) (λ m whole at. reported_is h m (legal_before h p.0 p.1 legal) whole at) ok number
+pub reported_is : (filter : FilterValue) (h : hist.History) (n : ℕ) → IsLegal filter h → hist.is_broken h ≡ false → IsNumber h n
+    → IsReported (hist.reported_of h) (hist.start_of h) n
+reported_is filter [] n legal ok number = none_reported 0 n number
+reported_is filter (p ∷ h) n legal ok number =
+    by_pair p.0 p.1 (legal.each [] h p.0 p.1 refl) (λ m whole at. reported_is filter h m (legal_before filter h p.0 p.1 legal) whole at) ok number
   where
-    by_pair : (e : Event) (r : Reply) → Allowed h e r → ((m : ℕ) → hist.is_broken h ≡ false → IsNumber h m
+    by_pair : (e : Event) (r : Reply) → Allowed filter h e r → ((m : ℕ) → hist.is_broken h ≡ false → IsNumber h m
         → IsReported (hist.reported_of h) (hist.start_of h) m) → hist.is_broken ((e, r) ∷ h) ≡ false
         → IsNumber ((e, r) ∷ h) n → IsReported (hist.reported_of ((e, r) ∷ h)) (hist.start_of ((e, r) ∷ h)) n
     by_pair (Edit c) Edited allowed before whole at = quiet_reports h (Edit c) Edited n (silent h (Edit c) Edited refl refl refl refl) (before n) whole at

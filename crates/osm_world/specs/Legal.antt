@@ -2,6 +2,7 @@
 -- given exactly if its conditions hold, except that memory may be refused instead.
 use Rattle.std.specs.Prelude.{◌≡◌, ℕ, ◌+◌, ◌<◌, ◌≤◌, ◌∷◌, ◌++◌, length, true, false, ◌⊎◌, Bool}
 use Rattle.osm_holding.specs.Holding.{window}
+use Rattle.osm_model.specs.Filter.{FilterValue}
 use Rattle.osm_model.specs.Limits.{max_changes, max_sequence}
 use Rattle.osm_world.specs.History.{History, published_of, pending_of, publisher_of, start_of}
 use Rattle.osm_world.specs.History.{accepted_of, base_of, has_saved, is_broken, saved_of}
@@ -76,12 +77,13 @@ AllowedDeliver h k (Applied low high) =
 AllowedDeliver h k Broke = (n : ℕ) × IsWanted h k n × (k ≡ n + 1) × HasChanges h k
 AllowedDeliver h k r = ⊥
 
-abbrev pub AllowedShow : History → Reply → Type 0
-AllowedShow h Broken = is_broken h ≡ true
-AllowedShow h WantOfMemory = is_broken h ≡ false
-AllowedShow h (Shown v) =
-    (is_broken h ≡ false) × IsView (published_of h) (base_of h) (start_of h) (accepted_of h) v
-AllowedShow h r = ⊥
+abbrev pub AllowedShow : FilterValue → History → Reply → Type 0
+AllowedShow filter h Broken = is_broken h ≡ true
+AllowedShow filter h WantOfMemory = is_broken h ≡ false
+AllowedShow filter h (Shown v) =
+    (is_broken h ≡ false)
+    × IsView filter (published_of h) (base_of h) (start_of h) (accepted_of h) v
+AllowedShow filter h r = ⊥
 
 abbrev pub AllowedSave : History → Reply → Type 0
 AllowedSave h Broken = is_broken h ≡ true
@@ -100,15 +102,16 @@ AllowedBegin h k (Begun n) = (0 < k) × (k ≤ length (published_of h)) × (n �
 AllowedBegin h k WantOfMemory = (0 < k) × (k ≤ length (published_of h))
 AllowedBegin h k r = ⊥
 
--- the reply may follow the history at that event
-abbrev pub Allowed : History → Event → Reply → Type 0
-Allowed h (Edit c) r = AllowedEdit h r
-Allowed h (Close t) r = AllowedClose h t r
-Allowed h (Deliver k form) r = AllowedDeliver h k r
-Allowed h Show r = AllowedShow h r
-Allowed h Save r = AllowedSave h r
-Allowed h Restart r = AllowedRestart h r
-Allowed h (Begin k) r = AllowedBegin h k r
+-- the reply may follow the history at that event, if the follower keeps what the filter keeps: only
+-- what it shows depends on that
+abbrev pub Allowed : FilterValue → History → Event → Reply → Type 0
+Allowed filter h (Edit c) r = AllowedEdit h r
+Allowed filter h (Close t) r = AllowedClose h t r
+Allowed filter h (Deliver k form) r = AllowedDeliver h k r
+Allowed filter h Show r = AllowedShow filter h r
+Allowed filter h Save r = AllowedSave h r
+Allowed filter h Restart r = AllowedRestart h r
+Allowed filter h (Begin k) r = AllowedBegin h k r
 
 -- whether the reply says that memory was refused
 abbrev pub is_want_of_memory : Reply → Bool
@@ -117,6 +120,6 @@ is_want_of_memory Broke = true
 is_want_of_memory r = false
 
 -- each reply of a history is allowed after what came before it
-pub record IsLegal (h : History) : Type 0 where
+pub record IsLegal (filter : FilterValue) (h : History) : Type 0 where
   pub each : (later before : History) (e : Event) (r : Reply) →
-      h ≡ later ++ (e, r) ∷ before → Allowed before e r
+      h ≡ later ++ (e, r) ∷ before → Allowed filter before e r

@@ -7,12 +7,13 @@ use Rattle.std.specs.List.Sorted.{IsStrictlySortedBy}
 use Rattle.std.specs.Ordering.{nat_cmp}
 use Rattle.osm_model.specs.Batch.{IsBatch}
 use Rattle.osm_model.specs.Change.{ChangeValue}
+use Rattle.osm_model.specs.Filter.{FilterValue}
 use Rattle.osm_model.specs.Limits.{IsPositive, max_changes, max_sequence}
 use Rattle.osm_o5c.specs.File.{SpellsO5c, FaultPlace}
 use Rattle.osm_opl.specs.File.{SpellsOpl, FaultLine}
 use Rattle.osm_follow.specs.Delivery.{Delivers, Spelling, FaultPlaces}
 use Rattle.osm_follow.specs.Begin.{Begins}
-use Rattle.osm_follow.specs.Follower.{FollowerValue, new_follower}
+use Rattle.osm_follow.specs.Follower.{FollowerValue, new_follower_of}
 use Rattle.osm_follow.specs.Published.{PublishedTexts, texts_at, written_of}
 use Rattle.osm_follow.specs.Publisher.{CanClose, IsSmall, IsTooLarge, closing, closed}
 use Rattle.osm_follow.specs.View.{view_of}
@@ -141,29 +142,31 @@ RestartStep a WantOfMemory b =
     × (b ≡ record a { follower = b.follower })
 RestartStep a r b = ⊥
 
--- a new follower was given the archived OPL files of sequences 1 to k in order, and applied each by
--- itself
-abbrev pub IsFed : List PublishedTexts → ℕ → FollowerValue → Type 0
-IsFed archive zero f = f ≡ new_follower
-IsFed archive (suc k) f =
-    (e : FollowerValue) × (range : ℕ × ℕ) × IsFed archive k e
+-- a new follower with that filter was given the archived OPL files of sequences 1 to k in order, and
+-- applied each by itself
+abbrev pub IsFed : FilterValue → List PublishedTexts → ℕ → FollowerValue → Type 0
+IsFed filter archive zero f = f ≡ new_follower_of filter
+IsFed filter archive (suc k) f =
+    (e : FollowerValue) × (range : ℕ × ℕ) × IsFed filter archive k e
     × Delivers SpellsOpl FaultLine e (texts_at archive (suc k)).state
     (texts_at archive (suc k)).opl (Ok (answers.Applied range.0 range.1)) f
 
--- the follower that begins with the objects of the one that was given sequences 1 to k, at the
--- archived state of sequence k
-pub record BeginsFrom (archive : List PublishedTexts) (k : ℕ) (f : FollowerValue) : Type 0 where
+-- the follower with that filter that begins with the objects of the one that was given sequences 1
+-- to k, at the archived state of sequence k
+pub record BeginsFrom (filter : FilterValue) (archive : List PublishedTexts) (k : ℕ)
+    (f : FollowerValue) : Type 0 where
   pub giver : FollowerValue
-  pub fed : IsFed archive k giver
+  pub fed : IsFed filter archive k giver
   pub state : StateValue
   pub named : StateOf (texts_at archive k).state state
-  pub begun : Begins state giver.mirror.objects (Ok f)
+  pub begun : Begins filter state giver.mirror.objects (Ok f)
 
--- a beginning, whatever the follower was; the text saved last stays
+-- a beginning, whatever the follower was; its filter and the text saved last stay
 abbrev pub BeginStep : WorldValue → ℕ → Reply → WorldValue → Type 0
 BeginStep a k NotPublished b = ((k ≡ 0) ⊎ (a.publisher.number < k)) × (b ≡ a)
 BeginStep a k (Begun n) b =
-    (0 < k) × (k ≤ a.publisher.number) × (n ≡ k) × BeginsFrom a.archive k b.follower
+    (0 < k) × (k ≤ a.publisher.number) × (n ≡ k)
+    × BeginsFrom a.follower.filter a.archive k b.follower
     × (b ≡ record a { follower = b.follower })
 BeginStep a k WantOfMemory b = (0 < k) × (k ≤ a.publisher.number) × (b ≡ a)
 BeginStep a k r b = ⊥

@@ -29,8 +29,8 @@ pub enum Event {
     Save,
     /// The follower restarts from the text saved last, or from nothing if none was.
     Restart,
-    /// The follower begins anew at that number, with the objects that the published sequences up to
-    /// it leave. The text saved last stays.
+    /// The follower begins anew at that number, with what its filter keeps of the objects that the
+    /// published sequences up to it leave. The text saved last stays.
     Begin(u32),
 }
 

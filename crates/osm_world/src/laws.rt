@@ -5,6 +5,7 @@ ghost use Rattle.std.specs.Prelude.{◌≤◌, ◌↔◌, Contains, IsSome, true
 ghost use Rattle.std.specs.List.Sorted.{IsStrictlySortedBy};
 ghost use Rattle.std.specs.Ordering.{nat_cmp};
 ghost use Rattle.osm_holding.specs.Holding.{window};
+ghost use Rattle.osm_model.specs.Filter.{FilterValue, everything};
 ghost use Rattle.osm_o5c.specs.Written.{o5c_text};
 ghost use Rattle.osm_opl.specs.Written.{opl_text};
 ghost use Rattle.osm_state.specs.StateText.{state_text};
@@ -12,7 +13,7 @@ ghost use Rattle.osm_follow.specs.Follower.{held_at, is_held};
 ghost use Rattle.osm_follow.specs.Published.{PublishedValue, texts_at};
 ghost use Rattle.osm_follow.specs.Reach.{Reaches, missing_numbers, numbers};
 ghost use Rattle.osm_follow.specs.View.{ViewValue};
-ghost use Rattle.osm_world.specs.Alike.{AcceptAlike, AreAlike};
+ghost use Rattle.osm_world.specs.Alike.{AcceptAlike, AreAlike, IsExtract};
 ghost use Rattle.osm_world.specs.Correct.{IsInStep, IsRun};
 ghost use Rattle.osm_world.specs.Due.{due_delivery};
 ghost use Rattle.osm_world.specs.Deliveries.{IsSubsequence, delivered_of, is_confirmed};
@@ -21,7 +22,7 @@ ghost use Rattle.osm_world.specs.History.{reported_of, start_of};
 ghost use Rattle.osm_world.specs.Legal.{Allowed, IsLegal, IsNumber, is_want_of_memory};
 ghost use Rattle.osm_world.specs.New.{IsNew};
 ghost use Rattle.osm_world.specs.Step.{Step};
-ghost use Rattle.osm_world.specs.World.{WorldValue, new_world};
+ghost use Rattle.osm_world.specs.World.{WorldValue, new_world_of};
 ghost use Rattle.osm_world.specs.declared.event.Event.{Event};
 ghost use Rattle.osm_world.specs.declared.event.Form.{Form};
 ghost use Rattle.osm_world.specs.declared.event.Reply.{Reply};
@@ -32,15 +33,15 @@ use osm_opl::opl::Opl;
 use osm_save::save::laws_of_saves;
 use osm_state::laws::laws_of_state;
 
-/// A run of no events gives the new world and no other, and a run with one more step is a run. So a
-/// caller may step a world itself, and keep only the replies that it needs. Does nothing at run
-/// time.
+/// Whatever the filter, a run of no events gives the new world with it and no other, and a run with
+/// one more step is a run. So a caller may step a world itself, and keep only the replies that it
+/// needs. Does nothing at run time.
 pub fn laws_of_runs()
-    ensures first { IsRun [] [] new_world }
-    ensures only { (w : WorldValue) → IsRun [] [] w → IsNew w }
-    ensures next { (events : List Event) (replies : List Reply) (w : WorldValue) (e : Event)
-        (r : Reply) (v : WorldValue) → IsRun events replies w → Step w e r v
-        → IsRun (events ++ e ∷ []) (replies ++ r ∷ []) v }
+    ensures first { (f : FilterValue) → IsRun f [] [] (new_world_of f) }
+    ensures only { (f : FilterValue) (w : WorldValue) → IsRun f [] [] w → IsNew f w }
+    ensures next { (f : FilterValue) (events : List Event) (replies : List Reply) (w : WorldValue)
+        (e : Event) (r : Reply) (v : WorldValue) → IsRun f events replies w → Step w e r v
+        → IsRun f (events ++ e ∷ []) (replies ++ r ∷ []) v }
 {
     Opl::laws();
     O5c::laws();
@@ -52,10 +53,11 @@ pub fn laws_of_runs()
 /// was refused. For a delivery it is the first row of `due_delivery` that applies. Does nothing at
 /// run time.
 pub fn laws_of_replies()
-    ensures one_reply { (h : History) (e : Event) (q r : Reply) → Allowed h e q → Allowed h e r
+    ensures one_reply { (f : FilterValue) (h : History) (e : Event) (q r : Reply)
+        → Allowed f h e q → Allowed f h e r
         → is_want_of_memory q ≡ false → is_want_of_memory r ≡ false → q ≡ r }
-    ensures delivery { (h : History) (k n high : ℕ) (form : Form) (r : Reply) → IsNumber h n
-        → Reaches (accepted_of h) k high → Allowed h (Event.Deliver k form) r
+    ensures delivery { (f : FilterValue) (h : History) (k n high : ℕ) (form : Form) (r : Reply)
+        → IsNumber h n → Reaches (accepted_of h) k high → Allowed f h (Event.Deliver k form) r
         → is_want_of_memory r ≡ false → r ≡ due_delivery h k n high }
 {}
 
@@ -63,10 +65,11 @@ pub fn laws_of_replies()
 /// beginning exactly the numbers after its start up to its number, each once and in order. Does
 /// nothing at run time.
 pub fn laws_of_histories()
-    ensures count { (h : History) (n : ℕ) → IsLegal h → is_broken h ≡ false → IsNumber h n
-        → start_of h + length (reported_of h) ≡ n }
-    ensures order { (h : History) (n i : ℕ) → IsLegal h → is_broken h ≡ false → IsNumber h n
-        → i < length (reported_of h) → slice_index (reported_of h) i ≡ start_of h + i + 1 }
+    ensures count { (f : FilterValue) (h : History) (n : ℕ) → IsLegal f h → is_broken h ≡ false
+        → IsNumber h n → start_of h + length (reported_of h) ≡ n }
+    ensures order { (f : FilterValue) (h : History) (n i : ℕ) → IsLegal f h → is_broken h ≡ false
+        → IsNumber h n → i < length (reported_of h)
+        → slice_index (reported_of h) i ≡ start_of h + i + 1 }
 {}
 
 /// A legal history has accepted exactly the numbers above its start that were delivered since the
@@ -77,12 +80,14 @@ pub fn laws_of_histories()
 /// unless its follower is broken. For the first 64 numbers after its start the order of these
 /// deliveries doesn't matter. Does nothing at run time.
 pub fn laws_of_progress()
-    ensures accepted { (h : History) (j : ℕ) → IsLegal h
+    ensures accepted { (f : FilterValue) (h : History) (j : ℕ) → IsLegal f h
         → (accepted_of h j ≡ true) ↔ ((start_of h < j) × (is_confirmed h j ≡ true)) }
-    ensures catches_up { (h : History) (n count : ℕ) → IsLegal h → is_broken h ≡ false
+    ensures catches_up { (f : FilterValue) (h : History) (n count : ℕ) → IsLegal f h
+        → is_broken h ≡ false
         → IsNumber h n → IsSubsequence (numbers (start_of h) count) (delivered_of h)
         → start_of h + count ≤ n }
-    ensures any_order { (h : History) (n count : ℕ) → IsLegal h → is_broken h ≡ false
+    ensures any_order { (f : FilterValue) (h : History) (n count : ℕ) → IsLegal f h
+        → is_broken h ≡ false
         → IsNumber h n → count ≤ window
         → ((j : ℕ) → start_of h < j → j ≤ start_of h + count → Contains (delivered_of h) j)
         → start_of h + count ≤ n }
@@ -92,10 +97,11 @@ pub fn laws_of_progress()
 /// published: for the sequence after any others, counted from 1, its number, the text of its state,
 /// and its changes as an o5c file and as an OPL file. Does nothing at run time.
 pub fn laws_of_archives()
-    ensures count { (h : History) (w : WorldValue) → IsInStep h w
+    ensures count { (f : FilterValue) (h : History) (w : WorldValue) → IsInStep f h w
         → length w.archive ≡ length (published_of h) }
-    ensures texts { (h : History) (w : WorldValue) (before after : List PublishedValue)
-        (p : PublishedValue) → IsInStep h w → published_of h ≡ before ++ p ∷ after
+    ensures texts { (f : FilterValue) (h : History) (w : WorldValue)
+        (before after : List PublishedValue) (p : PublishedValue) → IsInStep f h w
+        → published_of h ≡ before ++ p ∷ after
         → texts_at w.archive (length before + 1) ≡ record {
           number = length before + 1;
           state = state_text (record { sequence = length before + 1; time = p.time });
@@ -108,41 +114,48 @@ pub fn laws_of_archives()
 /// numbers above it. These come after the next number, and are among the 64 after its own, so they
 /// are at most 63. What it names as missing is what wasn't accepted. Does nothing at run time.
 pub fn laws_of_holding()
-    ensures number { (h : History) (w : WorldValue) → IsInStep h w → is_broken h ≡ false
-        → IsNumber h w.follower.number }
-    ensures held { (h : History) (w : WorldValue) (j : ℕ) → IsInStep h w → is_broken h ≡ false
+    ensures number { (f : FilterValue) (h : History) (w : WorldValue) → IsInStep f h w
+        → is_broken h ≡ false → IsNumber h w.follower.number }
+    ensures held { (f : FilterValue) (h : History) (w : WorldValue) (j : ℕ) → IsInStep f h w
+        → is_broken h ≡ false
         → IsSome (held_at w.follower j)
         ↔ ((w.follower.number < j) × (accepted_of h j ≡ true)) }
-    ensures window { (h : History) (w : WorldValue) (j : ℕ) → IsInStep h w → is_broken h ≡ false
+    ensures window { (f : FilterValue) (h : History) (w : WorldValue) (j : ℕ) → IsInStep f h w
+        → is_broken h ≡ false
         → IsSome (held_at w.follower j)
         → (w.follower.number + 1 < j) × (j ≤ w.follower.number + window) }
-    ensures few { (h : History) (w : WorldValue) (js : List ℕ) → IsInStep h w
+    ensures few { (f : FilterValue) (h : History) (w : WorldValue) (js : List ℕ) → IsInStep f h w
         → is_broken h ≡ false → IsStrictlySortedBy nat_cmp js
         → ((j : ℕ) → Contains js j → IsSome (held_at w.follower j)) → length js < window }
-    ensures missing { (h : History) (w : WorldValue) (top : ℕ) → IsInStep h w
+    ensures missing { (f : FilterValue) (h : History) (w : WorldValue) (top : ℕ) → IsInStep f h w
         → is_broken h ≡ false → missing_numbers (is_held w.follower) w.follower.number top
         ≡ missing_numbers (accepted_of h) w.follower.number top }
 {}
 
 /// What a legal history may show was published: the number, and the numbers held, which come after
-/// the next number and are among the 64 after its own, so they are at most 63. Does nothing at run
-/// time.
+/// the next number and are among the 64 after its own, so they are at most 63. With a filter it may
+/// show exactly what the filter keeps of the objects that it may show without one, and all else is
+/// the same. Does nothing at run time.
 pub fn laws_of_views()
-    ensures number { (h : History) (v : ViewValue) → IsLegal h
-        → Allowed h Event.Show (Reply.Shown v) → v.number ≤ length (published_of h) }
-    ensures held { (h : History) (v : ViewValue) (j : ℕ) → IsLegal h
-        → Allowed h Event.Show (Reply.Shown v) → Contains v.held j
+    ensures number { (f : FilterValue) (h : History) (v : ViewValue) → IsLegal f h
+        → Allowed f h Event.Show (Reply.Shown v) → v.number ≤ length (published_of h) }
+    ensures held { (f : FilterValue) (h : History) (v : ViewValue) (j : ℕ) → IsLegal f h
+        → Allowed f h Event.Show (Reply.Shown v) → Contains v.held j
         → (v.number + 1 < j) × (j ≤ v.number + window) × (j ≤ length (published_of h)) }
-    ensures few { (h : History) (v : ViewValue) → IsLegal h
-        → Allowed h Event.Show (Reply.Shown v) → length v.held < window }
+    ensures few { (f : FilterValue) (h : History) (v : ViewValue) → IsLegal f h
+        → Allowed f h Event.Show (Reply.Shown v) → length v.held < window }
+    ensures extract { (f : FilterValue) (h : History) (v w : ViewValue)
+        → Allowed everything h Event.Show (Reply.Shown v) → Allowed f h Event.Show (Reply.Shown w)
+        → IsExtract f v w }
 {}
 
 /// Neither the order of deliveries nor repeats matter: if two histories published and accepted the
-/// same from the same start and with the same base, their followers are the same, and so are the
-/// views that they show. Does nothing at run time.
+/// same from the same start and with the same base, their followers are the same if they have the
+/// same filter, and so are the views that they show. Does nothing at run time.
 pub fn laws_of_order()
-    ensures followers { (g h : History) (v w : WorldValue) → AcceptAlike g h → IsInStep g v
-        → IsInStep h w → AreAlike v.follower w.follower }
-    ensures views { (g h : History) (v w : ViewValue) → AcceptAlike g h
-        → Allowed g Event.Show (Reply.Shown v) → Allowed h Event.Show (Reply.Shown w) → v ≡ w }
+    ensures followers { (f : FilterValue) (g h : History) (v w : WorldValue) → AcceptAlike g h
+        → IsInStep f g v → IsInStep f h w → AreAlike v.follower w.follower }
+    ensures views { (f : FilterValue) (g h : History) (v w : ViewValue) → AcceptAlike g h
+        → Allowed f g Event.Show (Reply.Shown v) → Allowed f h Event.Show (Reply.Shown w)
+        → v ≡ w }
 {}

@@ -3,6 +3,7 @@
 ghost use Rattle.std.specs.Prelude.{◌≡◌, ◌<◌, ◌≤◌, ◌⊎◌, ◌↔◌, [], length, vec_capacity, vec_len};
 ghost use Rattle.std.specs.Prelude.{IsNone, IfOk, IfSome, Ok, OnErr, OnOk};
 ghost use Rattle.osm_model.specs.Batch.{IsBatch};
+ghost use Rattle.osm_model.specs.Filter.{everything};
 ghost use Rattle.osm_world.specs.Correct.{IsRun};
 ghost use Rattle.osm_follow.specs.Delivery.{Delivers};
 ghost use Rattle.osm_follow.specs.Published.{texts_at};
@@ -13,7 +14,7 @@ ghost use Rattle.osm_world.specs.Step.{BeginStep, BeginsFrom, SaveStep, ShowStep
 ghost use Rattle.osm_world.specs.Step.{bytes_in, fault_in, spells_in};
 ghost use Rattle.osm_world.specs.Steps.Archive.{AreReadable, ClosesInto, IsArchive, IsReadable};
 ghost use Rattle.osm_world.specs.Steps.Beginning.{AreLeft};
-ghost use Rattle.osm_world.specs.World.{new_world};
+ghost use Rattle.osm_world.specs.World.{new_world, new_world_of};
 
 use crate::event::{Event, Form, Reply};
 use crate::laws::laws_of_runs;
@@ -24,17 +25,19 @@ use osm_follow::publisher::{CloseError, EditError, Publisher};
 use osm_follow::restart::RestartError;
 use osm_follow::view::ViewError;
 use osm_model::change::Change;
+use osm_model::filter::Filter;
 use osm_model::form::ChangeForm;
 use osm_model::memory::WantOfMemory;
 use osm_o5c::o5c::O5c;
 use osm_opl::opl::Opl;
+use osm_save::save::laws_of_saves;
 use osm_state::laws::laws_of_state;
 use osm_state::state_text::state_read;
 use std::alloc::Global;
 use std::marker::Model;
 
 /// A publisher, the files of what it published, a follower of them, and the text that the follower
-/// saved last.
+/// saved last. The follower has the same filter throughout.
 #[derive(Debug, Drop)]
 pub struct World {
     alloc: Global,
@@ -58,7 +61,7 @@ impl Model for World {
       saved = option_map (λ v. v.items) a.saved;
     } };
 
-    ghost invariant = { λ a. IsKept a.publisher.number a.archive.items
+    ghost invariant = { λ a. IsKept a.publisher.number a.archive.items a.follower.filter
         (option_map (λ v. v.items) a.saved) };
 }
 
@@ -70,26 +73,42 @@ pub struct Run {
 }
 
 impl World {
-    /// A new publisher, an empty archive, a new follower and nothing saved. Takes all the memory
-    /// that the follower's holding area ever needs.
+    /// A new publisher, an empty archive, a new follower that keeps every object, and nothing
+    /// saved. Takes all the memory that the follower's holding area ever needs.
     pub fn new(alloc: Global) -> Result<World, WantOfMemory>
         ensures new { IfOk result (λ w. w ≡ new_world) }
+    {
+        World::with_filter(alloc, Filter::all(alloc))
+    }
+
+    /// The same, with a follower that keeps what the filter keeps.
+    pub fn with_filter(alloc: Global, filter: Filter) -> Result<World, WantOfMemory>
+        ensures new { IfOk result (λ w. w ≡ new_world_of filter) }
     {
         Ok(World {
             alloc,
             publisher: Publisher::new(alloc),
             archive: Vec::new(alloc),
-            follower: Follower::new(alloc)?,
+            follower: Follower::with_filter(alloc, filter)?,
             saved: None,
         })
     }
 
-    /// Takes all the events in order, in a new world. After an error none of them was taken.
+    /// Takes all the events in order, in a new world whose follower keeps every object. After an
+    /// error none of them was taken.
     pub fn run(alloc: Global, events: Vec<Event>) -> Result<Run, WantOfMemory>
-        ensures run { IfOk result (λ r. IsRun events.items r.replies.items r.world) }
+        ensures run { IfOk result (λ r. IsRun everything events.items r.replies.items r.world) }
         ensures none { events.items ≡ [] → IfOk result (λ r. r.world ≡ new_world) }
     {
-        let mut world = World::new(alloc)?;
+        World::run_with(alloc, Filter::all(alloc), events)
+    }
+
+    /// The same, with a follower that keeps what the filter keeps.
+    pub fn run_with(alloc: Global, filter: Filter, events: Vec<Event>) -> Result<Run, WantOfMemory>
+        ensures run { IfOk result (λ r. IsRun filter events.items r.replies.items r.world) }
+        ensures none { events.items ≡ [] → IfOk result (λ r. r.world ≡ new_world_of filter) }
+    {
+        let mut world = World::with_filter(alloc, filter)?;
         let mut replies = room_for_replies(alloc, events.as_slice())?;
         laws_of_runs();
         for event in events {
@@ -161,6 +180,7 @@ impl World {
         }
     }
 
+    #[tactic(auto, using(crate::proofs::ArchiveLemmas::replies_under_it))]
     fn deliver(&mut self, number: u32, form: Form) -> Reply
         ensures { DeliverStep self.old number form result self.new }
     {
@@ -194,15 +214,18 @@ impl World {
         Reply::Saved(number)
     }
 
-    // What was saved last is a save text, so it is never refused as a bad one.
-    #[tactic(auto, using(crate::proofs::ArchiveLemmas::no_bad_save))]
+    // What was saved last is a save text under the follower's filter, so it is never refused as a
+    // bad one or as another filter's.
+    #[tactic(auto, using(crate::proofs::ArchiveLemmas::no_bad_save, crate::proofs::ArchiveLemmas::no_other_filter))]
     fn restart(&mut self) -> Reply
         ensures { RestartStep self.old result self.new }
     {
+        laws_of_saves();
         match self.follower.restart(self.alloc, self.saved.as_deref()) {
             Ok(()) => Reply::Restarted(self.follower.number().unwrap()),
             Err(RestartError::WantOfMemory) => Reply::WantOfMemory,
             Err(RestartError::BadSave { .. }) => unreachable!(),
+            Err(RestartError::OtherFilter) => unreachable!(),
         }
     }
 
@@ -212,7 +235,8 @@ impl World {
         if number == 0 || number > self.publisher.number() {
             return Reply::NotPublished;
         }
-        match begun_from(self.alloc, self.archive.as_slice(), number) {
+        let filter = self.follower.filter();
+        match begun_from(self.alloc, filter, self.archive.as_slice(), number) {
             Ok(follower) => {
                 self.follower = follower;
                 Reply::Begun(number)
@@ -222,33 +246,40 @@ impl World {
     }
 }
 
-// The follower that begins at that number with what the archived sequences leave. Whatever is
-// refused on the way is refused for memory.
-fn begun_from(alloc: Global, archive: &[Published], number: u32) -> Result<Follower, WantOfMemory>
+// The follower with that filter that begins at that number with what the archived sequences leave.
+// Whatever is refused on the way is refused for memory.
+fn begun_from(
+    alloc: Global,
+    filter: &Filter,
+    archive: &[Published],
+    number: u32,
+) -> Result<Follower, WantOfMemory>
     requires above { 0 < number }
     requires there { number ≤ length archive.now }
-    ensures { IfOk result (BeginsFrom archive.now number) }
+    ensures begins { IfOk result (BeginsFrom filter.now archive.now number) }
+    ensures filter { IfOk result (λ f. f.filter ≡ filter.now) }
 {
-    let objects = archived_objects(alloc, archive, number)?;
+    let objects = archived_objects(alloc, filter.copy(alloc)?, archive, number)?;
     let Ok(state) = state_read(archive[number as usize - 1].state()) else {
         return Err(WantOfMemory);
     };
-    let Ok(follower) = Follower::begin(alloc, &state, objects) else {
+    let Ok(follower) = Follower::begin_with(alloc, filter.copy(alloc)?, &state, objects) else {
         return Err(WantOfMemory);
     };
     Ok(follower)
 }
 
-// The objects that the archived sequences 1 to `number` leave.
+// What the filter keeps of the objects that the archived sequences 1 to `number` leave.
 fn archived_objects(
     alloc: Global,
+    filter: Filter,
     archive: &[Published],
     number: u32,
 ) -> Result<Vec<Change>, WantOfMemory>
     requires { number ≤ length archive.now }
-    ensures { IfOk result (λ objects. AreLeft archive.now number objects.items) }
+    ensures { IfOk result (λ objects. AreLeft filter archive.now number objects.items) }
 {
-    let mut giver = Follower::new(alloc)?;
+    let mut giver = Follower::with_filter(alloc, filter)?;
     for index in 0..number {
         give(&mut giver, alloc, &archive[index as usize])?;
     }

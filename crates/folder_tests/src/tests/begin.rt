@@ -36,7 +36,8 @@ const FILES: &[File<'static>] = &[
 ];
 
 // The save that begins with them.
-const BEGUN_1: &[u8] = b"osmrepl-save 2\nbase 1\nsequence 1\ntime 2024-01-01T00:00:00Z\n\
+const BEGUN_1: &[u8] = b"osmrepl-save 3\nbase 1\nkinds nwr\nkeys 0\n\
+    sequence 1\ntime 2024-01-01T00:00:00Z\n\
     objects 1\nn1 v1 dV c7 t2024-01-01T00:00:00Z i5 uann T x1 y2\n\
     users 0\nchangesets 0\nend\n";
 
@@ -44,19 +45,21 @@ const SHOWN_1: &str = "number 1\nbase 1\ntime 2024-01-01T00:00:00Z\nobjects 1\n\
     n1 v1 dV c7 t2024-01-01T00:00:00Z i5 uann T x1 y2\nusers 0\nchangesets 0\nheld 0\n";
 
 // A save of two sequences with counts, at the number and the time of the second.
-const COUNTED_2: &[u8] = b"osmrepl-save 2\nbase 0\nsequence 2\ntime 2024-01-01T00:01:00Z\n\
+const COUNTED_2: &[u8] = b"osmrepl-save 3\nbase 0\nkinds nwr\nkeys 0\n\
+    sequence 2\ntime 2024-01-01T00:01:00Z\n\
     objects 2\nn1 v2 dV c8 t2024-01-01T00:00:30Z i6 ubob T x1 y2\n\
     n2 v1 dV c7 t2024-01-01T00:00:00Z i5 uann T x1 y2\n\
     users 2\n5 2\n6 1\nchangesets 2\n7 2\n8 1\nend\n";
 
 // What a save that begins with its export holds.
-const HANDED_ON_2: &[u8] = b"osmrepl-save 2\nbase 2\nsequence 2\ntime 2024-01-01T00:01:00Z\n\
+const HANDED_ON_2: &[u8] = b"osmrepl-save 3\nbase 2\nkinds nwr\nkeys 0\n\
+    sequence 2\ntime 2024-01-01T00:01:00Z\n\
     objects 2\nn1 v2 dV c8 t2024-01-01T00:00:30Z i6 ubob T x1 y2\n\
     n2 v1 dV c7 t2024-01-01T00:00:00Z i5 uann T x1 y2\n\
     users 0\nchangesets 0\nend\n";
 
-const EMPTY_SAVE: &[u8] =
-    b"osmrepl-save 2\nbase 0\nsequence 0\ntime none\nobjects 0\nusers 0\nchangesets 0\nend\n";
+const EMPTY_SAVE: &[u8] = b"osmrepl-save 3\nbase 0\nkinds nwr\nkeys 0\n\
+        sequence 0\ntime none\nobjects 0\nusers 0\nchangesets 0\nend\n";
 
 // Whether a save that holds that, or isn't there, begins with the data file of that name.
 fn is_begun(alloc: Global, base: &'static str, old: Option<&[u8]>) -> bool {
@@ -327,7 +330,8 @@ fn only_numbers_after_the_base_are_missing(rt: HostRuntime) {
 // A save that began at 2, and folders at 1 and 2.
 const BEGUN_2: File<'static> = (
     "save",
-    b"osmrepl-save 2\nbase 2\nsequence 2\ntime 2024-01-01T00:01:00Z\nobjects 0\nusers 0\n\
+    b"osmrepl-save 3\nbase 2\nkinds nwr\nkeys 0\n\
+        sequence 2\ntime 2024-01-01T00:01:00Z\nobjects 0\nusers 0\n\
       changesets 0\nend\n",
 );
 

@@ -25,10 +25,12 @@ const STATE_4: &[u8] = b"sequenceNumber=4\ntimestamp=2024-01-01T00\\:03\\:00Z\n"
 
 const TOP_100: &[u8] = b"sequenceNumber=100\ntimestamp=2024-01-01T00\\:00\\:00Z\n";
 
-const EMPTY_SAVE_4: &[u8] = b"osmrepl-save 2\nbase 0\nsequence 4\ntime 2024-01-01T00:03:00Z\n\
+const EMPTY_SAVE_4: &[u8] = b"osmrepl-save 3\nbase 0\nkinds nwr\nkeys 0\n\
+    sequence 4\ntime 2024-01-01T00:03:00Z\n\
     objects 0\nusers 0\nchangesets 0\nend\n";
 
-const SAVE_1: &[u8] = b"osmrepl-save 2\nbase 0\nsequence 1\ntime 2024-01-01T00:00:00Z\n\
+const SAVE_1: &[u8] = b"osmrepl-save 3\nbase 0\nkinds nwr\nkeys 0\n\
+    sequence 1\ntime 2024-01-01T00:00:00Z\n\
     objects 1\nn1 v1 dV c7 t2024-01-01T00:00:00Z i5 uann T x1 y2\n\
     users 1\n5 1\nchangesets 1\n7 1\nend\n";
 
@@ -152,6 +154,31 @@ fn a_lag_reads_the_head_of_a_save_alone(rt: HostRuntime) {
     for save in HEADS {
         assert!(rt; is_lag_of_head(rt.alloc(), save), "{save:?}");
     }
+}
+
+// A save of the ways with a tag `highway`, of which there are none.
+const EXTRACT_1: &[u8] = b"osmrepl-save 3\nbase 0\nkinds w\nkeys 1\nhighway\n\
+    sequence 1\ntime 2024-01-01T00:00:00Z\n\
+    objects 0\nusers 1\n5 1\nchangesets 1\n7 1\nend\n";
+
+const SHOWN_EXTRACT_1: &str = "number 1\ntime 2024-01-01T00:00:00Z\nobjects 0\n\
+    users 1\n5 1\nchangesets 1\n7 1\nheld 0\n";
+
+// Whether a save of an extract is shown and its lag is told, but it isn't followed.
+fn is_not_followed(alloc: Global) -> bool {
+    let Ok(mut store) = store_with(alloc, FOUR) else {
+        return false;
+    };
+    let is_there = is_put(alloc, &mut store, "save", EXTRACT_1);
+    let is_shown = reports(alloc, &mut store, Run::Show, (0, SHOWN_EXTRACT_1));
+    let is_told = reports(alloc, &mut store, Run::Lag, (0, "behind 3\nseconds 180\n"));
+    let is_refused = refusal(alloc, &mut store, Run::Follow) == Some(RunFault::OtherFilter);
+    is_there && is_shown && is_told && is_refused && is_file(&store, "save", EXTRACT_1)
+}
+
+#[test]
+fn a_save_of_an_extract_is_shown_but_not_followed(rt: HostRuntime) {
+    assert!(rt; is_not_followed(rt.alloc()));
 }
 
 // Whether a follower of the four sequences stops at a lost number and says so, and goes on once its

@@ -2,10 +2,11 @@
 
 use super::shown::is_shown;
 use osm_mirror::mirror::Mirror;
+use osm_model::filter::Filter;
 use osm_model::form::ChangeForm;
 use osm_model::kind::{Key, Kind};
 use osm_opl::opl::Opl;
-use osm_save::head::{BadHead, Head, head_read};
+use osm_save::head::{Head, HeadError, head_read};
 use osm_save::save::{SaveError, Saved, save_read, save_write};
 use std::alloc::Global;
 
@@ -14,7 +15,13 @@ const NEW_YEAR: u32 = 1_704_067_200;
 
 const NODE: &[u8] = b"n1 v1 dV c7 t2024-01-01T00:00:00Z i5 uann T x1 y2\n";
 
-const ONE_NODE: &[u8] = b"osmrepl-save 2\nbase 0\nsequence 1\ntime 2024-01-01T00:00:00Z\n\
+const ONE_NODE: &[u8] = b"osmrepl-save 3\nbase 0\nkinds nwr\nkeys 0\n\
+    sequence 1\ntime 2024-01-01T00:00:00Z\n\
+    objects 1\nn1 v1 dV c7 t2024-01-01T00:00:00Z i5 uann T x1 y2\n\
+    users 1\n5 1\nchangesets 1\n7 1\nend\n";
+
+// The same in version 2.
+const SECOND_VERSION: &[u8] = b"osmrepl-save 2\nbase 0\nsequence 1\ntime 2024-01-01T00:00:00Z\n\
     objects 1\nn1 v1 dV c7 t2024-01-01T00:00:00Z i5 uann T x1 y2\n\
     users 1\n5 1\nchangesets 1\n7 1\nend\n";
 
@@ -24,7 +31,8 @@ const FIRST_VERSION: &[u8] = b"osmrepl-save 1\nsequence 1\ntime 2024-01-01T00:00
     users 1\n5 1\nchangesets 1\n7 1\nend\n";
 
 // A follower that began at 1, and applied the same node once more as sequence 2.
-const BEGUN_AT_1: &[u8] = b"osmrepl-save 2\nbase 1\nsequence 2\ntime 2024-01-01T00:00:00Z\n\
+const BEGUN_AT_1: &[u8] = b"osmrepl-save 3\nbase 1\nkinds nwr\nkeys 0\n\
+    sequence 2\ntime 2024-01-01T00:00:00Z\n\
     objects 1\nn1 v1 dV c7 t2024-01-01T00:00:00Z i5 uann T x1 y2\n\
     users 1\n5 1\nchangesets 1\n7 1\nend\n";
 
@@ -46,19 +54,19 @@ const BEGUN: Head = Head {
     time: Some(NEW_YEAR),
 };
 
-const NOTHING: &[u8] =
-    b"osmrepl-save 2\nbase 0\nsequence 0\ntime none\nobjects 0\nusers 0\nchangesets 0\nend\n";
+const NOTHING: &[u8] = b"osmrepl-save 3\nbase 0\nkinds nwr\nkeys 0\nsequence 0\ntime none\n\
+    objects 0\nusers 0\nchangesets 0\nend\n";
 
 // The mirror after the changes of a file.
 fn mirror_after(alloc: Global, file: &[u8]) -> Option<Mirror> {
     let changes = Opl::read(alloc, file).ok()?.into_changes();
     let mut mirror = Mirror::new(alloc);
-    mirror.apply(changes).ok()?;
+    mirror.apply(&Filter::all(alloc), changes).ok()?;
     Some(mirror)
 }
 
 fn is_text_of(alloc: Global, head: Head, mirror: &Mirror, text: &[u8]) -> bool {
-    match save_write(alloc, head, mirror) {
+    match save_write(alloc, head, &Filter::all(alloc), mirror) {
         Ok(save) => save.as_slice() == text,
         Err(_) => false,
     }
@@ -73,7 +81,7 @@ fn is_saved(alloc: Global, head: Head, file: &[u8], text: &[u8]) -> bool {
 }
 
 #[test]
-fn one_node_is_saved_in_eleven_lines_and_number_0_with_no_time(rt: HostRuntime) {
+fn one_node_is_saved_in_thirteen_lines_and_number_0_with_no_time(rt: HostRuntime) {
     assert!(rt; is_saved(rt.alloc(), AT_NEW_YEAR, NODE, ONE_NODE));
     assert!(rt; is_saved(rt.alloc(), AT_START, b"", NOTHING));
     assert!(rt; is_saved(rt.alloc(), BEGUN, NODE, BEGUN_AT_1));
@@ -87,7 +95,12 @@ fn is_the_node(saved: &Saved) -> bool {
     };
     let is_first = saved.number == 1 && saved.base == 0 && saved.time == Some(NEW_YEAR);
     let is_there = saved.mirror.objects_by_key().len() == 1 && saved.mirror.get(node).is_some();
-    is_first && is_there && saved.mirror.user_count(5) == 1 && saved.mirror.changeset_count(7) == 1
+    let is_counted = saved.mirror.user_count(5) == 1 && saved.mirror.changeset_count(7) == 1;
+    is_first && is_there && is_counted && keeps_all(&saved.filter)
+}
+
+fn keeps_all(filter: &Filter) -> bool {
+    filter.nodes() && filter.ways() && filter.relations() && filter.keys().is_empty()
 }
 
 fn is_nothing(saved: &Saved) -> bool {
@@ -111,45 +124,53 @@ fn reads_nothing(alloc: Global) -> bool {
 #[test]
 fn what_was_saved_is_read_again(rt: HostRuntime) {
     assert!(rt; reads_the_node(rt.alloc(), ONE_NODE));
+    assert!(rt; reads_the_node(rt.alloc(), SECOND_VERSION));
     assert!(rt; reads_the_node(rt.alloc(), FIRST_VERSION));
     assert!(rt; reads_nothing(rt.alloc()));
 }
 
-fn has_head(bytes: &[u8], head: Head) -> bool {
-    match head_read(bytes) {
+fn has_head(alloc: Global, bytes: &[u8], head: Head) -> bool {
+    match head_read(alloc, bytes) {
         Ok(found) => found == head,
         Err(_) => false,
     }
 }
 
-fn stops_at(bytes: &[u8], line: u64) -> bool {
-    match head_read(bytes) {
-        Ok(_) => false,
-        Err(bad) => bad.line == line,
-    }
+fn stops_at(alloc: Global, bytes: &[u8], line: u64) -> bool {
+    head_read(alloc, bytes) == Err(HeadError::BadHead { line })
 }
 
 #[test]
 fn a_head_is_read_from_the_first_lines(rt: HostRuntime) {
-    assert!(rt; has_head(ONE_NODE, AT_NEW_YEAR));
-    assert!(rt; has_head(FIRST_VERSION, AT_NEW_YEAR));
-    assert!(rt; has_head(BEGUN_AT_1, BEGUN));
+    assert!(rt; has_head(rt.alloc(), ONE_NODE, AT_NEW_YEAR));
+    assert!(rt; has_head(rt.alloc(), SECOND_VERSION, AT_NEW_YEAR));
+    assert!(rt; has_head(rt.alloc(), FIRST_VERSION, AT_NEW_YEAR));
+    assert!(rt; has_head(rt.alloc(), BEGUN_AT_1, BEGUN));
     assert!(rt;
         has_head(
+            rt.alloc(),
             b"osmrepl-save 1\nsequence 1\ntime 2024-01-01T00:00:00Z\nobj",
             AT_NEW_YEAR
         )
     );
-    assert!(rt; has_head(NOTHING, AT_START));
-    assert!(rt; stops_at(b"osmrepl-save 1\nsequence 1\ntime none\n", 3));
-    assert!(rt; stops_at(b"osmrepl-save 1\nsequence 1\n", 3));
-    assert!(rt; stops_at(b"osmrepl-save 2\nsequence 1\n", 2));
-    assert!(rt; stops_at(b"osmrepl-save 2\nbase 2\nsequence 1\n", 3));
+    assert!(rt; has_head(rt.alloc(), NOTHING, AT_START));
+    assert!(rt; stops_at(rt.alloc(), b"osmrepl-save 1\nsequence 1\ntime none\n", 3));
+    assert!(rt; stops_at(rt.alloc(), b"osmrepl-save 1\nsequence 1\n", 3));
+    assert!(rt; stops_at(rt.alloc(), b"osmrepl-save 2\nsequence 1\n", 2));
+    assert!(rt; stops_at(rt.alloc(), b"osmrepl-save 2\nbase 2\nsequence 1\n", 3));
+    assert!(rt; stops_at(rt.alloc(), b"osmrepl-save 3\nbase 0\nsequence 1\n", 3));
+    assert!(rt;
+        stops_at(
+            rt.alloc(),
+            b"osmrepl-save 3\nbase 0\nkinds nwr\nkeys 1\na\n",
+            6
+        )
+    );
 }
 
 #[test]
 fn errors_of_saves_print_their_names(rt: HostRuntime) {
     assert!(rt; is_shown(rt.alloc(), &SaveError::BadSave { line: 7 }, "BadSave"));
     assert!(rt; is_shown(rt.alloc(), &SaveError::WantOfMemory, "WantOfMemory"));
-    assert!(rt; is_shown(rt.alloc(), &BadHead { line: 3 }, "BadHead"));
+    assert!(rt; is_shown(rt.alloc(), &HeadError::BadHead { line: 3 }, "BadHead"));
 }

@@ -220,7 +220,7 @@ fn the_end_of_a_name_tells_the_form(rt: HostRuntime) {
 }
 
 // A fault, its text and its exit status.
-const FAULTS: [(RunFault, &str, u8); 24] = [
+const FAULTS: [(RunFault, &str, u8); 25] = [
     (RunFault::WantOfMemory, "out of memory", 3),
     (
         RunFault::ReadFault(FileName::Top),
@@ -274,6 +274,7 @@ const FAULTS: [(RunFault, &str, u8); 24] = [
         3,
     ),
     (RunFault::BadSave(10), "save: line 10", 3),
+    (RunFault::OtherFilter, "save: other filter", 3),
     (RunFault::BadScript(7), "input: line 7", 3),
     (RunFault::TopBehind, "state.txt: older than the save", 3),
     (RunFault::TimeBehind, "state.txt: older than the save", 3),

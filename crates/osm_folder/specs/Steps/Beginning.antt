@@ -37,7 +37,8 @@ StartStops known told ZeroBase = known → IsZeroState told
 StartStops known told fault = ⊥
 
 -- the bytes spell the objects in that form, and they are data
-pub record IsObjectsOf (form : DataForm) (bytes : List ℕ) (objects : List ChangeValue) : Type 0 where
+pub record IsObjectsOf (form : DataForm) (bytes : List ℕ) (objects : List ChangeValue) :
+    Type 0 where
   pub spelled : spells_data form bytes objects
   pub are_data : IsData objects
 

@@ -1,7 +1,8 @@
 -- Steps of a run of the follower. `known` says that it is known what the files hold.
-use Rattle.std.specs.Prelude.{◌≡◌, ℕ, ◌+◌, ◌<◌, ◌≤◌, ◌⊎◌, List, [], ◌∷◌, ◌++◌, length, true, false}
-use Rattle.std.specs.Prelude.{suc, filter, Bool, Option, Some, None, is_some, Vec, Ok}
+use Rattle.std.specs.Prelude.{◌≡◌, ◌≢◌, ℕ, ◌+◌, ◌<◌, ◌≤◌, ◌⊎◌, List, [], ◌∷◌, ◌++◌, length, true}
+use Rattle.std.specs.Prelude.{false, suc, filter, Bool, Option, Some, None, is_some, Vec, Ok}
 use Rattle.osm_model.specs.ChangeForm.{SpellsNothing}
+use Rattle.osm_model.specs.Filter.{everything}
 use Rattle.osm_model.specs.Limits.{max_file}
 use Rattle.osm_save.specs.Save.{SpellsSave}
 use Rattle.osm_save.specs.declared.save.Saved.{Saved}
@@ -18,8 +19,8 @@ use Rattle.osm_follow.specs.declared.delivery.Delivered.TheVariants.{Old, Again,
 use Rattle.osm_store.specs.Files.{Files, IsOver}
 use Rattle.osm_folder.specs.Folder.{IsStateFile, max_state}
 use Rattle.osm_folder.specs.Following.{AddsAll, GoesOn, HasFiles, IsBadSave, IsLookedFor}
-use Rattle.osm_folder.specs.Following.{IsReached, IsReadable, NumberStops, is_lost, lost_numbers}
-use Rattle.osm_folder.specs.Following.{max_save, ranges}
+use Rattle.osm_folder.specs.Following.{IsOtherSave, IsReached, IsReadable, NumberStops, is_lost}
+use Rattle.osm_folder.specs.Following.{lost_numbers, max_save, ranges}
 use Rattle.osm_folder.specs.Names.{file_name_of}
 use Rattle.osm_folder.specs.Publication.{IsBadState}
 use Rattle.osm_folder.specs.Reports.{ReportValue, follow_report_of}
@@ -29,6 +30,7 @@ use Rattle.osm_folder.specs.declared.fault.RunFault.{RunFault}
 use Rattle.osm_folder.specs.declared.fault.RunFault.TheVariants.{WantOfMemory, ReadFault}
 use Rattle.osm_folder.specs.declared.fault.RunFault.TheVariants.{TooLarge, Absent, BadState}
 use Rattle.osm_folder.specs.declared.fault.RunFault.TheVariants.{BadChange, BadSave, Mismatch}
+use Rattle.osm_folder.specs.declared.fault.RunFault.TheVariants.{OtherFilter}
 use Rattle.osm_folder.specs.declared.form.Form.{Form}
 use Rattle.osm_folder.specs.declared.form.Form.TheVariants.{Opl, O5c}
 
@@ -36,11 +38,16 @@ use Rattle.osm_folder.specs.declared.form.Form.TheVariants.{Opl, O5c}
 abbrev pub IsFresh : FollowerValue → Type 0
 IsFresh f = f ≡ follower_of (saved_of f)
 
--- why a follower doesn't go on from a text
+-- why a text isn't read as a save, of whatever filter
+abbrev pub SavedStops : List ℕ → RunFault → Type 0
+SavedStops text WantOfMemory = Unit {0}
+SavedStops text (BadSave line) = (v : Saved) → SpellsSave text v → ⊥
+SavedStops text fault = ⊥
+
+-- why a follower of all objects doesn't go on from a text
 abbrev pub RestartStops : List ℕ → RunFault → Type 0
-RestartStops text WantOfMemory = Unit {0}
-RestartStops text (BadSave line) = (v : Saved) → SpellsSave text v → ⊥
-RestartStops text fault = ⊥
+RestartStops text OtherFilter = (v : Saved) × SpellsSave text v × (v.filter ≢ everything)
+RestartStops text fault = SavedStops text fault
 
 -- why a follower doesn't go on from a save
 abbrev pub FollowerStops : Type 0 → Option (List ℕ) → RunFault → Type 0
@@ -48,6 +55,7 @@ FollowerStops known told WantOfMemory = Unit {0}
 FollowerStops known told (ReadFault file) = file ≡ Save
 FollowerStops known told (TooLarge file) = (file ≡ Save) × (known → IsOver max_save told)
 FollowerStops known told (BadSave line) = known → IsBadSave told
+FollowerStops known told OtherFilter = known → IsOtherSave told
 FollowerStops known told fault = ⊥
 
 -- why the top state isn't read

@@ -20,6 +20,7 @@ HeadStops known told fault = ⊥
 
 -- why bytes begin with no head
 abbrev pub HeadTextStops : List ℕ → RunFault → Type 0
+HeadTextStops bytes WantOfMemory = Unit {0}
 HeadTextStops bytes (BadSave line) = (head : Head) → BeginsSave bytes head → ⊥
 HeadTextStops bytes fault = ⊥
 

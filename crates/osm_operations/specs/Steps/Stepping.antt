@@ -170,11 +170,11 @@ pub record Exports (save extract : List ℕ) (report : ReportValue) (old new : F
       → IsExportOf published number extract (new extract)
   pub report_is : report ≡ convert_report_of
 
--- what an export did
+-- what an export did. Memory may be refused before it, when the number of the save is read
 abbrev pub ExportStep : List ℕ → List ℕ → Result ReportValue RunFault → Files → Files → Type 0
 ExportStep save extract (Ok report) old new = Exports save extract report old new
 ExportStep save extract (Err fault) old new =
-    (new ≡ old) × ExportStops (IsTrue true) save extract old fault
+    (new ≡ old) × ((fault ≡ WantOfMemory) ⊎ ExportStops (IsTrue true) save extract old fault)
 
 -- the number of what the file saves, by its head
 abbrev pub IsNumberOfSave : ℕ → Option (List ℕ) → Type 0
@@ -395,7 +395,7 @@ abbrev pub ExportTo : List ℕ → List ℕ → Reply → World → World → Ty
 ExportTo save extract (Exported report) a b =
     ExportStep save extract (Ok report) (files_of a.store) (files_of b.store)
     × (b.lost ≡ a.lost) × (b.published ≡ a.published)
-    × IsNumberOfSave b.exported (files_of b.store save)
+    × IsNumberOfSave b.exported (files_of a.store save)
 ExportTo save extract (Refused fault) a b =
     ExportStep save extract (Err fault) (files_of a.store) (files_of b.store)
     × (b.lost ≡ a.lost) × (b.published ≡ a.published)

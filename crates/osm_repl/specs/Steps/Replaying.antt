@@ -1,6 +1,7 @@
 -- What the parts of a replay do: reading the script, answering an event, writing the text.
 use Rattle.std.specs.Prelude.{◌≡◌, ℕ, ◌<◌, List, length, Option, take}
 use Rattle.std.specs.Io.KnownBytes.{Consumes, Appends}
+use Rattle.osm_model.specs.Filter.{everything}
 use Rattle.osm_model.specs.Limits.{max_file}
 use Rattle.osm_world.specs.Correct.{IsRun}
 use Rattle.osm_world.specs.World.{WorldValue}
@@ -30,7 +31,7 @@ ReadingFault old new fault = ⊥
 -- a run over the events ended in the world, and its reply text is the text
 pub record IsAnswered (events : List Event) (world : WorldValue) (text : List ℕ) : Type 0 where
   pub replies : List Reply
-  pub is_run : IsRun events replies world
+  pub is_run : IsRun everything events replies world
   pub text_is : text ≡ replies_text replies
 
 -- a script isn't answered: memory was refused, or a line is no event

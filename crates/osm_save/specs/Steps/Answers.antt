@@ -22,3 +22,13 @@ Fails (Wrong left) reading = reading ≡ None
 abbrev pub Finds : {A B : Type 0} → (A → B) → Result A Stop → Option B → Type 0
 Finds view (Ok x) reading = reading ≡ Some (view x)
 Finds view (Err stop) reading = Fails stop reading
+
+-- memory was refused only if some was needed
+abbrev pub WantedIf : Type 0 → Stop → Type 0
+WantedIf needs WantOfMemory = needs
+WantedIf needs (Wrong left) = Unit {0}
+
+-- memory is refused only to a reading that needs some
+abbrev pub WantsOnlyIf : {A : Type 0} → Type 0 → Result A Stop → Type 0
+WantsOnlyIf needs (Ok x) = Unit {0}
+WantsOnlyIf needs (Err stop) = WantedIf needs stop

@@ -36,8 +36,8 @@ const STATE_65: &[u8] = b"sequenceNumber=65\ntimestamp=2024-01-01T00:00:00Z\n";
 const STATE_LAST: &[u8] = b"sequenceNumber=999999999\ntimestamp=2024-01-01T00:00:00Z\n";
 
 // The follower after the node as sequence 1.
-const ONE_NODE: &[u8] = b"osmrepl-save 2\nbase 0\nsequence 1\ntime 2024-01-01T00:00:00Z\n\
-    objects 1\nn1 v1 dV c7 t2024-01-01T00:00:00Z i5 uann T x1 y2\n\
+const ONE_NODE: &[u8] = b"osmrepl-save 3\nbase 0\nkinds nwr\nkeys 0\nsequence 1\n\
+    time 2024-01-01T00:00:00Z\nobjects 1\nn1 v1 dV c7 t2024-01-01T00:00:00Z i5 uann T x1 y2\n\
     users 1\n5 1\nchangesets 1\n7 1\nend\n";
 
 // A number whose window ends with the last number.

@@ -4,6 +4,7 @@ use osm_folder::fault::RunFault;
 use osm_judge::judge::may_answer;
 use osm_judge::plain::{plain_content_of, plain_edits_by_changeset, plain_edits_by_user};
 use osm_model::change::Change;
+use osm_model::filter::Filter;
 use osm_model::form::ChangeForm;
 use osm_model::kind::{Key, Kind};
 use osm_opl::lines::write_line;
@@ -117,7 +118,7 @@ fn the_definitions_say_what_a_person_expects(rt: HostRuntime) {
 }
 
 fn refusal(alloc: Global) -> Option<RunFault> {
-    may_answer(alloc, b"show\nx\n", b"old\n").err()
+    may_answer(alloc, &Filter::all(alloc), b"show\nx\n", b"old\n").err()
 }
 
 #[test]

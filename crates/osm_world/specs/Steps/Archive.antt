@@ -2,6 +2,7 @@
 use Rattle.std.specs.Prelude.{◌≡◌, ℕ, ◌+◌, ◌<◌, ◌≤◌, List, [], ◌∷◌, ◌++◌, length, Result, Ok, Err}
 use Rattle.std.specs.Prelude.{Option, IfSome}
 use Rattle.osm_model.specs.ChangeForm.{SpellsNothing}
+use Rattle.osm_model.specs.Filter.{FilterValue}
 use Rattle.osm_model.specs.Limits.{IsPositive, max_file, max_sequence}
 use Rattle.osm_o5c.specs.File.{SpellsO5c}
 use Rattle.osm_opl.specs.File.{SpellsOpl}
@@ -36,15 +37,16 @@ pub record IsArchive (number : ℕ) (archive : List PublishedTexts) : Type 0 whe
   pub count : length archive ≡ number
   pub each : (k : ℕ) → 0 < k → k ≤ length archive → AreReadable (texts_at archive k)
 
--- the bytes are a save text
-abbrev pub IsSaveText : List ℕ → Type 0
-IsSaveText bytes = (v : Saved) × SpellsSave bytes v
+-- the bytes are a save text under that filter
+abbrev pub IsSaveUnder : FilterValue → List ℕ → Type 0
+IsSaveUnder filter bytes = (v : Saved) × SpellsSave bytes v × (v.filter ≡ filter)
 
--- what a world keeps can be read: its archive, and what it saved last
-pub record IsKept (number : ℕ) (texts : List PublishedTexts) (text : Option (List ℕ))
-    : Type 0 where
+-- what a world keeps can be read: its archive, and what its follower saved last, by a follower with
+-- that filter
+pub record IsKept (number : ℕ) (texts : List PublishedTexts) (filter : FilterValue)
+    (text : Option (List ℕ)) : Type 0 where
   pub archive : IsArchive number texts
-  pub saved : IfSome text IsSaveText
+  pub saved : IfSome text (IsSaveUnder filter)
 
 -- the publisher and the archive after a close
 abbrev pub ClosesInto :

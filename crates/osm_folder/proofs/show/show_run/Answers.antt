@@ -1,19 +1,15 @@
-use Rattle.std.proofs.Common.{subst}
 use Rattle.osm_store.specs.Frames.{IsKnown}
-use Rattle.osm_save.specs.Save.{SpellsSave}
 use Rattle.osm_follow.specs.Restart.{saved_of}
-use Rattle.osm_folder.specs.Steps.Following.{RestartStops}
 use Rattle.osm_folder.proofs.ResultLemmas.{same_err}
-use Rattle.osm_folder.proofs.ShowLemmas.{restart_stops, shown_of}
+use Rattle.osm_folder.proofs.ShowLemmas.{saved_stops, shown_of}
 use Rattle.osm_folder.proofs.show.show_run.Goals as goal
 
 pub returns-in_err-follower-clause-stops : goal.returns-in_err-follower-clause-stops
 returns-in_err-follower-clause-stops g c =
     same_err _ c.from_residual-in_err-follower.result _ c.from_residual-in_err-follower.ensures.1
-    (restart_stops (IsKnown (g.S.Store.state c.args.store.now)) ((g.S.Store.state c.args.store.now).files c.args.save.now)
+    (saved_stops (IsKnown (g.S.Store.state c.args.store.now)) ((g.S.Store.state c.args.store.now).files c.args.save.now)
     c.in_ok-text.text.items c.in_err-follower.field-0.0
-    c.in_ok-text.ensures.read c.in_ok-text.ensures.within
-    (subst (λ xs. RestartStops xs c.in_err-follower.field-0.0) c.as_slice.ensures.value c.in_err-follower.ensures.stops))
+    c.in_ok-text.ensures.read c.in_ok-text.ensures.within c.in_err-follower.ensures.stops)
 
 pub returns-clause-in_step : goal.returns-clause-in_step
 returns-clause-in_step g c = λ yes p b n is.
@@ -22,6 +18,6 @@ returns-clause-in_step g c = λ yes p b n is.
       saved = saved_of c.in_ok-follower.follower;
       there = c.in_ok-text.ensures.read yes;
       small = c.in_ok-text.ensures.within;
-      spelled = subst (λ xs. SpellsSave xs (saved_of c.in_ok-follower.follower)) c.as_slice.ensures.value c.in_ok-follower.ensures.spelled;
+      spelled = c.in_ok-follower.ensures.spelled;
       report_is = c.in_ok-report.ensures;
     })

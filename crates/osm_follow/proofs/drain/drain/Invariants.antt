@@ -4,7 +4,7 @@ use Rattle.osm_follow.proofs.DrainLemmas.{IsDrained}
 use Rattle.osm_follow.proofs.drain.drain.Given as goal
 
 abbrev pub invariant-loop-held : goal.invariant-loop-held
-invariant-loop-held l = IsDrained l.fn.mirror l.fn.holding l.fn.first l.mirror l.holding l.time
+invariant-loop-held l = IsDrained l.filter l.fn.mirror l.fn.holding l.fn.first l.mirror l.holding l.time
 
 abbrev pub decreases-loop-held : goal.decreases-loop-held
 decreases-loop-held l = max_sequence - l.holding.reached

@@ -15,6 +15,6 @@ returns c =
     let is : c.in_ok-is_mirror.is_mirror ≡ true = search rules in
     let counted : c.as_slice-2.result.now ≡ changes_after (published_of c.args.history.now) (base_of c.args.history.now)
     c.follower_number-number.result = search rules in
-    let mirror : IsMirrorOf c.as_slice.result.now c.as_slice-2.result.now c.args.view.now.mirror = c.in_ok-is_mirror.ensures.0 is in
-    view_row c.args.history.now c.args.view.now c.follower_number-number.result c.is_held.result c.follower_number-number.ensures number base below time
-    (rw (← changes, ← counted) mirror) (rw (← c.held.ensures) c.is_held.ensures)
+    let mirror : IsMirrorOf c.args.filter.now c.as_slice.result.now c.as_slice-2.result.now c.args.view.now.mirror = c.in_ok-is_mirror.ensures.0 is in
+    view_row c.args.filter.now c.args.history.now c.args.view.now c.follower_number-number.result c.is_held.result
+    c.follower_number-number.ensures number base below time (rw (← changes, ← counted) mirror) (rw (← c.held.ensures) c.is_held.ensures)

@@ -1,9 +1,11 @@
-use Rattle.std.proofs.Common.{ap}
+use Rattle.std.proofs.Common.{ap, subst}
+use Rattle.osm_save.specs.Refusal.{HeadRefused}
 use Rattle.osm_save.specs.declared.head.Head.{Head}
 use Rattle.osm_operations.proofs.runs.number_of_head.Goals as goal
 
 pub returns-in-Ok : goal.returns-in-Ok
 returns-in-Ok c = λ head begins. ap (λ (h : Head). h.number) (c.laws_of_heads.ensures.one_head c.args.bytes.now c.in-Ok.head head c.in-Ok.ensures.begins begins)
 
-pub returns-in-Err : goal.returns-in-Err
-returns-in-Err c = λ head begins. absurd (c.in-Err.ensures.refused head begins)
+pub returns-in-Err-BadHead : goal.returns-in-Err-BadHead
+returns-in-Err-BadHead c = λ head begins.
+    absurd (subst (HeadRefused c.args.bytes.now) c.in-Err-BadHead.field-0-is c.in-Err-BadHead.ensures.refused head begins)

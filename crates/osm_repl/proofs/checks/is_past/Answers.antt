@@ -1,4 +1,4 @@
-use Rattle.std.proofs.Common.{◌≡◌, ℕ, List, Some, rules, subst, sym}
+use Rattle.std.proofs.Common.{ℕ, List, rules, subst, sym}
 use Rattle.osm_model.specs.Time.{TimeText}
 use Rattle.osm_repl.proofs.CheckLemmas.{past_by}
 use Rattle.osm_repl.proofs.checks.is_past.Goals as goal

@@ -1,6 +1,6 @@
 use Rattle.std.proofs.Common.{◌≡◌, ◌++◌, ◌∷◌, [], ap, ◌∙◌, map}
 use Rattle.std.proofs.lemmas.List.{map-append}
-use Rattle.osm_save.specs.Head.{ended}
+use Rattle.osm_save.specs.Lines.{ended}
 use Rattle.osm_save.specs.Save.{count_text}
 use Rattle.osm_save.proofs.TextLemmas.{ended_more}
 use Rattle.osm_save.proofs.counts.write_counts.Goals as goal

@@ -1,5 +1,5 @@
 use Rattle.std.proofs.Common.{◌≡◌, ◌++◌, map}
-use Rattle.osm_save.specs.Head.{ended}
+use Rattle.osm_save.specs.Lines.{ended}
 use Rattle.osm_save.specs.Save.{count_text}
 use Rattle.osm_save.proofs.counts.write_counts.Given as goal
 

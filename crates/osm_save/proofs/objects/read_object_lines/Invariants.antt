@@ -6,6 +6,6 @@ use Rattle.osm_save.proofs.objects.read_object_lines.Given as goal
 
 abbrev pub invariant-loop : goal.invariant-loop
 invariant-loop l = record {
-  items : Items (λ c. c.key) object_at l.fn.many l.fn.rest l.counter l.objects l.last l.rest;
+  items : Items (λ c. c.key) (object_at l.fn.filter) l.fn.many l.fn.rest l.counter l.objects l.last l.rest;
   below : IsBelow key_cmp (map (λ c. c.key) l.objects) l.last;
 }

@@ -1,7 +1,7 @@
 use Rattle.std.proofs.Common.{◌≡◌, ◌++◌, ◌∷◌, [], ap, ◌∙◌, map}
 use Rattle.std.proofs.lemmas.List.{map-append}
 use Rattle.osm_opl.specs.Written.{line_text}
-use Rattle.osm_save.specs.Head.{ended}
+use Rattle.osm_save.specs.Lines.{ended}
 use Rattle.osm_save.proofs.TextLemmas.{ended_more}
 use Rattle.osm_save.proofs.objects.write_objects.Goals as goal
 

@@ -4,8 +4,8 @@ use Rattle.osm_save.proofs.LengthLemmas.{text_long}
 use Rattle.osm_save.proofs.save.least_length.Goals as goal
 
 pub returns-clause-least : goal.returns-clause-least
-returns-clause-least c = λ version head.
-    let long = text_long version (saved_with head c.args.mirror.now) in
+returns-clause-least c = λ version head f.
+    let long = text_long version (saved_with head f c.args.mirror.now) in
     let many-objects : length c.objects_by_key.result.now ≡ length c.args.mirror.now.objects = ap length c.objects_by_key.ensures in
     let many-users : length c.user_counts.result.now ≡ length c.args.mirror.now.users = ap length c.user_counts.ensures in
     let many-changesets : length c.changeset_counts.result.now ≡ length c.args.mirror.now.changesets = ap length c.changeset_counts.ensures in

@@ -1,9 +1,9 @@
 use Rattle.std.proofs.Common.{◌++◌, ◌∙◌, ap, arith, length}
 use Rattle.std.specs.Prelude.{codes}
 use Rattle.osm_opl.specs.Written.{line_text}
-use Rattle.osm_save.specs.Head.{ended}
-use Rattle.osm_save.specs.Save.{count_text, list_lines, saved_with}
-use Rattle.osm_save.specs.declared.version.Version.TheVariants.{Two}
+use Rattle.osm_save.specs.Lines.{ended, list_lines}
+use Rattle.osm_save.specs.Save.{count_text, saved_with}
+use Rattle.osm_save.specs.declared.version.Version.TheVariants.{Three}
 use Rattle.osm_save.proofs.LengthLemmas.{text_long}
 use Rattle.osm_save.proofs.TextLemmas.{save_written}
 use Rattle.osm_save.proofs.save.save_write.Goals as goal
@@ -20,19 +20,22 @@ returns-clause-text c =
     let changesets = c.in_ok-write_counts-2.ensures
     ∙ ap (λ es. c.write_counts.new.out.items ++ ended (list_lines (codes "changesets ") count_text es))
     c.changeset_counts.ensures in
-    save_written Two (saved_with c.args.head c.args.mirror.now) c.write_head.new.out.items c.write_objects.new.out.items c.write_counts.new.out.items
-    c.write_counts-2.new.out.items c.extend_from_slice.new.self.items start objects users changesets
+    save_written Three (saved_with c.args.head c.args.filter.now c.args.mirror.now) c.write_head.new.out.items
+    c.write_objects.new.out.items c.write_counts.new.out.items c.write_counts-2.new.out.items c.extend_from_slice.new.self.items start objects users changesets
     c.in_ok-extend_from_slice.ensures.items
 
 -- the text is a vector of bytes, so it has fewer than 2 ^ 63 of them, 43 or more for each object
 pub returns-clause-spelled : goal.returns-clause-spelled
-returns-clause-spelled c = λ limits within. record {
-  version = Two;
+returns-clause-spelled c = λ limits within kept. record {
+  version = Three;
   savable = record {
     head = limits;
+    filter = c.limits-2.ensures;
+    tells = tt;
     mirror = c.limits.ensures;
+    kept = kept;
     within = within;
-    objects = (let long = text_long Two (saved_with c.args.head c.args.mirror.now) in
+    objects = (let long = text_long Three (saved_with c.args.head c.args.filter.now c.args.mirror.now) in
         let size = ap length (returns-clause-text c) in
         omega (arith, long, size));
   };

@@ -6,7 +6,7 @@ use Rattle.osm_world.proofs.NewLemmas.{archived}
 use Rattle.osm_world.proofs.laws.laws_of_archives.Goals as goal
 
 pub returns-clause-count : goal.returns-clause-count
-returns-clause-count c = λ h w s. ap length s.archive ∙ length-map (published_of h) written_of
+returns-clause-count c = λ f h w s. ap length s.archive ∙ length-map (published_of h) written_of
 
 pub returns-clause-texts : goal.returns-clause-texts
 returns-clause-texts c = archived

@@ -5,12 +5,13 @@ use Rattle.osm_world.proofs.AlikeLemmas.{one_view, state_alike}
 use Rattle.osm_world.proofs.laws.laws_of_order.Goals as goal
 
 pub returns-clause-followers : goal.returns-clause-followers
-returns-clause-followers c = λ g h v w same s t.
-    let first : IsState (published_of h) (base_of h) (start_of h) (accepted_of g) v.follower =
+returns-clause-followers c = λ f g h v w same s t.
+    let first : IsState f (published_of h) (base_of h) (start_of h) (accepted_of g) v.follower =
     rw (same.published, same.base, same.start) at (s.state same.first) in
-    state_alike (published_of h) (base_of h) (start_of h) (accepted_of g) (accepted_of h) v.follower w.follower same.accepted first (t.state same.second)
+    state_alike f (published_of h) (base_of h) (start_of h) (accepted_of g) (accepted_of h) v.follower w.follower
+    same.accepted first (t.state same.second)
 
 pub returns-clause-views : goal.returns-clause-views
-returns-clause-views c = λ g h v w same s t.
-    let first : IsView (published_of h) (base_of h) (start_of h) (accepted_of g) v = rw (same.published, same.base, same.start) at s.1 in
-    one_view (published_of h) (base_of h) (start_of h) (accepted_of g) (accepted_of h) v w same.accepted first t.1
+returns-clause-views c = λ f g h v w same s t.
+    let first : IsView f (published_of h) (base_of h) (start_of h) (accepted_of g) v = rw (same.published, same.base, same.start) at s.1 in
+    one_view f (published_of h) (base_of h) (start_of h) (accepted_of g) (accepted_of h) v w same.accepted first t.1

@@ -4,5 +4,5 @@ use Rattle.osm_world.proofs.laws.laws_of_replies.Goals as goal
 pub returns : goal.returns
 returns c = record {
   one_reply = one_reply;
-  delivery = λ h k n high form r number reach allowed ok. delivery_is_due h k n high r number reach allowed ok;
+  delivery = λ f h k n high form r number reach allowed ok. delivery_is_due h k n high r number reach allowed ok;
 }

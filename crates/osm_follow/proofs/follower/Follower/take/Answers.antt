@@ -21,7 +21,7 @@ returns c =
       c.sequence-low.ensures.sequence,
       rw c.reached-high.ensures.reached
           (takes _ _ _ c.time-time.result c.in-Ok.last next (search rules) c.reached-high.ensures.limits refl refl
-          refl (search rules)),
+          refl refl (search rules)),
     )
 
 pub invariant_of-self-2 : goal.invariant_of-self-2
@@ -29,7 +29,8 @@ invariant_of-self-2 c =
     let broken : ¬ IsTrue c.self.inside.is_broken = search rules in
     record {
       most = rw c.reached-high.ensures.reached c.reached-high.ensures.limits.reached;
+      filter = c.self.invariant.filter;
       whole = λ whole. still_whole _ _ (record { batch = c.args.batch; time = c.time-time.result }) c.in-Ok.last
           (c.self.invariant.whole broken) (rw c.time-time.ensures.time c.time-time.ensures.limits.time)
-          c.in-Ok.ensures.drained c.reached-high.ensures.limits c.reached-high.ensures.reached refl refl;
+          c.in-Ok.ensures.drained c.reached-high.ensures.limits c.reached-high.ensures.reached refl refl refl;
     }
