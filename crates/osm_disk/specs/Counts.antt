@@ -15,8 +15,13 @@ process_of store = store.writer.process
 
 -- what contracts see of a store: nothing is known of its files, and it never stops
 abbrev pub state_of : {R F D : Type 0} → DiskStore R F D → StoreState
-state_of store =
-    record { files = λ name. None; is_known = false; left = None; failures = store.failures }
+state_of store = record {
+  files = λ name. None;
+  is_known = false;
+  left = None;
+  failures = store.failures;
+  stage = None;
+}
 
 -- a failure of the device adds one to the count, up to the greatest value; no other error changes
 -- it

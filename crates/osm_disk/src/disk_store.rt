@@ -3,10 +3,11 @@
 ghost use Rattle.std.specs.Prelude.{◌≡◌, ◌≤◌, IfErr, IfOk, OnOk};
 ghost use Rattle.osm_disk.specs.Counts.{Counts, state_of};
 ghost use Rattle.osm_store.specs.Files.{HasFailed, IsWithin, NeverTooLarge};
-ghost use Rattle.osm_store.specs.Frames.{IsDevice, ReadsBetween, ReplacesBetween};
+ghost use Rattle.osm_store.specs.Frames.{Abandons, IsDevice, ReadsBetween, ReplacesBetween};
 
+use crate::opened::{Opened, open};
 use crate::reading::{ReadError, cause_of, is_there, read_file, read_prefix};
-use crate::replacing::{Writer, write_file};
+use crate::replacing::{Staged, Writer, abandon_file, append, begin_file, commit_file, write_file};
 use osm_store::store::{Store, StoreError};
 use std::alloc::Global;
 use std::fs::Files;
@@ -14,12 +15,21 @@ use std::io;
 
 /// The files of the disk, by their paths. Each write replaces a whole file. A killed process leaves
 /// at most a temporary file beside it.
-#[derive(Debug, Drop)]
+///
+/// The file that `read_at` reads stays open until `commit`, `abandon`, a `write`, or a `read_at` of
+/// another name. So between these all blocks are of one file, even if another one is renamed over
+/// it.
+#[derive(Drop)]
+#[derive_where(Debug; R)]
 pub struct DiskStore<R: Files> {
     files: R,
     writer: Writer,
     failures: u64,
     said: Option<io::Error>,
+    #[derive_where(skip)]
+    opened: Option<Opened<R::File>>,
+    #[derive_where(skip)]
+    staged: Option<Staged<R::File>>,
 }
 
 impl<R: Files> DiskStore<R> {
@@ -38,6 +48,8 @@ impl<R: Files> DiskStore<R> {
             },
             failures: 0,
             said: None,
+            opened: None,
+            staged: None,
         }
     }
 
@@ -86,6 +98,63 @@ impl<R: Files> DiskStore<R> {
             self.failures = self.failures.saturating_add(1);
         }
         error
+    }
+
+    // Reads a block of the file that is open by that name, which is opened first if it isn't.
+    fn read_block(
+        &mut self,
+        alloc: Global,
+        name: &str,
+        from: u64,
+        most: u64,
+    ) -> io::Result<Option<Vec<u8>>>
+        ensures within { IfOk result (IsWithin most) }
+        ensures none { self.new.failures ≡ self.old.failures }
+    {
+        if !self.is_open(name) {
+            self.opened = None;
+            self.opened = open(alloc, &self.files, name)?;
+        }
+        match &mut self.opened {
+            Some(opened) => Ok(Some(opened.read_at(alloc, from, most)?)),
+            None => Ok(None),
+        }
+    }
+
+    fn is_open(&self, name: &str) -> bool {
+        match &self.opened {
+            Some(opened) => opened.is_named(name),
+            None => false,
+        }
+    }
+
+    // Drops the file that was begun, if there is one.
+    fn drop_staged(&mut self)
+        ensures none { self.new.failures ≡ self.old.failures }
+    {
+        if let Some(staged) = self.staged.take() {
+            abandon_file(&self.files, staged);
+        }
+    }
+
+    // Appends to the file that was begun, if there is one.
+    fn append_to_staged(&mut self, bytes: &[u8]) -> io::Result<()>
+        ensures none { self.new.failures ≡ self.old.failures }
+    {
+        match &mut self.staged {
+            Some(staged) => append(staged, bytes),
+            None => Ok(()),
+        }
+    }
+
+    // Puts the file that was begun in its place, if there is one.
+    fn commit_staged(&mut self) -> io::Result<()>
+        ensures none { self.new.failures ≡ self.old.failures }
+    {
+        match self.staged.take() {
+            Some(staged) => commit_file(&self.files, staged),
+            None => Ok(()),
+        }
     }
 }
 
@@ -145,9 +214,85 @@ impl<R: Files> Store for DiskStore<R> {
         ensures none { OnOk result (self.new.failures ≡ self.old.failures) }
         ensures counted { IfErr result (Counts self.old.failures self.new.failures) }
     {
+        self.opened = None;
         match write_file(alloc, &self.files, self.writer, name, bytes) {
             Ok(()) => Ok(()),
             Err(error) => Err(self.fail(error)),
         }
+    }
+
+    fn read_at(
+        &mut self,
+        alloc: Global,
+        name: &str,
+        from: u64,
+        most: u64,
+    ) -> Result<Option<Vec<u8>>, StoreError>
+        ensures within { IfOk result (IsWithin most) }
+        ensures refused { IfErr result NeverTooLarge }
+        ensures frame { ReadsBetween IsDevice 1 1
+            (state_of self.old) (state_of self.new) result }
+        ensures none { OnOk result (self.new.failures ≡ self.old.failures) }
+        ensures counted { IfErr result (Counts self.old.failures self.new.failures) }
+    {
+        match self.read_block(alloc, name, from, most) {
+            Ok(found) => Ok(found),
+            Err(error) => Err(self.fail(error)),
+        }
+    }
+
+    fn begin(&mut self, alloc: Global, name: &str) -> Result<(), StoreError>
+        ensures refused { IfErr result NeverTooLarge }
+        ensures frame { ReadsBetween IsDevice 1 1
+            (state_of self.old) (state_of self.new) result }
+        ensures none { OnOk result (self.new.failures ≡ self.old.failures) }
+        ensures counted { IfErr result (Counts self.old.failures self.new.failures) }
+    {
+        self.drop_staged();
+        match begin_file(alloc, &self.files, self.writer, name) {
+            Ok(staged) => {
+                self.staged = Some(staged);
+                Ok(())
+            }
+            Err(error) => Err(self.fail(error)),
+        }
+    }
+
+    fn append(&mut self, bytes: &[u8]) -> Result<(), StoreError>
+        ensures refused { IfErr result NeverTooLarge }
+        ensures frame { ReadsBetween IsDevice 1 1
+            (state_of self.old) (state_of self.new) result }
+        ensures none { OnOk result (self.new.failures ≡ self.old.failures) }
+        ensures counted { IfErr result (Counts self.old.failures self.new.failures) }
+    {
+        match self.append_to_staged(bytes) {
+            Ok(()) => Ok(()),
+            Err(error) => {
+                self.drop_staged();
+                Err(self.fail(error))
+            }
+        }
+    }
+
+    fn commit(&mut self) -> Result<(), StoreError>
+        ensures refused { IfErr result NeverTooLarge }
+        ensures frame { ReplacesBetween IsDevice 1 1
+            (state_of self.old) (state_of self.new) result }
+        ensures none { OnOk result (self.new.failures ≡ self.old.failures) }
+        ensures counted { IfErr result (Counts self.old.failures self.new.failures) }
+    {
+        self.opened = None;
+        match self.commit_staged() {
+            Ok(()) => Ok(()),
+            Err(error) => Err(self.fail(error)),
+        }
+    }
+
+    fn abandon(&mut self)
+        ensures dropped { Abandons (state_of self.old) (state_of self.new) }
+        ensures none { self.new.failures ≡ self.old.failures }
+    {
+        self.opened = None;
+        self.drop_staged();
     }
 }

@@ -4,5 +4,6 @@
 pub mod disk_store;
 pub mod lock;
 pub mod names;
+mod opened;
 pub mod reading;
 mod replacing;

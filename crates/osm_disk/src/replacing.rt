@@ -24,10 +24,22 @@ pub struct Writer {
     pub is_alone: bool,
 }
 
-/// Writes the bytes as a whole file, and makes the folders that it needs. A file that is there
-/// keeps its mode, and its group if the system allows it. A symbolic link stays, and the file that
-/// it leads to is replaced. A device or a pipe is written directly. A folder is refused as
-/// `IsADirectory`. A writer that is alone removes the temporary files that killed ones left.
+/// A file that is being written.
+#[derive(Drop)]
+pub struct Staged<F> {
+    file: F,
+    // None if its bytes go at once where they belong, as those of a device or a pipe do.
+    names: Option<Names>,
+}
+
+// What a file is called while it is written, and where it is renamed to.
+#[derive(Drop)]
+struct Names {
+    temporary: String,
+    path: String,
+}
+
+/// Writes the bytes as a whole file, which is begun, written and put in its place.
 pub fn write_file<R: Files>(
     alloc: Global,
     files: &R,
@@ -35,18 +47,66 @@ pub fn write_file<R: Files>(
     path: &str,
     bytes: &[u8],
 ) -> io::Result<()> {
+    let mut staged = begin_file(alloc, files, writer, path)?;
+    match append(&mut staged, bytes) {
+        Ok(()) => commit_file(files, staged),
+        Err(error) => {
+            abandon_file(files, staged);
+            Err(error)
+        }
+    }
+}
+
+/// Begins a file that will replace the one at the path, and makes the folders that it needs. A file
+/// that is there keeps its mode, and its group if the system allows it. A symbolic link stays, and
+/// the file that it leads to is replaced. A device or a pipe is written directly. A folder is
+/// refused as `IsADirectory`. A writer that is alone removes the temporary files that killed ones
+/// left.
+pub fn begin_file<R: Files>(
+    alloc: Global,
+    files: &R,
+    writer: Writer,
+    path: &str,
+) -> io::Result<Staged<R::File>> {
     match found(files.metadata(path))? {
         Some(there) if there.is_dir() => Err(ErrorKind::IsADirectory.into()),
-        Some(there) if !there.is_file() => write_directly(files, path, bytes),
-        before => replace(
-            alloc,
-            files,
-            writer,
-            led(alloc, files, path)?.as_str(),
-            before.as_ref(),
-            bytes,
-        ),
+        Some(there) if !there.is_file() => begin_directly(files, path),
+        before => {
+            let path = led(alloc, files, path)?;
+            begin_beside(alloc, files, writer, path, before.as_ref())
+        }
     }
+}
+
+/// Writes the bytes after those that the file has.
+pub fn append<F: Write>(staged: &mut Staged<F>, bytes: &[u8]) -> io::Result<()> {
+    staged.file.write_all(bytes)
+}
+
+/// Syncs the file, renames it to its path, and syncs the folder. If a step up to the rename fails,
+/// removes the temporary file.
+pub fn commit_file<R: Files>(files: &R, staged: Staged<R::File>) -> io::Result<()> {
+    let Staged { file, names } = staged;
+    let Some(names) = names else {
+        return Ok(());
+    };
+    let renamed = sync_and_rename(files, file, &names);
+    if renamed.is_err() {
+        let _ = files.remove_file(names.temporary.as_str());
+    }
+    renamed?;
+    sync_folder(files, folder_of(names.path.as_str()))
+}
+
+/// Drops the file, and removes it if it is a temporary one.
+pub fn abandon_file<R: Files>(files: &R, staged: Staged<R::File>) {
+    if let Some(names) = closed(staged) {
+        let _ = files.remove_file(names.temporary.as_str());
+    }
+}
+
+fn closed<F: Drop>(staged: Staged<F>) -> Option<Names> {
+    staged.names
 }
 
 // None if there is no such file.
@@ -58,9 +118,9 @@ pub(crate) fn found(answer: io::Result<Metadata>) -> io::Result<Option<Metadata>
     }
 }
 
-fn write_directly<R: Files>(files: &R, path: &str, bytes: &[u8]) -> io::Result<()> {
-    let mut file = OpenOptions::new().write(true).open(files, path)?;
-    file.write_all(bytes)
+fn begin_directly<R: Files>(files: &R, path: &str) -> io::Result<Staged<R::File>> {
+    let file = OpenOptions::new().write(true).open(files, path)?;
+    Ok(Staged { file, names: None })
 }
 
 // The path after all symbolic links at its end. What the last link leads to is looked at too.
@@ -81,28 +141,31 @@ fn followed<R: Files>(alloc: Global, files: &R, link: &str) -> io::Result<String
     Ok(led_by(alloc, link, text.as_str())?)
 }
 
-// Replaces the file, or makes it. If a step up to the rename fails, removes the temporary file.
-fn replace<R: Files>(
+// Makes the temporary file, beside the path.
+fn begin_beside<R: Files>(
     alloc: Global,
     files: &R,
     writer: Writer,
-    path: &str,
+    path: String,
     before: Option<&Metadata>,
-    bytes: &[u8],
-) -> io::Result<()> {
+) -> io::Result<Staged<R::File>> {
     if path.is_empty() || path.ends_with('/') {
         return Err(ErrorKind::IsADirectory.into());
     }
     if writer.is_alone {
-        remove_left(alloc, files, path);
+        remove_left(alloc, files, path.as_str());
     }
-    let temporary = temporary_of(alloc, path, writer.process)?;
-    let renamed = write_and_rename(files, temporary.as_str(), path, before, bytes);
-    if renamed.is_err() {
-        let _ = files.remove_file(temporary.as_str());
+    let temporary = temporary_of(alloc, path.as_str(), writer.process)?;
+    match create_like(files, temporary.as_str(), before) {
+        Ok(file) => Ok(Staged {
+            file,
+            names: Some(Names { temporary, path }),
+        }),
+        Err(error) => {
+            let _ = files.remove_file(temporary.as_str());
+            Err(error)
+        }
     }
-    renamed?;
-    sync_folder(files, folder_of(path))
 }
 
 // Removes the temporary files of a file. What can't be read or removed stays.
@@ -134,21 +197,19 @@ fn remove_of<R: Files>(alloc: Global, files: &R, path: &str, process: u32) {
     }
 }
 
-// Writes and syncs the temporary file, and renames it to the path.
-fn write_and_rename<R: Files>(
-    files: &R,
-    temporary: &str,
-    path: &str,
-    before: Option<&Metadata>,
-    bytes: &[u8],
-) -> io::Result<()> {
-    let mut file = create(files, temporary, before)?;
+// Makes a new file with the rights of the one before it.
+fn create_like<R: Files>(files: &R, path: &str, before: Option<&Metadata>) -> io::Result<R::File> {
+    let file = create(files, path, before)?;
     if let Some(before) = before {
-        keep_rights(files, &file, temporary, before)?;
+        keep_rights(files, &file, path, before)?;
     }
-    file.write_all(bytes)?;
+    Ok(file)
+}
+
+// Closes the file, too.
+fn sync_and_rename<R: Files>(files: &R, file: R::File, names: &Names) -> io::Result<()> {
     file.sync_all()?;
-    files.rename(temporary, path)
+    files.rename(names.temporary.as_str(), names.path.as_str())
 }
 
 // Makes a new file, with the folders that it needs. One that is already there was left by a killed

@@ -1,12 +1,16 @@
 -- What a store tells about its files: what each name holds, as bytes.
-use Rattle.std.specs.Prelude.{◌≡◌, ℕ, ◌+◌, ◌<◌, ◌≤◌, ◌⊎◌, List, length, take, Option, Some, None}
-use Rattle.std.specs.Prelude.{Vec}
+use Rattle.std.specs.Prelude.{◌≡◌, ℕ, ◌+◌, ◌<◌, ◌≤◌, ◌⊎◌, List, length, take, drop, Option, Some}
+use Rattle.std.specs.Prelude.{None, Vec}
 use Rattle.osm_store.specs.declared.store.StoreError.{StoreError}
 use Rattle.osm_store.specs.declared.store.StoreError.TheVariants.{TooLarge}
 
 -- what the file of each name holds, none if there is no such file
 abbrev pub Files : Type 0
 Files = List ℕ → Option (List ℕ)
+
+-- a file that is being written: its name, and its bytes so far
+abbrev pub Stage : Type 0
+Stage = List ℕ × List ℕ
 
 -- the answer of a read is what the file holds
 abbrev pub Tells : {Z : Type 0} → Option (Vec ℕ Z) → Option (List ℕ) → Type 0
@@ -17,6 +21,11 @@ Tells (Some bytes) told = told ≡ Some bytes.items
 abbrev pub prefix_of : ℕ → Option (List ℕ) → Option (List ℕ)
 prefix_of most None = None
 prefix_of most (Some bytes) = Some (take most bytes)
+
+-- at most so many bytes from that place on, or none if there is no such file
+abbrev pub block_of : ℕ → ℕ → Option (List ℕ) → Option (List ℕ)
+block_of from most None = None
+block_of from most (Some bytes) = Some (take most (drop from bytes))
 
 -- a file that was read, if it is there, has at most that many bytes
 abbrev pub IsWithin : {Z : Type 0} → ℕ → Option (Vec ℕ Z) → Type 0
@@ -58,7 +67,7 @@ abbrev pub ReadRefused : Type 0 → ℕ → Option (List ℕ) → StoreError →
 ReadRefused known limit told TooLarge = known → IsOver limit told
 ReadRefused known limit told e = Unit {0}
 
--- why a prefix isn't read, or a file isn't written: never since it is too large
+-- why a part of a file isn't read, or a file isn't written: never since it is too large
 abbrev pub NeverTooLarge : StoreError → Type 0
 NeverTooLarge TooLarge = ⊥
 NeverTooLarge e = Unit {0}

@@ -1,18 +1,20 @@
 -- The frame of the calls of a store: what they leave as it was, and how many there are.
-use Rattle.std.specs.Prelude.{◌≡◌, ℕ, ◌≤◌, Bool, IsTrue, Option, Result, IfErr, OnErr, OnOk}
-use Rattle.osm_store.specs.Files.{Files, HasFailed, HasFewer, Spends, SpendsAtMost}
+use Rattle.std.specs.Prelude.{◌≡◌, ℕ, ◌≤◌, Bool, IsTrue, None, Option, Result, IfErr, OnErr, OnOk}
+use Rattle.osm_store.specs.Files.{Files, HasFailed, HasFewer, Spends, SpendsAtMost, Stage}
 use Rattle.osm_store.specs.declared.store.StoreError.{StoreError}
 use Rattle.osm_store.specs.declared.store.StoreError.TheVariants.{Device}
 
 -- what contracts see of a store: what its files hold, whether that is known, how many calls are
--- left before it refuses every call, none if it never stops, and how often its device failed
+-- left before it refuses every call, none if it never stops, how often its device failed, and the
+-- file that is being written, none if none was begun
 pub record StoreState : Type 0 where
   pub files : Files
   pub is_known : Bool
   pub left : Option ℕ
   pub failures : ℕ
+  pub stage : Option Stage
 
--- it is known what the files hold
+-- it is known what the files hold, and what is being written
 abbrev pub IsKnown : StoreState → Type 0
 IsKnown state = IsTrue state.is_known
 
@@ -56,3 +58,11 @@ pub record ReplacesBetween {T E : Type 0} (blames : E → Type 0) (least most : 
   pub files : OnErr result (new.files ≡ old.files)
   pub makes : Makes blames least old new result
   pub at_most : MakesAtMost blames most old new result
+
+-- no call was made, no file changes, and none is being written
+pub record Abandons (old new : StoreState) : Type 0 where
+  pub files : new.files ≡ old.files
+  pub known : new.is_known ≡ old.is_known
+  pub left : new.left ≡ old.left
+  pub failures : old.failures ≤ new.failures
+  pub dropped : IsKnown old → new.stage ≡ None

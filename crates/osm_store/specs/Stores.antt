@@ -1,7 +1,7 @@
 -- What contracts see of a store in memory and of one that stops.
 use Rattle.std.specs.Prelude.{◌≡◌, ℕ, ◌+◌, ◌⊎◌, Option, Some, None, true, min}
 use Rattle.std.specs.BTreeMap.{get_by_text}
-use Rattle.osm_store.specs.Files.{Files, HasFailed}
+use Rattle.osm_store.specs.Files.{Files, HasFailed, Stage}
 use Rattle.osm_store.specs.Frames.{StoreState}
 use Rattle.osm_store.specs.declared.stopping_store.StoppingStore.{StoppingStore}
 use Rattle.osm_store.specs.declared.memory_store.MemoryStore.{MemoryStore}
@@ -12,10 +12,19 @@ use Rattle.osm_store.specs.declared.store.StoreError.TheVariants.{Device}
 abbrev pub files_of : MemoryStore → Files
 files_of store = get_by_text store.files
 
+-- the file that is being written to a store in memory
+abbrev pub stage_of : MemoryStore → Option Stage
+stage_of store = store.begun
+
 -- its state: the files are known, and its device never fails
 abbrev pub memory_state : MemoryStore → StoreState
-memory_state store =
-    record { files = files_of store; is_known = true; left = None; failures = 0 }
+memory_state store = record {
+  files = files_of store;
+  is_known = true;
+  left = None;
+  failures = 0;
+  stage = stage_of store;
+}
 
 -- the store inside a stopping store
 abbrev pub inner_of : {S : Type 0} → StoppingStore S → S
@@ -38,6 +47,7 @@ stopping_state inner_state stopping = record {
   is_known = (inner_state stopping.inner).is_known;
   left = fewer_of stopping.calls (inner_state stopping.inner).left;
   failures = (inner_state stopping.inner).failures + stopping.refused;
+  stage = (inner_state stopping.inner).stage;
 }
 
 -- the device is the reason only if no call was left, or if that of the store inside failed

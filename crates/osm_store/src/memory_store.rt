@@ -1,11 +1,12 @@
 //! A store in memory, which tells its files.
 
-ghost use Rattle.std.specs.Prelude.{◌≡◌, ℕ, ◌<◌, ◌≤◌, List, length, take, Option, Some, None};
-ghost use Rattle.std.specs.Prelude.{true, false, is_some};
+ghost use Rattle.std.specs.Prelude.{◌≡◌, ◌++◌, ℕ, ◌<◌, ◌≤◌, List, [], length, take, drop, Option};
+ghost use Rattle.std.specs.Prelude.{Some, None, true, false, is_some};
 ghost use Rattle.std.specs.Prelude.{IfOk, IfErr, string_bytes, OnOk, OnErr, MatchOption};
-ghost use Rattle.osm_store.specs.Files.{Puts, Tells, IsWithin, prefix_of};
+ghost use Rattle.osm_store.specs.Files.{Puts, Tells, IsWithin, block_of, prefix_of};
 ghost use Rattle.osm_store.specs.Steps.Copying.{CopyStops};
 
+use crate::begun::Begun;
 use crate::store::{Store, StoreError};
 use osm_model::memory::WantOfMemory;
 use std::alloc::Global;
@@ -51,10 +52,11 @@ impl Content {
 #[derive(Debug, Drop)]
 pub struct MemoryStore {
     files: BTreeMap<String, Content>,
+    begun: Option<Begun>,
 }
 
 impl MemoryStore {
-    ghost use Rattle.osm_store.specs.Stores.{files_of};
+    ghost use Rattle.osm_store.specs.Stores.{files_of, stage_of};
 
     /// A store with no files.
     pub fn new(alloc: Global) -> MemoryStore
@@ -62,6 +64,7 @@ impl MemoryStore {
     {
         MemoryStore {
             files: BTreeMap::new(alloc),
+            begun: None,
         }
     }
 
@@ -118,6 +121,7 @@ impl MemoryStore {
         ensures put { OnOk result
             (Puts (files_of self.old) (string_bytes name) (Some content) (files_of self.new)) }
         ensures refused { OnErr result (files_of self.new ≡ files_of self.old) }
+        ensures stage { stage_of self.new ≡ stage_of self.old }
     {
         self.files.insert(name, content)?;
         Ok(())
@@ -156,6 +160,76 @@ impl MemoryStore {
         };
         let copy = Vec::from_slice(alloc, first(bytes, most))?;
         Ok(Some(copy))
+    }
+
+    // A copy of at most so many bytes of a file, from a place on; None if there is no such file.
+    fn copy_of_block(
+        &self,
+        alloc: Global,
+        name: &str,
+        from: u64,
+        most: u64,
+    ) -> Result<Option<Vec<u8>>, WantOfMemory>
+        ensures read { IfOk result
+            (λ o. Tells o (block_of from most (files_of self.now name.now))) }
+        ensures within { IfOk result (λ o. IsWithin most o) }
+    {
+        let Some(bytes) = self.get(name) else {
+            return Ok(None);
+        };
+        let copy = Vec::from_slice(alloc, first(rest(bytes, from), most))?;
+        Ok(Some(copy))
+    }
+
+    // Begins a file, in place of one that was begun before.
+    fn begin_new(&mut self, alloc: Global, name: &str) -> Result<(), WantOfMemory>
+        ensures begun { OnOk result (stage_of self.new ≡ Some (name.now, [])) }
+        ensures files { files_of self.new ≡ files_of self.old }
+    {
+        self.begun = Some(Begun::new(alloc, name)?);
+        Ok(())
+    }
+
+    // Appends to the file that was begun, if there is one.
+    fn append_to_begun(&mut self, bytes: &[u8]) -> Result<(), WantOfMemory>
+        ensures appended { OnOk result ((name text : List ℕ)
+            → stage_of self.old ≡ Some (name, text)
+            → stage_of self.new ≡ Some (name, text ++ bytes.now)) }
+        ensures nothing { OnOk result
+            (stage_of self.old ≡ None → stage_of self.new ≡ None) }
+        ensures files { files_of self.new ≡ files_of self.old }
+    {
+        match &mut self.begun {
+            Some(begun) => begun.append(bytes),
+            None => Ok(()),
+        }
+    }
+
+    // Puts the file that was begun in its place, if there is one.
+    fn put_begun(&mut self) -> Result<(), WantOfMemory>
+        ensures put { OnOk result ((name text : List ℕ)
+            → stage_of self.old ≡ Some (name, text)
+            → Puts (files_of self.old) name (Some text) (files_of self.new)) }
+        ensures nothing { OnOk result
+            (stage_of self.old ≡ None → files_of self.new ≡ files_of self.old) }
+        ensures ended { stage_of self.new ≡ None }
+        ensures refused { OnErr result (files_of self.new ≡ files_of self.old) }
+    {
+        let Some(begun) = self.begun.take() else {
+            return Ok(());
+        };
+        let (name, bytes) = begun.into_parts();
+        self.insert(name, Content { bytes })
+    }
+}
+
+// What comes after so many bytes.
+fn rest(bytes: &[u8], from: u64) -> &[u8]
+    ensures { result.now ≡ drop from bytes.now }
+{
+    match bytes.get(from as usize..) {
+        Some(rest) => rest,
+        None => &[],
     }
 }
 
@@ -206,5 +280,43 @@ impl Store for MemoryStore {
             Ok(()) => Ok(()),
             Err(WantOfMemory) => Err(StoreError::WantOfMemory),
         }
+    }
+
+    fn read_at(
+        &mut self,
+        alloc: Global,
+        name: &str,
+        from: u64,
+        most: u64,
+    ) -> Result<Option<Vec<u8>>, StoreError> {
+        match self.copy_of_block(alloc, name, from, most) {
+            Ok(found) => Ok(found),
+            Err(WantOfMemory) => Err(StoreError::WantOfMemory),
+        }
+    }
+
+    fn begin(&mut self, alloc: Global, name: &str) -> Result<(), StoreError> {
+        match self.begin_new(alloc, name) {
+            Ok(()) => Ok(()),
+            Err(WantOfMemory) => Err(StoreError::WantOfMemory),
+        }
+    }
+
+    fn append(&mut self, bytes: &[u8]) -> Result<(), StoreError> {
+        match self.append_to_begun(bytes) {
+            Ok(()) => Ok(()),
+            Err(WantOfMemory) => Err(StoreError::WantOfMemory),
+        }
+    }
+
+    fn commit(&mut self) -> Result<(), StoreError> {
+        match self.put_begun() {
+            Ok(()) => Ok(()),
+            Err(WantOfMemory) => Err(StoreError::WantOfMemory),
+        }
+    }
+
+    fn abandon(&mut self) {
+        self.begun = None;
     }
 }

@@ -1,9 +1,11 @@
 //! A store that stops after a number of calls, as a killed process does.
 
-ghost use Rattle.std.specs.Prelude.{◌≡◌, ◌+◌, ◌≤◌, Some, OnOk, OnErr, IfErr, IfOk, is_some};
+ghost use Rattle.std.specs.Prelude.{◌≡◌, ◌+◌, ◌≤◌, ◌++◌, ℕ, List, [], Some, None, OnOk, OnErr};
+ghost use Rattle.std.specs.Prelude.{IfErr, IfOk, is_some};
 ghost use Rattle.osm_store.specs.Files.{HasFailed, IsWithin, NeverTooLarge, Puts, ReadRefused};
-ghost use Rattle.osm_store.specs.Files.{Tells, prefix_of};
-ghost use Rattle.osm_store.specs.Frames.{IsDevice, IsKnown, ReadsBetween, ReplacesBetween};
+ghost use Rattle.osm_store.specs.Files.{Tells, block_of, prefix_of};
+ghost use Rattle.osm_store.specs.Frames.{Abandons, IsDevice, IsKnown, ReadsBetween};
+ghost use Rattle.osm_store.specs.Frames.{ReplacesBetween};
 ghost use Rattle.osm_store.specs.Stores.{IsStopped, stopping_state};
 
 use crate::store::{Store, StoreError};
@@ -126,5 +128,84 @@ impl<S: Store> Store for StoppingStore<S> {
     {
         spend(&mut self.calls, &mut self.refused)?;
         self.inner.write(alloc, name, bytes)
+    }
+
+    fn read_at(
+        &mut self,
+        alloc: Global,
+        name: &str,
+        from: u64,
+        most: u64,
+    ) -> Result<Option<Vec<u8>>, StoreError>
+        ensures read { IfOk result (λ o. IsKnown (S.Store.state self.old.inner)
+            → Tells o (block_of from most ((S.Store.state self.old.inner).files name.now))) }
+        ensures within { IfOk result (IsWithin most) }
+        ensures refused { IfErr result NeverTooLarge }
+        ensures stopped { IfErr result (IsStopped self.old.calls
+            (S.Store.state self.old.inner) (S.Store.state self.new.inner)) }
+        ensures stage { (S.Store.state self.new.inner).stage
+            ≡ (S.Store.state self.old.inner).stage }
+        ensures frame { ReadsBetween IsDevice 1 1
+            (stopping_state S.Store.state self.old) (stopping_state S.Store.state self.new) result }
+    {
+        spend(&mut self.calls, &mut self.refused)?;
+        self.inner.read_at(alloc, name, from, most)
+    }
+
+    fn begin(&mut self, alloc: Global, name: &str) -> Result<(), StoreError>
+        ensures begun { OnOk result (IsKnown (S.Store.state self.old.inner)
+            → (S.Store.state self.new.inner).stage ≡ Some (name.now, [])) }
+        ensures refused { IfErr result NeverTooLarge }
+        ensures stopped { IfErr result (IsStopped self.old.calls
+            (S.Store.state self.old.inner) (S.Store.state self.new.inner)) }
+        ensures frame { ReadsBetween IsDevice 1 1
+            (stopping_state S.Store.state self.old) (stopping_state S.Store.state self.new) result }
+    {
+        spend(&mut self.calls, &mut self.refused)?;
+        self.inner.begin(alloc, name)
+    }
+
+    fn append(&mut self, bytes: &[u8]) -> Result<(), StoreError>
+        ensures appended { OnOk result (IsKnown (S.Store.state self.old.inner)
+            → (name text : List ℕ) → (S.Store.state self.old.inner).stage ≡ Some (name, text)
+            → (S.Store.state self.new.inner).stage ≡ Some (name, text ++ bytes.now)) }
+        ensures nothing { OnOk result (IsKnown (S.Store.state self.old.inner)
+            → (S.Store.state self.old.inner).stage ≡ None
+            → (S.Store.state self.new.inner).stage ≡ None) }
+        ensures refused { IfErr result NeverTooLarge }
+        ensures stopped { IfErr result (IsStopped self.old.calls
+            (S.Store.state self.old.inner) (S.Store.state self.new.inner)) }
+        ensures frame { ReadsBetween IsDevice 1 1
+            (stopping_state S.Store.state self.old) (stopping_state S.Store.state self.new) result }
+    {
+        spend(&mut self.calls, &mut self.refused)?;
+        self.inner.append(bytes)
+    }
+
+    fn commit(&mut self) -> Result<(), StoreError>
+        ensures put { OnOk result (IsKnown (S.Store.state self.old.inner)
+            → (name text : List ℕ) → (S.Store.state self.old.inner).stage ≡ Some (name, text)
+            → Puts (S.Store.state self.old.inner).files name (Some text)
+            (S.Store.state self.new.inner).files) }
+        ensures nothing { OnOk result (IsKnown (S.Store.state self.old.inner)
+            → (S.Store.state self.old.inner).stage ≡ None
+            → (S.Store.state self.new.inner).files ≡ (S.Store.state self.old.inner).files) }
+        ensures ended { OnOk result (IsKnown (S.Store.state self.old.inner)
+            → (S.Store.state self.new.inner).stage ≡ None) }
+        ensures refused { IfErr result NeverTooLarge }
+        ensures stopped { IfErr result (IsStopped self.old.calls
+            (S.Store.state self.old.inner) (S.Store.state self.new.inner)) }
+        ensures frame { ReplacesBetween IsDevice 1 1
+            (stopping_state S.Store.state self.old) (stopping_state S.Store.state self.new) result }
+    {
+        spend(&mut self.calls, &mut self.refused)?;
+        self.inner.commit()
+    }
+
+    fn abandon(&mut self)
+        ensures { Abandons
+            (stopping_state S.Store.state self.old) (stopping_state S.Store.state self.new) }
+    {
+        self.inner.abandon();
     }
 }

@@ -146,6 +146,7 @@ impl<F: Write + Drop> Write for FailingFile<F> {
 
 impl<F: Seek + Drop> Seek for FailingFile<F> {
     fn seek(&mut self, to: SeekFrom) -> io::Result<u64> {
+        self.countdown.spend()?;
         self.file.seek(to)
     }
 }
