@@ -1,0 +1,6 @@
+pub mod MergeLemmas
+pub mod SameLemmas
+pub mod LaidLemmas
+pub mod AddedLemmas
+pub mod NetLemmas
+pub mod StandardFacts

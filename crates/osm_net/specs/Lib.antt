@@ -1,0 +1,4 @@
+pub mod Net
+pub mod Laid
+pub mod NetLaws
+pub mod Steps

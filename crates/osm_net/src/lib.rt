@@ -1,0 +1,6 @@
+//! Net changes: what changes come to, to be laid over a mirror.
+#![tactic(auto)]
+
+pub mod laws;
+pub mod net;
+pub mod objects;

@@ -1,0 +1,135 @@
+//! Net changes: what is left of the objects that changed, and how many edits users and changesets
+//! have.
+
+ghost use Rattle.std.specs.Prelude.{◌≡◌, ◌++◌, ◌↔◌, List, [], ◌∷◌, length};
+ghost use Rattle.std.specs.Prelude.{IsTrue, OnOk, OnErr};
+ghost use Rattle.osm_model.specs.Change.{ChangeValue};
+ghost use Rattle.osm_net.specs.Net.{HasRoomFor, IsNet, IsNetOf, IsNew, NeedsEntry, Takes};
+ghost use Rattle.osm_net.specs.Net.{no_net};
+
+use crate::objects::NetObjects;
+use osm_mirror::counts::Counts;
+use osm_model::change::Change;
+use osm_model::filter::Filter;
+use osm_model::memory::WantOfMemory;
+use std::alloc::Global;
+use std::marker::Model;
+
+/// What changes come to: what a filter keeps of what the last change of each object leaves, and the
+/// edits of all of them by user and by changeset. Its memory is that of the last changes.
+#[derive(Debug, Drop)]
+pub struct Net {
+    objects: NetObjects,
+    users: Counts,
+    changesets: Counts,
+}
+
+impl Model for Net {
+    ghost use Rattle.osm_net.specs.Net.{NetValue};
+
+    ghost Value = { NetValue };
+
+    ghost view = { λ a. record {
+      objects = a.objects;
+      users = a.users;
+      changesets = a.changesets;
+    } };
+}
+
+impl Net {
+    /// Of no changes; takes no memory.
+    pub fn new(alloc: Global) -> Net
+        ensures { result ≡ no_net }
+    {
+        Net {
+            objects: NetObjects::new(alloc),
+            users: Counts::new(alloc),
+            changesets: Counts::new(alloc),
+        }
+    }
+
+    /// Takes the changes in order. What the filter keeps of what each of them leaves becomes the
+    /// entry of its key, and each is counted, kept or not. After a refusal some of the changes may
+    /// have been taken.
+    pub fn take(&mut self, filter: &Filter, changes: Vec<Change>) -> Result<(), WantOfMemory>
+        requires { HasRoomFor (length changes.items) self.old }
+        ensures takes { OnOk result (Takes filter.now self.old changes.items self.new) }
+        ensures taken { OnOk result ((before : List ChangeValue) →
+            IsNetOf filter.now before self.old
+            → IsNetOf filter.now (before ++ changes.items) self.new) }
+        ensures refused { OnErr result (NeedsEntry self.old changes.items) }
+    {
+        self.limits();
+        for change in changes {
+            let Ok(()) = self.take_one(filter, change) else {
+                return Err(WantOfMemory);
+            };
+        }
+        Ok(())
+    }
+
+    fn take_one(&mut self, filter: &Filter, change: Change) -> Result<(), WantOfMemory>
+        requires { HasRoomFor 1 self.old }
+        ensures takes { OnOk result (Takes filter.now self.old (change ∷ []) self.new) }
+        ensures refused { OnErr result (IsNew self.old change) }
+    {
+        change.meta().limits();
+        let Ok(()) = self.users.add_one(change.meta().uid()) else {
+            return Err(WantOfMemory);
+        };
+        let Ok(()) = self.changesets.add_one(change.meta().changeset()) else {
+            return Err(WantOfMemory);
+        };
+        let Ok(()) = self.objects.put(filter, change) else {
+            return Err(WantOfMemory);
+        };
+        self.limits();
+        Ok(())
+    }
+
+    /// Tells the prover what holds of all net changes; does nothing at run time.
+    pub fn limits(&self)
+        ensures { IsNet self.now }
+    {
+        self.objects.limits();
+        self.users.limits();
+        self.changesets.limits();
+    }
+
+    /// Whether they change nothing: no change was taken.
+    pub fn is_empty(&self) -> bool
+        ensures { IsTrue result ↔ (self.now ≡ no_net) }
+    {
+        self.objects.is_empty() && self.users.len() == 0 && self.changesets.len() == 0
+    }
+
+    /// What is left of each object that was changed, by its key.
+    pub fn objects(&self) -> &NetObjects
+        ensures { result.now ≡ self.now.objects }
+    {
+        &self.objects
+    }
+
+    /// The edits of each user.
+    pub fn user_counts(&self) -> &Counts
+        ensures { result.now ≡ self.now.users }
+    {
+        &self.users
+    }
+
+    /// The edits in each changeset.
+    pub fn changeset_counts(&self) -> &Counts
+        ensures { result.now ≡ self.now.changesets }
+    {
+        &self.changesets
+    }
+
+    /// What is left of the objects, the edits of users, and those in changesets.
+    pub fn into_parts(self) -> (NetObjects, Counts, Counts)
+        ensures objects { result.0 ≡ self.objects }
+        ensures users { result.1 ≡ self.users }
+        ensures changesets { result.2 ≡ self.changesets }
+    {
+        (self.objects, self.users, self.changesets)
+    }
+}
