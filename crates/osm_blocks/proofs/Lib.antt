@@ -1,0 +1,3 @@
+pub mod OftenLemmas
+pub mod PlaceLemmas
+pub mod FindLemmas

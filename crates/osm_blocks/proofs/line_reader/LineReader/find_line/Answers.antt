@@ -1,0 +1,38 @@
+use Rattle.std.proofs.Common.{◌≡◌, ◌<◌, ◌-◌, List, ℕ, None, length, refl, sym, ap, subst, rules, ◌∙◌, arith}
+use Rattle.osm_reading.specs.Pieces.{cut_at}
+use Rattle.osm_blocks.specs.Frames.{IsDeviceFault}
+use Rattle.osm_blocks.specs.Places.{IsLong, max_line}
+use Rattle.osm_blocks.specs.Steps.Reading.{IsLonger, ReadsMore}
+use Rattle.osm_blocks.proofs.FindLemmas.{has_still}
+use Rattle.osm_blocks.proofs.OftenLemmas.{often_then}
+use Rattle.osm_blocks.proofs.PlaceLemmas.{lacks_still, left_line, left_long}
+use Rattle.osm_blocks.proofs.line_reader.LineReader.find_line.Goals as goal
+
+pub returns-in-Some-clause-found : goal.returns-in-Some-clause-found
+returns-in-Some-clause-found g c = λ file has.
+    ap (cut_at 10) (sym (c.blocks-2.invariant.same file has)) ∙ left_line c.blocks-2.self file c.in-Some.count c.in-Some.ensures.found
+
+pub returns-then-searched-gt-MAX_LINE-clause-found : goal.returns-then-searched-gt-MAX_LINE-clause-found
+returns-then-searched-gt-MAX_LINE-clause-found g c = λ file has.
+    let uncut : cut_at 10 c.blocks-2.self.unread ≡ None = c.in_default.ensures.lacks refl in
+    subst (λ (l : List ℕ). IsLong l) (c.blocks-2.invariant.same file has)
+    (left_long c.blocks-2.self file uncut (rw c.unread-searched.ensures at c.if-searched-gt-MAX_LINE.true))
+
+pub blocks-2-smaller : goal.blocks-2-smaller
+blocks-2-smaller g c =
+    let grown : IsLonger c.blocks-2.self c.read_more.new.self = rw c.if-not-is_more.false at c.in-Ok.ensures.grown in
+    omega (arith, grown.from, grown.fits)
+
+pub blocks-2-preserved : goal.blocks-2-preserved
+blocks-2-preserved g c =
+    let grown : IsLonger c.blocks-2.self c.read_more.new.self = rw c.if-not-is_more.false at c.in-Ok.ensures.grown in
+    let uncut : cut_at 10 c.blocks-2.self.unread ≡ None = c.in_default.ensures.lacks refl in
+    record {
+      frame = often_then IsDeviceFault (g.S.Store.state c.args.store.now) (g.S.Store.state c.blocks-2.store) (g.S.Store.state c.read_more.new.store) tt c.in-Ok.is_more tt
+          c.blocks-2.invariant.frame c.in-Ok.ensures.frame;
+      stage = c.in-Ok.ensures.stage ∙ c.blocks-2.invariant.stage;
+      same = λ file has.
+          let known = has_still (g.S.Store.state c.args.store.now) (g.S.Store.state c.blocks-2.store) tt c.args.name.now file c.blocks-2.invariant.frame has in
+          (rw c.if-not-is_more.false at (c.in-Ok.ensures.more file known)) ∙ c.blocks-2.invariant.same file has;
+      lacks = rw (c.unread-searched.ensures, grown.unread) (lacks_still c.blocks-2.self.unread grown.more uncut);
+    }

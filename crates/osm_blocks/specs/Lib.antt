@@ -1,0 +1,4 @@
+pub mod Frames
+pub mod Places
+pub mod Steps
+pub mod Writing

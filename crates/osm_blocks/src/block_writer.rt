@@ -1,0 +1,87 @@
+//! A file that is written in blocks.
+
+ghost use Rattle.std.specs.Prelude.{◌≡◌, ℕ, ◌++◌, [], List, false, true, IfErr, OnOk};
+ghost use Rattle.osm_store.specs.Frames.{IsKnown};
+ghost use Rattle.osm_blocks.specs.Frames.{IsDeviceFault, IsPlain, ReadsOften};
+ghost use Rattle.osm_blocks.specs.Writing.{IsWritten};
+
+use crate::fault::{BlockFault, fault_of};
+use osm_store::store::Store;
+use std::alloc::Global;
+use std::marker::Model;
+
+const BLOCK: usize = 1_048_576;
+
+/// Collects the bytes of a file that was begun, and appends them in blocks. One that doesn't write
+/// drops them.
+#[derive(Drop)]
+pub struct BlockWriter {
+    buffer: Vec<u8>,
+    is_writing: bool,
+}
+
+impl Model for BlockWriter {
+    ghost use Rattle.osm_blocks.specs.Writing.{Waiting};
+
+    ghost Value = { Waiting };
+
+    ghost view = { λ a. record { bytes = a.buffer.items; is_writing = a.is_writing } };
+}
+
+impl BlockWriter {
+    /// With nothing to append; takes no memory.
+    pub fn new(alloc: Global) -> BlockWriter
+        ensures { result ≡ record { bytes = []; is_writing = true } }
+    {
+        BlockWriter {
+            buffer: Vec::new(alloc),
+            is_writing: true,
+        }
+    }
+
+    /// Drops all bytes; takes no memory.
+    pub fn dropping(alloc: Global) -> BlockWriter
+        ensures { result ≡ record { bytes = []; is_writing = false } }
+    {
+        BlockWriter {
+            buffer: Vec::new(alloc),
+            is_writing: false,
+        }
+    }
+
+    /// Adds bytes at the end of the file that was begun.
+    pub fn put<S: Store>(&mut self, store: &mut S, bytes: &[u8]) -> Result<(), BlockFault>
+        ensures put { OnOk result (IsKnown (S.state store.old) → (name text : List ℕ)
+            → IsWritten (S.state store.old).stage self.old name text
+            → IsWritten (S.state store.new).stage self.new name (text ++ bytes.now)) }
+        ensures refused { IfErr result IsPlain }
+        ensures frame { ReadsOften IsDeviceFault (S.state store.old) (S.state store.new) result }
+    {
+        if !self.is_writing {
+            return Ok(());
+        }
+        self.buffer.extend_from_slice(bytes)?;
+        if self.buffer.len() < BLOCK {
+            return Ok(());
+        }
+        self.flush(store)
+    }
+
+    /// Appends what waits to the file that was begun.
+    pub fn flush<S: Store>(&mut self, store: &mut S) -> Result<(), BlockFault>
+        ensures flushed { OnOk result (IsKnown (S.state store.old) → (name text : List ℕ)
+            → IsWritten (S.state store.old).stage self.old name text
+            → IsWritten (S.state store.new).stage self.new name text) }
+        ensures empty { OnOk result (self.new.bytes ≡ []) }
+        ensures refused { IfErr result IsPlain }
+        ensures frame { ReadsOften IsDeviceFault (S.state store.old) (S.state store.new) result }
+    {
+        match store.append(self.buffer.as_slice()) {
+            Ok(()) => {
+                self.buffer.clear();
+                Ok(())
+            }
+            Err(error) => Err(fault_of(error)),
+        }
+    }
+}
