@@ -30,18 +30,18 @@ TAKE_NO_MEMORY = set("""
     Objects::new Objects::get Objects::len Objects::iter Objects::limits
     Publisher::new Publisher::resume Publisher::number Publisher::pending Publisher::check_close
     Published::number Published::state Published::o5c Published::opl
-    Follower::is_broken Follower::number Follower::base Follower::time Follower::get Follower::user_count Follower::changeset_count
-    Follower::is_held Follower::lag lag_from
+    Follower::is_broken Follower::filter Follower::number Follower::base Follower::time Follower::get
+    Follower::user_count Follower::changeset_count Follower::is_held Follower::lag lag_from
     View::new View::number View::base View::time View::objects View::into_objects View::users View::changesets
     View::held
     World::publisher World::follower World::published
-    ending_of_error ending_of_unread ending_of_fault ending_of_refusal head_read
+    ending_of_error ending_of_unread ending_of_fault ending_of_refusal
     check_words is_ahead lock_of Refusal::status hint_of is_of_content look_of
     Order::dir Order::save Order::base Order::changes Order::now Order::input Order::output
     Opl::laws O5c::laws laws_of_content laws_of_filters laws_of_texts laws_of_opl laws_of_data laws_of_o5c laws_of_state
     laws_of_holding
-    laws_of_mirrors laws_of_saves laws_of_heads laws_of_deliveries laws_of_restarts laws_of_runs laws_of_replies
-    laws_of_histories laws_of_progress laws_of_archives laws_of_views laws_of_order laws_of_replays
+    laws_of_mirrors laws_of_saves laws_of_heads laws_of_deliveries laws_of_restarts laws_of_beginnings laws_of_runs
+    laws_of_replies laws_of_histories laws_of_progress laws_of_archives laws_of_views laws_of_order laws_of_replays
 """.split())
 
 # These want a key or a number above all others. They are tried by a call that gives them such ones.
