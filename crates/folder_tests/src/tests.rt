@@ -1,5 +1,6 @@
 mod begin;
 mod files;
+mod filters;
 mod numbered;
 mod runs;
 mod save;

@@ -1,16 +1,18 @@
 -- What a beginning leaves, and why nothing begins.
-use Rattle.std.proofs.Common.{◌≡◌, ℕ, ◌-◌, ◌<◌, ◌≤◌, List, [], ◌∷◌, ◌++◌, length, take, Option, Some, None, arith, refl, sym, ap, ◌∙◌, subst}
-use Rattle.std.specs.Prelude.{codes}
-use Rattle.std.specs.List.{flat_map}
+use Rattle.std.proofs.Common.{◌≡◌, ℕ, ◌-◌, ◌<◌, ◌≤◌, List, [], ◌∷◌, ◌++◌, length, map, take, Option, Some, None, arith, refl, sym, ap, ◌∙◌, subst}
+use Rattle.std.specs.Prelude.{codes, cond, Bool, true, false, if◌then◌else◌}
+use Rattle.std.specs.List.{AllByRecursion, flat_map}
 use Rattle.std.specs.List.Sorted.{IsStrictlySortedBy}
+use Rattle.std.specs.declared.cmp.Ordering.TheVariants.{Less}
 use Rattle.std.proofs.lemmas.List.{drop_all, length-take-le}
 use Rattle.std.proofs.lemmas.Option.{same_Some}
 use Rattle.osm_model.specs.Change.{ChangeValue}
 use Rattle.osm_model.specs.Content.{content_of}
 use Rattle.osm_model.specs.Data.{IsData}
-use Rattle.osm_model.specs.Filter.{everything}
+use Rattle.osm_model.specs.Filter.{FilterValue, everything, kept, kept_object, keeps}
+use Rattle.osm_model.specs.KeyOrder.{key_cmp}
 use Rattle.osm_model.specs.declared.kind.Key.{Key}
-use Rattle.osm_mirror.specs.Mirror.{IsMirrorOf, object_at}
+use Rattle.osm_mirror.specs.Mirror.{AreRising, IsMirrorOf, object_at}
 use Rattle.osm_o5c.proofs.FileLimitLemmas.{data_limits}
 use Rattle.osm_o5c.proofs.FrontLemmas as o5m_file
 use Rattle.osm_o5c.proofs.WrittenFile as o5m_written
@@ -21,9 +23,9 @@ use Rattle.osm_save.specs.Save.{SpellsSave}
 use Rattle.osm_save.specs.declared.save.Saved.{Saved}
 use Rattle.osm_state.proofs.StateLemmas.{one_state}
 use Rattle.osm_state.specs.State.{StateValue}
-use Rattle.osm_follow.proofs.BeginLemmas.{everything_left}
+use Rattle.osm_follow.proofs.BeginLemmas.{everything_left, keeps_all, kept_at}
 use Rattle.osm_follow.proofs.PublishedLemmas.{time_next}
-use Rattle.osm_follow.specs.Begin.{begun_of}
+use Rattle.osm_follow.specs.Begin.{begun_of, kept_objects}
 use Rattle.osm_follow.specs.Follower.{FollowerValue}
 use Rattle.osm_follow.specs.Published.{PublishedValue, changes_after, changes_up_to, sequence_at}
 use Rattle.osm_follow.specs.Restart.{saved_of}
@@ -32,7 +34,7 @@ use Rattle.osm_folder.specs.DataForms.{HasDataEnd, data_end_of, data_text_of, sp
 use Rattle.osm_folder.specs.Exporting.{HasDataForm, IsExportOf, IsExported}
 use Rattle.osm_store.specs.Files.{Files}
 use Rattle.osm_folder.specs.Folder.{IsStateFile, IsThere}
-use Rattle.osm_folder.specs.Following.{IsSaveOf, IsSaved, max_save}
+use Rattle.osm_folder.specs.Following.{IsInStep, IsSaveOf, IsSaved, max_save}
 use Rattle.osm_folder.specs.Reports.{ReportValue, begin_report_of}
 use Rattle.osm_folder.specs.Steps.Beginning.{BaseStops, BegunStops, IsBaseRead, StartStops}
 use Rattle.osm_folder.specs.Steps.Following.{MadeStops}
@@ -100,49 +102,72 @@ same_start (Some bytes) s t a b = one_state bytes s t a.names b.names
 none_after : (ps : List PublishedValue) (k : ℕ) → k ≤ length ps → changes_after ps k k ≡ []
 none_after ps k within = ap (flat_map (λ (p : PublishedValue). p.changes)) (drop_all k (take k ps) (omega (arith, length-take-le k ps within)))
 
-uncounted : (cs : List ChangeValue) (counted objects : List ChangeValue) → IsData objects
-    → ((k : Key) → object_at objects k ≡ content_of cs k) → counted ≡ []
-    → IsMirrorOf everything cs counted (record { objects = objects; users = []; changesets = [] })
+-- those of the objects that are kept are in order
+below_kept : (f : FilterValue) (k : Key) (os : List ChangeValue)
+    → AllByRecursion (λ y. key_cmp k y ≡ Less) (map (λ (o : ChangeValue). o.key) os)
+    → AllByRecursion (λ y. key_cmp k y ≡ Less) (map (λ (o : ChangeValue). o.key) (kept_objects f os))
+below_kept f k [] all = tt
+below_kept f k (o ∷ os) all = by_test (below_kept f k os all.1) (keeps f o)
+  where
+    by_test : AllByRecursion (λ y. key_cmp k y ≡ Less) (map (λ (o : ChangeValue). o.key) (kept_objects f os)) → (b : Bool)
+        → AllByRecursion (λ y. key_cmp k y ≡ Less) (map (λ (o : ChangeValue). o.key) (cond b (o ∷ kept_objects f os) (kept_objects f os)))
+    by_test rest true = (all.0, rest)
+    by_test rest false = rest
+
+rising_kept : (f : FilterValue) (os : List ChangeValue) → AreRising os → AreRising (kept_objects f os)
 unfolding IsStrictlySortedBy
-uncounted cs counted objects are content none = rw none (record {
+rising_kept f [] rising = tt
+rising_kept f (o ∷ os) rising = by_test (rising_kept f os rising.1) (keeps f o)
+  where
+    by_test : AreRising (kept_objects f os) → (b : Bool) → AreRising (cond b (o ∷ kept_objects f os) (kept_objects f os))
+    by_test rest true = (below_kept f o.key os rising.0, rest)
+    by_test rest false = rest
+
+-- what is kept of objects in order, with no counts, is the mirror that the filter keeps of what they are
+uncounted : (given : FilterValue) (cs : List ChangeValue) (counted objects : List ChangeValue) → AreRising objects
+    → ((k : Key) → kept given (object_at objects) k ≡ kept given (content_of cs) k) → counted ≡ []
+    → IsMirrorOf given cs counted (record { objects = kept_objects given objects; users = []; changesets = [] })
+unfolding IsStrictlySortedBy
+uncounted given cs counted objects rising content none = rw none (record {
   orderly = record {
-    objects = are.rising;
+    objects = rising_kept given objects rising;
     users = record { rising = tt; above = tt };
     changesets = record { rising = tt; above = tt };
   };
-  objects = λ k. content k ∙ sym (everything_left cs k);
+  objects = λ k. kept_at given objects rising k ∙ content k;
   users = λ uid. refl;
   changesets = λ id. refl;
 })
 
-begun_saved : (base state save : List ℕ) (old new : Files) (report : ReportValue) (b : IsBegunFrom base state save old new report)
-    → IsSaved (new save) (begun_save b.s b.beginning.objects)
-begun_saved base state save old new report b = rw b.put.there (b.small, b.beginning.spelled)
+begun_saved : (given : FilterValue) (base state save : List ℕ) (old new : Files) (report : ReportValue) (b : IsBegunFrom given base state save old new report)
+    → IsSaved given (new save) (begun_save given b.s b.beginning.objects)
+begun_saved given base state save old new report b = rw b.put.there (b.small, b.beginning.spelled)
 
-same_begun : (s t : StateValue) (xs ys : List ChangeValue) → s ≡ t → xs ≡ ys → begun_save s xs ≡ begun_save t ys
-same_begun s t xs ys p q = ap (λ (u : StateValue). begun_save u xs) p ∙ ap (λ (zs : List ChangeValue). begun_save t zs) q
+same_begun : (given : FilterValue) (s t : StateValue) (xs ys : List ChangeValue) → s ≡ t → xs ≡ ys → begun_save given s xs ≡ begun_save given t ys
+same_begun given s t xs ys p q = ap (λ (u : StateValue). begun_save given u xs) p ∙ ap (λ (zs : List ChangeValue). begun_save given t zs) q
 
-pub begun_in_step : (ps : List PublishedValue) (number : ℕ) (base state save : List ℕ) (old new : Files) (report : ReportValue)
-    → IsBaseOf ps number base state old → IsBegunFrom base state save old new report
-    → IsSaveOf ps number number (new save) × (report ≡ begin_report_of number)
-begun_in_step ps number base state save old new report of b =
+pub begun_in_step : (given : FilterValue) (ps : List PublishedValue) (number : ℕ) (base state save : List ℕ) (old new : Files) (report : ReportValue)
+    → IsBaseOf ps number base state old → IsBegunFrom given base state save old new report
+    → IsSaveOf ps given number number (new save) × (report ≡ begin_report_of number)
+begun_in_step given ps number base state save old new report of b =
     let t : StateValue = record { sequence = number; time = (sequence_at ps number).time } in
     let above = of.above in
     let within = of.within in
     let start : b.s ≡ t = same_start (old state) b.s t b.beginning.start.there of.start in
     let objects : b.beginning.objects ≡ of.objects = same_base base (old base) b.beginning.objects of.objects b.beginning.base_is of.base_is in (
       record {
-        value = begun_save t of.objects;
-        saved = subst (IsSaved (new save)) (same_begun b.s t b.beginning.objects of.objects start objects)
-            (begun_saved base state save old new report b);
+        value = begun_save given t of.objects;
+        saved = subst (IsSaved given (new save)) (same_begun given b.s t b.beginning.objects of.objects start objects)
+            (begun_saved given base state save old new report b);
         base_is = refl;
         number_is = refl;
         in_step = record {
           within = within;
           base = omega arith;
           filter_is = refl;
-          mirror = uncounted (changes_up_to ps number) (changes_after ps number number) of.objects
-              (spelled_data of.base_is.named.form of.base_is.bytes of.objects of.base_is.spelled) of.content (none_after ps number within);
+          mirror = uncounted given (changes_up_to ps number) (changes_after ps number number) of.objects
+              (spelled_data of.base_is.named.form of.base_is.bytes of.objects of.base_is.spelled).rising
+              (λ k. ap (kept_object given) (of.content k)) (none_after ps number within);
           time = sym (time_next ps (number - 1) number (omega (arith, above)));
         };
       },
@@ -161,14 +186,14 @@ exported_base save out before after files e at = record {
   spelled = written_data e.made.named.form e.made.held.saved.mirror.objects e.are_data;
 }
 
-pub handed : (save out state again : List ℕ) (before after files new : Files) (v : Saved) (time : ℕ) (report : ReportValue)
-    → IsSaved (before save) v → v.time ≡ Some time → IsExported save out before after → files out ≡ after out
-    → IsThere (files state) (IsStateFile v.number time) → IsBegunFrom out state again files new report → IsSaved (new again) (handed_on v)
-handed save out state again before after files new v time report saved time_is e at named b =
+pub handed : (own given : FilterValue) (save out state again : List ℕ) (before after files new : Files) (v : Saved) (time : ℕ) (report : ReportValue)
+    → IsSaved own (before save) v → v.time ≡ Some time → IsExported save out before after → files out ≡ after out
+    → IsThere (files state) (IsStateFile v.number time) → IsBegunFrom given out state again files new report → IsSaved given (new again) (handed_on given v)
+handed own given save out state again before after files new v time report saved time_is e at named b =
     let t : StateValue = record { sequence = v.number; time = time } in
     let held = e.made.held in
-    let here : IsSaved (before save) held.saved = rw held.there (held.small, held.spelled) in
-    let same : held.saved ≡ v = one_saved (before save) held.saved v here saved in
+    let here : IsSaved own (before save) held.saved = rw held.there (held.small, held.spelled) in
+    let same : held.saved ≡ v = one_saved own (before save) held.saved v here saved in
     let start : b.s ≡ t = same_start (files state) b.s t b.beginning.start.there named in
     let objects : b.beginning.objects ≡ v.mirror.objects =
     same_base out (files out) b.beginning.objects held.saved.mirror.objects b.beginning.base_is (exported_base save out before after files e at)
@@ -177,13 +202,39 @@ handed save out state again before after files new v time report saved time_is e
       number = v.number;
       base = v.number;
       time = o;
-      filter = everything;
-      mirror = record { objects = v.mirror.objects; users = []; changesets = [] };
+      filter = given;
+      mirror = record { objects = kept_objects given v.mirror.objects; users = []; changesets = [] };
     } in
-    subst (IsSaved (new again)) (same_begun b.s t b.beginning.objects v.mirror.objects start objects ∙ ap at_time (sym time_is))
-    (begun_saved out state again files new report b)
+    subst (IsSaved given (new again)) (same_begun given b.s t b.beginning.objects v.mirror.objects start objects ∙ ap at_time (sym time_is))
+    (begun_saved given out state again files new report b)
 
-pub base_of_export : (ps : List PublishedValue) (number : ℕ) (out state : List ℕ) (files : Files) → IsExportOf ps number out (files out)
+-- under the filter of the save all of its objects are kept
+pub hands_all : (own : FilterValue) (told : Option (List ℕ)) (v : Saved) → IsSaved own told v
+    → (handed_on v.filter v).mirror.objects ≡ v.mirror.objects
+hands_all own None v saved = rw saved refl
+hands_all own (Some bytes) v saved = keeps_all v.filter v.mirror.objects saved.1.savable.kept
+
+-- what is kept is kept again
+kept_again : (f : FilterValue) (o : Option ChangeValue) → kept_object f (kept_object f o) ≡ kept_object f o
+kept_again f None = refl
+kept_again f (Some c) = by_test (keeps f c) refl
+  where
+    by_test : (b : Bool) → keeps f c ≡ b → kept_object f (if b then Some c else None) ≡ (if b then Some c else None)
+    by_test true is = rw is refl
+    by_test false is = refl
+
+pub handed_in_step : (ps : List PublishedValue) (given : FilterValue) (v : Saved) → IsInStep ps given v → IsInStep ps given (handed_on given v)
+handed_in_step ps given v step = record {
+  within = step.within;
+  base = omega arith;
+  filter_is = refl;
+  mirror = uncounted given (changes_up_to ps v.number) (changes_after ps v.number v.number) v.mirror.objects step.mirror.orderly.objects
+      (λ k. ap (kept_object given) (step.mirror.objects k) ∙ kept_again given (content_of (changes_up_to ps v.number) k))
+      (none_after ps v.number step.within);
+  time = step.time;
+}
+
+pub base_of_export : (ps : List PublishedValue) (number : ℕ) (out state : List ℕ) (files : Files) → IsExportOf ps everything number out (files out)
     → 0 < number → number ≤ length ps → IsThere (files state) (IsStateFile number (sequence_at ps number).time)
     → IsBaseOf ps number out state files
 base_of_export ps number out state files e above within named = record {
@@ -198,29 +249,29 @@ base_of_export ps number out state files e above within named = record {
     small = e.fits;
     spelled = written_data e.named.form e.objects e.are_data;
   };
-  content = e.content;
+  content = λ k. e.content k ∙ everything_left (changes_up_to ps number) k;
 }
 
 -- ---- why nothing begins
 
-pub start_stops : (known : Type 0) (base state : List ℕ) (files : Files) → HasDataForm base → (fault : RunFault)
-    → StartStops known (files state) fault → BeginStops known base state files fault
-start_stops known base state files named WantOfMemory h = named
-start_stops known base state files named (ReadFault State) h = named
-start_stops known base state files named (Absent State) h = (named, h)
-start_stops known base state files named (TooLarge State) h = (named, h)
-start_stops known base state files named (BadState State cause) h = (named, h)
-start_stops known base state files named ZeroBase h = (named, h)
-start_stops known base state files named fault h = absurd h
+pub start_stops : (given : FilterValue) (known : Type 0) (base state : List ℕ) (files : Files) → HasDataForm base → (fault : RunFault)
+    → StartStops known (files state) fault → BeginStops known given base state files fault
+start_stops given known base state files named WantOfMemory h = named
+start_stops given known base state files named (ReadFault State) h = named
+start_stops given known base state files named (Absent State) h = (named, h)
+start_stops given known base state files named (TooLarge State) h = (named, h)
+start_stops given known base state files named (BadState State cause) h = (named, h)
+start_stops given known base state files named ZeroBase h = (named, h)
+start_stops given known base state files named fault h = absurd h
 
-pub base_stops : (known : Type 0) (base state : List ℕ) (files : Files) (form : DataForm) → HasDataEnd base form
+pub base_stops : (given : FilterValue) (known : Type 0) (base state : List ℕ) (files : Files) (form : DataForm) → HasDataEnd base form
     → (known → HasStart state files) → (fault : RunFault) → BaseStops known form (files base) fault
-    → BeginStops known base state files fault
-base_stops known base state files form end has WantOfMemory h = record { form = form; end = end }
-base_stops known base state files form end has (ReadFault Base) h = (record { form = form; end = end }, has)
-base_stops known base state files form end has (Absent Base) h = (record { form = form; end = end }, λ yes. (has yes, h yes))
-base_stops known base state files form end has (TooLarge Base) h = (record { form = form; end = end }, λ yes. (has yes, h yes))
-base_stops known base state files form end has (BadChange Base place why) h = λ yes. (
+    → BeginStops known given base state files fault
+base_stops given known base state files form end has WantOfMemory h = record { form = form; end = end }
+base_stops given known base state files form end has (ReadFault Base) h = (record { form = form; end = end }, has)
+base_stops given known base state files form end has (Absent Base) h = (record { form = form; end = end }, λ yes. (has yes, h yes))
+base_stops given known base state files form end has (TooLarge Base) h = (record { form = form; end = end }, λ yes. (has yes, h yes))
+base_stops given known base state files form end has (BadChange Base place why) h = λ yes. (
   has yes,
   let bad = h yes in record {
     named = record { form = form; end = end };
@@ -231,13 +282,13 @@ base_stops known base state files form end has (BadChange Base place why) h = λ
     place_is = bad.place_is;
   },
 )
-base_stops known base state files form end has fault h = absurd h
+base_stops given known base state files form end has fault h = absurd h
 
 -- what the state and the data file give
-abbrev pub beginning_of : (base state text : List ℕ) (files : Files) (form : DataForm) (s : StateValue) (objects : List ChangeValue)
-    → HasDataEnd base form → IsStart (files state) s → IsBaseRead form (files base) objects → SpellsSave text (begun_save s objects)
-    → IsBeginning base state files s text
-beginning_of base state text files form s objects end start read spelled = record {
+abbrev pub beginning_of : (given : FilterValue) (base state text : List ℕ) (files : Files) (form : DataForm) (s : StateValue) (objects : List ChangeValue)
+    → HasDataEnd base form → IsStart (files state) s → IsBaseRead form (files base) objects → SpellsSave text (begun_save given s objects)
+    → IsBeginning given base state files s text
+beginning_of given base state text files form s objects end start read spelled = record {
   start = start;
   objects = objects;
   base_is = record {
@@ -250,31 +301,29 @@ beginning_of base state text files form s objects end start read spelled = recor
   spelled = spelled;
 }
 
--- a follower that begins with all of the objects saves them
-pub saves_begun : (f : FollowerValue) (s : StateValue) (objects : List ChangeValue) → f ≡ begun_of everything s objects
-    → f.mirror.objects ≡ objects → saved_of f ≡ begun_save s objects
-saves_begun f s objects is all =
-    let with : List ChangeValue → Saved = begun_save s in
-    ap saved_of is ∙ ap with (sym (ap (λ (g : FollowerValue). g.mirror.objects) is) ∙ all)
+-- a follower that begins with objects saves those that its filter keeps
+pub saves_begun : (given : FilterValue) (f : FollowerValue) (s : StateValue) (objects : List ChangeValue) → f ≡ begun_of given s objects
+    → saved_of f ≡ begun_save given s objects
+saves_begun given f s objects is = ap saved_of is
 
-pub made_begun : (f : FollowerValue) (s : StateValue) (objects : List ChangeValue) → f ≡ begun_of everything s objects
-    → f.mirror.objects ≡ objects → (fault : RunFault) → MadeStops f fault → BegunStops s objects fault
-made_begun f s objects is all WantOfMemory h = tt
-made_begun f s objects is all (TooLarge file) h =
-    rw h.0 (h.1.text, subst (SpellsSave h.1.text) (saves_begun f s objects is all) h.1.spelled, h.1.over)
-made_begun f s objects is all fault h = absurd h
+pub made_begun : (given : FilterValue) (f : FollowerValue) (s : StateValue) (objects : List ChangeValue) → f ≡ begun_of given s objects
+    → (fault : RunFault) → MadeStops f fault → BegunStops given s objects fault
+made_begun given f s objects is WantOfMemory h = tt
+made_begun given f s objects is (TooLarge file) h =
+    rw h.0 (h.1.text, subst (SpellsSave h.1.text) (saves_begun given f s objects is) h.1.spelled, h.1.over)
+made_begun given f s objects is fault h = absurd h
 
-pub text_stops : (known : Type 0) (base state : List ℕ) (files : Files) (form : DataForm) (s : StateValue) (objects : List ChangeValue)
+pub text_stops : (given : FilterValue) (known : Type 0) (base state : List ℕ) (files : Files) (form : DataForm) (s : StateValue) (objects : List ChangeValue)
     → HasDataEnd base form → (known → IsStart (files state) s) → (known → IsBaseRead form (files base) objects) → (fault : RunFault)
-    → BegunStops s objects fault → BeginStops known base state files fault
-text_stops known base state files form s objects end start read WantOfMemory h = record { form = form; end = end }
-text_stops known base state files form s objects end start read (TooLarge Save) h =
-    λ yes. (s, h.0, beginning_of base state h.0 files form s objects end (start yes) (read yes) h.1, h.2)
-text_stops known base state files form s objects end start read fault h = absurd h
+    → BegunStops given s objects fault → BeginStops known given base state files fault
+text_stops given known base state files form s objects end start read WantOfMemory h = record { form = form; end = end }
+text_stops given known base state files form s objects end start read (TooLarge Save) h =
+    λ yes. (s, h.0, beginning_of given base state h.0 files form s objects end (start yes) (read yes) h.1, h.2)
+text_stops given known base state files form s objects end start read fault h = absurd h
 
-pub put_stops : (known : Type 0) (base state : List ℕ) (files : Files) → HasDataForm base
-    → (known → HasBegun base state files (λ text. length text ≤ max_save)) → (fault : RunFault) → PutStops Save fault
-    → BeginStops known base state files fault
-put_stops known base state files named has WantOfMemory h = named
-put_stops known base state files named has (WriteFault file) h = rw h has
-put_stops known base state files named has fault h = absurd h
+pub put_stops : (given : FilterValue) (known : Type 0) (base state : List ℕ) (files : Files) → HasDataForm base
+    → (known → HasBegun given base state files (λ text. length text ≤ max_save)) → (fault : RunFault) → PutStops Save fault
+    → BeginStops known given base state files fault
+put_stops given known base state files named has WantOfMemory h = named
+put_stops given known base state files named has (WriteFault file) h = rw h has
+put_stops given known base state files named has fault h = absurd h

@@ -1,6 +1,7 @@
 -- Calls of a run of the follower.
 use Rattle.std.proofs.Common.{◌≡◌, ℕ, ◌+◌, ◌-◌, ◌*◌, List, length, arith, ap, subst}
 use Rattle.std.specs.Prelude.{Result, Ok}
+use Rattle.osm_model.specs.Filter.{FilterValue}
 use Rattle.osm_save.specs.declared.save.Saved.{Saved}
 use Rattle.osm_state.specs.State.{StateValue}
 use Rattle.osm_follow.specs.Follower.{FollowerValue}
@@ -18,23 +19,23 @@ use Rattle.osm_store.proofs.FrameLemmas.{at_most_both}
 use Rattle.osm_folder.proofs.InStepLemmas.{one_saved, top_number}
 
 -- the numbers from the save to the top
-way_is : (ps : List PublishedValue) (base number : ℕ) (dir save : List ℕ) (files : Files) (v : Saved) (top : StateValue)
-    (last : ℕ) → last ≡ top.sequence → IsFolderOf ps files dir → IsSaveOf ps base number (files save)
-    → IsStarted dir save files v top → last - v.number ≡ length ps - number
-way_is ps base number dir save files v top last is folder saved started =
+way_is : (given : FilterValue) (ps : List PublishedValue) (base number : ℕ) (dir save : List ℕ) (files : Files) (v : Saved) (top : StateValue)
+    (last : ℕ) → last ≡ top.sequence → IsFolderOf ps files dir → IsSaveOf ps given base number (files save)
+    → IsStarted given dir save files v top → last - v.number ≡ length ps - number
+way_is given ps base number dir save files v top last is folder saved started =
     let end = top_number ps (files (top_name_of dir)) top folder.sequences folder.top started.top_is in
-    let from = ap (λ (s : Saved). s.number) (one_saved (files save) v saved.value started.saved saved.saved) in
+    let from = ap (λ (s : Saved). s.number) (one_saved given (files save) v saved.value started.saved saved.saved) in
     let at = saved.number_is in
     omega (arith, end, from, at, is)
 
 -- calls of the numbers from the save to the top
-pub way_calls : {T U : Type 0} (ps : List PublishedValue) (base number : ℕ) (dir save : List ℕ) (files : Files) (v : Saved)
+pub way_calls : (given : FilterValue) {T U : Type 0} (ps : List PublishedValue) (base number : ℕ) (dir save : List ℕ) (files : Files) (v : Saved)
     (top : StateValue) (last : ℕ) (a b c : StoreState) (x : T) (r : Result U RunFault) → last ≡ top.sequence
-    → IsFolderOf ps files dir → IsSaveOf ps base number (files save) → IsStarted dir save files v top
+    → IsFolderOf ps files dir → IsSaveOf ps given base number (files save) → IsStarted given dir save files v top
     → b.is_known ≡ a.is_known → CallsUpTo 2 a b (Ok x) → CallsUpTo (3 * (last - v.number)) b c r
     → CallsUpTo (2 + 3 * (length ps - number)) a c r
-way_calls ps base number dir save files v top last a b c x r is folder saved started known start way =
-    let count = way_is ps base number dir save files v top last is folder saved started in
+way_calls given ps base number dir save files v top last a b c x r is folder saved started known start way =
+    let count = way_is given ps base number dir save files v top last is folder saved started in
     at_most_both IsDeviceFault 2 (3 * (length ps - number)) (2 + 3 * (length ps - number)) a b c x r (omega arith) known
     start (subst (λ k. CallsUpTo (3 * k) b c r) count way)
 

@@ -5,12 +5,11 @@ use Rattle.std.specs.List.Sorted.{IsStrictlySortedBy}
 use Rattle.std.specs.declared.cmp.Ordering.TheVariants.{Less}
 use Rattle.osm_model.specs.Change.{ChangeValue, IsChange}
 use Rattle.osm_model.specs.Data.{IsData, IsFirstFault, IsLeft}
-use Rattle.osm_model.specs.Filter.{everything}
+use Rattle.osm_model.specs.Filter.{FilterValue}
 use Rattle.osm_model.specs.KeyOrder.{key_cmp}
 use Rattle.osm_model.specs.Limits.{max_file}
 use Rattle.osm_model.specs.declared.kind.Key.{Key}
 use Rattle.osm_mirror.specs.Mirror.{IsMirrorOf, IsObject}
-use Rattle.osm_follow.proofs.BeginLemmas.{everything_left}
 use Rattle.osm_follow.specs.Published.{PublishedValue, changes_after, changes_up_to}
 use Rattle.osm_save.specs.Save.{SpellsSave}
 use Rattle.osm_save.specs.declared.save.Saved.{Saved}
@@ -104,20 +103,20 @@ exported_of save output bytes text old new form objects end there small read tex
   put = subst (λ (t : List ℕ). Puts old output (Some t) new) (text_is ∙ ap (data_text_of form) read.objects_are) put;
 }
 
-pub export_of : (ps : List PublishedValue) (base number : ℕ) (save output : List ℕ) (old new : Files)
-    → IsSaveOf ps base number (old save) → IsExported save output old new → IsExportOf ps number output (new output)
-export_of ps base number save output old new saved done =
+pub export_of : (given : FilterValue) (ps : List PublishedValue) (base number : ℕ) (save output : List ℕ) (old new : Files)
+    → IsSaveOf ps given base number (old save) → IsExported save output old new → IsExportOf ps given number output (new output)
+export_of given ps base number save output old new saved done =
     let held = done.made.held in
-    let here : IsSaved (old save) held.saved = rw held.there (held.small, held.spelled) in
-    let same : held.saved ≡ saved.value = one_saved (old save) held.saved saved.value here saved.saved in
-    let mirror : IsMirrorOf everything (changes_up_to ps number) (changes_after ps saved.value.base number) held.saved.mirror =
+    let here : IsSaved given (old save) held.saved = rw held.there (held.small, held.spelled) in
+    let same : held.saved ≡ saved.value = one_saved given (old save) held.saved saved.value here saved.saved in
+    let mirror : IsMirrorOf given (changes_up_to ps number) (changes_after ps saved.value.base number) held.saved.mirror =
     rw (same, ← saved.number_is) saved.in_step.mirror in
     record {
       named = done.made.named;
       objects = held.saved.mirror.objects;
       are_data = done.are_data;
       fits = done.made.fits;
-      content = λ k. mirror.objects k ∙ everything_left (changes_up_to ps number) k;
+      content = mirror.objects;
       text = done.put.there;
     }
 

@@ -1,6 +1,7 @@
 -- The head of a save, from its first bytes.
 use Rattle.std.proofs.Common.{◌≡◌, ℕ, List, ◌++◌, take, drop, sym, ap, ◌∙◌, Option, Some, None, take-append-drop}
 use Rattle.std.proofs.lemmas.List.{append_assoc}
+use Rattle.osm_model.specs.Filter.{FilterValue}
 use Rattle.osm_save.proofs.HeadLemmas.{one_head, save_has_head}
 use Rattle.osm_save.specs.Head.{BeginsSave, head_lines, head_of}
 use Rattle.osm_save.specs.Lines.{ended}
@@ -23,6 +24,6 @@ begins_more most bytes head b = record {
       ∙ append_assoc (ended (head_lines b.version head b.filter)) b.rest (drop most bytes));
 }
 
-pub head_is : (told : Option (List ℕ)) (head : Head) (v : Saved) → IsHead told head → IsSaved told v → head ≡ head_of v
-head_is None head v h s = h ∙ ap head_of (sym s)
-head_is (Some bytes) head v h s = one_head bytes head (head_of v) h (save_has_head bytes v s.1)
+pub head_is : (given : FilterValue) (told : Option (List ℕ)) (head : Head) (v : Saved) → IsHead told head → IsSaved given told v → head ≡ head_of v
+head_is given None head v h s = h ∙ ap head_of (sym s)
+head_is given (Some bytes) head v h s = one_head bytes head (head_of v) h (save_has_head bytes v s.1)

@@ -3,7 +3,7 @@ use Rattle.std.proofs.Common.{◌≡◌, ℕ, zero, suc, ◌+◌, ◌<◌, ◌�
 use Rattle.std.specs.Prelude.{◌⊎◌}
 use Rattle.std.proofs.lemmas.Option.{same_Some}
 use Rattle.osm_mirror.specs.Mirror.{IsMirrorOf}
-use Rattle.osm_model.specs.Filter.{everything}
+use Rattle.osm_model.specs.Filter.{FilterValue}
 use Rattle.osm_mirror.proofs.MirrorLemmas.{mirror_grown}
 use Rattle.osm_o5c.proofs.FrontLemmas as o5c_file
 use Rattle.osm_opl.proofs.FileLaws as opl_file
@@ -30,9 +30,9 @@ use Rattle.osm_folder.specs.declared.form.Form.TheVariants as forms
 use Rattle.osm_folder.proofs.TakingLemmas.{adds_number}
 
 -- a save saves one thing
-pub one_saved : (told : Option (List ℕ)) (a b : Saved) → IsSaved told a → IsSaved told b → a ≡ b
-one_saved None a b p q = p ∙ sym q
-one_saved (Some bytes) a b p q = one_save bytes a b p.1 q.1
+pub one_saved : (given : FilterValue) (told : Option (List ℕ)) (a b : Saved) → IsSaved given told a → IsSaved given told b → a ≡ b
+one_saved given None a b p q = p ∙ sym q
+one_saved given (Some bytes) a b p q = one_save bytes a b p.1 q.1
 
 -- the top state names the last published sequence
 pub top_number : (ps : List PublishedValue) (told : Option (List ℕ)) (top : StateValue) → AreSequences ps
@@ -57,9 +57,9 @@ same_changes None opl p q a b c = same_opl opl p q a c
 same_changes (Some bytes) opl p q a b c = o5c_file.one_batch bytes p.changes q.changes a.1 b.1
 
 -- one more number
-step_in_step : (ps : List PublishedValue) (files : Files) (dir : List ℕ) (old new : Saved) → IsFolderOf ps files dir
-    → old.number + 1 ≤ length ps → Adds files dir old new → IsInStep ps old → IsInStep ps new
-step_in_step ps files dir old new folder within add step =
+step_in_step : (given : FilterValue) (ps : List PublishedValue) (files : Files) (dir : List ℕ) (old new : Saved) → IsFolderOf ps files dir
+    → old.number + 1 ≤ length ps → Adds files dir old new → IsInStep ps given old → IsInStep ps given new
+step_in_step given ps files dir old new folder within add step =
     let is = add.number_is in
     let at : add.next.number ≤ length ps = omega (arith, is) in
     let above : 0 < add.next.number = omega (arith, is) in
@@ -69,8 +69,8 @@ step_in_step ps files dir old new folder within add step =
     let changes : add.next.changes ≡ changes_at ps add.next.number =
     same_changes _ _ add.next (sequence_at ps add.next.number) add.there.changes
     (folder.each add.next.number O5c above at) (folder.each add.next.number Opl above at) in
-    let grown : IsMirrorOf everything (changes_up_to ps old.number ++ add.next.changes) (changes_after ps old.base old.number ++ add.next.changes) new.mirror =
-    mirror_grown everything old.mirror new.mirror (changes_up_to ps old.number) (changes_after ps old.base old.number) add.next.changes step.mirror
+    let grown : IsMirrorOf given (changes_up_to ps old.number ++ add.next.changes) (changes_after ps old.base old.number ++ add.next.changes) new.mirror =
+    mirror_grown given old.mirror new.mirror (changes_up_to ps old.number) (changes_after ps old.base old.number) add.next.changes step.mirror
     (rw (← step.filter_is) add.applied) in
     let joined : changes_up_to ps add.next.number ≡ changes_up_to ps old.number ++ add.next.changes =
     changes_next ps old.number add.next.number is at ∙ ap (λ cs. changes_up_to ps old.number ++ cs) (sym changes) in
@@ -87,14 +87,14 @@ step_in_step ps files dir old new folder within add step =
     }
 
 -- that many more numbers
-pub all_in_step : (ps : List PublishedValue) (files : Files) (dir : List ℕ) (count : ℕ) (old new : Saved)
-    → IsFolderOf ps files dir → old.number + count ≤ length ps → AddsAll files dir count old new → IsInStep ps old
-    → IsInStep ps new
-all_in_step ps files dir zero old new folder within add step = rw add step
-all_in_step ps files dir (suc count) old new folder within (between, before, last) step =
+pub all_in_step : (given : FilterValue) (ps : List PublishedValue) (files : Files) (dir : List ℕ) (count : ℕ) (old new : Saved)
+    → IsFolderOf ps files dir → old.number + count ≤ length ps → AddsAll files dir count old new → IsInStep ps given old
+    → IsInStep ps given new
+all_in_step given ps files dir zero old new folder within add step = rw add step
+all_in_step given ps files dir (suc count) old new folder within (between, before, last) step =
     let number = adds_number files dir count old between before in
-    step_in_step ps files dir between new folder (omega (arith, number)) last
-    (all_in_step ps files dir count old between folder (omega arith) before step)
+    step_in_step given ps files dir between new folder (omega (arith, number)) last
+    (all_in_step given ps files dir count old between folder (omega arith) before step)
 
 -- the base stays
 all_base : (files : Files) (dir : List ℕ) (count : ℕ) (old new : Saved) → AddsAll files dir count old new → new.base ≡ old.base
@@ -102,26 +102,26 @@ all_base files dir zero old new add = ap (λ (v : Saved). v.base) add
 all_base files dir (suc count) old new (between, before, last) = last.base ∙ all_base files dir count old between before
 
 -- what a run reaches over the folder of published sequences, from a save in step with them
-pub record Reached (ps : List PublishedValue) (dir save : List ℕ) (files : Files) (base number : ℕ) (text : List ℕ) (report : ReportValue) : Type 0 where
+pub record Reached (given : FilterValue) (ps : List PublishedValue) (dir save : List ℕ) (files : Files) (base number : ℕ) (text : List ℕ) (report : ReportValue) : Type 0 where
   pub count : ℕ
   pub value : Saved
   pub spelled : SpellsSave text value
   pub base_is : value.base ≡ base
   pub value_is : value.number ≡ number + count
-  pub in_step : IsInStep ps value
+  pub in_step : IsInStep ps given value
   pub far : (number + count ≡ length ps) ⊎ (is_lost files dir (number + count + 1) ≡ true)
   pub report_is : report ≡ follow_report_of (ranges number count) (lost_numbers files dir (number + count) (length ps)) (number + count)
 
-pub reached_of : (ps : List PublishedValue) (base number : ℕ) (dir save : List ℕ) (files : Files) (text : List ℕ)
-    (report : ReportValue) → IsFolderOf ps files dir → IsSaveOf ps base number (files save)
-    → IsFollowing dir save files text report → Reached ps dir save files base number text report
-reached_of ps base number dir save files text report folder saved run =
-    let same : run.start ≡ saved.value = one_saved (files save) run.start saved.value run.started.saved saved.saved in
+pub reached_of : (given : FilterValue) (ps : List PublishedValue) (base number : ℕ) (dir save : List ℕ) (files : Files) (text : List ℕ)
+    (report : ReportValue) → IsFolderOf ps files dir → IsSaveOf ps given base number (files save)
+    → IsFollowing given dir save files text report → Reached given ps dir save files base number text report
+reached_of given ps base number dir save files text report folder saved run =
+    let same : run.start ≡ saved.value = one_saved given (files save) run.start saved.value run.started.saved saved.saved in
     let start_is : run.start.number ≡ number = ap (λ (v : Saved). v.number) same ∙ saved.number_is in
     let top_is : run.top.sequence ≡ length ps = top_number ps (files (top_name_of dir)) run.top folder.sequences folder.top run.started.top_is in
     let until = run.goes_on.until in
     let sum = run.goes_on.number in
-    let step : IsInStep ps run.start = rw same saved.in_step in
+    let step : IsInStep ps given run.start = rw same saved.in_step in
     let value_is : run.reached.number ≡ number + run.count = rw start_is at sum in
     record {
       count = run.count;
@@ -129,7 +129,7 @@ reached_of ps base number dir save files text report folder saved run =
       spelled = run.spelled;
       base_is = all_base files dir run.count run.start run.reached run.goes_on.added ∙ (ap (λ (v : Saved). v.base) same ∙ saved.base_is);
       value_is = value_is;
-      in_step = all_in_step ps files dir run.count run.start run.reached folder (omega (arith, sum, until, top_is)) run.goes_on.added step;
+      in_step = all_in_step given ps files dir run.count run.start run.reached folder (omega (arith, sum, until, top_is)) run.goes_on.added step;
       far = elim run.goes_on.far [
         | inl top ↦ inl (sym value_is ∙ (top ∙ top_is))
         | inr lost ↦ inr (rw (← value_is) lost)
@@ -137,11 +137,11 @@ reached_of ps base number dir save files text report folder saved run =
       report_is = rw (← value_is, ← top_is, ← start_is) run.report_is;
     }
 
-pub in_step_after : (ps : List PublishedValue) (base number : ℕ) (dir save : List ℕ) (old new : Files) (report : ReportValue)
-    → IsFolderOf ps old dir → IsSaveOf ps base number (old save) → IsFollowed dir save old new report
-    → IsInStepAfter ps base number dir save old new report
-in_step_after ps base number dir save old new report folder saved run =
-    let r = reached_of ps base number dir save old run.text report folder saved run.following in
+pub in_step_after : (given : FilterValue) (ps : List PublishedValue) (base number : ℕ) (dir save : List ℕ) (old new : Files) (report : ReportValue)
+    → IsFolderOf ps old dir → IsSaveOf ps given base number (old save) → IsFollowed given dir save old new report
+    → IsInStepAfter ps given base number dir save old new report
+in_step_after given ps base number dir save old new report folder saved run =
+    let r = reached_of given ps base number dir save old run.text report folder saved run.following in
     record {
       count = r.count;
       saved = record {

@@ -1,6 +1,7 @@
 -- A lag that is told, and why one isn't.
 use Rattle.std.proofs.Common.{◌≡◌, ℕ, ◌≤◌, List, length, take, Option, Some, None, inl, inr, arith, refl, sym, ap, ◌∙◌}
 use Rattle.std.proofs.lemmas.Option.{same_Some}
+use Rattle.osm_model.specs.Filter.{FilterValue}
 use Rattle.osm_save.specs.Head.{BeginsSave, head_of, max_head}
 use Rattle.osm_save.specs.declared.head.Head.{Head}
 use Rattle.osm_save.specs.declared.save.Saved.{Saved}
@@ -58,7 +59,7 @@ is_lag dir save files start top report begun told = record {
   start = start;
   top = top;
   begun = begun;
-  saved = λ v saved. head_is (files save) start v begun.head saved;
+  saved = λ given v saved. head_is given (files save) start v begun.head saved;
   behind = told.behind;
   seconds = told.seconds;
   behind_is = told.behind_is;
@@ -107,15 +108,15 @@ top_time ps None top t there = absurd there
 top_time ps (Some bytes) top (inl a) there = absurd (let e = a.1 in cc)
 top_time ps (Some bytes) top (inr a) there = ap (λ (s : StateValue). s.time) (one_state bytes top _ there.names a.1.names)
 
-start_time : (ps : List PublishedValue) (base number : ℕ) (told : Option (List ℕ)) (saved : IsSaveOf ps base number told) → saved.value.time ≡ time_at ps number
-start_time ps base number told saved = saved.in_step.time ∙ ap (time_at ps) saved.number_is
+start_time : (given : FilterValue) (ps : List PublishedValue) (base number : ℕ) (told : Option (List ℕ)) (saved : IsSaveOf ps given base number told) → saved.value.time ≡ time_at ps number
+start_time given ps base number told saved = saved.in_step.time ∙ ap (time_at ps) saved.number_is
 
-pub lag_of : (ps : List PublishedValue) (base number : ℕ) (dir save : List ℕ) (files : Files) (report : ReportValue)
-    → IsFolderOf ps files dir → IsSaveOf ps base number (files save) → IsLag dir save files report → IsLagOf ps number report
-lag_of ps base number dir save files report folder saved lag =
-    let same : lag.start ≡ head_of saved.value = lag.saved saved.value saved.saved in
+pub lag_of : (given : FilterValue) (ps : List PublishedValue) (base number : ℕ) (dir save : List ℕ) (files : Files) (report : ReportValue)
+    → IsFolderOf ps files dir → IsSaveOf ps given base number (files save) → IsLag dir save files report → IsLagOf ps number report
+lag_of given ps base number dir save files report folder saved lag =
+    let same : lag.start ≡ head_of saved.value = lag.saved given saved.value saved.saved in
     let start_is : lag.start.number ≡ number = ap (λ (h : Head). h.number) same ∙ saved.number_is in
-    let time_is : lag.start.time ≡ time_at ps number = ap (λ (h : Head). h.time) same ∙ start_time ps base number (files save) saved in
+    let time_is : lag.start.time ≡ time_at ps number = ap (λ (h : Head). h.time) same ∙ start_time given ps base number (files save) saved in
     let top_is : lag.top.sequence ≡ length ps = top_number ps (files (top_name_of dir)) lag.top folder.sequences folder.top lag.begun.top_is in
     let top_at : lag.top.time ≡ (sequence_at ps (length ps)).time = top_time ps (files (top_name_of dir)) lag.top folder.top lag.begun.top_is in
     record {
@@ -126,33 +127,33 @@ lag_of ps base number dir save files report folder saved lag =
       report_is = lag.report_is;
     }
 
-no_bad_head : (told : Option (List ℕ)) (v : Saved) → IsSaved told v → IsBadHead told → ⊥
-no_bad_head None v s b = (let e = b.there in cc)
-no_bad_head (Some bytes) v s b = b.nothing (head_of v) (rw (← same_Some bytes b.bytes b.there) (save_has_head bytes v s.1))
+no_bad_head : (given : FilterValue) (told : Option (List ℕ)) (v : Saved) → IsSaved given told v → IsBadHead told → ⊥
+no_bad_head given None v s b = (let e = b.there in cc)
+no_bad_head given (Some bytes) v s b = b.nothing (head_of v) (rw (← same_Some bytes b.bytes b.there) (save_has_head bytes v s.1))
 
-pub lag_refuses : (ps : List PublishedValue) (base number : ℕ) (dir save : List ℕ) (files : Files) (known : Type 0)
-    (fault : RunFault) → NoFaultBesideState → known → IsFolderOf ps files dir → IsSaveOf ps base number (files save)
+pub lag_refuses : (given : FilterValue) (ps : List PublishedValue) (base number : ℕ) (dir save : List ℕ) (files : Files) (known : Type 0)
+    (fault : RunFault) → NoFaultBesideState → known → IsFolderOf ps files dir → IsSaveOf ps given base number (files save)
     → LagStops known dir save files fault → LagRefuses ps number fault
-lag_refuses ps base number dir save files known WantOfMemory law sure folder saved h = tt
-lag_refuses ps base number dir save files known (ReadFault file) law sure folder saved h = tt
-lag_refuses ps base number dir save files known (BadSave line) law sure folder saved h = no_bad_head (files save) saved.value saved.saved (h sure)
-lag_refuses ps base number dir save files known (Absent Top) law sure folder saved h =
+lag_refuses given ps base number dir save files known WantOfMemory law sure folder saved h = tt
+lag_refuses given ps base number dir save files known (ReadFault file) law sure folder saved h = tt
+lag_refuses given ps base number dir save files known (BadSave line) law sure folder saved h = no_bad_head given (files save) saved.value saved.saved (h sure)
+lag_refuses given ps base number dir save files known (Absent Top) law sure folder saved h =
     (refl, none_published ps (files (top_name_of dir)) folder.top (h sure).1)
-lag_refuses ps base number dir save files known (TooLarge Top) law sure folder saved h = small_top ps (files (top_name_of dir)) folder.top (h sure).1
-lag_refuses ps base number dir save files known (BadState Top cause) law sure folder saved h =
+lag_refuses given ps base number dir save files known (TooLarge Top) law sure folder saved h = small_top ps (files (top_name_of dir)) folder.top (h sure).1
+lag_refuses given ps base number dir save files known (BadState Top cause) law sure folder saved h =
     good_top law ps (files (top_name_of dir)) cause folder.top (h sure).1
-lag_refuses ps base number dir save files known TopBehind law sure folder saved h =
+lag_refuses given ps base number dir save files known TopBehind law sure folder saved h =
     let b = h sure in
-    let same : b.start ≡ head_of saved.value = head_is (files save) b.start saved.value b.begun.head saved.saved in
+    let same : b.start ≡ head_of saved.value = head_is given (files save) b.start saved.value b.begun.head saved.saved in
     let start_is = ap (λ (h : Head). h.number) same in
     let top_is = top_number ps (files (top_name_of dir)) b.top folder.sequences folder.top b.begun.top_is in
     let within = saved.in_step.within in
     let below = b.below in
     omega (arith, start_is, top_is, within, below)
-lag_refuses ps base number dir save files known TimeBehind law sure folder saved h =
+lag_refuses given ps base number dir save files known TimeBehind law sure folder saved h =
     let b = h sure in
-    let same : b.start ≡ head_of saved.value = head_is (files save) b.start saved.value b.begun.head saved.saved in
-    let time_is : b.start.time ≡ time_at ps number = ap (λ (h : Head). h.time) same ∙ start_time ps base number (files save) saved in
+    let same : b.start ≡ head_of saved.value = head_is given (files save) b.start saved.value b.begun.head saved.saved in
+    let time_is : b.start.time ≡ time_at ps number = ap (λ (h : Head). h.time) same ∙ start_time given ps base number (files save) saved in
     let top_at : b.top.time ≡ (sequence_at ps (length ps)).time = top_time ps (files (top_name_of dir)) b.top folder.top b.begun.top_is in
     (b.time, sym time_is ∙ b.time_is, rw (← top_at) b.below)
-lag_refuses ps base number dir save files known fault law sure folder saved h = absurd h
+lag_refuses given ps base number dir save files known fault law sure folder saved h = absurd h

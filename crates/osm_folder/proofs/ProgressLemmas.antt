@@ -3,6 +3,7 @@ use Rattle.std.proofs.Common.{◌≡◌, ℕ, zero, suc, ◌+◌, ◌-◌, ◌<�
 use Rattle.std.proofs.Common.{arith, refl, sym, ap, subst, ◌∙◌}
 use Rattle.std.specs.Prelude.{◌⊎◌, min, Result, Ok, Err}
 use Rattle.std.proofs.lemmas.Bool.{cases_lt}
+use Rattle.osm_model.specs.Filter.{FilterValue}
 use Rattle.osm_save.specs.Save.{SpellsSave}
 use Rattle.osm_save.specs.declared.save.Saved.{Saved}
 use Rattle.osm_state.proofs.StateLemmas.{one_state}
@@ -97,51 +98,51 @@ content_same (Mismatch j) a b c d = sym c ∙ d
 content_same (BadChange (Sequence j suffix) place why) a b c d = sym c ∙ d
 content_same fault a b c d = absurd c
 
-start_content : (known : Type 0) (dir save : List ℕ) (files : Files) (fault : RunFault) (k : ℕ)
-    → StartStops known dir save files fault → IsOfContent fault k → ⊥
-start_content known dir save files (TooLarge (Sequence j suffix)) k h c = h
-start_content known dir save files (BadState (Sequence j State) cause) k h c = h
-start_content known dir save files (Mismatch j) k h c = h
-start_content known dir save files (BadChange (Sequence j suffix) place why) k h c = h
-start_content known dir save files fault k h c = c
+start_content : (given : FilterValue) (known : Type 0) (dir save : List ℕ) (files : Files) (fault : RunFault) (k : ℕ)
+    → StartStops known given dir save files fault → IsOfContent fault k → ⊥
+start_content given known dir save files (TooLarge (Sequence j suffix)) k h c = h
+start_content given known dir save files (BadState (Sequence j State) cause) k h c = h
+start_content given known dir save files (Mismatch j) k h c = h
+start_content given known dir save files (BadChange (Sequence j suffix) place why) k h c = h
+start_content given known dir save files fault k h c = c
 
-beyond_content : (known : Type 0) (dir save : List ℕ) (files : Files) (fault : RunFault) (k : ℕ)
-    → BeyondStops known dir save files fault → IsOfContent fault k → ⊥
-beyond_content known dir save files (TooLarge (Sequence j suffix)) k h c = h
-beyond_content known dir save files (BadState (Sequence j State) cause) k h c = h
-beyond_content known dir save files (Mismatch j) k h c = h
-beyond_content known dir save files (BadChange (Sequence j suffix) place why) k h c = h
-beyond_content known dir save files fault k h c = c
+beyond_content : (given : FilterValue) (known : Type 0) (dir save : List ℕ) (files : Files) (fault : RunFault) (k : ℕ)
+    → BeyondStops known given dir save files fault → IsOfContent fault k → ⊥
+beyond_content given known dir save files (TooLarge (Sequence j suffix)) k h c = h
+beyond_content given known dir save files (BadState (Sequence j State) cause) k h c = h
+beyond_content given known dir save files (Mismatch j) k h c = h
+beyond_content given known dir save files (BadChange (Sequence j suffix) place why) k h c = h
+beyond_content given known dir save files fault k h c = c
 
-save_content : (known : Type 0) (dir save : List ℕ) (files : Files) (fault : RunFault) (k : ℕ)
-    → SaveStops known dir save files fault → IsOfContent fault k → ⊥
-save_content known dir save files (TooLarge (Sequence j suffix)) k h c = h
-save_content known dir save files (BadState (Sequence j State) cause) k h c = h
-save_content known dir save files (Mismatch j) k h c = h
-save_content known dir save files (BadChange (Sequence j suffix) place why) k h c = h
-save_content known dir save files fault k h c = c
+save_content : (given : FilterValue) (known : Type 0) (dir save : List ℕ) (files : Files) (fault : RunFault) (k : ℕ)
+    → SaveStops known given dir save files fault → IsOfContent fault k → ⊥
+save_content given known dir save files (TooLarge (Sequence j suffix)) k h c = h
+save_content given known dir save files (BadState (Sequence j State) cause) k h c = h
+save_content given known dir save files (Mismatch j) k h c = h
+save_content given known dir save files (BadChange (Sequence j suffix) place why) k h c = h
+save_content given known dir save files fault k h c = c
 
 -- over the folder of what was published no number is faulty
-pub refuses_content : (ps : List PublishedValue) (told : Option (List ℕ)) (fault : RunFault) (k : ℕ)
-    → FollowRefuses ps told fault → IsOfContent fault k → ⊥
-refuses_content ps told (TooLarge (Sequence j suffix)) k h c = (let bad : Sequence j suffix ≡ Save = h.0 in cc)
-refuses_content ps told (BadState (Sequence j State) cause) k h c = h
-refuses_content ps told (Mismatch j) k h c = h
-refuses_content ps told (BadChange (Sequence j suffix) place why) k h c = h
-refuses_content ps told fault k h c = c
+pub refuses_content : (given : FilterValue) (ps : List PublishedValue) (told : Option (List ℕ)) (fault : RunFault) (k : ℕ)
+    → FollowRefuses ps given told fault → IsOfContent fault k → ⊥
+refuses_content given ps told (TooLarge (Sequence j suffix)) k h c = (let bad : Sequence j suffix ≡ Save = h.0 in cc)
+refuses_content given ps told (BadState (Sequence j State) cause) k h c = h
+refuses_content given ps told (Mismatch j) k h c = h
+refuses_content given ps told (BadChange (Sequence j suffix) place why) k h c = h
+refuses_content given ps told fault k h c = c
 
 -- the way to a faulty number
-faulty_at : (known : Type 0) (dir save : List ℕ) (files : Files) (fault : RunFault) (number : ℕ)
-    → IsOfContent fault number → FollowStops known dir save files fault
-    → (known → ComesTo dir save files number) × NumberStops known dir files number fault
-faulty_at known dir save files fault number content (inl h) = absurd (start_content known dir save files fault number h content)
-faulty_at known dir save files fault number content (inr (inl h)) =
+faulty_at : (given : FilterValue) (known : Type 0) (dir save : List ℕ) (files : Files) (fault : RunFault) (number : ℕ)
+    → IsOfContent fault number → FollowStops known given dir save files fault
+    → (known → ComesTo given dir save files number) × NumberStops known dir files number fault
+faulty_at given known dir save files fault number content (inl h) = absurd (start_content given known dir save files fault number h content)
+faulty_at given known dir save files fault number content (inr (inl h)) =
     let same = stops_number known dir files h.number number fault h.stops content in (
-      λ yes. subst (λ n. ComesTo dir save files n) same (h.comes yes),
+      λ yes. subst (λ n. ComesTo given dir save files n) same (h.comes yes),
       subst (λ n. NumberStops known dir files n fault) same h.stops,
     )
-faulty_at known dir save files fault number content (inr (inr (inl h))) = absurd (beyond_content known dir save files fault number h content)
-faulty_at known dir save files fault number content (inr (inr (inr h))) = absurd (save_content known dir save files fault number h content)
+faulty_at given known dir save files fault number content (inr (inr (inl h))) = absurd (beyond_content given known dir save files fault number h content)
+faulty_at given known dir save files fault number content (inr (inr (inr h))) = absurd (save_content given known dir save files fault number h content)
 
 same_top : (told : Option (List ℕ)) (a b : StateValue) → IsThere told (IsStateFile a.sequence a.time)
     → IsThere told (IsStateFile b.sequence b.time) → a.sequence ≡ b.sequence
@@ -155,10 +156,10 @@ record IsAfter (dir save : List ℕ) (files : Files) (number : ℕ) (start : Sav
   pub below : last < top
   pub each : (k : ℕ) → start.number < k → k < number → IsReadable files dir k
 
-begun_after : (dir save : List ℕ) (files : Files) (number : ℕ) (start : Saved) (last : ℕ) → ComesTo dir save files number
-    → (b : IsBegun dir save files number start last) → IsAfter dir save files number start last b.top.sequence
-begun_after dir save files number start last c b =
-    let same : c.start ≡ start = one_saved (files save) c.start start c.started.saved b.started.saved in
+begun_after : (given : FilterValue) (dir save : List ℕ) (files : Files) (number : ℕ) (start : Saved) (last : ℕ) → ComesTo given dir save files number
+    → (b : IsBegun given dir save files number start last) → IsAfter dir save files number start last b.top.sequence
+begun_after given dir save files number start last c b =
+    let same : c.start ≡ start = one_saved given (files save) c.start start c.started.saved b.started.saved in
     let top = same_top (files (top_name_of dir)) c.top b.top c.started.top_is b.started.top_is in
     let above : start.number < number = subst (λ (v : Saved). v.number < number) same c.above in
     let until = c.until in
@@ -191,16 +192,16 @@ none_lost files dir n last at =
     let nothing : min 64 (last - n) ≡ 0 = omega (arith, at) in
     rw nothing refl
 
-from_count : (known : Type 0) (dir save : List ℕ) (files : Files) (fault : RunFault) (text : List ℕ) (report : ReportValue)
-    (start reached : Saved) (top : StateValue) (count : ℕ) → IsStarted dir save files start top
+from_count : (given : FilterValue) (known : Type 0) (dir save : List ℕ) (files : Files) (fault : RunFault) (text : List ℕ) (report : ReportValue)
+    (start reached : Saved) (top : StateValue) (count : ℕ) → IsStarted given dir save files start top
     → AddsAll files dir count start reached → reached.number ≡ start.number + count → start.number < reached.number
     → reached.number < top.sequence → IsOfContent fault (reached.number + 1)
     → NumberStops known dir files (reached.number + 1) fault → SpellsSave text reached
     → report ≡ follow_report_of (ranges start.number count) [] reached.number
-    → ComesBefore known dir save files fault text report
-from_count known dir save files fault text report start reached top zero started added sum some below content stops spelled is =
+    → ComesBefore known given dir save files fault text report
+from_count given known dir save files fault text report start reached top zero started added sum some below content stops spelled is =
     absurd (omega (arith, sum, some))
-from_count known dir save files fault text report start reached top (suc count) started added sum some below content stops spelled is =
+from_count given known dir save files fault text report start reached top (suc count) started added sum some below content stops spelled is =
     record {
       start = start;
       top = top;
@@ -215,18 +216,18 @@ from_count known dir save files fault text report start reached top (suc count) 
       report_is = is;
     }
 
-pub comes_before : (known : Type 0) (dir save : List ℕ) (files : Files) (fault : RunFault) (number : ℕ) (text : List ℕ)
-    (report : ReportValue) → IsOfContent fault number → FollowStops known dir save files fault → known
-    → IsMadeBefore dir save files number text report → ComesBefore known dir save files fault text report
-comes_before known dir save files fault number text report content first sure m =
-    let at = faulty_at known dir save files fault number content first in
-    let a = begun_after dir save files number m.start m.last (at.0 sure) m.begun in
+pub comes_before : (given : FilterValue) (known : Type 0) (dir save : List ℕ) (files : Files) (fault : RunFault) (number : ℕ) (text : List ℕ)
+    (report : ReportValue) → IsOfContent fault number → FollowStops known given dir save files fault → known
+    → IsMadeBefore given dir save files number text report → ComesBefore known given dir save files fault text report
+comes_before given known dir save files fault number text report content first sure m =
+    let at = faulty_at given known dir save files fault number content first in
+    let a = begun_after given dir save files number m.start m.last (at.0 sure) m.begun in
     let reached = reaches_last dir save files number m.start m.last _ m.made.count m.made.reached a m.made.goes_on in
     let last_is = a.last_is in
     let below = a.below in
     let above = m.above in
     let next : number ≡ m.made.reached.number + 1 = omega (arith, reached, last_is) in
-    from_count known dir save files fault text report m.start m.made.reached m.begun.top m.made.count m.begun.started
+    from_count given known dir save files fault text report m.start m.made.reached m.begun.top m.made.count m.begun.started
     m.made.goes_on.added m.made.goes_on.number (omega (arith, reached, above)) (omega (arith, reached, below))
     (subst (λ n. IsOfContent fault n) next content) (subst (λ n. NumberStops known dir files n fault) next at.1)
     m.made.spelled (m.made.report_is ∙ ap (λ xs. follow_report_of (ranges m.start.number m.made.count) xs m.made.reached.number)
@@ -235,20 +236,20 @@ comes_before known dir save files fault number text report content first sure m 
 -- ---- why the word stops
 
 -- any other fault stays
-pub other_stops : (known : Type 0) (dir save : List ℕ) (files : Files) (fault : RunFault)
-    → ((k : ℕ) → IsOfContent fault k → ⊥) → FollowStops known dir save files fault
-    → ProgressStops known dir save files fault
-other_stops known dir save files fault none stops = inl (record { stops = stops; next = λ sure k content. absurd (none k content) })
+pub other_stops : (given : FilterValue) (known : Type 0) (dir save : List ℕ) (files : Files) (fault : RunFault)
+    → ((k : ℕ) → IsOfContent fault k → ⊥) → FollowStops known given dir save files fault
+    → ProgressStops known given dir save files fault
+other_stops given known dir save files fault none stops = inl (record { stops = stops; next = λ sure k content. absurd (none k content) })
 
 -- nothing comes before the faulty number
-pub next_stops : (known : Type 0) (dir save : List ℕ) (files : Files) (fault : RunFault) (number : ℕ)
-    → IsOfContent fault number → FollowStops known dir save files fault
-    → (known → IsNothingBefore dir save files number) → ProgressStops known dir save files fault
-next_stops known dir save files fault number content first nothing = inl (record {
+pub next_stops : (given : FilterValue) (known : Type 0) (dir save : List ℕ) (files : Files) (fault : RunFault) (number : ℕ)
+    → IsOfContent fault number → FollowStops known given dir save files fault
+    → (known → IsNothingBefore given dir save files number) → ProgressStops known given dir save files fault
+next_stops given known dir save files fault number content first nothing = inl (record {
   stops = first;
   next = λ sure k other. (let n = nothing sure in
-      let at = faulty_at known dir save files fault number content first in
-      let a = begun_after dir save files number n.start n.last (at.0 sure) n.begun in
+      let at = faulty_at given known dir save files fault number content first in
+      let a = begun_after given dir save files number n.start n.last (at.0 sure) n.begun in
       let last_is = a.last_is in
       let below = n.below in
       let above = a.above in
@@ -256,10 +257,10 @@ next_stops known dir save files fault number content first nothing = inl (record
       (n.start, n.begun.started.saved, (let is : k ≡ n.start.number + 1 = omega (arith, same, last_is, below, above) in is)));
 })
 
-way_stops : NoFaultBesideState → (known : Type 0) (dir save : List ℕ) (files : Files) (number : ℕ) (start : Saved) (last : ℕ)
-    (fault : RunFault) → (known → ComesTo dir save files number) → (known → IsBegun dir save files number start last)
-    → StopsOnTheWay known dir files start.number last fault → ProgressStops known dir save files fault
-way_stops law known dir save files number start last fault comes begun way = inl (record {
+way_stops : (given : FilterValue) → NoFaultBesideState → (known : Type 0) (dir save : List ℕ) (files : Files) (number : ℕ) (start : Saved) (last : ℕ)
+    (fault : RunFault) → (known → ComesTo given dir save files number) → (known → IsBegun given dir save files number start last)
+    → StopsOnTheWay known dir files start.number last fault → ProgressStops known given dir save files fault
+way_stops given law known dir save files number start last fault comes begun way = inl (record {
   stops = inr (inl (record {
     number = way.number;
     comes = λ sure. (let b = begun sure in
@@ -278,75 +279,75 @@ way_stops law known dir save files number start last fault comes begun way = inl
   }));
   next = λ sure k content. absurd (let b = begun sure in
       let n = way.next sure in
-      let a = begun_after dir save files number start last (comes sure) b in
+      let a = begun_after given dir save files number start last (comes sure) b in
       let until = n.until in
       let last_is = a.last_is in
       let p = a.each way.number n.above (omega (arith, until, last_is)) in
       right_number law known dir files p.0 fault k sure p.2 (subst (λ j. NumberStops known dir files j fault) (sym p.1) way.stops) content);
 })
 
-missing_stops : (known : Type 0) (dir save : List ℕ) (files : Files) (number : ℕ) (start : Saved) (last count : ℕ)
-    (reached : Saved) (fault : RunFault) → (known → ComesTo dir save files number)
-    → (known → IsBegun dir save files number start last) → (known → GoesOn files dir start last count reached)
-    → MissingStops known dir files reached.number last fault → ProgressStops known dir save files fault
-missing_stops known dir save files number start last count reached WantOfMemory comes begun goes_on stops =
+missing_stops : (given : FilterValue) (known : Type 0) (dir save : List ℕ) (files : Files) (number : ℕ) (start : Saved) (last count : ℕ)
+    (reached : Saved) (fault : RunFault) → (known → ComesTo given dir save files number)
+    → (known → IsBegun given dir save files number start last) → (known → GoesOn files dir start last count reached)
+    → MissingStops known dir files reached.number last fault → ProgressStops known given dir save files fault
+missing_stops given known dir save files number start last count reached WantOfMemory comes begun goes_on stops =
     inl (record { stops = inr (inr (inl tt)); next = λ sure k content. absurd content })
-missing_stops known dir save files number start last count reached (ReadFault (Sequence j suffix)) comes begun goes_on stops =
+missing_stops given known dir save files number start last count reached (ReadFault (Sequence j suffix)) comes begun goes_on stops =
     inl (record {
-      stops = inr (inr (inl (λ sure. absurd (let a = begun_after dir save files number start last (comes sure) (begun sure) in
+      stops = inr (inr (inl (λ sure. absurd (let a = begun_after given dir save files number start last (comes sure) (begun sure) in
           let all = reaches_last dir save files number start last _ count reached a (goes_on sure) in
           let beyond = stops.0.beyond in
           let until = stops.0.until in
           omega (arith, all, beyond, until)))));
       next = λ sure k content. absurd content;
     })
-missing_stops known dir save files number start last count reached fault comes begun goes_on stops = absurd stops
+missing_stops given known dir save files number start last count reached fault comes begun goes_on stops = absurd stops
 
-text_stops : (known : Type 0) (dir save : List ℕ) (files : Files) (first : RunFault) (number : ℕ) (start : Saved) (last : ℕ)
-    (fault : RunFault) → IsOfContent first number → FollowStops known dir save files first → start.number < last
-    → (known → IsBegun dir save files number start last) → TextStops known dir files start last fault
-    → ProgressStops known dir save files fault
-text_stops known dir save files first number start last WantOfMemory content stops above begun t =
+text_stops : (given : FilterValue) (known : Type 0) (dir save : List ℕ) (files : Files) (first : RunFault) (number : ℕ) (start : Saved) (last : ℕ)
+    (fault : RunFault) → IsOfContent first number → FollowStops known given dir save files first → start.number < last
+    → (known → IsBegun given dir save files number start last) → TextStops known dir files start last fault
+    → ProgressStops known given dir save files fault
+text_stops given known dir save files first number start last WantOfMemory content stops above begun t =
     inl (record { stops = inr (inr (inr tt)); next = λ sure k other. absurd other })
-text_stops known dir save files first number start last (TooLarge file) content stops above begun t =
+text_stops given known dir save files first number start last (TooLarge file) content stops above begun t =
     rw t.0 (inr (λ sure. (let big = t.1 sure in (
       first,
       big.text,
       big.report,
-      comes_before known dir save files first number big.text big.report content stops sure
+      comes_before given known dir save files first number big.text big.report content stops sure
           (record { start = start; last = last; begun = begun sure; above = above; made = big.made }),
       big.over,
     ))))
-text_stops known dir save files first number start last fault content stops above begun t = absurd t
+text_stops given known dir save files first number start last fault content stops above begun t = absurd t
 
 -- what comes before the faulty number isn't made
-pub made_before_stops : NoFaultBesideState → (known : Type 0) (dir save : List ℕ) (files : Files) (first fault : RunFault)
-    (number : ℕ) → IsOfContent first number → FollowStops known dir save files first
-    → MadeBeforeStops known dir save files number fault → ProgressStops known dir save files fault
-made_before_stops law known dir save files first fault number content stops (inl h) =
-    inl (record { stops = inl h; next = λ sure k other. absurd (start_content known dir save files fault k h other) })
-made_before_stops law known dir save files first fault number content stops (inr b) = by_reason b.stops
+pub made_before_stops : (given : FilterValue) → NoFaultBesideState → (known : Type 0) (dir save : List ℕ) (files : Files) (first fault : RunFault)
+    (number : ℕ) → IsOfContent first number → FollowStops known given dir save files first
+    → MadeBeforeStops known given dir save files number fault → ProgressStops known given dir save files fault
+made_before_stops given law known dir save files first fault number content stops (inl h) =
+    inl (record { stops = inl h; next = λ sure k other. absurd (start_content given known dir save files fault k h other) })
+made_before_stops given law known dir save files first fault number content stops (inr b) = by_reason b.stops
   where
-    comes : known → ComesTo dir save files number
-    comes = (faulty_at known dir save files first number content stops).0
+    comes : known → ComesTo given dir save files number
+    comes = (faulty_at given known dir save files first number content stops).0
 
     by_reason : StopsOnTheWay known dir files b.start.number b.last fault
         ⊎ (StopsBeyond known dir files b.start b.last fault
-        ⊎ TextStops known dir files b.start b.last fault) → ProgressStops known dir save files fault
-    by_reason (inl way) = way_stops law known dir save files number b.start b.last fault comes b.begun way
-    by_reason (inr (inl m)) = missing_stops known dir save files number b.start b.last m.count m.reached fault comes b.begun m.goes_on m.stops
-    by_reason (inr (inr t)) = text_stops known dir save files first number b.start b.last fault content stops b.above b.begun t
+        ⊎ TextStops known dir files b.start b.last fault) → ProgressStops known given dir save files fault
+    by_reason (inl way) = way_stops given law known dir save files number b.start b.last fault comes b.begun way
+    by_reason (inr (inl m)) = missing_stops given known dir save files number b.start b.last m.count m.reached fault comes b.begun m.goes_on m.stops
+    by_reason (inr (inr t)) = text_stops given known dir save files first number b.start b.last fault content stops b.above b.begun t
 
 -- the save of what comes before isn't written
-pub put_before_stops : (known : Type 0) (dir save : List ℕ) (files : Files) (first fault : RunFault) (number : ℕ)
-    (text : List ℕ) (report : ReportValue) → IsOfContent first number → FollowStops known dir save files first
-    → (known → IsMadeBefore dir save files number text report) → length text ≤ max_save → PutStops Save fault
-    → ProgressStops known dir save files fault
-put_before_stops known dir save files first WantOfMemory number text report content stops made small put =
+pub put_before_stops : (given : FilterValue) (known : Type 0) (dir save : List ℕ) (files : Files) (first fault : RunFault) (number : ℕ)
+    (text : List ℕ) (report : ReportValue) → IsOfContent first number → FollowStops known given dir save files first
+    → (known → IsMadeBefore given dir save files number text report) → length text ≤ max_save → PutStops Save fault
+    → ProgressStops known given dir save files fault
+put_before_stops given known dir save files first WantOfMemory number text report content stops made small put =
     inl (record { stops = inr (inr (inr tt)); next = λ sure k other. absurd other })
-put_before_stops known dir save files first (WriteFault file) number text report content stops made small put =
-    rw put (inr (λ sure. (first, text, report, comes_before known dir save files first number text report content stops sure (made sure), small)))
-put_before_stops known dir save files first fault number text report content stops made small put = absurd put
+put_before_stops given known dir save files first (WriteFault file) number text report content stops made small put =
+    rw put (inr (λ sure. (first, text, report, comes_before given known dir save files first number text report content stops sure (made sure), small)))
+put_before_stops given known dir save files first fault number text report content stops made small put = absurd put
 
 -- ---- the frame
 

@@ -1,6 +1,7 @@
 -- What a run of the follower reports, and what it saves.
 use Rattle.std.proofs.Common.{◌≡◌, ℕ, List, [], inr, arith, refl}
 use Rattle.std.specs.Prelude.{◌↔◌}
+use Rattle.osm_model.specs.Filter.{FilterValue}
 use Rattle.osm_save.specs.Save.{SpellsSave}
 use Rattle.osm_save.specs.declared.save.Saved.{Saved}
 use Rattle.osm_state.specs.State.{StateValue}
@@ -61,10 +62,10 @@ big_stops known files dir f g top applied missing (TooLarge file) t lost stops =
 ))
 big_stops known files dir f g top applied missing fault t lost stops = absurd stops
 
-pub following : (dir save : List ℕ) (files : Files) (start : Saved) (top : StateValue) (last : ℕ) (text : List ℕ)
-    (report : ReportValue) → IsStarted dir save files start top → last ≡ top.sequence
-    → IsMade files dir start last text report → IsFollowing dir save files text report
-following dir save files start top last text report started same made = record {
+pub following : (given : FilterValue) (dir save : List ℕ) (files : Files) (start : Saved) (top : StateValue) (last : ℕ) (text : List ℕ)
+    (report : ReportValue) → IsStarted given dir save files start top → last ≡ top.sequence
+    → IsMade files dir start last text report → IsFollowing given dir save files text report
+following given dir save files start top last text report started same made = record {
   start = start;
   top = top;
   started = started;

@@ -1,5 +1,6 @@
 -- A save that is shown, and why one isn't.
 use Rattle.std.proofs.Common.{◌≡◌, ℕ, ◌≤◌, List, length, Option, Some, refl, ap, ◌∙◌}
+use Rattle.osm_model.specs.Filter.{FilterValue}
 use Rattle.osm_save.specs.declared.save.Saved.{Saved}
 use Rattle.osm_follow.specs.Published.{PublishedValue, time_at}
 use Rattle.osm_folder.specs.Following.{IsSaveOf, IsSaved, max_save}
@@ -10,11 +11,11 @@ use Rattle.osm_folder.specs.declared.fault.RunFault.{RunFault}
 use Rattle.osm_folder.specs.declared.fault.RunFault.TheVariants.{WantOfMemory, BadSave, OtherFilter}
 use Rattle.osm_folder.proofs.InStepLemmas.{one_saved}
 
-pub shown_of : (ps : List PublishedValue) (base number : ℕ) (told : Option (List ℕ)) (report : ReportValue)
-    → IsSaveOf ps base number told → IsShown told report → IsShownOf ps base number report
-shown_of ps base number told report saved shown =
-    let here : IsSaved told shown.saved = rw shown.there (shown.small, shown.spelled) in
-    let same : shown.saved ≡ saved.value = one_saved told shown.saved saved.value here saved.saved in
+pub shown_of : (given : FilterValue) (ps : List PublishedValue) (base number : ℕ) (told : Option (List ℕ)) (report : ReportValue)
+    → IsSaveOf ps given base number told → IsShown told report → IsShownOf ps given base number report
+shown_of given ps base number told report saved shown =
+    let here : IsSaved given told shown.saved = rw shown.there (shown.small, shown.spelled) in
+    let same : shown.saved ≡ saved.value = one_saved given told shown.saved saved.value here saved.saved in
     let step = saved.in_step in
     record {
       view = view_of_saved shown.saved;
@@ -34,11 +35,11 @@ saved_stops known told bytes (BadSave line) there small h = λ sure. record { by
 saved_stops known told bytes fault there small h = absurd h
 
 -- such a text stops what goes on from it as well, and one of another filter does
-pub follower_stops : (known : Type 0) (told : Option (List ℕ)) (bytes : List ℕ) (fault : RunFault)
-    → (known → told ≡ Some bytes) → length bytes ≤ max_save → RestartStops bytes fault → FollowerStops known told fault
-follower_stops known told bytes WantOfMemory there small h = tt
-follower_stops known told bytes (BadSave line) there small h = λ sure. record { bytes = bytes; there = there sure; small = small; nothing = h }
-follower_stops known told bytes OtherFilter there small h = λ sure. record {
+pub follower_stops : (given : FilterValue) (known : Type 0) (told : Option (List ℕ)) (bytes : List ℕ) (fault : RunFault)
+    → (known → told ≡ Some bytes) → length bytes ≤ max_save → RestartStops given bytes fault → FollowerStops known given told fault
+follower_stops given known told bytes WantOfMemory there small h = tt
+follower_stops given known told bytes (BadSave line) there small h = λ sure. record { bytes = bytes; there = there sure; small = small; nothing = h }
+follower_stops given known told bytes OtherFilter there small h = λ sure. record {
   bytes = bytes;
   value = h.0;
   there = there sure;
@@ -46,4 +47,4 @@ follower_stops known told bytes OtherFilter there small h = λ sure. record {
   spelled = h.1;
   other = h.2;
 }
-follower_stops known told bytes fault there small h = absurd h
+follower_stops given known told bytes fault there small h = absurd h

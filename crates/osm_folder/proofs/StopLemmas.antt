@@ -1,6 +1,7 @@
 -- Why a run of the follower stops, and what the folder of published sequences refuses.
 use Rattle.std.proofs.Common.{◌≡◌, ℕ, ◌<◌, ◌≤◌, List, length, Option, Some, None, inl, inr, arith, refl, ap, ◌∙◌, subst}
 use Rattle.std.proofs.lemmas.Option.{same_Some}
+use Rattle.osm_model.specs.Filter.{FilterValue}
 use Rattle.osm_save.specs.declared.save.Saved.{Saved}
 use Rattle.osm_state.specs.State.{StateValue}
 use Rattle.osm_state.specs.StateLaws.{NoFaultBesideState}
@@ -22,10 +23,10 @@ use Rattle.osm_folder.proofs.RefusalLemmas.{good_top, small_top}
 use Rattle.osm_folder.proofs.ReportLemmas.{following}
 
 -- a number on the way
-way_stops : (known : Type 0) (dir save : List ℕ) (files : Files) (start : Saved) (top : StateValue)
-    (fault : RunFault) → (known → IsStarted dir save files start top)
-    → StopsOnTheWay known dir files start.number top.sequence fault → FollowStops known dir save files fault
-way_stops known dir save files start top fault started way = inr (inl (record {
+way_stops : (given : FilterValue) (known : Type 0) (dir save : List ℕ) (files : Files) (start : Saved) (top : StateValue)
+    (fault : RunFault) → (known → IsStarted given dir save files start top)
+    → StopsOnTheWay known dir files start.number top.sequence fault → FollowStops known given dir save files fault
+way_stops given known dir save files start top fault started way = inr (inl (record {
   number = way.number;
   comes = λ yes. (let next = way.next yes in record {
     start = start;
@@ -39,12 +40,12 @@ way_stops known dir save files start top fault started way = inr (inl (record {
 }))
 
 -- a number beyond the first lost one
-beyond_stops : (known : Type 0) (dir save : List ℕ) (files : Files) (start : Saved) (top : StateValue) (fault : RunFault)
-    → (known → IsStarted dir save files start top) → (count : ℕ) (reached : Saved)
+beyond_stops : (given : FilterValue) (known : Type 0) (dir save : List ℕ) (files : Files) (start : Saved) (top : StateValue) (fault : RunFault)
+    → (known → IsStarted given dir save files start top) → (count : ℕ) (reached : Saved)
     → (known → GoesOn files dir start top.sequence count reached)
-    → MissingStops known dir files reached.number top.sequence fault → BeyondStops known dir save files fault
-beyond_stops known dir save files start top WantOfMemory started count reached goes_on stops = tt
-beyond_stops known dir save files start top (ReadFault (Sequence number suffix)) started count reached goes_on stops =
+    → MissingStops known dir files reached.number top.sequence fault → BeyondStops known given dir save files fault
+beyond_stops given known dir save files start top WantOfMemory started count reached goes_on stops = tt
+beyond_stops given known dir save files start top (ReadFault (Sequence number suffix)) started count reached goes_on stops =
     λ yes. (
       record {
         start = start;
@@ -59,52 +60,52 @@ beyond_stops known dir save files start top (ReadFault (Sequence number suffix))
       },
       stops.1 yes,
     )
-beyond_stops known dir save files start top fault started count reached goes_on stops = absurd stops
+beyond_stops given known dir save files start top fault started count reached goes_on stops = absurd stops
 
 -- the save that is to be written
-text_stops : (known : Type 0) (dir save : List ℕ) (files : Files) (start : Saved) (top : StateValue) (fault : RunFault)
-    → (known → IsStarted dir save files start top) → TextStops known dir files start top.sequence fault
-    → SaveStops known dir save files fault
-text_stops known dir save files start top WantOfMemory started stops = tt
-text_stops known dir save files start top (TooLarge file) started stops =
+text_stops : (given : FilterValue) (known : Type 0) (dir save : List ℕ) (files : Files) (start : Saved) (top : StateValue) (fault : RunFault)
+    → (known → IsStarted given dir save files start top) → TextStops known dir files start top.sequence fault
+    → SaveStops known given dir save files fault
+text_stops given known dir save files start top WantOfMemory started stops = tt
+text_stops given known dir save files start top (TooLarge file) started stops =
     rw stops.0 (λ yes. (let big = stops.1 yes in (
       big.text,
       big.report,
-      following dir save files start top top.sequence big.text big.report (started yes) refl big.made,
+      following given dir save files start top top.sequence big.text big.report (started yes) refl big.made,
       big.over,
     )))
-text_stops known dir save files start top fault started stops = absurd stops
+text_stops given known dir save files start top fault started stops = absurd stops
 
-pub go_on_stops : (known : Type 0) (dir save : List ℕ) (files : Files) (start : Saved) (top : StateValue) (last : ℕ)
-    (fault : RunFault) → (known → IsStarted dir save files start top) → last ≡ top.sequence
-    → GoOnStops known dir files start last fault → FollowStops known dir save files fault
-go_on_stops known dir save files start top last fault started same stops = by_reason (subst (λ n. GoOnStops known dir files start n fault) same stops)
+pub go_on_stops : (given : FilterValue) (known : Type 0) (dir save : List ℕ) (files : Files) (start : Saved) (top : StateValue) (last : ℕ)
+    (fault : RunFault) → (known → IsStarted given dir save files start top) → last ≡ top.sequence
+    → GoOnStops known dir files start last fault → FollowStops known given dir save files fault
+go_on_stops given known dir save files start top last fault started same stops = by_reason (subst (λ n. GoOnStops known dir files start n fault) same stops)
   where
-    by_reason : GoOnStops known dir files start top.sequence fault → FollowStops known dir save files fault
-    by_reason (inl way) = way_stops known dir save files start top fault started way
-    by_reason (inr (inl b)) = inr (inr (inl (beyond_stops known dir save files start top fault started b.count b.reached b.goes_on b.stops)))
-    by_reason (inr (inr t)) = inr (inr (inr (text_stops known dir save files start top fault started t)))
+    by_reason : GoOnStops known dir files start top.sequence fault → FollowStops known given dir save files fault
+    by_reason (inl way) = way_stops given known dir save files start top fault started way
+    by_reason (inr (inl b)) = inr (inr (inl (beyond_stops given known dir save files start top fault started b.count b.reached b.goes_on b.stops)))
+    by_reason (inr (inr t)) = inr (inr (inr (text_stops given known dir save files start top fault started t)))
 
-pub put_save_stops : (known : Type 0) (dir save : List ℕ) (files : Files) (fault : RunFault)
-    → (known → HasText dir save files (λ text. length text ≤ max_save)) → PutStops Save fault
-    → FollowStops known dir save files fault
-put_save_stops known dir save files WantOfMemory has stops = inr (inr (inr tt))
-put_save_stops known dir save files (WriteFault file) has stops = rw stops (inr (inr (inr has)))
-put_save_stops known dir save files fault has stops = absurd stops
+pub put_save_stops : (given : FilterValue) (known : Type 0) (dir save : List ℕ) (files : Files) (fault : RunFault)
+    → (known → HasText given dir save files (λ text. length text ≤ max_save)) → PutStops Save fault
+    → FollowStops known given dir save files fault
+put_save_stops given known dir save files WantOfMemory has stops = inr (inr (inr tt))
+put_save_stops given known dir save files (WriteFault file) has stops = rw stops (inr (inr (inr has)))
+put_save_stops given known dir save files fault has stops = absurd stops
 
-pub put_save_refuses : (ps : List PublishedValue) (told : Option (List ℕ)) (fault : RunFault) → PutStops Save fault → FollowRefuses ps told fault
-put_save_refuses ps told WantOfMemory stops = tt
-put_save_refuses ps told (WriteFault file) stops = stops
-put_save_refuses ps told fault stops = absurd stops
+pub put_save_refuses : (given : FilterValue) (ps : List PublishedValue) (told : Option (List ℕ)) (fault : RunFault) → PutStops Save fault → FollowRefuses ps given told fault
+put_save_refuses given ps told WantOfMemory stops = tt
+put_save_refuses given ps told (WriteFault file) stops = stops
+put_save_refuses given ps told fault stops = absurd stops
 
-no_bad_save : (told : Option (List ℕ)) (v : Saved) → IsSaved told v → IsBadSave told → ⊥
-no_bad_save None v s b = (let e = b.there in cc)
-no_bad_save (Some bytes) v s b = b.nothing v (rw (← same_Some bytes b.bytes b.there) s.1)
+no_bad_save : (given : FilterValue) (told : Option (List ℕ)) (v : Saved) → IsSaved given told v → IsBadSave told → ⊥
+no_bad_save given None v s b = (let e = b.there in cc)
+no_bad_save given (Some bytes) v s b = b.nothing v (rw (← same_Some bytes b.bytes b.there) s.1)
 
-no_other_save : (ps : List PublishedValue) (base number : ℕ) (told : Option (List ℕ)) → IsSaveOf ps base number told → IsOtherSave told → ⊥
-no_other_save ps base number told saved o =
-    let here : IsSaved told o.value = rw o.there (o.small, o.spelled) in
-    let same : o.value ≡ saved.value = one_saved told o.value saved.value here saved.saved in
+no_other_save : (given : FilterValue) (ps : List PublishedValue) (base number : ℕ) (told : Option (List ℕ)) → IsSaveOf ps given base number told → IsOtherSave given told → ⊥
+no_other_save given ps base number told saved o =
+    let here : IsSaved given told o.value = rw o.there (o.small, o.spelled) in
+    let same : o.value ≡ saved.value = one_saved given told o.value saved.value here saved.saved in
     o.other (ap (λ (v : Saved). v.filter) same ∙ saved.in_step.filter_is)
 
 pub none_published : (ps : List PublishedValue) (told : Option (List ℕ)) → IsTop ps told → told ≡ None → length ps ≡ 0
@@ -112,84 +113,84 @@ none_published ps None (inl a) e = a.0
 none_published ps None (inr a) e = absurd a.1
 none_published ps (Some bytes) t e = (let bad : Some bytes ≡ None = e in cc)
 
-pub start_refuses : NoFaultBesideState → (known : Type 0) (ps : List PublishedValue) (base number : ℕ) (dir save : List ℕ)
-    (files : Files) (fault : RunFault) → known → IsFolderOf ps files dir → IsSaveOf ps base number (files save)
-    → StartStops known dir save files fault → StartRefuses ps (files save) fault
-start_refuses law known ps base number dir save files WantOfMemory sure folder saved h = tt
-start_refuses law known ps base number dir save files (ReadFault file) sure folder saved h = tt
-start_refuses law known ps base number dir save files (TooLarge Save) sure folder saved h = (refl, h sure)
-start_refuses law known ps base number dir save files (TooLarge Top) sure folder saved h = absurd (small_top ps (files (top_name_of dir)) folder.top (h sure).1)
-start_refuses law known ps base number dir save files (BadSave line) sure folder saved h = no_bad_save (files save) saved.value saved.saved (h sure)
-start_refuses law known ps base number dir save files OtherFilter sure folder saved h =
-    absurd (no_other_save ps base number (files save) saved (h sure))
-start_refuses law known ps base number dir save files (Absent Top) sure folder saved h =
+pub start_refuses : (given : FilterValue) → NoFaultBesideState → (known : Type 0) (ps : List PublishedValue) (base number : ℕ) (dir save : List ℕ)
+    (files : Files) (fault : RunFault) → known → IsFolderOf ps files dir → IsSaveOf ps given base number (files save)
+    → StartStops known given dir save files fault → StartRefuses ps (files save) fault
+start_refuses given law known ps base number dir save files WantOfMemory sure folder saved h = tt
+start_refuses given law known ps base number dir save files (ReadFault file) sure folder saved h = tt
+start_refuses given law known ps base number dir save files (TooLarge Save) sure folder saved h = (refl, h sure)
+start_refuses given law known ps base number dir save files (TooLarge Top) sure folder saved h = absurd (small_top ps (files (top_name_of dir)) folder.top (h sure).1)
+start_refuses given law known ps base number dir save files (BadSave line) sure folder saved h = no_bad_save given (files save) saved.value saved.saved (h sure)
+start_refuses given law known ps base number dir save files OtherFilter sure folder saved h =
+    absurd (no_other_save given ps base number (files save) saved (h sure))
+start_refuses given law known ps base number dir save files (Absent Top) sure folder saved h =
     (refl, none_published ps (files (top_name_of dir)) folder.top (h sure).1)
-start_refuses law known ps base number dir save files (BadState Top cause) sure folder saved h =
+start_refuses given law known ps base number dir save files (BadState Top cause) sure folder saved h =
     good_top law ps (files (top_name_of dir)) cause folder.top (h sure).1
-start_refuses law known ps base number dir save files TopBehind sure folder saved h =
+start_refuses given law known ps base number dir save files TopBehind sure folder saved h =
     let b = h sure in
-    let start_is = ap (λ (v : Saved). v.number) (one_saved (files save) b.start saved.value b.started.saved saved.saved) in
+    let start_is = ap (λ (v : Saved). v.number) (one_saved given (files save) b.start saved.value b.started.saved saved.saved) in
     let top_is = top_number ps (files (top_name_of dir)) b.top folder.sequences folder.top b.started.top_is in
     let within = saved.in_step.within in
     let below = b.below in
     let number_is = saved.number_is in
     omega (arith, start_is, top_is, within, below)
-start_refuses law known ps base number dir save files fault sure folder saved h = absurd h
+start_refuses given law known ps base number dir save files fault sure folder saved h = absurd h
 
-follow_from_start : (ps : List PublishedValue) (told : Option (List ℕ)) (fault : RunFault) → StartRefuses ps told fault → FollowRefuses ps told fault
-follow_from_start ps told (TooLarge file) h = (h.0, inl h.1)
-follow_from_start ps told (WriteFault file) h = absurd h
-follow_from_start ps told fault h = h
+follow_from_start : (given : FilterValue) (ps : List PublishedValue) (told : Option (List ℕ)) (fault : RunFault) → StartRefuses ps told fault → FollowRefuses ps given told fault
+follow_from_start given ps told (TooLarge file) h = (h.0, inl h.1)
+follow_from_start given ps told (WriteFault file) h = absurd h
+follow_from_start given ps told fault h = h
 
-number_refuses : NoFaultBesideState → (known : Type 0) (ps : List PublishedValue) (dir : List ℕ) (files : Files)
+number_refuses : (given : FilterValue) → NoFaultBesideState → (known : Type 0) (ps : List PublishedValue) (dir : List ℕ) (files : Files)
     (told : Option (List ℕ)) (k : ℕ) (fault : RunFault) → known → IsFolderOf ps files dir → 0 < k → k ≤ length ps
-    → NumberStops known dir files k fault → FollowRefuses ps told fault
-number_refuses law known ps dir files told k WantOfMemory sure folder above within h = tt
-number_refuses law known ps dir files told k (ReadFault file) sure folder above within h = tt
-number_refuses law known ps dir files told k (TooLarge (Sequence j s)) sure folder above within h =
+    → NumberStops known dir files k fault → FollowRefuses ps given told fault
+number_refuses given law known ps dir files told k WantOfMemory sure folder above within h = tt
+number_refuses given law known ps dir files told k (ReadFault file) sure folder above within h = tt
+number_refuses given law known ps dir files told k (TooLarge (Sequence j s)) sure folder above within h =
     absurd (not_over (sequence_at ps k) s (files (file_name_of dir k s)) (folder.each k s above within) (h.1 sure).1)
-number_refuses law known ps dir files told k (BadState (Sequence j State) cause) sure folder above within h =
+number_refuses given law known ps dir files told k (BadState (Sequence j State) cause) sure folder above within h =
     not_bad law (sequence_at ps k) (files (file_name_of dir k State)) cause (folder.each k State above within)
     (h.1 sure)
-number_refuses law known ps dir files told k (Mismatch j) sure folder above within h =
+number_refuses given law known ps dir files told k (Mismatch j) sure folder above within h =
     not_other (sequence_at ps k) (files (file_name_of dir k State)) k (folder.sequences k above within).number_is
     (folder.each k State above within) (h.1 sure)
-number_refuses law known ps dir files told k (BadChange (Sequence j O5c) place why) sure folder above within h =
+number_refuses given law known ps dir files told k (BadChange (Sequence j O5c) place why) sure folder above within h =
     not_faulty (sequence_at ps k) (files (file_name_of dir k O5c)) place (folder.each k O5c above within) (h.1 sure).1
-number_refuses law known ps dir files told k (BadChange (Sequence j Opl) place why) sure folder above within h =
+number_refuses given law known ps dir files told k (BadChange (Sequence j Opl) place why) sure folder above within h =
     not_faulty_opl (sequence_at ps k) (files (file_name_of dir k Opl)) place (folder.each k Opl above within)
     (h.1 sure).1
-number_refuses law known ps dir files told k fault sure folder above within h = absurd h
+number_refuses given law known ps dir files told k fault sure folder above within h = absurd h
 
-beyond_refuses : (known : Type 0) (dir save : List ℕ) (ps : List PublishedValue) (files : Files) (told : Option (List ℕ))
-    (fault : RunFault) → BeyondStops known dir save files fault → FollowRefuses ps told fault
-beyond_refuses known dir save ps files told WantOfMemory h = tt
-beyond_refuses known dir save ps files told (ReadFault (Sequence k s)) h = tt
-beyond_refuses known dir save ps files told fault h = absurd h
+beyond_refuses : (given : FilterValue) (known : Type 0) (dir save : List ℕ) (ps : List PublishedValue) (files : Files) (told : Option (List ℕ))
+    (fault : RunFault) → BeyondStops known given dir save files fault → FollowRefuses ps given told fault
+beyond_refuses given known dir save ps files told WantOfMemory h = tt
+beyond_refuses given known dir save ps files told (ReadFault (Sequence k s)) h = tt
+beyond_refuses given known dir save ps files told fault h = absurd h
 
-save_refuses : (known : Type 0) (ps : List PublishedValue) (base number : ℕ) (dir save : List ℕ) (files : Files)
-    (fault : RunFault) → known → IsFolderOf ps files dir → IsSaveOf ps base number (files save)
-    → SaveStops known dir save files fault → FollowRefuses ps (files save) fault
-save_refuses known ps base number dir save files WantOfMemory sure folder saved h = tt
-save_refuses known ps base number dir save files (TooLarge Save) sure folder saved h =
+save_refuses : (given : FilterValue) (known : Type 0) (ps : List PublishedValue) (base number : ℕ) (dir save : List ℕ) (files : Files)
+    (fault : RunFault) → known → IsFolderOf ps files dir → IsSaveOf ps given base number (files save)
+    → SaveStops known given dir save files fault → FollowRefuses ps given (files save) fault
+save_refuses given known ps base number dir save files WantOfMemory sure folder saved h = tt
+save_refuses given known ps base number dir save files (TooLarge Save) sure folder saved h =
     let t = h sure in
-    let r = reached_of ps base number dir save files t.0 t.1 folder saved t.2 in
+    let r = reached_of given ps base number dir save files t.0 t.1 folder saved t.2 in
     (refl, inr (r.value, t.0, r.in_step, r.spelled, t.3))
-save_refuses known ps base number dir save files (WriteFault Save) sure folder saved h = refl
-save_refuses known ps base number dir save files fault sure folder saved h = absurd h
+save_refuses given known ps base number dir save files (WriteFault Save) sure folder saved h = refl
+save_refuses given known ps base number dir save files fault sure folder saved h = absurd h
 
-pub follow_refuses : NoFaultBesideState → (known : Type 0) (ps : List PublishedValue) (base number : ℕ) (dir save : List ℕ)
-    (files : Files) (fault : RunFault) → known → IsFolderOf ps files dir → IsSaveOf ps base number (files save)
-    → FollowStops known dir save files fault → FollowRefuses ps (files save) fault
-follow_refuses law known ps base number dir save files fault sure folder saved (inl h) =
-    follow_from_start ps (files save) fault (start_refuses law known ps base number dir save files fault sure folder saved h)
-follow_refuses law known ps base number dir save files fault sure folder saved (inr (inl h)) =
+pub follow_refuses : (given : FilterValue) → NoFaultBesideState → (known : Type 0) (ps : List PublishedValue) (base number : ℕ) (dir save : List ℕ)
+    (files : Files) (fault : RunFault) → known → IsFolderOf ps files dir → IsSaveOf ps given base number (files save)
+    → FollowStops known given dir save files fault → FollowRefuses ps given (files save) fault
+follow_refuses given law known ps base number dir save files fault sure folder saved (inl h) =
+    follow_from_start given ps (files save) fault (start_refuses given law known ps base number dir save files fault sure folder saved h)
+follow_refuses given law known ps base number dir save files fault sure folder saved (inr (inl h)) =
     let c = h.comes sure in
     let above = c.above in
     let until = c.until in
     let top_is = top_number ps (files (top_name_of dir)) c.top folder.sequences folder.top c.started.top_is in
-    number_refuses law known ps dir files (files save) h.number fault sure folder (omega arith) (omega (arith, top_is)) h.stops
-follow_refuses law known ps base number dir save files fault sure folder saved (inr (inr (inl h))) =
-    beyond_refuses known dir save ps files (files save) fault h
-follow_refuses law known ps base number dir save files fault sure folder saved (inr (inr (inr h))) =
-    save_refuses known ps base number dir save files fault sure folder saved h
+    number_refuses given law known ps dir files (files save) h.number fault sure folder (omega arith) (omega (arith, top_is)) h.stops
+follow_refuses given law known ps base number dir save files fault sure folder saved (inr (inr (inl h))) =
+    beyond_refuses given known dir save ps files (files save) fault h
+follow_refuses given law known ps base number dir save files fault sure folder saved (inr (inr (inr h))) =
+    save_refuses given known ps base number dir save files fault sure folder saved h

@@ -1,16 +1,17 @@
 -- Beginning a save from a data file and the state that belongs to it. `known` says that it is known
--- what the files hold.
+-- what the files hold, and `given` is the filter that the run was given.
 use Rattle.std.specs.Prelude.{◌≡◌, ℕ, ◌<◌, ◌≤◌, List, [], length, Option, Some, None}
 use Rattle.osm_model.specs.Change.{ChangeValue}
 use Rattle.osm_model.specs.ChangeForm.{SpellsNothing}
 use Rattle.osm_model.specs.Content.{content_of}
-use Rattle.osm_model.specs.Filter.{everything}
+use Rattle.osm_model.specs.Filter.{FilterValue}
 use Rattle.osm_model.specs.Limits.{max_file}
 use Rattle.osm_model.specs.declared.kind.Key.{Key}
 use Rattle.osm_mirror.specs.Mirror.{object_at}
 use Rattle.osm_save.specs.Save.{SpellsSave}
 use Rattle.osm_save.specs.declared.save.Saved.{Saved}
 use Rattle.osm_state.specs.State.{StateValue}
+use Rattle.osm_follow.specs.Begin.{kept_objects}
 use Rattle.osm_follow.specs.Published.{PublishedValue, changes_up_to, sequence_at}
 use Rattle.osm_folder.specs.DataForms.{HasNoDataForm, place_of_data, spells_data}
 use Rattle.osm_folder.specs.Exporting.{HasDataForm}
@@ -26,15 +27,15 @@ use Rattle.osm_folder.specs.declared.fault.RunFault.TheVariants.{WriteFault, Too
 use Rattle.osm_folder.specs.declared.fault.RunFault.TheVariants.{BadState, BadChange}
 use Rattle.osm_folder.specs.declared.fault.RunFault.TheVariants.{UnknownForm, ZeroBase}
 
--- what a beginning saves: its number, its base and its time are the state's, its objects all those
--- of the data file, and no edits are counted
-abbrev pub begun_save : StateValue → List ChangeValue → Saved
-begun_save s objects = record {
+-- what a beginning saves: its number, its base and its time are the state's, its objects those of
+-- the data file that the filter keeps, and no edits are counted
+abbrev pub begun_save : FilterValue → StateValue → List ChangeValue → Saved
+begun_save given s objects = record {
   number = s.sequence;
   base = s.sequence;
   time = Some s.time;
-  filter = everything;
-  mirror = record { objects = objects; users = []; changesets = [] };
+  filter = given;
+  mirror = record { objects = kept_objects given objects; users = []; changesets = [] };
 }
 
 -- the state file is there, and names a sequence to begin at
@@ -52,20 +53,20 @@ pub record IsBase (base : List ℕ) (told : Option (List ℕ)) (objects : List C
   pub spelled : spells_data named.form bytes objects
 
 -- the text to save was made of the state and the data file
-pub record IsBeginning (base state : List ℕ) (files : Files) (s : StateValue) (text : List ℕ) :
-    Type 0 where
+pub record IsBeginning (given : FilterValue) (base state : List ℕ) (files : Files) (s : StateValue)
+    (text : List ℕ) : Type 0 where
   pub start : IsStart (files state) s
   pub objects : List ChangeValue
   pub base_is : IsBase base (files base) objects
-  pub spelled : SpellsSave text (begun_save s objects)
+  pub spelled : SpellsSave text (begun_save given s objects)
 
 -- the save holds exactly what the state and the data file give, whatever it held before, no other
 -- name changes, and the number is reported
-pub record IsBegunFrom (base state save : List ℕ) (old new : Files) (report : ReportValue) :
-    Type 0 where
+pub record IsBegunFrom (given : FilterValue) (base state save : List ℕ) (old new : Files)
+    (report : ReportValue) : Type 0 where
   pub s : StateValue
   pub text : List ℕ
-  pub beginning : IsBeginning base state old s text
+  pub beginning : IsBeginning given base state old s text
   pub small : length text ≤ max_save
   pub put : Puts old save (Some text) new
   pub report_is : report ≡ begin_report_of s.sequence
@@ -99,45 +100,45 @@ pub record IsBadBase (base : List ℕ) (told : Option (List ℕ)) (place : ℕ) 
   pub place_is : place_of_data named.form bytes place
 
 -- everything was read, and this holds of the text to save
-abbrev pub HasBegun : List ℕ → List ℕ → Files → (List ℕ → Type 0) → Type 0
-HasBegun base state files holds =
-    (s : StateValue) × (text : List ℕ) × IsBeginning base state files s text × holds text
+abbrev pub HasBegun : FilterValue → List ℕ → List ℕ → Files → (List ℕ → Type 0) → Type 0
+HasBegun given base state files holds =
+    (s : StateValue) × (text : List ℕ) × IsBeginning given base state files s text × holds text
 
 -- why nothing begins: the name of the data file first, then the state, then the data file, then the
 -- save
-abbrev pub BeginStops : Type 0 → List ℕ → List ℕ → Files → RunFault → Type 0
-BeginStops known base state files UnknownForm = HasNoDataForm base
-BeginStops known base state files WantOfMemory = HasDataForm base
-BeginStops known base state files (ReadFault State) = HasDataForm base
-BeginStops known base state files (Absent State) =
+abbrev pub BeginStops : Type 0 → FilterValue → List ℕ → List ℕ → Files → RunFault → Type 0
+BeginStops known given base state files UnknownForm = HasNoDataForm base
+BeginStops known given base state files WantOfMemory = HasDataForm base
+BeginStops known given base state files (ReadFault State) = HasDataForm base
+BeginStops known given base state files (Absent State) =
     HasDataForm base × (known → files state ≡ None)
-BeginStops known base state files (TooLarge State) =
+BeginStops known given base state files (TooLarge State) =
     HasDataForm base × (known → IsOver max_state (files state))
-BeginStops known base state files (BadState State cause) =
+BeginStops known given base state files (BadState State cause) =
     HasDataForm base × (known → IsBadState (files state) cause)
-BeginStops known base state files ZeroBase =
+BeginStops known given base state files ZeroBase =
     HasDataForm base × (known → IsZeroState (files state))
-BeginStops known base state files (ReadFault Base) =
+BeginStops known given base state files (ReadFault Base) =
     HasDataForm base × (known → HasStart state files)
-BeginStops known base state files (Absent Base) =
+BeginStops known given base state files (Absent Base) =
     HasDataForm base × (known → HasStart state files × (files base ≡ None))
-BeginStops known base state files (TooLarge Base) =
+BeginStops known given base state files (TooLarge Base) =
     HasDataForm base × (known → HasStart state files × IsOver max_file (files base))
-BeginStops known base state files (BadChange Base place why) =
+BeginStops known given base state files (BadChange Base place why) =
     known → HasStart state files × IsBadBase base (files base) place
-BeginStops known base state files (TooLarge Save) =
-    known → HasBegun base state files (λ text. max_save < length text)
-BeginStops known base state files (WriteFault Save) =
-    known → HasBegun base state files (λ text. length text ≤ max_save)
-BeginStops known base state files fault = ⊥
+BeginStops known given base state files (TooLarge Save) =
+    known → HasBegun given base state files (λ text. max_save < length text)
+BeginStops known given base state files (WriteFault Save) =
+    known → HasBegun given base state files (λ text. length text ≤ max_save)
+BeginStops known given base state files fault = ⊥
 
--- what a beginning from the export of a save gives: its number, time and objects, that number as
--- the base, the filter of all objects, and no counts
-abbrev pub handed_on : Saved → Saved
-handed_on v = record {
+-- what a beginning from the export of a save gives: its number and time, those of its objects that
+-- the filter keeps, that number as the base, and no counts
+abbrev pub handed_on : FilterValue → Saved → Saved
+handed_on given v = record {
   number = v.number;
   base = v.number;
   time = v.time;
-  filter = everything;
-  mirror = record { objects = v.mirror.objects; users = []; changesets = [] };
+  filter = given;
+  mirror = record { objects = kept_objects given v.mirror.objects; users = []; changesets = [] };
 }

@@ -3,8 +3,9 @@
 use Rattle.std.specs.Prelude.{◌≡◌, ℕ, ◌<◌, ◌≤◌, List, Option, Some, None, length}
 use Rattle.osm_model.specs.Change.{ChangeValue}
 use Rattle.osm_model.specs.Data.{IsData}
-use Rattle.osm_model.specs.Limits.{max_file}
 use Rattle.osm_model.specs.Content.{content_of}
+use Rattle.osm_model.specs.Filter.{FilterValue, kept}
+use Rattle.osm_model.specs.Limits.{max_file}
 use Rattle.osm_model.specs.declared.kind.Key.{Key}
 use Rattle.osm_mirror.specs.Mirror.{object_at}
 use Rattle.osm_save.specs.Save.{SpellsSave}
@@ -45,14 +46,16 @@ pub record IsExported (save output : List ℕ) (old new : Files) : Type 0 where
   pub are_data : IsData made.held.saved.mirror.objects
   pub put : Puts old output (Some (data_text_of made.named.form made.held.saved.mirror.objects)) new
 
--- the file holds exactly the objects that published sequences 1 to the number leave
-pub record IsExportOf (published : List PublishedValue) (number : ℕ) (output : List ℕ)
-    (told : Option (List ℕ)) : Type 0 where
+-- the file holds exactly what the filter keeps of the objects that published sequences 1 to the
+-- number leave
+pub record IsExportOf (published : List PublishedValue) (given : FilterValue) (number : ℕ)
+    (output : List ℕ) (told : Option (List ℕ)) : Type 0 where
   pub named : HasDataForm output
   pub objects : List ChangeValue
   pub are_data : IsData objects
   pub fits : length (data_text_of named.form objects) ≤ max_file
-  pub content : (k : Key) → object_at objects k ≡ content_of (changes_up_to published number) k
+  pub content : (k : Key) →
+      object_at objects k ≡ kept given (content_of (changes_up_to published number)) k
   pub text : told ≡ Some (data_text_of named.form objects)
 
 -- the text of the save's objects passes 64 MiB

@@ -2,11 +2,12 @@
 use Rattle.std.specs.Prelude.{ℕ}
 use Rattle.osm_folder.specs.declared.fault.RunFault.{RunFault}
 use Rattle.osm_folder.specs.declared.fault.RunFault.TheVariants.{UnknownForm, BadNow}
-use Rattle.osm_folder.specs.declared.fault.RunFault.TheVariants.{BadSequence}
+use Rattle.osm_folder.specs.declared.fault.RunFault.TheVariants.{BadSequence, BadFilter}
 
 -- 2 if a word of the command line is wrong, 3 for any other fault
 abbrev pub status_of : RunFault → ℕ
 status_of UnknownForm = 2
 status_of BadNow = 2
 status_of BadSequence = 2
+status_of BadFilter = 2
 status_of fault = 3

@@ -1,9 +1,9 @@
 -- A follower that goes on from its save over a folder. `known` says that it is known what the files
--- hold.
+-- hold, and `given` is the filter that the run was given.
 use Rattle.std.specs.Prelude.{◌≡◌, ◌≢◌, ℕ, zero, suc, ◌+◌, ◌-◌, ◌*◌, ◌<◌, ◌≤◌, ◌⊎◌, ◌↔◌, List}
 use Rattle.std.specs.Prelude.{[], length, map, filter, min, Bool, true, false, ◌||◌, ◌&&◌, Option}
 use Rattle.std.specs.Prelude.{Some, None, is_none, Result, IfErr, IfOk}
-use Rattle.osm_model.specs.Filter.{everything}
+use Rattle.osm_model.specs.Filter.{FilterValue}
 use Rattle.osm_model.specs.Limits.{max_file}
 use Rattle.osm_mirror.specs.Mirror.{Applies, IsMirrorOf, no_mirror}
 use Rattle.osm_save.specs.Save.{SpellsSave}
@@ -33,14 +33,14 @@ use Rattle.osm_folder.specs.declared.form.Form.TheVariants as forms
 abbrev pub max_save : ℕ
 max_save = 1073741824
 
--- what a follower of all objects goes on from if it saved nothing
-abbrev pub no_save : Saved
-no_save = record { number = 0; base = 0; time = None; filter = everything; mirror = no_mirror }
+-- what a follower with that filter goes on from if it saved nothing
+abbrev pub no_save : FilterValue → Saved
+no_save given = record { number = 0; base = 0; time = None; filter = given; mirror = no_mirror }
 
--- what a save holds, under any filter; no save is the start
-abbrev pub IsSaved : Option (List ℕ) → Saved → Type 0
-IsSaved None v = v ≡ no_save
-IsSaved (Some bytes) v = (length bytes ≤ max_save) × SpellsSave bytes v
+-- what a save holds, under whatever filter; no save is the start under the given one
+abbrev pub IsSaved : FilterValue → Option (List ℕ) → Saved → Type 0
+IsSaved given None v = v ≡ no_save given
+IsSaved given (Some bytes) v = (length bytes ≤ max_save) × SpellsSave bytes v
 
 -- a number is lost if its state isn't there, or its changes in neither form
 abbrev pub is_lost : Files → List ℕ → ℕ → Bool
@@ -101,19 +101,19 @@ pub record GoesOn (files : Files) (dir : List ℕ) (start : Saved) (top count : 
   pub until : reached.number ≤ top
   pub far : IsReached files dir reached.number top
 
--- the save, which is one of all objects, and the top state were read
-pub record IsStarted (dir save : List ℕ) (files : Files) (start : Saved) (top : StateValue) :
-    Type 0 where
-  pub saved : IsSaved (files save) start
-  pub filter_is : start.filter ≡ everything
+-- the save, which is one under the given filter, and the top state were read
+pub record IsStarted (given : FilterValue) (dir save : List ℕ) (files : Files) (start : Saved)
+    (top : StateValue) : Type 0 where
+  pub saved : IsSaved given (files save) start
+  pub filter_is : start.filter ≡ given
   pub top_is : IsThere (files (top_name_of dir)) (IsStateFile top.sequence top.time)
 
 -- what a run of the follower saves and prints
-pub record IsFollowing (dir save : List ℕ) (files : Files) (text : List ℕ) (report : ReportValue) :
-    Type 0 where
+pub record IsFollowing (given : FilterValue) (dir save : List ℕ) (files : Files) (text : List ℕ)
+    (report : ReportValue) : Type 0 where
   pub start : Saved
   pub top : StateValue
-  pub started : IsStarted dir save files start top
+  pub started : IsStarted given dir save files start top
   pub count : ℕ
   pub reached : Saved
   pub goes_on : GoesOn files dir start top.sequence count reached
@@ -122,9 +122,10 @@ pub record IsFollowing (dir save : List ℕ) (files : Files) (text : List ℕ) (
       (lost_numbers files dir reached.number top.sequence) reached.number
 
 -- the save holds what was reached, and no other name changes
-pub record IsFollowed (dir save : List ℕ) (old new : Files) (report : ReportValue) : Type 0 where
+pub record IsFollowed (given : FilterValue) (dir save : List ℕ) (old new : Files)
+    (report : ReportValue) : Type 0 where
   pub text : List ℕ
-  pub following : IsFollowing dir save old text report
+  pub following : IsFollowing given dir save old text report
   pub small : length text ≤ max_save
   pub put : Puts old save (Some text) new
 
@@ -139,9 +140,9 @@ pub record IsFollowReport (report : ReportValue) : Type 0 where
   pub report_is : report ≡ follow_report_of (ranges start count) missing (start + count)
   pub gap : (missing ≡ []) ↔ (start + count ≡ top)
 
--- a save of all objects can be read
-abbrev pub HasSave : List ℕ → Files → Type 0
-HasSave save files = (v : Saved) × IsSaved (files save) v × (v.filter ≡ everything)
+-- a save under the given filter can be read
+abbrev pub HasSave : FilterValue → List ℕ → Files → Type 0
+HasSave given save files = (v : Saved) × IsSaved given (files save) v × (v.filter ≡ given)
 
 -- the save is no save text
 pub record IsBadSave (told : Option (List ℕ)) : Type 0 where
@@ -150,45 +151,46 @@ pub record IsBadSave (told : Option (List ℕ)) : Type 0 where
   pub small : length bytes ≤ max_save
   pub nothing : (v : Saved) → SpellsSave bytes v → ⊥
 
--- the save is that of an extract: it was saved under another filter than that of all objects
-pub record IsOtherSave (told : Option (List ℕ)) : Type 0 where
+-- the save was saved under another filter than the given one
+pub record IsOtherSave (given : FilterValue) (told : Option (List ℕ)) : Type 0 where
   pub bytes : List ℕ
   pub value : Saved
   pub there : told ≡ Some bytes
   pub small : length bytes ≤ max_save
   pub spelled : SpellsSave bytes value
-  pub other : value.filter ≢ everything
+  pub other : value.filter ≢ given
 
 -- the top state is below the save
-pub record IsTopBehind (dir save : List ℕ) (files : Files) : Type 0 where
+pub record IsTopBehind (given : FilterValue) (dir save : List ℕ) (files : Files) : Type 0 where
   pub start : Saved
   pub top : StateValue
-  pub started : IsStarted dir save files start top
+  pub started : IsStarted given dir save files start top
   pub below : top.sequence < start.number
 
 -- why a run can't start from the save and the top state: the save is read before the top state
-abbrev pub StartStops : Type 0 → List ℕ → List ℕ → Files → RunFault → Type 0
-StartStops known dir save files WantOfMemory = Unit {0}
-StartStops known dir save files (ReadFault Save) = Unit {0}
-StartStops known dir save files (TooLarge Save) = known → IsOver max_save (files save)
-StartStops known dir save files (BadSave line) = known → IsBadSave (files save)
-StartStops known dir save files OtherFilter = known → IsOtherSave (files save)
-StartStops known dir save files (ReadFault Top) = known → HasSave save files
-StartStops known dir save files (Absent Top) =
-    known → HasSave save files × (files (top_name_of dir) ≡ None)
-StartStops known dir save files (TooLarge Top) =
-    known → HasSave save files × IsOver max_state (files (top_name_of dir))
-StartStops known dir save files (BadState Top cause) =
-    known → HasSave save files × IsBadState (files (top_name_of dir)) cause
-StartStops known dir save files TopBehind = known → IsTopBehind dir save files
-StartStops known dir save files fault = ⊥
+abbrev pub StartStops : Type 0 → FilterValue → List ℕ → List ℕ → Files → RunFault → Type 0
+StartStops known given dir save files WantOfMemory = Unit {0}
+StartStops known given dir save files (ReadFault Save) = Unit {0}
+StartStops known given dir save files (TooLarge Save) = known → IsOver max_save (files save)
+StartStops known given dir save files (BadSave line) = known → IsBadSave (files save)
+StartStops known given dir save files OtherFilter = known → IsOtherSave given (files save)
+StartStops known given dir save files (ReadFault Top) = known → HasSave given save files
+StartStops known given dir save files (Absent Top) =
+    known → HasSave given save files × (files (top_name_of dir) ≡ None)
+StartStops known given dir save files (TooLarge Top) =
+    known → HasSave given save files × IsOver max_state (files (top_name_of dir))
+StartStops known given dir save files (BadState Top cause) =
+    known → HasSave given save files × IsBadState (files (top_name_of dir)) cause
+StartStops known given dir save files TopBehind = known → IsTopBehind given dir save files
+StartStops known given dir save files fault = ⊥
 
 -- a number is read: it is after the save's and at most the top's, and those between are right, so
 -- none of them is lost
-pub record ComesTo (dir save : List ℕ) (files : Files) (number : ℕ) : Type 0 where
+pub record ComesTo (given : FilterValue) (dir save : List ℕ) (files : Files) (number : ℕ) :
+    Type 0 where
   pub start : Saved
   pub top : StateValue
-  pub started : IsStarted dir save files start top
+  pub started : IsStarted given dir save files start top
   pub above : start.number < number
   pub until : number ≤ top.sequence
   pub each : (k : ℕ) → start.number < k → k < number → IsReadable files dir k
@@ -238,18 +240,19 @@ NumberStops known dir files number (BadChange (Sequence k Opl) place why) =
 NumberStops known dir files number fault = ⊥
 
 -- a number that is read isn't taken
-pub record StopsAt (known : Type 0) (dir save : List ℕ) (files : Files) (fault : RunFault) :
-    Type 0 where
+pub record StopsAt (known : Type 0) (given : FilterValue) (dir save : List ℕ) (files : Files)
+    (fault : RunFault) : Type 0 where
   pub number : ℕ
-  pub comes : known → ComesTo dir save files number
+  pub comes : known → ComesTo given dir save files number
   pub stops : NumberStops known dir files number fault
 
 -- a number beyond the first lost one is looked for: up to the top, and to 64 after the number that
 -- was reached
-pub record LooksFor (dir save : List ℕ) (files : Files) (number : ℕ) : Type 0 where
+pub record LooksFor (given : FilterValue) (dir save : List ℕ) (files : Files) (number : ℕ) :
+    Type 0 where
   pub start : Saved
   pub top : StateValue
-  pub started : IsStarted dir save files start top
+  pub started : IsStarted given dir save files start top
   pub count : ℕ
   pub reached : Saved
   pub goes_on : GoesOn files dir start top.sequence count reached
@@ -267,59 +270,61 @@ IsLookedFor files dir number Opl =
     × (files (file_name_of dir number O5c) ≡ None)
 
 -- why the lost numbers beyond the first aren't named: never for what a file there holds
-abbrev pub BeyondStops : Type 0 → List ℕ → List ℕ → Files → RunFault → Type 0
-BeyondStops known dir save files WantOfMemory = Unit {0}
-BeyondStops known dir save files (ReadFault (Sequence number suffix)) =
-    known → LooksFor dir save files number × IsLookedFor files dir number suffix
-BeyondStops known dir save files fault = ⊥
+abbrev pub BeyondStops : Type 0 → FilterValue → List ℕ → List ℕ → Files → RunFault → Type 0
+BeyondStops known given dir save files WantOfMemory = Unit {0}
+BeyondStops known given dir save files (ReadFault (Sequence number suffix)) =
+    known → LooksFor given dir save files number × IsLookedFor files dir number suffix
+BeyondStops known given dir save files fault = ⊥
 
 -- everything was read, and this holds of the text to save
-abbrev pub HasText : List ℕ → List ℕ → Files → (List ℕ → Type 0) → Type 0
-HasText dir save files holds =
-    (text : List ℕ) × (report : ReportValue) × IsFollowing dir save files text report × holds text
+abbrev pub HasText : FilterValue → List ℕ → List ℕ → Files → (List ℕ → Type 0) → Type 0
+HasText given dir save files holds =
+    (text : List ℕ) × (report : ReportValue) × IsFollowing given dir save files text report
+    × holds text
 
 -- why what was reached isn't saved
-abbrev pub SaveStops : Type 0 → List ℕ → List ℕ → Files → RunFault → Type 0
-SaveStops known dir save files WantOfMemory = Unit {0}
-SaveStops known dir save files (TooLarge Save) =
-    known → HasText dir save files (λ text. max_save < length text)
-SaveStops known dir save files (WriteFault Save) =
-    known → HasText dir save files (λ text. length text ≤ max_save)
-SaveStops known dir save files fault = ⊥
+abbrev pub SaveStops : Type 0 → FilterValue → List ℕ → List ℕ → Files → RunFault → Type 0
+SaveStops known given dir save files WantOfMemory = Unit {0}
+SaveStops known given dir save files (TooLarge Save) =
+    known → HasText given dir save files (λ text. max_save < length text)
+SaveStops known given dir save files (WriteFault Save) =
+    known → HasText given dir save files (λ text. length text ≤ max_save)
+SaveStops known given dir save files fault = ⊥
 
 -- why a run of the follower stops: at the save or the top state, at a number up to the first lost
 -- one, beyond it, or at what it saves
-abbrev pub FollowStops : Type 0 → List ℕ → List ℕ → Files → RunFault → Type 0
-FollowStops known dir save files fault =
-    StartStops known dir save files fault ⊎ StopsAt known dir save files fault
-    ⊎ BeyondStops known dir save files fault ⊎ SaveStops known dir save files fault
+abbrev pub FollowStops : Type 0 → FilterValue → List ℕ → List ℕ → Files → RunFault → Type 0
+FollowStops known given dir save files fault =
+    StartStops known given dir save files fault ⊎ StopsAt known given dir save files fault
+    ⊎ BeyondStops known given dir save files fault ⊎ SaveStops known given dir save files fault
 
--- exactly the mirror and the time of published sequences 1 to the number, and the counts of those
--- after the base, under the filter of all objects
-pub record IsInStep (published : List PublishedValue) (v : Saved) : Type 0 where
+-- exactly what the filter keeps of the mirror of published sequences 1 to the number, its time, and
+-- the counts of all edits of those after the base
+pub record IsInStep (published : List PublishedValue) (given : FilterValue) (v : Saved) :
+    Type 0 where
   pub within : v.number ≤ length published
   pub base : v.base ≤ v.number
-  pub filter_is : v.filter ≡ everything
-  pub mirror : IsMirrorOf everything (changes_up_to published v.number)
+  pub filter_is : v.filter ≡ given
+  pub mirror : IsMirrorOf given (changes_up_to published v.number)
       (changes_after published v.base v.number) v.mirror
   pub time : v.time ≡ time_at published v.number
 
--- the save is that of the published sequences 1 to that number, begun at that base; no save is that
--- of 0, begun at 0
-pub record IsSaveOf (published : List PublishedValue) (base number : ℕ)
+-- the save is that of the published sequences 1 to that number under the filter, begun at that
+-- base; no save is that of 0, begun at 0
+pub record IsSaveOf (published : List PublishedValue) (given : FilterValue) (base number : ℕ)
     (told : Option (List ℕ)) : Type 0 where
   pub value : Saved
-  pub saved : IsSaved told value
+  pub saved : IsSaved given told value
   pub base_is : value.base ≡ base
   pub number_is : value.number ≡ number
-  pub in_step : IsInStep published value
+  pub in_step : IsInStep published given value
 
 -- a follower in step with what was published went on from that number: it saved as many more
 -- numbers as it reports, with its base, and stopped at the last published one or before a lost one
-pub record IsInStepAfter (published : List PublishedValue) (base number : ℕ) (dir save : List ℕ)
-    (old new : Files) (report : ReportValue) : Type 0 where
+pub record IsInStepAfter (published : List PublishedValue) (given : FilterValue) (base number : ℕ)
+    (dir save : List ℕ) (old new : Files) (report : ReportValue) : Type 0 where
   pub count : ℕ
-  pub saved : IsSaveOf published base (number + count) (new save)
+  pub saved : IsSaveOf published given base (number + count) (new save)
   pub far : (number + count ≡ length published)
       ⊎ (is_lost old dir (number + count + 1) ≡ true)
   pub report_is : report ≡ follow_report_of (ranges number count)
@@ -333,10 +338,10 @@ follow_calls published number = 3 + 3 * (length published - number)
 
 -- a save of the published sequences passes 1 GiB: the one that is there, or the one that is to be
 -- written
-abbrev pub HasBigSave : List PublishedValue → Option (List ℕ) → Type 0
-HasBigSave published told =
+abbrev pub HasBigSave : List PublishedValue → FilterValue → Option (List ℕ) → Type 0
+HasBigSave published given told =
     IsOver max_save told
-    ⊎ ((v : Saved) × (text : List ℕ) × IsInStep published v × SpellsSave text v
+    ⊎ ((v : Saved) × (text : List ℕ) × IsInStep published given v × SpellsSave text v
     × (max_save < length text))
 
 -- why a run can't start from the folder of published sequences and a save in step with them:
@@ -349,14 +354,16 @@ StartRefuses published told (TooLarge file) = (file ≡ Save) × IsOver max_save
 StartRefuses published told fault = ⊥
 
 -- why a run of the follower over them is refused: never for a fault in one of their files
-abbrev pub FollowRefuses : List PublishedValue → Option (List ℕ) → RunFault → Type 0
-FollowRefuses published told (WriteFault file) = file ≡ Save
-FollowRefuses published told (TooLarge file) = (file ≡ Save) × HasBigSave published told
-FollowRefuses published told fault = StartRefuses published told fault
+abbrev pub FollowRefuses : List PublishedValue → FilterValue → Option (List ℕ) → RunFault → Type 0
+FollowRefuses published given told (WriteFault file) = file ≡ Save
+FollowRefuses published given told (TooLarge file) =
+    (file ≡ Save) × HasBigSave published given told
+FollowRefuses published given told fault = StartRefuses published told fault
 
 -- what a run of the follower does over them: it goes on in step, within its calls, or is refused
-pub record FollowsOver (published : List PublishedValue) (base number : ℕ) (dir save : List ℕ)
-    (old new : StoreState) (result : Result ReportValue RunFault) : Type 0 where
-  pub in_step : IfOk result (IsInStepAfter published base number dir save old.files new.files)
-  pub refuses : IfErr result (FollowRefuses published (old.files save))
+pub record FollowsOver (published : List PublishedValue) (given : FilterValue) (base number : ℕ)
+    (dir save : List ℕ) (old new : StoreState) (result : Result ReportValue RunFault) : Type 0 where
+  pub in_step :
+      IfOk result (IsInStepAfter published given base number dir save old.files new.files)
+  pub refuses : IfErr result (FollowRefuses published given (old.files save))
   pub calls : CallsUpTo (follow_calls published number) old new result

@@ -1,6 +1,7 @@
 -- How far a saved follower is behind a folder. `known` says that it is known what the files hold.
 use Rattle.std.specs.Prelude.{◌≡◌, ℕ, ◌+◌, ◌<◌, ◌≤◌, List, length, Option, Some, None}
 use Rattle.std.specs.Prelude.{Result, IfErr, IfOk}
+use Rattle.osm_model.specs.Filter.{FilterValue}
 use Rattle.osm_save.specs.Head.{BeginsSave, head_of}
 use Rattle.osm_save.specs.declared.head.Head.{Head}
 use Rattle.osm_save.specs.declared.save.Saved.{Saved}
@@ -9,7 +10,7 @@ use Rattle.osm_follow.specs.Lag.{AreSeconds}
 use Rattle.osm_follow.specs.Published.{PublishedValue, sequence_at, time_at}
 use Rattle.osm_store.specs.Files.{Files, IsOver}
 use Rattle.osm_folder.specs.Folder.{IsStateFile, IsThere, max_state}
-use Rattle.osm_folder.specs.Following.{IsSaved, no_save}
+use Rattle.osm_folder.specs.Following.{IsSaved}
 use Rattle.osm_folder.specs.Names.{top_name_of}
 use Rattle.osm_folder.specs.Publication.{IsBadState}
 use Rattle.osm_folder.specs.Reports.{ReportValue, lag_report_of}
@@ -19,9 +20,13 @@ use Rattle.osm_folder.specs.declared.fault.RunFault.TheVariants.{WantOfMemory, R
 use Rattle.osm_folder.specs.declared.fault.RunFault.TheVariants.{Absent, BadState, BadSave}
 use Rattle.osm_folder.specs.declared.fault.RunFault.TheVariants.{TopBehind, TimeBehind}
 
+-- the head of the start
+abbrev pub no_head : Head
+no_head = record { number = 0; base = 0; time = None }
+
 -- what a save begins with, whatever comes after it; no save is the start
 abbrev pub IsHead : Option (List ℕ) → Head → Type 0
-IsHead None head = head ≡ head_of no_save
+IsHead None head = head ≡ no_head
 IsHead (Some bytes) head = BeginsSave bytes head
 
 -- the head of the save and the top state were read
@@ -31,12 +36,12 @@ pub record IsBegun (dir save : List ℕ) (files : Files) (start : Head) (top : S
   pub top_is : IsThere (files (top_name_of dir)) (IsStateFile top.sequence top.time)
 
 -- the numbers and the seconds from the head of the save to the top state are reported. If the save
--- is a save text, that is the head of what it saves
+-- is a save text, that is the head of what it saves, under whatever filter
 pub record IsLag (dir save : List ℕ) (files : Files) (report : ReportValue) : Type 0 where
   pub start : Head
   pub top : StateValue
   pub begun : IsBegun dir save files start top
-  pub saved : (v : Saved) → IsSaved (files save) v → start ≡ head_of v
+  pub saved : (given : FilterValue) (v : Saved) → IsSaved given (files save) v → start ≡ head_of v
   pub behind : ℕ
   pub seconds : Option ℕ
   pub behind_is : start.number + behind ≡ top.sequence

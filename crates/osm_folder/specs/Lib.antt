@@ -3,6 +3,7 @@ pub mod Conversion
 pub mod DataForms
 pub mod Exporting
 pub mod Faults
+pub mod Filters
 pub mod Folder
 pub mod Following
 pub mod Progress

@@ -1,7 +1,8 @@
 -- What the word `follow` keeps: the numbers before a faulty one. `known` says that it is known what
--- the files hold.
+-- the files hold, and `given` is the filter that the run was given.
 use Rattle.std.specs.Prelude.{◌≡◌, ℕ, suc, ◌+◌, ◌<◌, ◌≤◌, ◌⊎◌, List, [], length, Some, Result}
 use Rattle.std.specs.Prelude.{Ok, Err}
+use Rattle.osm_model.specs.Filter.{FilterValue}
 use Rattle.osm_save.specs.Save.{SpellsSave}
 use Rattle.osm_save.specs.declared.save.Saved.{Saved}
 use Rattle.osm_state.specs.State.{StateValue}
@@ -26,11 +27,11 @@ IsOfContent (BadChange (Sequence k suffix) place why) number = k ≡ number
 IsOfContent fault number = ⊥
 
 -- the numbers after the save's and before a faulty one, of which there is at least one, are applied
-pub record ComesBefore (known : Type 0) (dir save : List ℕ) (files : Files) (fault : RunFault)
-    (text : List ℕ) (report : ReportValue) : Type 0 where
+pub record ComesBefore (known : Type 0) (given : FilterValue) (dir save : List ℕ) (files : Files)
+    (fault : RunFault) (text : List ℕ) (report : ReportValue) : Type 0 where
   pub start : Saved
   pub top : StateValue
-  pub started : IsStarted dir save files start top
+  pub started : IsStarted given dir save files start top
   pub count : ℕ
   pub reached : Saved
   pub added : AddsAll files dir (suc count) start reached
@@ -42,18 +43,20 @@ pub record ComesBefore (known : Type 0) (dir save : List ℕ) (files : Files) (f
       report ≡ follow_report_of (ranges start.number (suc count)) [] reached.number
 
 -- the save holds what these numbers give, and no other name changes
-pub record IsFollowedBefore (known : Type 0) (dir save : List ℕ) (old new : Files)
-    (fault : RunFault) (report : ReportValue) : Type 0 where
+pub record IsFollowedBefore (known : Type 0) (given : FilterValue) (dir save : List ℕ)
+    (old new : Files) (fault : RunFault) (report : ReportValue) : Type 0 where
   pub text : List ℕ
-  pub before : ComesBefore known dir save old fault text report
+  pub before : ComesBefore known given dir save old fault text report
   pub small : length text ≤ max_save
   pub put : Puts old save (Some text) new
 
 -- what the word does: a run, or what comes before a faulty number
-abbrev pub IsProgress : Type 0 → List ℕ → List ℕ → Files → Files → Progress → Type 0
-IsProgress known dir save old new (Whole report) = known → IsFollowed dir save old new report
-IsProgress known dir save old new (Before report fault) =
-    known → IsFollowedBefore known dir save old new fault report
+abbrev pub IsProgress :
+    Type 0 → FilterValue → List ℕ → List ℕ → Files → Files → Progress → Type 0
+IsProgress known given dir save old new (Whole report) =
+    known → IsFollowed given dir save old new report
+IsProgress known given dir save old new (Before report fault) =
+    known → IsFollowedBefore known given dir save old new fault report
 
 -- its report, whatever is known of the files
 abbrev pub IsProgressReport : Progress → Type 0
@@ -62,33 +65,35 @@ IsProgressReport (Before report fault) =
     IsFollowReport report × ((number : ℕ) × IsOfContent fault number)
 
 -- a number is the next one after the save's
-abbrev pub IsNextAfter : List ℕ → Files → ℕ → Type 0
-IsNextAfter save files number = (v : Saved) × IsSaved (files save) v × (number ≡ v.number + 1)
+abbrev pub IsNextAfter : FilterValue → List ℕ → Files → ℕ → Type 0
+IsNextAfter given save files number =
+    (v : Saved) × IsSaved given (files save) v × (number ≡ v.number + 1)
 
 -- a run of the follower stops, and a faulty number is the next one after the save's
-pub record StopsFirst (known : Type 0) (dir save : List ℕ) (files : Files) (fault : RunFault) :
-    Type 0 where
-  pub stops : FollowStops known dir save files fault
-  pub next : known → (number : ℕ) → IsOfContent fault number → IsNextAfter save files number
+pub record StopsFirst (known : Type 0) (given : FilterValue) (dir save : List ℕ) (files : Files)
+    (fault : RunFault) : Type 0 where
+  pub stops : FollowStops known given dir save files fault
+  pub next : known → (number : ℕ) → IsOfContent fault number → IsNextAfter given save files number
 
 -- the numbers before a faulty one are applied, and this holds of the text to save
-abbrev pub HasBefore : Type 0 → List ℕ → List ℕ → Files → (List ℕ → Type 0) → Type 0
-HasBefore known dir save files holds =
+abbrev pub HasBefore :
+    Type 0 → FilterValue → List ℕ → List ℕ → Files → (List ℕ → Type 0) → Type 0
+HasBefore known given dir save files holds =
     (fault : RunFault) × (text : List ℕ) × (report : ReportValue)
-    × ComesBefore known dir save files fault text report × holds text
+    × ComesBefore known given dir save files fault text report × holds text
 
 -- why what comes before a faulty number isn't saved
-abbrev pub BeforeStops : Type 0 → List ℕ → List ℕ → Files → RunFault → Type 0
-BeforeStops known dir save files (TooLarge Save) =
-    known → HasBefore known dir save files (λ text. max_save < length text)
-BeforeStops known dir save files (WriteFault Save) =
-    known → HasBefore known dir save files (λ text. length text ≤ max_save)
-BeforeStops known dir save files fault = ⊥
+abbrev pub BeforeStops : Type 0 → FilterValue → List ℕ → List ℕ → Files → RunFault → Type 0
+BeforeStops known given dir save files (TooLarge Save) =
+    known → HasBefore known given dir save files (λ text. max_save < length text)
+BeforeStops known given dir save files (WriteFault Save) =
+    known → HasBefore known given dir save files (λ text. length text ≤ max_save)
+BeforeStops known given dir save files fault = ⊥
 
 -- why the word stops with no file changed
-abbrev pub ProgressStops : Type 0 → List ℕ → List ℕ → Files → RunFault → Type 0
-ProgressStops known dir save files fault =
-    StopsFirst known dir save files fault ⊎ BeforeStops known dir save files fault
+abbrev pub ProgressStops : Type 0 → FilterValue → List ℕ → List ℕ → Files → RunFault → Type 0
+ProgressStops known given dir save files fault =
+    StopsFirst known given dir save files fault ⊎ BeforeStops known given dir save files fault
 
 -- there is no faulty number, and this holds of the run
 abbrev pub IsWhole : Result Progress RunFault → (Result ReportValue RunFault → Type 0) → Type 0

@@ -1,7 +1,7 @@
 -- Showing what a save holds. `known` says that it is known what the files hold.
 use Rattle.std.specs.Prelude.{◌≡◌, ℕ, ◌≤◌, List, [], length, Option, Some, None}
 use Rattle.osm_mirror.specs.Mirror.{IsMirrorOf}
-use Rattle.osm_model.specs.Filter.{everything}
+use Rattle.osm_model.specs.Filter.{FilterValue}
 use Rattle.osm_save.specs.Save.{SpellsSave}
 use Rattle.osm_save.specs.declared.save.Saved.{Saved}
 use Rattle.osm_follow.specs.Published.{PublishedValue, changes_after, changes_up_to, time_at}
@@ -33,15 +33,15 @@ pub record IsShown (told : Option (List ℕ)) (report : ReportValue) : Type 0 wh
   pub spelled : SpellsSave bytes saved
   pub report_is : report ≡ show_report_of (view_of_saved saved)
 
--- the show text of exactly the mirror and the time of published sequences 1 to the number, and the
--- counts of those after the base
-pub record IsShownOf (published : List PublishedValue) (base number : ℕ) (report : ReportValue) :
-    Type 0 where
+-- the show text of exactly what the filter keeps of the mirror of published sequences 1 to the
+-- number, its time, and the counts of all edits of those after the base
+pub record IsShownOf (published : List PublishedValue) (given : FilterValue) (base number : ℕ)
+    (report : ReportValue) : Type 0 where
   pub view : ViewValue
   pub number_is : view.number ≡ number
   pub base_is : view.base ≡ base
   pub time : view.time ≡ time_at published number
-  pub mirror : IsMirrorOf everything (changes_up_to published number)
+  pub mirror : IsMirrorOf given (changes_up_to published number)
       (changes_after published base number) view.mirror
   pub held : view.held ≡ []
   pub report_is : report ≡ show_report_of view

@@ -2,7 +2,6 @@
 
 ghost use Rattle.std.specs.Prelude.{◌≡◌, ◌<◌, ◌≤◌, ℕ, List, Some, IfErr, IfOk, length};
 ghost use Rattle.osm_model.specs.Data.{IsData};
-ghost use Rattle.osm_model.specs.Filter.{everything};
 ghost use Rattle.osm_model.specs.Limits.{max_file};
 ghost use Rattle.osm_save.specs.Save.{SpellsSave};
 ghost use Rattle.osm_follow.specs.Begin.{begun_of};
@@ -26,6 +25,7 @@ use crate::report::{Report, begin_report};
 use osm_follow::begin::BeginError;
 use osm_follow::follower::Follower;
 use osm_model::change::Change;
+use osm_model::filter::Filter;
 use osm_model::form::FormError;
 use osm_model::limits::MAX_FILE;
 use osm_state::state::State;
@@ -33,30 +33,31 @@ use osm_state::state_text::state_read;
 use osm_store::store::Store;
 use std::alloc::Global;
 
-/// Writes a save that begins with the objects of a data file, at the sequence and the time of the
-/// state that belongs to it, whatever the save held before. Its counts are those of the sequences
-/// after that one. A name that ends in `.opl` or `.o5m` tells the form of the data file; any other
-/// is refused as `UnknownForm`. A state of sequence 0 is refused as `ZeroBase`. A refusal leaves
-/// all files as they were.
+/// Writes a save that begins with those objects of a data file that the filter keeps, at the
+/// sequence and the time of the state that belongs to it, whatever the save held before. Its counts
+/// are those of the sequences after that one. A name that ends in `.opl` or `.o5m` tells the form of
+/// the data file; any other is refused as `UnknownForm`. A state of sequence 0 is refused as
+/// `ZeroBase`. A refusal leaves all files as they were.
 pub fn begin_run<S: Store>(
     alloc: Global,
     store: &mut S,
     base: &str,
     state: &str,
     save: &str,
+    filter: Filter,
 ) -> Result<Report, RunFault>
     ensures begun { IfOk result (λ report. IsKnown (S.state store.old)
-        → IsBegunFrom base.now state.now save.now (S.state store.old).files
+        → IsBegunFrom filter base.now state.now save.now (S.state store.old).files
         (S.state store.new).files report) }
     ensures in_step { IfOk result (λ report. IsKnown (S.state store.old)
         → (published : List PublishedValue) (number : ℕ)
         → IsBaseOf published number base.now state.now (S.state store.old).files
-        → IsSaveOf published number number ((S.state store.new).files save.now)
+        → IsSaveOf published filter number number ((S.state store.new).files save.now)
         × (report ≡ begin_report_of number)) }
     ensures report { IfOk result
         (λ report. (number : ℕ) × (0 < number) × (report ≡ begin_report_of number)) }
-    ensures stops { IfErr result (BeginStops (IsKnown (S.state store.old)) base.now state.now
-        (S.state store.old).files) }
+    ensures stops { IfErr result (BeginStops (IsKnown (S.state store.old)) filter
+        base.now state.now (S.state store.old).files) }
     ensures frame { Replaces 3 (S.state store.old) (S.state store.new) result }
 {
     let Some(form) = data_form_of(base) else {
@@ -64,7 +65,7 @@ pub fn begin_run<S: Store>(
     };
     let start = read_start(alloc, store, state)?;
     let objects = read_base(alloc, store, form, base)?;
-    let text = begun_text(alloc, &start, objects)?;
+    let text = begun_text(alloc, filter, &start, objects)?;
     let report = begin_report(alloc, start.sequence())?;
     write_file(alloc, store, FileName::Save, save, text.as_slice())?;
     Ok(report)
@@ -132,27 +133,36 @@ fn objects_of(alloc: Global, form: DataForm, bytes: &[u8]) -> Result<Vec<Change>
     }
 }
 
-// The save that begins with the objects at the state.
-fn begun_text(alloc: Global, start: &State, objects: Vec<Change>) -> Result<Vec<u8>, RunFault>
+// The save that begins with those of the objects that the filter keeps, at the state.
+fn begun_text(
+    alloc: Global,
+    filter: Filter,
+    start: &State,
+    objects: Vec<Change>,
+) -> Result<Vec<u8>, RunFault>
     requires above { 0 < start.now.sequence }
     requires are_data { IsData objects.items }
     ensures spelled { IfOk result
-        (λ text. SpellsSave text.items (begun_save start.now objects.items)) }
+        (λ text. SpellsSave text.items (begun_save filter start.now objects.items)) }
     ensures small { IfOk result (λ text. length text.items ≤ max_save) }
-    ensures stops { IfErr result (BegunStops start.now objects.items) }
+    ensures stops { IfErr result (BegunStops filter start.now objects.items) }
 {
-    let follower = begun(alloc, start, objects)?;
+    let follower = begun(alloc, filter, start, objects)?;
     save_text(alloc, &follower)
 }
 
-fn begun(alloc: Global, start: &State, objects: Vec<Change>) -> Result<Follower, RunFault>
+fn begun(
+    alloc: Global,
+    filter: Filter,
+    start: &State,
+    objects: Vec<Change>,
+) -> Result<Follower, RunFault>
     requires above { 0 < start.now.sequence }
     requires are_data { IsData objects.items }
-    ensures begun { IfOk result (λ f. f ≡ begun_of everything start.now objects.items) }
-    ensures all { IfOk result (λ f. f.mirror.objects ≡ objects.items) }
+    ensures begun { IfOk result (λ f. f ≡ begun_of filter start.now objects.items) }
     ensures stops { IfErr result (λ fault. fault ≡ RunFault.WantOfMemory) }
 {
-    match Follower::begin(alloc, start, objects) {
+    match Follower::begin_with(alloc, filter, start, objects) {
         Ok(follower) => Ok(follower),
         Err(BeginError::WantOfMemory) => Err(RunFault::WantOfMemory),
         Err(BeginError::BadSequence) => unreachable!(),

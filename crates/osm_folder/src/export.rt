@@ -2,6 +2,7 @@
 
 ghost use Rattle.std.specs.Prelude.{◌≡◌, ◌≤◌, ℕ, List, IfErr, IfOk, OnOk, length};
 ghost use Rattle.osm_model.specs.Data.{IsData};
+ghost use Rattle.osm_model.specs.Filter.{FilterValue};
 ghost use Rattle.osm_model.specs.Limits.{max_file};
 ghost use Rattle.osm_follow.specs.Published.{PublishedValue};
 ghost use Rattle.osm_save.specs.Save.{SpellsSave};
@@ -39,9 +40,9 @@ pub fn export_run<S: Store>(
     ensures exported { OnOk result (IsKnown (S.state store.old)
         → IsExported save.now output.now (S.state store.old).files (S.state store.new).files) }
     ensures in_step { OnOk result (IsKnown (S.state store.old)
-        → (published : List PublishedValue) (base number : ℕ)
-        → IsSaveOf published base number ((S.state store.old).files save.now)
-        → IsExportOf published number output.now ((S.state store.new).files output.now)) }
+        → (published : List PublishedValue) (given : FilterValue) (base number : ℕ)
+        → IsSaveOf published given base number ((S.state store.old).files save.now)
+        → IsExportOf published given number output.now ((S.state store.new).files output.now)) }
     ensures report { IfOk result (λ report. report ≡ convert_report_of) }
     ensures stops { IfErr result (ExportStops (IsKnown (S.state store.old)) save.now output.now
         (S.state store.old).files) }

@@ -95,7 +95,7 @@ pub enum RunFault {
     /// A line of a save, counted from 1, is wrong.
     #[error("save: line {0}")]
     BadSave(u64),
-    /// The save is that of an extract: a filter was given when it began.
+    /// The save was saved under another filter.
     #[error("save: other filter")]
     OtherFilter,
     /// A line of a script, counted from 1 over all lines, isn't an event.
@@ -123,6 +123,10 @@ pub enum RunFault {
     /// The number isn't 1 to 9 digits.
     #[error("bad sequence")]
     BadSequence,
+    /// The kinds aren't some of `n`, `w` and `r` in this order, a key isn't a text, or there are more
+    /// than 100 different keys.
+    #[error("bad filter")]
+    BadFilter,
     /// The number is published, but with other changes, at another time, or some files are gone.
     #[error("sequence {0}: already published, and differs")]
     Differs(u32),
@@ -137,7 +141,10 @@ impl RunFault {
         ensures { result ≡ status_of self.now }
     {
         match self {
-            RunFault::UnknownForm | RunFault::BadNow | RunFault::BadSequence => 2,
+            RunFault::UnknownForm
+            | RunFault::BadNow
+            | RunFault::BadSequence
+            | RunFault::BadFilter => 2,
             _ => 3,
         }
     }

@@ -33,6 +33,7 @@ use crate::start::{MAX_SAVE, read_start};
 use osm_follow::delivery::{DeliverError, Delivered};
 use osm_follow::follower::Follower;
 use osm_follow::view::ViewError;
+use osm_model::filter::Filter;
 use osm_model::form::{ChangeForm, FormError};
 use osm_model::memory::WantOfMemory;
 use osm_o5c::o5c::O5c;
@@ -53,30 +54,34 @@ pub(crate) struct Following {
 }
 
 /// Follows a folder from a save, or from the start if there is none, up to the folder's newest
-/// state or to the first lost number, and writes the save. A number is lost if its state isn't
-/// there, or its changes in neither form. The lost numbers are named, up to 64 after the one that
-/// was reached: of those beyond the first it is asked only which files are there, so a faulty file
-/// there is no fault of the run. A refusal leaves all files as they were.
+/// state or to the first lost number, and writes the save. Of the objects it keeps those that the
+/// filter keeps; the edits of all others are counted too. A save of another filter is refused as
+/// `OtherFilter`. A number is lost if its state isn't there, or its changes in neither form. The
+/// lost numbers are named, up to 64 after the one that was reached: of those beyond the first it is
+/// asked only which files are there, so a faulty file there is no fault of the run. A refusal
+/// leaves all files as they were.
 pub fn follow_run<S: Store>(
     alloc: Global,
     store: &mut S,
     dir: &str,
     save: &str,
+    filter: Filter,
 ) -> Result<Report, RunFault>
     ensures followed { IfOk result (λ report. IsKnown (S.state store.old)
-        → IsFollowed dir.now save.now (S.state store.old).files (S.state store.new).files report) }
+        → IsFollowed filter dir.now save.now (S.state store.old).files (S.state store.new).files
+        report) }
     ensures report { IfOk result IsFollowReport }
-    ensures stops { IfErr result (FollowStops (IsKnown (S.state store.old))
+    ensures stops { IfErr result (FollowStops (IsKnown (S.state store.old)) filter
         dir.now save.now (S.state store.old).files) }
     ensures over { IsKnown (S.state store.old) → (published : List PublishedValue) (base number : ℕ)
         → IsFolderOf published (S.state store.old).files dir.now
-        → IsSaveOf published base number ((S.state store.old).files save.now)
-        → FollowsOver published base number dir.now save.now
+        → IsSaveOf published filter base number ((S.state store.old).files save.now)
+        → FollowsOver published filter base number dir.now save.now
         (S.state store.old) (S.state store.new) result }
     ensures frame { ReplacesAtLeast 3 (S.state store.old) (S.state store.new) result }
 {
     laws_of_state();
-    let made = prepare(alloc, store, dir, save)?;
+    let made = prepare(alloc, store, dir, save, filter)?;
     write_file(alloc, store, FileName::Save, save, made.text.as_slice())?;
     Ok(made.report)
 }
@@ -87,22 +92,23 @@ fn prepare<S: Store>(
     store: &mut S,
     dir: &str,
     save: &str,
+    filter: Filter,
 ) -> Result<Following, RunFault>
     ensures made { IfOk result (λ a. IsKnown (S.state store.old)
-        → IsFollowing dir.now save.now (S.state store.old).files a.text.items a.report) }
+        → IsFollowing filter dir.now save.now (S.state store.old).files a.text.items a.report) }
     ensures small { IfOk result (λ a. length a.text.items ≤ max_save) }
     ensures report { IfOk result (λ a. IsFollowReport a.report) }
-    ensures stops { IfErr result (FollowStops (IsKnown (S.state store.old))
+    ensures stops { IfErr result (FollowStops (IsKnown (S.state store.old)) filter
         dir.now save.now (S.state store.old).files) }
     ensures calls { IsKnown (S.state store.old)
         → (published : List PublishedValue) (base number : ℕ)
         → IsFolderOf published (S.state store.old).files dir.now
-        → IsSaveOf published base number ((S.state store.old).files save.now)
+        → IsSaveOf published filter base number ((S.state store.old).files save.now)
         → CallsUpTo (2 + 3 * (length published - number))
         (S.state store.old) (S.state store.new) result }
     ensures frame { ReadsAtLeast 2 (S.state store.old) (S.state store.new) result }
 {
-    let mut start = read_start(alloc, store, dir, save)?;
+    let mut start = read_start(alloc, store, dir, save, filter)?;
     let top = start.top.sequence();
     if top < number_of(&start.follower) {
         return Err(RunFault::TopBehind);

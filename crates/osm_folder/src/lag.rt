@@ -1,6 +1,7 @@
 //! How far a saved follower is behind a folder.
 
 ghost use Rattle.std.specs.Prelude.{◌≡◌, ℕ, List, IfErr, IfOk};
+ghost use Rattle.osm_model.specs.Filter.{FilterValue};
 ghost use Rattle.osm_save.specs.Head.{BeginsSave};
 ghost use Rattle.osm_follow.specs.Published.{PublishedValue};
 ghost use Rattle.osm_folder.specs.Folder.{IsFolderOf};
@@ -39,9 +40,10 @@ pub fn lag_run<S: Store>(
     ensures report { IfOk result IsLagReport }
     ensures stops { IfErr result
         (LagStops (IsKnown (S.state store.old)) dir.now save.now (S.state store.old).files) }
-    ensures over { IsKnown (S.state store.old) → (published : List PublishedValue) (base number : ℕ)
+    ensures over { IsKnown (S.state store.old)
+        → (published : List PublishedValue) (given : FilterValue) (base number : ℕ)
         → IsFolderOf published (S.state store.old).files dir.now
-        → IsSaveOf published base number ((S.state store.old).files save.now)
+        → IsSaveOf published given base number ((S.state store.old).files save.now)
         → LagsOver published number result }
     ensures frame { Reads 2 (S.state store.old) (S.state store.new) result }
 {

@@ -9,6 +9,7 @@ pub mod export;
 pub mod fault;
 mod fetch;
 mod files;
+pub mod filters;
 pub mod follow;
 pub mod form;
 pub mod lag;

@@ -18,6 +18,7 @@ use crate::files::write_file;
 use crate::follow::{Following, follow_run, go_on, number_of};
 use crate::report::Report;
 use crate::start::read_start;
+use osm_model::filter::Filter;
 use osm_state::laws::laws_of_state;
 use osm_state::paths::Suffix;
 use osm_store::store::Store;
@@ -40,23 +41,25 @@ pub fn follow_progress<S: Store>(
     store: &mut S,
     dir: &str,
     save: &str,
+    filter: Filter,
 ) -> Result<Progress, RunFault>
-    ensures done { IfOk result (IsProgress (IsKnown (S.state store.old))
+    ensures done { IfOk result (IsProgress (IsKnown (S.state store.old)) filter
         dir.now save.now (S.state store.old).files (S.state store.new).files) }
     ensures report { IfOk result IsProgressReport }
-    ensures stops { IfErr result (ProgressStops (IsKnown (S.state store.old))
+    ensures stops { IfErr result (ProgressStops (IsKnown (S.state store.old)) filter
         dir.now save.now (S.state store.old).files) }
     ensures over { IsKnown (S.state store.old) → (published : List PublishedValue) (base number : ℕ)
         → IsFolderOf published (S.state store.old).files dir.now
-        → IsSaveOf published base number ((S.state store.old).files save.now)
-        → IsWhole result (FollowsOver published base number dir.now save.now
+        → IsSaveOf published filter base number ((S.state store.old).files save.now)
+        → IsWhole result (FollowsOver published filter base number dir.now save.now
         (S.state store.old) (S.state store.new)) }
     ensures frame { ReplacesAtLeast 3 (S.state store.old) (S.state store.new) result }
 {
-    match follow_run(alloc, store, dir, save) {
+    let again = filter.copy(alloc)?;
+    match follow_run(alloc, store, dir, save, filter) {
         Ok(report) => Ok(Progress::Whole(report)),
         Err(fault) => match faulty_number(&fault) {
-            Some(number) => follow_before(alloc, store, dir, save, number, fault),
+            Some(number) => follow_before(alloc, store, dir, save, again, number, fault),
             None => Err(fault),
         },
     }
@@ -68,21 +71,22 @@ fn follow_before<S: Store>(
     store: &mut S,
     dir: &str,
     save: &str,
+    filter: Filter,
     number: u32,
     fault: RunFault,
 ) -> Result<Progress, RunFault>
     requires content { IsOfContent fault number }
-    requires stops { FollowStops (IsKnown (S.state store.old))
+    requires stops { FollowStops (IsKnown (S.state store.old)) filter
         dir.now save.now (S.state store.old).files fault }
-    ensures done { IfOk result (IsProgress (IsKnown (S.state store.old))
+    ensures done { IfOk result (IsProgress (IsKnown (S.state store.old)) filter
         dir.now save.now (S.state store.old).files (S.state store.new).files) }
     ensures report { IfOk result IsProgressReport }
-    ensures stops { IfErr result (ProgressStops (IsKnown (S.state store.old))
+    ensures stops { IfErr result (ProgressStops (IsKnown (S.state store.old)) filter
         dir.now save.now (S.state store.old).files) }
     ensures frame { ReplacesAtLeast 3 (S.state store.old) (S.state store.new) result }
 {
     laws_of_state();
-    let Some(made) = prepare_before(alloc, store, dir, save, number)? else {
+    let Some(made) = prepare_before(alloc, store, dir, save, filter, number)? else {
         return Err(fault);
     };
     write_file(alloc, store, FileName::Save, save, made.text.as_slice())?;
@@ -109,19 +113,20 @@ fn prepare_before<S: Store>(
     store: &mut S,
     dir: &str,
     save: &str,
+    filter: Filter,
     number: u32,
 ) -> Result<Option<Following>, RunFault>
     ensures made { IfOk result (λ o. IsKnown (S.state store.old) → MatchOption o
-        (IsNothingBefore dir.now save.now (S.state store.old).files number)
-        (λ a. IsMadeBefore dir.now save.now (S.state store.old).files number
+        (IsNothingBefore filter dir.now save.now (S.state store.old).files number)
+        (λ a. IsMadeBefore filter dir.now save.now (S.state store.old).files number
         a.text.items a.report)) }
     ensures small { IfOk result (λ o. IfSome o (λ a. length a.text.items ≤ max_save)) }
     ensures report { IfOk result (λ o. IfSome o (λ a. IsFollowReport a.report)) }
-    ensures stops { IfErr result (MadeBeforeStops (IsKnown (S.state store.old))
+    ensures stops { IfErr result (MadeBeforeStops (IsKnown (S.state store.old)) filter
         dir.now save.now (S.state store.old).files number) }
     ensures frame { ReadsAtLeast 2 (S.state store.old) (S.state store.new) result }
 {
-    let mut start = read_start(alloc, store, dir, save)?;
+    let mut start = read_start(alloc, store, dir, save, filter)?;
     let last = last_before(start.top.sequence(), number);
     if last <= number_of(&start.follower) {
         return Ok(None);

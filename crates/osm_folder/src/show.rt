@@ -1,6 +1,7 @@
 //! Showing what a save holds.
 
 ghost use Rattle.std.specs.Prelude.{◌≡◌, ℕ, List, false, IfErr, IfOk};
+ghost use Rattle.osm_model.specs.Filter.{FilterValue};
 ghost use Rattle.osm_save.specs.Save.{SpellsSave};
 ghost use Rattle.osm_follow.specs.Published.{PublishedValue};
 ghost use Rattle.osm_follow.specs.Restart.{saved_of};
@@ -28,9 +29,9 @@ pub fn show_run<S: Store>(alloc: Global, store: &mut S, save: &str) -> Result<Re
     ensures shown { IfOk result (λ report. IsKnown (S.state store.old)
         → IsShown ((S.state store.old).files save.now) report) }
     ensures in_step { IfOk result (λ report. IsKnown (S.state store.old)
-        → (published : List PublishedValue) (base number : ℕ)
-        → IsSaveOf published base number ((S.state store.old).files save.now)
-        → IsShownOf published base number report) }
+        → (published : List PublishedValue) (given : FilterValue) (base number : ℕ)
+        → IsSaveOf published given base number ((S.state store.old).files save.now)
+        → IsShownOf published given base number report) }
     ensures report { IfOk result (λ report. (view : ViewValue) × (report ≡ show_report_of view)) }
     ensures stops { IfErr result
         (ShowStops (IsKnown (S.state store.old)) ((S.state store.old).files save.now)) }

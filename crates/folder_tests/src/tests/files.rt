@@ -4,11 +4,13 @@ use osm_folder::begin::begin_run;
 use osm_folder::convert::convert_run;
 use osm_folder::export::export_run;
 use osm_folder::fault::RunFault;
+use osm_folder::filters::filter_of;
 use osm_folder::follow::follow_run;
 use osm_folder::lag::lag_run;
 use osm_folder::publish::publish_run;
 use osm_folder::report::Report;
 use osm_folder::show::show_run;
+use osm_model::filter::Filter;
 use osm_model::memory::WantOfMemory;
 use osm_store::memory_store::MemoryStore;
 use osm_store::store::Store;
@@ -49,15 +51,20 @@ pub fn are_files(store: &MemoryStore, files: &[(&str, &[u8])]) -> bool {
     true
 }
 
-/// A run over the folder `dir`.
+/// A run over the folder `dir`. One of an extract keeps the ways with a tag `highway`, any other
+/// keeps all objects.
 #[derive(Clone, Copy, Debug)]
 pub enum Run {
     /// Publishes the changes of `changes`, at New Year.
     Publish,
     /// Begins the save `save` with the data file of that name and the state `state`.
     Begin(&'static str),
+    /// The same, of an extract.
+    BeginExtract(&'static str),
     /// Follows from the save.
     Follow,
+    /// Follows from the save of an extract.
+    FollowExtract,
     /// Prints the lag of the save.
     Lag,
     /// Shows the save.
@@ -72,8 +79,16 @@ pub enum Run {
 pub fn outcome<S: Store>(alloc: Global, store: &mut S, run: Run) -> Result<Report, RunFault> {
     match run {
         Run::Publish => publish_run(alloc, store, "dir", "changes", "2024-01-01T00:00:00Z"),
-        Run::Begin(base) => begin_run(alloc, store, base, "state", "save"),
-        Run::Follow => follow_run(alloc, store, "dir", "save"),
+        Run::Begin(base) => begin_run(alloc, store, base, "state", "save", Filter::all(alloc)),
+        Run::BeginExtract(base) => {
+            let filter = filter_of(alloc, "w", &["highway"])?;
+            begin_run(alloc, store, base, "state", "save", filter)
+        }
+        Run::Follow => follow_run(alloc, store, "dir", "save", Filter::all(alloc)),
+        Run::FollowExtract => {
+            let filter = filter_of(alloc, "w", &["highway"])?;
+            follow_run(alloc, store, "dir", "save", filter)
+        }
         Run::Lag => lag_run(alloc, store, "dir", "save"),
         Run::Show => show_run(alloc, store, "save"),
         Run::Export(output) => export_run(alloc, store, "save", output),

@@ -8,6 +8,7 @@ use osm_folder::convert::convert_run;
 use osm_folder::fault::{FileName, RunFault};
 use osm_folder::progress::{Progress, follow_progress};
 use osm_folder::publish::publish_run;
+use osm_model::filter::Filter;
 use osm_state::paths::Suffix;
 use osm_store::memory_store::MemoryStore;
 use osm_store::stopping_store::StoppingStore;
@@ -479,7 +480,7 @@ fn is_kept(
     expected: Option<&str>,
     fault: RunFault,
 ) -> bool {
-    match follow_progress(alloc, store, "dir", "save") {
+    match follow_progress(alloc, store, "dir", "save", Filter::all(alloc)) {
         Ok(Progress::Whole(_)) => false,
         Ok(Progress::Before(report, last)) => {
             let text = expected.unwrap_or("");

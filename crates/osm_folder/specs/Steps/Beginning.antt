@@ -3,6 +3,7 @@ use Rattle.std.specs.Prelude.{◌≡◌, ℕ, ◌<◌, ◌≤◌, List, length, 
 use Rattle.osm_model.specs.Change.{ChangeValue}
 use Rattle.osm_model.specs.ChangeForm.{SpellsNothing}
 use Rattle.osm_model.specs.Data.{IsData}
+use Rattle.osm_model.specs.Filter.{FilterValue}
 use Rattle.osm_model.specs.Limits.{max_file}
 use Rattle.osm_save.specs.Save.{SpellsSave}
 use Rattle.osm_state.specs.State.{StateValue}
@@ -74,9 +75,9 @@ BaseStops known form told (TooLarge Base) = known → IsOver max_file told
 BaseStops known form told (BadChange Base place why) = known → IsFaultyBase form told place
 BaseStops known form told fault = ⊥
 
--- why no save is made of objects at a state
-abbrev pub BegunStops : StateValue → List ChangeValue → RunFault → Type 0
-BegunStops s objects WantOfMemory = Unit {0}
-BegunStops s objects (TooLarge Save) =
-    (text : List ℕ) × SpellsSave text (begun_save s objects) × (max_save < length text)
-BegunStops s objects fault = ⊥
+-- why no save is made of what the filter keeps of objects at a state
+abbrev pub BegunStops : FilterValue → StateValue → List ChangeValue → RunFault → Type 0
+BegunStops given s objects WantOfMemory = Unit {0}
+BegunStops given s objects (TooLarge Save) =
+    (text : List ℕ) × SpellsSave text (begun_save given s objects) × (max_save < length text)
+BegunStops given s objects fault = ⊥

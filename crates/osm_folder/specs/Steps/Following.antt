@@ -1,8 +1,9 @@
--- Steps of a run of the follower. `known` says that it is known what the files hold.
+-- Steps of a run of the follower. `known` says that it is known what the files hold, and `given` is
+-- the filter that the run was given.
 use Rattle.std.specs.Prelude.{◌≡◌, ◌≢◌, ℕ, ◌+◌, ◌<◌, ◌≤◌, ◌⊎◌, List, [], ◌∷◌, ◌++◌, length, true}
 use Rattle.std.specs.Prelude.{false, suc, filter, Bool, Option, Some, None, is_some, Vec, Ok}
 use Rattle.osm_model.specs.ChangeForm.{SpellsNothing}
-use Rattle.osm_model.specs.Filter.{everything}
+use Rattle.osm_model.specs.Filter.{FilterValue}
 use Rattle.osm_model.specs.Limits.{max_file}
 use Rattle.osm_save.specs.Save.{SpellsSave}
 use Rattle.osm_save.specs.declared.save.Saved.{Saved}
@@ -44,19 +45,19 @@ SavedStops text WantOfMemory = Unit {0}
 SavedStops text (BadSave line) = (v : Saved) → SpellsSave text v → ⊥
 SavedStops text fault = ⊥
 
--- why a follower of all objects doesn't go on from a text
-abbrev pub RestartStops : List ℕ → RunFault → Type 0
-RestartStops text OtherFilter = (v : Saved) × SpellsSave text v × (v.filter ≢ everything)
-RestartStops text fault = SavedStops text fault
+-- why a follower with that filter doesn't go on from a text
+abbrev pub RestartStops : FilterValue → List ℕ → RunFault → Type 0
+RestartStops given text OtherFilter = (v : Saved) × SpellsSave text v × (v.filter ≢ given)
+RestartStops given text fault = SavedStops text fault
 
 -- why a follower doesn't go on from a save
-abbrev pub FollowerStops : Type 0 → Option (List ℕ) → RunFault → Type 0
-FollowerStops known told WantOfMemory = Unit {0}
-FollowerStops known told (ReadFault file) = file ≡ Save
-FollowerStops known told (TooLarge file) = (file ≡ Save) × (known → IsOver max_save told)
-FollowerStops known told (BadSave line) = known → IsBadSave told
-FollowerStops known told OtherFilter = known → IsOtherSave told
-FollowerStops known told fault = ⊥
+abbrev pub FollowerStops : Type 0 → FilterValue → Option (List ℕ) → RunFault → Type 0
+FollowerStops known given told WantOfMemory = Unit {0}
+FollowerStops known given told (ReadFault file) = file ≡ Save
+FollowerStops known given told (TooLarge file) = (file ≡ Save) × (known → IsOver max_save told)
+FollowerStops known given told (BadSave line) = known → IsBadSave told
+FollowerStops known given told OtherFilter = known → IsOtherSave given told
+FollowerStops known given told fault = ⊥
 
 -- why the top state isn't read
 abbrev pub TopStateStops : Type 0 → Option (List ℕ) → RunFault → Type 0

@@ -9,20 +9,20 @@ use Rattle.osm_folder.proofs.begin.begin_run.Goals as goal
 pub returns-in_err-start-clause-stops : goal.returns-in_err-start-clause-stops
 returns-in_err-start-clause-stops g c =
     same_err _ c.from_residual.result _ c.from_residual.ensures.1
-    (start_stops (IsKnown (g.S.Store.state c.args.store.now)) c.args.base.now c.args.state.now (g.S.Store.state c.args.store.now).files
+    (start_stops c.args.filter (IsKnown (g.S.Store.state c.args.store.now)) c.args.base.now c.args.state.now (g.S.Store.state c.args.store.now).files
     (record { form = c.in-Some.form; end = c.in-Some.ensures.found }) _ c.in_err-start.ensures.stops)
 
 pub returns-in_err-objects-clause-stops : goal.returns-in_err-objects-clause-stops
 returns-in_err-objects-clause-stops g c =
     same_err _ c.from_residual-in_err-objects.result _ c.from_residual-in_err-objects.ensures.1
-    (base_stops (IsKnown (g.S.Store.state c.args.store.now)) c.args.base.now c.args.state.now (g.S.Store.state c.args.store.now).files
+    (base_stops c.args.filter (IsKnown (g.S.Store.state c.args.store.now)) c.args.base.now c.args.state.now (g.S.Store.state c.args.store.now).files
     c.in-Some.form c.in-Some.ensures.found (λ yes. (c.in_ok-start.start, c.in_ok-start.ensures.start yes)) _
     (rw (c.read_start.ensures.frame.makes.known, c.read_start.ensures.frame.files) at c.in_err-objects.ensures.stops))
 
 pub returns-in_err-text-clause-stops : goal.returns-in_err-text-clause-stops
 returns-in_err-text-clause-stops g c =
     same_err _ c.from_residual-in_err-text.result _ c.from_residual-in_err-text.ensures.1
-    (text_stops (IsKnown (g.S.Store.state c.args.store.now)) c.args.base.now c.args.state.now (g.S.Store.state c.args.store.now).files
+    (text_stops c.args.filter (IsKnown (g.S.Store.state c.args.store.now)) c.args.base.now c.args.state.now (g.S.Store.state c.args.store.now).files
     c.in-Some.form c.in_ok-start.start c.in_ok-objects.objects.items c.in-Some.ensures.found c.in_ok-start.ensures.start
     (rw (c.read_start.ensures.frame.makes.known, c.read_start.ensures.frame.files) at c.in_ok-objects.ensures.read)
     _ c.in_err-text.ensures.stops)
@@ -31,12 +31,12 @@ pub returns-in_err-write_file-clause-stops : goal.returns-in_err-write_file-clau
 returns-in_err-write_file-clause-stops g c =
     let read = rw (c.read_start.ensures.frame.makes.known, c.read_start.ensures.frame.files) at c.in_ok-objects.ensures.read in
     same_err _ c.from_residual-in_err-write_file.result _ c.from_residual-in_err-write_file.ensures.1
-    (put_stops (IsKnown (g.S.Store.state c.args.store.now)) c.args.base.now c.args.state.now (g.S.Store.state c.args.store.now).files
+    (put_stops c.args.filter (IsKnown (g.S.Store.state c.args.store.now)) c.args.base.now c.args.state.now (g.S.Store.state c.args.store.now).files
     (record { form = c.in-Some.form; end = c.in-Some.ensures.found })
     (λ yes. (
       c.in_ok-start.start,
       c.in_ok-text.text.items,
-      beginning_of c.args.base.now c.args.state.now c.in_ok-text.text.items (g.S.Store.state c.args.store.now).files c.in-Some.form
+      beginning_of c.args.filter c.args.base.now c.args.state.now c.in_ok-text.text.items (g.S.Store.state c.args.store.now).files c.in-Some.form
           c.in_ok-start.start c.in_ok-objects.objects.items c.in-Some.ensures.found (c.in_ok-start.ensures.start yes) (read yes)
           c.in_ok-text.ensures.spelled,
       c.in_ok-text.ensures.small,
@@ -50,7 +50,7 @@ begun g c = λ yes.
     record {
       s = c.in_ok-start.start;
       text = c.in_ok-text.text.items;
-      beginning = beginning_of c.args.base.now c.args.state.now c.in_ok-text.text.items (g.S.Store.state c.args.store.now).files
+      beginning = beginning_of c.args.filter c.args.base.now c.args.state.now c.in_ok-text.text.items (g.S.Store.state c.args.store.now).files
           c.in-Some.form c.in_ok-start.start c.in_ok-objects.objects.items c.in-Some.ensures.found (c.in_ok-start.ensures.start yes)
           (read yes) c.in_ok-text.ensures.spelled;
       small = c.in_ok-text.ensures.small;
@@ -66,5 +66,5 @@ returns-clause-begun g c = begun g c
 
 pub returns-clause-in_step : goal.returns-clause-in_step
 returns-clause-in_step g c = λ yes ps number of.
-    begun_in_step ps number c.args.base.now c.args.state.now c.args.save.now (g.S.Store.state c.args.store.now).files
+    begun_in_step c.args.filter ps number c.args.base.now c.args.state.now c.args.save.now (g.S.Store.state c.args.store.now).files
     (g.S.Store.state c.write_file.new.store).files c.in_ok-report.report of (begun g c yes)

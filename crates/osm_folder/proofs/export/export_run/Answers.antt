@@ -40,6 +40,6 @@ pub returns-clause-exported : goal.returns-clause-exported
 returns-clause-exported g c = exported g c
 
 pub returns-clause-in_step : goal.returns-clause-in_step
-returns-clause-in_step g c = λ yes ps base number saved.
-    export_of ps base number c.args.save.now c.args.output.now (g.S.Store.state c.args.store.now).files
+returns-clause-in_step g c = λ yes ps given base number saved.
+    export_of given ps base number c.args.save.now c.args.output.now (g.S.Store.state c.args.store.now).files
     (g.S.Store.state c.write_file.new.store).files saved (exported g c yes)

@@ -1,4 +1,3 @@
-use Rattle.osm_folder.specs.Steps.Exporting.{IsObjectsOf}
 use Rattle.osm_folder.proofs.ExportLemmas.{saved_objects}
 use Rattle.osm_folder.proofs.export.read_objects.Goals as goal
 

@@ -9,13 +9,13 @@ pub returns-clause-stops : goal.returns-clause-stops
 returns-clause-stops g c =
     let stops = rw (c.read_start.ensures.frame.makes.known, c.read_start.ensures.frame.files) at c.go_on.ensures.stops in
     err_map _ _ c.go_on.result stops (λ fault s.
-    go_on_stops (IsKnown (g.S.Store.state c.args.store.now)) c.args.dir.now c.args.save.now
+    go_on_stops c.args.filter (IsKnown (g.S.Store.state c.args.store.now)) c.args.dir.now c.args.save.now
     (g.S.Store.state c.args.store.now).files (saved_of c.in_ok-start.start.follower) c.in_ok-start.start.top
     c.sequence-top.result fault c.in_ok-start.ensures.started c.sequence-top.ensures.sequence s)
 
 pub returns-clause-calls : goal.returns-clause-calls
 returns-clause-calls g c = λ yes p b n folder saved.
-    way_calls p b n c.args.dir.now c.args.save.now (g.S.Store.state c.args.store.now).files
+    way_calls c.args.filter p b n c.args.dir.now c.args.save.now (g.S.Store.state c.args.store.now).files
     (saved_of c.in_ok-start.start.follower) c.in_ok-start.start.top c.sequence-top.result
     (g.S.Store.state c.args.store.now) (g.S.Store.state c.read_start.new.store) (g.S.Store.state c.go_on.new.store)
     c.in_ok-start.start c.go_on.result c.sequence-top.ensures.sequence folder saved (c.in_ok-start.ensures.started yes)

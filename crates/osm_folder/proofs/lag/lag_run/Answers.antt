@@ -11,10 +11,10 @@ returns-in_err-start-clause-stops g c =
     (g.S.Store.state c.args.store.now).files _ c.in_err-start.ensures.stops)
 
 pub returns-in_err-start-clause-over : goal.returns-in_err-start-clause-over
-returns-in_err-start-clause-over g c = λ yes p b n is s.
+returns-in_err-start-clause-over g c = λ yes p given b n is s.
     same_result (LagsOver p n) c.from_residual.result _ c.from_residual.ensures.1 (record {
       in_step = tt;
-      refuses = lag_refuses p b n c.args.dir.now c.args.save.now (g.S.Store.state c.args.store.now).files
+      refuses = lag_refuses given p b n c.args.dir.now c.args.save.now (g.S.Store.state c.args.store.now).files
           (IsKnown (g.S.Store.state c.args.store.now)) _ c.laws_of_state.ensures.no_fault_beside_state yes is s
           (head_lags (IsKnown (g.S.Store.state c.args.store.now)) c.args.dir.now c.args.save.now
           (g.S.Store.state c.args.store.now).files _ c.in_err-start.ensures.stops);
@@ -28,10 +28,10 @@ returns-in_err-top-clause-stops g c =
     (rw (c.read_start.ensures.frame.makes.known, c.read_start.ensures.frame.files) at c.in_err-top.ensures.stops))
 
 pub returns-in_err-top-clause-over : goal.returns-in_err-top-clause-over
-returns-in_err-top-clause-over g c = λ yes p b n is s.
+returns-in_err-top-clause-over g c = λ yes p given b n is s.
     same_result (LagsOver p n) c.from_residual-in_err-top.result _ c.from_residual-in_err-top.ensures.1 (record {
       in_step = tt;
-      refuses = lag_refuses p b n c.args.dir.now c.args.save.now (g.S.Store.state c.args.store.now).files
+      refuses = lag_refuses given p b n c.args.dir.now c.args.save.now (g.S.Store.state c.args.store.now).files
           (IsKnown (g.S.Store.state c.args.store.now)) _ c.laws_of_state.ensures.no_fault_beside_state yes is s
           (top_lags (IsKnown (g.S.Store.state c.args.store.now)) c.args.dir.now c.args.save.now
           (g.S.Store.state c.args.store.now).files c.in_ok-start.start _ c.in_ok-start.ensures.head
@@ -54,16 +54,16 @@ returns-clause-stops g c =
     (λ yes. record { head = c.in_ok-start.ensures.head yes; top_is = top yes }) stops)
 
 pub returns-clause-over : goal.returns-clause-over
-returns-clause-over g c = λ yes p b n is s.
+returns-clause-over g c = λ yes p given b n is s.
     let top = rw (c.read_start.ensures.frame.makes.known, c.read_start.ensures.frame.files) at c.in_ok-top.ensures.top in
     let begun : IsBegun c.args.dir.now c.args.save.now (g.S.Store.state c.args.store.now).files c.in_ok-start.start
     c.in_ok-top.top = record { head = c.in_ok-start.ensures.head yes; top_is = top yes } in
     record {
       in_step = ok_map _ _ c.tell.result c.tell.ensures.told (λ report told.
-          lag_of p b n c.args.dir.now c.args.save.now (g.S.Store.state c.args.store.now).files report is s
+          lag_of given p b n c.args.dir.now c.args.save.now (g.S.Store.state c.args.store.now).files report is s
           (is_lag _ _ _ c.in_ok-start.start c.in_ok-top.top report begun told));
       refuses = err_map _ _ c.tell.result c.tell.ensures.stops (λ fault stops.
-          lag_refuses p b n c.args.dir.now c.args.save.now (g.S.Store.state c.args.store.now).files
+          lag_refuses given p b n c.args.dir.now c.args.save.now (g.S.Store.state c.args.store.now).files
           (IsKnown (g.S.Store.state c.args.store.now)) fault c.laws_of_state.ensures.no_fault_beside_state yes is s
           (told_lags (IsKnown (g.S.Store.state c.args.store.now)) c.args.dir.now c.args.save.now
           (g.S.Store.state c.args.store.now).files c.in_ok-start.start c.in_ok-top.top fault (λ sure. begun) stops));

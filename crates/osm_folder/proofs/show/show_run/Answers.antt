@@ -12,8 +12,8 @@ returns-in_err-follower-clause-stops g c =
     c.in_ok-text.ensures.read c.in_ok-text.ensures.within c.in_err-follower.ensures.stops)
 
 pub returns-clause-in_step : goal.returns-clause-in_step
-returns-clause-in_step g c = λ yes p b n is.
-    shown_of p b n ((g.S.Store.state c.args.store.now).files c.args.save.now) c.in_ok-report.report is (record {
+returns-clause-in_step g c = λ yes p given b n is.
+    shown_of given p b n ((g.S.Store.state c.args.store.now).files c.args.save.now) c.in_ok-report.report is (record {
       bytes = c.in_ok-text.text.items;
       saved = saved_of c.in_ok-follower.follower;
       there = c.in_ok-text.ensures.read yes;
