@@ -1,6 +1,7 @@
 -- The names of the program's folder, save, changes and extract meet the premises of the main statement.
 use Rattle.std.proofs.Common.{◌≡◌, ℕ, List, refl, arith, ap, get_or, None, Ok, Err, IfOk, codes}
 use Rattle.std.specs.Prelude.{Result}
+use Rattle.osm_model.specs.Filter.{FilterValue}
 use Rattle.osm_store.specs.Files.{Files}
 use Rattle.osm_folder.specs.Folder.{IsApart}
 use Rattle.osm_folder.specs.Names.{file_name_of, top_name_of}
@@ -29,13 +30,15 @@ names_are_apart = record {
 }
 
 -- what holds for a run under the premises holds for one in a new store
-pub holds_in_new_store : (operations : List Operation) (result : Result Outcome WantOfMemory) (start : Files)
+pub holds_in_new_store : (given : FilterValue) (operations : List Operation) (result : Result Outcome WantOfMemory) (start : Files)
     → start ≡ (λ name. None)
     → IfOk result (λ r. AreApart (codes "dir") (codes "save") (codes "changes") (codes "extract.opl") → IsNew (codes "dir") (codes "save") start
-    → IsRun operations r.replies.items (codes "dir") (codes "save") (codes "changes") (codes "extract.opl") start (files_of r.store))
-    → IfOk result (λ r. IsRun operations r.replies.items (codes "dir") (codes "save") (codes "changes") (codes "extract.opl") (λ name. None) (files_of r.store))
-holds_in_new_store operations (Ok r) start new h =
+    → IsRun given operations r.replies.items (codes "dir") (codes "save") (codes "changes") (codes "extract.opl") start (files_of r.store))
+    → IfOk result (λ r. IsRun given operations r.replies.items (codes "dir") (codes "save") (codes "changes") (codes "extract.opl") (λ name. None)
+    (files_of r.store))
+holds_in_new_store given operations (Ok r) start new h =
     let run : (AreApart (codes "dir") (codes "save") (codes "changes") (codes "extract.opl") → IsNew (codes "dir") (codes "save") (λ name. None)
-    → IsRun operations r.replies.items (codes "dir") (codes "save") (codes "changes") (codes "extract.opl") (λ name. None) (files_of r.store)) = rw new at h in
+    → IsRun given operations r.replies.items (codes "dir") (codes "save") (codes "changes") (codes "extract.opl") (λ name. None)
+    (files_of r.store)) = rw new at h in
     run names_are_apart (record { top = refl; saved = refl; zero = refl })
-holds_in_new_store operations (Err refused) start new h = tt
+holds_in_new_store given operations (Err refused) start new h = tt

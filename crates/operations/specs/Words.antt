@@ -1,9 +1,12 @@
 -- What the words of a line mean.
-use Rattle.std.specs.Prelude.{◌≡◌, ℕ, List, [], ◌∷◌, ◌++◌, length, slice_index_or, codes}
+use Rattle.std.specs.Prelude.{◌≡◌, ◌≤◌, ℕ, List, [], ◌∷◌, ◌++◌, length, map, slice_index_or, codes}
+use Rattle.std.specs.Prelude.{drop, Option, Some, None}
 use Rattle.std.specs.Borrow.{Bor}
 use Rattle.osm_model.specs.Change.{ChangeValue}
+use Rattle.osm_model.specs.Filter.{FilterValue}
 use Rattle.osm_model.specs.Time.{TimeText}
 use Rattle.osm_opl.specs.Line.{SpellsLine}
+use Rattle.osm_folder.specs.Filters.{IsAsked}
 use Rattle.osm_reading.specs.Sequence.{SpellsSequence}
 use Rattle.osm_state.specs.declared.paths.Suffix.{Suffix}
 use Rattle.osm_state.specs.declared.paths.Suffix.TheVariants.{O5c, Opl, State}
@@ -14,6 +17,7 @@ use Rattle.osm_operations.specs.declared.operation.Operation.TheVariants.{Killed
 use Rattle.osm_operations.specs.declared.operation.Operation.TheVariants.{Follow, KilledFollow}
 use Rattle.osm_operations.specs.declared.operation.Operation.TheVariants.{FollowSpoiled}
 use Rattle.osm_operations.specs.declared.operation.Operation.TheVariants.{KilledFollowSpoiled}
+use Rattle.osm_operations.specs.declared.operation.Operation.TheVariants.{FollowOther}
 use Rattle.osm_operations.specs.declared.operation.Operation.TheVariants.{Export, KilledExport}
 use Rattle.osm_operations.specs.declared.operation.Operation.TheVariants.{Begin, KilledBegin}
 use Rattle.osm_operations.specs.declared.operation.Operation.TheVariants.{Lose, PutBack}
@@ -75,6 +79,13 @@ pub record IsKilledFollow (words : Words) (calls : ℕ) : Type 0 where
   pub first : word words 0 ≡ codes "killed"
   pub second : word words 1 ≡ codes "follow"
   pub calls_are : SpellsSequence (word words 2) calls
+
+-- `follow other KINDS KEY..`
+pub record IsFollowOther (words : Words) (f : FilterValue) : Type 0 where
+  pub many : 3 ≤ length words
+  pub first : word words 0 ≡ codes "follow"
+  pub second : word words 1 ≡ codes "other"
+  pub asked : IsAsked (word words 2) (map (λ key. key.now) (drop 3 words)) f
 
 -- `follow spoiled NUMBER SUFFIX`
 pub record IsFollowSpoiled (words : Words) (number : ℕ) (suffix : Suffix) : Type 0 where
@@ -145,6 +156,7 @@ Says words changes (KilledPublishAs batch time number calls) =
     IsKilledPublishAs words number calls time × (batch ≡ changes)
 Says words changes Follow = IsFollow words
 Says words changes (KilledFollow calls) = IsKilledFollow words calls
+Says words changes (FollowOther filter) = IsFollowOther words filter
 Says words changes (FollowSpoiled number suffix) = IsFollowSpoiled words number suffix
 Says words changes (KilledFollowSpoiled number suffix calls) =
     IsKilledFollowSpoiled words number suffix calls
@@ -162,6 +174,11 @@ changes_after (KilledPublish batch time calls) changes = []
 changes_after (PublishAs batch time number) changes = []
 changes_after (KilledPublishAs batch time number calls) changes = []
 changes_after operation changes = changes
+
+-- the filter of a list is that of those kinds and keys
+abbrev pub IsFiltered : List ℕ → List (List ℕ) → Option FilterValue → Type 0
+IsFiltered kinds keys None = ⊥
+IsFiltered kinds keys (Some f) = IsAsked kinds keys f
 
 -- the change on a line of OPL is added
 abbrev pub IsEdited : List ℕ → List ChangeValue → List ChangeValue → Type 0

@@ -1,11 +1,16 @@
 //! A list of operations, read line by line.
 
-ghost use Rattle.std.specs.Prelude.{◌≡◌, ℕ, [], Some, IfNone, IfSome, OnOk};
+ghost use Rattle.std.specs.Prelude.{◌≡◌, ℕ, [], None, Some, IfNone, IfSome, OnOk, map};
+ghost use Rattle.std.specs.Prelude.{unwrap_or};
+ghost use Rattle.osm_model.specs.Filter.{everything};
 ghost use Rattle.osm_reading.specs.Sequence.{SpellsSequence};
-ghost use Rattle.operations.specs.Words.{IsEdited, Says, changes_after, suffix_word};
+ghost use Rattle.operations.specs.Words.{IsEdited, IsFiltered, IsFollowOther, Says};
+ghost use Rattle.operations.specs.Words.{changes_after, suffix_word};
 
 use anyhow::{Result, bail};
+use osm_folder::filters::filter_of;
 use osm_model::batch::Batch;
+use osm_model::filter::Filter;
 use osm_model::time::time_read;
 use osm_operations::operation::Operation;
 use osm_opl::lines::read_line;
@@ -14,10 +19,11 @@ use osm_state::paths::Suffix;
 use std::alloc::Global;
 use std::mem;
 
-/// The operations so far, and the changes of the next publication.
+/// The filter if a line gave one, the operations so far, and the changes of the next publication.
 #[derive(Drop)]
 pub(crate) struct List {
     alloc: Global,
+    filter: Option<Filter>,
     changes: Batch,
     operations: Vec<Operation>,
 }
@@ -26,22 +32,38 @@ impl List {
     pub(crate) fn new(alloc: Global) -> List {
         List {
             alloc,
+            filter: None,
             changes: Batch::new(alloc),
             operations: Vec::new(alloc),
         }
     }
 
-    /// Takes a line: a change, as `edit n1 v1 dV c7 t2024-01-01T00:00:00Z i5 uann T x1 y2`, or an
-    /// operation.
+    /// Takes a line: the filter of the list, as `filter w highway`, a change, as
+    /// `edit n1 v1 dV c7 t2024-01-01T00:00:00Z i5 uann T x1 y2`, or an operation.
     pub(crate) fn read(&mut self, line: &str) -> Result<()> {
         if let Some(change) = line.strip_prefix("edit ") {
             return self.edit(change);
         }
         let words: Vec<&str> = line.split(' ').collect(self.alloc)?;
+        if let ["filter", kinds, keys @ ..] = words.as_slice() {
+            return self.filter(kinds, keys);
+        }
         match self.operation(&words) {
             Some(operation) => self.operations.push(operation)?,
             None => bail!("no operation"),
         }
+        Ok(())
+    }
+
+    // Takes the filter of those kinds and keys, which comes before all other lines of the list.
+    fn filter(&mut self, kinds: &str, keys: &[&str]) -> Result<()>
+        ensures { OnOk result
+            (IsFiltered kinds.now (map (λ key. key.now) keys.now) self.new.filter) }
+    {
+        if !self.is_empty() {
+            bail!("the filter isn't first");
+        }
+        self.filter = Some(filter_of(self.alloc, kinds, keys)?);
         Ok(())
     }
 
@@ -60,6 +82,9 @@ impl List {
             (λ operation. self.new.changes ≡ changes_after operation self.old.changes) }
         ensures kept { self.new.operations ≡ self.old.operations }
     {
+        if let Some(filter) = other_of(self.alloc, words) {
+            return Some(Operation::FollowOther { filter });
+        }
         match *words {
             ["publish", time] => Some(Operation::Publish {
                 time: time_read(time.as_bytes())?,
@@ -118,7 +143,7 @@ impl List {
 
     /// Whether no line was taken since the last list.
     pub(crate) fn is_empty(&self) -> bool {
-        self.operations.is_empty() && self.changes.changes().is_empty()
+        self.filter.is_none() && self.operations.is_empty() && self.changes.changes().is_empty()
     }
 
     fn take_changes(&mut self) -> Batch
@@ -129,12 +154,34 @@ impl List {
         mem::replace(&mut self.changes, Batch::new(self.alloc))
     }
 
+    /// The filter of the list, or that of all objects.
+    pub(crate) fn take_filter(&mut self) -> Filter
+        ensures taken { result ≡ unwrap_or self.old.filter everything }
+        ensures emptied { self.new.filter ≡ None }
+        ensures kept { self.new.operations ≡ self.old.operations }
+    {
+        match mem::replace(&mut self.filter, None) {
+            Some(filter) => filter,
+            None => Filter::all(self.alloc),
+        }
+    }
+
     /// The operations; the next line begins another list.
     pub(crate) fn take(&mut self) -> Vec<Operation>
         ensures taken { result.items ≡ self.old.operations.items }
         ensures emptied { self.new.operations.items ≡ [] }
     {
         mem::replace(&mut self.operations, Vec::new(self.alloc))
+    }
+}
+
+// The other filter of `follow other KINDS KEY..`.
+fn other_of(alloc: Global, words: &[&str]) -> Option<Filter>
+    ensures { IfSome result (IsFollowOther words.now) }
+{
+    match *words {
+        ["follow", "other", kinds, ref keys @ ..] => filter_of(alloc, kinds, keys).ok(),
+        _ => None,
     }
 }
 

@@ -1,11 +1,11 @@
 //! Runs lists of operations on a folder and a save, each in a new store in memory, and writes the
 //! replies and the files after each list. Standard input has a line for each operation:
 //! `publish TIME`, `killed publish CALLS TIME`, the same by number as `publish as 1 TIME` and
-//! `killed publish as 1 CALLS TIME`, `follow`, `killed follow CALLS`, `follow spoiled 1 o5c`,
-//! `killed follow spoiled 1 o5c CALLS`, `export`, `killed export CALLS`, `begin`,
-//! `killed begin CALLS`, `lose 1 o5c`, `put back 1 state`; before a publication a line `edit OPL`
-//! for each of its changes; and a line `run` after each list. A TIME is written as
-//! 2024-01-01T00:00:00Z.
+//! `killed publish as 1 CALLS TIME`, `follow`, `killed follow CALLS`, `follow other KINDS KEY..`,
+//! `follow spoiled 1 o5c`, `killed follow spoiled 1 o5c CALLS`, `export`, `killed export CALLS`,
+//! `begin`, `killed begin CALLS`, `lose 1 o5c`, `put back 1 state`; before a publication a line
+//! `edit OPL` for each of its changes; and a line `run` after each list. A list may begin with a
+//! line `filter KINDS KEY..`. A TIME is written as 2024-01-01T00:00:00Z.
 #![tactic(auto)]
 
 mod answers;
@@ -39,7 +39,8 @@ fn main(rt: HostRuntime) -> Result<()> {
 // Runs the list at the line `run`; every other line belongs to the list.
 fn take_line<W: Write>(alloc: Global, line: &str, list: &mut List, out: &mut W) -> Result<()> {
     if line == "run" {
-        let outcome = outcome_of(alloc, list.take())?;
+        let filter = list.take_filter();
+        let outcome = outcome_of(alloc, &filter, list.take())?;
         return write_outcome(alloc, &outcome, out);
     }
     list.read(line)

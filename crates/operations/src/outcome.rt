@@ -4,9 +4,10 @@ ghost use Rattle.std.specs.Prelude.{None, IfOk, codes};
 ghost use Rattle.osm_store.specs.Stores.{files_of};
 ghost use Rattle.osm_operations.specs.Correct.{IsRun};
 
+use osm_model::filter::Filter;
 use osm_model::memory::WantOfMemory;
 use osm_operations::operation::Operation;
-use osm_operations::world::{Outcome, run};
+use osm_operations::world::{Outcome, run_with};
 use osm_store::memory_store::MemoryStore;
 use std::alloc::Global;
 
@@ -20,18 +21,23 @@ pub(crate) const EXTRACT: &str = "extract.opl";
 
 /// Runs a list in a new store. Its names meet the premises of the main statement over folders, so
 /// the statement holds for each outcome.
-pub(crate) fn outcome_of(alloc: Global, operations: Vec<Operation>) -> Result<Outcome, WantOfMemory>
-    ensures { IfOk result (λ r. IsRun operations.items r.replies.items
+pub(crate) fn outcome_of(
+    alloc: Global,
+    filter: &Filter,
+    operations: Vec<Operation>,
+) -> Result<Outcome, WantOfMemory>
+    ensures { IfOk result (λ r. IsRun filter.now operations.items r.replies.items
         (codes "dir") (codes "save") (codes "changes") (codes "extract.opl")
         (λ name. None) (files_of r.store)) }
 {
-    run(
+    run_with(
         alloc,
         MemoryStore::new(alloc),
         DIR,
         SAVE,
         CHANGES,
         EXTRACT,
+        filter,
         operations,
     )
 }

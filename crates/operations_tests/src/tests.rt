@@ -1,9 +1,11 @@
 //! Tests of the replies to operations, and of the files after them.
 
 use osm_folder::fault::{FileName, RunFault};
+use osm_folder::filters::filter_of;
 use osm_model::batch::Batch;
+use osm_model::filter::Filter;
 use osm_operations::operation::{Operation, Reply};
-use osm_operations::world::{Outcome, run};
+use osm_operations::world::{Outcome, run, run_with};
 use osm_state::paths::Suffix;
 use osm_store::memory_store::MemoryStore;
 use std::alloc::Global;
@@ -421,6 +423,92 @@ fn a_name_without_a_form_is_no_extract(rt: HostRuntime) -> Result<(), Fail> {
 fn is_unknown_form(reply: &Reply) -> bool {
     match reply {
         Reply::Refused(RunFault::UnknownForm) => true,
+        _ => false,
+    }
+}
+
+// The replies to the operations under a filter below.
+const FILTERED: [&str; 12] = [
+    "not there",
+    "published 1\n",
+    "applied 1..1\nnumber 1\n",
+    "refused",
+    "not there",
+    "",
+    "published 2\n",
+    "applied 2..2\nnumber 2\n",
+    "number 1\n",
+    "applied 2..2\nnumber 2\n",
+    "refused",
+    "number 2\n",
+];
+
+// The ways with a tag `highway`.
+fn highways(alloc: Global) -> Result<Filter, Fail> {
+    Ok(filter_of(alloc, "w", &["highway"])?)
+}
+
+fn follow_all(alloc: Global) -> Operation {
+    Operation::FollowOther {
+        filter: Filter::all(alloc),
+    }
+}
+
+// Runs under the filter of all objects before anything was saved, and over a save of another one,
+// and a run under the filter of the list, which is no other.
+fn filtered(alloc: Global) -> Result<Vec<Operation>, Fail> {
+    let same = Operation::FollowOther {
+        filter: highways(alloc)?,
+    };
+    let mut list = Vec::new(alloc);
+    for operation in [
+        follow_all(alloc),
+        publish(alloc, 0),
+        Operation::Follow,
+        follow_all(alloc),
+        same,
+        Operation::Export,
+        publish(alloc, 1),
+        Operation::Follow,
+        Operation::Begin,
+        Operation::Follow,
+        follow_all(alloc),
+        Operation::Follow,
+    ] {
+        list.push(operation)?;
+    }
+    Ok(list)
+}
+
+#[test]
+fn a_run_under_another_filter_is_refused(rt: HostRuntime) -> Result<(), Fail> {
+    let alloc = rt.alloc();
+    let filter = highways(alloc)?;
+    let list = filtered(alloc)?;
+    let store = MemoryStore::new(alloc);
+    let outcome = run_with(
+        alloc,
+        store,
+        "dir",
+        "save",
+        "changes",
+        "extract.o5m",
+        &filter,
+        list,
+    )?;
+    assert!(rt; are_replies(&outcome, &FILTERED));
+    assert!(rt; is_other_filter(outcome.replies.get(3)));
+    assert!(rt; is_other_filter(outcome.replies.get(10)));
+    let save = b"osmrepl-save 3\nbase 1\nkinds w\nkeys 1\nhighway\n\
+        sequence 2\ntime 2024-01-01T00:01:00Z\nobjects 0\n\
+        users 0\nchangesets 0\nend\n";
+    assert!(rt; is_file(&outcome, "save", save));
+    Ok(())
+}
+
+fn is_other_filter(reply: Option<&Reply>) -> bool {
+    match reply {
+        Some(Reply::Refused(RunFault::OtherFilter)) => true,
         _ => false,
     }
 }

@@ -10,7 +10,7 @@ use Rattle.std.proofs.lemmas.Option.{same_Some}
 use Rattle.osm_model.proofs.TimeLemmas.{shown_by_digits}
 use Rattle.osm_model.specs.Change.{ChangeValue}
 use Rattle.osm_model.specs.Content.{content_of}
-use Rattle.osm_model.specs.Filter.{everything}
+use Rattle.osm_model.specs.Filter.{FilterValue, kept_object}
 use Rattle.osm_model.specs.Limits.{max_sequence}
 use Rattle.osm_model.specs.Steps.Clock.{loose_moment}
 use Rattle.osm_model.specs.Time.{Shows}
@@ -40,14 +40,14 @@ use Rattle.osm_operations.specs.History.{Standing, begins_at, text_of, unless_lo
 use Rattle.osm_operations.specs.Steps.Stepping.{AreChangesPut, IsPublishRun, Publishes, StopsPublishing}
 
 -- the save and the extract are as the history says; `was` is the extract at the start
-pub record Kept (p : List PublishedValue) (m : Standing) (extract : List ℕ) (was saved told : Option (List ℕ)) : Type 0 where
-  pub save_is : IsSaveOf p m.base m.number saved
+pub record Kept (p : List PublishedValue) (given : FilterValue) (m : Standing) (extract : List ℕ) (was saved told : Option (List ℕ)) : Type 0 where
+  pub save_is : IsSaveOf p given m.base m.number saved
   pub is_there : is_none saved ≡ not m.is_saved
-  pub extract_is : IsExtractOf p m.exported extract was told
+  pub extract_is : IsExtractOf p given m.exported extract was told
   pub within : begins_at m ≤ length p
 
 -- the files agree with what was published, lost, saved and exported; `l` holds the lost ones
-pub record Agrees (p : List PublishedValue) (lost : ℕ → Suffix → Bool) (m : Standing) (dir save changes extract : List ℕ)
+pub record Agrees (p : List PublishedValue) (lost : ℕ → Suffix → Bool) (m : Standing) (given : FilterValue) (dir save changes extract : List ℕ)
     (start f l : Files) (n : ℕ) : Type 0 where
   pub folder : IsFolderOf p f dir
   pub each : (k : ℕ) (s : Suffix) → 0 < k → k ≤ length p → f (file_name_of dir k s) ≡ unless_lost (lost k s) (text_of s (sequence_at p k))
@@ -55,7 +55,7 @@ pub record Agrees (p : List PublishedValue) (lost : ℕ → Suffix → Bool) (m 
   pub fresh : (k : ℕ) (s : Suffix) → length p < k → lost k s ≡ false
   pub right : (k : ℕ) (s : Suffix) → 0 < k → k ≤ length p → IsFile s (sequence_at p k) (text_of s (sequence_at p k))
   pub zero : f (file_name_of dir 0 State) ≡ None
-  pub saved : Kept p m extract (start extract) (f save) (f extract)
+  pub saved : Kept p given m extract (start extract) (f save) (f extract)
   pub others : (name : List ℕ) → IsOther dir save changes extract name → f name ≡ start name
   pub number : n ≡ length p
 
@@ -77,36 +77,36 @@ folder_same p dir f g top each is = record {
 }
 
 -- a save and an extract that are the same
-pub kept_same : (p : List PublishedValue) (m : Standing) (extract : List ℕ) (was saved again told again_told : Option (List ℕ))
-    → again ≡ saved → again_told ≡ told → Kept p m extract was saved told → Kept p m extract was again again_told
-kept_same p m extract was saved again told again_told same same_told s =
-    subst (λ o. Kept p m extract was o again_told) (sym same) (subst (λ o. Kept p m extract was saved o) (sym same_told) s)
+pub kept_same : (p : List PublishedValue) (given : FilterValue) (m : Standing) (extract : List ℕ) (was saved again told again_told : Option (List ℕ))
+    → again ≡ saved → again_told ≡ told → Kept p given m extract was saved told → Kept p given m extract was again again_told
+kept_same p given m extract was saved again told again_told same same_told s =
+    subst (λ o. Kept p given m extract was o again_told) (sym same) (subst (λ o. Kept p given m extract was saved o) (sym same_told) s)
 
 -- nothing of it has changed
-pub untouched : (p : List PublishedValue) (lost : ℕ → Suffix → Bool) (m : Standing) (dir save changes extract : List ℕ)
+pub untouched : (p : List PublishedValue) (lost : ℕ → Suffix → Bool) (m : Standing) (given : FilterValue) (dir save changes extract : List ℕ)
     (start f g l : Files) (n : ℕ) → IsFolderOf p g dir → ((k : ℕ) (s : Suffix) → k ≤ length p
     → g (file_name_of dir k s) ≡ f (file_name_of dir k s)) → g save ≡ f save → g extract ≡ f extract
-    → ((name : List ℕ) → IsOther dir save changes extract name → g name ≡ f name) → Agrees p lost m dir save changes extract start f l n
-    → Agrees p lost m dir save changes extract start g l n
-untouched p lost m dir save changes extract start f g l n folder each same same_extract others s = record {
+    → ((name : List ℕ) → IsOther dir save changes extract name → g name ≡ f name) → Agrees p lost m given dir save changes extract start f l n
+    → Agrees p lost m given dir save changes extract start g l n
+untouched p lost m given dir save changes extract start f g l n folder each same same_extract others s = record {
   folder = folder;
   each = λ k t above within. each k t within ∙ s.each k t above within;
   away = s.away;
   fresh = s.fresh;
   right = s.right;
   zero = each 0 State (omega arith) ∙ s.zero;
-  saved = kept_same p m extract (start extract) (f save) (g save) (f extract) (g extract) same same_extract s.saved;
+  saved = kept_same p given m extract (start extract) (f save) (g save) (f extract) (g extract) same same_extract s.saved;
   others = λ name o. others name o ∙ s.others name o;
   number = s.number;
 }
 
 -- the file of changes is written
-pub changes_put : (p : List PublishedValue) (lost : ℕ → Suffix → Bool) (m : Standing) (dir save changes extract : List ℕ)
+pub changes_put : (p : List PublishedValue) (lost : ℕ → Suffix → Bool) (m : Standing) (given : FilterValue) (dir save changes extract : List ℕ)
     (start f g l : Files) (n : ℕ) (w : Option (List ℕ)) → AreApart dir save changes extract → Puts f changes w g
-    → Agrees p lost m dir save changes extract start f l n → Agrees p lost m dir save changes extract start g l n
-changes_put p lost m dir save changes extract start f g l n w apart put s =
+    → Agrees p lost m given dir save changes extract start f l n → Agrees p lost m given dir save changes extract start g l n
+changes_put p lost m given dir save changes extract start f g l n w apart put s =
     let most = few p s.folder.sequences in
-    untouched p lost m dir save changes extract start f g l n
+    untouched p lost m given dir save changes extract start f g l n
     (folder_same p dir f g (put.others (top_name_of dir) (λ e. apart.changes_are.top (sym e)))
     (λ k t above within. put.others (file_name_of dir k t) (λ e. apart.changes_are.each k t (omega arith) (sym e)))
     s.folder)
@@ -166,9 +166,9 @@ writes_last dir x s f g fits w = in_g s ∙ of_last s
         ∙ (w.2.1.others (file_name_of dir x.number O5c) (differ O5c Opl (λ e. cc)) ∙ w.1.there)
 
 -- a save of the sequences before the last
-save_before : (p : List PublishedValue) (x : PublishedValue) (base number : ℕ) (told : Option (List ℕ)) → IsSaveOf p base number told
-    → IsSaveOf (p ++ x ∷ []) base number told
-save_before p x base number told s = record {
+save_before : (p : List PublishedValue) (given : FilterValue) (x : PublishedValue) (base number : ℕ) (told : Option (List ℕ))
+    → IsSaveOf p given base number told → IsSaveOf (p ++ x ∷ []) given base number told
+save_before p given x base number told s = record {
   value = s.value;
   saved = s.saved;
   base_is = s.base_is;
@@ -176,37 +176,37 @@ save_before p x base number told s = record {
   in_step = before s.value s.in_step;
 }
   where
-    before : (v : Saved) → IsInStep p v → IsInStep (p ++ x ∷ []) v
+    before : (v : Saved) → IsInStep p given v → IsInStep (p ++ x ∷ []) given v
     before v is =
         let within = is.within in
         record {
           within = grind (arith, length-append);
           base = is.base;
           filter_is = is.filter_is;
-          mirror = subst (λ cs. IsMirrorOf everything cs (changes_after (p ++ x ∷ []) v.base v.number) v.mirror) (sym (changes_within p (x ∷ []) v.number within))
-              (subst (λ cs. IsMirrorOf everything (changes_up_to p v.number) cs v.mirror) (sym (after_within p (x ∷ []) v.base v.number within)) is.mirror);
+          mirror = subst (λ cs. IsMirrorOf given cs (changes_after (p ++ x ∷ []) v.base v.number) v.mirror) (sym (changes_within p (x ∷ []) v.number within))
+              (subst (λ cs. IsMirrorOf given (changes_up_to p v.number) cs v.mirror) (sym (after_within p (x ∷ []) v.base v.number within)) is.mirror);
           time = is.time ∙ sym (time_within p (x ∷ []) v.number within);
         }
 
 -- an extract of the sequences before the last
-extract_before : (p : List PublishedValue) (x : PublishedValue) (exported : Option ℕ) (extract : List ℕ) (was told : Option (List ℕ))
-    → unwrap_or exported 0 ≤ length p → IsExtractOf p exported extract was told → IsExtractOf (p ++ x ∷ []) exported extract was told
-extract_before p x None extract was told within s = s
-extract_before p x (Some number) extract was told within s = record {
+extract_before : (p : List PublishedValue) (given : FilterValue) (x : PublishedValue) (exported : Option ℕ) (extract : List ℕ) (was told : Option (List ℕ))
+    → unwrap_or exported 0 ≤ length p → IsExtractOf p given exported extract was told → IsExtractOf (p ++ x ∷ []) given exported extract was told
+extract_before p given x None extract was told within s = s
+extract_before p given x (Some number) extract was told within s = record {
   named = s.named;
   objects = s.objects;
   are_data = s.are_data;
   fits = s.fits;
-  content = λ k. s.content k ∙ ap (λ cs. content_of cs k) (sym (changes_within p (x ∷ []) number within));
+  content = λ k. s.content k ∙ ap (λ cs. kept_object given (content_of cs k)) (sym (changes_within p (x ∷ []) number within));
   text = s.text;
 }
 
-kept_before : (p : List PublishedValue) (x : PublishedValue) (m : Standing) (extract : List ℕ) (was saved told : Option (List ℕ))
-    → Kept p m extract was saved told → Kept (p ++ x ∷ []) m extract was saved told
-kept_before p x m extract was saved told s = record {
-  save_is = save_before p x m.base m.number saved s.save_is;
+kept_before : (p : List PublishedValue) (given : FilterValue) (x : PublishedValue) (m : Standing) (extract : List ℕ) (was saved told : Option (List ℕ))
+    → Kept p given m extract was saved told → Kept (p ++ x ∷ []) given m extract was saved told
+kept_before p given x m extract was saved told s = record {
+  save_is = save_before p given x m.base m.number saved s.save_is;
   is_there = s.is_there;
-  extract_is = extract_before p x m.exported extract was told s.within s.extract_is;
+  extract_is = extract_before p given x m.exported extract was told s.within s.extract_is;
   within = let low = s.within in grind (arith, length-append);
 }
 
@@ -243,12 +243,13 @@ closing_is p dir changes now batch time f m a t folder shows put ready =
     (one_shown now t time ready.read.now_is.shows shows)
 
 -- one sequence more
-pub agrees_more : (p : List PublishedValue) (lost : ℕ → Suffix → Bool) (m : Standing) (dir save changes extract : List ℕ)
+pub agrees_more : (p : List PublishedValue) (lost : ℕ → Suffix → Bool) (m : Standing) (given : FilterValue) (dir save changes extract : List ℕ)
     (start f g l : Files) (n : ℕ) (x : PublishedValue) → x.number ≡ length p + 1 → x.number ≤ max_sequence
     → IsFolderOf (p ++ x ∷ []) g dir → Writes (writes_of dir (written_of x)) f g
     → ((name : List ℕ) → IsApart dir name → g name ≡ f name) → IsApart dir save
-    → IsApart dir extract → Agrees p lost m dir save changes extract start f l n → Agrees (p ++ x ∷ []) lost m dir save changes extract start g l (n + 1)
-agrees_more p lost m dir save changes extract start f g l n x next fits folder w others apart apart_extract s = record {
+    → IsApart dir extract → Agrees p lost m given dir save changes extract start f l n
+    → Agrees (p ++ x ∷ []) lost m given dir save changes extract start g l (n + 1)
+agrees_more p lost m given dir save changes extract start f g l n x next fits folder w others apart apart_extract s = record {
   folder = folder;
   each = each;
   away = λ k t above most. elim (cases_lt (length p) k) [
@@ -264,8 +265,8 @@ agrees_more p lost m dir save changes extract start f g l n x next fits folder w
     | inr until ↦ rw (sequence_within p (x ∷ []) k above until) (s.right k t above until)
   ];
   zero = writes_before dir (written_of x) 0 State 4 f g (omega (arith, next)) fits w ∙ s.zero;
-  saved = kept_same (p ++ x ∷ []) m extract (start extract) (f save) (g save) (f extract) (g extract) (others save apart)
-      (others extract apart_extract) (kept_before p x m extract (start extract) (f save) (f extract) s.saved);
+  saved = kept_same (p ++ x ∷ []) given m extract (start extract) (f save) (g save) (f extract) (g extract) (others save apart)
+      (others extract apart_extract) (kept_before p given x m extract (start extract) (f save) (f extract) s.saved);
   others = λ name o. others name o.folder ∙ s.others name o;
   number = (let n_is = s.number in omega (arith, more, n_is));
 }
@@ -295,20 +296,20 @@ agrees_more p lost m dir save changes extract start f g l n x next fits folder w
         (subst (λ o. IsAbsentOr o (IsFile t (sequence_at (p ++ x ∷ []) x.number))) (last_file t) (folder.each x.number t above at))
 
 -- a publication that is done
-pub published_agrees : (p : List PublishedValue) (lost : ℕ → Suffix → Bool) (m : Standing) (dir save changes extract : List ℕ)
+pub published_agrees : (p : List PublishedValue) (lost : ℕ → Suffix → Bool) (m : Standing) (given : FilterValue) (dir save changes extract : List ℕ)
     (start f g l : Files) (n : ℕ) (batch : List ChangeValue) (time : ℕ) (report : ReportValue)
-    → AreApart dir save changes extract → Agrees p lost m dir save changes extract start f l n → IsPublishRun dir changes batch time f g
+    → AreApart dir save changes extract → Agrees p lost m given dir save changes extract start f l n → IsPublishRun dir changes batch time f g
     (Publishes dir changes report g) → Agrees (p ++ (record { number = length p + 1; changes = batch; time = time }) ∷
-    []) lost m dir save changes extract start g l (n + 1) × (report ≡ publish_report_of (length p + 1))
-published_agrees p lost m dir save changes extract start f g l n batch time report apart s run =
-    let mid = changes_put p lost m dir save changes extract start f run.middle l n (Some (opl_text batch)) apart run.there.put s in
+    []) lost m given dir save changes extract start g l (n + 1) × (report ≡ publish_report_of (length p + 1))
+published_agrees p lost m given dir save changes extract start f g l n batch time report apart s run =
+    let mid = changes_put p lost m given dir save changes extract start f run.middle l n (Some (opl_text batch)) apart run.there.put s in
     let done = run.is_so.published in
     let number = goes_on_number p (run.middle (top_name_of dir)) done.publisher.number done.publisher.time
     mid.folder.sequences mid.folder.top done.ready.read.goes_on in
     let same = closing_is p dir changes run.now batch time f run.middle done.publisher done.time mid.folder run.shows run.there done.ready in
     let is = subst IsWritten same (ready_written dir changes run.now run.middle done.publisher done.time done.ready) in
     let written = subst (λ x. Writes (writes_of dir (written_of x)) run.middle g) same done.written in (
-      agrees_more p lost m dir save changes extract start run.middle g l n (record { number = length p + 1; changes = batch; time = time }) refl
+      agrees_more p lost m given dir save changes extract start run.middle g l n (record { number = length p + 1; changes = batch; time = time }) refl
           is.sequence.most
           (all_add p dir (record { number = length p + 1; changes = batch; time = time }) run.middle g refl is written mid.folder)
           written
@@ -318,13 +319,13 @@ published_agrees p lost m dir save changes extract start f g l n batch time repo
 
 -- a publication that stopped
 pub stopped_agrees : (left : Option ℕ) (p : List PublishedValue) (lost : ℕ → Suffix → Bool) (m : Standing)
-    (dir save changes extract : List ℕ) (start f g l : Files) (n : ℕ) (batch : List ChangeValue) (time : ℕ) (fault : RunFault)
-    → AreApart dir save changes extract → Agrees p lost m dir save changes extract start f l n → IsPublishRun dir changes batch time f g
-    (StopsPublishing left dir changes fault g) → Agrees p lost m dir save changes extract start g l n
-stopped_agrees left p lost m dir save changes extract start f g l n batch time fault apart s run = by_stop run.is_so.stops
+    (given : FilterValue) (dir save changes extract : List ℕ) (start f g l : Files) (n : ℕ) (batch : List ChangeValue) (time : ℕ) (fault : RunFault)
+    → AreApart dir save changes extract → Agrees p lost m given dir save changes extract start f l n → IsPublishRun dir changes batch time f g
+    (StopsPublishing left dir changes fault g) → Agrees p lost m given dir save changes extract start g l n
+stopped_agrees left p lost m given dir save changes extract start f g l n batch time fault apart s run = by_stop run.is_so.stops
   where
-    mid : Agrees p lost m dir save changes extract start run.middle l n
-    mid = changes_put p lost m dir save changes extract start f run.middle l n (Some (opl_text batch)) apart run.there.put s
+    mid : Agrees p lost m given dir save changes extract start run.middle l n
+    mid = changes_put p lost m given dir save changes extract start f run.middle l n (Some (opl_text batch)) apart run.there.put s
 
     from_cut : IsCutOff dir changes run.now run.middle g fault → (k : ℕ) (t : Suffix) → k ≤ length p
         → g (file_name_of dir k t) ≡ run.middle (file_name_of dir k t)
@@ -335,8 +336,8 @@ stopped_agrees left p lost m dir save changes extract start f g l n batch time f
         writes_before dir (written_of (closing cut.publisher cut.time)) k t cut.count run.middle g
         (omega (arith, number, within)) (omega (arith, room)) cut.written
 
-    by_stop : PublishStops (IsTrue true) dir changes run.now run.middle g fault → Agrees p lost m dir save changes extract start g l n
-    by_stop (inl a) = subst (λ (h : Files). Agrees p lost m dir save changes extract start h l n) (sym a.1) mid
-    by_stop (inr a) = untouched p lost m dir save changes extract start run.middle g l n (run.is_so.keeps p mid.folder)
+    by_stop : PublishStops (IsTrue true) dir changes run.now run.middle g fault → Agrees p lost m given dir save changes extract start g l n
+    by_stop (inl a) = subst (λ (h : Files). Agrees p lost m given dir save changes extract start h l n) (sym a.1) mid
+    by_stop (inr a) = untouched p lost m given dir save changes extract start run.middle g l n (run.is_so.keeps p mid.folder)
         (λ k t within. from_cut (a.1 refl) k t within)
         (run.others save apart.save_is) (run.others extract apart.extract_is) (λ name o. run.others name o.folder) mid

@@ -6,6 +6,7 @@ use Rattle.std.proofs.lemmas.Bool.{eq-eqb, ne_eqb}
 use Rattle.std.proofs.lemmas.Str.Parse.{digits_value_short, numerals_by_value, tells_digits}
 use Rattle.std.specs.Str.Parse.{AllDigits}
 use Rattle.osm_model.specs.Change.{ChangeValue}
+use Rattle.osm_model.specs.Filter.{FilterValue}
 use Rattle.osm_model.specs.Limits.{max_sequence}
 use Rattle.osm_opl.specs.Written.{opl_text}
 use Rattle.osm_reading.specs.Sequence.{SpellsSequence}
@@ -31,11 +32,11 @@ use Rattle.osm_operations.proofs.NumberLemmas.{none_back, rewritten, text_same, 
 use Rattle.osm_operations.proofs.NumberedLemmas.{IsAgain, asked_is, or_false, value_of}
 
 -- the files are as before, or the lost one in a form of the newest sequence's changes is there again
-abbrev pub StayOrReturn : List PublishedValue → (ℕ → Suffix → Bool) → Standing → List ℕ → List ℕ → List ℕ → List ℕ → Files
-    → Files → Files → ℕ → List ChangeValue → ℕ → ℕ → RunFault → Option Suffix → Type 0
-StayOrReturn p lost m dir save changes extract start g k c batch time n fault None = Agrees p lost m dir save changes extract start g k c
-StayOrReturn p lost m dir save changes extract start g k c batch time n fault (Some s) =
-    Agrees p (λ i t. if same_file n s i t then false else lost i t) m dir save changes extract start g k c
+abbrev pub StayOrReturn : List PublishedValue → (ℕ → Suffix → Bool) → Standing → FilterValue → List ℕ → List ℕ → List ℕ → List ℕ
+    → Files → Files → Files → ℕ → List ChangeValue → ℕ → ℕ → RunFault → Option Suffix → Type 0
+StayOrReturn p lost m given dir save changes extract start g k c batch time n fault None = Agrees p lost m given dir save changes extract start g k c
+StayOrReturn p lost m given dir save changes extract start g k c batch time n fault (Some s) =
+    Agrees p (λ i t. if same_file n s i t then false else lost i t) m given dir save changes extract start g k c
     × (n ≡ length p) × IsAgain p lost n batch time × (lost n s ≡ true)
     × ((count : ℕ) × (place_of s < count) × (count < 4) × CutsOff n count fault)
 
@@ -95,34 +96,34 @@ to_sum : (low high a b : Type 0) → ((low × a) ⊎ (high × b)) → a ⊎ b
 to_sum low high a b (inl h) = inl h.1
 to_sum low high a b (inr h) = inr h.1
 
-module _ (left : Option ℕ) (p : List PublishedValue) (lost : ℕ → Suffix → Bool) (m : Standing) (dir save changes extract : List ℕ)
+module _ (left : Option ℕ) (p : List PublishedValue) (lost : ℕ → Suffix → Bool) (m : Standing) (given : FilterValue) (dir save changes extract : List ℕ)
     (start f g l k : Files) (c : ℕ) (batch : List ChangeValue) (time n : ℕ) (fault : RunFault) (o5c opl : Bool)
-    (apart : AreApart dir save changes extract) (s : Agrees p lost m dir save changes extract start f l c)
+    (apart : AreApart dir save changes extract) (s : Agrees p lost m given dir save changes extract start f l c)
     (run : IsPublishRun dir changes batch time f g (StopsPublishingAs left dir changes n fault g))
     (back : ReturnForms o5c opl dir (named n) g l k) where
-  pub middle_agrees : Agrees p lost m dir save changes extract start run.middle l c
-  middle_agrees = changes_put p lost m dir save changes extract start f run.middle l c (Some (opl_text batch)) apart run.there.put s
+  pub middle_agrees : Agrees p lost m given dir save changes extract start run.middle l c
+  middle_agrees = changes_put p lost m given dir save changes extract start f run.middle l c (Some (opl_text batch)) apart run.there.put s
 
   most : length p ≤ max_sequence
   most = few p s.folder.sequences
 
   -- nothing of the folder's own sequences is written
   stays : ((t : Suffix) (i : ℕ) → i ≤ length p → g (file_name_of dir i t) ≡ run.middle (file_name_of dir i t))
-      → StayOrReturn p lost m dir save changes extract start g k c batch time n fault (form_back o5c opl)
+      → StayOrReturn p lost m given dir save changes extract start g k c batch time n fault (form_back o5c opl)
   stays same =
-      subst (λ b. StayOrReturn p lost m dir save changes extract start g k c batch time n fault (form_back b opl)) (sym gone.first)
-      (subst (λ b. StayOrReturn p lost m dir save changes extract start g k c batch time n fault (form_back false b)) (sym gone.second)
-      (subst (λ (h : Files). Agrees p lost m dir save changes extract start g h c) (sym gone.same)
-      (untouched p lost m dir save changes extract start run.middle g l c (run.is_so.keeps p middle_agrees.folder) (λ i t within. same t i within)
+      subst (λ b. StayOrReturn p lost m given dir save changes extract start g k c batch time n fault (form_back b opl)) (sym gone.first)
+      (subst (λ b. StayOrReturn p lost m given dir save changes extract start g k c batch time n fault (form_back false b)) (sym gone.second)
+      (subst (λ (h : Files). Agrees p lost m given dir save changes extract start g h c) (sym gone.same)
+      (untouched p lost m given dir save changes extract start run.middle g l c (run.is_so.keeps p middle_agrees.folder) (λ i t within. same t i within)
       (run.others save apart.save_is) (run.others extract apart.extract_is) (λ name o. run.others name o.folder) middle_agrees)))
     where
       gone : AreGone o5c opl l k
-      gone = none_back p lost m dir save changes extract start run.middle g l k c (named n) o5c opl middle_agrees (named_least n) (named_most n)
+      gone = none_back p lost m given dir save changes extract start run.middle g l k c (named n) o5c opl middle_agrees (named_least n) (named_most n)
           (λ t within. same t (named n) within) back
 
   -- the newest sequence was written again in part
   again : IsNumberedCutOff dir changes run.now run.is_so.sequence run.middle g fault
-      → StayOrReturn p lost m dir save changes extract start g k c batch time n fault (form_back o5c opl)
+      → StayOrReturn p lost m given dir save changes extract start g k c batch time n fault (form_back o5c opl)
   again cut = elim cut.to_write [
     | inl next ↦ stays (λ t i within. before t i (let e = next.0 in omega (arith, e, top_is, within)))
     | inr is ↦ rewrites is.0 is.1
@@ -145,7 +146,7 @@ module _ (left : Option ℕ) (p : List PublishedValue) (lost : ℕ → Suffix �
       before t i below = writes_before dir (written_of cut.asked_for) i t cut.count run.middle g below fits cut.written
 
       rewrites : cut.asked_for.number ≡ cut.top → IsPublishedIn run.middle dir cut.top cut.time cut.asked_for
-          → StayOrReturn p lost m dir save changes extract start g k c batch time n fault (form_back o5c opl)
+          → StayOrReturn p lost m given dir save changes extract start g k c batch time n fault (form_back o5c opl)
       rewrites same_number in_folder = by_back o5c opl refl refl
         where
           newest : n ≡ length p
@@ -159,7 +160,7 @@ module _ (left : Option ℕ) (p : List PublishedValue) (lost : ℕ → Suffix �
               (folder_numbers.same_sequence p run.middle dir cut.top cut.time cut.asked_for middle_agrees.folder (omega (arith, same_number, top_is)) in_folder)
 
           found : number_lost lost n ≡ false
-          found = sym (lost_same p lost m dir save changes extract start run.middle l c n middle_agrees above (omega (arith, newest)))
+          found = sym (lost_same p lost m given dir save changes extract start run.middle l c n middle_agrees above (omega (arith, newest)))
               ∙ subst (λ i. is_lost run.middle dir i ≡ false) number in_folder.files_are.found
 
           both_found : (lost n State ≡ false) × ((lost n O5c && lost n Opl) ≡ false)
@@ -209,16 +210,16 @@ module _ (left : Option ℕ) (p : List PublishedValue) (lost : ℕ → Suffix �
           by_all : (gone : ℕ → Suffix → Bool) → ((i : ℕ) (t : Suffix) → (i ≡ n → ⊥) → gone i t ≡ lost i t)
               → ((t : Suffix) → g (file_name_of dir n t) ≡ unless_lost (gone n t) (text_of t (sequence_at p n)))
               → ((t : Suffix) → k (file_name_of dir n t) ≡ unless_lost (not (gone n t)) (text_of t (sequence_at p n)))
-              → Agrees p gone m dir save changes extract start g k c
+              → Agrees p gone m given dir save changes extract start g k c
           by_all gone alike here away =
-              rewritten p lost gone m dir save changes extract start run.middle g l k c n cut.count middle_agrees above newest
+              rewritten p lost gone m given dir save changes extract start run.middle g l k c n cut.count middle_agrees above newest
               written (run.is_so.keeps p middle_agrees.folder)
               (run.others save apart.save_is) (run.others extract apart.extract_is) (λ name o. run.others name o.folder) alike here away both.others
 
-          by_back : (a b : Bool) → o5c ≡ a → opl ≡ b → StayOrReturn p lost m dir save changes extract start g k c batch time n fault (form_back o5c opl)
+          by_back : (a b : Bool) → o5c ≡ a → opl ≡ b → StayOrReturn p lost m given dir save changes extract start g k c batch time n fault (form_back o5c opl)
           by_back false false e d =
-              subst (λ x. StayOrReturn p lost m dir save changes extract start g k c batch time n fault (form_back x opl)) (sym e)
-              (subst (λ x. StayOrReturn p lost m dir save changes extract start g k c batch time n fault (form_back false x)) (sym d)
+              subst (λ x. StayOrReturn p lost m given dir save changes extract start g k c batch time n fault (form_back x opl)) (sym e)
+              (subst (λ x. StayOrReturn p lost m given dir save changes extract start g k c batch time n fault (form_back false x)) (sym d)
               (by_all lost (λ i t differ. refl) here away))
             where
               here : (t : Suffix) → g (file_name_of dir n t) ≡ unless_lost (lost n t) (text_of t (sequence_at p n))
@@ -235,7 +236,7 @@ module _ (left : Option ℕ) (p : List PublishedValue) (lost : ℕ → Suffix �
               away Opl = both.second_left ∙ (ap (λ x. unless_back x (l (file_name_of dir n Opl))) d ∙ kept Opl)
               away State = both.state_left ∙ kept State
           by_back true b e d =
-              subst (λ x. StayOrReturn p lost m dir save changes extract start g k c batch time n fault (form_back x opl)) (sym e) (
+              subst (λ x. StayOrReturn p lost m given dir save changes extract start g k c batch time n fault (form_back x opl)) (sym e) (
                 by_all (λ i t. if same_file n O5c i t then false else lost i t) (λ i t differ. rw (other_number n O5c i t differ) refl) here away,
                 newest,
                 is_again,
@@ -271,8 +272,8 @@ module _ (left : Option ℕ) (p : List PublishedValue) (lost : ℕ → Suffix �
               away Opl = rw (other_form n O5c Opl refl) (both.second_left ∙ (ap (λ x. unless_back x (l (file_name_of dir n Opl))) not_second ∙ kept Opl))
               away State = rw (other_form n O5c State refl) (both.state_left ∙ kept State)
           by_back false true e d =
-              subst (λ x. StayOrReturn p lost m dir save changes extract start g k c batch time n fault (form_back x opl)) (sym e)
-              (subst (λ x. StayOrReturn p lost m dir save changes extract start g k c batch time n fault (form_back false x)) (sym d) (
+              subst (λ x. StayOrReturn p lost m given dir save changes extract start g k c batch time n fault (form_back x opl)) (sym e)
+              (subst (λ x. StayOrReturn p lost m given dir save changes extract start g k c batch time n fault (form_back false x)) (sym d) (
                 by_all (λ i t. if same_file n Opl i t then false else lost i t) (λ i t differ. rw (other_number n Opl i t differ) refl) here away,
                 newest,
                 is_again,
@@ -304,23 +305,23 @@ module _ (left : Option ℕ) (p : List PublishedValue) (lost : ℕ → Suffix �
               away O5c = rw (other_form n Opl O5c refl) (both.first_left ∙ (ap (λ x. unless_back x (l (file_name_of dir n O5c))) e ∙ kept O5c))
               away State = rw (other_form n Opl State refl) (both.state_left ∙ kept State)
 
-  pub number_stopped : StayOrReturn p lost m dir save changes extract start g k c batch time n fault (form_back o5c opl)
+  pub number_stopped : StayOrReturn p lost m given dir save changes extract start g k c batch time n fault (form_back o5c opl)
   number_stopped = elim run.is_so.stops [
     | inl a ↦ stays (λ t i within. ap (λ (h : Files). h (file_name_of dir i t)) a.1)
     | inr a ↦ again (a.1 refl)
   ]
 
 -- nothing was run
-pub unrun_stays : (p : List PublishedValue) (lost : ℕ → Suffix → Bool) (m : Standing) (dir save changes extract : List ℕ)
+pub unrun_stays : (p : List PublishedValue) (lost : ℕ → Suffix → Bool) (m : Standing) (given : FilterValue) (dir save changes extract : List ℕ)
     (start f g l k : Files) (c : ℕ) (batch : List ChangeValue) (time n : ℕ) (fault : RunFault) (o5c opl : Bool)
-    → Agrees p lost m dir save changes extract start f l c → g ≡ f → ReturnForms o5c opl dir (named n) g l k
-    → StayOrReturn p lost m dir save changes extract start g k c batch time n fault (form_back o5c opl)
-unrun_stays p lost m dir save changes extract start f g l k c batch time n fault o5c opl s same back =
-    subst (λ b. StayOrReturn p lost m dir save changes extract start g k c batch time n fault (form_back b opl)) (sym gone.first)
-    (subst (λ b. StayOrReturn p lost m dir save changes extract start g k c batch time n fault (form_back false b)) (sym gone.second)
-    (subst (λ (h : Files). Agrees p lost m dir save changes extract start g h c) (sym gone.same)
-    (subst (λ (h : Files). Agrees p lost m dir save changes extract start h l c) (sym same) s)))
+    → Agrees p lost m given dir save changes extract start f l c → g ≡ f → ReturnForms o5c opl dir (named n) g l k
+    → StayOrReturn p lost m given dir save changes extract start g k c batch time n fault (form_back o5c opl)
+unrun_stays p lost m given dir save changes extract start f g l k c batch time n fault o5c opl s same back =
+    subst (λ b. StayOrReturn p lost m given dir save changes extract start g k c batch time n fault (form_back b opl)) (sym gone.first)
+    (subst (λ b. StayOrReturn p lost m given dir save changes extract start g k c batch time n fault (form_back false b)) (sym gone.second)
+    (subst (λ (h : Files). Agrees p lost m given dir save changes extract start g h c) (sym gone.same)
+    (subst (λ (h : Files). Agrees p lost m given dir save changes extract start h l c) (sym same) s)))
   where
     gone : AreGone o5c opl l k
-    gone = none_back p lost m dir save changes extract start f g l k c (named n) o5c opl s (named_least n) (named_most n)
+    gone = none_back p lost m given dir save changes extract start f g l k c (named n) o5c opl s (named_least n) (named_most n)
         (λ t within. ap (λ (h : Files). h (file_name_of dir (named n) t)) same) back

@@ -3,17 +3,19 @@ use Rattle.std.proofs.Common.{◌≡◌, ℕ, ◌-◌, ◌<◌, ◌≤◌, List,
 use Rattle.std.proofs.Common.{refl, sym, ap, subst, ◌∙◌}
 use Rattle.std.specs.Prelude.{◌⊎◌, IsTrue, is_none, min, not, unwrap_or}
 use Rattle.std.specs.List.{AllByRecursion, flat_map}
-use Rattle.std.specs.List.Sorted.{IsStrictlySortedBy}
 use Rattle.std.proofs.lemmas.Bool.{cases_Bool, cases_lt}
 use Rattle.std.proofs.lemmas.List.{drop_all, length-take-le}
 use Rattle.std.proofs.lemmas.Option.{same_Some}
+use Rattle.osm_model.proofs.FilterLemmas.{extracts_are_enough}
 use Rattle.osm_model.specs.Change.{ChangeValue, IsChange}
 use Rattle.osm_model.specs.Content.{content_of}
 use Rattle.osm_model.specs.Data.{IsData, IsLeft}
-use Rattle.osm_model.specs.Filter.{everything}
+use Rattle.osm_model.specs.Filter.{FilterValue, kept, kept_object}
 use Rattle.osm_model.specs.Limits.{max_file, max_sequence}
 use Rattle.osm_model.specs.declared.kind.Key.{Key}
-use Rattle.osm_mirror.specs.Mirror.{IsMirror, IsMirrorOf, IsObject, MirrorValue, object_at}
+use Rattle.osm_mirror.specs.Mirror.{IsMirror, IsMirrorOf, IsObject, IsOrderly, MirrorValue, object_at}
+use Rattle.osm_o5c.proofs.WrittenFile as o5m_written
+use Rattle.osm_opl.proofs.RoundTrip as opl_written
 use Rattle.osm_save.proofs.HeadLemmas.{save_has_head}
 use Rattle.osm_save.specs.Head.{head_of}
 use Rattle.osm_save.specs.Save.{SpellsSave}
@@ -23,12 +25,13 @@ use Rattle.osm_state.specs.declared.state_text.StateError.{StateError}
 use Rattle.osm_state.specs.StateLaws.{NoFaultBesideState}
 use Rattle.osm_state.specs.declared.paths.Suffix.{Suffix}
 use Rattle.osm_state.specs.declared.paths.Suffix.TheVariants.{State}
-use Rattle.osm_follow.proofs.BeginLemmas.{everything_left}
+use Rattle.osm_follow.proofs.BeginLemmas.{kept_at}
 use Rattle.osm_follow.proofs.PublishedLemmas.{time_next}
+use Rattle.osm_follow.specs.Begin.{kept_objects}
 use Rattle.osm_follow.specs.Published.{PublishedValue, changes_after, changes_up_to, sequence_at}
-use Rattle.osm_folder.proofs.BeginLemmas.{base_of_export, one_form, same_base, same_start, spelled_data}
+use Rattle.osm_folder.proofs.BeginLemmas.{one_form, same_base, same_start, spelled_data}
 use Rattle.osm_folder.proofs.InStepLemmas.{one_saved}
-use Rattle.osm_folder.specs.Beginning.{BeginStops, HasStart, IsBase, IsBaseOf, IsBadBase, IsBeginning, begun_save}
+use Rattle.osm_folder.specs.Beginning.{BeginStops, HasStart, IsBase, IsBadBase, IsBeginning, IsBegunFrom, begun_save}
 use Rattle.osm_folder.specs.DataForms.{data_text_of, spells_data}
 use Rattle.osm_folder.specs.Exporting.{ExportStops, HasDataForm, Holds, IsExportOf}
 use Rattle.osm_store.specs.Files.{Files, IsOver, Puts}
@@ -39,6 +42,8 @@ use Rattle.osm_folder.specs.Names.{file_name_of, top_name_of}
 use Rattle.osm_folder.specs.Publication.{IsBadState}
 use Rattle.osm_folder.specs.Reports.{ReportValue, begin_report_of}
 use Rattle.osm_folder.specs.Runs.{LacksCalls}
+use Rattle.osm_folder.specs.declared.data_form.DataForm.{DataForm}
+use Rattle.osm_folder.specs.declared.data_form.DataForm.TheVariants.{Opl, O5m}
 use Rattle.osm_folder.specs.declared.fault.FileName.TheVariants as files
 use Rattle.osm_folder.specs.declared.fault.FileName.TheVariants.{Base, Output, Save}
 use Rattle.osm_folder.specs.declared.fault.RunFault.{RunFault}
@@ -49,34 +54,34 @@ use Rattle.osm_operations.specs.Allowed.{KilledBeginRefused, KilledExportRefused
 use Rattle.osm_operations.specs.Correct.{AreApart, IsExtractOf}
 use Rattle.osm_operations.specs.History.{Standing, begins_at, text_of, unless_lost}
 use Rattle.osm_operations.specs.History as hist
-use Rattle.osm_operations.specs.Steps.Stepping.{Begins, Exports, IsNoDevice, state_name_of}
+use Rattle.osm_operations.specs.Steps.Stepping.{Exports, IsNoDevice, state_name_of}
 use Rattle.osm_operations.proofs.AgreeLemmas.{Agrees, few, folder_same}
 
 -- ---- what was saved and exported
 
-pub saved_head : (told : Option (List ℕ)) (v : Saved) → IsSaved told v → IsHead told (head_of v)
-saved_head None v s = ap head_of s
-saved_head (Some bytes) v s = save_has_head bytes v s.1
+pub saved_head : (given : FilterValue) (told : Option (List ℕ)) (v : Saved) → IsSaved given told v → IsHead told (head_of v)
+saved_head given None v s = ap head_of s
+saved_head given (Some bytes) v s = save_has_head bytes v s.1
 
 -- a save of the follower's number isn't over 1 GiB
-saved_small : (told : Option (List ℕ)) (v : Saved) → IsSaved told v → IsOver max_save told → ⊥
-saved_small None v s over = (let e = over.there in cc)
-saved_small (Some bytes) v s over =
+pub saved_small : (given : FilterValue) (told : Option (List ℕ)) (v : Saved) → IsSaved given told v → IsOver max_save told → ⊥
+saved_small given None v s over = (let e = over.there in cc)
+saved_small given (Some bytes) v s over =
     let long = ap length (same_Some _ _ over.there) in
     let most = over.over in
     omega (arith, long, most, s.0)
 
 -- nor is it a bad one
-saved_right : (told : Option (List ℕ)) (v : Saved) (bytes : List ℕ) → IsSaved told v → told ≡ Some bytes → SpellsSave bytes v
-saved_right None v bytes s there = absurd (let bad : None ≡ Some bytes = there in cc)
-saved_right (Some text) v bytes s there = subst (λ (t : List ℕ). SpellsSave t v) (same_Some text bytes there) s.1
+pub saved_right : (given : FilterValue) (told : Option (List ℕ)) (v : Saved) (bytes : List ℕ) → IsSaved given told v → told ≡ Some bytes → SpellsSave bytes v
+saved_right given None v bytes s there = absurd (let bad : None ≡ Some bytes = there in cc)
+saved_right given (Some text) v bytes s there = subst (λ (t : List ℕ). SpellsSave t v) (same_Some text bytes there) s.1
 
 -- a save is there exactly if something was saved
 is_there_not : (b : Bool) (told : Option (List ℕ)) (bytes : List ℕ) → is_none told ≡ not b → told ≡ Some bytes → b ≡ true
 is_there_not true told bytes is there = refl
 is_there_not false told bytes is there = absurd (let bad : false ≡ true = sym (ap is_none there) ∙ is in cc)
 
-is_absent_not : (b : Bool) (told : Option (List ℕ)) → is_none told ≡ not b → told ≡ None → b ≡ false
+pub is_absent_not : (b : Bool) (told : Option (List ℕ)) → is_none told ≡ not b → told ≡ None → b ≡ false
 is_absent_not false told is none = refl
 is_absent_not true told is none = absurd (let bad : true ≡ false = sym (ap is_none none) ∙ is in cc)
 
@@ -97,31 +102,30 @@ mirror_data m is = record {
 }
 
 -- what can be exported of a save
-pub has_export : (h : hist.History) (extract : List ℕ) (told : Option (List ℕ)) (holds : List ℕ → Type 0) (named : HasDataForm extract)
-    (held : Holds told) → IsSaveOf (hist.published_of h) (hist.base_of h) (hist.number_of h) told → is_none told ≡ not (hist.is_saved h)
-    → holds (data_text_of named.form held.saved.mirror.objects) → HasExport h extract holds
-has_export h extract told holds named held save there fits =
-    let here : IsSaved told held.saved = rw held.there (held.small, held.spelled) in
-    let same : held.saved ≡ save.value = one_saved told held.saved save.value here save.saved in
-    let mirror : IsMirrorOf everything (changes_up_to (hist.published_of h) save.value.number)
+pub has_export : (given : FilterValue) (h : hist.History) (extract : List ℕ) (told : Option (List ℕ)) (holds : List ℕ → Type 0) (named : HasDataForm extract)
+    (held : Holds told) → IsSaveOf (hist.published_of h) given (hist.base_of h) (hist.number_of h) told → is_none told ≡ not (hist.is_saved h)
+    → holds (data_text_of named.form held.saved.mirror.objects) → HasExport given h extract holds
+has_export given h extract told holds named held save there fits =
+    let here : IsSaved given told held.saved = rw held.there (held.small, held.spelled) in
+    let same : held.saved ≡ save.value = one_saved given told held.saved save.value here save.saved in
+    let mirror : IsMirrorOf given (changes_up_to (hist.published_of h) save.value.number)
     (changes_after (hist.published_of h) save.value.base save.value.number) held.saved.mirror = rw same save.in_step.mirror in
     record {
       saved = is_there_not (hist.is_saved h) told held.bytes there held.there;
       named = named;
       objects = held.saved.mirror.objects;
       are_data = mirror_data held.saved.mirror held.spelled.savable.mirror;
-      content = λ k. mirror.objects k ∙ (everything_left (changes_up_to (hist.published_of h) save.value.number) k
-          ∙ ap (λ n. content_of (changes_up_to (hist.published_of h) n) k) save.number_is);
+      content = λ k. mirror.objects k ∙ ap (λ n. kept_object given (content_of (changes_up_to (hist.published_of h) n) k)) save.number_is;
       fits = fits;
     }
 
 -- an export is done
-pub export_agrees : (p : List PublishedValue) (lost : ℕ → Suffix → Bool) (m : Standing) (dir save changes extract : List ℕ)
+pub export_agrees : (p : List PublishedValue) (lost : ℕ → Suffix → Bool) (m : Standing) (given : FilterValue) (dir save changes extract : List ℕ)
     (start f g l : Files) (n : ℕ) (report : ReportValue) → AreApart dir save changes extract
-    → Agrees p lost m dir save changes extract start f l n → Exports save extract report f g
-    → Agrees p lost (record { number = m.number; base = m.base; is_saved = m.is_saved; exported = Some m.number }) dir save
+    → Agrees p lost m given dir save changes extract start f l n → Exports save extract report f g
+    → Agrees p lost (record { number = m.number; base = m.base; is_saved = m.is_saved; exported = Some m.number }) given dir save
     changes extract start g l n
-export_agrees p lost m dir save changes extract start f g l n report apart s done = record {
+export_agrees p lost m given dir save changes extract start f g l n report apart s done = record {
   folder = folder_same p dir f g (put.others (top_name_of dir) (λ e. apart.extract_is.top (sym e))) (λ k t above until. other k t until) s.folder;
   each = λ k t above until. other k t until ∙ s.each k t above until;
   away = s.away;
@@ -129,9 +133,9 @@ export_agrees p lost m dir save changes extract start f g l n report apart s don
   right = s.right;
   zero = other 0 State (omega arith) ∙ s.zero;
   saved = record {
-    save_is = subst (IsSaveOf p m.base m.number) (sym same) s.saved.save_is;
+    save_is = subst (IsSaveOf p given m.base m.number) (sym same) s.saved.save_is;
     is_there = ap is_none same ∙ s.saved.is_there;
-    extract_is = done.in_step p m.base m.number s.saved.save_is;
+    extract_is = done.in_step p given m.base m.number s.saved.save_is;
     within = let v = s.saved.save_is.in_step.within in let at = s.saved.save_is.number_is in omega (arith, v, at);
   };
   others = λ name o. put.others name o.extract_is ∙ s.others name o;
@@ -151,55 +155,88 @@ export_agrees p lost m dir save changes extract start f g l n report apart s don
     same = put.others save (λ e. apart.not_saved (sym e))
 
 -- why an export stopped
-pub export_row : (h : hist.History) (extract save : List ℕ) (calls : ℕ) (f : Files) (fault : RunFault)
-    → LacksCalls 2 (Some calls) fault → IsSaveOf (hist.published_of h) (hist.base_of h) (hist.number_of h) (f save)
+pub export_row : (given : FilterValue) (h : hist.History) (extract save : List ℕ) (calls : ℕ) (f : Files) (fault : RunFault)
+    → LacksCalls 2 (Some calls) fault → IsSaveOf (hist.published_of h) given (hist.base_of h) (hist.number_of h) (f save)
     → is_none (f save) ≡ not (hist.is_saved h) → ExportStops (IsTrue true) save extract f fault
-    → KilledExportRefused h extract calls fault
-export_row h extract save calls f UnknownForm lacks s there r = r
-export_row h extract save calls f WantOfMemory lacks s there r = tt
-export_row h extract save calls f (ReadFault Save) lacks s there r = (refl, r, lacks tt)
-export_row h extract save calls f (Absent Save) lacks s there r = (refl, r.0, is_absent_not (hist.is_saved h) (f save) there (r.1 refl))
-export_row h extract save calls f (TooLarge Save) lacks s there r = absurd (saved_small (f save) s.value s.saved (r.1 refl))
-export_row h extract save calls f (BadSave line) lacks s there r =
-    absurd (let bad = r.1 refl in bad.nothing s.value (saved_right (f save) s.value bad.bytes s.saved bad.there))
-export_row h extract save calls f (TooLarge Output) lacks s there r =
+    → KilledExportRefused given h extract calls fault
+export_row given h extract save calls f UnknownForm lacks s there r = r
+export_row given h extract save calls f WantOfMemory lacks s there r = tt
+export_row given h extract save calls f (ReadFault Save) lacks s there r = (refl, r, lacks tt)
+export_row given h extract save calls f (Absent Save) lacks s there r = (refl, r.0, is_absent_not (hist.is_saved h) (f save) there (r.1 refl))
+export_row given h extract save calls f (TooLarge Save) lacks s there r = absurd (saved_small given (f save) s.value s.saved (r.1 refl))
+export_row given h extract save calls f (BadSave line) lacks s there r =
+    absurd (let bad = r.1 refl in bad.nothing s.value (saved_right given (f save) s.value bad.bytes s.saved bad.there))
+export_row given h extract save calls f (TooLarge Output) lacks s there r =
     let big = r.1 refl in
-    (refl, has_export h extract (f save) (λ text. max_file < length text) big.named big.held s there big.over)
-export_row h extract save calls f (WriteFault Output) lacks s there r =
+    (refl, has_export given h extract (f save) (λ text. max_file < length text) big.named big.held s there big.over)
+export_row given h extract save calls f (WriteFault Output) lacks s there r =
     let made = r.1 refl in
-    (refl, has_export h extract (f save) (λ text. length text ≤ max_file) made.named made.held s there made.fits, lacks tt)
-export_row h extract save calls f fault lacks s there r = absurd r
+    (refl, has_export given h extract (f save) (λ text. length text ≤ max_file) made.named made.held s there made.fits, lacks tt)
+export_row given h extract save calls f fault lacks s there r = absurd r
 
-pub not_killed_export : (h : hist.History) (extract : List ℕ) (calls : ℕ) (fault : RunFault) → IsNoDevice fault
-    → KilledExportRefused h extract calls fault → ExportRefused h extract fault
-not_killed_export h extract calls (ReadFault file) none r = absurd none
-not_killed_export h extract calls (WriteFault file) none r = absurd none
-not_killed_export h extract calls fault none r = r
+pub not_killed_export : (given : FilterValue) (h : hist.History) (extract : List ℕ) (calls : ℕ) (fault : RunFault) → IsNoDevice fault
+    → KilledExportRefused given h extract calls fault → ExportRefused given h extract fault
+not_killed_export given h extract calls (ReadFault file) none r = absurd none
+not_killed_export given h extract calls (WriteFault file) none r = absurd none
+not_killed_export given h extract calls fault none r = r
 
--- ---- the state at which a beginning begins
+-- ---- the state and the objects with which a beginning begins
+
+-- the extract holds exactly what the filter keeps of what published sequences 1 to the number leave, and the state is that of
+-- the number
+pub record IsKeptBase (p : List PublishedValue) (given : FilterValue) (number : ℕ) (extract state : List ℕ) (f : Files) : Type 0 where
+  pub above : 0 < number
+  pub within : number ≤ length p
+  pub start : IsThere (f state) (IsStateFile number (sequence_at p number).time)
+  pub objects : List ChangeValue
+  pub base_is : IsBase extract (f extract) objects
+  pub content : (k : Key) → object_at objects k ≡ kept given (content_of (changes_up_to p number)) k
+
+-- a data file as it is written spells its objects
+written_data : (form : DataForm) (objects : List ChangeValue) → IsData objects → spells_data form (data_text_of form objects) objects
+written_data Opl objects are = opl_written.data_spells objects are
+written_data O5m objects are = o5m_written.data_spells objects are
+
+base_of_export : (p : List PublishedValue) (given : FilterValue) (number : ℕ) (extract state : List ℕ) (f : Files)
+    → IsExportOf p given number extract (f extract) → 0 < number → number ≤ length p
+    → IsThere (f state) (IsStateFile number (sequence_at p number).time) → IsKeptBase p given number extract state f
+base_of_export p given number extract state f e above within named = record {
+  above = above;
+  within = within;
+  start = named;
+  objects = e.objects;
+  base_is = record {
+    named = e.named;
+    bytes = data_text_of e.named.form e.objects;
+    there = e.text;
+    small = e.fits;
+    spelled = written_data e.named.form e.objects e.are_data;
+  };
+  content = e.content;
+}
 
 -- the file that a beginning reads
 pub state_name : (dir : List ℕ) (n k : ℕ) → n ≡ k → k ≤ max_sequence → state_name_of dir n ≡ file_name_of dir k State
 state_name dir n k e most = let same : min n max_sequence ≡ k = grind (arith) in ap (λ i. file_name_of dir i State) same
 
-exported_some : (p : List PublishedValue) (exported : Option ℕ) (extract : List ℕ) (was told : Option (List ℕ))
-    → 0 < unwrap_or exported 0 → IsExtractOf p exported extract was told → IsExportOf p (unwrap_or exported 0) extract told
-exported_some p None extract was told above is = absurd (omega (arith, above))
-exported_some p (Some number) extract was told above is = is
+exported_some : (p : List PublishedValue) (given : FilterValue) (exported : Option ℕ) (extract : List ℕ) (was told : Option (List ℕ))
+    → 0 < unwrap_or exported 0 → IsExtractOf p given exported extract was told → IsExportOf p given (unwrap_or exported 0) extract told
+exported_some p given None extract was told above is = absurd (omega (arith, above))
+exported_some p given (Some number) extract was told above is = is
 
 some_holds : (o : Option (List ℕ)) (text : List ℕ) (holds : List ℕ → Type 0) → o ≡ Some text → holds text → IsThere o holds
 some_holds o text holds e h = rw e h
 
 -- no number above 0 was exported or the state of the number is lost, and the state isn't there; or it is there, and the extract
--- is the base of its number
-abbrev pub StateCases : List PublishedValue → (ℕ → Suffix → Bool) → ℕ → List ℕ → List ℕ → Files → Type 0
-StateCases p lost number dir extract f =
+-- is what the filter keeps of its number
+abbrev pub StateCases : List PublishedValue → FilterValue → (ℕ → Suffix → Bool) → ℕ → List ℕ → List ℕ → Files → Type 0
+StateCases p given lost number dir extract f =
     (((number ≡ 0) ⊎ (lost number State ≡ true)) × (f (file_name_of dir number State) ≡ None))
-    ⊎ ((0 < number) × (lost number State ≡ false) × IsBaseOf p number extract (file_name_of dir number State) f)
+    ⊎ ((0 < number) × (lost number State ≡ false) × IsKeptBase p given number extract (file_name_of dir number State) f)
 
-pub state_cases : (p : List PublishedValue) (lost : ℕ → Suffix → Bool) (m : Standing) (dir save changes extract : List ℕ)
-    (start f l : Files) (n : ℕ) → Agrees p lost m dir save changes extract start f l n → StateCases p lost (begins_at m) dir extract f
-state_cases p lost m dir save changes extract start f l n s = elim (cases_lt 0 (begins_at m)) [
+pub state_cases : (p : List PublishedValue) (lost : ℕ → Suffix → Bool) (m : Standing) (given : FilterValue) (dir save changes extract : List ℕ)
+    (start f l : Files) (n : ℕ) → Agrees p lost m given dir save changes extract start f l n → StateCases p given lost (begins_at m) dir extract f
+state_cases p lost m given dir save changes extract start f l n s = elim (cases_lt 0 (begins_at m)) [
   | inr none ↦ (let zero_is : begins_at m ≡ 0 = omega (arith, none) in
       inl (inl zero_is, subst (λ k. f (file_name_of dir k State) ≡ None) (sym zero_is) s.zero))
   | inl above ↦ elim (cases_Bool (lost (begins_at m) State)) [
@@ -207,8 +244,8 @@ state_cases p lost m dir save changes extract start f l n s = elim (cases_lt 0 (
     | inr here ↦ inr (
       above,
       here,
-      base_of_export p (begins_at m) extract (file_name_of dir (begins_at m) State) f
-          (exported_some p m.exported extract (start extract) (f extract) above s.saved.extract_is) above s.saved.within
+      base_of_export p given (begins_at m) extract (file_name_of dir (begins_at m) State) f
+          (exported_some p given m.exported extract (start extract) (f extract) above s.saved.extract_is) above s.saved.within
           (some_holds (f (file_name_of dir (begins_at m) State)) (text above)
           (IsStateFile (begins_at m) (sequence_at p (begins_at m)).time)
           (s.each (begins_at m) State above s.saved.within ∙ ap (λ b. unless_lost b (text above)) here)
@@ -228,81 +265,38 @@ state_cases p lost m dir save changes extract start f l n s = elim (cases_lt 0 (
 abbrev pub begun_at : Standing → Standing
 begun_at m = record { number = begins_at m; base = begins_at m; is_saved = true; exported = m.exported }
 
-pub begin_agrees : (p : List PublishedValue) (lost : ℕ → Suffix → Bool) (m : Standing) (dir save changes extract state : List ℕ)
-    (start f g l : Files) (n : ℕ) (report : ReportValue) → AreApart dir save changes extract
-    → Agrees p lost m dir save changes extract start f l n → IsBaseOf p (begins_at m) extract state f
-    → Begins extract state save report f g
-    → Agrees p lost (begun_at m) dir save changes extract start g l n × (report ≡ begin_report_of (begins_at m))
-begin_agrees p lost m dir save changes extract state start f g l n report apart s base done = (
-  record {
-    folder = folder_same p dir f g (put.others (top_name_of dir) (λ e. apart.save_is.top (sym e))) (λ k t above until. other k t until) s.folder;
-    each = λ k t above until. other k t until ∙ s.each k t above until;
-    away = s.away;
-    fresh = s.fresh;
-    right = s.right;
-    zero = other 0 State (omega arith) ∙ s.zero;
-    saved = record {
-      save_is = begun.0;
-      is_there = ap is_none put.there;
-      extract_is = subst (IsExtractOf p m.exported extract (start extract)) (sym (put.others extract apart.not_saved)) s.saved.extract_is;
-      within = s.saved.within;
-    };
-    others = λ name o. put.others name o.save_is ∙ s.others name o;
-    number = s.number;
-  },
-  begun.1,
-)
-  where
-    put : Puts f save (Some done.begun.text) g
-    put = done.begun.put
-
-    begun : IsSaveOf p (begins_at m) (begins_at m) (g save) × (report ≡ begin_report_of (begins_at m))
-    begun = done.in_step p (begins_at m) base
-
-    most : length p ≤ max_sequence
-    most = few p s.folder.sequences
-
-    other : (k : ℕ) (t : Suffix) → k ≤ length p → g (file_name_of dir k t) ≡ f (file_name_of dir k t)
-    other k t until = put.others (file_name_of dir k t) (λ e. apart.save_is.each k t (omega (arith, most, until)) (sym e))
-
--- ---- why a beginning stopped
-
 none_after : (p : List PublishedValue) (k : ℕ) → k ≤ length p → changes_after p k k ≡ []
 none_after p k within = ap (flat_map (λ (q : PublishedValue). q.changes)) (drop_all k (take k p) (omega (arith, length-take-le k p within)))
 
-uncounted : (cs counted objects : List ChangeValue) → IsData objects → ((k : Key) → object_at objects k ≡ content_of cs k) → counted ≡ []
-    → IsMirrorOf everything cs counted (record { objects = objects; users = []; changesets = [] })
-unfolding IsStrictlySortedBy
-uncounted cs counted objects are content none = rw none (record {
-  orderly = record {
-    objects = are.rising;
-    users = record { rising = tt; above = tt };
-    changesets = record { rising = tt; above = tt };
-  };
-  objects = λ k. content k ∙ sym (everything_left cs k);
+-- what the filter keeps of the objects is the mirror that it kept, and no edits are counted
+uncounted : (given : FilterValue) (cs counted objects : List ChangeValue) → IsData objects
+    → ((k : Key) → object_at objects k ≡ kept given (content_of cs) k) → counted ≡ []
+    → IsOrderly (record { objects = kept_objects given objects; users = []; changesets = [] })
+    → IsMirrorOf given cs counted (record { objects = kept_objects given objects; users = []; changesets = [] })
+uncounted given cs counted objects are content none orderly = rw none (record {
+  orderly = orderly;
+  objects = λ k. kept_at given objects are.rising k ∙ (ap (kept_object given) (content k) ∙ extracts_are_enough given (content_of cs) [] k);
   users = λ uid. refl;
   changesets = λ id. refl;
 })
 
--- the save that a beginning would write passes 1 GiB
-big_beginning : (p : List PublishedValue) (number : ℕ) (extract state : List ℕ) (f : Files) → IsBaseOf p number extract state f
-    → (s : StateValue) (text : List ℕ) → IsBeginning extract state f s text → max_save < length text → HasBigBeginning p number
-big_beginning p number extract state f of s text b over = record {
-  value = begun_save s b.objects;
-  text = text;
-  base_is = ap (λ (u : StateValue). u.sequence) start;
-  number_is = ap (λ (u : StateValue). u.sequence) start;
-  in_step = subst (IsInStep p) (sym same) (record {
+-- what a beginning saves is of the number, and is in step with what was published
+begun_step : (p : List PublishedValue) (given : FilterValue) (number : ℕ) (extract state : List ℕ) (f : Files)
+    → IsKeptBase p given number extract state f → (s : StateValue) (text : List ℕ) (b : IsBeginning given extract state f s text)
+    → (s.sequence ≡ number) × IsInStep p given (begun_save given s b.objects)
+begun_step p given number extract state f of s text b = (
+  ap (λ (u : StateValue). u.sequence) start,
+  subst (λ (u : StateValue). IsInStep p given (begun_save given u b.objects)) (sym start) (record {
     within = of.within;
     base = omega arith;
     filter_is = refl;
-    mirror = uncounted (changes_up_to p number) (changes_after p number number) of.objects
-        (spelled_data of.base_is.named.form of.base_is.bytes of.objects of.base_is.spelled) of.content (none_after p number of.within);
+    mirror = uncounted given (changes_up_to p number) (changes_after p number number) b.objects
+        (spelled_data b.base_is.named.form b.base_is.bytes b.objects b.base_is.spelled)
+        (λ k. ap (λ (os : List ChangeValue). object_at os k) objects ∙ of.content k) (none_after p number of.within)
+        b.spelled.savable.mirror.orderly;
     time = sym (time_next p (number - 1) number (let above = of.above in omega (arith, above)));
-  });
-  spelled = b.spelled;
-  over = over;
-}
+  }),
+)
   where
     named : StateValue
     named = record { sequence = number; time = (sequence_at p number).time }
@@ -313,8 +307,76 @@ big_beginning p number extract state f of s text b over = record {
     objects : b.objects ≡ of.objects
     objects = same_base extract (f extract) b.objects of.objects b.base_is of.base_is
 
-    same : begun_save s b.objects ≡ begun_save named of.objects
-    same = ap (λ (u : StateValue). begun_save u b.objects) start ∙ ap (λ (os : List ChangeValue). begun_save named os) objects
+begun_in_step : (p : List PublishedValue) (given : FilterValue) (number : ℕ) (extract state save : List ℕ) (f g : Files)
+    (report : ReportValue) → IsKeptBase p given number extract state f → IsBegunFrom given extract state save f g report
+    → IsSaveOf p given number number (g save) × (report ≡ begin_report_of number)
+begun_in_step p given number extract state save f g report of done =
+    let step = begun_step p given number extract state f of done.s done.text done.beginning in (
+      record {
+        value = begun_save given done.s done.beginning.objects;
+        saved = rw done.put.there (done.small, done.beginning.spelled);
+        base_is = step.0;
+        number_is = step.0;
+        in_step = step.1;
+      },
+      done.report_is ∙ ap begin_report_of step.0,
+    )
+
+pub begin_agrees : (p : List PublishedValue) (lost : ℕ → Suffix → Bool) (m : Standing) (given : FilterValue)
+    (dir save changes extract state : List ℕ)
+    (start f g l : Files) (n : ℕ) (report : ReportValue) → AreApart dir save changes extract
+    → Agrees p lost m given dir save changes extract start f l n → IsKeptBase p given (begins_at m) extract state f
+    → IsBegunFrom given extract state save f g report
+    → Agrees p lost (begun_at m) given dir save changes extract start g l n × (report ≡ begin_report_of (begins_at m))
+begin_agrees p lost m given dir save changes extract state start f g l n report apart s base done = (
+  record {
+    folder = folder_same p dir f g (put.others (top_name_of dir) (λ e. apart.save_is.top (sym e))) (λ k t above until. other k t until) s.folder;
+    each = λ k t above until. other k t until ∙ s.each k t above until;
+    away = s.away;
+    fresh = s.fresh;
+    right = s.right;
+    zero = other 0 State (omega arith) ∙ s.zero;
+    saved = record {
+      save_is = begun.0;
+      is_there = ap is_none put.there;
+      extract_is = subst (IsExtractOf p given m.exported extract (start extract)) (sym (put.others extract apart.not_saved)) s.saved.extract_is;
+      within = s.saved.within;
+    };
+    others = λ name o. put.others name o.save_is ∙ s.others name o;
+    number = s.number;
+  },
+  begun.1,
+)
+  where
+    put : Puts f save (Some done.text) g
+    put = done.put
+
+    begun : IsSaveOf p given (begins_at m) (begins_at m) (g save) × (report ≡ begin_report_of (begins_at m))
+    begun = begun_in_step p given (begins_at m) extract state save f g report base done
+
+    most : length p ≤ max_sequence
+    most = few p s.folder.sequences
+
+    other : (k : ℕ) (t : Suffix) → k ≤ length p → g (file_name_of dir k t) ≡ f (file_name_of dir k t)
+    other k t until = put.others (file_name_of dir k t) (λ e. apart.save_is.each k t (omega (arith, most, until)) (sym e))
+
+-- ---- why a beginning stopped
+
+-- the save that a beginning would write passes 1 GiB
+big_beginning : (p : List PublishedValue) (given : FilterValue) (number : ℕ) (extract state : List ℕ) (f : Files)
+    → IsKeptBase p given number extract state f → (s : StateValue) (text : List ℕ) → IsBeginning given extract state f s text
+    → max_save < length text → HasBigBeginning p given number
+big_beginning p given number extract state f of s text b over =
+    let step = begun_step p given number extract state f of s text b in
+    record {
+      value = begun_save given s b.objects;
+      text = text;
+      base_is = step.0;
+      number_is = step.0;
+      in_step = step.1;
+      spelled = b.spelled;
+      over = over;
+    }
 
 -- what holds of a file that is there
 none_holds : (o : Option (List ℕ)) (holds : List ℕ → Type 0) → o ≡ None → IsThere o holds → ⊥
@@ -355,15 +417,15 @@ state_in dir h = file_name_of dir (hist.beginning_of h) State
 abbrev pub time_in : hist.History → ℕ
 time_in h = (sequence_at (hist.published_of h) (hist.beginning_of h)).time
 
-module _ (h : hist.History) (dir save changes extract : List ℕ) (start f l : Files) (n calls : ℕ)
-    (s : Agrees (hist.published_of h) (hist.is_file_lost h) (hist.standing_of h) dir save changes extract start f l n) where
-  cases : StateCases (hist.published_of h) (hist.is_file_lost h) (hist.beginning_of h) dir extract f
-  cases = state_cases (hist.published_of h) (hist.is_file_lost h) (hist.standing_of h) dir save changes extract start f l n s
+module _ (h : hist.History) (given : FilterValue) (dir save changes extract : List ℕ) (start f l : Files) (n calls : ℕ)
+    (s : Agrees (hist.published_of h) (hist.is_file_lost h) (hist.standing_of h) given dir save changes extract start f l n) where
+  cases : StateCases (hist.published_of h) given (hist.is_file_lost h) (hist.beginning_of h) dir extract f
+  cases = state_cases (hist.published_of h) (hist.is_file_lost h) (hist.standing_of h) given dir save changes extract start f l n s
 
   -- the state is there
   pub state_there : (holds : List ℕ → Type 0) → IsThere (f (state_in dir h)) holds
       → (0 < hist.beginning_of h) × (hist.is_file_lost h (hist.beginning_of h) State ≡ false)
-      × IsBaseOf (hist.published_of h) (hist.beginning_of h) extract (state_in dir h) f
+      × IsKeptBase (hist.published_of h) given (hist.beginning_of h) extract (state_in dir h) f
   state_there holds there = elim cases [
     | inl gone ↦ absurd (none_holds (f (state_in dir h)) holds gone.1 there)
     | inr here ↦ here
@@ -374,11 +436,11 @@ module _ (h : hist.History) (dir save changes extract : List ℕ) (start f l : F
       let here = state_there (IsStateFile start_is.0.sequence start_is.0.time) start_is.1.there in
       record { named = named; above = here.0; there = here.1 }
 
-  base_is : HasStart (state_in dir h) f → IsBaseOf (hist.published_of h) (hist.beginning_of h) extract (state_in dir h) f
+  base_is : HasStart (state_in dir h) f → IsKeptBase (hist.published_of h) given (hist.beginning_of h) extract (state_in dir h) f
   base_is start_is = (state_there (IsStateFile start_is.0.sequence start_is.0.time) start_is.1.there).2
 
-  pub begin_row : (fault : RunFault) → LacksCalls 3 (Some calls) fault → NoFaultBesideState → BeginStops (IsTrue true) extract (state_in dir h) f fault
-      → KilledBeginRefused h extract calls fault
+  pub begin_row : (fault : RunFault) → LacksCalls 3 (Some calls) fault → NoFaultBesideState → BeginStops (IsTrue true) given extract (state_in dir h) f fault
+      → KilledBeginRefused given h extract calls fault
   begin_row UnknownForm lacks law r = r
   begin_row WantOfMemory lacks law r = tt
   begin_row (ReadFault files.State) lacks law r = (r, lacks tt)
@@ -424,15 +486,15 @@ module _ (h : hist.History) (dir save changes extract : List ℕ) (start f l : F
       let has : HasStart (state_in dir h) f = (big.0, big.2.start) in (
         refl,
         beginning_has big.2.base_is.named has,
-        big_beginning (hist.published_of h) (hist.beginning_of h) extract (state_in dir h) f (base_is has) big.0 big.1 big.2 big.3,
+        big_beginning (hist.published_of h) given (hist.beginning_of h) extract (state_in dir h) f (base_is has) big.0 big.1 big.2 big.3,
       )
   begin_row (WriteFault Save) lacks law r =
       let told = r refl in
       (refl, beginning_has told.2.base_is.named (told.0, told.2.start), lacks tt)
   begin_row fault lacks law r = absurd r
 
-pub not_killed_begin : (h : hist.History) (extract : List ℕ) (calls : ℕ) (fault : RunFault) → IsNoDevice fault
-    → KilledBeginRefused h extract calls fault → BeginRefused h extract fault
-not_killed_begin h extract calls (ReadFault file) none r = absurd none
-not_killed_begin h extract calls (WriteFault file) none r = absurd none
-not_killed_begin h extract calls fault none r = r
+pub not_killed_begin : (given : FilterValue) (h : hist.History) (extract : List ℕ) (calls : ℕ) (fault : RunFault) → IsNoDevice fault
+    → KilledBeginRefused given h extract calls fault → BeginRefused given h extract fault
+not_killed_begin given h extract calls (ReadFault file) none r = absurd none
+not_killed_begin given h extract calls (WriteFault file) none r = absurd none
+not_killed_begin given h extract calls fault none r = r

@@ -5,6 +5,7 @@ use Rattle.std.specs.Prelude.{◌⊎◌, ◌||◌, ◌&&◌, filter, is_none, mi
 use Rattle.std.proofs.lemmas.Bool.{cases_lt}
 use Rattle.std.proofs.lemmas.List.Elements.{filter-append}
 use Rattle.std.proofs.lemmas.Option.{same_Some}
+use Rattle.osm_model.specs.Filter.{FilterValue}
 use Rattle.osm_save.specs.declared.save.Saved.{Saved}
 use Rattle.osm_state.specs.declared.paths.Suffix.{Suffix}
 use Rattle.osm_state.specs.declared.paths.Suffix.TheVariants.{O5c, Opl, State}
@@ -35,10 +36,10 @@ none_kept : (b : Bool) (text : List ℕ) → is_none (unless_lost b text) ≡ b
 none_kept true text = refl
 none_kept false text = refl
 
-pub lost_same : (p : List PublishedValue) (lost : ℕ → Suffix → Bool) (m : Standing) (dir save changes extract : List ℕ)
-    (start f l : Files) (n k : ℕ) → Agrees p lost m dir save changes extract start f l n → 0 < k → k ≤ length p
+pub lost_same : (p : List PublishedValue) (lost : ℕ → Suffix → Bool) (m : Standing) (given : FilterValue) (dir save changes extract : List ℕ)
+    (start f l : Files) (n k : ℕ) → Agrees p lost m given dir save changes extract start f l n → 0 < k → k ≤ length p
     → is_lost f dir k ≡ (lost k State || (lost k O5c && lost k Opl))
-lost_same p lost m dir save changes extract start f l n k s above within =
+lost_same p lost m given dir save changes extract start f l n k s above within =
     rw (is State, is O5c, is Opl) refl
   where
     is : (t : Suffix) → is_none (f (file_name_of dir k t)) ≡ lost k t
@@ -105,31 +106,31 @@ abbrev pub gone_on : Standing → ℕ → Standing
 gone_on m count = record { number = m.number + count; base = m.base; is_saved = true; exported = m.exported }
 
 -- a run that is done
-pub followed : (p : List PublishedValue) (lost : ℕ → Suffix → Bool) (m : Standing) (dir save changes extract : List ℕ)
+pub followed : (p : List PublishedValue) (lost : ℕ → Suffix → Bool) (m : Standing) (given : FilterValue) (dir save changes extract : List ℕ)
     (start f g l : Files) (n : ℕ) (report : ReportValue) → AreApart dir save changes extract
-    → Agrees p lost m dir save changes extract start f l n → IsFollowed dir save f g report
+    → Agrees p lost m given dir save changes extract start f l n → IsFollowed given dir save f g report
     → (let c = count_from (number_lost lost) m.number (length p - m.number) in
-    Agrees p lost (gone_on m c) dir save changes extract start g l n
+    Agrees p lost (gone_on m c) given dir save changes extract start g l n
     × (report ≡ follow_report_of (ranges m.number c)
     (filter (number_lost lost) (numbers (m.number + c) (min 64 (length p - (m.number + c))))) (m.number + c)))
-followed p lost m dir save changes extract start f g l n report apart s run =
+followed p lost m given dir save changes extract start f g l n report apart s run =
     rw count_same (agrees, after.report_is ∙ ap (λ xs. follow_report_of (ranges m.number count) xs (m.number + count)) lost_are)
   where
-    after : IsInStepAfter p m.base m.number dir save f g report
-    after = in_step_after p m.base m.number dir save f g report s.folder s.saved.save_is run
+    after : IsInStepAfter p given m.base m.number dir save f g report
+    after = in_step_after given p m.base m.number dir save f g report s.folder s.saved.save_is run
 
     count : ℕ
     count = after.count
 
     start_is : run.following.start.number ≡ m.number
-    start_is = ap (λ (v : Saved). v.number) (one_saved (f save) run.following.start s.saved.save_is.value run.following.started.saved
+    start_is = ap (λ (v : Saved). v.number) (one_saved given (f save) run.following.start s.saved.save_is.value run.following.started.saved
         s.saved.save_is.saved) ∙ s.saved.save_is.number_is
 
     -- the save that was written says how many were taken
     same_count : run.following.count ≡ count
     same_count =
-        let told : IsSaved (g save) run.following.reached = rw run.put.there (run.small, run.following.spelled) in
-        let same = ap (λ (v : Saved). v.number) (one_saved (g save) after.saved.value run.following.reached after.saved.saved told) in
+        let told : IsSaved given (g save) run.following.reached = rw run.put.there (run.small, run.following.spelled) in
+        let same = ap (λ (v : Saved). v.number) (one_saved given (g save) after.saved.value run.following.reached after.saved.saved told) in
         let at = run.following.goes_on.number in
         let is = after.saved.number_is in
         omega (arith, same, at, is, start_is)
@@ -141,7 +142,7 @@ followed p lost m dir save changes extract start f g l n report apart s run =
         omega (arith, v, at)
 
     gone : (k : ℕ) → 0 < k → k ≤ length p → is_lost f dir k ≡ number_lost lost k
-    gone k above until = lost_same p lost m dir save changes extract start f l n k s above until
+    gone k above until = lost_same p lost m given dir save changes extract start f l n k s above until
 
     none : (k : ℕ) → m.number < k → k ≤ m.number + count → number_lost lost k ≡ false
     none k above until =
@@ -169,7 +170,7 @@ followed p lost m dir save changes extract start f g l n report apart s run =
     most : length p ≤ 999999999
     most = few p s.folder.sequences
 
-    agrees : Agrees p lost (gone_on m count) dir save changes extract start g l n
+    agrees : Agrees p lost (gone_on m count) given dir save changes extract start g l n
     agrees = record {
       folder = folder_same p dir f g (after.others (top_name_of dir) (λ e. apart.save_is.top (sym e)))
           (λ k t above until. after.others (file_name_of dir k t) (λ e. apart.save_is.each k t (omega (arith, most, until)) (sym e))) s.folder;
@@ -181,7 +182,7 @@ followed p lost m dir save changes extract start f g l n report apart s run =
       saved = record {
         save_is = after.saved;
         is_there = ap is_none run.put.there;
-        extract_is = subst (IsExtractOf p m.exported extract (start extract)) (sym (after.others extract apart.not_saved)) s.saved.extract_is;
+        extract_is = subst (IsExtractOf p given m.exported extract (start extract)) (sym (after.others extract apart.not_saved)) s.saved.extract_is;
         within = s.saved.within;
       };
       others = λ name o. after.others name o.save_is ∙ s.others name o;
@@ -189,14 +190,14 @@ followed p lost m dir save changes extract start f g l n report apart s run =
     }
 
 -- a run that stopped
-pub stopped_follow : (p : List PublishedValue) (base m calls : ℕ) (told : Option (List ℕ)) (fault : RunFault)
-    → LacksCalls (follow_calls p m) (Some calls) fault → IsSaveOf p base m told → FollowRefuses p told fault
-    → KilledFollowingRefused p m calls fault
-stopped_follow p base m calls told WantOfMemory lacks s r = tt
-stopped_follow p base m calls told (ReadFault file) lacks s r = lacks tt
-stopped_follow p base m calls told (WriteFault file) lacks s r = (r, lacks tt)
-stopped_follow p base m calls told (Absent file) lacks s r = r
-stopped_follow p base m calls told (TooLarge file) lacks s r = (
+pub stopped_follow : (p : List PublishedValue) (given : FilterValue) (base m calls : ℕ) (told : Option (List ℕ)) (fault : RunFault)
+    → LacksCalls (follow_calls p m) (Some calls) fault → IsSaveOf p given base m told → FollowRefuses p given told fault
+    → KilledFollowingRefused p given m calls fault
+stopped_follow p given base m calls told WantOfMemory lacks s r = tt
+stopped_follow p given base m calls told (ReadFault file) lacks s r = lacks tt
+stopped_follow p given base m calls told (WriteFault file) lacks s r = (r, lacks tt)
+stopped_follow p given base m calls told (Absent file) lacks s r = r
+stopped_follow p given base m calls told (TooLarge file) lacks s r = (
   r.0,
   elim r.1 [
     | inl over ↦ absurd (not_over told s.value s.saved over)
@@ -204,16 +205,16 @@ stopped_follow p base m calls told (TooLarge file) lacks s r = (
   ],
 )
   where
-    not_over : (o : Option (List ℕ)) (v : Saved) → IsSaved o v → IsOver max_save o → ⊥
+    not_over : (o : Option (List ℕ)) (v : Saved) → IsSaved given o v → IsOver max_save o → ⊥
     not_over None v a b = (let e = b.there in cc)
     not_over (Some bytes) v a b =
         let long = ap length (same_Some _ _ b.there) in
         let over = b.over in
         omega (arith, long, over, a.0)
-stopped_follow p base m calls told fault lacks s r = absurd r
+stopped_follow p given base m calls told fault lacks s r = absurd r
 
-pub not_killed_follow : (p : List PublishedValue) (m calls : ℕ) (fault : RunFault) → IsNoDevice fault
-    → KilledFollowingRefused p m calls fault → FollowingRefused p fault
-not_killed_follow p m calls (ReadFault file) none h = absurd none
-not_killed_follow p m calls (WriteFault file) none h = absurd none
-not_killed_follow p m calls fault none h = h
+pub not_killed_follow : (p : List PublishedValue) (given : FilterValue) (m calls : ℕ) (fault : RunFault) → IsNoDevice fault
+    → KilledFollowingRefused p given m calls fault → FollowingRefused p given fault
+not_killed_follow p given m calls (ReadFault file) none h = absurd none
+not_killed_follow p given m calls (WriteFault file) none h = absurd none
+not_killed_follow p given m calls fault none h = h

@@ -12,5 +12,6 @@ pub mod ExtractLemmas
 pub mod SpoiledLemmas
 pub mod SpoiledRunLemmas
 pub mod SpoiledStepLemmas
+pub mod OtherLemmas
 pub mod StepLemmas
 pub mod PublicationLemmas

@@ -3,6 +3,7 @@ use Rattle.std.proofs.Common.{◌≡◌, ℕ, ◌<◌, ◌≤◌, List, length, 
 use Rattle.std.specs.Prelude.{not, ◌&&◌, ◌==◌, if◌then◌else◌}
 use Rattle.std.proofs.lemmas.Bool.{cases_Bool, eqb-true, eq-eqb}
 use Rattle.std.proofs.lemmas.Option.{same_Some}
+use Rattle.osm_model.specs.Filter.{FilterValue}
 use Rattle.osm_model.specs.Limits.{max_sequence}
 use Rattle.osm_state.specs.declared.paths.Suffix.{Suffix}
 use Rattle.osm_state.specs.declared.paths.Suffix.TheVariants.{O5c, Opl, State}
@@ -62,13 +63,13 @@ kept_right true text holds h = tt
 kept_right false text holds h = h
 
 -- the file comes or goes
-pub set_agrees : (b : Bool) (p : List PublishedValue) (lost : ℕ → Suffix → Bool) (m : Standing) (dir save changes extract : List ℕ)
+pub set_agrees : (b : Bool) (p : List PublishedValue) (lost : ℕ → Suffix → Bool) (m : Standing) (given : FilterValue) (dir save changes extract : List ℕ)
     (start f l g k : Files) (n j : ℕ) (s : Suffix) → AreApart dir save changes extract → 0 < j → j ≤ length p
     → Puts f (file_name_of dir j s) (unless_lost b (text_of s (sequence_at p j))) g
     → Puts l (file_name_of dir j s) (unless_lost (not b) (text_of s (sequence_at p j))) k
-    → Agrees p lost m dir save changes extract start f l n → Agrees p (λ i t. if same_file j s i t then b else lost i t) m dir
+    → Agrees p lost m given dir save changes extract start f l n → Agrees p (λ i t. if same_file j s i t then b else lost i t) m given dir
     save changes extract start g k n
-set_agrees b p lost m dir save changes extract start f l g k n j s apart above within put taken is = record {
+set_agrees b p lost m given dir save changes extract start f l g k n j s apart above within put taken is = record {
   folder = record {
     sequences = is.folder.sequences;
     top = subst (IsTop p) (sym (put.others (top_name_of dir) (top_is_no_file dir j s))) is.folder.top;
@@ -85,7 +86,7 @@ set_agrees b p lost m dir save changes extract start f l g k n j s apart above w
   right = is.right;
   zero = put.others (file_name_of dir 0 State) (λ e. (let one = one_file dir 0 j State s (omega arith) most e in
       let same = one.0 in omega (arith, same, above))) ∙ is.zero;
-  saved = kept_same p m extract (start extract) (f save) (g save) (f extract) (g extract) (put.others save (apart.save_is.each j s most))
+  saved = kept_same p given m extract (start extract) (f save) (g save) (f extract) (g extract) (put.others save (apart.save_is.each j s most))
       (put.others extract (apart.extract_is.each j s most)) is.saved;
   others = λ name o. put.others name (o.folder.each j s most) ∙ is.others name o;
   number = is.number;
@@ -119,7 +120,7 @@ pub kept_none : (b : Bool) (text : List ℕ) → unless_lost b text ≡ None →
 kept_none true text e = refl
 kept_none false text e = absurd (let h : Some text ≡ None = e in cc)
 
-not_false : (b : Bool) → not b ≡ false → b ≡ true
+pub not_false : (b : Bool) → not b ≡ false → b ≡ true
 not_false true e = refl
 not_false false e = absurd (let h : true ≡ false = e in cc)
 
@@ -128,26 +129,26 @@ not_true false e = refl
 not_true true e = absurd (let h : false ≡ true = e in cc)
 
 -- a file is lost
-pub lost_agrees : (p : List PublishedValue) (lost : ℕ → Suffix → Bool) (m : Standing) (dir save changes extract : List ℕ)
+pub lost_agrees : (p : List PublishedValue) (lost : ℕ → Suffix → Bool) (m : Standing) (given : FilterValue) (dir save changes extract : List ℕ)
     (start f l g k : Files) (n j : ℕ) (s : Suffix) → AreApart dir save changes extract → 0 < j → j ≤ length p
-    → Moves true (file_name_of dir j s) f l g k → Agrees p lost m dir save changes extract start f l n
-    → Agrees p (λ i t. if same_file j s i t then true else lost i t) m dir save changes extract start g k n × (lost j s ≡ false)
-lost_agrees p lost m dir save changes extract start f l g k n j s apart above within (bytes, there, put, gone) is =
+    → Moves true (file_name_of dir j s) f l g k → Agrees p lost m given dir save changes extract start f l n
+    → Agrees p (λ i t. if same_file j s i t then true else lost i t) m given dir save changes extract start g k n × (lost j s ≡ false)
+lost_agrees p lost m given dir save changes extract start f l g k n j s apart above within (bytes, there, put, gone) is =
     let was = kept_some (lost j s) (text_of s (sequence_at p j)) bytes (sym (is.each j s above within) ∙ there) in (
-      set_agrees true p lost m dir save changes extract start f l g k n j s apart above within gone
+      set_agrees true p lost m given dir save changes extract start f l g k n j s apart above within gone
           (subst (λ bs. Puts l (file_name_of dir j s) (Some bs) k) (sym was.1) put) is,
       was.0,
     )
 
 -- a file is put back
-pub back_agrees : (p : List PublishedValue) (lost : ℕ → Suffix → Bool) (m : Standing) (dir save changes extract : List ℕ)
+pub back_agrees : (p : List PublishedValue) (lost : ℕ → Suffix → Bool) (m : Standing) (given : FilterValue) (dir save changes extract : List ℕ)
     (start f l g k : Files) (n j : ℕ) (s : Suffix) → AreApart dir save changes extract → 0 < j → j ≤ length p
-    → Moves true (file_name_of dir j s) l f k g → Agrees p lost m dir save changes extract start f l n
-    → Agrees p (λ i t. if same_file j s i t then false else lost i t) m dir save changes extract start g k n × (lost j s ≡ true)
-back_agrees p lost m dir save changes extract start f l g k n j s apart above within (bytes, there, put, gone) is =
+    → Moves true (file_name_of dir j s) l f k g → Agrees p lost m given dir save changes extract start f l n
+    → Agrees p (λ i t. if same_file j s i t then false else lost i t) m given dir save changes extract start g k n × (lost j s ≡ true)
+back_agrees p lost m given dir save changes extract start f l g k n j s apart above within (bytes, there, put, gone) is =
     let most = few p is.folder.sequences in
     let was = kept_some (not (lost j s)) (text_of s (sequence_at p j)) bytes (sym (is.away j s above (omega (arith, most, within))) ∙ there) in (
-      set_agrees false p lost m dir save changes extract start f l g k n j s apart above within
+      set_agrees false p lost m given dir save changes extract start f l g k n j s apart above within
           (subst (λ bs. Puts f (file_name_of dir j s) (Some bs) g) (sym was.1) put) gone is,
       not_false (lost j s) was.0,
     )

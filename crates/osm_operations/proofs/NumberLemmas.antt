@@ -4,6 +4,7 @@ use Rattle.std.proofs.Common.{Option, Some, None, inl, inr, arith, refl, sym, ap
 use Rattle.std.specs.Prelude.{◌⊎◌, ◌==◌, not, is_none}
 use Rattle.std.specs.List.{AllByRecursion}
 use Rattle.std.proofs.lemmas.Bool.{cases_Bool, cases_lt, eqb-true, eq-eqb}
+use Rattle.osm_model.specs.Filter.{FilterValue}
 use Rattle.osm_model.specs.Limits.{max_sequence}
 use Rattle.osm_state.specs.declared.paths.Suffix.{Suffix}
 use Rattle.osm_state.specs.declared.paths.Suffix.TheVariants.{O5c, Opl, State}
@@ -172,11 +173,11 @@ pub record AreGone (o5c opl : Bool) (l k : Files) : Type 0 where
   pub second : opl ≡ false
   pub same : k ≡ l
 
-pub none_back : (p : List PublishedValue) (lost : ℕ → Suffix → Bool) (m : Standing) (dir save changes extract : List ℕ)
-    (start f g l k : Files) (c n : ℕ) (o5c opl : Bool) → Agrees p lost m dir save changes extract start f l c → 0 < n
+pub none_back : (p : List PublishedValue) (lost : ℕ → Suffix → Bool) (m : Standing) (given : FilterValue) (dir save changes extract : List ℕ)
+    (start f g l k : Files) (c n : ℕ) (o5c opl : Bool) → Agrees p lost m given dir save changes extract start f l c → 0 < n
     → n ≤ max_sequence → ((t : Suffix) → n ≤ length p → g (file_name_of dir n t) ≡ f (file_name_of dir n t))
     → ReturnForms o5c opl dir n g l k → AreGone o5c opl l k
-none_back p lost m dir save changes extract start f g l k c n o5c opl s above most same (mid, a, b) = record {
+none_back p lost m given dir save changes extract start f g l k c n o5c opl s above most same (mid, a, b) = record {
   first = no_first;
   second = no_second;
   same = same_if opl (file_name_of dir n Opl) g mid k no_second b ∙ mid_is;
@@ -204,10 +205,10 @@ none_back p lost m dir save changes extract start f g l k c n o5c opl s above mo
 -- ---- the files are as the history says
 
 -- the same files are lost
-pub lost_alike : (p : List PublishedValue) (lost gone : ℕ → Suffix → Bool) (m : Standing) (dir save changes extract : List ℕ)
+pub lost_alike : (p : List PublishedValue) (lost gone : ℕ → Suffix → Bool) (m : Standing) (given : FilterValue) (dir save changes extract : List ℕ)
     (start f l : Files) (c : ℕ) → ((k : ℕ) (t : Suffix) → gone k t ≡ lost k t)
-    → Agrees p lost m dir save changes extract start f l c → Agrees p gone m dir save changes extract start f l c
-lost_alike p lost gone m dir save changes extract start f l c same s = record {
+    → Agrees p lost m given dir save changes extract start f l c → Agrees p gone m given dir save changes extract start f l c
+lost_alike p lost gone m given dir save changes extract start f l c same s = record {
   folder = s.folder;
   each = λ k t above within. rw (same k t) (s.each k t above within);
   away = λ k t above most. rw (same k t) (s.away k t above most);
@@ -220,16 +221,16 @@ lost_alike p lost gone m dir save changes extract start f l c same s = record {
 }
 
 -- the newest sequence's files were written again, and some of its lost ones are there again
-pub rewritten : (p : List PublishedValue) (lost gone : ℕ → Suffix → Bool) (m : Standing) (dir save changes extract : List ℕ)
-    (start f g l k : Files) (c n count : ℕ) → Agrees p lost m dir save changes extract start f l c → 0 < n → n ≡ length p
+pub rewritten : (p : List PublishedValue) (lost gone : ℕ → Suffix → Bool) (m : Standing) (given : FilterValue) (dir save changes extract : List ℕ)
+    (start f g l k : Files) (c n count : ℕ) → Agrees p lost m given dir save changes extract start f l c → 0 < n → n ≡ length p
     → Writes (take count (writes_of dir (written_of (sequence_at p n)))) f g → IsFolderOf p g dir → g save ≡ f save → g extract ≡ f extract
     → ((name : List ℕ) → IsOther dir save changes extract name → g name ≡ f name)
     → ((i : ℕ) (t : Suffix) → (i ≡ n → ⊥) → gone i t ≡ lost i t)
     → ((t : Suffix) → g (file_name_of dir n t) ≡ unless_lost (gone n t) (text_of t (sequence_at p n)))
     → ((t : Suffix) → k (file_name_of dir n t) ≡ unless_lost (not (gone n t)) (text_of t (sequence_at p n)))
     → ((i : ℕ) (t : Suffix) → i ≤ max_sequence → (i ≡ n → ⊥) → k (file_name_of dir i t) ≡ l (file_name_of dir i t))
-    → Agrees p gone m dir save changes extract start g k c
-rewritten p lost gone m dir save changes extract start f g l k c n count s above newest w folder saved exported others alike here away away_others = record {
+    → Agrees p gone m given dir save changes extract start g k c
+rewritten p lost gone m given dir save changes extract start f g l k c n count s above newest w folder saved exported others alike here away rest = record {
   folder = folder;
   each = λ i t low within. elim (cases_Bool (i == n)) [
     | inl same ↦ (let e = eqb-true i n same in subst (λ j. g (file_name_of dir j t) ≡ unless_lost (gone j t) (text_of t (sequence_at p j))) (sym e) (here t))
@@ -239,12 +240,12 @@ rewritten p lost gone m dir save changes extract start f g l k c n count s above
     | inl same ↦ (let e = eqb-true i n same in
         subst (λ j. k (file_name_of dir j t) ≡ unless_lost (not (gone j t)) (text_of t (sequence_at p j))) (sym e)
         (away t))
-    | inr other ↦ (let not_it = differ i other in rw (alike i t not_it) (away_others i t most not_it ∙ s.away i t low most))
+    | inr other ↦ (let not_it = differ i other in rw (alike i t not_it) (rest i t most not_it ∙ s.away i t low most))
   ];
   fresh = λ i t past. alike i t (λ e. omega (arith, e, newest, past)) ∙ s.fresh i t past;
   right = s.right;
   zero = before 0 State (omega arith) (λ e. omega (arith, e, above)) w ∙ s.zero;
-  saved = kept_same p m extract (start extract) (f save) (g save) (f extract) (g extract) saved exported s.saved;
+  saved = kept_same p given m extract (start extract) (f save) (g save) (f extract) (g extract) saved exported s.saved;
   others = λ name o. others name o ∙ s.others name o;
   number = s.number;
 }

@@ -4,6 +4,7 @@ use Rattle.std.specs.Prelude.{◌⊎◌, ◌==◌, if◌then◌else◌, IsTrue}
 use Rattle.std.proofs.lemmas.Bool.{cases_lt, ne_eqb}
 use Rattle.std.proofs.lemmas.Option.{same_Some}
 use Rattle.osm_model.specs.Change.{ChangeValue}
+use Rattle.osm_model.specs.Filter.{FilterValue}
 use Rattle.osm_model.specs.Limits.{max_sequence}
 use Rattle.osm_model.specs.Time.{TimeText}
 use Rattle.osm_opl.proofs.RoundTrip as opl_trip
@@ -91,12 +92,12 @@ cuts_after p dir sequence files n calls count (WriteFault file) text folder newe
 cuts_after p dir sequence files n calls count fault text folder newest small cut out = absurd cut
 
 -- the run stopped
-pub stopped_number : (h : hist.History) (dir save changes extract : List ℕ) (start f g l : Files) (c : ℕ) (m : hist.Standing)
+pub stopped_number : (h : hist.History) (given : FilterValue) (dir save changes extract : List ℕ) (start f g l : Files) (c : ℕ) (m : hist.Standing)
     (batch : List ChangeValue) (time n calls : ℕ) (fault : RunFault)
     → (run : IsPublishRun dir changes batch time f g (StopsPublishingAs (Some calls) dir changes n fault g))
-    → Agrees (hist.published_of h) (hist.is_file_lost h) m dir save changes extract start run.middle l c
+    → Agrees (hist.published_of h) (hist.is_file_lost h) m given dir save changes extract start run.middle l c
     → KilledNumberedRefused h batch time n calls fault
-stopped_number h dir save changes extract start f g l c m batch time n calls fault run s =
+stopped_number h given dir save changes extract start f g l c m batch time n calls fault run s =
     by_fault fault run.is_so.stops (run.is_so.refuses (hist.published_of h) s.folder) run.is_so.out
   where
     p : List PublishedValue
@@ -220,7 +221,7 @@ stopped_number h dir save changes extract start f g l c m batch time n calls fau
               time_is = subst (TimeText run.now) (sym (ap (λ (x : PublishedValue). x.time) value))
                   (run.is_text (subst (λ t. 1 ≤ t) (ap (λ (x : PublishedValue). x.time) value) (s.folder.sequences n is.0 is.1).time.low));
               found = subst (λ i. is_lost run.middle dir i ≡ false) (sym number)
-                  (lost_same p (hist.is_file_lost h) m dir save changes extract start run.middle l c n s is.0 is.1 ∙ is.3);
+                  (lost_same p (hist.is_file_lost h) m given dir save changes extract start run.middle l c n s is.0 is.1 ∙ is.3);
             }
     by_fault fault stops r out = absurd r
 

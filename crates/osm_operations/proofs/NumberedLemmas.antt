@@ -4,6 +4,7 @@ use Rattle.std.proofs.Common.{Option, Some, None, inl, inr, arith, refl, sym, ap
 use Rattle.std.specs.Prelude.{◌⊎◌, ◌&&◌, ◌||◌, ◌==◌, not, if◌then◌else◌}
 use Rattle.std.proofs.lemmas.Bool.{cases_Bool, cases_lt, eqb-true, eq-eqb, ne_eqb}
 use Rattle.osm_model.specs.Change.{ChangeValue}
+use Rattle.osm_model.specs.Filter.{FilterValue}
 use Rattle.osm_model.specs.Limits.{max_sequence}
 use Rattle.osm_model.specs.Time.{Shows}
 use Rattle.osm_opl.proofs.FileLaws as opl_laws
@@ -83,13 +84,13 @@ or_false true b e = absurd (let bad : true ≡ false = e in cc)
 
 -- ---- a publication by number that is done
 
-module _ (left : Option ℕ) (p : List PublishedValue) (lost : ℕ → Suffix → Bool) (m : Standing) (dir save changes extract : List ℕ)
+module _ (left : Option ℕ) (p : List PublishedValue) (lost : ℕ → Suffix → Bool) (m : Standing) (given : FilterValue) (dir save changes extract : List ℕ)
     (start f g l k : Files) (c : ℕ) (batch : List ChangeValue) (time n : ℕ) (report : ReportValue) (o5c opl : Bool)
-    (apart : AreApart dir save changes extract) (s : Agrees p lost m dir save changes extract start f l c)
+    (apart : AreApart dir save changes extract) (s : Agrees p lost m given dir save changes extract start f l c)
     (run : IsPublishRun dir changes batch time f g (PublishesAs left dir changes n report g))
     (back : ReturnForms o5c opl dir (named n) g l k) where
-  mid : Agrees p lost m dir save changes extract start run.middle l c
-  mid = changes_put p lost m dir save changes extract start f run.middle l c (Some (opl_text batch)) apart run.there.put s
+  mid : Agrees p lost m given dir save changes extract start run.middle l c
+  mid = changes_put p lost m given dir save changes extract start f run.middle l c (Some (opl_text batch)) apart run.there.put s
 
   most : length p ≤ max_sequence
   most = few p s.folder.sequences
@@ -112,9 +113,9 @@ module _ (left : Option ℕ) (p : List PublishedValue) (lost : ℕ → Suffix �
       (subst (λ i. GoesOnFrom (run.middle (top_name_of dir)) i run.is_so.published.time) top_is run.is_so.published.asked.goes_on)
 
   next_agrees : n ≡ length p + 1 → IsAdded p dir changes run.now run.middle g report
-      → Agrees (p ++ value_of n batch time ∷ []) lost m dir save changes extract start g k (c + 1)
+      → Agrees (p ++ value_of n batch time ∷ []) lost m given dir save changes extract start g k (c + 1)
   next_agrees next add =
-      subst (λ (h : Files). Agrees (p ++ value_of n batch time ∷ []) lost m dir save changes extract start g h (c + 1)) (sym gone.same) agrees
+      subst (λ (h : Files). Agrees (p ++ value_of n batch time ∷ []) lost m given dir save changes extract start g h (c + 1)) (sym gone.same) agrees
     where
       long : length (p ++ add.added ∷ []) ≡ length p + 1
       long = grind (arith, length-append)
@@ -139,12 +140,12 @@ module _ (left : Option ℕ) (p : List PublishedValue) (lost : ℕ → Suffix �
       written (inl w) = subst (λ x. Writes (writes_of dir (written_of x)) run.middle g) asked w.2
       written (inr w) = absurd (let below = w.0 in omega (arith, below, asked_number, top_is, next))
 
-      agrees : Agrees (p ++ value_of n batch time ∷ []) lost m dir save changes extract start g l (c + 1)
-      agrees = agrees_more p lost m dir save changes extract start run.middle g l c (value_of n batch time) next fits
+      agrees : Agrees (p ++ value_of n batch time ∷ []) lost m given dir save changes extract start g l (c + 1)
+      agrees = agrees_more p lost m given dir save changes extract start run.middle g l c (value_of n batch time) next fits
           (subst (λ x. IsFolderOf (p ++ x ∷ []) g dir) same add.folder) (written run.is_so.published.put) run.others apart.save_is apart.extract_is mid
 
       gone : AreGone o5c opl l k
-      gone = none_back p lost m dir save changes extract start run.middle g l k c (named n) o5c opl mid (named_least n) (named_most n)
+      gone = none_back p lost m given dir save changes extract start run.middle g l k c (named n) o5c opl mid (named_least n) (named_most n)
           (λ t within. (let at = named_is n (omega (arith, next)) fits in absurd (omega (arith, within, at, next)))) back
 
   published_in : n ≤ length p → PutsSequence run.middle g dir run.is_so.published.top run.is_so.published.time
@@ -156,7 +157,7 @@ module _ (left : Option ℕ) (p : List PublishedValue) (lost : ℕ → Suffix �
 
   found : 0 < n → n ≤ length p → number_lost lost n ≡ false
   found above within =
-      sym (lost_same p lost m dir save changes extract start run.middle l c n mid above within)
+      sym (lost_same p lost m given dir save changes extract start run.middle l c n mid above within)
       ∙ subst (λ i. is_lost run.middle dir i ≡ false) asked_number (published_in within run.is_so.published.put).files_are.found
 
   again_is : IsRepeated p dir changes run.now n run.middle g → IsAgain p lost n batch time
@@ -170,9 +171,9 @@ module _ (left : Option ℕ) (p : List PublishedValue) (lost : ℕ → Suffix �
   )
 
   newest_agrees : n ≡ length p → IsRepeated p dir changes run.now n run.middle g
-      → Agrees p (λ i t. if wrote n (length p) i then false else lost i t) m dir save changes extract start g k c
+      → Agrees p (λ i t. if wrote n (length p) i then false else lost i t) m given dir save changes extract start g k c
   newest_agrees newest old =
-      rewritten p lost (λ i t. if wrote n (length p) i then false else lost i t) m dir save changes extract start run.middle g l
+      rewritten p lost (λ i t. if wrote n (length p) i then false else lost i t) m given dir save changes extract start run.middle g l
       k c n 4 mid old.above newest (old.written newest) old.folder
       (run.others save apart.save_is) (run.others extract apart.extract_is) (λ name o. run.others name o.folder)
       (λ i t differ. rw (wrote_other n (length p) i differ) refl)
@@ -202,12 +203,12 @@ module _ (left : Option ℕ) (p : List PublishedValue) (lost : ℕ → Suffix �
           (or_false (lost n State) (lost n O5c && lost n Opl) (found old.above old.within)).0)
 
   older_agrees : (n ≡ length p → ⊥) → IsRepeated p dir changes run.now n run.middle g
-      → Agrees p (λ i t. if wrote n (length p) i then false else lost i t) m dir save changes extract start g k c
+      → Agrees p (λ i t. if wrote n (length p) i then false else lost i t) m given dir save changes extract start g k c
   older_agrees differ old =
-      lost_alike p lost (λ i t. if wrote n (length p) i then false else lost i t) m dir save changes extract start g k c
+      lost_alike p lost (λ i t. if wrote n (length p) i then false else lost i t) m given dir save changes extract start g k c
       (λ i t. rw (wrote_not n (length p) i differ) refl)
-      (subst (λ (h : Files). Agrees p lost m dir save changes extract start g h c) (sym gone.same)
-      (subst (λ (h : Files). Agrees p lost m dir save changes extract start h l c) (sym same) mid))
+      (subst (λ (h : Files). Agrees p lost m given dir save changes extract start g h c) (sym gone.same)
+      (subst (λ (h : Files). Agrees p lost m given dir save changes extract start h l c) (sym same) mid))
     where
       below : n < length p
       below = elim (cases_lt n (length p)) [
@@ -219,11 +220,11 @@ module _ (left : Option ℕ) (p : List PublishedValue) (lost : ℕ → Suffix �
       same = old.same below
 
       gone : AreGone o5c opl l k
-      gone = none_back p lost m dir save changes extract start run.middle g l k c (named n) o5c opl mid (named_least n) (named_most n)
+      gone = none_back p lost m given dir save changes extract start run.middle g l k c (named n) o5c opl mid (named_least n) (named_most n)
           (λ t within. ap (λ (h : Files). h (file_name_of dir (named n) t)) same) back
 
   old_agrees : IsRepeated p dir changes run.now n run.middle g
-      → Agrees p (λ i t. if wrote n (length p) i then false else lost i t) m dir save changes extract start g k c
+      → Agrees p (λ i t. if wrote n (length p) i then false else lost i t) m given dir save changes extract start g k c
   old_agrees old = elim (cases_Bool (n == length p)) [
     | inl e ↦ newest_agrees (eqb-true n (length p) e) old
     | inr e ↦ older_agrees (λ h. (let bad : true ≡ false = sym (eq-eqb n (length p) h) ∙ e in cc)) old
@@ -233,8 +234,8 @@ module _ (left : Option ℕ) (p : List PublishedValue) (lost : ℕ → Suffix �
   number_is e = run.is_so.number_is.only (run.is_so.added p mid.folder).number (run.is_so.added p mid.folder).number_is
 
   pub number_published :
-      (((n ≡ length p + 1) × Agrees (p ++ value_of n batch time ∷ []) lost m dir save changes extract start g k (c + 1))
-      ⊎ (IsAgain p lost n batch time × Agrees p (λ i t. if wrote n (length p) i then false else lost i t) m dir save
+      (((n ≡ length p + 1) × Agrees (p ++ value_of n batch time ∷ []) lost m given dir save changes extract start g k (c + 1))
+      ⊎ (IsAgain p lost n batch time × Agrees p (λ i t. if wrote n (length p) i then false else lost i t) m given dir save
       changes extract start g k c)) × (report ≡ publish_report_of n) × HasCalls (numbered_calls n (length p)) left
   number_published = (
     elim (run.is_so.added p mid.folder).done [

@@ -3,6 +3,7 @@ use Rattle.std.proofs.Common.{◌≡◌, ℕ, ◌+◌, ◌<◌, ◌≤◌, List,
 use Rattle.std.proofs.Common.{arith, refl, sym, ap, subst, ◌∙◌, append_assoc, append-nil, length-append}
 use Rattle.std.specs.Prelude.{◌⊎◌, ◌==◌, if◌then◌else◌}
 use Rattle.std.proofs.lemmas.Bool.{cases_Bool, cases_lt, eq-eqb, eqb-true, ne_eqb}
+use Rattle.osm_model.specs.Filter.{FilterValue}
 use Rattle.osm_follow.proofs.PublishedLemmas.{sequence_within}
 use Rattle.osm_follow.specs.Published.{PublishedValue, sequence_at}
 use Rattle.osm_operations.specs.Allowed.{Allowed, AreAllowed, NumberedDone}
@@ -69,39 +70,43 @@ done_of : (h : hist.History) (batch : List ChangeValue) (time n : ℕ) (report :
 done_of h batch time n report (is, inl next) = inl next
 done_of h batch time n report (is, inr old) = inr (old.0, old.1, old.2)
 
-pub says_answered : (extract : List ℕ) (before : hist.History) (e : Operation) (r : Reply) (p : PublishedValue) → Allowed extract before e r
+pub says_answered : (given : FilterValue) (extract : List ℕ) (before : hist.History) (e : Operation) (r : Reply) (p : PublishedValue)
+    → Allowed given extract before e r
     → Says e r (length (hist.published_of before)) p → IsAnswered ((e, r) ∷ before) p
-says_answered extract before (Publish batch time) (Published report) p allowed says =
+says_answered given extract before (Publish batch time) (Published report) p allowed says =
     same_answered before (Publish batch time) (Published report) p (value_of (length (hist.published_of before) + 1) batch time) says
     (new_answered before (Publish batch time) (Published report) (value_of (length (hist.published_of before) + 1) batch time) refl refl)
-says_answered extract before (KilledPublish batch time calls) (Published report) p allowed says =
+says_answered given extract before (KilledPublish batch time calls) (Published report) p allowed says =
     same_answered before (KilledPublish batch time calls) (Published report) p (value_of (length (hist.published_of before) + 1) batch time) says
     (new_answered before (KilledPublish batch time calls) (Published report) (value_of (length (hist.published_of before) + 1) batch time) refl refl)
-says_answered extract before (PublishAs batch time n) (Published report) p allowed says =
+says_answered given extract before (PublishAs batch time n) (Published report) p allowed says =
     same_answered before (PublishAs batch time n) (Published report) p (value_of n batch time) says
     (number_answered before (PublishAs batch time n) (Published report) batch time n refl (done_of before batch time n report allowed))
-says_answered extract before (KilledPublishAs batch time n calls) (Published report) p allowed says =
+says_answered given extract before (KilledPublishAs batch time n calls) (Published report) p allowed says =
     same_answered before (KilledPublishAs batch time n calls) (Published report) p (value_of n batch time) says
     (number_answered before (KilledPublishAs batch time n calls) (Published report) batch time n refl (done_of before batch time n report allowed.0))
-says_answered extract before e r p allowed says = absurd says
+says_answered given extract before e r p allowed says = absurd says
 
 -- ---- all pairs
 
-allowed_at : (extract : List ℕ) (later : hist.History) (q : hist.Pair) (before : hist.History) → AreAllowed extract (later ++ q ∷ before)
-    → Allowed extract before q.0 q.1
-allowed_at extract [] q before all = all.0
-allowed_at extract (x ∷ later) q before all = allowed_at extract later q before all.1
+allowed_at : (given : FilterValue) (extract : List ℕ) (later : hist.History) (q : hist.Pair) (before : hist.History)
+    → AreAllowed given extract (later ++ q ∷ before)
+    → Allowed given extract before q.0 q.1
+allowed_at given extract [] q before all = all.0
+allowed_at given extract (x ∷ later) q before all = allowed_at given extract later q before all.1
 
-allowed_before : (extract : List ℕ) (later before : hist.History) → AreAllowed extract (later ++ before) → AreAllowed extract before
-allowed_before extract [] before all = all
-allowed_before extract (x ∷ later) before all = allowed_before extract later before all.1
+allowed_before : (given : FilterValue) (extract : List ℕ) (later before : hist.History)
+    → AreAllowed given extract (later ++ before) → AreAllowed given extract before
+allowed_before given extract [] before all = all
+allowed_before given extract (x ∷ later) before all = allowed_before given extract later before all.1
 
-pub answered : (extract : List ℕ) (h later : hist.History) (q : hist.Pair) (before : hist.History) (p : PublishedValue) → AreAllowed extract h
+pub answered : (given : FilterValue) (extract : List ℕ) (h later : hist.History) (q : hist.Pair) (before : hist.History) (p : PublishedValue)
+    → AreAllowed given extract h
     → Answers h later q before p → IsAnswered h p
-answered extract h later q before p all a =
+answered given extract h later q before p all a =
     subst (λ x. IsAnswered x p) (sym a.cut.cut)
     (answered_later later (q ∷ before) p
-    (says_answered extract before q.0 q.1 p (allowed_at extract later q before (subst (AreAllowed extract) a.cut.cut all)) a.says))
+    (says_answered given extract before q.0 q.1 p (allowed_at given extract later q before (subst (AreAllowed given extract) a.cut.cut all)) a.says))
 
 -- ---- publications of one number
 
@@ -123,11 +128,11 @@ nothing_more (q ∷ later) before n are within =
     (none_by q.0 q.1 n (length (hist.published_of (later ++ before))) are.0 (subst (λ xs. n ≤ length xs) (sym so_far) within))
     ∙ (append-nil (hist.published_of (later ++ before)) ∙ so_far)
 
-pub repeats : (extract : List ℕ) (later : hist.History) (q : hist.Pair) (before : hist.History) (p : PublishedValue)
-    → AreAllowed extract (q ∷ before) → Answers (q ∷ before) [] q before p → AreOfNumber p.number later
+pub repeats : (given : FilterValue) (extract : List ℕ) (later : hist.History) (q : hist.Pair) (before : hist.History) (p : PublishedValue)
+    → AreAllowed given extract (q ∷ before) → Answers (q ∷ before) [] q before p → AreOfNumber p.number later
     → hist.published_of (later ++ q ∷ before) ≡ hist.published_of (q ∷ before)
-repeats extract later q before p all a are =
-    let is = answered extract (q ∷ before) [] q before p all a in
+repeats given extract later q before p all a are =
+    let is = answered given extract (q ∷ before) [] q before p all a in
     nothing_more later (q ∷ before) p.number are is.within
 
 -- ---- the run that published a number
@@ -181,11 +186,12 @@ longer rest x adds = elim (publishes x.0 x.1 (length (hist.published_of rest))) 
   | inr some ↦ (let long = ap (λ xs. length (hist.published_of rest ++ xs)) some.1 in grind (arith, length-append))
 ]
 
-pub published_once : (extract : List ℕ) (h : hist.History) (n : ℕ) → AreAllowed extract h → 0 < n → n ≤ length (hist.published_of h) → IsPublishedOnce h n
+pub published_once : (given : FilterValue) (extract : List ℕ) (h : hist.History) (n : ℕ)
+    → AreAllowed given extract h → 0 < n → n ≤ length (hist.published_of h) → IsPublishedOnce h n
 unfolding Publishes
-published_once extract [] n all above within = absurd (omega (arith, above, within))
-published_once extract (q ∷ h) n all above within = elim (cases_lt (length (hist.published_of h)) n) [
-  | inr until ↦ earlier (published_once extract h n all.1 above until) until
+published_once given extract [] n all above within = absurd (omega (arith, above, within))
+published_once given extract (q ∷ h) n all above within = elim (cases_lt (length (hist.published_of h)) n) [
+  | inr until ↦ earlier (published_once given extract h n all.1 above until) until
   | inl past ↦ here (publishes q.0 q.1 (length (hist.published_of h))) past
 ]
   where
@@ -230,7 +236,7 @@ published_once extract (q ∷ h) n all above within = elim (cases_lt (length (hi
         answers = record { cut = record { cut = refl }; says = subst (Says q.0 q.1 (length (hist.published_of h))) (sym last) says };
         number = ap (λ (x : PublishedValue). x.number) last ∙ (number ∙ sym next);
         adds = ap (λ xs. hist.published_of h ++ xs) by ∙ ap (λ x. hist.published_of h ++ x ∷ []) (sym last);
-        none = λ after other rest x a. (let is = answered extract h after other rest x all.1 a in let low = is.within in omega (arith, low, past));
+        none = λ after other rest x a. (let is = answered given extract h after other rest x all.1 a in let low = is.within in omega (arith, low, past));
       };
       only = λ after other rest cut at adds. only after other rest cut.cut at adds;
     }

@@ -2,13 +2,14 @@
 use Rattle.std.proofs.Common.{◌≡◌, ℕ, ◌≤◌, List, Option, Some, None, Bool, true, false, inr, ap, arith, subst, refl, sym, ◌∙◌}
 use Rattle.std.specs.Prelude.{IsTrue, Result, Ok, Err, IfErr, IfOk, OnErr, OnOk}
 use Rattle.osm_model.specs.Change.{ChangeValue}
+use Rattle.osm_model.specs.Filter.{FilterValue}
 use Rattle.osm_model.specs.Time.{Shows, TimeText}
 use Rattle.osm_follow.specs.Published.{PublishedValue}
 use Rattle.std.specs.Prelude.{decimal, max}
 use Rattle.std.proofs.lemmas.Fmt.{decimal_is_IsNumeral, length-decimal-le}
 use Rattle.osm_reading.specs.Sequence.{SpellsSequence}
 use Rattle.osm_state.specs.StateLaws.{NoFaultBesideState}
-use Rattle.osm_folder.specs.Beginning.{BeginStops, IsBaseOf, IsBegunFrom}
+use Rattle.osm_folder.specs.Beginning.{BeginStops, IsBegunFrom}
 use Rattle.osm_folder.specs.Exporting.{ExportStops, IsExportOf, IsExported}
 use Rattle.osm_store.specs.Files.{Files, Spends}
 use Rattle.osm_folder.specs.Folder.{IsApart, IsFolderOf}
@@ -24,9 +25,9 @@ use Rattle.osm_store.specs.Stores.{files_of}
 use Rattle.osm_folder.specs.Names.{file_name_of, top_name_of}
 use Rattle.osm_folder.specs.Numbered.{IsAddedAs, IsPublishedAs, NumberedOut, NumberedRefuses, NumberedStops, SpendsExactly, numbered_calls}
 use Rattle.osm_folder.specs.Publication.{FolderRefuses, GoesOnFrom, IsPublished, PublishOut, PublishStops}
-use Rattle.osm_folder.specs.Reports.{ReportValue, begin_report_of, convert_report_of}
+use Rattle.osm_folder.specs.Reports.{ReportValue, convert_report_of}
 use Rattle.osm_folder.specs.declared.fault.RunFault.{RunFault}
-use Rattle.osm_operations.specs.Steps.Stepping.{BeginStep, Begins, ExportStep, Exports, StopsBeginning, state_name_of}
+use Rattle.osm_operations.specs.Steps.Stepping.{BeginStep, ExportStep, Exports, StopsBeginning, state_name_of}
 use Rattle.osm_operations.specs.Steps.Stepping.{AreChangesPut, FollowStep, HasCalls, IsNoDevice, IsNumberText, IsReportOf, NumberedStep}
 use Rattle.osm_operations.specs.Steps.Stepping.{PublishAsTo, PublishStep, ReturnBoth, ReturnForms, SettleTo, named}
 use Rattle.osm_operations.specs.Steps.Stepping.{stopped_reply}
@@ -181,42 +182,43 @@ answer_to left dir changes batch time n answer r a m b o5c_name opl_name first s
         subst (λ x. PublishAsTo left dir changes batch time n x a b) (sym back.2) (stopped fault back.0 back.1 s (forms back.0 back.1 back.3) (after ∙ count))
 
 -- what a run of the follower answers, as a step
-pub follow_step : (dir save : List ℕ) (f f' g g' : Files) (w : Result Progress RunFault)
+pub follow_step : (given : FilterValue) (dir save : List ℕ) (f f' g g' : Files) (w : Result Progress RunFault)
     (r : Result ReportValue RunFault) → IsReportOf w r → f' ≡ f → g' ≡ g
-    → IfOk w (IsProgress (IsTrue true) dir save f' g)
-    → (IsTrue true → (p : List PublishedValue) (base n : ℕ) → IsFolderOf p f' dir → IsSaveOf p base n (f' save)
-    → IsWhole w (λ x. IfErr x (FollowRefuses p (f' save)))) → OnErr w (g ≡ f') → FollowStep dir save r f g'
-follow_step dir save f f' g g' (Ok (Whole report)) r is same same_after done over unchanged =
-    rw is (subst (λ (x : Files). IsFollowed dir save f x report) (sym same_after) (subst (λ (x : Files). IsFollowed dir save x g report) same (done refl)))
-follow_step dir save f f' g g' (Ok (Before report fault)) r is same same_after done over unchanged =
+    → IfOk w (IsProgress (IsTrue true) given dir save f' g)
+    → (IsTrue true → (p : List PublishedValue) (base n : ℕ) → IsFolderOf p f' dir → IsSaveOf p given base n (f' save)
+    → IsWhole w (λ x. IfErr x (FollowRefuses p given (f' save)))) → OnErr w (g ≡ f') → FollowStep given dir save r f g'
+follow_step given dir save f f' g g' (Ok (Whole report)) r is same same_after done over unchanged =
+    rw is (subst (λ (x : Files). IsFollowed given dir save f x report) (sym same_after)
+    (subst (λ (x : Files). IsFollowed given dir save x g report) same (done refl)))
+follow_step given dir save f f' g g' (Ok (Before report fault)) r is same same_after done over unchanged =
     rw is (λ p base n folder saved. absurd (over refl p base n (subst (λ (x : Files). IsFolderOf p x dir) (sym same) folder)
-    (subst (λ (x : Files). IsSaveOf p base n (x save)) (sym same) saved)))
-follow_step dir save f f' g g' (Err fault) r is same same_after done over unchanged =
+    (subst (λ (x : Files). IsSaveOf p given base n (x save)) (sym same) saved)))
+follow_step given dir save f f' g g' (Err fault) r is same same_after done over unchanged =
     rw is (λ p base n folder saved. (
       same_after ∙ (unchanged ∙ same),
-      subst (λ (x : Files). FollowRefuses p (x save) fault) same
+      subst (λ (x : Files). FollowRefuses p given (x save) fault) same
           (over refl p base n (subst (λ (x : Files). IsFolderOf p x dir) (sym same) folder)
-          (subst (λ (x : Files). IsSaveOf p base n (x save)) (sym same) saved)),
+          (subst (λ (x : Files). IsSaveOf p given base n (x save)) (sym same) saved)),
     ))
 
 -- what the word says over the folder of what was published
-pub progress_over_refuses : (dir save : List ℕ) (a b : StoreState) (w : Result Progress RunFault)
-    → (IsKnown a → (p : List PublishedValue) (base n : ℕ) → IsFolderOf p a.files dir → IsSaveOf p base n (a.files save)
-    → IsWhole w (FollowsOver p base n dir save a b))
-    → IsKnown a → (p : List PublishedValue) (base n : ℕ) → IsFolderOf p a.files dir → IsSaveOf p base n (a.files save)
-    → IsWhole w (λ x. IfErr x (FollowRefuses p (a.files save)))
-progress_over_refuses dir save a b (Ok (Whole report)) over sure p base n folder saved = tt
-progress_over_refuses dir save a b (Ok (Before report fault)) over sure p base n folder saved = over sure p base n folder saved
-progress_over_refuses dir save a b (Err fault) over sure p base n folder saved = (over sure p base n folder saved).refuses
+pub progress_over_refuses : (given : FilterValue) (dir save : List ℕ) (a b : StoreState) (w : Result Progress RunFault)
+    → (IsKnown a → (p : List PublishedValue) (base n : ℕ) → IsFolderOf p a.files dir → IsSaveOf p given base n (a.files save)
+    → IsWhole w (FollowsOver p given base n dir save a b))
+    → IsKnown a → (p : List PublishedValue) (base n : ℕ) → IsFolderOf p a.files dir → IsSaveOf p given base n (a.files save)
+    → IsWhole w (λ x. IfErr x (FollowRefuses p given (a.files save)))
+progress_over_refuses given dir save a b (Ok (Whole report)) over sure p base n folder saved = tt
+progress_over_refuses given dir save a b (Ok (Before report fault)) over sure p base n folder saved = over sure p base n folder saved
+progress_over_refuses given dir save a b (Err fault) over sure p base n folder saved = (over sure p base n folder saved).refuses
 
-pub progress_lacks : (dir save : List ℕ) (a b : StoreState) (w : Result Progress RunFault) (r : Result ReportValue RunFault)
+pub progress_lacks : (given : FilterValue) (dir save : List ℕ) (a b : StoreState) (w : Result Progress RunFault) (r : Result ReportValue RunFault)
     → IsReportOf w r → (IsKnown a → (p : List PublishedValue) (base n : ℕ) → IsFolderOf p a.files dir
-    → IsSaveOf p base n (a.files save) → IsWhole w (FollowsOver p base n dir save a b))
+    → IsSaveOf p given base n (a.files save) → IsWhole w (FollowsOver p given base n dir save a b))
     → IfErr r (λ fault. IsKnown a → (p : List PublishedValue) (base n : ℕ) → IsFolderOf p a.files dir
-    → IsSaveOf p base n (a.files save) → LacksCalls (follow_calls p n) a.left fault)
-progress_lacks dir save a b (Ok (Whole report)) r is over = rw is tt
-progress_lacks dir save a b (Ok (Before report fault)) r is over = rw is (λ sure p base n folder saved. absurd (over sure p base n folder saved))
-progress_lacks dir save a b (Err fault) r is over = rw is (λ sure p base n folder saved. (over sure p base n folder saved).calls.lacks sure)
+    → IsSaveOf p given base n (a.files save) → LacksCalls (follow_calls p n) a.left fault)
+progress_lacks given dir save a b (Ok (Whole report)) r is over = rw is tt
+progress_lacks given dir save a b (Ok (Before report fault)) r is over = rw is (λ sure p base n folder saved. absurd (over sure p base n folder saved))
+progress_lacks given dir save a b (Err fault) r is over = rw is (λ sure p base n folder saved. (over sure p base n folder saved).calls.lacks sure)
 
 -- only the store is blamed for a device
 content_no_device : (fault : RunFault) (k : ℕ) → IsOfContent fault k → IsNoDevice fault
@@ -239,8 +241,8 @@ progress_left P (Err fault) r is left = rw is tt
 -- what the contract of an export says of its answer
 pub record ExportAnswers (save extract : List ℕ) (old new : Files) (r : Result ReportValue RunFault) : Type 0 where
   pub exported : OnOk r (IsTrue true → IsExported save extract old new)
-  pub in_step : OnOk r (IsTrue true → (p : List PublishedValue) (base number : ℕ) → IsSaveOf p base number (old save)
-      → IsExportOf p number extract (new extract))
+  pub in_step : OnOk r (IsTrue true → (p : List PublishedValue) (given : FilterValue) (base number : ℕ)
+      → IsSaveOf p given base number (old save) → IsExportOf p given number extract (new extract))
   pub report : IfOk r (λ report. report ≡ convert_report_of)
   pub stops : IfErr r (ExportStops (IsTrue true) save extract old)
   pub kept : OnErr r (new ≡ old)
@@ -257,26 +259,23 @@ export_step save extract f g f' g' (Err fault) same same_after a = (
 )
 
 -- what the contract of a beginning says of its answer
-pub record BeginAnswers (extract state save : List ℕ) (old new : Files) (r : Result ReportValue RunFault) : Type 0 where
-  pub begun : IfOk r (λ report. IsTrue true → IsBegunFrom extract state save old new report)
-  pub in_step : IfOk r (λ report. IsTrue true → (p : List PublishedValue) (number : ℕ) → IsBaseOf p number extract state old
-      → IsSaveOf p number number (new save) × (report ≡ begin_report_of number))
-  pub stops : IfErr r (BeginStops (IsTrue true) extract state old)
+pub record BeginAnswers (given : FilterValue) (extract state save : List ℕ) (old new : Files) (r : Result ReportValue RunFault) : Type 0 where
+  pub begun : IfOk r (λ report. IsTrue true → IsBegunFrom given extract state save old new report)
+  pub stops : IfErr r (BeginStops (IsTrue true) given extract state old)
   pub kept : OnErr r (new ≡ old)
   pub law : NoFaultBesideState
 
-pub begin_step : (dir : List ℕ) (number : ℕ) (extract state save : List ℕ) (f g f' g' : Files) (r : Result ReportValue RunFault)
-    → state ≡ state_name_of dir number → f' ≡ f → g' ≡ g → BeginAnswers extract state save f' g r
-    → BeginStep dir number extract save r f g'
-begin_step dir number extract state save f g f' g' (Ok report) name same same_after a =
-    subst (λ (x : Files). Begins extract (state_name_of dir number) save report f x) (sym same_after)
-    (subst (λ (x : Files). Begins extract (state_name_of dir number) save report x g) same
-    (subst (λ s. Begins extract s save report f' g) name
-    (record { begun = a.begun refl; in_step = a.in_step refl })))
-begin_step dir number extract state save f g f' g' (Err fault) name same same_after a = (
+pub begin_step : (given : FilterValue) (dir : List ℕ) (number : ℕ) (extract state save : List ℕ) (f g f' g' : Files)
+    (r : Result ReportValue RunFault) → state ≡ state_name_of dir number → f' ≡ f → g' ≡ g → BeginAnswers given extract state save f' g r
+    → BeginStep given dir number extract save r f g'
+begin_step given dir number extract state save f g f' g' (Ok report) name same same_after a =
+    subst (λ (x : Files). IsBegunFrom given extract (state_name_of dir number) save f x report) (sym same_after)
+    (subst (λ (x : Files). IsBegunFrom given extract (state_name_of dir number) save x g report) same
+    (subst (λ s. IsBegunFrom given extract s save f' g report) name (a.begun refl)))
+begin_step given dir number extract state save f g f' g' (Err fault) name same same_after a = (
   same_after ∙ (a.kept ∙ same),
-  inr (subst (λ (x : Files). StopsBeginning extract (state_name_of dir number) fault x) same
-      (subst (λ s. StopsBeginning extract s fault f') name (record { stops = a.stops; law = a.law }))),
+  inr (subst (λ (x : Files). StopsBeginning given extract (state_name_of dir number) fault x) same
+      (subst (λ s. StopsBeginning given extract s fault f') name (record { stops = a.stops; law = a.law }))),
 )
 
 -- a run that could make any number of calls isn't refused by the device

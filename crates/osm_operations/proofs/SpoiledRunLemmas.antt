@@ -5,6 +5,7 @@ use Rattle.std.specs.Prelude.{◌⊎◌, filter, is_none, min}
 use Rattle.std.proofs.lemmas.Bool.{cases_eq, cases_lt}
 use Rattle.std.proofs.lemmas.List.Elements.{filter-append}
 use Rattle.std.proofs.lemmas.Option.{same_Some}
+use Rattle.osm_model.specs.Filter.{FilterValue}
 use Rattle.osm_model.specs.Limits.{max_sequence}
 use Rattle.osm_save.specs.Save.{SpellsSave}
 use Rattle.osm_save.specs.declared.save.Saved.{Saved}
@@ -61,7 +62,7 @@ there_some None holds h = absurd h
 there_some (Some bytes) holds h = refl
 
 -- what a run saved that came to the number before the spoiled file, and what it reports
-pub record IsSpoiledBefore (ps : List PublishedValue) (base number : ℕ) (dir : List ℕ) (k : ℕ) (s : Suffix) (old : Files)
+pub record IsSpoiledBefore (given : FilterValue) (ps : List PublishedValue) (base number : ℕ) (dir : List ℕ) (k : ℕ) (s : Suffix) (old : Files)
     (fault : RunFault) (text : List ℕ) (report : ReportValue) : Type 0 where
   pub count : ℕ
   pub value : Saved
@@ -69,7 +70,7 @@ pub record IsSpoiledBefore (ps : List PublishedValue) (base number : ℕ) (dir :
   pub base_is : value.base ≡ base
   pub value_is : value.number ≡ number + suc count
   pub next_is : k ≡ number + suc count + 1
-  pub in_step : IsInStep ps value
+  pub in_step : IsInStep ps given value
   pub each : (j : ℕ) → number < j → j < k → is_lost old dir j ≡ false
   pub fault_is : IsSpoiledFault k s fault
   pub read : IsReadAt old dir k s
@@ -88,31 +89,31 @@ all_base files dir zero a b added = ap (λ (v : Saved). v.base) added
 all_base files dir (suc count) a b (between, first, last) = last.base ∙ all_base files dir count a between first
 
 -- the folder and the save that a run finds, but for the spoiled file of number k
-pub record IsSpoiledFolder (ps : List PublishedValue) (base number : ℕ) (dir save : List ℕ) (k : ℕ) (s : Suffix)
+pub record IsSpoiledFolder (given : FilterValue) (ps : List PublishedValue) (base number : ℕ) (dir save : List ℕ) (k : ℕ) (s : Suffix)
     (old new : Files) : Type 0 where
   pub folder : IsFolderOf ps old dir
-  pub saved : IsSaveOf ps base number (old save)
+  pub saved : IsSaveOf ps given base number (old save)
   pub apart : IsApart dir save
   pub above : 0 < k
   pub within : k ≤ length ps
   pub is : IsSpoiled dir k s old new
 
-few_over : {ps : List PublishedValue} {base number : ℕ} {dir save : List ℕ} {k : ℕ} {s : Suffix} {old new : Files}
-    → IsSpoiledFolder ps base number dir save k s old new → length ps ≤ max_sequence
+few_over : {given : FilterValue} {ps : List PublishedValue} {base number : ℕ} {dir save : List ℕ} {k : ℕ} {s : Suffix} {old new : Files}
+    → IsSpoiledFolder given ps base number dir save k s old new → length ps ≤ max_sequence
 few_over {ps = ps} o =
     let above = o.above in
     let within = o.within in
     (o.folder.sequences (length ps) (omega (arith, above, within)) (omega arith)).most
 
-module _ (ps : List PublishedValue) (base number : ℕ) (dir save : List ℕ) (k : ℕ) (s : Suffix) (old new : Files)
-    (o : IsSpoiledFolder ps base number dir save k s old new) where
+module _ (given : FilterValue) (ps : List PublishedValue) (base number : ℕ) (dir save : List ℕ) (k : ℕ) (s : Suffix)
+    (old new : Files) (o : IsSpoiledFolder given ps base number dir save k s old new) where
   save_same : new save ≡ old save
   save_same = o.is.put.others save (λ e. o.apart.each k s o.is.most e)
 
   top_same : new (top_name_of dir) ≡ old (top_name_of dir)
   top_same = o.is.put.others (top_name_of dir) (λ e. top_is_no_file dir k s e)
 
-  start_same : (start : Saved) (top : StateValue) → IsStarted dir save new start top → IsStarted dir save old start top
+  start_same : (start : Saved) (top : StateValue) → IsStarted given dir save new start top → IsStarted given dir save old start top
   start_same start top started = record {
     saved = rw (← save_same) started.saved;
     filter_is = started.filter_is;
@@ -120,21 +121,21 @@ module _ (ps : List PublishedValue) (base number : ℕ) (dir save : List ℕ) (k
   }
 
   -- a run starts at the save's number and the last published one
-  pub number_is : (start : Saved) (top : StateValue) → IsStarted dir save new start top → start.number ≡ number
+  pub number_is : (start : Saved) (top : StateValue) → IsStarted given dir save new start top → start.number ≡ number
   number_is start top started =
-      ap (λ (v : Saved). v.number) (one_saved (old save) start o.saved.value (start_same start top started).saved o.saved.saved)
+      ap (λ (v : Saved). v.number) (one_saved given (old save) start o.saved.value (start_same start top started).saved o.saved.saved)
       ∙ o.saved.number_is
 
-  step_is : (start : Saved) (top : StateValue) → IsStarted dir save new start top → IsInStep ps start
+  step_is : (start : Saved) (top : StateValue) → IsStarted given dir save new start top → IsInStep ps given start
   step_is start top started =
-      rw (one_saved (old save) start o.saved.value (start_same start top started).saved o.saved.saved) o.saved.in_step
+      rw (one_saved given (old save) start o.saved.value (start_same start top started).saved o.saved.saved) o.saved.in_step
 
-  base_is : (start : Saved) (top : StateValue) → IsStarted dir save new start top → start.base ≡ base
+  base_is : (start : Saved) (top : StateValue) → IsStarted given dir save new start top → start.base ≡ base
   base_is start top started =
-      ap (λ (v : Saved). v.base) (one_saved (old save) start o.saved.value (start_same start top started).saved o.saved.saved)
+      ap (λ (v : Saved). v.base) (one_saved given (old save) start o.saved.value (start_same start top started).saved o.saved.saved)
       ∙ o.saved.base_is
 
-  top_is : (start : Saved) (top : StateValue) → IsStarted dir save new start top → top.sequence ≡ length ps
+  top_is : (start : Saved) (top : StateValue) → IsStarted given dir save new start top → top.sequence ≡ length ps
   top_is start top started =
       top_number ps (old (top_name_of dir)) top o.folder.sequences o.folder.top (start_same start top started).top_is
 
@@ -159,7 +160,7 @@ module _ (ps : List PublishedValue) (base number : ℕ) (dir save : List ℕ) (k
         lost_alike dir k (n + suc count) s old new o.is (omega (arith, most)),
       ) refl
 
-  pub same_run : (text : List ℕ) (report : ReportValue) → IsFollowing dir save new text report → IsFollowing dir save old text report
+  pub same_run : (text : List ℕ) (report : ReportValue) → IsFollowing given dir save new text report → IsFollowing given dir save old text report
   same_run text report run =
       let most = few_over o in
       let top = top_is run.start run.top run.started in
@@ -188,7 +189,7 @@ module _ (ps : List PublishedValue) (base number : ℕ) (dir save : List ℕ) (k
       min_within a b = grind (arith)
 
   -- the spoiled file isn't one that such a run reads
-  pub unread : (text : List ℕ) (report : ReportValue) (run : IsFollowing dir save new text report) → number < k → k ≤ number + run.count
+  pub unread : (text : List ℕ) (report : ReportValue) (run : IsFollowing given dir save new text report) → number < k → k ≤ number + run.count
       → (s ≡ Opl) × (is_none (old (file_name_of dir k O5c)) ≡ false)
   unread text report run above until =
       let most = few_over o in
@@ -270,7 +271,7 @@ module _ (ps : List PublishedValue) (base number : ℕ) (dir save : List ℕ) (k
 
   -- what comes before the spoiled file
   pub before : NoFaultBesideState → (known : Type 0) → known → (fault : RunFault) (text : List ℕ) (report : ReportValue)
-      → ComesBefore known dir save new fault text report → IsSpoiledBefore ps base number dir k s old fault text report
+      → ComesBefore known given dir save new fault text report → IsSpoiledBefore given ps base number dir k s old fault text report
   before law known sure fault text report c =
       let most = few_over o in
       let top = top_is c.start c.top c.started in
@@ -289,7 +290,8 @@ module _ (ps : List PublishedValue) (base number : ℕ) (dir save : List ℕ) (k
         base_is = all_base old dir (suc c.count) c.start c.reached added ∙ base_is c.start c.top c.started;
         value_is = value_is;
         next_is = omega (arith, at, value_is);
-        in_step = all_in_step ps old dir (suc c.count) c.start c.reached o.folder (omega (arith, sum, below, top)) added (step_is c.start c.top c.started);
+        in_step = all_in_step given ps old dir (suc c.count) c.start c.reached o.folder (omega (arith, sum, below, top)) added
+            (step_is c.start c.top c.started);
         each = λ j past under.
             taken_right old dir (suc c.count) c.start c.reached added j (omega (arith, from, past)) (omega (arith, from, under, at, value_is));
         fault_is = faulty.1;
@@ -300,7 +302,7 @@ module _ (ps : List PublishedValue) (base number : ℕ) (dir save : List ℕ) (k
 
   -- ---- why the word stops
 
-  start_over : (known : Type 0) (fault : RunFault) → StartStops known dir save new fault → StartStops known dir save old fault
+  start_over : (known : Type 0) (fault : RunFault) → StartStops known given dir save new fault → StartStops known given dir save old fault
   start_over known WantOfMemory h = tt
   start_over known (ReadFault Save) h = tt
   start_over known (TooLarge Save) h = λ yes. rw (← save_same) (h yes)
@@ -318,17 +320,17 @@ module _ (ps : List PublishedValue) (base number : ℕ) (dir save : List ℕ) (k
   })
   start_over known fault h = absurd h
 
-  save_refuses : (known : Type 0) → known → (fault : RunFault) → SaveStops known dir save new fault → FollowRefuses ps (old save) fault
+  save_refuses : (known : Type 0) → known → (fault : RunFault) → SaveStops known given dir save new fault → FollowRefuses ps given (old save) fault
   save_refuses known sure WantOfMemory h = tt
   save_refuses known sure (TooLarge Save) h =
       let t = h sure in
-      let r = reached_of ps base number dir save old t.0 t.1 o.folder o.saved (same_run t.0 t.1 t.2) in
+      let r = reached_of given ps base number dir save old t.0 t.1 o.folder o.saved (same_run t.0 t.1 t.2) in
       (refl, inr (r.value, t.0, r.in_step, r.spelled, t.3))
   save_refuses known sure (WriteFault Save) h = refl
   save_refuses known sure fault h = absurd h
 
-  before_refuses : NoFaultBesideState → (known : Type 0) → known → (fault : RunFault) → BeforeStops known dir save new fault
-      → FollowRefuses ps (old save) fault
+  before_refuses : NoFaultBesideState → (known : Type 0) → known → (fault : RunFault) → BeforeStops known given dir save new fault
+      → FollowRefuses ps given (old save) fault
   before_refuses law known sure (TooLarge Save) h =
       let t = h sure in
       let b = before law known sure t.0 t.1 t.2 t.3 in
@@ -336,7 +338,7 @@ module _ (ps : List PublishedValue) (base number : ℕ) (dir save : List ℕ) (k
   before_refuses law known sure (WriteFault Save) h = refl
   before_refuses law known sure fault h = absurd h
 
-  beyond_refuses : (known : Type 0) (fault : RunFault) → BeyondStops known dir save new fault → FollowRefuses ps (old save) fault
+  beyond_refuses : (known : Type 0) (fault : RunFault) → BeyondStops known given dir save new fault → FollowRefuses ps given (old save) fault
   beyond_refuses known WantOfMemory h = tt
   beyond_refuses known (ReadFault (Sequence j t)) h = tt
   beyond_refuses known fault h = absurd h
@@ -346,16 +348,16 @@ module _ (ps : List PublishedValue) (base number : ℕ) (dir save : List ℕ) (k
   IsNextSpoiled fault = (k ≡ number + 1) × IsSpoiledFault k s fault × IsReadAt old dir k s
 
   next_spoiled : NoFaultBesideState → (known : Type 0) → known → (j : ℕ) → 0 < j → j ≤ length ps → (fault : RunFault)
-      → NumberStops known dir new j fault → (m : ℕ) → m ≡ j → IsOfContent fault m → IsNextAfter save new m → IsNextSpoiled fault
+      → NumberStops known dir new j fault → (m : ℕ) → m ≡ j → IsOfContent fault m → IsNextAfter given save new m → IsNextSpoiled fault
   next_spoiled law known sure j above until fault h m same content next =
       let at = content_stops law known sure j above until fault h m content in
       let v : next.0.number ≡ number =
-      ap (λ (x : Saved). x.number) (one_saved (new save) next.0 o.saved.value next.1 (rw save_same o.saved.saved)) ∙ o.saved.number_is in
+      ap (λ (x : Saved). x.number) (one_saved given (new save) next.0 o.saved.value next.1 (rw save_same o.saved.saved)) ∙ o.saved.number_is in
       (sym at.0 ∙ (sym same ∙ (next.2 ∙ ap (λ (n : ℕ). n + 1) v)), at.1, at.2)
 
   number_refuses : NoFaultBesideState → (known : Type 0) → known → (j : ℕ) → 0 < j → j ≤ length ps → (fault : RunFault)
-      → NumberStops known dir new j fault → ((m : ℕ) → IsOfContent fault m → IsNextAfter save new m)
-      → FollowRefuses ps (old save) fault ⊎ IsNextSpoiled fault
+      → NumberStops known dir new j fault → ((m : ℕ) → IsOfContent fault m → IsNextAfter given save new m)
+      → FollowRefuses ps given (old save) fault ⊎ IsNextSpoiled fault
   number_refuses law known sure j above until WantOfMemory h next = inl tt
   number_refuses law known sure j above until (ReadFault (Sequence i t)) h next = inl tt
   number_refuses law known sure j above until (TooLarge (Sequence i t)) h next =
@@ -371,11 +373,11 @@ module _ (ps : List PublishedValue) (base number : ℕ) (dir save : List ℕ) (k
   number_refuses law known sure j above until fault h next = absurd h
 
   -- for what stops a run over the folder, or for the spoiled file of the next number
-  pub progress_stops : NoFaultBesideState → (known : Type 0) → known → (fault : RunFault) → ProgressStops known dir save new fault
-      → FollowRefuses ps (old save) fault ⊎ ((k ≡ number + 1) × IsSpoiledFault k s fault × IsReadAt old dir k s)
+  pub progress_stops : NoFaultBesideState → (known : Type 0) → known → (fault : RunFault) → ProgressStops known given dir save new fault
+      → FollowRefuses ps given (old save) fault ⊎ ((k ≡ number + 1) × IsSpoiledFault k s fault × IsReadAt old dir k s)
   progress_stops law known sure fault (inr b) = inl (before_refuses law known sure fault b)
   progress_stops law known sure fault (inl f) = elim f.stops [
-    | inl a ↦ inl (follow_refuses law known ps base number dir save old fault sure o.folder o.saved (inl (start_over known fault a)))
+    | inl a ↦ inl (follow_refuses given law known ps base number dir save old fault sure o.folder o.saved (inl (start_over known fault a)))
     | inr (inl at) ↦ (
         let c = at.comes sure in
         let above = c.above in

@@ -5,6 +5,7 @@ use Rattle.std.specs.Prelude.{IsTrue, is_none, is_some}
 use Rattle.std.specs.Str.{bytes_eq}
 use Rattle.std.proofs.lemmas.Bool.{cases_Bool}
 use Rattle.std.proofs.lemmas.Slice.Eq.{bytes_eq-Decides}
+use Rattle.osm_model.specs.Filter.{FilterValue}
 use Rattle.osm_save.specs.declared.save.Saved.{Saved}
 use Rattle.osm_state.specs.StateLaws.{NoFaultBesideState}
 use Rattle.osm_state.specs.declared.paths.Suffix.{Suffix}
@@ -71,10 +72,10 @@ is_none_kept : (b : Bool) (text : List ℕ) → is_none (unless_lost b text) ≡
 is_none_kept true text = refl
 is_none_kept false text = refl
 
-module _ (p : List PublishedValue) (lost : ℕ → Suffix → Bool) (m : Standing) (dir save changes extract : List ℕ)
-    (start f l : Files) (n : ℕ) (apart : AreApart dir save changes extract) (s : Agrees p lost m dir save changes extract start f l n) where
+module _ (p : List PublishedValue) (lost : ℕ → Suffix → Bool) (m : Standing) (given : FilterValue) (dir save changes extract : List ℕ)
+    (start f l : Files) (n : ℕ) (apart : AreApart dir save changes extract) (s : Agrees p lost m given dir save changes extract start f l n) where
   pub over_spoiled : (k : ℕ) (t : Suffix) (bytes : List ℕ) (during : Files) → 0 < k → k ≤ length p → f (file_name_of dir k t) ≡ Some bytes
-      → Puts f (file_name_of dir k t) (Some spoiled) during → IsSpoiledFolder p m.base m.number dir save k t f during
+      → Puts f (file_name_of dir k t) (Some spoiled) during → IsSpoiledFolder given p m.base m.number dir save k t f during
   over_spoiled k t bytes during above within there put =
       let most = few p s.folder.sequences in
       record {
@@ -99,28 +100,28 @@ module _ (p : List PublishedValue) (lost : ℕ → Suffix → Bool) (m : Standin
   -- ---- a run that is done as over the right file
 
   pub spoiled_followed : (k : ℕ) (t : Suffix) (during after g : Files) (report : ReportValue)
-      → IsSpoiledFolder p m.base m.number dir save k t f during → IsFollowed dir save during after report
-      → IsMended save f after g → IsFollowed dir save f g report
+      → IsSpoiledFolder given p m.base m.number dir save k t f during → IsFollowed given dir save during after report
+      → IsMended save f after g → IsFollowed given dir save f g report
   spoiled_followed k t during after g report o run is = record {
     text = run.text;
-    following = same_run p m.base m.number dir save k t f during o run.text report run.following;
+    following = same_run given p m.base m.number dir save k t f during o run.text report run.following;
     small = run.small;
     put = record { there = is.save_is ∙ run.put.there; others = is.others };
   }
 
   -- it didn't read the spoiled file
   pub not_read : (k : ℕ) (t : Suffix) (during after g : Files) (report : ReportValue) (count : ℕ)
-      → IsSpoiledFolder p m.base m.number dir save k t f during → IsFollowed dir save during after report → IsMended save f after g
-      → IsSaveOf p m.base (m.number + count) (g save) → m.number < k → k ≤ m.number + count
+      → IsSpoiledFolder given p m.base m.number dir save k t f during → IsFollowed given dir save during after report → IsMended save f after g
+      → IsSaveOf p given m.base (m.number + count) (g save) → m.number < k → k ≤ m.number + count
       → (t ≡ Opl) × (lost k O5c ≡ false)
   not_read k t during after g report count o run is saved above until =
-      let from = number_is p m.base m.number dir save k t f during o run.following.start run.following.top run.following.started in
-      let told : IsSaved (g save) run.following.reached = rw (is.save_is ∙ run.put.there) (run.small, run.following.spelled) in
-      let same = ap (λ (v : Saved). v.number) (one_saved (g save) saved.value run.following.reached saved.saved told) in
+      let from = number_is given p m.base m.number dir save k t f during o run.following.start run.following.top run.following.started in
+      let told : IsSaved given (g save) run.following.reached = rw (is.save_is ∙ run.put.there) (run.small, run.following.spelled) in
+      let same = ap (λ (v : Saved). v.number) (one_saved given (g save) saved.value run.following.reached saved.saved told) in
       let at = run.following.goes_on.number in
       let number = saved.number_is in
       let counts : run.following.count ≡ count = omega (arith, same, at, number, from) in
-      let u = unread p m.base m.number dir save k t f during o run.text report run.following above (rw counts until) in
+      let u = unread given p m.base m.number dir save k t f during o run.text report run.following above (rw counts until) in
       (u.0, sym (lost_is k O5c o.above o.within) ∙ u.1)
 
   -- ---- a run that comes to the number before the spoiled file
@@ -140,7 +141,7 @@ module _ (p : List PublishedValue) (lost : ℕ → Suffix → Bool) (m : Standin
 
   -- what such a run leaves and prints
   pub record CameBefore (k : ℕ) (t : Suffix) (g : Files) (report : ReportValue) (fault : RunFault) : Type 0 where
-    pub agrees : Agrees p lost (stopped_at fault) dir save changes extract start g l n
+    pub agrees : Agrees p lost (stopped_at fault) given dir save changes extract start g l n
     pub number : number_before fault ≡ k - 1
     pub from : m.number + 1 < k
     pub turn : k ≤ m.number + count_from (number_lost lost) m.number (length p - m.number) + 1
@@ -149,17 +150,17 @@ module _ (p : List PublishedValue) (lost : ℕ → Suffix → Bool) (m : Standin
     pub read : IsReadAt f dir k t
 
   pub came_before : NoFaultBesideState → (k : ℕ) (t : Suffix) (during after g : Files) (report : ReportValue) (fault : RunFault)
-      → IsSpoiledFolder p m.base m.number dir save k t f during → IsFollowedBefore (IsTrue true) dir save during after fault report
+      → IsSpoiledFolder given p m.base m.number dir save k t f during → IsFollowedBefore (IsTrue true) given dir save during after fault report
       → IsMended save f after g → CameBefore k t g report fault
   came_before law k t during after g report fault o run is =
-      let b = before p m.base m.number dir save k t f during o law (IsTrue true) refl fault run.text report run.before in
+      let b = before given p m.base m.number dir save k t f during o law (IsTrue true) refl fault run.text report run.before in
       let next = b.next_is in
       let within = o.within in
       let count : suc b.count ≡ k - 1 - m.number = omega (arith, next) in
       let last : m.number + suc b.count ≡ k - 1 = omega (arith, next) in
       let number = number_of_fault k t fault b.fault_is in
       let least = count_least (number_lost lost) m.number (length p - m.number) (suc b.count) (omega (arith, next, within))
-      (λ j above until. sym (lost_same p lost m dir save changes extract start f l n j s (omega (arith, above)) (omega (arith, until, next, within)))
+      (λ j above until. sym (lost_same p lost m given dir save changes extract start f l n j s (omega (arith, above)) (omega (arith, until, next, within)))
       ∙ b.each j above (omega (arith, until, next))) in
       record {
         agrees = record {
@@ -179,7 +180,7 @@ module _ (p : List PublishedValue) (lost : ℕ → Suffix → Bool) (m : Standin
               in_step = b.in_step;
             };
             is_there = ap is_none (is.save_is ∙ run.put.there);
-            extract_is = subst (IsExtractOf p m.exported extract (start extract)) (sym (is.others extract apart.not_saved)) s.saved.extract_is;
+            extract_is = subst (IsExtractOf p given m.exported extract (start extract)) (sym (is.others extract apart.not_saved)) s.saved.extract_is;
             within = s.saved.within;
           };
           others = λ name other. is.others name other.save_is ∙ s.others name other;
@@ -209,8 +210,8 @@ module _ (p : List PublishedValue) (lost : ℕ → Suffix → Bool) (m : Standin
         | inr other_one ↦ is.others name (λ e. (let bad : true ≡ false = sym (d.1 e) ∙ other_one in cc))
       ]
 
-  pub same_agrees : (g : Files) → ((name : List ℕ) → g name ≡ f name) → Agrees p lost m dir save changes extract start g l n
+  pub same_agrees : (g : Files) → ((name : List ℕ) → g name ≡ f name) → Agrees p lost m given dir save changes extract start g l n
   same_agrees g same =
-      untouched p lost m dir save changes extract start f g l n
+      untouched p lost m given dir save changes extract start f g l n
       (folder_same p dir f g (same (top_name_of dir)) (λ j u above until. same (file_name_of dir j u)) s.folder)
       (λ j u within. same (file_name_of dir j u)) (same save) (same extract) (λ name other. same name) s

@@ -6,7 +6,7 @@ use Rattle.std.specs.List.{zip}
 use Rattle.std.proofs.lemmas.Bool.{eq-eqb, ne_eqb}
 use Rattle.std.proofs.lemmas.List.{reverse-append}
 use Rattle.osm_model.specs.Change.{ChangeValue}
-use Rattle.osm_model.specs.Filter.{everything}
+use Rattle.osm_model.specs.Filter.{FilterValue}
 use Rattle.osm_model.specs.Limits.{max_file, max_sequence}
 use Rattle.osm_mirror.proofs.MirrorLemmas.{mirror_of-nil}
 use Rattle.osm_save.specs.Head.{head_of}
@@ -14,7 +14,7 @@ use Rattle.osm_state.specs.declared.paths.Suffix.{Suffix}
 use Rattle.osm_state.specs.declared.paths.Suffix.TheVariants.{O5c, Opl, State}
 use Rattle.osm_follow.specs.Published.{PublishedValue, sequence_at}
 use Rattle.osm_follow.specs.Reach.{numbers}
-use Rattle.osm_folder.specs.Beginning.{BeginStops}
+use Rattle.osm_folder.specs.Beginning.{BeginStops, IsBegunFrom}
 use Rattle.osm_store.specs.Files.{Files}
 use Rattle.osm_folder.specs.Folder.{IsStateFile}
 use Rattle.osm_folder.specs.Following.{FollowRefuses, IsSaveOf, follow_calls, no_save, ranges}
@@ -29,18 +29,20 @@ use Rattle.osm_folder.specs.declared.progress.Progress.TheVariants.{Whole, Befor
 use Rattle.osm_operations.specs.Allowed.{AreAllowed, CutsAfter, IsNoNumber, IsRepeat, KilledFollowingRefused}
 use Rattle.osm_operations.specs.Allowed.{KilledNumberedRefused, KilledPublicationRefused, NumberedCut, NumberedDone}
 use Rattle.osm_operations.specs.Allowed.{HasBeginning, HasExport, KilledBeginRefused, KilledExportRefused, following_report}
-use Rattle.osm_operations.specs.Allowed.{IsFileThere, IsReadIn, KilledSpoiledRefused, NothingToSpoil, SpoiledBefore, SpoiledDone, SpoiledRefused}
+use Rattle.osm_operations.specs.Allowed.{AllowedFollowOther, IsFileThere, IsReadIn, KilledSpoiledRefused, NothingToSpoil}
+use Rattle.osm_operations.specs.Allowed.{SpoiledBefore, SpoiledDone, SpoiledRefused}
 use Rattle.osm_operations.specs.Correct.{AreApart, IsNew, IsRun}
 use Rattle.osm_operations.specs.History as hist
 use Rattle.osm_operations.specs.Reported.{applied_in}
 use Rattle.osm_operations.specs.Spoiling.{number_before}
-use Rattle.osm_operations.specs.Steps.Stepping.{BeginTo, Begins, ExportTo, KeepsExported, state_name_of}
+use Rattle.osm_operations.specs.Steps.Stepping.{BeginTo, ExportTo, KeepsExported, OtherTo, state_name_of}
 use Rattle.osm_operations.specs.Steps.Stepping.{FollowTo, HasCalls, IsNoDevice, IsNumber, NumberedStep, PublishAsTo}
 use Rattle.osm_operations.specs.Steps.Stepping.{PublishStep, PublishTo, ReturnForms, SpoiledStep, SpoiledTo, Step, form_back, named}
 use Rattle.osm_operations.specs.declared.operation.Operation.{Operation}
 use Rattle.osm_operations.specs.declared.operation.Operation.TheVariants.{Publish, KilledPublish, PublishAs}
 use Rattle.osm_operations.specs.declared.operation.Operation.TheVariants.{KilledPublishAs, Follow, KilledFollow, Lose}
 use Rattle.osm_operations.specs.declared.operation.Operation.TheVariants.{PutBack, Export, KilledExport, Begin, KilledBegin, FollowSpoiled, KilledFollowSpoiled}
+use Rattle.osm_operations.specs.declared.operation.Operation.TheVariants.{FollowOther}
 use Rattle.osm_operations.specs.declared.operation.Reply.{Reply}
 use Rattle.osm_operations.specs.declared.operation.Reply.TheVariants.{Published, Followed, Refused, CutOff, Lost, IsBack, NotThere}
 use Rattle.osm_operations.specs.declared.operation.Reply.TheVariants.{Exported, Begun, FollowedBefore}
@@ -55,79 +57,81 @@ use Rattle.osm_operations.proofs.NumberedLemmas.{IsAgain, number_published, valu
 use Rattle.osm_operations.proofs.FollowLemmas.{followed, gone_on, not_killed_follow, stopped_follow}
 use Rattle.osm_operations.proofs.ReportedLemmas.{reports_before, reports_more}
 use Rattle.osm_operations.proofs.ExtractLemmas.{begin_agrees, begin_row, export_agrees, export_row, has_export, not_killed_begin}
-use Rattle.osm_operations.proofs.ExtractLemmas.{not_killed_export, saved_head, state_name, state_there}
+use Rattle.osm_operations.proofs.ExtractLemmas.{is_absent_not, not_killed_export, saved_head, state_name, state_there}
+use Rattle.osm_operations.proofs.OtherLemmas.{not_before, not_followed, other_refused}
 use Rattle.osm_operations.proofs.SpoiledRunLemmas.{progress_stops}
 use Rattle.osm_operations.proofs.SpoiledStepLemmas.{as_before, came_before, file_there, mended, not_read, over_spoiled, read_in, same_agrees}
 use Rattle.osm_operations.proofs.SpoiledStepLemmas.{save_apart, spoiled_followed}
-use Rattle.osm_operations.proofs.MoveLemmas.{back_agrees, kept_none, lost_agrees, not_true}
+use Rattle.osm_operations.proofs.MoveLemmas.{back_agrees, kept_none, lost_agrees, not_false, not_true}
 
 -- the files are those of the history, each reply is allowed, and the reports say each number once
-pub record Holds (h : hist.History) (dir save changes extract : List ℕ) (start : Files) (w : World) : Type 0 where
-  pub agrees : Agrees (hist.published_of h) (hist.is_file_lost h) (hist.standing_of h) dir save changes extract start (files_of w.store)
+pub record Holds (h : hist.History) (given : FilterValue) (dir save changes extract : List ℕ) (start : Files) (w : World) : Type 0 where
+  pub agrees : Agrees (hist.published_of h) (hist.is_file_lost h) (hist.standing_of h) given dir save changes extract start (files_of w.store)
       (files_of w.lost) w.published
-  pub allowed : AreAllowed extract h
+  pub allowed : AreAllowed given extract h
   pub reported : hist.reported_of h ≡ numbers (hist.base_of h) (hist.number_of h - hist.base_of h)
   pub exported : w.exported ≡ hist.beginning_of h
 
-abbrev AgreesIn : List PublishedValue → (ℕ → Suffix → Bool) → hist.Standing → List ℕ → List ℕ → List ℕ → List ℕ → Files → World → Type 0
-AgreesIn p lost m dir save changes extract start w = Agrees p lost m dir save changes extract start (files_of w.store) (files_of w.lost) w.published
+abbrev AgreesIn : List PublishedValue → (ℕ → Suffix → Bool) → hist.Standing → FilterValue → List ℕ → List ℕ → List ℕ → List ℕ → Files
+    → World → Type 0
+AgreesIn p lost m given dir save changes extract start w = Agrees p lost m given dir save changes extract start (files_of w.store) (files_of w.lost) w.published
 
-quiet : (p : List PublishedValue) (lost : ℕ → Suffix → Bool) (m : hist.Standing) (dir save changes extract : List ℕ) (start f l : Files)
-    (n : ℕ) → Agrees p lost m dir save changes extract start f l n → Agrees (p ++ []) lost m dir save changes extract start f l n
-quiet p lost m dir save changes extract start f l n s =
-    subst (λ q. Agrees q lost m dir save changes extract start f l n) (sym (append-nil p)) s
+quiet : (p : List PublishedValue) (lost : ℕ → Suffix → Bool) (m : hist.Standing) (given : FilterValue) (dir save changes extract : List ℕ) (start f l : Files)
+    (n : ℕ) → Agrees p lost m given dir save changes extract start f l n → Agrees (p ++ []) lost m given dir save changes extract start f l n
+quiet p lost m given dir save changes extract start f l n s =
+    subst (λ q. Agrees q lost m given dir save changes extract start f l n) (sym (append-nil p)) s
 
-renewed : (p : List PublishedValue) (lost : ℕ → Suffix → Bool) (m : hist.Standing) (dir save changes extract : List ℕ)
-    (start f l f' l' : Files) (n n' : ℕ) → f' ≡ f → l' ≡ l → n' ≡ n → Agrees p lost m dir save changes extract start f l n
-    → Agrees p lost m dir save changes extract start f' l' n'
-renewed p lost m dir save changes extract start f l f' l' n n' a b c s =
-    subst (λ (x : Files). Agrees p lost m dir save changes extract start x l' n') (sym a)
-    (subst (λ (x : Files). Agrees p lost m dir save changes extract start f x n') (sym b)
-    (subst (λ i. Agrees p lost m dir save changes extract start f l i) (sym c) s))
+renewed : (p : List PublishedValue) (lost : ℕ → Suffix → Bool) (m : hist.Standing) (given : FilterValue) (dir save changes extract : List ℕ)
+    (start f l f' l' : Files) (n n' : ℕ) → f' ≡ f → l' ≡ l → n' ≡ n → Agrees p lost m given dir save changes extract start f l n
+    → Agrees p lost m given dir save changes extract start f' l' n'
+renewed p lost m given dir save changes extract start f l f' l' n n' a b c s =
+    subst (λ (x : Files). Agrees p lost m given dir save changes extract start x l' n') (sym a)
+    (subst (λ (x : Files). Agrees p lost m given dir save changes extract start f x n') (sym b)
+    (subst (λ i. Agrees p lost m given dir save changes extract start f l i) (sym c) s))
 
 publish_more : (left : Option ℕ) (p : List PublishedValue) (lost : ℕ → Suffix → Bool) (m : hist.Standing)
-    (dir save changes extract : List ℕ) (start : Files) (a b : World) (batch : List ChangeValue) (time : ℕ)
-    (report : ReportValue) → AreApart dir save changes extract → AgreesIn p lost m dir save changes extract start a
+    (given : FilterValue) (dir save changes extract : List ℕ) (start : Files) (a b : World) (batch : List ChangeValue) (time : ℕ)
+    (report : ReportValue) → AreApart dir save changes extract → AgreesIn p lost m given dir save changes extract start a
     → PublishTo left dir changes batch time (Published report) a b
     → AgreesIn (p ++ (record { number = length p + 1; changes = batch; time = time }) ∷ []) lost
-    m dir save changes extract start b × (report ≡ publish_report_of (length p + 1))
-publish_more left p lost m dir save changes extract start a b batch time report apart s step =
-    let done = published_agrees p lost m dir save changes extract start (files_of a.store) (files_of b.store)
+    m given dir save changes extract start b × (report ≡ publish_report_of (length p + 1))
+publish_more left p lost m given dir save changes extract start a b batch time report apart s step =
+    let done = published_agrees p lost m given dir save changes extract start (files_of a.store) (files_of b.store)
     (files_of a.lost) a.published batch time report apart s step.0 in
     let most = few (p ++ (record { number = length p + 1; changes = batch; time = time }) ∷ []) done.0.folder.sequences in
     let n_is = done.0.number in (
-      renewed (p ++ (record { number = length p + 1; changes = batch; time = time }) ∷ []) lost m dir save changes extract
+      renewed (p ++ (record { number = length p + 1; changes = batch; time = time }) ∷ []) lost m given dir save changes extract
           start (files_of b.store) (files_of a.lost) (files_of b.store) (files_of b.lost) (a.published + 1) b.published
           refl (ap files_of step.1) (step.2 (omega (arith, n_is, most)))
           done.0,
       done.1,
     )
 
-publish_stopped : (p : List PublishedValue) (lost : ℕ → Suffix → Bool) (m : hist.Standing) (dir save changes extract : List ℕ)
+publish_stopped : (p : List PublishedValue) (lost : ℕ → Suffix → Bool) (m : hist.Standing) (given : FilterValue) (dir save changes extract : List ℕ)
     (start : Files) (a b : World) (batch : List ChangeValue) (time calls : ℕ) (fault : RunFault)
-    → AreApart dir save changes extract → AgreesIn p lost m dir save changes extract start a
+    → AreApart dir save changes extract → AgreesIn p lost m given dir save changes extract start a
     → PublishTo (Some calls) dir changes batch time (Refused fault) a b
-    → AgreesIn (p ++ []) lost m dir save changes extract start b × KilledPublicationRefused p batch time calls fault
-publish_stopped p lost m dir save changes extract start a b batch time calls fault apart s step =
+    → AgreesIn (p ++ []) lost m given dir save changes extract start b × KilledPublicationRefused p batch time calls fault
+publish_stopped p lost m given dir save changes extract start a b batch time calls fault apart s step =
     let done = by_step step.0 in (
-      quiet p lost m dir save changes extract start (files_of b.store) (files_of b.lost) b.published
-          (renewed p lost m dir save changes extract start (files_of b.store) (files_of a.lost) (files_of b.store)
+      quiet p lost m given dir save changes extract start (files_of b.store) (files_of b.lost) b.published
+          (renewed p lost m given dir save changes extract start (files_of b.store) (files_of a.lost) (files_of b.store)
           (files_of b.lost) a.published b.published refl (ap files_of step.1) step.2 done.0),
       done.1,
     )
   where
     by_step : PublishStep (Some calls) dir changes batch time (Err fault) (files_of a.store) (files_of b.store)
-        → Agrees p lost m dir save changes extract start (files_of b.store) (files_of a.lost) a.published
+        → Agrees p lost m given dir save changes extract start (files_of b.store) (files_of a.lost) a.published
         × KilledPublicationRefused p batch time calls fault
     by_step (inl h) = (
-      renewed p lost m dir save changes extract start (files_of a.store) (files_of a.lost) (files_of b.store)
+      renewed p lost m given dir save changes extract start (files_of a.store) (files_of a.lost) (files_of b.store)
           (files_of a.lost) a.published a.published h.1 refl refl s,
       unwritten_row p batch time calls fault h.0,
     )
     by_step (inr run) =
-        let mid = changes_put p lost m dir save changes extract start (files_of a.store) run.middle
+        let mid = changes_put p lost m given dir save changes extract start (files_of a.store) run.middle
         (files_of a.lost) a.published (Some (opl_text batch)) apart run.there.put s in (
-          stopped_agrees (Some calls) p lost m dir save changes extract start (files_of a.store) (files_of b.store)
+          stopped_agrees (Some calls) p lost m given dir save changes extract start (files_of a.store) (files_of b.store)
               (files_of a.lost) a.published batch time fault apart s run,
           stopped_row p dir changes run.now batch time calls (files_of a.store) run.middle (files_of b.store) fault
               mid.folder run.is_so.out run.shows run.is_text run.there run.is_so.stops (run.is_so.refuses p mid.folder),
@@ -156,45 +160,45 @@ unlimited dir changes batch time fault a b (inr run, lost, count) =
       is.1,
     )
 
-saved_within : (p : List PublishedValue) (base m : ℕ) (told : Option (List ℕ)) → IsSaveOf p base m told → m ≤ length p
-saved_within p base m told s = let within = s.in_step.within in let is = s.number_is in omega (arith, within, is)
+saved_within : (p : List PublishedValue) (given : FilterValue) (base m : ℕ) (told : Option (List ℕ)) → IsSaveOf p given base m told → m ≤ length p
+saved_within p given base m told s = let within = s.in_step.within in let is = s.number_is in omega (arith, within, is)
 
-base_below : (p : List PublishedValue) (base m : ℕ) (told : Option (List ℕ)) → IsSaveOf p base m told → base ≤ m
-base_below p base m told s =
+base_below : (p : List PublishedValue) (given : FilterValue) (base m : ℕ) (told : Option (List ℕ)) → IsSaveOf p given base m told → base ≤ m
+base_below p given base m told s =
     let below = s.in_step.base in let base_is = s.base_is in let number_is = s.number_is in omega (arith, below, base_is, number_is)
 
 -- nothing is reported from a number up to itself
 none_reported : (n : ℕ) → [] ≡ numbers n (n - n)
 none_reported n = let e : n - n ≡ 0 = omega arith in rw e refl
 
-follow_more : (h : hist.History) (dir save changes extract : List ℕ) (start : Files) (a b : World) (report : ReportValue)
-    → AreApart dir save changes extract → AgreesIn (hist.published_of h) (hist.is_file_lost h) (hist.standing_of h) dir save
-    changes extract start a → FollowTo dir save (Followed report) a b → AgreesIn (hist.published_of h ++ [])
-    (hist.is_file_lost h) (gone_on (hist.standing_of h) (hist.count_after h (hist.number_of h))) dir save changes extract start b
+follow_more : (h : hist.History) (given : FilterValue) (dir save changes extract : List ℕ) (start : Files) (a b : World) (report : ReportValue)
+    → AreApart dir save changes extract → AgreesIn (hist.published_of h) (hist.is_file_lost h) (hist.standing_of h) given dir save
+    changes extract start a → FollowTo given dir save (Followed report) a b → AgreesIn (hist.published_of h ++ [])
+    (hist.is_file_lost h) (gone_on (hist.standing_of h) (hist.count_after h (hist.number_of h))) given dir save changes extract start b
     × (report ≡ following_report h) × (hist.number_of h + hist.count_after h (hist.number_of h) ≤
     length (hist.published_of h))
-follow_more h dir save changes extract start a b report apart s step =
-    let done = followed (hist.published_of h) (hist.is_file_lost h) (hist.standing_of h) dir save changes extract start
+follow_more h given dir save changes extract start a b report apart s step =
+    let done = followed (hist.published_of h) (hist.is_file_lost h) (hist.standing_of h) given dir save changes extract start
     (files_of a.store) (files_of b.store) (files_of a.lost) a.published report apart s step.0 in (
-      subst (λ q. AgreesIn q (hist.is_file_lost h) (gone_on (hist.standing_of h) (hist.count_after h (hist.number_of h))) dir save
+      subst (λ q. AgreesIn q (hist.is_file_lost h) (gone_on (hist.standing_of h) (hist.count_after h (hist.number_of h))) given dir save
           changes extract start b) (sym (append-nil (hist.published_of h)))
           (renewed (hist.published_of h) (hist.is_file_lost h) (gone_on (hist.standing_of h) (hist.count_after h (hist.number_of h)))
-          dir save changes extract start (files_of b.store) (files_of a.lost)
+          given dir save changes extract start (files_of b.store) (files_of a.lost)
           (files_of b.store) (files_of b.lost) a.published b.published refl (ap files_of step.1) step.2 done.0),
       done.1,
-      saved_within (hist.published_of h) (hist.base_of h) (hist.number_of h + hist.count_after h (hist.number_of h)) (files_of b.store save)
+      saved_within (hist.published_of h) given (hist.base_of h) (hist.number_of h + hist.count_after h (hist.number_of h)) (files_of b.store save)
           done.0.saved.save_is,
     )
 
-follow_stopped : (p : List PublishedValue) (lost : ℕ → Suffix → Bool) (m : hist.Standing) (dir save changes extract : List ℕ)
+follow_stopped : (p : List PublishedValue) (lost : ℕ → Suffix → Bool) (m : hist.Standing) (given : FilterValue) (dir save changes extract : List ℕ)
     (start : Files) (a b : World) (calls : ℕ) (fault : RunFault) → LacksCalls (follow_calls p m.number) (Some calls) fault
-    → AgreesIn p lost m dir save changes extract start a → FollowTo dir save (Refused fault) a b
-    → AgreesIn (p ++ []) lost m dir save changes extract start b × KilledFollowingRefused p m.number calls fault
-follow_stopped p lost m dir save changes extract start a b calls fault lacks s step = (
-  quiet p lost m dir save changes extract start (files_of b.store) (files_of b.lost) b.published
-      (renewed p lost m dir save changes extract start (files_of a.store) (files_of a.lost) (files_of b.store)
+    → AgreesIn p lost m given dir save changes extract start a → FollowTo given dir save (Refused fault) a b
+    → AgreesIn (p ++ []) lost m given dir save changes extract start b × KilledFollowingRefused p given m.number calls fault
+follow_stopped p lost m given dir save changes extract start a b calls fault lacks s step = (
+  quiet p lost m given dir save changes extract start (files_of b.store) (files_of b.lost) b.published
+      (renewed p lost m given dir save changes extract start (files_of a.store) (files_of a.lost) (files_of b.store)
       (files_of b.lost) a.published b.published (step.0 p m.base m.number s.folder s.saved.save_is).0 (ap files_of step.1) step.2 s),
-  stopped_follow p m.base m.number calls (files_of a.store save) fault lacks s.saved.save_is (step.0 p m.base m.number s.folder s.saved.save_is).1,
+  stopped_follow p given m.base m.number calls (files_of a.store save) fault lacks s.saved.save_is (step.0 p m.base m.number s.folder s.saved.save_is).1,
 )
 
 -- a number that isn't published
@@ -205,13 +209,13 @@ no_number h count n is most (inr (inl e)) = inr (omega (arith, is, e))
 no_number h count n is most (inr (inr e)) = inr (omega (arith, most, e))
 
 -- nothing was done
-still : (h : hist.History) (dir save changes extract : List ℕ) (start : Files) (a b : World)
-    → AgreesIn (hist.published_of h) (hist.is_file_lost h) (hist.standing_of h) dir save changes extract start a
+still : (h : hist.History) (given : FilterValue) (dir save changes extract : List ℕ) (start : Files) (a b : World)
+    → AgreesIn (hist.published_of h) (hist.is_file_lost h) (hist.standing_of h) given dir save changes extract start a
     → files_of b.store ≡ files_of a.store → files_of b.lost ≡ files_of a.lost → b.published ≡ a.published
-    → AgreesIn (hist.published_of h ++ []) (hist.is_file_lost h) (hist.standing_of h) dir save changes extract start b
-still h dir save changes extract start a b s files lost count =
-    quiet (hist.published_of h) (hist.is_file_lost h) (hist.standing_of h) dir save changes extract start (files_of b.store) (files_of b.lost) b.published
-    (renewed (hist.published_of h) (hist.is_file_lost h) (hist.standing_of h) dir save changes extract start (files_of a.store)
+    → AgreesIn (hist.published_of h ++ []) (hist.is_file_lost h) (hist.standing_of h) given dir save changes extract start b
+still h given dir save changes extract start a b s files lost count =
+    quiet (hist.published_of h) (hist.is_file_lost h) (hist.standing_of h) given dir save changes extract start (files_of b.store) (files_of b.lost) b.published
+    (renewed (hist.published_of h) (hist.is_file_lost h) (hist.standing_of h) given dir save changes extract start (files_of a.store)
     (files_of a.lost) (files_of b.store) (files_of b.lost) a.published b.published files lost count s)
 
 max_next : (a n : ℕ) → n ≡ a + 1 → max a n ≡ a + 1
@@ -221,24 +225,24 @@ max_old : (a n : ℕ) → n ≤ a → max a n ≡ a
 max_old a n e = grind (arith)
 
 -- a publication by number is done
-number_more : (left : Option ℕ) (h : hist.History) (dir save changes extract : List ℕ) (start : Files) (a b : World)
+number_more : (left : Option ℕ) (h : hist.History) (given : FilterValue) (dir save changes extract : List ℕ) (start : Files) (a b : World)
     (batch : List ChangeValue) (time n : ℕ) (report : ReportValue) → AreApart dir save changes extract
-    → AgreesIn (hist.published_of h) (hist.is_file_lost h) (hist.standing_of h) dir save changes extract start a
+    → AgreesIn (hist.published_of h) (hist.is_file_lost h) (hist.standing_of h) given dir save changes extract start a
     → PublishAsTo left dir changes batch time n (Published report) a b
     → AgreesIn (hist.published_of h ++ (if n == length (hist.published_of h) + 1 then value_of n batch time ∷ [] else
     [])) (λ k t. if hist.wrote n (length (hist.published_of h)) k then false else hist.is_file_lost h k t)
-    (hist.standing_of h) dir save changes extract start b × NumberedDone h batch time n report
+    (hist.standing_of h) given dir save changes extract start b × NumberedDone h batch time n report
     × HasCalls (numbered_calls n (length (hist.published_of h))) left
-number_more left h dir save changes extract start a b batch time n report apart s t = (
+number_more left h given dir save changes extract start a b batch time n report apart s t = (
   (elim done.0 [
     | inl next ↦ rw (eq-eqb n (length p + 1) next.0)
-        (renewed (p ++ value_of n batch time ∷ []) gone m dir save changes extract start (files_of b.store) (files_of b.lost)
+        (renewed (p ++ value_of n batch time ∷ []) gone m given dir save changes extract start (files_of b.store) (files_of b.lost)
         (files_of b.store) (files_of b.lost) (a.published + 1) b.published refl refl
         (t.2 ∙ max_next a.published n (next.0 ∙ ap (λ i. i + 1) (sym s.number)))
-        (lost_alike (p ++ value_of n batch time ∷ []) lost gone m dir save changes extract start (files_of b.store) (files_of b.lost) (a.published + 1)
+        (lost_alike (p ++ value_of n batch time ∷ []) lost gone m given dir save changes extract start (files_of b.store) (files_of b.lost) (a.published + 1)
         (λ k u. rw (wrote_not n (length p) k (λ e. (let at = next.0 in omega (arith, e, at)))) refl) next.1))
     | inr old ↦ rw (ne_eqb n (length p + 1) (λ e. (let within = old.0.1 in omega (arith, e, within))), append-nil p)
-        (renewed p gone m dir save changes extract start (files_of b.store) (files_of b.lost) (files_of b.store) (files_of b.lost) a.published
+        (renewed p gone m given dir save changes extract start (files_of b.store) (files_of b.lost) (files_of b.store) (files_of b.lost) a.published
         b.published refl refl (t.2 ∙ max_old a.published n (let within = old.0.1 in let at = s.number in omega (arith, within, at))) old.1)
   ]),
   (done.1, row done.0),
@@ -257,79 +261,79 @@ number_more left h dir save changes extract start a b batch time n report apart 
     gone : ℕ → Suffix → Bool
     gone k t = if hist.wrote n (length p) k then false else lost k t
 
-    done : (((n ≡ length p + 1) × Agrees (p ++ value_of n batch time ∷ []) lost m dir save changes extract start
+    done : (((n ≡ length p + 1) × Agrees (p ++ value_of n batch time ∷ []) lost m given dir save changes extract start
         (files_of b.store) (files_of b.lost) (a.published + 1))
-        ⊎ (IsAgain p lost n batch time × Agrees p (λ i u. if hist.wrote n (length p) i then false else lost i u) m dir
+        ⊎ (IsAgain p lost n batch time × Agrees p (λ i u. if hist.wrote n (length p) i then false else lost i u) m given dir
         save changes extract start (files_of b.store) (files_of b.lost) a.published)) × (report ≡ publish_report_of n)
         × HasCalls (numbered_calls n (length p)) left
-    done = number_published left p lost m dir save changes extract start (files_of a.store) (files_of b.store) (files_of a.lost)
+    done = number_published left p lost m given dir save changes extract start (files_of a.store) (files_of b.store) (files_of a.lost)
         (files_of b.lost) a.published batch time n report t.1.0 t.1.1 apart s t.0 t.1.2
 
-    row : (((n ≡ length p + 1) × Agrees (p ++ value_of n batch time ∷ []) lost m dir save changes extract start
+    row : (((n ≡ length p + 1) × Agrees (p ++ value_of n batch time ∷ []) lost m given dir save changes extract start
         (files_of b.store) (files_of b.lost) (a.published + 1))
-        ⊎ (IsAgain p lost n batch time × Agrees p (λ i u. if hist.wrote n (length p) i then false else lost i u) m dir
+        ⊎ (IsAgain p lost n batch time × Agrees p (λ i u. if hist.wrote n (length p) i then false else lost i u) m given dir
         save changes extract start (files_of b.store) (files_of b.lost) a.published)) → (n ≡ length p + 1)
         ⊎ IsRepeat h batch time n
     row (inl next) = inl next.0
     row (inr old) = inr old.0
 
 -- a publication by number is refused
-number_refused : (h : hist.History) (dir save changes extract : List ℕ) (start : Files) (a b : World) (batch : List ChangeValue)
+number_refused : (h : hist.History) (given : FilterValue) (dir save changes extract : List ℕ) (start : Files) (a b : World) (batch : List ChangeValue)
     (time n calls : ℕ) (fault : RunFault) → AreApart dir save changes extract
-    → AgreesIn (hist.published_of h) (hist.is_file_lost h) (hist.standing_of h) dir save changes extract start a
+    → AgreesIn (hist.published_of h) (hist.is_file_lost h) (hist.standing_of h) given dir save changes extract start a
     → PublishAsTo (Some calls) dir changes batch time n (Refused fault) a b → AgreesIn (hist.published_of h ++ [])
-    (hist.is_file_lost h) (hist.standing_of h) dir save changes extract start b × KilledNumberedRefused h batch time n calls
+    (hist.is_file_lost h) (hist.standing_of h) given dir save changes extract start b × KilledNumberedRefused h batch time n calls
     fault
-number_refused h dir save changes extract start a b batch time n calls fault apart s (inl (why, same)) = (
-  still h dir save changes extract start a b s (ap (λ (w : World). files_of w.store) same)
+number_refused h given dir save changes extract start a b batch time n calls fault apart s (inl (why, same)) = (
+  still h given dir save changes extract start a b s (ap (λ (w : World). files_of w.store) same)
       (ap (λ (w : World). files_of w.lost) same) (ap (λ (w : World). w.published) same),
   subst (KilledNumberedRefused h batch time n calls) (sym why) tt,
 )
-number_refused h dir save changes extract start a b batch time n calls fault apart s (inr (inl unrun, back, count)) = (
-  quiet (hist.published_of h) (hist.is_file_lost h) (hist.standing_of h) dir save changes extract start (files_of b.store) (files_of b.lost) b.published
-      (renewed (hist.published_of h) (hist.is_file_lost h) (hist.standing_of h) dir save changes extract start (files_of b.store)
+number_refused h given dir save changes extract start a b batch time n calls fault apart s (inr (inl unrun, back, count)) = (
+  quiet (hist.published_of h) (hist.is_file_lost h) (hist.standing_of h) given dir save changes extract start (files_of b.store) (files_of b.lost) b.published
+      (renewed (hist.published_of h) (hist.is_file_lost h) (hist.standing_of h) given dir save changes extract start (files_of b.store)
       (files_of b.lost) (files_of b.store) (files_of b.lost) a.published b.published refl refl count
-      (unrun_stays (hist.published_of h) (hist.is_file_lost h) (hist.standing_of h) dir save changes extract start
+      (unrun_stays (hist.published_of h) (hist.is_file_lost h) (hist.standing_of h) given dir save changes extract start
       (files_of a.store) (files_of b.store) (files_of a.lost) (files_of b.lost) a.published batch time n fault false
       false s unrun.1 back)),
   unwritten_number h batch time n calls fault unrun.0,
 )
-number_refused h dir save changes extract start a b batch time n calls fault apart s (inr (inr run, back, count)) = (
-  quiet (hist.published_of h) (hist.is_file_lost h) (hist.standing_of h) dir save changes extract start (files_of b.store) (files_of b.lost) b.published
-      (renewed (hist.published_of h) (hist.is_file_lost h) (hist.standing_of h) dir save changes extract start (files_of b.store)
+number_refused h given dir save changes extract start a b batch time n calls fault apart s (inr (inr run, back, count)) = (
+  quiet (hist.published_of h) (hist.is_file_lost h) (hist.standing_of h) given dir save changes extract start (files_of b.store) (files_of b.lost) b.published
+      (renewed (hist.published_of h) (hist.is_file_lost h) (hist.standing_of h) given dir save changes extract start (files_of b.store)
       (files_of b.lost) (files_of b.store) (files_of b.lost) a.published b.published refl refl count
-      (number_stopped (Some calls) (hist.published_of h) (hist.is_file_lost h) (hist.standing_of h) dir save changes extract start
+      (number_stopped (Some calls) (hist.published_of h) (hist.is_file_lost h) (hist.standing_of h) given dir save changes extract start
       (files_of a.store) (files_of b.store) (files_of a.lost) (files_of b.lost) a.published batch time n fault false
       false apart s run back)),
-  stopped_number h dir save changes extract start (files_of a.store) (files_of b.store) (files_of a.lost) a.published (hist.standing_of h) batch
+  stopped_number h given dir save changes extract start (files_of a.store) (files_of b.store) (files_of a.lost) a.published (hist.standing_of h) batch
       time n calls fault run
-      (changes_put (hist.published_of h) (hist.is_file_lost h) (hist.standing_of h) dir save changes extract start
+      (changes_put (hist.published_of h) (hist.is_file_lost h) (hist.standing_of h) given dir save changes extract start
       (files_of a.store) run.middle (files_of a.lost) a.published (Some (opl_text batch)) apart run.there.put s),
 )
 
 -- a publication by number is cut off
-number_cut : (h : hist.History) (dir save changes extract : List ℕ) (start : Files) (a b : World) (batch : List ChangeValue)
+number_cut : (h : hist.History) (given : FilterValue) (dir save changes extract : List ℕ) (start : Files) (a b : World) (batch : List ChangeValue)
     (time n calls : ℕ) (fault : RunFault) (o5c opl : Bool) (suffix : Suffix) → AreApart dir save changes extract
-    → AgreesIn (hist.published_of h) (hist.is_file_lost h) (hist.standing_of h) dir save changes extract start a
+    → AgreesIn (hist.published_of h) (hist.is_file_lost h) (hist.standing_of h) given dir save changes extract start a
     → form_back o5c opl ≡ Some suffix → NumberedStep (Some calls) dir changes batch time n (Err fault)
     (files_of a.store) (files_of b.store) → ReturnForms o5c opl dir (named n) (files_of b.store) (files_of a.lost)
     (files_of b.lost) → b.published ≡ a.published → AgreesIn (hist.published_of h ++ [])
-    (λ i t. if hist.same_file n suffix i t then false else hist.is_file_lost h i t) (hist.standing_of h) dir save
+    (λ i t. if hist.same_file n suffix i t then false else hist.is_file_lost h i t) (hist.standing_of h) given dir save
     changes extract start b × ((count : ℕ) × CutsAfter n calls count fault × NumberedCut h batch time n fault suffix count)
-number_cut h dir save changes extract start a b batch time n calls fault o5c opl suffix apart s form (inl unrun) back count =
+number_cut h given dir save changes extract start a b batch time n calls fault o5c opl suffix apart s form (inl unrun) back count =
     absurd (let none = sym form ∙ ap2_form gone.first gone.second in (let bad : Some suffix ≡ None = none in cc))
   where
     gone : AreGone o5c opl (files_of a.lost) (files_of b.lost)
-    gone = none_back (hist.published_of h) (hist.is_file_lost h) (hist.standing_of h) dir save changes extract start
+    gone = none_back (hist.published_of h) (hist.is_file_lost h) (hist.standing_of h) given dir save changes extract start
         (files_of a.store) (files_of b.store) (files_of a.lost) (files_of b.lost) a.published (named n) o5c opl s
         (named_least n) (named_most n)
         (λ t within. ap (λ (f : Files). f (file_name_of dir (named n) t)) unrun.1) back
 
     ap2_form : {x y : Bool} → x ≡ false → y ≡ false → form_back x y ≡ None
     ap2_form e d = rw (e, d) refl
-number_cut h dir save changes extract start a b batch time n calls fault o5c opl suffix apart s form (inr run) back count = (
-  quiet (hist.published_of h) gone (hist.standing_of h) dir save changes extract start (files_of b.store) (files_of b.lost) b.published
-      (renewed (hist.published_of h) gone (hist.standing_of h) dir save changes extract start (files_of b.store) (files_of b.lost)
+number_cut h given dir save changes extract start a b batch time n calls fault o5c opl suffix apart s form (inr run) back count = (
+  quiet (hist.published_of h) gone (hist.standing_of h) given dir save changes extract start (files_of b.store) (files_of b.lost) b.published
+      (renewed (hist.published_of h) gone (hist.standing_of h) given dir save changes extract start (files_of b.store) (files_of b.lost)
       (files_of b.store) (files_of b.lost) a.published b.published refl refl count stays.0),
   (
     stays.4.0,
@@ -348,15 +352,15 @@ number_cut h dir save changes extract start a b batch time n calls fault o5c opl
     gone : ℕ → Suffix → Bool
     gone i t = if hist.same_file n suffix i t then false else hist.is_file_lost h i t
 
-    mid : Agrees (hist.published_of h) (hist.is_file_lost h) (hist.standing_of h) dir save changes extract start run.middle (files_of a.lost) a.published
-    mid = changes_put (hist.published_of h) (hist.is_file_lost h) (hist.standing_of h) dir save changes extract start
+    mid : Agrees (hist.published_of h) (hist.is_file_lost h) (hist.standing_of h) given dir save changes extract start run.middle (files_of a.lost) a.published
+    mid = changes_put (hist.published_of h) (hist.is_file_lost h) (hist.standing_of h) given dir save changes extract start
         (files_of a.store) run.middle (files_of a.lost) a.published (Some (opl_text batch)) apart run.there.put s
 
-    stays : StayOrReturn (hist.published_of h) (hist.is_file_lost h) (hist.standing_of h) dir save changes extract start
+    stays : StayOrReturn (hist.published_of h) (hist.is_file_lost h) (hist.standing_of h) given dir save changes extract start
         (files_of b.store) (files_of b.lost) a.published batch time n fault (Some suffix)
-    stays = subst (λ o. StayOrReturn (hist.published_of h) (hist.is_file_lost h) (hist.standing_of h) dir save changes extract
+    stays = subst (λ o. StayOrReturn (hist.published_of h) (hist.is_file_lost h) (hist.standing_of h) given dir save changes extract
         start (files_of b.store) (files_of b.lost) a.published batch time n fault o) form
-        (number_stopped (Some calls) (hist.published_of h) (hist.is_file_lost h) (hist.standing_of h) dir save changes extract
+        (number_stopped (Some calls) (hist.published_of h) (hist.is_file_lost h) (hist.standing_of h) given dir save changes extract
         start (files_of a.store) (files_of b.store) (files_of a.lost) (files_of b.lost) a.published batch time n
         fault o5c opl apart s run back)
 
@@ -395,65 +399,66 @@ refused_unlimited dir changes batch time n fault a b (inr (step, back, count)) =
     (inr (is.0, back, count), is.1)
 
 -- an export is done
-export_more : (h : hist.History) (dir save changes extract : List ℕ) (start : Files) (a b : World) (report : ReportValue)
-    → AreApart dir save changes extract → AgreesIn (hist.published_of h) (hist.is_file_lost h) (hist.standing_of h) dir save
+export_more : (h : hist.History) (given : FilterValue) (dir save changes extract : List ℕ) (start : Files) (a b : World) (report : ReportValue)
+    → AreApart dir save changes extract → AgreesIn (hist.published_of h) (hist.is_file_lost h) (hist.standing_of h) given dir save
     changes extract start a → ExportTo save extract (Exported report) a b
-    → AgreesIn (hist.published_of h ++ []) (hist.is_file_lost h) (hist.standing_after h (Exported report) (hist.standing_of h)) dir save
-    changes extract start b × (report ≡ convert_report_of) × HasExport h extract (λ text. length text ≤ max_file)
+    → AgreesIn (hist.published_of h ++ []) (hist.is_file_lost h) (hist.standing_after h (Exported report) (hist.standing_of h)) given dir save
+    changes extract start b × (report ≡ convert_report_of) × HasExport given h extract (λ text. length text ≤ max_file)
     × (b.exported ≡ hist.number_of h)
-export_more h dir save changes extract start a b report apart s (done, lost, count, number) =
-    let agrees = export_agrees (hist.published_of h) (hist.is_file_lost h) (hist.standing_of h) dir save changes extract start
+export_more h given dir save changes extract start a b report apart s (done, lost, count, number) =
+    let agrees = export_agrees (hist.published_of h) (hist.is_file_lost h) (hist.standing_of h) given dir save changes extract start
     (files_of a.store) (files_of b.store) (files_of a.lost) a.published report apart s done in
     let made = done.exported.made in
     let save_is = s.saved.save_is in (
-      quiet (hist.published_of h) (hist.is_file_lost h) (hist.standing_after h (Exported report) (hist.standing_of h)) dir save changes
+      quiet (hist.published_of h) (hist.is_file_lost h) (hist.standing_after h (Exported report) (hist.standing_of h)) given dir save changes
           extract start (files_of b.store) (files_of b.lost) b.published
-          (renewed (hist.published_of h) (hist.is_file_lost h) (hist.standing_after h (Exported report) (hist.standing_of h)) dir save
+          (renewed (hist.published_of h) (hist.is_file_lost h) (hist.standing_after h (Exported report) (hist.standing_of h)) given dir save
           changes extract start (files_of b.store) (files_of a.lost) (files_of b.store) (files_of b.lost) a.published b.published refl
           (ap files_of lost) count agrees),
       done.report_is,
-      has_export h extract (files_of a.store save) (λ text. length text ≤ max_file) made.named made.held s.saved.save_is s.saved.is_there made.fits,
-      number (head_of save_is.value) (saved_head (files_of a.store save) save_is.value save_is.saved) ∙ save_is.number_is,
+      has_export given h extract (files_of a.store save) (λ text. length text ≤ max_file) made.named made.held s.saved.save_is s.saved.is_there made.fits,
+      number (head_of save_is.value) (saved_head given (files_of a.store save) save_is.value save_is.saved) ∙ save_is.number_is,
     )
 
 -- an export is refused
-export_stopped : (h : hist.History) (dir save changes extract : List ℕ) (start : Files) (a b : World) (calls : ℕ) (fault : RunFault)
-    → LacksCalls 2 (Some calls) fault → AgreesIn (hist.published_of h) (hist.is_file_lost h) (hist.standing_of h) dir save
+export_stopped : (h : hist.History) (given : FilterValue) (dir save changes extract : List ℕ) (start : Files) (a b : World) (calls : ℕ) (fault : RunFault)
+    → LacksCalls 2 (Some calls) fault → AgreesIn (hist.published_of h) (hist.is_file_lost h) (hist.standing_of h) given dir save
     changes extract start a → ExportTo save extract (Refused fault) a b
-    → AgreesIn (hist.published_of h ++ []) (hist.is_file_lost h) (hist.standing_of h) dir save changes extract start b
-    × KilledExportRefused h extract calls fault
-export_stopped h dir save changes extract start a b calls fault lacks s (stops, lost, count) = (
-  still h dir save changes extract start a b s stops.0 (ap files_of lost) count,
+    → AgreesIn (hist.published_of h ++ []) (hist.is_file_lost h) (hist.standing_of h) given dir save changes extract start b
+    × KilledExportRefused given h extract calls fault
+export_stopped h given dir save changes extract start a b calls fault lacks s (stops, lost, count) = (
+  still h given dir save changes extract start a b s stops.0 (ap files_of lost) count,
   elim stops.1 [
-    | inl want ↦ subst (KilledExportRefused h extract calls) (sym want) tt
-    | inr run ↦ export_row h extract save calls (files_of a.store) fault lacks s.saved.save_is s.saved.is_there run
+    | inl want ↦ subst (KilledExportRefused given h extract calls) (sym want) tt
+    | inr run ↦ export_row given h extract save calls (files_of a.store) fault lacks s.saved.save_is s.saved.is_there run
   ],
 )
 
 -- the name of the state that a beginning reads
-state_of : (h : hist.History) (dir save changes extract : List ℕ) (start : Files) (a : World) → Holds h dir save changes extract start a
+state_of : (h : hist.History) (given : FilterValue) (dir save changes extract : List ℕ) (start : Files) (a : World)
+    → Holds h given dir save changes extract start a
     → state_name_of dir a.exported ≡ file_name_of dir (hist.beginning_of h) State
-state_of h dir save changes extract start a s =
+state_of h given dir save changes extract start a s =
     state_name dir a.exported (hist.beginning_of h) s.exported
     (let most = few (hist.published_of h) s.agrees.folder.sequences in let within = s.agrees.saved.within in omega (arith, most, within))
 
 -- a beginning is done
-begin_more : (h : hist.History) (dir save changes extract : List ℕ) (start : Files) (a b : World) (report : ReportValue)
-    → AreApart dir save changes extract → Holds h dir save changes extract start a → BeginTo dir save extract (Begun report) a b
-    → AgreesIn (hist.published_of h ++ []) (hist.is_file_lost h) (hist.standing_after h (Begun report) (hist.standing_of h)) dir save
+begin_more : (h : hist.History) (given : FilterValue) (dir save changes extract : List ℕ) (start : Files) (a b : World) (report : ReportValue)
+    → AreApart dir save changes extract → Holds h given dir save changes extract start a → BeginTo given dir save extract (Begun report) a b
+    → AgreesIn (hist.published_of h ++ []) (hist.is_file_lost h) (hist.standing_after h (Begun report) (hist.standing_of h)) given dir save
     changes extract start b × (report ≡ begin_report_of (hist.beginning_of h)) × HasBeginning h extract
-begin_more h dir save changes extract start a b report apart s (done, lost, count) =
-    let run = subst (λ name. Begins extract name save report (files_of a.store) (files_of b.store))
-    (state_of h dir save changes extract start a s) done in
-    let begun = run.begun.beginning in
-    let there = state_there h dir save changes extract start (files_of a.store) (files_of a.lost) a.published 0 s.agrees
-    (IsStateFile run.begun.s.sequence run.begun.s.time) begun.start.there in
-    let agrees = begin_agrees (hist.published_of h) (hist.is_file_lost h) (hist.standing_of h) dir save changes extract
+begin_more h given dir save changes extract start a b report apart s (done, lost, count) =
+    let run = subst (λ name. IsBegunFrom given extract name save (files_of a.store) (files_of b.store) report)
+    (state_of h given dir save changes extract start a s) done in
+    let begun = run.beginning in
+    let there = state_there h given dir save changes extract start (files_of a.store) (files_of a.lost) a.published 0 s.agrees
+    (IsStateFile run.s.sequence run.s.time) begun.start.there in
+    let agrees = begin_agrees (hist.published_of h) (hist.is_file_lost h) (hist.standing_of h) given dir save changes extract
     (file_name_of dir (hist.beginning_of h) State) start (files_of a.store) (files_of b.store) (files_of a.lost) a.published report apart
     s.agrees there.2 run in (
-      quiet (hist.published_of h) (hist.is_file_lost h) (hist.standing_after h (Begun report) (hist.standing_of h)) dir save changes
+      quiet (hist.published_of h) (hist.is_file_lost h) (hist.standing_after h (Begun report) (hist.standing_of h)) given dir save changes
           extract start (files_of b.store) (files_of b.lost) b.published
-          (renewed (hist.published_of h) (hist.is_file_lost h) (hist.standing_after h (Begun report) (hist.standing_of h)) dir save
+          (renewed (hist.published_of h) (hist.is_file_lost h) (hist.standing_after h (Begun report) (hist.standing_of h)) given dir save
           changes extract start (files_of b.store) (files_of a.lost) (files_of b.store) (files_of b.lost) a.published b.published refl
           (ap files_of lost) count agrees.0),
       agrees.1,
@@ -461,41 +466,42 @@ begin_more h dir save changes extract start a b report apart s (done, lost, coun
     )
 
 -- a beginning is refused
-begin_stopped : (h : hist.History) (dir save changes extract : List ℕ) (start : Files) (a b : World) (calls : ℕ) (fault : RunFault)
-    → LacksCalls 3 (Some calls) fault → Holds h dir save changes extract start a → BeginTo dir save extract (Refused fault) a b
-    → AgreesIn (hist.published_of h ++ []) (hist.is_file_lost h) (hist.standing_of h) dir save changes extract start b
-    × KilledBeginRefused h extract calls fault
-begin_stopped h dir save changes extract start a b calls fault lacks s (stops, lost, count) = (
-  still h dir save changes extract start a b s.agrees stops.0 (ap files_of lost) count,
+begin_stopped : (h : hist.History) (given : FilterValue) (dir save changes extract : List ℕ) (start : Files) (a b : World) (calls : ℕ) (fault : RunFault)
+    → LacksCalls 3 (Some calls) fault → Holds h given dir save changes extract start a → BeginTo given dir save extract (Refused fault) a b
+    → AgreesIn (hist.published_of h ++ []) (hist.is_file_lost h) (hist.standing_of h) given dir save changes extract start b
+    × KilledBeginRefused given h extract calls fault
+begin_stopped h given dir save changes extract start a b calls fault lacks s (stops, lost, count) = (
+  still h given dir save changes extract start a b s.agrees stops.0 (ap files_of lost) count,
   elim stops.1 [
-    | inl want ↦ subst (KilledBeginRefused h extract calls) (sym want) tt
-    | inr run ↦ begin_row h dir save changes extract start (files_of a.store) (files_of a.lost) a.published calls s.agrees fault lacks run.law
-        (subst (λ name. BeginStops (IsTrue true) extract name (files_of a.store) fault) (state_of h dir save changes extract start a s) run.stops)
+    | inl want ↦ subst (KilledBeginRefused given h extract calls) (sym want) tt
+    | inr run ↦ begin_row h given dir save changes extract start (files_of a.store) (files_of a.lost) a.published calls s.agrees fault lacks run.law
+        (subst (λ name. BeginStops (IsTrue true) given extract name (files_of a.store) fault) (state_of h given dir save changes extract start a s) run.stops)
   ],
 )
 
 -- ---- a run of the follower over a spoiled file
 
 -- the file of that number is there
-file_is_there : (h : hist.History) (dir save changes extract : List ℕ) (start : Files) (a : World) (k : ℕ) (t : Suffix) (bytes : List ℕ)
-    → AreApart dir save changes extract → AgreesIn (hist.published_of h) (hist.is_file_lost h) (hist.standing_of h) dir save changes extract start a
+file_is_there : (h : hist.History) (given : FilterValue) (dir save changes extract : List ℕ) (start : Files) (a : World) (k : ℕ) (t : Suffix) (bytes : List ℕ)
+    → AreApart dir save changes extract → AgreesIn (hist.published_of h) (hist.is_file_lost h) (hist.standing_of h) given dir save changes extract start a
     → IsNumber true a.published k → files_of a.store (file_name_of dir k t) ≡ Some bytes → IsFileThere h k t
-file_is_there h dir save changes extract start a k t bytes apart s number there =
+file_is_there h given dir save changes extract start a k t bytes apart s number there =
     let n_is = s.number in
     let within : k ≤ length (hist.published_of h) = omega (arith, n_is, number.1) in (
       number.0,
       within,
-      file_there (hist.published_of h) (hist.is_file_lost h) (hist.standing_of h) dir save changes extract start (files_of a.store)
+      file_there (hist.published_of h) (hist.is_file_lost h) (hist.standing_of h) given dir save changes extract start (files_of a.store)
           (files_of a.lost) a.published apart s k t bytes number.0 within there,
     )
 
 -- it is done as over the right file
-spoiled_more : (h : hist.History) (dir save changes extract : List ℕ) (start : Files) (a b : World) (k : ℕ) (t : Suffix) (report : ReportValue)
-    → AreApart dir save changes extract → AgreesIn (hist.published_of h) (hist.is_file_lost h) (hist.standing_of h) dir save
-    changes extract start a → SpoiledTo dir save k t (Followed report) a b → AgreesIn (hist.published_of h ++ [])
-    (hist.is_file_lost h) (gone_on (hist.standing_of h) (hist.count_after h (hist.number_of h))) dir save changes extract start b
+spoiled_more : (h : hist.History) (given : FilterValue) (dir save changes extract : List ℕ) (start : Files) (a b : World)
+    (k : ℕ) (t : Suffix) (report : ReportValue)
+    → AreApart dir save changes extract → AgreesIn (hist.published_of h) (hist.is_file_lost h) (hist.standing_of h) given dir save
+    changes extract start a → SpoiledTo given dir save k t (Followed report) a b → AgreesIn (hist.published_of h ++ [])
+    (hist.is_file_lost h) (gone_on (hist.standing_of h) (hist.count_after h (hist.number_of h))) given dir save changes extract start b
     × SpoiledDone h k t report × (hist.number_of h + hist.count_after h (hist.number_of h) ≤ length (hist.published_of h))
-spoiled_more h dir save changes extract start a b k t report apart s to = by_step to.step
+spoiled_more h given dir save changes extract start a b k t report apart s to = by_step to.step
   where
     p : List PublishedValue
     p = hist.published_of h
@@ -512,28 +518,28 @@ spoiled_more h dir save changes extract start a b k t report apart s to = by_ste
     within : k ≤ length p
     within = let n_is = s.number in omega (arith, n_is, to.number.1)
 
-    by_step : SpoiledStep dir save (file_name_of dir k t) (Ok (Whole report)) f (files_of b.store)
-        → AgreesIn (p ++ []) lost (gone_on m (hist.count_after h (hist.number_of h))) dir save changes extract start b
+    by_step : SpoiledStep given dir save (file_name_of dir k t) (Ok (Whole report)) f (files_of b.store)
+        → AgreesIn (p ++ []) lost (gone_on m (hist.count_after h (hist.number_of h))) given dir save changes extract start b
         × SpoiledDone h k t report × (hist.number_of h + hist.count_after h (hist.number_of h) ≤ length p)
     by_step (inl want) = absurd (let bad : Ok (Whole report) ≡ Err WantOfMemory = want.0 in cc)
     by_step (inr run) =
         let above = to.number.0 in
-        let o = over_spoiled p lost m dir save changes extract start f (files_of a.lost) a.published apart s k t run.bytes run.during
+        let o = over_spoiled p lost m given dir save changes extract start f (files_of a.lost) a.published apart s k t run.bytes run.during
         above within run.there run.put in
         let followed_it = run.done refl in
         let is = mended (file_name_of dir k t) save run.bytes f run.during run.after (files_of b.store)
-        (save_apart p lost m dir save changes extract start f (files_of a.lost) a.published apart s k t within) run.there run.put
+        (save_apart p lost m given dir save changes extract start f (files_of a.lost) a.published apart s k t within) run.there run.put
         followed_it.put.others run.back in
-        let right = spoiled_followed p lost m dir save changes extract start f (files_of a.lost) a.published apart s k t run.during run.after
+        let right = spoiled_followed p lost m given dir save changes extract start f (files_of a.lost) a.published apart s k t run.during run.after
         (files_of b.store) report o followed_it is in
-        let done = follow_more h dir save changes extract start a b report apart s (right, to.lost, to.published) in
-        let on = followed p lost m dir save changes extract start f (files_of b.store) (files_of a.lost) a.published report apart s right in (
+        let done = follow_more h given dir save changes extract start a b report apart s (right, to.lost, to.published) in
+        let on = followed p lost m given dir save changes extract start f (files_of b.store) (files_of a.lost) a.published report apart s right in (
           done.0,
           (
-            file_is_there h dir save changes extract start a k t run.bytes apart s to.number run.there,
+            file_is_there h given dir save changes extract start a k t run.bytes apart s to.number run.there,
             done.1,
             λ way. (
-                let u = not_read p lost m dir save changes extract start f (files_of a.lost) a.published apart s k t run.during run.after
+                let u = not_read p lost m given dir save changes extract start f (files_of a.lost) a.published apart s k t run.during run.after
                 (files_of b.store) report (hist.count_after h (hist.number_of h)) o followed_it is on.0.saved.save_is way.0 way.1 in
                 let read = subst (IsReadIn h k) u.0 way.2 in
                 let bad : true ≡ false = sym read.1 ∙ u.1 in cc),
@@ -542,14 +548,14 @@ spoiled_more h dir save changes extract start a b k t report apart s to = by_ste
         )
 
 -- it is done up to the number before the file's
-spoiled_short : (h : hist.History) (dir save changes extract : List ℕ) (start : Files) (a b : World) (k : ℕ) (t : Suffix)
+spoiled_short : (h : hist.History) (given : FilterValue) (dir save changes extract : List ℕ) (start : Files) (a b : World) (k : ℕ) (t : Suffix)
     (report : ReportValue) (fault : RunFault) → AreApart dir save changes extract → AgreesIn (hist.published_of h) (hist.is_file_lost h)
-    (hist.standing_of h) dir save changes extract start a → SpoiledTo dir save k t (FollowedBefore report fault) a b
+    (hist.standing_of h) given dir save changes extract start a → SpoiledTo given dir save k t (FollowedBefore report fault) a b
     → hist.reported_of h ≡ numbers (hist.base_of h) (hist.number_of h - hist.base_of h)
     → AgreesIn (hist.published_of h ++ []) (hist.is_file_lost h) (hist.standing_after h (FollowedBefore report fault) (hist.standing_of h))
-    dir save changes extract start b × SpoiledBefore h k t report fault
+    given dir save changes extract start b × SpoiledBefore h k t report fault
     × (hist.reported_of h ++ applied_in report.text ≡ numbers (hist.base_of h) (number_before fault - hist.base_of h))
-spoiled_short h dir save changes extract start a b k t report fault apart s to so_far = by_step to.step
+spoiled_short h given dir save changes extract start a b k t report fault apart s to so_far = by_step to.step
   where
     p : List PublishedValue
     p = hist.published_of h
@@ -566,79 +572,82 @@ spoiled_short h dir save changes extract start a b k t report fault apart s to s
     within : k ≤ length p
     within = let n_is = s.number in omega (arith, n_is, to.number.1)
 
-    by_step : SpoiledStep dir save (file_name_of dir k t) (Ok (Before report fault)) f (files_of b.store)
-        → AgreesIn (p ++ []) lost (hist.standing_after h (FollowedBefore report fault) m) dir save changes extract start b
+    by_step : SpoiledStep given dir save (file_name_of dir k t) (Ok (Before report fault)) f (files_of b.store)
+        → AgreesIn (p ++ []) lost (hist.standing_after h (FollowedBefore report fault) m) given dir save changes extract start b
         × SpoiledBefore h k t report fault
         × (hist.reported_of h ++ applied_in report.text ≡ numbers (hist.base_of h) (number_before fault - hist.base_of h))
     by_step (inl want) = absurd (let bad : Ok (Before report fault) ≡ Err WantOfMemory = want.0 in cc)
     by_step (inr run) =
         let above = to.number.0 in
-        let o = over_spoiled p lost m dir save changes extract start f (files_of a.lost) a.published apart s k t run.bytes run.during
+        let o = over_spoiled p lost m given dir save changes extract start f (files_of a.lost) a.published apart s k t run.bytes run.during
         above within run.there run.put in
         let came_to = run.done refl in
         let is = mended (file_name_of dir k t) save run.bytes f run.during run.after (files_of b.store)
-        (save_apart p lost m dir save changes extract start f (files_of a.lost) a.published apart s k t within) run.there run.put
+        (save_apart p lost m given dir save changes extract start f (files_of a.lost) a.published apart s k t within) run.there run.put
         came_to.put.others run.back in
-        let came = came_before p lost m dir save changes extract start f (files_of a.lost) a.published apart s run.law k t run.during run.after
+        let came = came_before p lost m given dir save changes extract start f (files_of a.lost) a.published apart s run.law k t run.during run.after
         (files_of b.store) report fault o came_to is in
         let from = came.from in
         let number = came.number in
         let most = few p s.folder.sequences in (
-          quiet p lost (hist.standing_after h (FollowedBefore report fault) m) dir save changes extract start (files_of b.store)
-              (files_of b.lost) b.published (renewed p lost (hist.standing_after h (FollowedBefore report fault) m) dir save changes extract
+          quiet p lost (hist.standing_after h (FollowedBefore report fault) m) given dir save changes extract start (files_of b.store)
+              (files_of b.lost) b.published (renewed p lost (hist.standing_after h (FollowedBefore report fault) m) given dir save changes extract
               start (files_of b.store) (files_of a.lost) (files_of b.store) (files_of b.lost) a.published b.published refl
               (ap files_of to.lost) to.published came.agrees),
           (
-            file_is_there h dir save changes extract start a k t run.bytes apart s to.number run.there,
+            file_is_there h given dir save changes extract start a k t run.bytes apart s to.number run.there,
             came.report_is,
             (
               omega (arith, from),
               came.turn,
-              read_in p lost m dir save changes extract start f (files_of a.lost) a.published apart s k t above within came.read h refl,
+              read_in p lost m given dir save changes extract start f (files_of a.lost) a.published apart s k t above within came.read h refl,
             ),
             from,
             came.fault_is,
           ),
           reports_before h report (k - 1 - hist.number_of h) (number_before fault) (omega (arith, from, number)) (omega (arith, number, within, most))
-              (base_below p (hist.base_of h) (hist.number_of h) (f save) s.saved.save_is)
+              (base_below p given (hist.base_of h) (hist.number_of h) (f save) s.saved.save_is)
               (came.report_is ∙ ap (λ j. follow_report_of (ranges (hist.number_of h) (k - 1 - hist.number_of h)) [] j) (sym number)) so_far,
         )
 
 -- what refuses a run over the right file
-spoiled_row : (h : hist.History) (k : ℕ) (t : Suffix) (told : Option (List ℕ)) (fault : RunFault)
-    → IsSaveOf (hist.published_of h) (hist.base_of h) (hist.number_of h) told → FollowRefuses (hist.published_of h) told fault
-    → KilledSpoiledRefused h k t fault
-spoiled_row h k t told (ReadFault file) s r = tt
-spoiled_row h k t told (WriteFault file) s r = r
-spoiled_row h k t told WantOfMemory s r = inl tt
-spoiled_row h k t told (Absent file) s r = inl r
-spoiled_row h k t told (TooLarge file) s r =
-    inl (stopped_follow (hist.published_of h) (hist.base_of h) (hist.number_of h) 0 told (TooLarge file) (λ device. absurd device) s r)
-spoiled_row h k t told fault s r = absurd r
+spoiled_row : (given : FilterValue) (h : hist.History) (k : ℕ) (t : Suffix) (told : Option (List ℕ)) (fault : RunFault)
+    → IsSaveOf (hist.published_of h) given (hist.base_of h) (hist.number_of h) told → FollowRefuses (hist.published_of h) given told fault
+    → KilledSpoiledRefused given h k t fault
+spoiled_row given h k t told (ReadFault file) s r = tt
+spoiled_row given h k t told (WriteFault file) s r = r
+spoiled_row given h k t told WantOfMemory s r = inl tt
+spoiled_row given h k t told (Absent file) s r = inl r
+spoiled_row given h k t told (TooLarge file) s r =
+    inl (stopped_follow (hist.published_of h) given (hist.base_of h) (hist.number_of h) 0 told (TooLarge file) (λ device. absurd device) s r)
+spoiled_row given h k t told fault s r = absurd r
 
 -- what a killed run and a whole one are refused for
-killed_spoiled : (h : hist.History) (k : ℕ) (t : Suffix) (fault : RunFault) → SpoiledRefused h k t fault → KilledSpoiledRefused h k t fault
-killed_spoiled h k t (ReadFault file) r = tt
-killed_spoiled h k t (WriteFault file) (inl r) = absurd r
-killed_spoiled h k t (WriteFault file) (inr r) = absurd r.3
-killed_spoiled h k t fault r = r
+killed_spoiled : (given : FilterValue) (h : hist.History) (k : ℕ) (t : Suffix) (fault : RunFault) → SpoiledRefused given h k t fault
+    → KilledSpoiledRefused given h k t fault
+killed_spoiled given h k t (ReadFault file) r = tt
+killed_spoiled given h k t (WriteFault file) (inl r) = absurd r
+killed_spoiled given h k t (WriteFault file) (inr r) = absurd r.3
+killed_spoiled given h k t fault r = r
 
-not_killed_spoiled : (h : hist.History) (k : ℕ) (t : Suffix) (fault : RunFault) → IsNoDevice fault → KilledSpoiledRefused h k t fault
-    → SpoiledRefused h k t fault
-not_killed_spoiled h k t (ReadFault file) none r = absurd none
-not_killed_spoiled h k t (WriteFault file) none r = absurd none
-not_killed_spoiled h k t fault none r = r
+not_killed_spoiled : (given : FilterValue) (h : hist.History) (k : ℕ) (t : Suffix) (fault : RunFault) → IsNoDevice fault
+    → KilledSpoiledRefused given h k t fault
+    → SpoiledRefused given h k t fault
+not_killed_spoiled given h k t (ReadFault file) none r = absurd none
+not_killed_spoiled given h k t (WriteFault file) none r = absurd none
+not_killed_spoiled given h k t fault none r = r
 
 one_fault : {T : Type 0} (w : Result T RunFault) (a b : RunFault) → w ≡ Err a → w ≡ Err b → a ≡ b
 one_fault w a b p q = cc
 
 -- it is refused
-spoiled_stopped : (h : hist.History) (dir save changes extract : List ℕ) (start : Files) (a b : World) (k : ℕ) (t : Suffix) (fault : RunFault)
-    → AreApart dir save changes extract → AgreesIn (hist.published_of h) (hist.is_file_lost h) (hist.standing_of h) dir save
-    changes extract start a → SpoiledTo dir save k t (Refused fault) a b
-    → AgreesIn (hist.published_of h ++ []) (hist.is_file_lost h) (hist.standing_of h) dir save changes extract start b
-    × KilledSpoiledRefused h k t fault
-spoiled_stopped h dir save changes extract start a b k t fault apart s to = by_step to.step
+spoiled_stopped : (h : hist.History) (given : FilterValue) (dir save changes extract : List ℕ) (start : Files) (a b : World)
+    (k : ℕ) (t : Suffix) (fault : RunFault)
+    → AreApart dir save changes extract → AgreesIn (hist.published_of h) (hist.is_file_lost h) (hist.standing_of h) given dir save
+    changes extract start a → SpoiledTo given dir save k t (Refused fault) a b
+    → AgreesIn (hist.published_of h ++ []) (hist.is_file_lost h) (hist.standing_of h) given dir save changes extract start b
+    × KilledSpoiledRefused given h k t fault
+spoiled_stopped h given dir save changes extract start a b k t fault apart s to = by_step to.step
   where
     p : List PublishedValue
     p = hist.published_of h
@@ -655,30 +664,30 @@ spoiled_stopped h dir save changes extract start a b k t fault apart s to = by_s
     within : k ≤ length p
     within = let n_is = s.number in omega (arith, n_is, to.number.1)
 
-    by_step : SpoiledStep dir save (file_name_of dir k t) (Err fault) f (files_of b.store)
-        → AgreesIn (p ++ []) lost m dir save changes extract start b × KilledSpoiledRefused h k t fault
+    by_step : SpoiledStep given dir save (file_name_of dir k t) (Err fault) f (files_of b.store)
+        → AgreesIn (p ++ []) lost m given dir save changes extract start b × KilledSpoiledRefused given h k t fault
     by_step (inl want) = (
-      still h dir save changes extract start a b s want.1 (ap files_of to.lost) to.published,
-      subst (KilledSpoiledRefused h k t) (sym (one_fault (Err fault) fault WantOfMemory refl want.0)) (inl tt),
+      still h given dir save changes extract start a b s want.1 (ap files_of to.lost) to.published,
+      subst (KilledSpoiledRefused given h k t) (sym (one_fault (Err fault) fault WantOfMemory refl want.0)) (inl tt),
     )
     by_step (inr run) =
         let above = to.number.0 in
-        let o = over_spoiled p lost m dir save changes extract start f (files_of a.lost) a.published apart s k t run.bytes run.during
+        let o = over_spoiled p lost m given dir save changes extract start f (files_of a.lost) a.published apart s k t run.bytes run.during
         above within run.there run.put in
-        let same = as_before p lost m dir save changes extract start f (files_of a.lost) a.published apart s k t run.bytes run.during run.after
+        let same = as_before p lost m given dir save changes extract start f (files_of a.lost) a.published apart s k t run.bytes run.during run.after
         (files_of b.store) within run.there run.put run.kept run.back in (
-          quiet p lost m dir save changes extract start (files_of b.store) (files_of b.lost) b.published
-              (renewed p lost m dir save changes extract start (files_of b.store) (files_of a.lost) (files_of b.store) (files_of b.lost)
+          quiet p lost m given dir save changes extract start (files_of b.store) (files_of b.lost) b.published
+              (renewed p lost m given dir save changes extract start (files_of b.store) (files_of a.lost) (files_of b.store) (files_of b.lost)
               a.published b.published refl (ap files_of to.lost) to.published
-              (same_agrees p lost m dir save changes extract start f (files_of a.lost) a.published apart s (files_of b.store) same)),
-          elim (progress_stops p m.base m.number dir save k t f run.during o run.law (IsTrue true) refl fault run.stops) [
-            | inl r ↦ spoiled_row h k t (f save) fault s.saved.save_is r
-            | inr next ↦ (let at = next.0 in killed_spoiled h k t fault (inr (
-              file_is_there h dir save changes extract start a k t run.bytes apart s to.number run.there,
+              (same_agrees p lost m given dir save changes extract start f (files_of a.lost) a.published apart s (files_of b.store) same)),
+          elim (progress_stops given p m.base m.number dir save k t f run.during o run.law (IsTrue true) refl fault run.stops) [
+            | inl r ↦ spoiled_row given h k t (f save) fault s.saved.save_is r
+            | inr next ↦ (let at = next.0 in killed_spoiled given h k t fault (inr (
+              file_is_there h given dir save changes extract start a k t run.bytes apart s to.number run.there,
               (
                 omega (arith, at),
                 omega (arith, at),
-                read_in p lost m dir save changes extract start f (files_of a.lost) a.published apart s k t above within next.2 h refl,
+                read_in p lost m given dir save changes extract start f (files_of a.lost) a.published apart s k t above within next.2 h refl,
               ),
               at,
               next.1,
@@ -687,12 +696,12 @@ spoiled_stopped h dir save changes extract start a b k t fault apart s to = by_s
         )
 
 -- there is no file to spoil
-nothing_to_spoil : (h : hist.History) (dir save changes extract : List ℕ) (start : Files) (a b : World) (k : ℕ) (t : Suffix)
-    → AgreesIn (hist.published_of h) (hist.is_file_lost h) (hist.standing_of h) dir save changes extract start a
-    → SpoiledTo dir save k t NotThere a b
-    → AgreesIn (hist.published_of h ++ []) (hist.is_file_lost h) (hist.standing_of h) dir save changes extract start b × NothingToSpoil h k t
-nothing_to_spoil h dir save changes extract start a b k t s (why, files, lost, count) = (
-  still h dir save changes extract start a b s files (ap files_of lost) count,
+nothing_to_spoil : (h : hist.History) (given : FilterValue) (dir save changes extract : List ℕ) (start : Files) (a b : World) (k : ℕ) (t : Suffix)
+    → AgreesIn (hist.published_of h) (hist.is_file_lost h) (hist.standing_of h) given dir save changes extract start a
+    → SpoiledTo given dir save k t NotThere a b
+    → AgreesIn (hist.published_of h ++ []) (hist.is_file_lost h) (hist.standing_of h) given dir save changes extract start b × NothingToSpoil h k t
+nothing_to_spoil h given dir save changes extract start a b k t s (why, files, lost, count) = (
+  still h given dir save changes extract start a b s files (ap files_of lost) count,
   elim why [
     | inl none ↦ elim (no_number h a.published k s.number (few (hist.published_of h) s.folder.sequences) none) [
       | inl zero_is ↦ inl zero_is
@@ -704,17 +713,50 @@ nothing_to_spoil h dir save changes extract start a b k t s (why, files, lost, c
   ],
 )
 
+-- ---- a run of the follower under another filter
+
+-- it is refused
+other_stopped : (h : hist.History) (other : FilterValue) (given : FilterValue) (dir save changes extract : List ℕ) (start : Files) (a b : World)
+    (fault : RunFault) → AgreesIn (hist.published_of h) (hist.is_file_lost h) (hist.standing_of h) given dir save changes extract start a
+    → OtherTo given other dir save (Refused fault) a b
+    → AgreesIn (hist.published_of h ++ []) (hist.is_file_lost h) (hist.standing_of h) given dir save changes extract start b
+    × AllowedFollowOther given h other (Refused fault)
+other_stopped h other given dir save changes extract start a b fault s to =
+    let run = to.answered in (
+      still h given dir save changes extract start a b s run.kept (ap files_of to.lost) to.published,
+      (
+        not_false (hist.is_saved h) (sym s.saved.is_there ∙ run.there),
+        run.differs,
+        other_refused given other (hist.published_of h) (hist.base_of h) (hist.number_of h) dir save (files_of a.store) run.there
+            s.saved.save_is run.differs fault run.device run.stops,
+      ),
+    )
+
+-- none is made
+nothing_other : (h : hist.History) (other : FilterValue) (given : FilterValue) (dir save changes extract : List ℕ) (start : Files) (a b : World)
+    → AgreesIn (hist.published_of h) (hist.is_file_lost h) (hist.standing_of h) given dir save changes extract start a
+    → OtherTo given other dir save NotThere a b
+    → AgreesIn (hist.published_of h ++ []) (hist.is_file_lost h) (hist.standing_of h) given dir save changes extract start b
+    × AllowedFollowOther given h other NotThere
+nothing_other h other given dir save changes extract start a b s to = (
+  still h given dir save changes extract start a b s to.answered.1 (ap files_of to.lost) to.published,
+  elim to.answered.0 [
+    | inl none ↦ inl (is_absent_not (hist.is_saved h) (files_of a.store save) s.saved.is_there none)
+    | inr same ↦ inr same
+  ],
+)
+
 -- one more operation
-pub step_holds : (h : hist.History) (e : Operation) (r : Reply) (dir save changes extract : List ℕ) (start : Files)
-    (a b : World) → AreApart dir save changes extract → Holds h dir save changes extract start a
-    → Step dir save changes extract e r a b → KeepsExported r a b → Holds ((e, r) ∷ h) dir save changes extract start b
-step_holds h (Publish batch time) (Published report) dir save changes extract start a b apart s t x =
-    let done = publish_more None (hist.published_of h) (hist.is_file_lost h) (hist.standing_of h) dir save changes extract start a b batch time
+pub step_holds : (h : hist.History) (e : Operation) (r : Reply) (given : FilterValue) (dir save changes extract : List ℕ) (start : Files)
+    (a b : World) → AreApart dir save changes extract → Holds h given dir save changes extract start a
+    → Step given dir save changes extract e r a b → KeepsExported r a b → Holds ((e, r) ∷ h) given dir save changes extract start b
+step_holds h (Publish batch time) (Published report) given dir save changes extract start a b apart s t x =
+    let done = publish_more None (hist.published_of h) (hist.is_file_lost h) (hist.standing_of h) given dir save changes extract start a b batch time
     report apart s.agrees t in
     record { agrees = done.0; allowed = (done.1, s.allowed); reported = s.reported; exported = x ∙ s.exported }
-step_holds h (Publish batch time) (Refused fault) dir save changes extract start a b apart s t x =
+step_holds h (Publish batch time) (Refused fault) given dir save changes extract start a b apart s t x =
     let u = unlimited dir changes batch time fault a b t in
-    let done = publish_stopped (hist.published_of h) (hist.is_file_lost h) (hist.standing_of h) dir save changes extract start a b
+    let done = publish_stopped (hist.published_of h) (hist.is_file_lost h) (hist.standing_of h) given dir save changes extract start a b
     batch time 0 fault apart s.agrees u.0 in
     record {
       agrees = done.0;
@@ -722,205 +764,220 @@ step_holds h (Publish batch time) (Refused fault) dir save changes extract start
       reported = s.reported;
       exported = x ∙ s.exported;
     }
-step_holds h (Publish batch time) r dir save changes extract start a b apart s t x = absurd t
-step_holds h (KilledPublish batch time calls) (Published report) dir save changes extract start a b apart s t x =
-    let done = publish_more (Some calls) (hist.published_of h) (hist.is_file_lost h) (hist.standing_of h) dir save changes extract
+step_holds h (Publish batch time) r given dir save changes extract start a b apart s t x = absurd t
+step_holds h (KilledPublish batch time calls) (Published report) given dir save changes extract start a b apart s t x =
+    let done = publish_more (Some calls) (hist.published_of h) (hist.is_file_lost h) (hist.standing_of h) given dir save changes extract
     start a b batch time report apart s.agrees t.0 in
     record { agrees = done.0; allowed = ((done.1, t.1), s.allowed); reported = s.reported; exported = x ∙ s.exported }
-step_holds h (KilledPublish batch time calls) (Refused fault) dir save changes extract start a b apart s t x =
-    let done = publish_stopped (hist.published_of h) (hist.is_file_lost h) (hist.standing_of h) dir save changes extract start a b
+step_holds h (KilledPublish batch time calls) (Refused fault) given dir save changes extract start a b apart s t x =
+    let done = publish_stopped (hist.published_of h) (hist.is_file_lost h) (hist.standing_of h) given dir save changes extract start a b
     batch time calls fault apart s.agrees t.0 in
     record { agrees = done.0; allowed = (done.1, s.allowed); reported = s.reported; exported = x ∙ s.exported }
-step_holds h (KilledPublish batch time calls) r dir save changes extract start a b apart s t x = absurd t.0
-step_holds h (PublishAs batch time n) (Published report) dir save changes extract start a b apart s t x =
-    let done = number_more None h dir save changes extract start a b batch time n report apart s.agrees t in
+step_holds h (KilledPublish batch time calls) r given dir save changes extract start a b apart s t x = absurd t.0
+step_holds h (PublishAs batch time n) (Published report) given dir save changes extract start a b apart s t x =
+    let done = number_more None h given dir save changes extract start a b batch time n report apart s.agrees t in
     record { agrees = done.0; allowed = (done.1, s.allowed); reported = s.reported; exported = x ∙ s.exported }
-step_holds h (PublishAs batch time n) (Refused fault) dir save changes extract start a b apart s t x =
+step_holds h (PublishAs batch time n) (Refused fault) given dir save changes extract start a b apart s t x =
     let u = refused_unlimited dir changes batch time n fault a b t in
-    let done = number_refused h dir save changes extract start a b batch time n 0 fault apart s.agrees u.0 in
+    let done = number_refused h given dir save changes extract start a b batch time n 0 fault apart s.agrees u.0 in
     record { agrees = done.0; allowed = (number_not_killed h batch time n 0 fault u.1 done.1, s.allowed); reported = s.reported; exported = x ∙ s.exported }
-step_holds h (PublishAs batch time n) (CutOff fault O5c) dir save changes extract start a b apart s t x =
+step_holds h (PublishAs batch time n) (CutOff fault O5c) given dir save changes extract start a b apart s t x =
     let u = step_unlimited dir changes batch time n fault (files_of a.store) (files_of b.store) t.0 in
-    let done = number_cut h dir save changes extract start a b batch time n 0 fault true t.1.0 O5c apart s.agrees refl u.0 t.1.1 t.2 in
+    let done = number_cut h given dir save changes extract start a b batch time n 0 fault true t.1.0 O5c apart s.agrees refl u.0 t.1.1 t.2 in
     record {
       agrees = done.0;
       allowed = ((cut_unlimited n 0 done.1.0 fault u.1 done.1.1, (done.1.0, done.1.2)), s.allowed);
       reported = s.reported;
       exported = x ∙ s.exported;
     }
-step_holds h (PublishAs batch time n) (CutOff fault Opl) dir save changes extract start a b apart s t x =
+step_holds h (PublishAs batch time n) (CutOff fault Opl) given dir save changes extract start a b apart s t x =
     let u = step_unlimited dir changes batch time n fault (files_of a.store) (files_of b.store) t.0 in
-    let done = number_cut h dir save changes extract start a b batch time n 0 fault false true Opl apart s.agrees refl u.0 t.1 t.2 in
+    let done = number_cut h given dir save changes extract start a b batch time n 0 fault false true Opl apart s.agrees refl u.0 t.1 t.2 in
     record {
       agrees = done.0;
       allowed = ((cut_unlimited n 0 done.1.0 fault u.1 done.1.1, (done.1.0, done.1.2)), s.allowed);
       reported = s.reported;
       exported = x ∙ s.exported;
     }
-step_holds h (PublishAs batch time n) r dir save changes extract start a b apart s t x = absurd t
-step_holds h (KilledPublishAs batch time n calls) (Published report) dir save changes extract start a b apart s t x =
-    let done = number_more (Some calls) h dir save changes extract start a b batch time n report apart s.agrees t in
+step_holds h (PublishAs batch time n) r given dir save changes extract start a b apart s t x = absurd t
+step_holds h (KilledPublishAs batch time n calls) (Published report) given dir save changes extract start a b apart s t x =
+    let done = number_more (Some calls) h given dir save changes extract start a b batch time n report apart s.agrees t in
     record { agrees = done.0; allowed = ((done.1, done.2), s.allowed); reported = s.reported; exported = x ∙ s.exported }
-step_holds h (KilledPublishAs batch time n calls) (Refused fault) dir save changes extract start a b apart s t x =
-    let done = number_refused h dir save changes extract start a b batch time n calls fault apart s.agrees t in
+step_holds h (KilledPublishAs batch time n calls) (Refused fault) given dir save changes extract start a b apart s t x =
+    let done = number_refused h given dir save changes extract start a b batch time n calls fault apart s.agrees t in
     record { agrees = done.0; allowed = (done.1, s.allowed); reported = s.reported; exported = x ∙ s.exported }
-step_holds h (KilledPublishAs batch time n calls) (CutOff fault O5c) dir save changes extract start a b apart s t x =
-    let done = number_cut h dir save changes extract start a b batch time n calls fault true t.1.0 O5c apart s.agrees refl t.0 t.1.1 t.2 in
+step_holds h (KilledPublishAs batch time n calls) (CutOff fault O5c) given dir save changes extract start a b apart s t x =
+    let done = number_cut h given dir save changes extract start a b batch time n calls fault true t.1.0 O5c apart s.agrees refl t.0 t.1.1 t.2 in
     record { agrees = done.0; allowed = (done.1, s.allowed); reported = s.reported; exported = x ∙ s.exported }
-step_holds h (KilledPublishAs batch time n calls) (CutOff fault Opl) dir save changes extract start a b apart s t x =
-    let done = number_cut h dir save changes extract start a b batch time n calls fault false true Opl apart s.agrees refl t.0 t.1 t.2 in
+step_holds h (KilledPublishAs batch time n calls) (CutOff fault Opl) given dir save changes extract start a b apart s t x =
+    let done = number_cut h given dir save changes extract start a b batch time n calls fault false true Opl apart s.agrees refl t.0 t.1 t.2 in
     record { agrees = done.0; allowed = (done.1, s.allowed); reported = s.reported; exported = x ∙ s.exported }
-step_holds h (KilledPublishAs batch time n calls) r dir save changes extract start a b apart s t x = absurd t
-step_holds h Follow (Followed report) dir save changes extract start a b apart s t x =
-    let done = follow_more h dir save changes extract start a b report apart s.agrees t.0 in
+step_holds h (KilledPublishAs batch time n calls) r given dir save changes extract start a b apart s t x = absurd t
+step_holds h Follow (Followed report) given dir save changes extract start a b apart s t x =
+    let done = follow_more h given dir save changes extract start a b report apart s.agrees t.0 in
     record {
       agrees = done.0;
       allowed = (done.1, s.allowed);
       reported =
           reports_more h report done.2 (few (hist.published_of h) s.agrees.folder.sequences)
-          (base_below (hist.published_of h) (hist.base_of h) (hist.number_of h) (files_of a.store save) s.agrees.saved.save_is) done.1 s.reported;
+          (base_below (hist.published_of h) given (hist.base_of h) (hist.number_of h) (files_of a.store save) s.agrees.saved.save_is) done.1 s.reported;
       exported = x ∙ s.exported;
     }
-step_holds h Follow (Refused fault) dir save changes extract start a b apart s t x =
-    let done = follow_stopped (hist.published_of h) (hist.is_file_lost h) (hist.standing_of h) dir save changes extract start a b
+step_holds h Follow (Refused fault) given dir save changes extract start a b apart s t x =
+    let done = follow_stopped (hist.published_of h) (hist.is_file_lost h) (hist.standing_of h) given dir save changes extract start a b
     0 fault (no_device_lacks (follow_calls (hist.published_of h) (hist.number_of h)) (Some 0) fault t.1) s.agrees
     t.0 in
     record {
       agrees = done.0;
       allowed = (
-        not_killed_follow (hist.published_of h) (hist.number_of h) 0 fault t.1 done.1,
+        not_killed_follow (hist.published_of h) given (hist.number_of h) 0 fault t.1 done.1,
         s.allowed,
       );
       reported = s.reported;
       exported = x ∙ s.exported;
     }
-step_holds h Follow r dir save changes extract start a b apart s t x = absurd t.0
-step_holds h (KilledFollow calls) (Followed report) dir save changes extract start a b apart s t x =
-    let done = follow_more h dir save changes extract start a b report apart s.agrees t.0 in
+step_holds h Follow r given dir save changes extract start a b apart s t x = absurd t.0
+step_holds h (KilledFollow calls) (Followed report) given dir save changes extract start a b apart s t x =
+    let done = follow_more h given dir save changes extract start a b report apart s.agrees t.0 in
     record {
       agrees = done.0;
       allowed = ((done.1, t.1), s.allowed);
       reported =
           reports_more h report done.2 (few (hist.published_of h) s.agrees.folder.sequences)
-          (base_below (hist.published_of h) (hist.base_of h) (hist.number_of h) (files_of a.store save) s.agrees.saved.save_is) done.1 s.reported;
+          (base_below (hist.published_of h) given (hist.base_of h) (hist.number_of h) (files_of a.store save) s.agrees.saved.save_is) done.1 s.reported;
       exported = x ∙ s.exported;
     }
-step_holds h (KilledFollow calls) (Refused fault) dir save changes extract start a b apart s t x =
-    let done = follow_stopped (hist.published_of h) (hist.is_file_lost h) (hist.standing_of h) dir save changes extract start a b
+step_holds h (KilledFollow calls) (Refused fault) given dir save changes extract start a b apart s t x =
+    let done = follow_stopped (hist.published_of h) (hist.is_file_lost h) (hist.standing_of h) given dir save changes extract start a b
     calls fault (t.1 (hist.published_of h) (hist.base_of h) (hist.number_of h) s.agrees.folder s.agrees.saved.save_is) s.agrees t.0 in
     record { agrees = done.0; allowed = (done.1, s.allowed); reported = s.reported; exported = x ∙ s.exported }
-step_holds h (KilledFollow calls) r dir save changes extract start a b apart s t x = absurd t.0
-step_holds h (FollowSpoiled k suffix) (Followed report) dir save changes extract start a b apart s t x =
-    let done = spoiled_more h dir save changes extract start a b k suffix report apart s.agrees t.0 in
+step_holds h (KilledFollow calls) r given dir save changes extract start a b apart s t x = absurd t.0
+step_holds h (FollowOther other) (Followed report) given dir save changes extract start a b apart s t x =
+    let run = t.answered in
+    absurd (not_followed given other (hist.published_of h) (hist.base_of h) (hist.number_of h) dir save (files_of a.store) run.there
+    s.agrees.saved.save_is run.differs (files_of b.store) report (run.done refl))
+step_holds h (FollowOther other) (FollowedBefore report fault) given dir save changes extract start a b apart s t x =
+    let run = t.answered in
+    absurd (not_before given other (hist.published_of h) (hist.base_of h) (hist.number_of h) dir save (files_of a.store) run.there
+    s.agrees.saved.save_is run.differs (files_of b.store) fault report (run.done refl))
+step_holds h (FollowOther other) (Refused fault) given dir save changes extract start a b apart s t x =
+    let done = other_stopped h other given dir save changes extract start a b fault s.agrees t in
+    record { agrees = done.0; allowed = (done.1, s.allowed); reported = s.reported; exported = x ∙ s.exported }
+step_holds h (FollowOther other) NotThere given dir save changes extract start a b apart s t x =
+    let done = nothing_other h other given dir save changes extract start a b s.agrees t in
+    record { agrees = done.0; allowed = (done.1, s.allowed); reported = s.reported; exported = x ∙ s.exported }
+step_holds h (FollowOther other) r given dir save changes extract start a b apart s t x = absurd t
+step_holds h (FollowSpoiled k suffix) (Followed report) given dir save changes extract start a b apart s t x =
+    let done = spoiled_more h given dir save changes extract start a b k suffix report apart s.agrees t.0 in
     record {
       agrees = done.0;
       allowed = (done.1, s.allowed);
       reported =
           reports_more h report done.2 (few (hist.published_of h) s.agrees.folder.sequences)
-          (base_below (hist.published_of h) (hist.base_of h) (hist.number_of h) (files_of a.store save) s.agrees.saved.save_is) done.1.1 s.reported;
+          (base_below (hist.published_of h) given (hist.base_of h) (hist.number_of h) (files_of a.store save) s.agrees.saved.save_is) done.1.1 s.reported;
       exported = x ∙ s.exported;
     }
-step_holds h (FollowSpoiled k suffix) (FollowedBefore report fault) dir save changes extract start a b apart s t x =
-    let done = spoiled_short h dir save changes extract start a b k suffix report fault apart s.agrees t.0 s.reported in
+step_holds h (FollowSpoiled k suffix) (FollowedBefore report fault) given dir save changes extract start a b apart s t x =
+    let done = spoiled_short h given dir save changes extract start a b k suffix report fault apart s.agrees t.0 s.reported in
     record { agrees = done.0; allowed = (done.1, s.allowed); reported = done.2; exported = x ∙ s.exported }
-step_holds h (FollowSpoiled k suffix) (Refused fault) dir save changes extract start a b apart s t x =
-    let done = spoiled_stopped h dir save changes extract start a b k suffix fault apart s.agrees t.0 in
+step_holds h (FollowSpoiled k suffix) (Refused fault) given dir save changes extract start a b apart s t x =
+    let done = spoiled_stopped h given dir save changes extract start a b k suffix fault apart s.agrees t.0 in
     record {
       agrees = done.0;
-      allowed = (not_killed_spoiled h k suffix fault t.1 done.1, s.allowed);
+      allowed = (not_killed_spoiled given h k suffix fault t.1 done.1, s.allowed);
       reported = s.reported;
       exported = x ∙ s.exported;
     }
-step_holds h (FollowSpoiled k suffix) NotThere dir save changes extract start a b apart s t x =
-    let done = nothing_to_spoil h dir save changes extract start a b k suffix s.agrees t.0 in
+step_holds h (FollowSpoiled k suffix) NotThere given dir save changes extract start a b apart s t x =
+    let done = nothing_to_spoil h given dir save changes extract start a b k suffix s.agrees t.0 in
     record { agrees = done.0; allowed = (done.1, s.allowed); reported = s.reported; exported = x ∙ s.exported }
-step_holds h (FollowSpoiled k suffix) r dir save changes extract start a b apart s t x = absurd t.0
-step_holds h (KilledFollowSpoiled k suffix calls) (Followed report) dir save changes extract start a b apart s t x =
-    let done = spoiled_more h dir save changes extract start a b k suffix report apart s.agrees t.0 in
+step_holds h (FollowSpoiled k suffix) r given dir save changes extract start a b apart s t x = absurd t.0
+step_holds h (KilledFollowSpoiled k suffix calls) (Followed report) given dir save changes extract start a b apart s t x =
+    let done = spoiled_more h given dir save changes extract start a b k suffix report apart s.agrees t.0 in
     record {
       agrees = done.0;
       allowed = ((done.1, t.1), s.allowed);
       reported =
           reports_more h report done.2 (few (hist.published_of h) s.agrees.folder.sequences)
-          (base_below (hist.published_of h) (hist.base_of h) (hist.number_of h) (files_of a.store save) s.agrees.saved.save_is) done.1.1 s.reported;
+          (base_below (hist.published_of h) given (hist.base_of h) (hist.number_of h) (files_of a.store save) s.agrees.saved.save_is) done.1.1 s.reported;
       exported = x ∙ s.exported;
     }
-step_holds h (KilledFollowSpoiled k suffix calls) (FollowedBefore report fault) dir save changes extract start a b apart s t x =
-    let done = spoiled_short h dir save changes extract start a b k suffix report fault apart s.agrees t.0 s.reported in
+step_holds h (KilledFollowSpoiled k suffix calls) (FollowedBefore report fault) given dir save changes extract start a b apart s t x =
+    let done = spoiled_short h given dir save changes extract start a b k suffix report fault apart s.agrees t.0 s.reported in
     record { agrees = done.0; allowed = ((done.1, t.1), s.allowed); reported = done.2; exported = x ∙ s.exported }
-step_holds h (KilledFollowSpoiled k suffix calls) (Refused fault) dir save changes extract start a b apart s t x =
-    let done = spoiled_stopped h dir save changes extract start a b k suffix fault apart s.agrees t.0 in
+step_holds h (KilledFollowSpoiled k suffix calls) (Refused fault) given dir save changes extract start a b apart s t x =
+    let done = spoiled_stopped h given dir save changes extract start a b k suffix fault apart s.agrees t.0 in
     record { agrees = done.0; allowed = (done.1, s.allowed); reported = s.reported; exported = x ∙ s.exported }
-step_holds h (KilledFollowSpoiled k suffix calls) NotThere dir save changes extract start a b apart s t x =
-    let done = nothing_to_spoil h dir save changes extract start a b k suffix s.agrees t.0 in
+step_holds h (KilledFollowSpoiled k suffix calls) NotThere given dir save changes extract start a b apart s t x =
+    let done = nothing_to_spoil h given dir save changes extract start a b k suffix s.agrees t.0 in
     record { agrees = done.0; allowed = (done.1, s.allowed); reported = s.reported; exported = x ∙ s.exported }
-step_holds h (KilledFollowSpoiled k suffix calls) r dir save changes extract start a b apart s t x = absurd t.0
-step_holds h Export (Exported report) dir save changes extract start a b apart s t x =
-    let done = export_more h dir save changes extract start a b report apart s.agrees t.0 in
+step_holds h (KilledFollowSpoiled k suffix calls) r given dir save changes extract start a b apart s t x = absurd t.0
+step_holds h Export (Exported report) given dir save changes extract start a b apart s t x =
+    let done = export_more h given dir save changes extract start a b report apart s.agrees t.0 in
     record { agrees = done.0; allowed = ((done.1, done.2), s.allowed); reported = s.reported; exported = done.3 }
-step_holds h Export (Refused fault) dir save changes extract start a b apart s t x =
-    let done = export_stopped h dir save changes extract start a b 0 fault (no_device_lacks 2 (Some 0) fault t.1) s.agrees t.0 in
+step_holds h Export (Refused fault) given dir save changes extract start a b apart s t x =
+    let done = export_stopped h given dir save changes extract start a b 0 fault (no_device_lacks 2 (Some 0) fault t.1) s.agrees t.0 in
     record {
       agrees = done.0;
-      allowed = (not_killed_export h extract 0 fault t.1 done.1, s.allowed);
+      allowed = (not_killed_export given h extract 0 fault t.1 done.1, s.allowed);
       reported = s.reported;
       exported = x ∙ s.exported;
     }
-step_holds h Export r dir save changes extract start a b apart s t x = absurd t.0
-step_holds h (KilledExport calls) (Exported report) dir save changes extract start a b apart s t x =
-    let done = export_more h dir save changes extract start a b report apart s.agrees t.0 in
+step_holds h Export r given dir save changes extract start a b apart s t x = absurd t.0
+step_holds h (KilledExport calls) (Exported report) given dir save changes extract start a b apart s t x =
+    let done = export_more h given dir save changes extract start a b report apart s.agrees t.0 in
     record { agrees = done.0; allowed = ((done.1, done.2, t.1), s.allowed); reported = s.reported; exported = done.3 }
-step_holds h (KilledExport calls) (Refused fault) dir save changes extract start a b apart s t x =
-    let done = export_stopped h dir save changes extract start a b calls fault t.1 s.agrees t.0 in
+step_holds h (KilledExport calls) (Refused fault) given dir save changes extract start a b apart s t x =
+    let done = export_stopped h given dir save changes extract start a b calls fault t.1 s.agrees t.0 in
     record { agrees = done.0; allowed = (done.1, s.allowed); reported = s.reported; exported = x ∙ s.exported }
-step_holds h (KilledExport calls) r dir save changes extract start a b apart s t x = absurd t.0
-step_holds h Begin (Begun report) dir save changes extract start a b apart s t x =
-    let done = begin_more h dir save changes extract start a b report apart s t.0 in
+step_holds h (KilledExport calls) r given dir save changes extract start a b apart s t x = absurd t.0
+step_holds h Begin (Begun report) given dir save changes extract start a b apart s t x =
+    let done = begin_more h given dir save changes extract start a b report apart s t.0 in
     record {
       agrees = done.0;
       allowed = ((done.1, done.2), s.allowed);
       reported = none_reported (hist.beginning_of h);
       exported = x ∙ s.exported;
     }
-step_holds h Begin (Refused fault) dir save changes extract start a b apart s t x =
-    let done = begin_stopped h dir save changes extract start a b 0 fault (no_device_lacks 3 (Some 0) fault t.1) s t.0 in
+step_holds h Begin (Refused fault) given dir save changes extract start a b apart s t x =
+    let done = begin_stopped h given dir save changes extract start a b 0 fault (no_device_lacks 3 (Some 0) fault t.1) s t.0 in
     record {
       agrees = done.0;
-      allowed = (not_killed_begin h extract 0 fault t.1 done.1, s.allowed);
+      allowed = (not_killed_begin given h extract 0 fault t.1 done.1, s.allowed);
       reported = s.reported;
       exported = x ∙ s.exported;
     }
-step_holds h Begin r dir save changes extract start a b apart s t x = absurd t.0
-step_holds h (KilledBegin calls) (Begun report) dir save changes extract start a b apart s t x =
-    let done = begin_more h dir save changes extract start a b report apart s t.0 in
+step_holds h Begin r given dir save changes extract start a b apart s t x = absurd t.0
+step_holds h (KilledBegin calls) (Begun report) given dir save changes extract start a b apart s t x =
+    let done = begin_more h given dir save changes extract start a b report apart s t.0 in
     record {
       agrees = done.0;
       allowed = ((done.1, done.2, t.1), s.allowed);
       reported = none_reported (hist.beginning_of h);
       exported = x ∙ s.exported;
     }
-step_holds h (KilledBegin calls) (Refused fault) dir save changes extract start a b apart s t x =
-    let done = begin_stopped h dir save changes extract start a b calls fault t.1 s t.0 in
+step_holds h (KilledBegin calls) (Refused fault) given dir save changes extract start a b apart s t x =
+    let done = begin_stopped h given dir save changes extract start a b calls fault t.1 s t.0 in
     record { agrees = done.0; allowed = (done.1, s.allowed); reported = s.reported; exported = x ∙ s.exported }
-step_holds h (KilledBegin calls) r dir save changes extract start a b apart s t x = absurd t.0
-step_holds h (Lose n suffix) Lost dir save changes extract start a b apart s (move, same) x =
+step_holds h (KilledBegin calls) r given dir save changes extract start a b apart s t x = absurd t.0
+step_holds h (Lose n suffix) Lost given dir save changes extract start a b apart s (move, same) x =
     let n_is = s.agrees.number in
     let within : n ≤ length (hist.published_of h) = omega (arith, n_is, move.0.1) in
-    let done = lost_agrees (hist.published_of h) (hist.is_file_lost h) (hist.standing_of h) dir save changes extract start
+    let done = lost_agrees (hist.published_of h) (hist.is_file_lost h) (hist.standing_of h) given dir save changes extract start
     (files_of a.store) (files_of a.lost) (files_of b.store) (files_of b.lost) a.published n suffix apart move.0.0
     within move.1 s.agrees in
     record {
       agrees = quiet (hist.published_of h) (λ i t. if hist.same_file n suffix i t then true else hist.is_file_lost h i
-          t) (hist.standing_of h) dir save changes extract start (files_of b.store) (files_of b.lost) b.published
+          t) (hist.standing_of h) given dir save changes extract start (files_of b.store) (files_of b.lost) b.published
           (renewed (hist.published_of h) (λ i t. if hist.same_file n suffix i t then true else hist.is_file_lost h i t)
-          (hist.standing_of h) dir save changes extract start (files_of b.store) (files_of b.lost) (files_of b.store)
+          (hist.standing_of h) given dir save changes extract start (files_of b.store) (files_of b.lost) (files_of b.store)
           (files_of b.lost) a.published b.published refl refl same done.0);
       allowed = (((move.0.0, within), done.1), s.allowed);
       reported = s.reported;
       exported = x ∙ s.exported;
     }
-step_holds h (Lose n suffix) NotThere dir save changes extract start a b apart s t x = record {
-  agrees = still h dir save changes extract start a b s.agrees t.1 t.2 t.3;
+step_holds h (Lose n suffix) NotThere given dir save changes extract start a b apart s t x = record {
+  agrees = still h given dir save changes extract start a b s.agrees t.1 t.2 t.3;
   allowed = (
     elim t.0 [
       | inl none ↦ inl (no_number h a.published n s.agrees.number (few (hist.published_of h) s.agrees.folder.sequences) none)
@@ -933,31 +990,31 @@ step_holds h (Lose n suffix) NotThere dir save changes extract start a b apart s
   reported = s.reported;
   exported = x ∙ s.exported;
 }
-step_holds h (Lose n suffix) (Refused fault) dir save changes extract start a b apart s t x = record {
-  agrees = still h dir save changes extract start a b s.agrees t.1 t.2 t.3;
+step_holds h (Lose n suffix) (Refused fault) given dir save changes extract start a b apart s t x = record {
+  agrees = still h given dir save changes extract start a b s.agrees t.1 t.2 t.3;
   allowed = (t.0, s.allowed);
   reported = s.reported;
   exported = x ∙ s.exported;
 }
-step_holds h (Lose n suffix) r dir save changes extract start a b apart s t x = absurd t
-step_holds h (PutBack n suffix) IsBack dir save changes extract start a b apart s (move, same) x =
+step_holds h (Lose n suffix) r given dir save changes extract start a b apart s t x = absurd t
+step_holds h (PutBack n suffix) IsBack given dir save changes extract start a b apart s (move, same) x =
     let n_is = s.agrees.number in
     let within : n ≤ length (hist.published_of h) = omega (arith, n_is, move.0.1) in
-    let done = back_agrees (hist.published_of h) (hist.is_file_lost h) (hist.standing_of h) dir save changes extract start
+    let done = back_agrees (hist.published_of h) (hist.is_file_lost h) (hist.standing_of h) given dir save changes extract start
     (files_of a.store) (files_of a.lost) (files_of b.store) (files_of b.lost) a.published n suffix apart move.0.0
     within move.1 s.agrees in
     record {
       agrees = quiet (hist.published_of h) (λ i t. if hist.same_file n suffix i t then false else hist.is_file_lost h i
-          t) (hist.standing_of h) dir save changes extract start (files_of b.store) (files_of b.lost) b.published
+          t) (hist.standing_of h) given dir save changes extract start (files_of b.store) (files_of b.lost) b.published
           (renewed (hist.published_of h) (λ i t. if hist.same_file n suffix i t then false else hist.is_file_lost h i t)
-          (hist.standing_of h) dir save changes extract start (files_of b.store) (files_of b.lost) (files_of b.store)
+          (hist.standing_of h) given dir save changes extract start (files_of b.store) (files_of b.lost) (files_of b.store)
           (files_of b.lost) a.published b.published refl refl same done.0);
       allowed = (((move.0.0, within), done.1), s.allowed);
       reported = s.reported;
       exported = x ∙ s.exported;
     }
-step_holds h (PutBack n suffix) NotThere dir save changes extract start a b apart s t x = record {
-  agrees = still h dir save changes extract start a b s.agrees t.1 t.2 t.3;
+step_holds h (PutBack n suffix) NotThere given dir save changes extract start a b apart s t x = record {
+  agrees = still h given dir save changes extract start a b s.agrees t.1 t.2 t.3;
   allowed = (
     elim t.0 [
       | inl none ↦ inl (no_number h a.published n s.agrees.number (few (hist.published_of h) s.agrees.folder.sequences) none)
@@ -970,18 +1027,18 @@ step_holds h (PutBack n suffix) NotThere dir save changes extract start a b apar
   reported = s.reported;
   exported = x ∙ s.exported;
 }
-step_holds h (PutBack n suffix) (Refused fault) dir save changes extract start a b apart s t x = record {
-  agrees = still h dir save changes extract start a b s.agrees t.1 t.2 t.3;
+step_holds h (PutBack n suffix) (Refused fault) given dir save changes extract start a b apart s t x = record {
+  agrees = still h given dir save changes extract start a b s.agrees t.1 t.2 t.3;
   allowed = (t.0, s.allowed);
   reported = s.reported;
   exported = x ∙ s.exported;
 }
-step_holds h (PutBack n suffix) r dir save changes extract start a b apart s t x = absurd t
+step_holds h (PutBack n suffix) r given dir save changes extract start a b apart s t x = absurd t
 
 -- before any operation
-pub starts_hold : (dir save changes extract : List ℕ) (w : World) → IsNew dir save (files_of w.store)
-    → files_of w.lost ≡ (λ name. None) → w.published ≡ 0 → w.exported ≡ 0 → Holds [] dir save changes extract (files_of w.store) w
-starts_hold dir save changes extract w new none zero_is none_exported = record {
+pub starts_hold : (given : FilterValue) (dir save changes extract : List ℕ) (w : World) → IsNew dir save (files_of w.store)
+    → files_of w.lost ≡ (λ name. None) → w.published ≡ 0 → w.exported ≡ 0 → Holds [] given dir save changes extract (files_of w.store) w
+starts_hold given dir save changes extract w new none zero_is none_exported = record {
   agrees = record {
     folder = record {
       sequences = λ k above within. absurd (omega arith);
@@ -995,11 +1052,11 @@ starts_hold dir save changes extract w new none zero_is none_exported = record {
     zero = new.zero;
     saved = record {
       save_is = record {
-        value = no_save;
+        value = no_save given;
         saved = rw new.saved refl;
         base_is = refl;
         number_is = refl;
-        in_step = record { within = omega arith; base = omega arith; filter_is = refl; mirror = mirror_of-nil everything; time = refl };
+        in_step = record { within = omega arith; base = omega arith; filter_is = refl; mirror = mirror_of-nil given; time = refl };
       };
       is_there = ap is_none new.saved;
       extract_is = refl;
@@ -1025,10 +1082,10 @@ pub history_of-snoc : (es : List Operation) (rs : List Reply) (e : Operation) (r
 history_of-snoc es rs e r h = rw (zip-snoc es rs e r h) (reverse-append (zip es rs) ((e, r) ∷ []))
 
 -- what a run says at its end
-pub holds_at_end : (operations : List Operation) (replies : List Reply) (dir save changes extract : List ℕ) (start : Files)
-    (w : World) → Holds (hist.history_of operations replies) dir save changes extract start w
-    → IsRun operations replies dir save changes extract start (files_of w.store)
-holds_at_end operations replies dir save changes extract start w s = record {
+pub holds_at_end : (operations : List Operation) (replies : List Reply) (given : FilterValue) (dir save changes extract : List ℕ) (start : Files)
+    (w : World) → Holds (hist.history_of operations replies) given dir save changes extract start w
+    → IsRun given operations replies dir save changes extract start (files_of w.store)
+holds_at_end operations replies given dir save changes extract start w s = record {
   allowed = s.allowed;
   in_step = record {
     folder = s.agrees.folder;

@@ -1,10 +1,12 @@
 -- Which reply may follow a history. The rows of an operation exclude one another, except that
 -- memory may be refused instead, that a run may be killed, and that of a lost number the state may
 -- be read or not.
-use Rattle.std.specs.Prelude.{◌≡◌, ℕ, ◌+◌, ◌-◌, ◌<◌, ◌≤◌, ◌⊎◌, length, List, [], ◌∷◌, true, false}
+use Rattle.std.specs.Prelude.{◌≡◌, ◌≢◌, ℕ, ◌+◌, ◌-◌, ◌<◌, ◌≤◌, ◌⊎◌, length, List, [], ◌∷◌}
+use Rattle.std.specs.Prelude.{true, false}
 use Rattle.osm_model.specs.Change.{ChangeValue}
 use Rattle.osm_model.specs.Content.{content_of}
 use Rattle.osm_model.specs.Data.{IsData}
+use Rattle.osm_model.specs.Filter.{FilterValue, kept}
 use Rattle.osm_model.specs.Limits.{max_file, max_sequence}
 use Rattle.osm_model.specs.declared.kind.Key.{Key}
 use Rattle.osm_mirror.specs.Mirror.{object_at}
@@ -28,7 +30,7 @@ use Rattle.osm_folder.specs.declared.fault.RunFault.TheVariants.{WantOfMemory, R
 use Rattle.osm_folder.specs.declared.fault.RunFault.TheVariants.{WriteFault, TooLarge, Absent}
 use Rattle.osm_folder.specs.declared.fault.RunFault.TheVariants.{TimeBack, SequenceFull, BadNow}
 use Rattle.osm_folder.specs.declared.fault.RunFault.TheVariants.{BadSequence, Differs, TopAt}
-use Rattle.osm_folder.specs.declared.fault.RunFault.TheVariants.{UnknownForm}
+use Rattle.osm_folder.specs.declared.fault.RunFault.TheVariants.{UnknownForm, OtherFilter}
 use Rattle.osm_operations.specs.History.{History, published_of, is_file_lost, number_of}
 use Rattle.osm_operations.specs.History.{is_number_lost, count_after, lost_after, is_saved}
 use Rattle.osm_operations.specs.History.{beginning_of}
@@ -40,6 +42,7 @@ use Rattle.osm_operations.specs.declared.operation.Operation.TheVariants.{Killed
 use Rattle.osm_operations.specs.declared.operation.Operation.TheVariants.{Follow, KilledFollow}
 use Rattle.osm_operations.specs.declared.operation.Operation.TheVariants.{FollowSpoiled}
 use Rattle.osm_operations.specs.declared.operation.Operation.TheVariants.{KilledFollowSpoiled}
+use Rattle.osm_operations.specs.declared.operation.Operation.TheVariants.{FollowOther}
 use Rattle.osm_operations.specs.declared.operation.Operation.TheVariants.{Export, KilledExport}
 use Rattle.osm_operations.specs.declared.operation.Operation.TheVariants.{Begin, KilledBegin}
 use Rattle.osm_operations.specs.declared.operation.Operation.TheVariants.{Lose, PutBack}
@@ -109,62 +112,66 @@ KilledNumberedRefused h changes time n calls (WriteFault file) =
     × (file ≡ file_after n count)
 KilledNumberedRefused h changes time n calls fault = NumberedRefused h changes time n fault
 
--- the save text of a follower of the published sequences passes 1 GiB
-pub record HasBigSave (published : List PublishedValue) : Type 0 where
+-- the save text of a follower of the published sequences under the filter passes 1 GiB
+pub record HasBigSave (published : List PublishedValue) (given : FilterValue) : Type 0 where
   pub value : Saved
   pub text : List ℕ
-  pub in_step : IsInStep published value
+  pub in_step : IsInStep published given value
   pub spelled : SpellsSave text value
   pub over : max_save < length text
 
 -- why a run of the follower that isn't killed isn't done: never for a file of the folder, nor for
 -- its save
-abbrev pub FollowingRefused : List PublishedValue → RunFault → Type 0
-FollowingRefused published WantOfMemory = Unit {0}
-FollowingRefused published (Absent file) = (file ≡ Top) × (length published ≡ 0)
-FollowingRefused published (TooLarge file) = (file ≡ Save) × HasBigSave published
-FollowingRefused published fault = ⊥
+abbrev pub FollowingRefused : List PublishedValue → FilterValue → RunFault → Type 0
+FollowingRefused published given WantOfMemory = Unit {0}
+FollowingRefused published given (Absent file) = (file ≡ Top) × (length published ≡ 0)
+FollowingRefused published given (TooLarge file) = (file ≡ Save) × HasBigSave published given
+FollowingRefused published given fault = ⊥
 
 -- why a run of the follower from that number that is killed after that many calls isn't done: for a
 -- call after the last one, if there were fewer than such a run may make; else only for what refuses
 -- a whole run
-abbrev pub KilledFollowingRefused : List PublishedValue → ℕ → ℕ → RunFault → Type 0
-KilledFollowingRefused published number calls (ReadFault file) =
+abbrev pub KilledFollowingRefused :
+    List PublishedValue → FilterValue → ℕ → ℕ → RunFault → Type 0
+KilledFollowingRefused published given number calls (ReadFault file) =
     calls < follow_calls published number
-KilledFollowingRefused published number calls (WriteFault file) =
+KilledFollowingRefused published given number calls (WriteFault file) =
     (file ≡ Save) × (calls < follow_calls published number)
-KilledFollowingRefused published number calls fault = FollowingRefused published fault
+KilledFollowingRefused published given number calls fault =
+    FollowingRefused published given fault
 
 -- the follower's number can be exported, or can't for its size: something was saved, the name tells
--- a form, and this holds of the data file of what published sequences 1 to the number leave
-pub record HasExport (h : History) (extract : List ℕ) (holds : List ℕ → Type 0) : Type 0 where
+-- a form, and this holds of the data file of what the filter keeps of what published sequences 1 to
+-- the number leave
+pub record HasExport (given : FilterValue) (h : History) (extract : List ℕ)
+    (holds : List ℕ → Type 0) : Type 0 where
   pub saved : is_saved h ≡ true
   pub named : HasDataForm extract
   pub objects : List ChangeValue
   pub are_data : IsData objects
-  pub content : (k : Key)
-      → object_at objects k ≡ content_of (changes_up_to (published_of h) (number_of h)) k
+  pub content : (k : Key) → object_at objects k
+      ≡ kept given (content_of (changes_up_to (published_of h) (number_of h))) k
   pub fits : holds (data_text_of named.form objects)
 
 -- why an export that isn't killed isn't done: for its name, since nothing was saved, or if what it
 -- exports passes 64 MiB; never for what the save says
-abbrev pub ExportRefused : History → List ℕ → RunFault → Type 0
-ExportRefused h extract WantOfMemory = Unit {0}
-ExportRefused h extract UnknownForm = HasNoDataForm extract
-ExportRefused h extract (Absent file) =
+abbrev pub ExportRefused : FilterValue → History → List ℕ → RunFault → Type 0
+ExportRefused given h extract WantOfMemory = Unit {0}
+ExportRefused given h extract UnknownForm = HasNoDataForm extract
+ExportRefused given h extract (Absent file) =
     (file ≡ Save) × HasDataForm extract × (is_saved h ≡ false)
-ExportRefused h extract (TooLarge file) =
-    (file ≡ Output) × HasExport h extract (λ text. max_file < length text)
-ExportRefused h extract fault = ⊥
+ExportRefused given h extract (TooLarge file) =
+    (file ≡ Output) × HasExport given h extract (λ text. max_file < length text)
+ExportRefused given h extract fault = ⊥
 
 -- why an export that is killed after that many calls isn't done: for a call after the last one, if
 -- there were fewer than it makes; else only for what refuses a whole one
-abbrev pub KilledExportRefused : History → List ℕ → ℕ → RunFault → Type 0
-KilledExportRefused h extract calls (ReadFault file) =
+abbrev pub KilledExportRefused : FilterValue → History → List ℕ → ℕ → RunFault → Type 0
+KilledExportRefused given h extract calls (ReadFault file) =
     (file ≡ Save) × HasDataForm extract × (calls < 2)
-KilledExportRefused h extract calls (WriteFault file) =
-    (file ≡ Output) × HasExport h extract (λ text. length text ≤ max_file) × (calls < 2)
-KilledExportRefused h extract calls fault = ExportRefused h extract fault
+KilledExportRefused given h extract calls (WriteFault file) =
+    (file ≡ Output) × HasExport given h extract (λ text. length text ≤ max_file) × (calls < 2)
+KilledExportRefused given h extract calls fault = ExportRefused given h extract fault
 
 -- a beginning has what it begins with: the name tells a form, and a number above 0 was exported,
 -- whose state is there
@@ -173,39 +180,42 @@ pub record HasBeginning (h : History) (extract : List ℕ) : Type 0 where
   pub above : 0 < beginning_of h
   pub there : is_file_lost h (beginning_of h) State ≡ false
 
--- the save text of a follower of the published sequences that begins at that number passes 1 GiB
-pub record HasBigBeginning (published : List PublishedValue) (number : ℕ) : Type 0 where
+-- the save text of a follower of the published sequences under the filter that begins at that
+-- number passes 1 GiB
+pub record HasBigBeginning (published : List PublishedValue) (given : FilterValue) (number : ℕ) :
+    Type 0 where
   pub value : Saved
   pub text : List ℕ
   pub base_is : value.base ≡ number
   pub number_is : value.number ≡ number
-  pub in_step : IsInStep published value
+  pub in_step : IsInStep published given value
   pub spelled : SpellsSave text value
   pub over : max_save < length text
 
 -- why a beginning that isn't killed isn't done: for its name, since no number above 0 was exported
 -- or the state of that number is lost, or for the size of its save; never for what the files say
-abbrev pub BeginRefused : History → List ℕ → RunFault → Type 0
-BeginRefused h extract WantOfMemory = Unit {0}
-BeginRefused h extract UnknownForm = HasNoDataForm extract
-BeginRefused h extract (Absent file) =
+abbrev pub BeginRefused : FilterValue → History → List ℕ → RunFault → Type 0
+BeginRefused given h extract WantOfMemory = Unit {0}
+BeginRefused given h extract UnknownForm = HasNoDataForm extract
+BeginRefused given h extract (Absent file) =
     (file ≡ files.State) × HasDataForm extract
     × ((beginning_of h ≡ 0) ⊎ (is_file_lost h (beginning_of h) State ≡ true))
-BeginRefused h extract (TooLarge file) =
-    (file ≡ Save) × HasBeginning h extract × HasBigBeginning (published_of h) (beginning_of h)
-BeginRefused h extract fault = ⊥
+BeginRefused given h extract (TooLarge file) =
+    (file ≡ Save) × HasBeginning h extract
+    × HasBigBeginning (published_of h) given (beginning_of h)
+BeginRefused given h extract fault = ⊥
 
 -- why a beginning that is killed after that many calls isn't done: for a call after the last one,
 -- if there were fewer than it makes; else only for what refuses a whole one
-abbrev pub KilledBeginRefused : History → List ℕ → ℕ → RunFault → Type 0
-KilledBeginRefused h extract calls (ReadFault files.State) =
+abbrev pub KilledBeginRefused : FilterValue → History → List ℕ → ℕ → RunFault → Type 0
+KilledBeginRefused given h extract calls (ReadFault files.State) =
     HasDataForm extract × (calls < 3)
-KilledBeginRefused h extract calls (ReadFault files.Base) =
+KilledBeginRefused given h extract calls (ReadFault files.Base) =
     HasBeginning h extract × (calls < 3)
-KilledBeginRefused h extract calls (ReadFault file) = ⊥
-KilledBeginRefused h extract calls (WriteFault file) =
+KilledBeginRefused given h extract calls (ReadFault file) = ⊥
+KilledBeginRefused given h extract calls (WriteFault file) =
     (file ≡ Save) × HasBeginning h extract × (calls < 3)
-KilledBeginRefused h extract calls fault = BeginRefused h extract fault
+KilledBeginRefused given h extract calls fault = BeginRefused given h extract fault
 
 -- what a publication prints: the next number
 abbrev pub publication_report : History → ReportValue
@@ -281,18 +291,33 @@ AllowedKilledPublishAs h changes time n calls (CutOff fault s) =
 AllowedKilledPublishAs h changes time n calls r = ⊥
 
 -- a run of the follower is done or refused
-abbrev pub AllowedFollow : History → Reply → Type 0
-AllowedFollow h (Followed report) = report ≡ following_report h
-AllowedFollow h (Refused fault) = FollowingRefused (published_of h) fault
-AllowedFollow h r = ⊥
+abbrev pub AllowedFollow : FilterValue → History → Reply → Type 0
+AllowedFollow given h (Followed report) = report ≡ following_report h
+AllowedFollow given h (Refused fault) = FollowingRefused (published_of h) given fault
+AllowedFollow given h r = ⊥
 
 -- a killed run that is done had at least as many calls as the fewest that it makes; one that the
 -- device refused had fewer than it may make
-abbrev pub AllowedKilledFollow : History → ℕ → Reply → Type 0
-AllowedKilledFollow h calls (Followed report) = (report ≡ following_report h) × (3 ≤ calls)
-AllowedKilledFollow h calls (Refused fault) =
-    KilledFollowingRefused (published_of h) (number_of h) calls fault
-AllowedKilledFollow h calls r = ⊥
+abbrev pub AllowedKilledFollow : FilterValue → History → ℕ → Reply → Type 0
+AllowedKilledFollow given h calls (Followed report) =
+    (report ≡ following_report h) × (3 ≤ calls)
+AllowedKilledFollow given h calls (Refused fault) =
+    KilledFollowingRefused (published_of h) given (number_of h) calls fault
+AllowedKilledFollow given h calls r = ⊥
+
+-- why a run of the follower under another filter than the save's isn't done
+abbrev pub OtherRefused : RunFault → Type 0
+OtherRefused WantOfMemory = Unit {0}
+OtherRefused OtherFilter = Unit {0}
+OtherRefused fault = ⊥
+
+-- a run of the follower under another filter is refused; none is made if nothing was saved, or if
+-- the filter is no other
+abbrev pub AllowedFollowOther : FilterValue → History → FilterValue → Reply → Type 0
+AllowedFollowOther given h other (Refused fault) =
+    (is_saved h ≡ true) × (other ≢ given) × OtherRefused fault
+AllowedFollowOther given h other NotThere = (is_saved h ≡ false) ⊎ (other ≡ given)
+AllowedFollowOther given h other r = ⊥
 
 -- the file of a number is that of a published one, and is there
 abbrev pub IsFileThere : History → ℕ → Suffix → Type 0
@@ -333,16 +358,16 @@ SpoiledBefore h n s report fault =
 
 -- why it isn't done: for the spoiled file, if its number is the follower's next one; else only for
 -- what refuses a run over the right file
-abbrev pub SpoiledRefused : History → ℕ → Suffix → RunFault → Type 0
-SpoiledRefused h n s fault =
-    FollowingRefused (published_of h) fault
+abbrev pub SpoiledRefused : FilterValue → History → ℕ → Suffix → RunFault → Type 0
+SpoiledRefused given h n s fault =
+    FollowingRefused (published_of h) given fault
     ⊎ (IsFileThere h n s × IsInTurn h n s × (n ≡ number_of h + 1) × IsSpoiledFault n s fault)
 
 -- why a killed one isn't done: for the device, else only for what refuses a whole one
-abbrev pub KilledSpoiledRefused : History → ℕ → Suffix → RunFault → Type 0
-KilledSpoiledRefused h n s (ReadFault file) = Unit {0}
-KilledSpoiledRefused h n s (WriteFault file) = file ≡ Save
-KilledSpoiledRefused h n s fault = SpoiledRefused h n s fault
+abbrev pub KilledSpoiledRefused : FilterValue → History → ℕ → Suffix → RunFault → Type 0
+KilledSpoiledRefused given h n s (ReadFault file) = Unit {0}
+KilledSpoiledRefused given h n s (WriteFault file) = file ≡ Save
+KilledSpoiledRefused given h n s fault = SpoiledRefused given h n s fault
 
 -- there is no file to spoil
 abbrev pub NothingToSpoil : History → ℕ → Suffix → Type 0
@@ -350,52 +375,55 @@ NothingToSpoil h n s =
     (n ≡ 0) ⊎ (length (published_of h) < n) ⊎ (is_file_lost h n s ≡ true)
 
 -- a run of the follower over a spoiled file is done, done up to it, or refused
-abbrev pub AllowedSpoiled : History → ℕ → Suffix → Reply → Type 0
-AllowedSpoiled h n s (Followed report) = SpoiledDone h n s report
-AllowedSpoiled h n s (FollowedBefore report fault) = SpoiledBefore h n s report fault
-AllowedSpoiled h n s (Refused fault) = SpoiledRefused h n s fault
-AllowedSpoiled h n s NotThere = NothingToSpoil h n s
-AllowedSpoiled h n s r = ⊥
+abbrev pub AllowedSpoiled : FilterValue → History → ℕ → Suffix → Reply → Type 0
+AllowedSpoiled given h n s (Followed report) = SpoiledDone h n s report
+AllowedSpoiled given h n s (FollowedBefore report fault) = SpoiledBefore h n s report fault
+AllowedSpoiled given h n s (Refused fault) = SpoiledRefused given h n s fault
+AllowedSpoiled given h n s NotThere = NothingToSpoil h n s
+AllowedSpoiled given h n s r = ⊥
 
 -- a killed one that is done had at least as many calls as the fewest that it makes
-abbrev pub AllowedKilledSpoiled : History → ℕ → Suffix → ℕ → Reply → Type 0
-AllowedKilledSpoiled h n s calls (Followed report) = SpoiledDone h n s report × (3 ≤ calls)
-AllowedKilledSpoiled h n s calls (FollowedBefore report fault) =
+abbrev pub AllowedKilledSpoiled : FilterValue → History → ℕ → Suffix → ℕ → Reply → Type 0
+AllowedKilledSpoiled given h n s calls (Followed report) =
+    SpoiledDone h n s report × (3 ≤ calls)
+AllowedKilledSpoiled given h n s calls (FollowedBefore report fault) =
     SpoiledBefore h n s report fault × (3 ≤ calls)
-AllowedKilledSpoiled h n s calls (Refused fault) = KilledSpoiledRefused h n s fault
-AllowedKilledSpoiled h n s calls NotThere = NothingToSpoil h n s
-AllowedKilledSpoiled h n s calls r = ⊥
+AllowedKilledSpoiled given h n s calls (Refused fault) = KilledSpoiledRefused given h n s fault
+AllowedKilledSpoiled given h n s calls NotThere = NothingToSpoil h n s
+AllowedKilledSpoiled given h n s calls r = ⊥
 
 -- an export is done or refused
-abbrev pub AllowedExport : History → List ℕ → Reply → Type 0
-AllowedExport h extract (Exported report) =
-    (report ≡ convert_report_of) × HasExport h extract (λ text. length text ≤ max_file)
-AllowedExport h extract (Refused fault) = ExportRefused h extract fault
-AllowedExport h extract r = ⊥
+abbrev pub AllowedExport : FilterValue → History → List ℕ → Reply → Type 0
+AllowedExport given h extract (Exported report) =
+    (report ≡ convert_report_of) × HasExport given h extract (λ text. length text ≤ max_file)
+AllowedExport given h extract (Refused fault) = ExportRefused given h extract fault
+AllowedExport given h extract r = ⊥
 
 -- a killed export that is done had at least as many calls as it makes; one that the device refused
 -- had fewer
-abbrev pub AllowedKilledExport : History → List ℕ → ℕ → Reply → Type 0
-AllowedKilledExport h extract calls (Exported report) =
-    (report ≡ convert_report_of) × HasExport h extract (λ text. length text ≤ max_file)
+abbrev pub AllowedKilledExport : FilterValue → History → List ℕ → ℕ → Reply → Type 0
+AllowedKilledExport given h extract calls (Exported report) =
+    (report ≡ convert_report_of) × HasExport given h extract (λ text. length text ≤ max_file)
     × (2 ≤ calls)
-AllowedKilledExport h extract calls (Refused fault) = KilledExportRefused h extract calls fault
-AllowedKilledExport h extract calls r = ⊥
+AllowedKilledExport given h extract calls (Refused fault) =
+    KilledExportRefused given h extract calls fault
+AllowedKilledExport given h extract calls r = ⊥
 
 -- a beginning is done or refused; it prints the number that was exported last
-abbrev pub AllowedBegin : History → List ℕ → Reply → Type 0
-AllowedBegin h extract (Begun report) =
+abbrev pub AllowedBegin : FilterValue → History → List ℕ → Reply → Type 0
+AllowedBegin given h extract (Begun report) =
     (report ≡ begin_report_of (beginning_of h)) × HasBeginning h extract
-AllowedBegin h extract (Refused fault) = BeginRefused h extract fault
-AllowedBegin h extract r = ⊥
+AllowedBegin given h extract (Refused fault) = BeginRefused given h extract fault
+AllowedBegin given h extract r = ⊥
 
 -- a killed beginning that is done had at least as many calls as it makes; one that the device
 -- refused had fewer
-abbrev pub AllowedKilledBegin : History → List ℕ → ℕ → Reply → Type 0
-AllowedKilledBegin h extract calls (Begun report) =
+abbrev pub AllowedKilledBegin : FilterValue → History → List ℕ → ℕ → Reply → Type 0
+AllowedKilledBegin given h extract calls (Begun report) =
     (report ≡ begin_report_of (beginning_of h)) × HasBeginning h extract × (3 ≤ calls)
-AllowedKilledBegin h extract calls (Refused fault) = KilledBeginRefused h extract calls fault
-AllowedKilledBegin h extract calls r = ⊥
+AllowedKilledBegin given h extract calls (Refused fault) =
+    KilledBeginRefused given h extract calls fault
+AllowedKilledBegin given h extract calls r = ⊥
 
 -- the number is that of a published sequence
 abbrev pub IsPublishedNumber : History → ℕ → Type 0
@@ -417,26 +445,28 @@ AllowedPutBack h n s NotThere = IsNoNumber h n ⊎ (is_file_lost h n s ≡ false
 AllowedPutBack h n s (Refused fault) = fault ≡ WantOfMemory
 AllowedPutBack h n s r = ⊥
 
--- the reply may follow the history at that operation, if exports and beginnings are of that file
-abbrev pub Allowed : List ℕ → History → Operation → Reply → Type 0
-Allowed extract h (Publish changes time) r = AllowedPublish h changes time r
-Allowed extract h (KilledPublish changes time calls) r =
+-- the reply may follow the history at that operation under the filter, if exports and beginnings
+-- are of that file
+abbrev pub Allowed : FilterValue → List ℕ → History → Operation → Reply → Type 0
+Allowed given extract h (Publish changes time) r = AllowedPublish h changes time r
+Allowed given extract h (KilledPublish changes time calls) r =
     AllowedKilledPublish h changes time calls r
-Allowed extract h (PublishAs changes time n) r = AllowedPublishAs h changes time n r
-Allowed extract h (KilledPublishAs changes time n calls) r =
+Allowed given extract h (PublishAs changes time n) r = AllowedPublishAs h changes time n r
+Allowed given extract h (KilledPublishAs changes time n calls) r =
     AllowedKilledPublishAs h changes time n calls r
-Allowed extract h Follow r = AllowedFollow h r
-Allowed extract h (KilledFollow calls) r = AllowedKilledFollow h calls r
-Allowed extract h (FollowSpoiled n s) r = AllowedSpoiled h n s r
-Allowed extract h (KilledFollowSpoiled n s calls) r = AllowedKilledSpoiled h n s calls r
-Allowed extract h Export r = AllowedExport h extract r
-Allowed extract h (KilledExport calls) r = AllowedKilledExport h extract calls r
-Allowed extract h Begin r = AllowedBegin h extract r
-Allowed extract h (KilledBegin calls) r = AllowedKilledBegin h extract calls r
-Allowed extract h (Lose n s) r = AllowedLose h n s r
-Allowed extract h (PutBack n s) r = AllowedPutBack h n s r
+Allowed given extract h Follow r = AllowedFollow given h r
+Allowed given extract h (KilledFollow calls) r = AllowedKilledFollow given h calls r
+Allowed given extract h (FollowOther other) r = AllowedFollowOther given h other r
+Allowed given extract h (FollowSpoiled n s) r = AllowedSpoiled given h n s r
+Allowed given extract h (KilledFollowSpoiled n s calls) r = AllowedKilledSpoiled given h n s calls r
+Allowed given extract h Export r = AllowedExport given h extract r
+Allowed given extract h (KilledExport calls) r = AllowedKilledExport given h extract calls r
+Allowed given extract h Begin r = AllowedBegin given h extract r
+Allowed given extract h (KilledBegin calls) r = AllowedKilledBegin given h extract calls r
+Allowed given extract h (Lose n s) r = AllowedLose h n s r
+Allowed given extract h (PutBack n s) r = AllowedPutBack h n s r
 
 -- each reply of a history is allowed after what came before it
-abbrev pub AreAllowed : List ℕ → History → Type 0
-AreAllowed extract [] = Unit {0}
-AreAllowed extract (p ∷ h) = Allowed extract h p.0 p.1 × AreAllowed extract h
+abbrev pub AreAllowed : FilterValue → List ℕ → History → Type 0
+AreAllowed given extract [] = Unit {0}
+AreAllowed given extract (p ∷ h) = Allowed given extract h p.0 p.1 × AreAllowed given extract h

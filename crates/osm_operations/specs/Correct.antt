@@ -1,14 +1,16 @@
--- The main statement over folders. After every list of publications, runs of the follower, exports
--- and beginnings, any of these killed, losses and returns of files, and files that are spoiled
--- while the follower runs, on one store: the folder is that of the sequences that the history
--- published; the save is that of sequences base + 1 to its number over the objects of its base.
--- The base is the mirror of sequences 1 to it, as an earlier export gave it, or 0, the empty
--- start, if there was no beginning; so the save holds exactly the mirror of sequences 1 to its
--- number and the counts of those after its base. The numbers that were reported since the last
--- beginning are those after the base, once each, in order; and the extract holds the objects that
--- sequences 1 to the exported number leave.
+-- The main statement over folders, under a filter. After every list of publications, runs of the
+-- follower, exports and beginnings, any of these killed, losses and returns of files, files that
+-- are spoiled while the follower runs, and runs under another filter, on one store: the folder is
+-- that of the sequences that the history published; the save is that of sequences base + 1 to its
+-- number over the objects of its base. The base is what the filter keeps of the mirror of sequences
+-- 1 to it, as an earlier export gave it, or 0, the empty start, if there was no beginning; so the
+-- save holds exactly what the filter keeps of the mirror of sequences 1 to its number and the
+-- counts of those after its base. The numbers that were reported since the last beginning are those
+-- after the base, once each, in order; and the extract holds what the filter keeps of the objects
+-- that sequences 1 to the exported number leave.
 use Rattle.std.specs.Prelude.{◌≡◌, ℕ, ◌-◌, ◌<◌, ◌≤◌, List, length, Option, Some, None}
 use Rattle.std.specs.Prelude.{is_none, not}
+use Rattle.osm_model.specs.Filter.{FilterValue}
 use Rattle.osm_state.specs.declared.paths.Suffix.{Suffix}
 use Rattle.osm_state.specs.declared.paths.Suffix.TheVariants.{State}
 use Rattle.osm_follow.specs.Published.{PublishedValue}
@@ -47,32 +49,34 @@ pub record IsOther (dir save changes extract name : List ℕ) : Type 0 where
   pub changes_are : name ≡ changes → ⊥
   pub extract_is : name ≡ extract → ⊥
 
--- the extract holds exactly the objects that published sequences 1 to the exported number leave; if
--- nothing was exported, it is as it was
-abbrev pub IsExtractOf : List PublishedValue → Option ℕ → List ℕ → Option (List ℕ)
+-- the extract holds exactly what the filter keeps of the objects that published sequences 1 to the
+-- exported number leave; if nothing was exported, it is as it was
+abbrev pub IsExtractOf : List PublishedValue → FilterValue → Option ℕ → List ℕ → Option (List ℕ)
     → Option (List ℕ) → Type 0
-IsExtractOf published None extract start told = told ≡ start
-IsExtractOf published (Some number) extract start told = IsExportOf published number extract told
+IsExtractOf published given None extract start told = told ≡ start
+IsExtractOf published given (Some number) extract start told =
+    IsExportOf published given number extract told
 
 -- the files are what the history says: the folder is that of the sequences that it published, each
 -- file as it was written unless it is lost; the save is there exactly if something was saved, and
--- is that of the follower's number, begun at its base; the numbers after the base were reported
--- once each, in order; the extract is that of the number exported last; and no other file has
--- changed
-pub record IsInStep (h : History) (dir save changes extract : List ℕ) (start files : Files) :
-    Type 0 where
+-- is that of the follower's number under the filter, begun at its base; the numbers after the base
+-- were reported once each, in order; the extract is that of the number exported last; and no other
+-- file has changed
+pub record IsInStep (given : FilterValue) (h : History) (dir save changes extract : List ℕ)
+    (start files : Files) : Type 0 where
   pub folder : IsFolderOf (published_of h) files dir
   pub each : (k : ℕ) (suffix : Suffix) → 0 < k → k ≤ length (published_of h)
       → files (file_name_of dir k suffix) ≡ file_of h k suffix
-  pub saved : IsSaveOf (published_of h) (base_of h) (number_of h) (files save)
+  pub saved : IsSaveOf (published_of h) given (base_of h) (number_of h) (files save)
   pub is_there : is_none (files save) ≡ not (is_saved h)
   pub reported : reported_of h ≡ numbers (base_of h) (number_of h - base_of h)
-  pub exported : IsExtractOf (published_of h) (exported_of h) extract (start extract)
+  pub exported : IsExtractOf (published_of h) given (exported_of h) extract (start extract)
       (files extract)
   pub others : (name : List ℕ) → IsOther dir save changes extract name → files name ≡ start name
 
--- the replies to the operations and the files after them
-pub record IsRun (operations : List Operation) (replies : List Reply)
+-- the replies to the operations under the filter, and the files after them
+pub record IsRun (given : FilterValue) (operations : List Operation) (replies : List Reply)
     (dir save changes extract : List ℕ) (start files : Files) : Type 0 where
-  pub allowed : AreAllowed extract (history_of operations replies)
-  pub in_step : IsInStep (history_of operations replies) dir save changes extract start files
+  pub allowed : AreAllowed given extract (history_of operations replies)
+  pub in_step :
+      IsInStep given (history_of operations replies) dir save changes extract start files

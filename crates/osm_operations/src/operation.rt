@@ -3,10 +3,12 @@
 use osm_folder::fault::RunFault;
 use osm_folder::report::Report;
 use osm_model::batch::Batch;
+use osm_model::filter::Filter;
 use osm_state::paths::Suffix;
 
-/// What is done to a folder and a save. A killed run makes at most `calls` calls of the store; each
-/// call after them is refused, so nothing more is read or written.
+/// What is done to a folder and a save. Runs of the follower and beginnings are under the filter of
+/// the list, except `FollowOther`. A killed run makes at most `calls` calls of the store; each call
+/// after them is refused, so nothing more is read or written.
 #[derive(Debug, Drop)]
 pub enum Operation {
     /// The changes are published as the next sequence, at that time in seconds since
@@ -40,6 +42,11 @@ pub enum Operation {
     /// The same, by a run that is killed.
     KilledFollow {
         calls: u64,
+    },
+    /// A run of the follower under another filter than the save's, which refuses it. It isn't made
+    /// if nothing is saved, or if the filter is that of the list.
+    FollowOther {
+        filter: Filter,
     },
     /// The follower goes on from the save while a file of a published sequence is spoiled: it holds
     /// the one byte `x`, which is no state and no changes. After the run it holds what it held.
@@ -101,7 +108,7 @@ pub enum Reply {
     Lost,
     /// The file is there again.
     IsBack,
-    /// The number isn't published, the file to lose or to spoil is lost, or the file to put back
-    /// isn't.
+    /// The number isn't published, the file to lose or to spoil is lost, the file to put back
+    /// isn't, or no save of another filter is there.
     NotThere,
 }

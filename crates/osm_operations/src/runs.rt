@@ -14,7 +14,7 @@ ghost use Rattle.osm_save.specs.declared.head.Head.{Head};
 ghost use Rattle.osm_operations.specs.Steps.Stepping.{AreChangesPut, BeginStep, ChangesStop};
 ghost use Rattle.osm_operations.specs.Steps.Stepping.{ExportStep, FollowStep, IsNoDevice};
 ghost use Rattle.osm_operations.specs.Steps.Stepping.{IsNumberOfSave, IsReportOf, IsSpoiledNow};
-ghost use Rattle.osm_operations.specs.Steps.Stepping.{SpoiledAnswer};
+ghost use Rattle.osm_operations.specs.Steps.Stepping.{OtherAnswer, SpoiledAnswer};
 ghost use Rattle.osm_operations.specs.Steps.Stepping.{LacksFollowCalls, Moves, NumberedStep};
 ghost use Rattle.osm_operations.specs.Steps.Stepping.{Returns, named};
 ghost use Rattle.osm_operations.specs.Steps.Stepping.{PublishStep, state_name_of};
@@ -28,6 +28,7 @@ use osm_folder::publish::publish_run;
 use osm_folder::publish_as::publish_as_run;
 use osm_folder::report::Report;
 use osm_model::batch::Batch;
+use osm_model::filter::{Filter, laws_of_filters};
 use osm_model::form::{ChangeForm, FormError};
 use osm_model::limits::MAX_SEQUENCE;
 use osm_model::memory::WantOfMemory;
@@ -143,11 +144,14 @@ pub(crate) fn follow(
     store: &mut MemoryStore,
     dir: &str,
     save: &str,
+    filter: &Filter,
 ) -> Result<Report, RunFault>
-    ensures step { FollowStep dir.now save.now result (files_of store.old) (files_of store.new) }
+    ensures step { FollowStep filter.now dir.now save.now result
+        (files_of store.old) (files_of store.new) }
     ensures device { IfErr result IsNoDevice }
 {
-    report_of(follow_progress(alloc, store, dir, save))
+    let filter = filter.copy(alloc)?;
+    report_of(follow_progress(alloc, store, dir, save, filter))
 }
 
 // The same, by a run that is killed after that many calls.
@@ -156,17 +160,39 @@ pub(crate) fn follow_killed(
     store: &mut MemoryStore,
     dir: &str,
     save: &str,
+    filter: &Filter,
     calls: u64,
 ) -> Result<Report, RunFault>
-    ensures step { FollowStep dir.now save.now result (files_of store.old) (files_of store.new) }
+    ensures step { FollowStep filter.now dir.now save.now result
+        (files_of store.old) (files_of store.new) }
     ensures left { OnOk result (3 ≤ calls) }
     ensures lacks { IfErr result
-        (LacksFollowCalls dir.now save.now calls (files_of store.old)) }
+        (LacksFollowCalls filter.now dir.now save.now calls (files_of store.old)) }
 {
+    let filter = filter.copy(alloc)?;
     let mut stopping = stopping_over(alloc, store, calls);
-    let progress = follow_progress(alloc, &mut stopping, dir, save);
+    let progress = follow_progress(alloc, &mut stopping, dir, save, filter);
     *store = stopping.into_inner();
     report_of(progress)
+}
+
+// The word `follow` under another filter. None if nothing is saved, or if the filter is no other.
+pub(crate) fn follow_other(
+    alloc: Global,
+    store: &mut MemoryStore,
+    dir: &str,
+    save: &str,
+    filter: &Filter,
+    other: Filter,
+) -> Option<Result<Progress, RunFault>>
+    ensures { OtherAnswer filter.now other dir.now save.now result
+        (files_of store.old) (files_of store.new) }
+{
+    laws_of_filters();
+    if store.get(save).is_none() || other == *filter {
+        return None;
+    }
+    Some(follow_progress(alloc, store, dir, save, other))
 }
 
 // The file of a sequence that is spoiled for a while, and the bytes that it held.
@@ -213,20 +239,24 @@ pub(crate) fn follow_spoiled(
     store: &mut MemoryStore,
     dir: &str,
     save: &str,
+    filter: &Filter,
     number: u32,
     suffix: Suffix,
 ) -> Option<Result<Progress, RunFault>>
     requires { number ≤ max_sequence }
-    ensures answer { SpoiledAnswer dir.now save.now (file_name_of dir.now number suffix) result
-        (files_of store.old) (files_of store.new) }
+    ensures answer { SpoiledAnswer filter.now dir.now save.now
+        (file_name_of dir.now number suffix) result (files_of store.old) (files_of store.new) }
     ensures device { IfSome result (λ w. IfErr w IsNoDevice) }
 {
     laws_of_state();
+    let Ok(filter) = filter.copy(alloc) else {
+        return Some(Err(RunFault::WantOfMemory));
+    };
     match spoil(alloc, store, dir, number, suffix) {
         Err(WantOfMemory) => Some(Err(RunFault::WantOfMemory)),
         Ok(None) => None,
         Ok(Some(spoiled)) => {
-            let progress = follow_progress(alloc, store, dir, save);
+            let progress = follow_progress(alloc, store, dir, save, filter);
             mend(store, spoiled);
             Some(progress)
         }
@@ -239,22 +269,26 @@ pub(crate) fn follow_spoiled_killed(
     store: &mut MemoryStore,
     dir: &str,
     save: &str,
+    filter: &Filter,
     number: u32,
     suffix: Suffix,
     calls: u64,
 ) -> Option<Result<Progress, RunFault>>
     requires { number ≤ max_sequence }
-    ensures answer { SpoiledAnswer dir.now save.now (file_name_of dir.now number suffix) result
-        (files_of store.old) (files_of store.new) }
+    ensures answer { SpoiledAnswer filter.now dir.now save.now
+        (file_name_of dir.now number suffix) result (files_of store.old) (files_of store.new) }
     ensures left { IfSome result (λ w. OnOk w (3 ≤ calls)) }
 {
     laws_of_state();
+    let Ok(filter) = filter.copy(alloc) else {
+        return Some(Err(RunFault::WantOfMemory));
+    };
     match spoil(alloc, store, dir, number, suffix) {
         Err(WantOfMemory) => Some(Err(RunFault::WantOfMemory)),
         Ok(None) => None,
         Ok(Some(spoiled)) => {
             let mut stopping = stopping_over(alloc, store, calls);
-            let progress = follow_progress(alloc, &mut stopping, dir, save);
+            let progress = follow_progress(alloc, &mut stopping, dir, save, filter);
             *store = stopping.into_inner();
             mend(store, spoiled);
             Some(progress)
@@ -329,14 +363,16 @@ pub(crate) fn begin(
     number: u32,
     extract: &str,
     save: &str,
+    filter: &Filter,
 ) -> Result<Report, RunFault>
-    ensures step { BeginStep dir.now number extract.now save.now result
+    ensures step { BeginStep filter.now dir.now number extract.now save.now result
         (files_of store.old) (files_of store.new) }
     ensures device { IfErr result IsNoDevice }
 {
     laws_of_state();
     let state = state_name(alloc, dir, number)?;
-    begin_run(alloc, store, extract, state.as_str(), save)
+    let filter = filter.copy(alloc)?;
+    begin_run(alloc, store, extract, state.as_str(), save, filter)
 }
 
 // The same, by a run that is killed after that many calls.
@@ -347,17 +383,19 @@ pub(crate) fn begin_killed(
     number: u32,
     extract: &str,
     save: &str,
+    filter: &Filter,
     calls: u64,
 ) -> Result<Report, RunFault>
-    ensures step { BeginStep dir.now number extract.now save.now result
+    ensures step { BeginStep filter.now dir.now number extract.now save.now result
         (files_of store.old) (files_of store.new) }
     ensures left { OnOk result (3 ≤ calls) }
     ensures lacks { IfErr result (LacksCalls 3 (Some calls)) }
 {
     laws_of_state();
     let state = state_name(alloc, dir, number)?;
+    let filter = filter.copy(alloc)?;
     let mut stopping = stopping_over(alloc, store, calls);
-    let answer = begin_run(alloc, &mut stopping, extract, state.as_str(), save);
+    let answer = begin_run(alloc, &mut stopping, extract, state.as_str(), save, filter);
     *store = stopping.into_inner();
     answer
 }

@@ -3,27 +3,29 @@
 ghost use Rattle.std.specs.Prelude.{◌≡◌, ◌<◌, [], length, vec_capacity, IfOk, OnErr, OnOk, None};
 ghost use Rattle.std.specs.Prelude.{Some};
 ghost use Rattle.std.specs.Prelude.{string_bytes};
+ghost use Rattle.osm_model.specs.Filter.{everything};
 ghost use Rattle.osm_store.specs.Stores.{files_of};
 ghost use Rattle.osm_operations.specs.Correct.{AreApart, IsNew, IsRun};
 ghost use Rattle.osm_operations.specs.Steps.Stepping.{BeginTo, ExportTo, FollowTo, HasCallsOf};
 ghost use Rattle.osm_operations.specs.Steps.Stepping.{HasFollowCalls, HasPublishCalls, IsNumber};
 ghost use Rattle.osm_operations.specs.Steps.Stepping.{IsWhole, KeepsExported};
-ghost use Rattle.osm_operations.specs.Steps.Stepping.{KeepsOthers, LoseTo, PublishAsTo};
+ghost use Rattle.osm_operations.specs.Steps.Stepping.{KeepsOthers, LoseTo, OtherTo, PublishAsTo};
 ghost use Rattle.osm_operations.specs.Steps.Stepping.{PublishTo, PutBackTo, SettleTo, Step};
 ghost use Rattle.osm_operations.specs.Steps.Stepping.{HasSpoiledCalls, SpoiledTo, exported_reply};
-ghost use Rattle.osm_operations.specs.Steps.Stepping.{spoiled_reply as replied};
+ghost use Rattle.osm_operations.specs.Steps.Stepping.{progress_reply as replied};
 ghost use Rattle.osm_operations.specs.Steps.Stepping.{stopped_reply as settled};
 
 use crate::operation::{Operation, Reply};
 use crate::runs::{
-    FormNames, begin, begin_killed, export, export_killed, follow, follow_killed, follow_spoiled,
-    follow_spoiled_killed, form_names, move_file, publish, publish_as, publish_as_killed,
-    publish_killed, returns, saved_number,
+    FormNames, begin, begin_killed, export, export_killed, follow, follow_killed, follow_other,
+    follow_spoiled, follow_spoiled_killed, form_names, move_file, publish, publish_as,
+    publish_as_killed, publish_killed, returns, saved_number,
 };
 use osm_folder::fault::RunFault;
 use osm_folder::progress::Progress;
 use osm_folder::report::Report;
 use osm_model::batch::Batch;
+use osm_model::filter::Filter;
 use osm_model::limits::MAX_SEQUENCE;
 use osm_model::memory::WantOfMemory;
 use osm_state::paths::Suffix;
@@ -48,10 +50,10 @@ pub struct Outcome {
     pub replies: Vec<Reply>,
 }
 
-/// Carries out the operations in order, on a folder and a save of the store. A publication first
-/// writes its changes, in OPL, to the file `changes`. An export writes the data file `extract`, and
-/// a beginning reads it, with the state in the folder of the number that was exported last. If
-/// memory for the list of replies is refused, no operation was done.
+/// Carries out the operations in order, on a folder and a save of all objects of the store. A
+/// publication first writes its changes, in OPL, to the file `changes`. An export writes the data
+/// file `extract`, and a beginning reads it, with the state in the folder of the number that was
+/// exported last. If memory for the list of replies is refused, no operation was done.
 pub fn run(
     alloc: Global,
     store: MemoryStore,
@@ -64,8 +66,31 @@ pub fn run(
     ensures one_each { IfOk result (λ r. length r.replies.items ≡ length operations.items) }
     ensures run { IfOk result (λ r. AreApart dir.now save.now changes.now extract.now
         → IsNew dir.now save.now (files_of store)
-        → IsRun operations.items r.replies.items dir.now save.now changes.now extract.now
-        (files_of store) (files_of r.store)) }
+        → IsRun everything operations.items r.replies.items
+        dir.now save.now changes.now extract.now (files_of store) (files_of r.store)) }
+{
+    let filter = Filter::all(alloc);
+    run_with(
+        alloc, store, dir, save, changes, extract, &filter, operations,
+    )
+}
+
+/// The same, with a save of what the filter keeps: the follower runs and begins under it.
+pub fn run_with(
+    alloc: Global,
+    store: MemoryStore,
+    dir: &str,
+    save: &str,
+    changes: &str,
+    extract: &str,
+    filter: &Filter,
+    operations: Vec<Operation>,
+) -> Result<Outcome, WantOfMemory>
+    ensures one_each { IfOk result (λ r. length r.replies.items ≡ length operations.items) }
+    ensures run { IfOk result (λ r. AreApart dir.now save.now changes.now extract.now
+        → IsNew dir.now save.now (files_of store)
+        → IsRun filter.now operations.items r.replies.items
+        dir.now save.now changes.now extract.now (files_of store) (files_of r.store)) }
 {
     let mut world = World {
         alloc,
@@ -76,7 +101,7 @@ pub fn run(
     };
     let mut replies = room_for_replies(alloc, operations.as_slice())?;
     for operation in operations {
-        let reply = world.step(dir, save, changes, extract, operation);
+        let reply = world.step(dir, save, changes, extract, filter, operation);
         replies.push(reply).unwrap();
     }
     Ok(Outcome {
@@ -101,9 +126,10 @@ impl World {
         save: &str,
         changes: &str,
         extract: &str,
+        filter: &Filter,
         operation: Operation,
     ) -> Reply
-        ensures step { Step dir.now save.now changes.now extract.now operation result
+        ensures step { Step filter.now dir.now save.now changes.now extract.now operation result
             self.old self.new }
         ensures exported { KeepsExported result self.old self.new }
     {
@@ -128,20 +154,25 @@ impl World {
                 number,
                 calls,
             } => self.publish_as_killed(dir, changes, &batch, time, number, calls),
-            Operation::Follow => self.follow(dir, save),
-            Operation::KilledFollow { calls } => self.follow_killed(dir, save, calls),
+            Operation::Follow => self.follow(dir, save, filter),
+            Operation::KilledFollow { calls } => self.follow_killed(dir, save, filter, calls),
+            Operation::FollowOther { filter: other } => {
+                self.follow_other(dir, save, filter, other)
+            }
             Operation::FollowSpoiled { number, suffix } => {
-                self.follow_spoiled(dir, save, number, suffix)
+                self.follow_spoiled(dir, save, filter, number, suffix)
             }
             Operation::KilledFollowSpoiled {
                 number,
                 suffix,
                 calls,
-            } => self.follow_spoiled_killed(dir, save, number, suffix, calls),
+            } => self.follow_spoiled_killed(dir, save, filter, number, suffix, calls),
             Operation::Export => self.export(save, extract),
             Operation::KilledExport { calls } => self.export_killed(save, extract, calls),
-            Operation::Begin => self.begin(dir, save, extract),
-            Operation::KilledBegin { calls } => self.begin_killed(dir, save, extract, calls),
+            Operation::Begin => self.begin(dir, save, extract, filter),
+            Operation::KilledBegin { calls } => {
+                self.begin_killed(dir, save, extract, filter, calls)
+            }
             Operation::Lose { number, suffix } => self.lose(dir, number, suffix),
             Operation::PutBack { number, suffix } => self.put_back(dir, number, suffix),
         }
@@ -264,49 +295,76 @@ impl World {
         }
     }
 
-    fn follow(&mut self, dir: &str, save: &str) -> Reply
-        ensures step { FollowTo dir.now save.now result self.old self.new }
+    fn follow(&mut self, dir: &str, save: &str, filter: &Filter) -> Reply
+        ensures step { FollowTo filter.now dir.now save.now result self.old self.new }
         ensures whole { IsWhole result }
         ensures exported { self.new.exported ≡ self.old.exported }
     {
-        match follow(self.alloc, &mut self.store, dir, save) {
+        match follow(self.alloc, &mut self.store, dir, save, filter) {
             Ok(report) => Reply::Followed(report),
             Err(fault) => Reply::Refused(fault),
         }
     }
 
-    fn follow_killed(&mut self, dir: &str, save: &str, calls: u64) -> Reply
-        ensures step { FollowTo dir.now save.now result self.old self.new }
-        ensures left { HasFollowCalls dir.now save.now calls result (files_of self.old.store) }
+    fn follow_killed(&mut self, dir: &str, save: &str, filter: &Filter, calls: u64) -> Reply
+        ensures step { FollowTo filter.now dir.now save.now result self.old self.new }
+        ensures left { HasFollowCalls filter.now dir.now save.now calls result
+            (files_of self.old.store) }
         ensures exported { self.new.exported ≡ self.old.exported }
     {
-        match follow_killed(self.alloc, &mut self.store, dir, save, calls) {
+        match follow_killed(self.alloc, &mut self.store, dir, save, filter, calls) {
             Ok(report) => Reply::Followed(report),
             Err(fault) => Reply::Refused(fault),
         }
     }
 
-    fn follow_spoiled(&mut self, dir: &str, save: &str, number: u32, suffix: Suffix) -> Reply
-        ensures step { SpoiledTo dir.now save.now number suffix result self.old self.new }
+    fn follow_other(&mut self, dir: &str, save: &str, filter: &Filter, other: Filter) -> Reply
+        ensures step { OtherTo filter.now other dir.now save.now result self.old self.new }
+        ensures exported { KeepsExported result self.old self.new }
+    {
+        let answer = follow_other(self.alloc, &mut self.store, dir, save, filter, other);
+        progress_reply(answer)
+    }
+
+    fn follow_spoiled(
+        &mut self,
+        dir: &str,
+        save: &str,
+        filter: &Filter,
+        number: u32,
+        suffix: Suffix,
+    ) -> Reply
+        ensures step { SpoiledTo filter.now dir.now save.now number suffix result
+            self.old self.new }
         ensures whole { IsWhole result }
         ensures exported { KeepsExported result self.old self.new }
     {
         if !is_number(self.published, number) {
             return Reply::NotThere;
         }
-        let answer = follow_spoiled(self.alloc, &mut self.store, dir, save, number, suffix);
-        spoiled_reply(answer)
+        let answer = follow_spoiled(
+            self.alloc,
+            &mut self.store,
+            dir,
+            save,
+            filter,
+            number,
+            suffix,
+        );
+        progress_reply(answer)
     }
 
     fn follow_spoiled_killed(
         &mut self,
         dir: &str,
         save: &str,
+        filter: &Filter,
         number: u32,
         suffix: Suffix,
         calls: u64,
     ) -> Reply
-        ensures step { SpoiledTo dir.now save.now number suffix result self.old self.new }
+        ensures step { SpoiledTo filter.now dir.now save.now number suffix result
+            self.old self.new }
         ensures left { HasSpoiledCalls calls result }
         ensures exported { KeepsExported result self.old self.new }
     {
@@ -318,11 +376,12 @@ impl World {
             &mut self.store,
             dir,
             save,
+            filter,
             number,
             suffix,
             calls,
         );
-        spoiled_reply(answer)
+        progress_reply(answer)
     }
 
     fn export(&mut self, save: &str, extract: &str) -> Reply
@@ -365,8 +424,9 @@ impl World {
         }
     }
 
-    fn begin(&mut self, dir: &str, save: &str, extract: &str) -> Reply
-        ensures step { BeginTo dir.now save.now extract.now result self.old self.new }
+    fn begin(&mut self, dir: &str, save: &str, extract: &str, filter: &Filter) -> Reply
+        ensures step { BeginTo filter.now dir.now save.now extract.now result
+            self.old self.new }
         ensures whole { IsWhole result }
         ensures exported { self.new.exported ≡ self.old.exported }
     {
@@ -377,14 +437,23 @@ impl World {
             self.exported,
             extract,
             save,
+            filter,
         ) {
             Ok(report) => Reply::Begun(report),
             Err(fault) => Reply::Refused(fault),
         }
     }
 
-    fn begin_killed(&mut self, dir: &str, save: &str, extract: &str, calls: u64) -> Reply
-        ensures step { BeginTo dir.now save.now extract.now result self.old self.new }
+    fn begin_killed(
+        &mut self,
+        dir: &str,
+        save: &str,
+        extract: &str,
+        filter: &Filter,
+        calls: u64,
+    ) -> Reply
+        ensures step { BeginTo filter.now dir.now save.now extract.now result
+            self.old self.new }
         ensures left { HasCallsOf 3 calls result }
         ensures exported { self.new.exported ≡ self.old.exported }
     {
@@ -395,6 +464,7 @@ impl World {
             self.exported,
             extract,
             save,
+            filter,
             calls,
         ) {
             Ok(report) => Reply::Begun(report),
@@ -447,8 +517,9 @@ impl World {
     }
 }
 
-// The reply to a run of the follower over a spoiled file; none was made if that isn't there.
-fn spoiled_reply(answer: Option<Result<Progress, RunFault>>) -> Reply
+// The reply to a run of the follower over a spoiled file or under another filter; none was made if
+// there is no such file or no save of another filter.
+fn progress_reply(answer: Option<Result<Progress, RunFault>>) -> Reply
     ensures { result ≡ replied answer }
 {
     match answer {

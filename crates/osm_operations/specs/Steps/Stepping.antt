@@ -1,9 +1,10 @@
 -- Steps of operations: what each does to the files of a store.
-use Rattle.std.specs.Prelude.{◌≡◌, ℕ, ◌+◌, ◌<◌, ◌≤◌, ◌⊎◌, List, length, Bool, true, false}
+use Rattle.std.specs.Prelude.{◌≡◌, ◌≢◌, ℕ, ◌+◌, ◌<◌, ◌≤◌, ◌⊎◌, List, length, Bool, true, false}
 use Rattle.std.specs.Prelude.{Option, Some, None, is_none, is_some, min, max, string_bytes}
 use Rattle.std.specs.Prelude.{IsTrue, Result, Ok, Err, IfErr, IfOk, OnErr}
 use Rattle.osm_model.specs.Batch.{IsBatch}
 use Rattle.osm_model.specs.Change.{ChangeValue}
+use Rattle.osm_model.specs.Filter.{FilterValue}
 use Rattle.osm_model.specs.Limits.{max_file, max_sequence}
 use Rattle.osm_model.specs.Time.{Shows, TimeText}
 use Rattle.osm_opl.specs.Written.{opl_text}
@@ -13,7 +14,7 @@ use Rattle.osm_state.specs.declared.paths.Suffix.{Suffix}
 use Rattle.osm_save.specs.declared.head.Head.{Head}
 use Rattle.osm_state.specs.declared.paths.Suffix.TheVariants.{O5c, Opl, State}
 use Rattle.osm_follow.specs.Published.{PublishedValue}
-use Rattle.osm_folder.specs.Beginning.{BeginStops, IsBaseOf, IsBegunFrom}
+use Rattle.osm_folder.specs.Beginning.{BeginStops, IsBegunFrom}
 use Rattle.osm_folder.specs.Exporting.{ExportStops, IsExportOf, IsExported}
 use Rattle.osm_store.specs.Files.{Files, Puts}
 use Rattle.osm_folder.specs.Folder.{IsApart, IsFolderOf}
@@ -25,7 +26,7 @@ use Rattle.osm_folder.specs.Progress.{IsProgress, ProgressStops}
 use Rattle.osm_folder.specs.Publication.{FolderRefuses, GoesOnFrom, IsPublished, PublishOut}
 use Rattle.osm_folder.specs.Publication.{PublishStops}
 use Rattle.osm_folder.specs.Names.{file_name_of, top_name_of}
-use Rattle.osm_folder.specs.Reports.{ReportValue, begin_report_of, convert_report_of}
+use Rattle.osm_folder.specs.Reports.{ReportValue, convert_report_of}
 use Rattle.osm_folder.specs.Runs.{LacksCalls}
 use Rattle.osm_store.specs.Stores.{files_of}
 use Rattle.osm_folder.specs.declared.fault.FileName.TheVariants.{Changes}
@@ -42,6 +43,7 @@ use Rattle.osm_operations.specs.declared.operation.Operation.TheVariants.{Killed
 use Rattle.osm_operations.specs.declared.operation.Operation.TheVariants.{Follow, KilledFollow}
 use Rattle.osm_operations.specs.declared.operation.Operation.TheVariants.{FollowSpoiled}
 use Rattle.osm_operations.specs.declared.operation.Operation.TheVariants.{KilledFollowSpoiled}
+use Rattle.osm_operations.specs.declared.operation.Operation.TheVariants.{FollowOther}
 use Rattle.osm_operations.specs.declared.operation.Operation.TheVariants.{Export, KilledExport}
 use Rattle.osm_operations.specs.declared.operation.Operation.TheVariants.{Begin, KilledBegin}
 use Rattle.osm_operations.specs.declared.operation.Operation.TheVariants.{Lose, PutBack}
@@ -155,19 +157,37 @@ IsReportOf (Ok (Before report fault)) result = result ≡ Err fault
 IsReportOf (Err fault) result = result ≡ Err fault
 
 -- what the word `follow` did: over the folder of what was published nothing is faulty
-abbrev pub FollowStep : List ℕ → List ℕ → Result ReportValue RunFault → Files → Files → Type 0
-FollowStep dir save (Ok report) old new = IsFollowed dir save old new report
-FollowStep dir save (Err fault) old new =
+abbrev pub FollowStep :
+    FilterValue → List ℕ → List ℕ → Result ReportValue RunFault → Files → Files → Type 0
+FollowStep given dir save (Ok report) old new = IsFollowed given dir save old new report
+FollowStep given dir save (Err fault) old new =
     (published : List PublishedValue) (base number : ℕ) → IsFolderOf published old dir
-    → IsSaveOf published base number (old save)
-    → (new ≡ old) × FollowRefuses published (old save) fault
+    → IsSaveOf published given base number (old save)
+    → (new ≡ old) × FollowRefuses published given (old save) fault
+
+-- a run of the word `follow` under another filter than the given one, if something is saved
+pub record IsOtherRun (given other : FilterValue) (dir save : List ℕ)
+    (w : Result Progress RunFault) (old new : Files) : Type 0 where
+  pub there : is_none (old save) ≡ false
+  pub differs : other ≢ given
+  pub done : IfOk w (IsProgress (IsTrue true) other dir save old new)
+  pub stops : IfErr w (ProgressStops (IsTrue true) other dir save old)
+  pub kept : OnErr w (new ≡ old)
+  pub device : IfErr w IsNoDevice
+
+-- what the run answers; it isn't made if nothing is saved, or if the filter is no other
+abbrev pub OtherAnswer : FilterValue → FilterValue → List ℕ → List ℕ
+    → Option (Result Progress RunFault) → Files → Files → Type 0
+OtherAnswer given other dir save None old new =
+    ((old save ≡ None) ⊎ (other ≡ given)) × (new ≡ old)
+OtherAnswer given other dir save (Some w) old new = IsOtherRun given other dir save w old new
 
 -- a run that exports
 pub record Exports (save extract : List ℕ) (report : ReportValue) (old new : Files) : Type 0 where
   pub exported : IsExported save extract old new
-  pub in_step : (published : List PublishedValue) (base number : ℕ)
-      → IsSaveOf published base number (old save)
-      → IsExportOf published number extract (new extract)
+  pub in_step : (published : List PublishedValue) (given : FilterValue) (base number : ℕ)
+      → IsSaveOf published given base number (old save)
+      → IsExportOf published given number extract (new extract)
   pub report_is : report ≡ convert_report_of
 
 -- what an export did. Memory may be refused before it, when the number of the save is read
@@ -184,28 +204,20 @@ IsNumberOfSave number told = (head : Head) → IsHead told head → number ≡ h
 abbrev pub state_name_of : List ℕ → ℕ → List ℕ
 state_name_of dir number = file_name_of dir (min number max_sequence) State
 
--- a run that begins
-pub record Begins (extract state save : List ℕ) (report : ReportValue) (old new : Files) :
-    Type 0 where
-  pub begun : IsBegunFrom extract state save old new report
-  pub in_step : (published : List PublishedValue) (number : ℕ)
-      → IsBaseOf published number extract state old
-      → IsSaveOf published number number (new save) × (report ≡ begin_report_of number)
-
 -- a run that begins stopped
-pub record StopsBeginning (extract state : List ℕ) (fault : RunFault) (old : Files) :
-    Type 0 where
-  pub stops : BeginStops (IsTrue true) extract state old fault
+pub record StopsBeginning (given : FilterValue) (extract state : List ℕ) (fault : RunFault)
+    (old : Files) : Type 0 where
+  pub stops : BeginStops (IsTrue true) given extract state old fault
   pub law : NoFaultBesideState
 
 -- what a beginning did, at the state of that number
-abbrev pub BeginStep : List ℕ → ℕ → List ℕ → List ℕ → Result ReportValue RunFault → Files → Files
-    → Type 0
-BeginStep dir number extract save (Ok report) old new =
-    Begins extract (state_name_of dir number) save report old new
-BeginStep dir number extract save (Err fault) old new =
-    (new ≡ old)
-    × ((fault ≡ WantOfMemory) ⊎ StopsBeginning extract (state_name_of dir number) fault old)
+abbrev pub BeginStep : FilterValue → List ℕ → ℕ → List ℕ → List ℕ → Result ReportValue RunFault
+    → Files → Files → Type 0
+BeginStep given dir number extract save (Ok report) old new =
+    IsBegunFrom given extract (state_name_of dir number) save old new report
+BeginStep given dir number extract save (Err fault) old new =
+    (new ≡ old) × ((fault ≡ WantOfMemory)
+    ⊎ StopsBeginning given extract (state_name_of dir number) fault old)
 
 -- a file is moved from one store to the other, or isn't there
 abbrev pub Moves : Bool → List ℕ → Files → Files → Files → Files → Type 0
@@ -304,14 +316,32 @@ PublishAsTo left dir changes batch time n (Refused fault) a b =
     × (b.published ≡ a.published))
 PublishAsTo left dir changes batch time n r a b = ⊥
 
-abbrev pub FollowTo : List ℕ → List ℕ → Reply → World → World → Type 0
-FollowTo dir save (Followed report) a b =
-    FollowStep dir save (Ok report) (files_of a.store) (files_of b.store)
+abbrev pub FollowTo : FilterValue → List ℕ → List ℕ → Reply → World → World → Type 0
+FollowTo given dir save (Followed report) a b =
+    FollowStep given dir save (Ok report) (files_of a.store) (files_of b.store)
     × (b.lost ≡ a.lost) × (b.published ≡ a.published)
-FollowTo dir save (Refused fault) a b =
-    FollowStep dir save (Err fault) (files_of a.store) (files_of b.store)
+FollowTo given dir save (Refused fault) a b =
+    FollowStep given dir save (Err fault) (files_of a.store) (files_of b.store)
     × (b.lost ≡ a.lost) × (b.published ≡ a.published)
-FollowTo dir save r a b = ⊥
+FollowTo given dir save r a b = ⊥
+
+-- a run under another filter
+pub record IsOtherTo (given other : FilterValue) (dir save : List ℕ)
+    (answer : Option (Result Progress RunFault)) (a b : World) : Type 0 where
+  pub answered : OtherAnswer given other dir save answer (files_of a.store) (files_of b.store)
+  pub lost : b.lost ≡ a.lost
+  pub published : b.published ≡ a.published
+
+abbrev pub OtherTo :
+    FilterValue → FilterValue → List ℕ → List ℕ → Reply → World → World → Type 0
+OtherTo given other dir save (Followed report) a b =
+    IsOtherTo given other dir save (Some (Ok (Whole report))) a b
+OtherTo given other dir save (FollowedBefore report fault) a b =
+    IsOtherTo given other dir save (Some (Ok (Before report fault))) a b
+OtherTo given other dir save (Refused fault) a b =
+    IsOtherTo given other dir save (Some (Err fault)) a b
+OtherTo given other dir save NotThere a b = IsOtherTo given other dir save None a b
+OtherTo given other dir save r a b = ⊥
 
 -- the file of that name is spoiled, and these are the bytes that it held; nothing changes if it
 -- isn't there
@@ -323,56 +353,59 @@ IsSpoiledNow name (Some it) old new =
 
 -- a run of the word `follow` while the file of that name is spoiled: the files before it and after
 -- it, and those that the run finds and leaves
-pub record IsSpoiledRun (dir save name : List ℕ) (w : Result Progress RunFault) (old new : Files) :
-    Type 0 where
+pub record IsSpoiledRun (given : FilterValue) (dir save name : List ℕ)
+    (w : Result Progress RunFault) (old new : Files) : Type 0 where
   pub bytes : List ℕ
   pub there : old name ≡ Some bytes
   pub during : Files
   pub put : Puts old name (Some spoiled) during
   pub after : Files
-  pub done : IfOk w (IsProgress (IsTrue true) dir save during after)
-  pub stops : IfErr w (ProgressStops (IsTrue true) dir save during)
+  pub done : IfOk w (IsProgress (IsTrue true) given dir save during after)
+  pub stops : IfErr w (ProgressStops (IsTrue true) given dir save during)
   pub kept : OnErr w (after ≡ during)
   pub back : is_some (after name) ≡ true → Puts after name (Some bytes) new
   pub law : NoFaultBesideState
 
 -- the same, or memory was refused before anything was done
-abbrev pub SpoiledStep :
-    List ℕ → List ℕ → List ℕ → Result Progress RunFault → Files → Files → Type 0
-SpoiledStep dir save name w old new =
-    ((w ≡ Err WantOfMemory) × (new ≡ old)) ⊎ IsSpoiledRun dir save name w old new
+abbrev pub SpoiledStep : FilterValue → List ℕ → List ℕ → List ℕ → Result Progress RunFault
+    → Files → Files → Type 0
+SpoiledStep given dir save name w old new =
+    ((w ≡ Err WantOfMemory) × (new ≡ old)) ⊎ IsSpoiledRun given dir save name w old new
 
 -- what the run answers; nothing if there is no such file
-abbrev pub SpoiledAnswer :
-    List ℕ → List ℕ → List ℕ → Option (Result Progress RunFault) → Files → Files → Type 0
-SpoiledAnswer dir save name None old new = (old name ≡ None) × (new ≡ old)
-SpoiledAnswer dir save name (Some w) old new = SpoiledStep dir save name w old new
+abbrev pub SpoiledAnswer : FilterValue → List ℕ → List ℕ → List ℕ
+    → Option (Result Progress RunFault) → Files → Files → Type 0
+SpoiledAnswer given dir save name None old new = (old name ≡ None) × (new ≡ old)
+SpoiledAnswer given dir save name (Some w) old new = SpoiledStep given dir save name w old new
 
--- the reply to what such a run answers
-abbrev pub spoiled_reply : Option (Result Progress RunFault) → Reply
-spoiled_reply None = NotThere
-spoiled_reply (Some (Ok (Whole report))) = Followed report
-spoiled_reply (Some (Ok (Before report fault))) = FollowedBefore report fault
-spoiled_reply (Some (Err fault)) = Refused fault
+-- the reply to what a run of the word `follow` answers; none was made if it answers nothing
+abbrev pub progress_reply : Option (Result Progress RunFault) → Reply
+progress_reply None = NotThere
+progress_reply (Some (Ok (Whole report))) = Followed report
+progress_reply (Some (Ok (Before report fault))) = FollowedBefore report fault
+progress_reply (Some (Err fault)) = Refused fault
 
 -- a run over a spoiled file of a published number
-pub record IsSpoiledTo (dir save : List ℕ) (n : ℕ) (s : Suffix) (w : Result Progress RunFault)
-    (a b : World) : Type 0 where
+pub record IsSpoiledTo (given : FilterValue) (dir save : List ℕ) (n : ℕ) (s : Suffix)
+    (w : Result Progress RunFault) (a b : World) : Type 0 where
   pub number : IsNumber true a.published n
-  pub step : SpoiledStep dir save (file_name_of dir n s) w (files_of a.store) (files_of b.store)
+  pub step :
+      SpoiledStep given dir save (file_name_of dir n s) w (files_of a.store) (files_of b.store)
   pub lost : b.lost ≡ a.lost
   pub published : b.published ≡ a.published
 
-abbrev pub SpoiledTo : List ℕ → List ℕ → ℕ → Suffix → Reply → World → World → Type 0
-SpoiledTo dir save n s (Followed report) a b = IsSpoiledTo dir save n s (Ok (Whole report)) a b
-SpoiledTo dir save n s (FollowedBefore report fault) a b =
-    IsSpoiledTo dir save n s (Ok (Before report fault)) a b
-SpoiledTo dir save n s (Refused fault) a b = IsSpoiledTo dir save n s (Err fault) a b
-SpoiledTo dir save n s NotThere a b =
+abbrev pub SpoiledTo :
+    FilterValue → List ℕ → List ℕ → ℕ → Suffix → Reply → World → World → Type 0
+SpoiledTo given dir save n s (Followed report) a b =
+    IsSpoiledTo given dir save n s (Ok (Whole report)) a b
+SpoiledTo given dir save n s (FollowedBefore report fault) a b =
+    IsSpoiledTo given dir save n s (Ok (Before report fault)) a b
+SpoiledTo given dir save n s (Refused fault) a b = IsSpoiledTo given dir save n s (Err fault) a b
+SpoiledTo given dir save n s NotThere a b =
     (IsNumber false a.published n
     ⊎ (IsNumber true a.published n × (files_of a.store (file_name_of dir n s) ≡ None)))
     × (files_of b.store ≡ files_of a.store) × (b.lost ≡ a.lost) × (b.published ≡ a.published)
-SpoiledTo dir save n s r a b = ⊥
+SpoiledTo given dir save n s r a b = ⊥
 
 -- what a reply says about the calls that a killed run over a spoiled file had
 abbrev pub HasSpoiledCalls : ℕ → Reply → Type 0
@@ -401,14 +434,15 @@ ExportTo save extract (Refused fault) a b =
     × (b.lost ≡ a.lost) × (b.published ≡ a.published)
 ExportTo save extract r a b = ⊥
 
-abbrev pub BeginTo : List ℕ → List ℕ → List ℕ → Reply → World → World → Type 0
-BeginTo dir save extract (Begun report) a b =
-    BeginStep dir a.exported extract save (Ok report) (files_of a.store) (files_of b.store)
+abbrev pub BeginTo :
+    FilterValue → List ℕ → List ℕ → List ℕ → Reply → World → World → Type 0
+BeginTo given dir save extract (Begun report) a b =
+    BeginStep given dir a.exported extract save (Ok report) (files_of a.store) (files_of b.store)
     × (b.lost ≡ a.lost) × (b.published ≡ a.published)
-BeginTo dir save extract (Refused fault) a b =
-    BeginStep dir a.exported extract save (Err fault) (files_of a.store) (files_of b.store)
+BeginTo given dir save extract (Refused fault) a b =
+    BeginStep given dir a.exported extract save (Err fault) (files_of a.store) (files_of b.store)
     × (b.lost ≡ a.lost) × (b.published ≡ a.published)
-BeginTo dir save extract r a b = ⊥
+BeginTo given dir save extract r a b = ⊥
 
 -- the number that was exported last stays, unless an export is done
 abbrev pub KeepsExported : Reply → World → World → Type 0
@@ -428,17 +462,19 @@ HasPublishCalls calls (Published report) = 6 ≤ calls
 HasPublishCalls calls r = Unit {0}
 
 -- why a run of the follower that had that many calls is refused
-abbrev pub LacksFollowCalls : List ℕ → List ℕ → ℕ → Files → RunFault → Type 0
-LacksFollowCalls dir save calls files fault =
+abbrev pub LacksFollowCalls :
+    FilterValue → List ℕ → List ℕ → ℕ → Files → RunFault → Type 0
+LacksFollowCalls given dir save calls files fault =
     (published : List PublishedValue) (base number : ℕ) → IsFolderOf published files dir
-    → IsSaveOf published base number (files save)
+    → IsSaveOf published given base number (files save)
     → LacksCalls (follow_calls published number) (Some calls) fault
 
 -- what a reply says about the calls that a killed run of the follower had
-abbrev pub HasFollowCalls : List ℕ → List ℕ → ℕ → Reply → Files → Type 0
-HasFollowCalls dir save calls (Followed report) files = 3 ≤ calls
-HasFollowCalls dir save calls (Refused fault) files = LacksFollowCalls dir save calls files fault
-HasFollowCalls dir save calls r files = Unit {0}
+abbrev pub HasFollowCalls : FilterValue → List ℕ → List ℕ → ℕ → Reply → Files → Type 0
+HasFollowCalls given dir save calls (Followed report) files = 3 ≤ calls
+HasFollowCalls given dir save calls (Refused fault) files =
+    LacksFollowCalls given dir save calls files fault
+HasFollowCalls given dir save calls r files = Unit {0}
 
 -- what a reply says about a run that isn't killed
 abbrev pub IsWhole : Reply → Type 0
@@ -483,27 +519,32 @@ PutBackTo dir n s (Refused fault) a b =
     × (b.published ≡ a.published)
 PutBackTo dir n s r a b = ⊥
 
--- an operation and its reply
-abbrev pub Step : List ℕ → List ℕ → List ℕ → List ℕ → Operation → Reply → World → World → Type 0
-Step dir save changes extract (Publish batch time) r a b =
+-- an operation under the filter, and its reply
+abbrev pub Step : FilterValue → List ℕ → List ℕ → List ℕ → List ℕ → Operation → Reply → World
+    → World → Type 0
+Step given dir save changes extract (Publish batch time) r a b =
     PublishTo None dir changes batch time r a b
-Step dir save changes extract (KilledPublish batch time calls) r a b =
+Step given dir save changes extract (KilledPublish batch time calls) r a b =
     PublishTo (Some calls) dir changes batch time r a b × HasPublishCalls calls r
-Step dir save changes extract (PublishAs batch time n) r a b =
+Step given dir save changes extract (PublishAs batch time n) r a b =
     PublishAsTo None dir changes batch time n r a b
-Step dir save changes extract (KilledPublishAs batch time n calls) r a b =
+Step given dir save changes extract (KilledPublishAs batch time n calls) r a b =
     PublishAsTo (Some calls) dir changes batch time n r a b
-Step dir save changes extract Follow r a b = FollowTo dir save r a b × IsWhole r
-Step dir save changes extract (KilledFollow calls) r a b =
-    FollowTo dir save r a b × HasFollowCalls dir save calls r (files_of a.store)
-Step dir save changes extract (FollowSpoiled n s) r a b = SpoiledTo dir save n s r a b × IsWhole r
-Step dir save changes extract (KilledFollowSpoiled n s calls) r a b =
-    SpoiledTo dir save n s r a b × HasSpoiledCalls calls r
-Step dir save changes extract Export r a b = ExportTo save extract r a b × IsWhole r
-Step dir save changes extract (KilledExport calls) r a b =
+Step given dir save changes extract Follow r a b = FollowTo given dir save r a b × IsWhole r
+Step given dir save changes extract (KilledFollow calls) r a b =
+    FollowTo given dir save r a b × HasFollowCalls given dir save calls r (files_of a.store)
+Step given dir save changes extract (FollowOther other) r a b =
+    OtherTo given other dir save r a b
+Step given dir save changes extract (FollowSpoiled n s) r a b =
+    SpoiledTo given dir save n s r a b × IsWhole r
+Step given dir save changes extract (KilledFollowSpoiled n s calls) r a b =
+    SpoiledTo given dir save n s r a b × HasSpoiledCalls calls r
+Step given dir save changes extract Export r a b = ExportTo save extract r a b × IsWhole r
+Step given dir save changes extract (KilledExport calls) r a b =
     ExportTo save extract r a b × HasCallsOf 2 calls r
-Step dir save changes extract Begin r a b = BeginTo dir save extract r a b × IsWhole r
-Step dir save changes extract (KilledBegin calls) r a b =
-    BeginTo dir save extract r a b × HasCallsOf 3 calls r
-Step dir save changes extract (Lose n s) r a b = LoseTo dir n s r a b
-Step dir save changes extract (PutBack n s) r a b = PutBackTo dir n s r a b
+Step given dir save changes extract Begin r a b =
+    BeginTo given dir save extract r a b × IsWhole r
+Step given dir save changes extract (KilledBegin calls) r a b =
+    BeginTo given dir save extract r a b × HasCallsOf 3 calls r
+Step given dir save changes extract (Lose n s) r a b = LoseTo dir n s r a b
+Step given dir save changes extract (PutBack n s) r a b = PutBackTo dir n s r a b

@@ -5,13 +5,12 @@ use Rattle.osm_operations.proofs.runs.begin_killed.Goals as goal
 
 pub returns-clause-step : goal.returns-clause-step
 returns-clause-step c =
-    begin_step c.args.dir.now c.args.number c.args.extract.now c.as_str.result.now c.args.save.now (files_of c.args.store.now)
+    begin_step c.args.filter.now c.args.dir.now c.args.number c.args.extract.now c.as_str.result.now c.args.save.now (files_of c.args.store.now)
     (files_of c.begin_run-answer.new.store.inner) (files_of c.stopping_over-stopping.result.inner) (files_of c.into_inner.result)
     c.begin_run-answer.result (c.as_str.ensures.value ∙ c.in_ok-state.ensures) c.stopping_over-stopping.ensures.inner
     (ap files_of c.into_inner.ensures) (record {
-      begun = c.begin_run-answer.ensures.begun;
-      in_step = c.begin_run-answer.ensures.in_step;
-      stops = c.begin_run-answer.ensures.stops;
+      begun = rw (← c.in_ok-filter.ensures.ok) c.begin_run-answer.ensures.begun;
+      stops = rw (← c.in_ok-filter.ensures.ok) c.begin_run-answer.ensures.stops;
       kept = c.begin_run-answer.ensures.frame.files;
       law = c.laws_of_state.ensures.no_fault_beside_state;
     })

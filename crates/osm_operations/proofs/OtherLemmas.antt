@@ -1,0 +1,84 @@
+-- A run of the follower under another filter than the save's: it is refused, and never for what a file holds.
+use Rattle.std.proofs.Common.{◌≡◌, ℕ, List, Option, Some, None, true, false, inl, inr, refl, sym, ap, ◌∙◌}
+use Rattle.std.specs.Prelude.{◌≢◌, IsTrue, is_none}
+use Rattle.osm_model.specs.Filter.{FilterValue}
+use Rattle.osm_save.specs.declared.save.Saved.{Saved}
+use Rattle.osm_state.specs.State.{StateValue}
+use Rattle.osm_follow.specs.Published.{PublishedValue}
+use Rattle.osm_store.specs.Files.{Files}
+use Rattle.osm_folder.specs.Following.{BeyondStops, FollowStops, HasSave, IsFollowed, IsSaveOf, IsSaved, IsStarted, SaveStops, StartStops}
+use Rattle.osm_folder.specs.Progress.{BeforeStops, IsFollowedBefore, ProgressStops}
+use Rattle.osm_folder.specs.Reports.{ReportValue}
+use Rattle.osm_folder.specs.declared.fault.FileName.TheVariants.{Top, Save}
+use Rattle.osm_folder.specs.declared.fault.RunFault.{RunFault}
+use Rattle.osm_folder.specs.declared.fault.RunFault.TheVariants.{WantOfMemory, ReadFault, WriteFault, TooLarge, Absent}
+use Rattle.osm_folder.specs.declared.fault.RunFault.TheVariants.{BadState, BadSave, OtherFilter, TopBehind}
+use Rattle.osm_folder.proofs.InStepLemmas.{one_saved}
+use Rattle.osm_operations.specs.Allowed.{OtherRefused}
+use Rattle.osm_operations.specs.Steps.Stepping.{IsNoDevice}
+use Rattle.osm_operations.proofs.ExtractLemmas.{saved_right, saved_small}
+
+-- a save that is there saves the same under any filter
+same_saved : (given other : FilterValue) (told : Option (List ℕ)) (v : Saved) → is_none told ≡ false → IsSaved other told v → IsSaved given told v
+same_saved given other None v there s = absurd (let bad : true ≡ false = there in cc)
+same_saved given other (Some bytes) v there s = s
+
+module _ (given other : FilterValue) (p : List PublishedValue) (base number : ℕ) (dir save : List ℕ) (f : Files)
+    (there : is_none (f save) ≡ false) (s : IsSaveOf p given base number (f save)) (differs : other ≢ given) where
+  -- it isn't saved under the other filter
+  none_other : (v : Saved) → IsSaved other (f save) v → v.filter ≡ other → ⊥
+  none_other v saved filter_is =
+      let same : v ≡ s.value = one_saved given (f save) v s.value (same_saved given other (f save) v there saved) s.saved in
+      differs (sym filter_is ∙ (ap (λ (u : Saved). u.filter) same ∙ s.in_step.filter_is))
+
+  not_started : (start : Saved) (top : StateValue) → IsStarted other dir save f start top → ⊥
+  not_started start top started = none_other start started.saved started.filter_is
+
+  not_held : HasSave other save f → ⊥
+  not_held has = none_other has.0 has.1 has.2
+
+  pub not_followed : (g : Files) (report : ReportValue) → IsFollowed other dir save f g report → ⊥
+  not_followed g report run = not_started run.following.start run.following.top run.following.started
+
+  pub not_before : (g : Files) (fault : RunFault) (report : ReportValue) → IsFollowedBefore (IsTrue true) other dir save f g fault report → ⊥
+  not_before g fault report run = not_started run.before.start run.before.top run.before.started
+
+  start_other : (fault : RunFault) → IsNoDevice fault → StartStops (IsTrue true) other dir save f fault → OtherRefused fault
+  start_other WantOfMemory none h = tt
+  start_other (ReadFault file) none h = absurd none
+  start_other (TooLarge Save) none h = absurd (saved_small given (f save) s.value s.saved (h refl))
+  start_other (BadSave line) none h =
+      absurd (let bad = h refl in bad.nothing s.value (saved_right given (f save) s.value bad.bytes s.saved bad.there))
+  start_other OtherFilter none h = tt
+  start_other (Absent Top) none h = absurd (not_held (h refl).0)
+  start_other (TooLarge Top) none h = absurd (not_held (h refl).0)
+  start_other (BadState Top cause) none h = absurd (not_held (h refl).0)
+  start_other TopBehind none h = absurd (let b = h refl in not_started b.start b.top b.started)
+  start_other fault none h = absurd h
+
+  beyond_other : (fault : RunFault) → IsNoDevice fault → BeyondStops (IsTrue true) other dir save f fault → OtherRefused fault
+  beyond_other WantOfMemory none h = tt
+  beyond_other (ReadFault file) none h = absurd none
+  beyond_other fault none h = absurd h
+
+  save_other : (fault : RunFault) → IsNoDevice fault → SaveStops (IsTrue true) other dir save f fault → OtherRefused fault
+  save_other WantOfMemory none h = tt
+  save_other (TooLarge Save) none h = absurd (let run = (h refl).2 in not_started run.start run.top run.started)
+  save_other (WriteFault file) none h = absurd none
+  save_other fault none h = absurd h
+
+  before_other : (fault : RunFault) → IsNoDevice fault → BeforeStops (IsTrue true) other dir save f fault → OtherRefused fault
+  before_other (TooLarge Save) none h = absurd (let c = (h refl).3 in not_started c.start c.top c.started)
+  before_other (WriteFault file) none h = absurd none
+  before_other fault none h = absurd h
+
+  follow_other : (fault : RunFault) → IsNoDevice fault → FollowStops (IsTrue true) other dir save f fault → OtherRefused fault
+  follow_other fault none (inl h) = start_other fault none h
+  follow_other fault none (inr (inl h)) = absurd (let c = h.comes refl in not_started c.start c.top c.started)
+  follow_other fault none (inr (inr (inl h))) = beyond_other fault none h
+  follow_other fault none (inr (inr (inr h))) = save_other fault none h
+
+  -- for the filter, or for want of memory
+  pub other_refused : (fault : RunFault) → IsNoDevice fault → ProgressStops (IsTrue true) other dir save f fault → OtherRefused fault
+  other_refused fault none (inl h) = follow_other fault none h.stops
+  other_refused fault none (inr h) = before_other fault none h
