@@ -97,19 +97,27 @@ def delivery(number, file):
 
 # ---- values and their texts
 
+EXTRACT_OF_ALL = b'Extract { kinds: "nwr", keys: [] }\n'
 TEXTS = [
     Case("texts", "Text::new", LONG, LONG + b"\n"),
     Case("texts", "Text::within_limits", answer=LONG + b"\n", before=(("text", LONG),)),
     Case("texts", "Text::copy", answer=LONG + b"\n", before=(("text", LONG),)),
     Case("texts", "path", b"1234567", b"001/234/567.opl\n"),
     Case("texts", "state_write", b"1234567", b"sequenceNumber=1234567\ntimestamp=1970-01-01T00\\:00\\:01Z\n\n"),
-    Case("texts", "asked", b"osmrepl show save", b'Show { save: "save" }\n', refused={b"OutOfMemory\n": Refusal()}),
-    Case("texts", "asked", b"osmrepl begin base state save", b'Begin { base: "base", state: "state", save: "save" }\n',
+    Case("texts", "asked", b"osmrepl show save", b'Show { save: "save" } ' + EXTRACT_OF_ALL,
+         refused={b"OutOfMemory\n": Refusal()}),
+    Case("texts", "asked", b"osmrepl begin base state save",
+         b'Begin { base: "base", state: "state", save: "save" } ' + EXTRACT_OF_ALL,
+         refused={b"OutOfMemory\n": Refusal()}),
+    Case("texts", "asked", b"osmrepl follow dir save b --kinds w a b",
+         b'Follow { dir: "dir", save: "save" } Extract { kinds: "w", keys: ["b", "a", "b"] }\n',
          refused={b"OutOfMemory\n": Refusal()}),
     Case("texts", "asked", b"osmrepl publish dir changes --now 2024 --sequence 7",
-         b'PublishAs { dir: "dir", changes: "changes", now: "2024", sequence: "7" }\n',
+         b'PublishAs { dir: "dir", changes: "changes", now: "2024", sequence: "7" } ' + EXTRACT_OF_ALL,
          refused={b"OutOfMemory\n": Refusal()}),
     Case("texts", "asked", b"osmrepl convert in", b"MissingRequiredArgument\n", refused={b"OutOfMemory\n": Refusal()}),
+    Case("texts", "check_words", answer=b"(false, true, false) " + LONG + b" highway\n", before=(("follow", b""),),
+         refused={b"out of memory\n": Refusal()}),
     Case("texts", "path_of", LONG, LONG + b"\n", refused={b"AllocError\n": Refusal()}),
     Case("texts", "cause_text", b"a\x1bb", b" (a\\u{1b}b: entity not found; a hint)\n",
          refused={b"AllocError\n": Refusal()}),
@@ -395,6 +403,21 @@ def begun(objects):
     return {"save": b"osmrepl-save 3\nbase 3\nkinds nwr\nkeys 0\nsequence 3\n" + mirror(3, objects, (), ()) + b"end\n"}
 
 
+# The filter of ways with one key, and a save under it.
+WAYS = ("filter", b"w " + LONG)
+
+
+def ways_save(base, number, objects, users, changesets):
+    head = b"osmrepl-save 3\nbase %d\nkinds w\nkeys 1\n%s\nsequence %d\n" % (base, LONG, number)
+    return {"save": head + mirror(3, objects, users, changesets) + b"end\n"}
+
+
+def for_ways(name, answer, old, new=None):
+    """A word with that filter, which each run takes."""
+    case = word(name, answer, old, new)
+    return case._replace(before=(*case.before, WAYS), again=(WAYS,))
+
+
 FILES = [
     word("replay", REPLIED + b"status 0\n", {}, given=ROW, script=ROW),
     word("publish", b"published 1\nstatus 0\n", CHANGES, WHOLE, is_part_published(CHANGES)),
@@ -402,6 +425,10 @@ FILES = [
     word("begin-opl", b"number 3\nstatus 0\n", {"a.opl": lines(*PLENTY[0]), "state": state(3)}, begun(PLENTY[0])),
     word("begin-o5m", b"number 3\nstatus 0\n", {"a.o5m": DATA_FILE, "state": state(3), **SAVED}, begun(KINDS)),
     word("follow", b"applied 1..1\nnumber 1\nstatus 0\n", WHOLE, FOLLOWED),
+    for_ways("follow", b"applied 1..1\nnumber 1\nstatus 0\n", WHOLE, ways_save(0, 1, (), *ONE[1:])),
+    for_ways("follow", b"save: other filter\n", {**WHOLE, **SAVED}),
+    for_ways("begin-opl", b"number 3\nstatus 0\n", {"a.opl": lines(*PLENTY[0]), "state": state(3)},
+             ways_save(3, 3, (TAGGED,), (), ())),
     word("lag", b"behind 0\nseconds 0\nstatus 0\n", {"dir/state.txt": state(3), **SAVED}),
     word("show", show(3, *PLENTY) + b"status 0\n", SAVED),
     word("export-opl", b"status 0\n", SAVED, {"b.opl": lines(*PLENTY[0])}),

@@ -1,8 +1,11 @@
 //! What the program's words do, over files in memory.
 
+use crate::answers::put_some;
 use crate::commands::Command;
+use crate::filters::filter_of;
 use crate::subject::Subject;
 use anyhow::{Context, Result};
+use osm_model::filter::Filter;
 use osm_model::memory::WantOfMemory;
 use osm_reading::pieces::cut;
 use osm_repl::execution::execute;
@@ -14,10 +17,11 @@ use std::io::Write;
 // Room for what a run writes.
 const ROOM: usize = 65_536;
 
-/// Files in memory, and what a run wrote.
+/// Files in memory, the filter of the next run unless it keeps all, and what a run wrote.
 #[derive(Drop)]
 pub(crate) struct Files {
     store: MemoryStore,
+    filter: Option<Filter>,
     written: Vec<u8>,
 }
 
@@ -26,6 +30,7 @@ impl Files {
         let written = Vec::with_capacity(alloc, ROOM)?;
         Ok(Files {
             store: MemoryStore::new(alloc),
+            filter: None,
             written,
         })
     }
@@ -46,7 +51,12 @@ impl Files {
     }
 
     fn execute(&mut self, alloc: Global, order: Order<'_>, mut input: &[u8]) -> Result<()> {
-        match execute(alloc, order, &mut self.store, &mut input, &mut self.written) {
+        let filter = match self.filter.take() {
+            Some(filter) => filter,
+            None => Filter::all(alloc),
+        };
+        let (store, written) = (&mut self.store, &mut self.written);
+        match execute(alloc, order, filter, store, &mut input, written) {
             Ok(status) => writeln!(&mut self.written, "status {status}")?,
             Err(fault) => writeln!(&mut self.written, "{fault}")?,
         }
@@ -78,6 +88,7 @@ impl Subject for Files {
     fn take(&mut self, alloc: Global, command: &Command<'_>, out: &mut Vec<u8>) -> Result<()> {
         match command.word {
             b"file" => self.put(alloc, command.given),
+            b"filter" => put_some(filter_of(alloc, command.given), &mut self.filter),
             b"show" => self.show(command.given, out),
             word => self.run(alloc, word, command.given, out),
         }

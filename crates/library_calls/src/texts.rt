@@ -3,16 +3,19 @@
 
 use crate::answers::{put_some, write_bytes_or};
 use crate::commands::Command;
+use crate::filters::write_filter;
 use crate::subject::Subject;
 use anyhow::{Context, Result, bail};
 use osm_folder::fault::{FileName, RunFault};
+use osm_model::filter::Filter;
 use osm_model::limits::MAX_SEQUENCE;
 use osm_model::text::Text;
 use osm_reading::sequence::sequence_read;
 use osm_repl::causes::{Cause, cause_text, path_of};
+use osm_repl::checks::check_words;
 use osm_repl::command_line::asked;
 use osm_repl::echo::echoes;
-use osm_repl::orders::Order;
+use osm_repl::orders::{Asked, Extract, Options, Order};
 use osm_state::paths::{Suffix, path};
 use osm_state::state::State;
 use osm_state::state_text::state_write;
@@ -20,15 +23,19 @@ use std::alloc::Global;
 use std::fmt::Debug;
 use std::io::{ErrorKind, Write};
 
-/// A text that may be copied.
+/// A text that may be copied, and words whose filter may be made.
 #[derive(Drop)]
 pub(crate) struct Texts {
     text: Option<Text>,
+    asked: Option<Asked<'static>>,
 }
 
 impl Texts {
     pub(crate) fn new() -> Texts {
-        Texts { text: None }
+        Texts {
+            text: None,
+            asked: None,
+        }
     }
 
     fn text(&self) -> Result<&Text> {
@@ -44,6 +51,16 @@ impl Texts {
         let text = self.text()?;
         write_text_or(text.copy(alloc), out)
     }
+
+    fn ask_for_ways(&mut self, alloc: Global) -> Result<()> {
+        self.asked = Some(asked_for_ways(alloc)?);
+        Ok(())
+    }
+
+    fn write_check(&self, alloc: Global, out: &mut Vec<u8>) -> Result<()> {
+        let asked = self.asked.as_ref().context("no words")?;
+        write_filter_or(check_words(alloc, asked), out)
+    }
 }
 
 impl Subject for Texts {
@@ -51,6 +68,7 @@ impl Subject for Texts {
         let given = str::from_utf8(command.given)?;
         match command.word {
             b"text" => put_some(Text::new(alloc, given), &mut self.text),
+            b"follow" => self.ask_for_ways(alloc),
             b"show" => Ok(()),
             b"Text::new" => write_text_or(Text::new(alloc, given), out),
             b"Text::within_limits" => self.write_within_limits(alloc, out),
@@ -58,6 +76,7 @@ impl Subject for Texts {
             b"path" => write_path(alloc, given, out),
             b"state_write" => write_state(alloc, given, out),
             b"asked" => write_asked(alloc, given, out),
+            b"check_words" => self.write_check(alloc, out),
             b"path_of" => write_path_of_fault(alloc, given, out),
             b"cause_text" => write_cause(alloc, given, out),
             b"echoes" => write_echoes(alloc, given, out),
@@ -112,10 +131,34 @@ fn write_asked(alloc: Global, given: &str, out: &mut Vec<u8>) -> Result<()> {
     let (words, count) = words_of(given);
     let words = words.get(..count).context("too many words")?;
     match asked(alloc, words) {
-        Ok(found) => writeln!(out, "{:?}", found.order)?,
+        Ok(found) => writeln!(out, "{:?} {:?}", found.order, found.extract)?,
         Err(error) => writeln!(out, "{:?}", error.kind())?,
     }
     Ok(())
+}
+
+// The words `follow dir save` with the kind of ways and two keys, one of them twice.
+fn asked_for_ways(alloc: Global) -> Result<Asked<'static>> {
+    let mut keys = Vec::new(alloc);
+    for key in ["highway", "a-name-of-more-than-22-bytes", "highway"] {
+        keys.push(key)?;
+    }
+    let (dir, save) = ("dir", "save");
+    Ok(Asked {
+        order: Order::Follow { dir, save },
+        options: Options {
+            no_lock: false,
+            any_time: false,
+        },
+        extract: Extract { kinds: "w", keys },
+    })
+}
+
+fn write_filter_or(answer: Result<Filter, RunFault>, out: &mut Vec<u8>) -> Result<()> {
+    match answer {
+        Ok(filter) => write_filter(&filter, out),
+        Err(fault) => Ok(writeln!(out, "{fault}")?),
+    }
 }
 
 // The path of a save that isn't there.

@@ -4,7 +4,7 @@ use crate::answers::{
     put_some, write_batch_or, write_change, write_change_or, write_changes, write_done,
 };
 use crate::commands::Command;
-use crate::filters::filter_of;
+use crate::filters::{filter_of, write_filter};
 use crate::subject::Subject;
 use anyhow::{Context, Result, bail};
 use osm_model::batch::{Batch, PushError};
@@ -129,15 +129,6 @@ fn write_filter_or(answer: Result<Filter, WantOfMemory>, out: &mut Vec<u8>) -> R
         Ok(filter) => write_filter(&filter, out),
         Err(error) => Ok(writeln!(out, "{error:?}")?),
     }
-}
-
-fn write_filter(filter: &Filter, out: &mut Vec<u8>) -> Result<()> {
-    let kinds = (filter.nodes(), filter.ways(), filter.relations());
-    write!(out, "{kinds:?}")?;
-    for key in filter.keys() {
-        write!(out, " {}", key.as_str())?;
-    }
-    Ok(writeln!(out)?)
 }
 
 // A tag, with room for a hundred.

@@ -1,7 +1,7 @@
 -- Words that clap takes name one of the commands.
 use Rattle.std.proofs.Common.{◌≡◌, ◌∙◌, ◌++◌, ℕ, Bool, subst, true, false, not, List, [], ◌∷◌, Option, Some, None, refl}
 use Rattle.std.proofs.Common.{ap, sym, is_some, codes, option_map, ◌⊎◌, inl, inr, ◌&&◌, ◌||◌}
-use Rattle.std.specs.Prelude.{find, fold, cond, MatchOption}
+use Rattle.std.specs.Prelude.{find, fold, cond, map, MatchOption, unwrap_or}
 use Rattle.std.proofs.lemmas.Option.{same_Some}
 use Rattle.std.specs.Str.{bytes_eq}
 use Rattle.std.proofs.lemmas.Slice.Eq.{bytes_eq-Decides}
@@ -21,13 +21,13 @@ use Rattle.clap.specs.Faults.{check_fault, entered_fault, level_fault}
 use Rattle.clap.specs.declared.error.kind.ErrorKind.TheVariants.{DisplayHelp, InvalidSubcommand}
 use Rattle.clap.specs.Words.{subcommand_of}
 use Rattle.clap.specs.Simple.{filled, help_rule, with_index}
-use Rattle.clap.specs.Walk.{first_of, rows_after}
+use Rattle.clap.specs.Walk.{all_of, first_of, rows_after}
 use Rattle.std.specs.Option.{option_map_or}
 use Rattle.std.specs.Borrow.{Bor}
 use Rattle.clap.specs.declared.error.kind.ErrorKind.TheVariants.{InvalidValue}
-use Rattle.osm_repl.specs.CommandLine.{flag_rule, is_raised, osmrepl_app, sequence_rule, time_rule, word_rule}
+use Rattle.osm_repl.specs.CommandLine.{flag_rule, is_raised, keys_in, keys_rule, kinds_rule, osmrepl_app, sequence_rule, time_rule, word_rule}
 use Rattle.osm_repl.specs.Steps.Commands.{HasValue, HasWord, HasWords, IsCommand, IsCommandOf}
-use Rattle.osm_repl.proofs.WordLemmas.{Each, HasValueIn, IsGoodRule, IsGoodValue, Passes, first_passes, level_passes, second_passes, words_have_values}
+use Rattle.osm_repl.proofs.WordLemmas.{Each, HasValueIn, IsGoodRule, IsGoodValue, MayBeEmpty, Passes, first_passes, level_passes, second_passes, words_have_values}
 
 -- a step that meets no subcommand
 abbrev IsOwn : Step → Type 0
@@ -187,7 +187,7 @@ two_ways word fine h =
 
 -- ---- the words of the commands
 
--- the rules of a word, of the time, of the number, of a flag and of help, as they are built
+-- the rules of a word, of the time, of the number, of keys, of kinds, of a flag and of help, as they are built
 abbrev built_word : Text → ℕ → Rule
 built_word id i = with_index i (filled (word_rule id))
 
@@ -197,16 +197,25 @@ built_time i = with_index i (filled time_rule)
 abbrev built_sequence : ℕ → Rule
 built_sequence i = with_index i (filled sequence_rule)
 
+abbrev built_keys : ℕ → Rule
+built_keys i = with_index i (filled keys_rule)
+
+abbrev built_kinds : ℕ → Rule
+built_kinds i = with_index i (filled kinds_rule)
+
 abbrev built_flag : Text → ℕ → Rule
 built_flag name i = with_index i (filled (flag_rule name))
 
 abbrev built_help : ℕ → Rule
 built_help i = with_index i (filled help_rule)
 
+no_text : (x : ℕ) (xs : Text) (id : Text) → x ∷ xs ≡ [] → MayBeEmpty id
+no_text x xs id h = absurd cc
+
 good_word : (id : Text) (i : ℕ) → IsGoodRule (built_word id i)
 good_word id i = record {
   use_is = inr (inl (record {
-    is_set = refl;
+    sets = inl refl;
     some = λ h. let bad : ◌≡◌ {A = Kinds} (InvalidValue ∷ []) [] = h in absurd cc;
     empty = λ h. let bad : ◌≡◌ {A = Kinds} (InvalidValue ∷ []) [] = h in absurd cc;
   }));
@@ -216,9 +225,9 @@ good_word id i = record {
 good_time : (i : ℕ) → IsGoodRule (built_time i)
 good_time i = record {
   use_is = inr (inl (record {
-    is_set = refl;
+    sets = inl refl;
     some = λ h. let bad : ◌≡◌ {A = Kinds} (InvalidValue ∷ []) [] = h in absurd cc;
-    empty = λ h. refl;
+    empty = λ h. inl refl;
   }));
   default_is = inl refl;
 }
@@ -226,18 +235,35 @@ good_time i = record {
 good_sequence : (i : ℕ) → IsGoodRule (built_sequence i)
 good_sequence i = record {
   use_is = inr (inl (record {
-    is_set = refl;
+    sets = inl refl;
     some = λ h. let bad : ◌≡◌ {A = Kinds} (InvalidValue ∷ []) [] = h in absurd cc;
     empty = λ h. let bad : ◌≡◌ {A = Kinds} (InvalidValue ∷ []) [] = h in absurd cc;
   }));
   default_is = inl refl;
 }
 
+good_keys : (i : ℕ) → IsGoodRule (built_keys i)
+good_keys i = record {
+  use_is = inr (inl (record {
+    sets = inr refl;
+    some = λ h. let bad : ◌≡◌ {A = Kinds} (InvalidValue ∷ []) [] = h in absurd cc;
+    empty = λ h. let bad : ◌≡◌ {A = Kinds} (InvalidValue ∷ []) [] = h in absurd cc;
+  }));
+  default_is = inl refl;
+}
+
+good_kinds : (i : ℕ) → IsGoodRule (built_kinds i)
+good_kinds i = record {
+  use_is = inr (inl (record {
+    sets = inl refl;
+    some = λ h. let bad : ◌≡◌ {A = Kinds} (InvalidValue ∷ []) [] = h in absurd cc;
+    empty = λ h. inr refl;
+  }));
+  default_is = inr (no_text _ _ (codes "KINDS"));
+}
+
 good_help : (i : ℕ) → IsGoodRule (built_help i)
 good_help i = record { use_is = inl refl; default_is = inl refl }
-
-no_text : (x : ℕ) (xs : Text) (id : Text) → x ∷ xs ≡ [] → id ≡ codes "TIME"
-no_text x xs id h = absurd cc
 
 good_flag : (name : Text) (i : ℕ) → IsGoodRule (built_flag name i)
 good_flag name i = record {
@@ -249,13 +275,21 @@ good_flag name i = record {
   default_is = inr (no_text _ _ name);
 }
 
-has_word : (rows : List Row) (id : Text) → bytes_eq id (codes "TIME") ≡ false → IsGoodValue id (first_of id rows) → HasWord rows id
+-- a word that is neither a time nor kinds
+abbrev IsFilled : Text → Type 0
+IsFilled id = (bytes_eq id (codes "TIME") ≡ false) × (bytes_eq id (codes "KINDS") ≡ false)
+
+has_word : (rows : List Row) (id : Text) → IsFilled id → IsGoodValue id (first_of id rows) → HasWord rows id
 has_word rows id other good = go (first_of id rows) refl good
   where
-    no_time : id ≡ codes "TIME" → ⊥
-    no_time e =
-        let bad : false ≡ true = sym other ∙ (bytes_eq-Decides id (codes "TIME")).1 e in
+    two_names : (name : Text) → bytes_eq id name ≡ false → id ≡ name → ⊥
+    two_names name differs e =
+        let bad : false ≡ true = sym differs ∙ (bytes_eq-Decides id name).1 e in
         absurd cc
+
+    no_time : MayBeEmpty id → ⊥
+    no_time (inl e) = two_names (codes "TIME") other.0 e
+    no_time (inr e) = two_names (codes "KINDS") other.1 e
 
     go : (o : Option Text) → first_of id rows ≡ o → IsGoodValue id o → HasWord rows id
     go None e h = absurd h
@@ -279,21 +313,20 @@ entered_with word rest f s rules are good h =
 
 -- such a command of two words
 pair_with : (word : Text) (rest : List Text) (f : Text × List Row) (s : Shape) (a b : Text) → s.rules ≡ built_word a 1 ∷ built_word b 2 ∷ built_help 3 ∷ []
-    → bytes_eq a (codes "TIME") ≡ false → bytes_eq b (codes "TIME") ≡ false → Meets word rest f s → (f.0 ≡ s.name) × HasWords f.1 (a ∷ b ∷ [])
+    → IsFilled a → IsFilled b → Meets word rest f s → (f.0 ≡ s.name) × HasWords f.1 (a ∷ b ∷ [])
 pair_with word rest f s a b are no_a no_b h =
     let has = entered_with word rest f s _ are (good_word a 1, (good_word b 2, (good_help 3, tt))) h in
     (has.0, (has_word f.1 a no_a (has.1.0 refl), (has_word f.1 b no_b (has.1.1.0 refl), tt)))
 
--- such a command of three words and `--no-lock`
+-- such a command of three words, keys, kinds and `--no-lock`
 triple_with : (word : Text) (rest : List Text) (f : Text × List Row) (s : Shape) (a b c : Text)
-    → s.rules ≡ built_word a 1 ∷ built_word b 2 ∷ built_word c 3 ∷ built_flag (codes "no-lock") 4 ∷ built_help 4 ∷ []
-    → bytes_eq a (codes "TIME") ≡ false → bytes_eq b (codes "TIME") ≡ false → bytes_eq c (codes "TIME") ≡ false
-    → Meets word rest f s → (f.0 ≡ s.name) × HasWords f.1 (a ∷ b ∷ c ∷ [])
+    → s.rules ≡ built_word a 1 ∷ built_word b 2 ∷ built_word c 3 ∷ built_keys 4 ∷ built_kinds 5 ∷ built_flag (codes "no-lock") 5 ∷ built_help 5 ∷ []
+    → IsFilled a → IsFilled b → IsFilled c → Meets word rest f s → (f.0 ≡ s.name) × HasWords f.1 (a ∷ b ∷ c ∷ [])
 triple_with word rest f s a b c are no_a no_b no_c h =
-    let has = entered_with word rest f s _ are (good_word a 1, (good_word b 2, (good_word c 3, (good_flag (codes "no-lock") 4, (good_help 4, tt))))) h in (
-      has.0,
-      (has_word f.1 a no_a (has.1.0 refl), (has_word f.1 b no_b (has.1.1.0 refl), (has_word f.1 c no_c (has.1.1.1.0 refl), tt))),
-    )
+    let good : Each IsGoodRule (built_keys 4 ∷ built_kinds 5 ∷ built_flag (codes "no-lock") 5 ∷ built_help 5 ∷ []) =
+    (good_keys 4, (good_kinds 5, (good_flag (codes "no-lock") 5, (good_help 5, tt)))) in
+    let has = entered_with word rest f s _ are (good_word a 1, (good_word b 2, (good_word c 3, good))) h in
+    (has.0, (has_word f.1 a no_a (has.1.0 refl), (has_word f.1 b no_b (has.1.1.0 refl), (has_word f.1 c no_c (has.1.1.1.0 refl), tt))))
 
 named : (name : Text) (f : Text × List Row) → f.0 ≡ name → IsCommandOf name f.1 → IsCommand (Some f)
 named name f e is = subst (λ (n : Text). IsCommandOf n f.1) (sym e) is
@@ -322,34 +355,38 @@ is_command p f fine (inr (inl h)) =
     ) h in
     named (codes "publish") f has.0 (
       inr (inl refl),
-      (has_word f.1 (codes "DIR") refl (has.1.0 refl), (has_word f.1 (codes "CHANGES") refl (has.1.1.0 refl), tt)),
+      (has_word f.1 (codes "DIR") (refl, refl) (has.1.0 refl), (has_word f.1 (codes "CHANGES") (refl, refl) (has.1.1.0 refl), tt)),
       (has_value f.1 (codes "TIME") (has.1.1.1.0 refl), tt),
     )
 is_command p f fine (inr (inr (inl h))) =
-    let has = triple_with p.0 p.1 f _ (codes "BASE") (codes "STATE") (codes "SAVE") refl refl refl refl h in
+    let has = triple_with p.0 p.1 f _ (codes "BASE") (codes "STATE") (codes "SAVE") refl (refl, refl) (refl, refl) (refl, refl) h in
     named (codes "begin") f has.0 (inr (inr (inl refl)), has.1, tt)
 is_command p f fine (inr (inr (inr (inl h)))) =
-    let rules : List Rule = built_word (codes "DIR") 1 ∷ built_word (codes "SAVE") 2 ∷ built_flag (codes "no-lock") 3 ∷ built_help 3 ∷ [] in
+    let rules : List Rule = built_word (codes "DIR") 1 ∷ built_word (codes "SAVE") 2 ∷ built_keys 3 ∷ built_kinds 4 ∷ built_flag (codes "no-lock") 4
+    ∷ built_help 4 ∷ [] in
     let has = entered_with p.0 p.1 f _ rules refl (
       good_word (codes "DIR") 1,
-      (good_word (codes "SAVE") 2, (good_flag (codes "no-lock") 3, (good_help 3, tt))),
+      (
+        good_word (codes "SAVE") 2,
+        (good_keys 3, (good_kinds 4, (good_flag (codes "no-lock") 4, (good_help 4, tt)))),
+      ),
     ) h in
     named (codes "follow") f has.0 (
       inr (inr (inr (inl refl))),
-      (has_word f.1 (codes "DIR") refl (has.1.0 refl), (has_word f.1 (codes "SAVE") refl (has.1.1.0 refl), tt)),
+      (has_word f.1 (codes "DIR") (refl, refl) (has.1.0 refl), (has_word f.1 (codes "SAVE") (refl, refl) (has.1.1.0 refl), tt)),
       tt,
     )
 is_command p f fine (inr (inr (inr (inr (inl h))))) =
-    let has = pair_with p.0 p.1 f _ (codes "DIR") (codes "SAVE") refl refl refl h in
+    let has = pair_with p.0 p.1 f _ (codes "DIR") (codes "SAVE") refl (refl, refl) (refl, refl) h in
     named (codes "lag") f has.0 (inr (inr (inr (inr (inl refl)))), has.1, tt)
 is_command p f fine (inr (inr (inr (inr (inr (inl h)))))) =
     let has = entered_with p.0 p.1 f _ (built_word (codes "SAVE") 1 ∷ built_help 2 ∷ []) refl (good_word (codes "SAVE") 1, (good_help 2, tt)) h in
-    named (codes "show") f has.0 (inr (inr (inr (inr (inr (inl refl))))), (has_word f.1 (codes "SAVE") refl (has.1.0 refl), tt), tt)
+    named (codes "show") f has.0 (inr (inr (inr (inr (inr (inl refl))))), (has_word f.1 (codes "SAVE") (refl, refl) (has.1.0 refl), tt), tt)
 is_command p f fine (inr (inr (inr (inr (inr (inr (inl h))))))) =
-    let has = pair_with p.0 p.1 f _ (codes "SAVE") (codes "OUT") refl refl refl h in
+    let has = pair_with p.0 p.1 f _ (codes "SAVE") (codes "OUT") refl (refl, refl) (refl, refl) h in
     named (codes "export") f has.0 (inr (inr (inr (inr (inr (inr (inl refl)))))), has.1, tt)
 is_command p f fine (inr (inr (inr (inr (inr (inr (inr (inl h)))))))) =
-    let has = pair_with p.0 p.1 f _ (codes "IN") (codes "OUT") refl refl refl h in
+    let has = pair_with p.0 p.1 f _ (codes "IN") (codes "OUT") refl (refl, refl) (refl, refl) h in
     named (codes "convert") f has.0 (inr (inr (inr (inr (inr (inr (inr refl)))))), has.1, tt)
 is_command p f fine (inr (inr (inr (inr (inr (inr (inr (inr (inl h))))))))) = absurd (two_ways p.0 fine h.1)
 is_command p f fine (inr (inr (inr (inr (inr (inr (inr (inr (inr h))))))))) = absurd h
@@ -380,6 +417,24 @@ pub no_value : (found : Option (Bor Text)) (name : Text) (rows : List Row) → f
 no_value found name rows none is has =
     let bad : ◌≡◌ {A = Option Text} None (Some has.value) = sym (ap (option_map (λ (s : Bor Text). s.now)) none) ∙ (is ∙ has.is_first) in
     absurd cc
+
+-- the keys that were found
+pub has_keys : (found : Option (Bor (List (Bor Text)))) (keys : Bor (List (Bor Text))) (items : List (Bor Text)) (rows : List Row)
+    → option_map (λ s. map (λ v. v.now) s.now) found ≡ all_of (codes "KEY") rows → found ≡ Some keys → items ≡ keys.now
+    → map (λ (key : Bor Text). key.now) items ≡ keys_in rows
+has_keys found keys items rows is some same =
+    let these : Some (map (λ (v : Bor Text). v.now) keys.now) ≡ all_of (codes "KEY") rows =
+    sym (ap (option_map (λ (s : Bor (List (Bor Text))). map (λ (v : Bor Text). v.now) s.now)) some) ∙ is in
+    ap (map (λ (key : Bor Text). key.now)) same ∙ ap (λ (o : Option (List Text)). unwrap_or o []) these
+
+-- no keys were found
+pub has_no_keys : (found : Option (Bor (List (Bor Text)))) (items : List (Bor Text)) (rows : List Row)
+    → option_map (λ s. map (λ v. v.now) s.now) found ≡ all_of (codes "KEY") rows → found ≡ None → items ≡ []
+    → map (λ (key : Bor Text). key.now) items ≡ keys_in rows
+has_no_keys found items rows is none empty =
+    let no_row : None ≡ all_of (codes "KEY") rows =
+    sym (ap (option_map (λ (s : Bor (List (Bor Text))). map (λ (v : Bor Text). v.now) s.now)) none) ∙ is in
+    ap (map (λ (key : Bor Text). key.now)) empty ∙ ap (λ (o : Option (List Text)). unwrap_or o []) no_row
 
 -- a flag that was given has the value `true`
 pub raised : (found : Option (Bor Text)) (name : Text) (rows : List Row)

@@ -1,4 +1,4 @@
--- Rows of a command whose words pass: each has a first value, and only a time's may be empty.
+-- Rows of a command whose words pass: each has a first value, and only a time and kinds may be empty.
 use Rattle.std.proofs.Common.{◌≡◌, ◌∙◌, ◌++◌, ◌&&◌, ◌||◌, ◌⊎◌, inl, inr, ℕ, zero, suc, Bool, true, false, not, List, []}
 use Rattle.std.proofs.Common.{◌∷◌, Option, Some, None, refl, sym, subst, is_some, codes, length, drop}
 use Rattle.std.specs.Prelude.{cond, encode_utf8, find, fold, option_and_then, slice_get}
@@ -26,7 +26,7 @@ use Rattle.clap.specs.Faults.{flag_word_fault, flags_fault, level_fault, long_fa
 use Rattle.clap.specs.Faults.{positional_fault, react_fault, repeat_fault, set_fault, settle_fault, short_fault}
 use Rattle.clap.specs.Faults.{step_fault, stray_fault, turn_fault, use_fault, values_fault, walk_fault, word_fault}
 use Rattle.clap.specs.declared.builder.action.ArgAction.{ArgAction}
-use Rattle.clap.specs.declared.builder.action.ArgAction.TheVariants.{Help, Set, SetTrue}
+use Rattle.clap.specs.declared.builder.action.ArgAction.TheVariants.{Append, Help, Set, SetTrue}
 use Rattle.clap.specs.declared.error.kind.ErrorKind.TheVariants.{TooManyValues}
 use Rattle.clap.specs.declared.parser.matches.ValueSource.{ValueSource}
 use Rattle.clap.specs.declared.parser.matches.ValueSource.TheVariants.{CommandLine, DefaultValue}
@@ -81,10 +81,14 @@ found_of_each P p (y ∷ ys) x each h = go (p y) refl (found_of_each P p ys x ea
     go true e later h = subst (λ z. P z × (p z ≡ true)) (same_Some y x h) (each.0, e)
     go false e later h = later h
 
--- the first value is there, and only a time's may be empty
+-- a time and kinds may be empty, as far as the words are looked at here
+abbrev pub MayBeEmpty : Text → Type 0
+MayBeEmpty id = (id ≡ codes "TIME") ⊎ (id ≡ codes "KINDS")
+
+-- the first value is there, and only of those it may be empty
 abbrev HasFirst : Text → List Text → Type 0
 HasFirst id [] = ⊥
-HasFirst id (v ∷ vs) = v ≡ [] → id ≡ codes "TIME"
+HasFirst id (v ∷ vs) = v ≡ [] → MayBeEmpty id
 
 has_first_more : (id : Text) (vs more : List Text) → HasFirst id vs → HasFirst id (vs ++ more)
 has_first_more id [] more h = absurd h
@@ -93,17 +97,18 @@ has_first_more id (v ∷ vs) more h = h
 abbrev IsGoodRow : Row → Type 0
 IsGoodRow r = HasFirst r.id r.values
 
--- a use gives at least one value, and an empty one only for a time
+-- a use gives at least one value, which takes the place of an earlier one or comes after it, and an empty one only for a
+-- time or kinds
 pub record TakesValue (a : Rule) : Type 0 where
-  pub is_set : action_of a ≡ Set
+  pub sets : (action_of a ≡ Set) ⊎ (action_of a ≡ Append)
   pub some : range_kinds (unwrap_or_range a.range).start_inclusive (most_values a) 0 ≡ [] → ⊥
-  pub empty : value_kinds a.ignore_case (parser_of_value a.parser) [] ≡ [] → a.id ≡ codes "TIME"
+  pub empty : value_kinds a.ignore_case (parser_of_value a.parser) [] ≡ [] → MayBeEmpty a.id
 
 -- a use of a flag gives the value that stands for one without a value, and no value of a word can be empty
 pub record IsFlag (a : Rule) : Type 0 where
   pub is_flag : action_of a ≡ SetTrue
   pub some : HasFirst a.id a.missing
-  pub empty : value_kinds a.ignore_case (parser_of_value a.parser) [] ≡ [] → a.id ≡ codes "TIME"
+  pub empty : value_kinds a.ignore_case (parser_of_value a.parser) [] ≡ [] → MayBeEmpty a.id
 
 -- a rule whose uses answer with help, or give a value, and so does its default if it has one
 pub record IsGoodRule (a : Rule) : Type 0 where
@@ -131,7 +136,7 @@ without_good : (id : Text) (rows : List Row) → Each IsGoodRow rows → Each Is
 without_good id rows old = at_row_good id (λ _. []) [] rows (λ r h. tt) tt old
 
 -- a use whose values pass
-values_good : (a : Rule) (v : Text) (vs : List Text) → (value_kinds a.ignore_case (parser_of_value a.parser) [] ≡ [] → a.id ≡ codes "TIME")
+values_good : (a : Rule) (v : Text) (vs : List Text) → (value_kinds a.ignore_case (parser_of_value a.parser) [] ≡ [] → MayBeEmpty a.id)
     → values_fault a (v ∷ vs) ≡ [] → HasFirst a.id (v ∷ vs)
 values_good a v vs empty all none =
     let first : value_kinds a.ignore_case (parser_of_value a.parser) v ≡ [] = first_passes _ (values_fault a vs) all in
@@ -147,23 +152,37 @@ flag_used_good again a (v ∷ vs) rows flag passes old =
     let all : values_fault a (v ∷ vs) ≡ [] = second_passes (repeat_fault again a.id rows) _ sets in
     with_good a CommandLine (v ∷ vs) (without a.id rows) (values_good a v vs flag.empty all) (without_good a.id rows old)
 
-set_good : (again : Bool) (a : Rule) (values : List Text) (rows : List Row) → TakesValue a → use_fault again a values rows ≡ [] → Each IsGoodRow rows
-    → Each IsGoodRow (used_as Set a.id (reading_by a) (values_or_missing a values) rows)
-set_good again a [] rows takes passes old =
+set_good : (again : Bool) (a : Rule) (values : List Text) (rows : List Row) → TakesValue a → action_of a ≡ Set → use_fault again a values rows ≡ []
+    → Each IsGoodRow rows → Each IsGoodRow (used_as Set a.id (reading_by a) (values_or_missing a values) rows)
+set_good again a [] rows takes is passes old =
     absurd (takes.some (first_passes (range_kinds (unwrap_or_range a.range).start_inclusive (most_values a) 0) _ passes))
-set_good again a (v ∷ vs) rows takes passes old =
+set_good again a (v ∷ vs) rows takes is passes old =
     let acts : action_fault (action_of a) again a (v ∷ vs) rows ≡ [] =
     second_passes (range_kinds (unwrap_or_range a.range).start_inclusive (most_values a) (length (v ∷ vs))) _ passes in
-    let sets : set_fault again a (v ∷ vs) rows ≡ [] = subst (λ (x : ArgAction). action_fault x again a (v ∷ vs) rows ≡ []) takes.is_set acts in
+    let sets : set_fault again a (v ∷ vs) rows ≡ [] = subst (λ (x : ArgAction). action_fault x again a (v ∷ vs) rows ≡ []) is acts in
     let all : values_fault a (v ∷ vs) ≡ [] = second_passes (repeat_fault again a.id rows) _ sets in
     with_good a CommandLine (v ∷ vs) (without a.id rows) (values_good a v vs takes.empty all) (without_good a.id rows old)
+
+append_good : (again : Bool) (a : Rule) (values : List Text) (rows : List Row) → TakesValue a → action_of a ≡ Append → use_fault again a values rows ≡ []
+    → Each IsGoodRow rows → Each IsGoodRow (used_as Append a.id (reading_by a) (values_or_missing a values) rows)
+append_good again a [] rows takes is passes old =
+    absurd (takes.some (first_passes (range_kinds (unwrap_or_range a.range).start_inclusive (most_values a) 0) _ passes))
+append_good again a (v ∷ vs) rows takes is passes old =
+    let acts : action_fault (action_of a) again a (v ∷ vs) rows ≡ [] =
+    second_passes (range_kinds (unwrap_or_range a.range).start_inclusive (most_values a) (length (v ∷ vs))) _ passes in
+    let all : values_fault a (v ∷ vs) ≡ [] = subst (λ (x : ArgAction). action_fault x again a (v ∷ vs) rows ≡ []) is acts in
+    with_good a CommandLine (v ∷ vs) rows (values_good a v vs takes.empty all) old
 
 used_good : (again : Bool) (a : Rule) (values : List Text) (rows : List Row) → IsGoodRule a → use_fault again a values rows ≡ [] → Each IsGoodRow rows
     → Each IsGoodRow (used a values rows)
 used_good again a values rows good passes old = elim good.use_is [
   | inl help ↦ subst (λ (x : ArgAction). Each IsGoodRow (used_as x a.id (reading_by a) (values_or_missing a values) rows)) (sym help) old
-  | inr (inl takes) ↦ subst (λ (x : ArgAction). Each IsGoodRow (used_as x a.id (reading_by a) (values_or_missing a values) rows)) (sym takes.is_set)
-      (set_good again a values rows takes passes old)
+  | inr (inl takes) ↦ elim takes.sets [
+    | inl is ↦ subst (λ (x : ArgAction). Each IsGoodRow (used_as x a.id (reading_by a) (values_or_missing a values) rows)) (sym is)
+        (set_good again a values rows takes is passes old)
+    | inr is ↦ subst (λ (x : ArgAction). Each IsGoodRow (used_as x a.id (reading_by a) (values_or_missing a values) rows)) (sym is)
+        (append_good again a values rows takes is passes old)
+  ]
   | inr (inr flag) ↦ subst (λ (x : ArgAction). Each IsGoodRow (used_as x a.id (reading_by a) (values_or_missing a values) rows)) (sym flag.is_flag)
       (flag_used_good again a values rows flag passes old)
 ]
@@ -376,17 +395,17 @@ required_given s rows h = each_given rows s.rules (go s.subcommand_negates_reqs 
     go true e = e
     go false e = e
 
--- a value, which may be empty only for a time
+-- a value, which may be empty only for a time or kinds
 abbrev pub IsGoodValue : Text → Option Text → Type 0
 IsGoodValue id None = ⊥
-IsGoodValue id (Some v) = v ≡ [] → id ≡ codes "TIME"
+IsGoodValue id (Some v) = v ≡ [] → MayBeEmpty id
 
 given_value : (id : Text) (rows : List Row) → is_given id rows ≡ true → Each IsGoodRow rows → IsGoodValue id (first_of id rows)
 given_value id rows given good = go (find (λ (r : Row). bytes_eq r.id id) rows) refl given
   where
     first : (name : Text) (values : List Text) → name ≡ id → HasFirst name values → IsGoodValue id (slice_get values 0)
     first name [] e h = absurd h
-    first name (v ∷ vs) e h = λ none. sym e ∙ h none
+    first name (v ∷ vs) e h = λ none. subst MayBeEmpty e (h none)
 
     go : (o : Option Row) → find (λ (r : Row). bytes_eq r.id id) rows ≡ o → option_map_or (λ (r : Row). explicit_source r.source) o false ≡ true
         → IsGoodValue id (option_and_then (λ (r : Row). slice_get r.values 0) o)

@@ -1,14 +1,18 @@
 -- What is looked at before a run takes its lock.
-use Rattle.std.specs.Prelude.{◌≡◌, ℕ, ◌+◌, ◌<◌, ◌⊎◌, List}
+use Rattle.std.specs.Prelude.{◌≡◌, ℕ, ◌+◌, ◌<◌, ◌⊎◌, List, map}
+use Rattle.osm_model.specs.Filter.{FilterValue, everything}
 use Rattle.osm_model.specs.Time.{TimeText}
 use Rattle.osm_reading.specs.Sequence.{SpellsSequence}
 use Rattle.osm_folder.specs.DataForms.{HasNoDataForm}
 use Rattle.osm_folder.specs.Exporting.{HasDataForm}
+use Rattle.osm_folder.specs.Filters.{FilterStops, IsAsked}
 use Rattle.osm_folder.specs.Publication.{HasTime}
 use Rattle.osm_folder.specs.declared.fault.RunFault.{RunFault}
 use Rattle.osm_folder.specs.declared.fault.RunFault.TheVariants.{BadNow, BadSequence, UnknownForm}
+use Rattle.osm_repl.specs.declared.orders.Asked.{Asked}
+use Rattle.osm_repl.specs.declared.orders.Extract.{Extract}
 use Rattle.osm_repl.specs.declared.orders.Order.{Order}
-use Rattle.osm_repl.specs.declared.orders.Order.TheVariants.{Publish, PublishAs, Begin}
+use Rattle.osm_repl.specs.declared.orders.Order.TheVariants.{Publish, PublishAs, Begin, Follow}
 
 -- the text is that of no time
 abbrev pub HasNoTime : List ℕ → Type 0
@@ -21,6 +25,27 @@ HasNumber sequence = (number : ℕ) × SpellsSequence sequence number
 -- the text is that of no number
 abbrev pub HasNoNumber : List ℕ → Type 0
 HasNoNumber sequence = (number : ℕ) → SpellsSequence sequence number → ⊥
+
+-- the filter has the kinds of those letters and exactly those keys
+abbrev pub IsFilterFor : Extract → FilterValue → Type 0
+IsFilterFor extract = IsAsked extract.kinds.now (map (λ key. key.now) extract.keys.items)
+
+-- the filter is the one that the words of `begin` and `follow` ask for, and that of all objects for
+-- any other command
+abbrev pub IsFilterOf : Order → Extract → FilterValue → Type 0
+IsFilterOf (Begin base state save) extract given = IsFilterFor extract given
+IsFilterOf (Follow dir save) extract given = IsFilterFor extract given
+IsFilterOf order extract given = given ≡ everything
+
+-- why those letters and keys make no filter
+abbrev pub RefusesFilter : Extract → RunFault → Type 0
+RefusesFilter extract = FilterStops extract.kinds.now (map (λ key. key.now) extract.keys.items)
+
+-- the same, for a command that takes them
+abbrev pub RefusesExtract : Order → Extract → RunFault → Type 0
+RefusesExtract (Begin base state save) extract fault = RefusesFilter extract fault
+RefusesExtract (Follow dir save) extract fault = RefusesFilter extract fault
+RefusesExtract order extract fault = ⊥
 
 -- the words are right, as far as no file is read
 abbrev pub AreGoodWords : Order → Type 0
@@ -35,13 +60,24 @@ RefusesNumbered now sequence fault =
     ((fault ≡ BadNow) × HasNoTime now)
     ⊎ ((fault ≡ BadSequence) × HasTime now × HasNoNumber sequence)
 
--- which word is wrong
-abbrev pub RefusesWords : Order → RunFault → Type 0
-RefusesWords (Publish dir changes now) fault = (fault ≡ BadNow) × HasNoTime now.now
-RefusesWords (PublishAs dir changes now sequence) fault =
+-- which word is wrong, kinds and keys apart
+abbrev pub RefusesOrder : Order → RunFault → Type 0
+RefusesOrder (Publish dir changes now) fault = (fault ≡ BadNow) × HasNoTime now.now
+RefusesOrder (PublishAs dir changes now sequence) fault =
     RefusesNumbered now.now sequence.now fault
-RefusesWords (Begin base state save) fault = (fault ≡ UnknownForm) × HasNoDataForm base.now
-RefusesWords order fault = ⊥
+RefusesOrder (Begin base state save) fault = (fault ≡ UnknownForm) × HasNoDataForm base.now
+RefusesOrder order fault = ⊥
+
+-- the words make a filter, and another one is wrong
+pub record RefusesRest (asked : Asked) (fault : RunFault) : Type 0 where
+  pub given : FilterValue
+  pub makes : IsFilterOf asked.order asked.extract given
+  pub refuses : RefusesOrder asked.order fault
+
+-- which word is wrong: kinds and keys are looked at before all others
+abbrev pub RefusesWords : Asked → RunFault → Type 0
+RefusesWords asked fault =
+    RefusesExtract asked.order asked.extract fault ⊎ RefusesRest asked fault
 
 -- the time is more than a day past that of the clock
 pub record IsPast (now : List ℕ) (clock : ℕ) : Type 0 where

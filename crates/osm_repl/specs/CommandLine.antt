@@ -1,11 +1,14 @@
 -- The command line: the words that are taken, and the order that they give.
 use Rattle.std.specs.Prelude.{◌≡◌, Bool, List, [], ◌∷◌, Option, Some, None, codes, true, false}
+use Rattle.std.specs.Prelude.{map, unwrap_or}
 use Rattle.std.specs.Option.{option_map_or}
 use Rattle.std.specs.Str.{bytes_eq}
-use Rattle.clap.specs.Words.{App, Row, Rule, Text, first_of, new_app, new_rule, subcommand_of}
+use Rattle.clap.specs.Words.{App, Row, Rule, Text, all_of, first_of, new_app, new_rule}
+use Rattle.clap.specs.Words.{subcommand_of}
 use Rattle.clap.specs.Words.{with_rule, with_subcommand}
 use Rattle.clap.specs.declared.builder.value_parser.ValueParser.TheVariants.{NonEmptyString}
-use Rattle.clap.specs.declared.builder.action.ArgAction.TheVariants.{SetTrue}
+use Rattle.clap.specs.declared.builder.action.ArgAction.TheVariants.{Append, SetTrue}
+use Rattle.osm_repl.specs.declared.orders.Extract.{Extract}
 use Rattle.osm_repl.specs.declared.orders.Options.{Options}
 use Rattle.osm_repl.specs.declared.orders.Order.{Order}
 use Rattle.osm_repl.specs.declared.orders.Order.TheVariants.{Replay, Publish, Follow, Lag, Show}
@@ -26,6 +29,19 @@ time_rule = record (new_rule (codes "TIME")) { long = Some (codes "now"); requir
 -- `--sequence N`, which may be left out, but isn't empty
 abbrev pub sequence_rule : Rule
 sequence_rule = record (filled_rule (codes "N")) { long = Some (codes "sequence") }
+
+-- the letters of all kinds
+abbrev pub all_kinds : Text
+all_kinds = codes "nwr"
+
+-- `--kinds KINDS`, which stands for all kinds if it is left out
+abbrev pub kinds_rule : Rule
+kinds_rule =
+    record (new_rule (codes "KINDS")) { long = Some (codes "kinds"); defaults = all_kinds ∷ [] }
+
+-- `KEY..`, any number of words that aren't empty
+abbrev pub keys_rule : Rule
+keys_rule = record (filled_rule (codes "KEY")) { action = Some Append }
 
 -- `--NAME`, which has no value
 abbrev pub flag_rule : Text → Rule
@@ -63,14 +79,29 @@ begin_words_app =
     with_word (with_word (with_word (new_app (codes "begin")) (codes "BASE")) (codes "STATE"))
     (codes "SAVE")
 
+-- the command with `KEY..` and `--kinds KINDS`
+abbrev pub with_extract : App → App
+with_extract app = with_rule (with_rule app keys_rule) kinds_rule
+
+-- `begin BASE STATE SAVE KEY.. --kinds KINDS`
+abbrev pub begin_extract_app : App
+begin_extract_app = with_extract begin_words_app
+
 -- the same, and perhaps `--no-lock`
 abbrev pub begin_app : App
-begin_app = with_lock begin_words_app
+begin_app = with_lock begin_extract_app
 
--- `follow DIR SAVE`, and perhaps `--no-lock`
+-- `follow DIR SAVE`
+abbrev pub follow_words_app : App
+follow_words_app = with_word (with_word (new_app (codes "follow")) (codes "DIR")) (codes "SAVE")
+
+-- `follow DIR SAVE KEY.. --kinds KINDS`
+abbrev pub follow_extract_app : App
+follow_extract_app = with_extract follow_words_app
+
+-- the same, and perhaps `--no-lock`
 abbrev pub follow_app : App
-follow_app =
-    with_lock (with_word (with_word (new_app (codes "follow")) (codes "DIR")) (codes "SAVE"))
+follow_app = with_lock follow_extract_app
 
 -- `lag DIR SAVE`
 abbrev pub lag_app : App
@@ -160,7 +191,27 @@ options_in (Some found) = record {
 abbrev pub options_of : List Text → Options
 options_of words = options_in (subcommand_of osmrepl_app words)
 
--- no word of the order is empty, except a time; the number of a sequence isn't either, by its rule
+-- the letters of the kinds: the value of `--kinds`, or all kinds
+abbrev pub kinds_in : List Row → Text
+kinds_in rows = unwrap_or (first_of (codes "KINDS") rows) all_kinds
+
+-- all keys, in the order of the words
+abbrev pub keys_in : List Row → List Text
+keys_in rows = unwrap_or (all_of (codes "KEY") rows) []
+
+-- the kinds and keys are those of the command that was found; one that takes none has all kinds and
+-- no keys
+abbrev pub IsExtractIn : Option (Text × List Row) → Extract → Type 0
+IsExtractIn None extract = ⊥
+IsExtractIn (Some found) extract = (extract.kinds.now ≡ kinds_in found.1)
+    × (map (λ key. key.now) extract.keys.items ≡ keys_in found.1)
+
+-- the kinds and keys are those of the words, as clap reads them
+abbrev pub IsExtractOf : List Text → Extract → Type 0
+IsExtractOf words = IsExtractIn (subcommand_of osmrepl_app words)
+
+-- no word of the order is empty, except a time; the number of a sequence and a key aren't either,
+-- by their rules
 abbrev pub HasNoEmptyWord : Order → Type 0
 HasNoEmptyWord Replay = Unit {0}
 HasNoEmptyWord (Publish dir changes now) = (dir.now ≡ [] → ⊥) × (changes.now ≡ [] → ⊥)

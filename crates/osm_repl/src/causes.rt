@@ -150,6 +150,10 @@ pub fn hint_of(order: Order<'_>, fault: RunFault) -> &'static str {
     match (fault, order) {
         (RunFault::BadNow, _) => "a time is written as 2024-01-01T00:00:00Z",
         (RunFault::BadSequence, _) => "a number has 1 to 9 digits",
+        (RunFault::BadFilter, _) => {
+            "kinds are some of n, w and r in this order, keys at most 100 of at most 1020 bytes"
+        }
+        (RunFault::OtherFilter, _) => "its first lines say its kinds and keys",
         (RunFault::UnknownForm, Order::Convert { .. }) => {
             "the name of a change file ends in .opl or .o5c"
         }

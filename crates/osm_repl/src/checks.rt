@@ -1,26 +1,56 @@
 //! What is looked at before a run takes its lock: its words and its time.
 
-ghost use Rattle.std.specs.Prelude.{◌≡◌, ◌+◌, ◌<◌, ◌≤◌, IfErr, MatchBool, OnOk};
+ghost use Rattle.std.specs.Prelude.{◌≡◌, ◌+◌, ◌<◌, ◌≤◌, IfErr, IfOk, MatchBool, OnOk, map};
 ghost use Rattle.osm_folder.specs.DataForms.{HasNoDataForm};
 ghost use Rattle.osm_folder.specs.Exporting.{HasDataForm};
+ghost use Rattle.osm_folder.specs.Filters.{FilterStops, IsAsked};
 ghost use Rattle.osm_folder.specs.Publication.{HasTime};
 ghost use Rattle.osm_folder.specs.declared.fault.RunFault.{RunFault};
 ghost use Rattle.osm_repl.specs.Checks.{AreGoodWords, HasNoNumber, HasNoTime, HasNumber};
-ghost use Rattle.osm_repl.specs.Checks.{IsAhead, IsPast, RefusesNumbered, RefusesWords};
+ghost use Rattle.osm_repl.specs.Checks.{IsAhead, IsFilterOf, IsPast, RefusesExtract};
+ghost use Rattle.osm_repl.specs.Checks.{RefusesNumbered, RefusesOrder, RefusesWords};
 
-use crate::orders::Order;
+use crate::orders::{Asked, Extract, Order};
 use osm_folder::data_form::data_form_of;
 use osm_folder::fault::RunFault;
+use osm_folder::filters::filter_of;
+use osm_model::filter::Filter;
 use osm_model::time::time_read;
 use osm_reading::sequence::sequence_read;
+use std::alloc::Global;
 
 // A day.
 const MOST_SECONDS_AHEAD: u64 = 86_400;
 
-/// Refuses the words of a run with a lock that the run itself would refuse before it reads a file.
-pub fn check_words(order: Order<'_>) -> Result<(), RunFault>
+/// The filter that the words of `begin` and `follow` ask for; that of all objects for any other
+/// word. Refuses kinds and keys that make no filter, and then the words of a run with a lock that
+/// the run itself would refuse before it reads a file.
+pub fn check_words(alloc: Global, asked: &Asked<'_>) -> Result<Filter, RunFault>
+    ensures extract { IfOk result (IsFilterOf asked.now.order asked.now.extract) }
+    ensures good { OnOk result (AreGoodWords asked.now.order) }
+    ensures refused { IfErr result (RefusesWords asked.now) }
+{
+    let filter = filter_asked(alloc, asked.order, &asked.extract)?;
+    check_order(asked.order)?;
+    Ok(filter)
+}
+
+// The filter of a command's save.
+fn filter_asked(alloc: Global, order: Order<'_>, extract: &Extract<'_>) -> Result<Filter, RunFault>
+    ensures extract { IfOk result (IsFilterOf order.entry extract.now) }
+    ensures refused { IfErr result (RefusesExtract order.entry extract.now) }
+{
+    match order {
+        Order::Begin { .. } | Order::Follow { .. } => {
+            filter_of(alloc, extract.kinds, extract.keys.as_slice())
+        }
+        _ => Ok(Filter::all(alloc)),
+    }
+}
+
+fn check_order(order: Order<'_>) -> Result<(), RunFault>
     ensures good { OnOk result (AreGoodWords order.entry) }
-    ensures refused { IfErr result (RefusesWords order.entry) }
+    ensures refused { IfErr result (RefusesOrder order.entry) }
 {
     match order {
         Order::Publish { now, .. } => check_time(now),

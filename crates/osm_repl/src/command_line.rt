@@ -5,8 +5,10 @@ ghost use Rattle.std.specs.Prelude.{true, false};
 ghost use Rattle.clap.specs.Words.{FailsBy, HasMatchesOf, app_of, fault_of, found_of, kind_of};
 ghost use Rattle.clap.specs.Words.{first_of, rows_of, rule_of, subcommand_rows_of, takes};
 ghost use Rattle.clap.specs.declared.builder.Command.TheViews.{out-Command as fields_of};
-ghost use Rattle.osm_repl.specs.CommandLine.{HasNoEmptyWord, IsOrderIn, IsOrderOf, begin_app};
-ghost use Rattle.osm_repl.specs.CommandLine.{begin_words_app};
+ghost use Rattle.osm_repl.specs.CommandLine.{HasNoEmptyWord, IsExtractIn, IsExtractOf, IsOrderIn};
+ghost use Rattle.osm_repl.specs.CommandLine.{IsOrderOf, begin_app, begin_extract_app};
+ghost use Rattle.osm_repl.specs.CommandLine.{begin_words_app, follow_extract_app, follow_words_app};
+ghost use Rattle.osm_repl.specs.CommandLine.{keys_in, keys_rule, kinds_in, kinds_rule};
 ghost use Rattle.osm_repl.specs.CommandLine.{convert_app};
 ghost use Rattle.osm_repl.specs.CommandLine.{export_app, filled_rule, flag_rule, follow_app};
 ghost use Rattle.osm_repl.specs.CommandLine.{is_raised, lag_app, options_in, options_of};
@@ -18,18 +20,24 @@ ghost use Rattle.osm_repl.specs.Steps.Commands.{HasValue, HasValues, HasWord, Ha
 ghost use Rattle.osm_repl.specs.Steps.Commands.{times_of, words_of};
 
 use crate::help;
-use crate::orders::{Asked, Options, Order};
+use crate::orders::{Asked, Extract, Options, Order};
 use clap::builder::ValueParser;
 use clap::error::ErrorKind;
 use clap::{Arg, ArgAction, ArgMatches, Command, Error};
 use std::alloc::{AllocError, Global};
 
+// All kinds, which stand for `--kinds` if it is left out.
+const ALL_KINDS: &str = "nwr";
+
 /// What the words, with the program's name first, ask for. No word of the order is empty except a
-/// time. Refused if `clap` refuses the words, and if they ask for help or the version.
+/// time. Refused if `clap` refuses the words, and if they ask for help or the version. Whether the
+/// kinds and keys make a filter isn't looked at here.
 pub fn asked<'a>(alloc: Global, words: &'a [&'a str]) -> Result<Asked<'a>, Error>
     ensures order { IfOk result (λ a. IsOrderOf (map (λ s. s.now) words.entry.now) a.order) }
     ensures options { IfOk result
         (λ a. a.options ≡ options_of (map (λ s. s.now) words.entry.now)) }
+    ensures extract { IfOk result
+        (λ a. IsExtractOf (map (λ s. s.now) words.entry.now) a.extract) }
     ensures not_empty { IfOk result (λ a. HasNoEmptyWord a.order) }
     ensures taken { IfErr result (λ e. takes osmrepl_app (map (λ s. s.now) words.entry.now) ≡ true
         → kind_of e ≡ ErrorKind.OutOfMemory) }
@@ -39,7 +47,43 @@ pub fn asked<'a>(alloc: Global, words: &'a [&'a str]) -> Result<Asked<'a>, Error
     Ok(Asked {
         order: order_of(&matches),
         options: options_of(&matches),
+        extract: extract_of(alloc, &matches)?,
     })
+}
+
+// The kinds and keys of the command that was found.
+fn extract_of<'a>(alloc: Global, matches: &ArgMatches<'a>) -> Result<Extract<'a>, AllocError>
+    requires { IsCommand (subcommand_rows_of matches.now) }
+    ensures { IfOk result (IsExtractIn (subcommand_rows_of matches.now)) }
+{
+    let Some((_, given)) = matches.subcommand() else {
+        unreachable!()
+    };
+    Ok(Extract {
+        kinds: kinds_of(given),
+        keys: keys_of(alloc, given)?,
+    })
+}
+
+// The letters of `--kinds`, or those of all kinds.
+fn kinds_of<'a>(given: &ArgMatches<'a>) -> &'a str
+    ensures { result.now ≡ kinds_in (rows_of (found_of given.now)) }
+{
+    match optional(given, "KINDS") {
+        Some(kinds) => kinds,
+        None => ALL_KINDS,
+    }
+}
+
+// All keys, in the order of the words.
+fn keys_of<'a>(alloc: Global, given: &ArgMatches<'a>) -> Result<Vec<&'a str>, AllocError>
+    ensures { IfOk result
+        (λ keys. map (λ key. key.now) keys.items ≡ keys_in (rows_of (found_of given.now))) }
+{
+    match given.get_raw("KEY") {
+        Some(keys) => Vec::from_slice(alloc, keys),
+        None => Ok(Vec::new(alloc)),
+    }
 }
 
 // The options of the command that was found.
@@ -278,10 +322,18 @@ fn begin<'a>(alloc: Global) -> Result<Command<'a>, AllocError>
     ensures app { IfOk result (λ c. app_of c ≡ begin_app) }
     ensures local { IfOk result (λ c. (fields_of c).has_globals ≡ false) }
 {
-    begin_words(alloc)?.arg(no_lock(alloc))
+    begin_extract(alloc)?.arg(no_lock(alloc))
 }
 
-// `begin` with its words, and without its flag.
+// `begin` with its words, keys and kinds, and without its flag.
+fn begin_extract<'a>(alloc: Global) -> Result<Command<'a>, AllocError>
+    ensures app { IfOk result (λ c. app_of c ≡ begin_extract_app) }
+    ensures local { IfOk result (λ c. (fields_of c).has_globals ≡ false) }
+{
+    begin_words(alloc)?.arg(keys(alloc))?.arg(kinds(alloc))
+}
+
+// `begin` with the words that have to be there.
 fn begin_words<'a>(alloc: Global) -> Result<Command<'a>, AllocError>
     ensures app { IfOk result (λ c. app_of c ≡ begin_words_app) }
     ensures local { IfOk result (λ c. (fields_of c).has_globals ≡ false) }
@@ -306,6 +358,22 @@ fn follow<'a>(alloc: Global) -> Result<Command<'a>, AllocError>
     ensures app { IfOk result (λ c. app_of c ≡ follow_app) }
     ensures local { IfOk result (λ c. (fields_of c).has_globals ≡ false) }
 {
+    follow_extract(alloc)?.arg(no_lock(alloc))
+}
+
+// `follow` with its words, keys and kinds, and without its flag.
+fn follow_extract<'a>(alloc: Global) -> Result<Command<'a>, AllocError>
+    ensures app { IfOk result (λ c. app_of c ≡ follow_extract_app) }
+    ensures local { IfOk result (λ c. (fields_of c).has_globals ≡ false) }
+{
+    follow_words(alloc)?.arg(keys(alloc))?.arg(kinds(alloc))
+}
+
+// `follow` with the words that have to be there.
+fn follow_words<'a>(alloc: Global) -> Result<Command<'a>, AllocError>
+    ensures app { IfOk result (λ c. app_of c ≡ follow_words_app) }
+    ensures local { IfOk result (λ c. (fields_of c).has_globals ≡ false) }
+{
     Command::new(alloc, "follow")
         .about(help::FOLLOW)
         .after_help(help::FOLLOWING)
@@ -314,8 +382,7 @@ fn follow<'a>(alloc: Global) -> Result<Command<'a>, AllocError>
             alloc,
             "SAVE",
             "The save; if it isn't there, it begins at number 0",
-        ))?
-        .arg(no_lock(alloc))
+        ))
 }
 
 fn lag<'a>(alloc: Global) -> Result<Command<'a>, AllocError>
@@ -403,6 +470,26 @@ fn sequence<'a>(alloc: Global) -> Arg<'a>
 {
     let says = "The number of the sequence; the same command can then be run again";
     filled(alloc, "N", says).long("sequence")
+}
+
+// `KEY..`, any number of words that aren't empty.
+fn keys<'a>(alloc: Global) -> Arg<'a>
+    ensures rule { rule_of result ≡ keys_rule }
+    ensures local { result.global ≡ false }
+{
+    let says = "Keeps the objects that have a tag with one of these keys; with none, all of them";
+    filled(alloc, "KEY", says).action(ArgAction::Append)
+}
+
+// `--kinds KINDS`, which stands for all kinds if it is left out.
+fn kinds<'a>(alloc: Global) -> Arg<'a>
+    ensures rule { rule_of result ≡ kinds_rule }
+    ensures local { result.global ≡ false }
+{
+    Arg::new(alloc, "KINDS")
+        .long("kinds")
+        .default_value(ALL_KINDS)
+        .help("Keeps the objects of these kinds: some of n, w and r, in this order")
 }
 
 // `--no-lock`

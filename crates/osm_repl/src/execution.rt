@@ -22,11 +22,13 @@ use osm_folder::publish::publish_run;
 use osm_folder::publish_as::publish_as_run;
 use osm_folder::report::Report;
 use osm_folder::show::show_run;
+use osm_model::filter::Filter;
 use osm_store::store::Store;
 use std::alloc::Global;
 use std::io::{Read, Write};
 
-/// Does what an order asks for, and answers the exit status. A replay reads from `reader` and
+/// Does what an order asks for, and answers the exit status. The words `follow` and `begin` write
+/// their save under the filter, which no other order looks at. A replay reads from `reader` and
 /// writes its replies to `writer`; every other order runs over the files of the store, and then
 /// writes its report to `writer`. On a fault nothing was written to `writer`, except on
 /// `WriteFault(Output)`: then a prefix was, and the files that a run wrote stay. The word `follow`
@@ -34,15 +36,17 @@ use std::io::{Read, Write};
 pub fn execute<S: Store, R: Read, W: Write>(
     alloc: Global,
     order: Order<'_>,
+    filter: Filter,
     store: &mut S,
     reader: &mut R,
     writer: &mut W,
 ) -> Result<u8, RunFault>
     ensures done { IsOverFiles order.entry
-        → IfOk result (IsDone (IsKnown (S.state store.old)) order.entry (S.state store.old).files
-        (S.state store.new).files (W.contents writer.old) (W.contents writer.new)) }
+        → IfOk result (IsDone (IsKnown (S.state store.old)) filter order.entry
+        (S.state store.old).files (S.state store.new).files (W.contents writer.old)
+        (W.contents writer.new)) }
     ensures not_done { IsOverFiles order.entry
-        → IfErr result (IsNotDone (IsKnown (S.state store.old)) order.entry
+        → IfErr result (IsNotDone (IsKnown (S.state store.old)) filter order.entry
         (S.state store.old).files (S.state store.new).files (S.state store.old).failures
         (S.state store.new).failures (W.contents writer.old) (W.contents writer.new)) }
     ensures silent { IsOverFiles order.entry → reader.new ≡ reader.old }
@@ -62,8 +66,8 @@ pub fn execute<S: Store, R: Read, W: Write>(
 {
     match order {
         Order::Replay => replay(alloc, reader, writer),
-        Order::Follow { .. } => follow_and_print(alloc, order, store, writer),
-        _ => run_and_print(alloc, order, store, writer),
+        Order::Follow { .. } => follow_and_print(alloc, order, filter, store, writer),
+        _ => run_and_print(alloc, order, filter, store, writer),
     }
 }
 
@@ -81,14 +85,15 @@ fn replay<R: Read, W: Write>(alloc: Global, reader: &mut R, writer: &mut W) -> R
 fn run_and_print<S: Store, W: Write>(
     alloc: Global,
     order: Order<'_>,
+    filter: Filter,
     store: &mut S,
     writer: &mut W,
 ) -> Result<u8, RunFault>
     requires { IsOtherRun order }
-    ensures done { IfOk result (IsDone (IsKnown (S.state store.old)) order.entry
+    ensures done { IfOk result (IsDone (IsKnown (S.state store.old)) filter order.entry
         (S.state store.old).files (S.state store.new).files (W.contents writer.old)
         (W.contents writer.new)) }
-    ensures not_done { IfErr result (IsNotDone (IsKnown (S.state store.old)) order.entry
+    ensures not_done { IfErr result (IsNotDone (IsKnown (S.state store.old)) filter order.entry
         (S.state store.old).files (S.state store.new).files (S.state store.old).failures
         (S.state store.new).failures (W.contents writer.old) (W.contents writer.new)) }
     ensures untouched { IsKnown (S.state store.old) → (name : List ℕ) → IsUntouched order.entry name
@@ -99,7 +104,7 @@ fn run_and_print<S: Store, W: Write>(
     ensures left_after { Spends 0 (S.state store.old).left (S.state store.new).left }
     ensures kept { (S.state store.old).failures ≤ (S.state store.new).failures }
 {
-    let report = run(alloc, order, store)?;
+    let report = run(alloc, order, filter, store)?;
     write_text(writer, report.text())?;
     Ok(report.status())
 }
@@ -107,14 +112,15 @@ fn run_and_print<S: Store, W: Write>(
 fn follow_and_print<S: Store, W: Write>(
     alloc: Global,
     order: Order<'_>,
+    filter: Filter,
     store: &mut S,
     writer: &mut W,
 ) -> Result<u8, RunFault>
     requires { IsFollow order }
-    ensures done { IfOk result (IsDone (IsKnown (S.state store.old)) order.entry
+    ensures done { IfOk result (IsDone (IsKnown (S.state store.old)) filter order.entry
         (S.state store.old).files (S.state store.new).files (W.contents writer.old)
         (W.contents writer.new)) }
-    ensures not_done { IfErr result (IsNotDone (IsKnown (S.state store.old)) order.entry
+    ensures not_done { IfErr result (IsNotDone (IsKnown (S.state store.old)) filter order.entry
         (S.state store.old).files (S.state store.new).files (S.state store.old).failures
         (S.state store.new).failures (W.contents writer.old) (W.contents writer.new)) }
     ensures untouched { IsKnown (S.state store.old) → (name : List ℕ) → IsUntouched order.entry name
@@ -125,7 +131,7 @@ fn follow_and_print<S: Store, W: Write>(
     ensures left_after { Spends 0 (S.state store.old).left (S.state store.new).left }
     ensures kept { (S.state store.old).failures ≤ (S.state store.new).failures }
 {
-    match follow(alloc, order, store)? {
+    match follow(alloc, order, filter, store)? {
         Progress::Whole(report) => {
             write_text(writer, report.text())?;
             Ok(report.status())
@@ -138,17 +144,22 @@ fn follow_and_print<S: Store, W: Write>(
 }
 
 // The report of an order's run.
-fn run<S: Store>(alloc: Global, order: Order<'_>, store: &mut S) -> Result<Report, RunFault>
+fn run<S: Store>(
+    alloc: Global,
+    order: Order<'_>,
+    filter: Filter,
+    store: &mut S,
+) -> Result<Report, RunFault>
     requires { IsOtherRun order }
     ensures does { IfOk result (λ report. IsKnown (S.state store.old)
-        → Does order.entry (S.state store.old).files (S.state store.new).files report) }
+        → Does filter order.entry (S.state store.old).files (S.state store.new).files report) }
     ensures over { IfOk result (λ report. IsKnown (S.state store.old)
-        → DoesOver order.entry (S.state store.old).files (S.state store.new).files report) }
+        → DoesOver filter order.entry (S.state store.old).files (S.state store.new).files report) }
     ensures report { IfOk result (IsReportOf order.entry) }
-    ensures stops { IfErr result (RunStops (IsKnown (S.state store.old)) order.entry
+    ensures stops { IfErr result (RunStops (IsKnown (S.state store.old)) filter order.entry
         (S.state store.old).files (S.state store.new).files) }
     ensures refuses { IfErr result (λ fault. IsKnown (S.state store.old)
-        → StopsOver order.entry (S.state store.old).files (S.state store.new).files fault) }
+        → StopsOver filter order.entry (S.state store.old).files (S.state store.new).files fault) }
     ensures leaves { OnErr result (Leaves (IsKnown (S.state store.old)) order.entry
         (S.state store.old).files (S.state store.new).files) }
     ensures device { IfErr result
@@ -169,7 +180,7 @@ fn run<S: Store>(alloc: Global, order: Order<'_>, store: &mut S) -> Result<Repor
             now,
             sequence,
         } => publish_as_run(alloc, store, dir, changes, now, sequence),
-        Order::Begin { base, state, save } => begin_run(alloc, store, base, state, save),
+        Order::Begin { base, state, save } => begin_run(alloc, store, base, state, save, filter),
         Order::Lag { dir, save } => lag_run(alloc, store, dir, save),
         Order::Show { save } => show_run(alloc, store, save),
         Order::Export { save, output } => export_run(alloc, store, save, output),
@@ -179,14 +190,19 @@ fn run<S: Store>(alloc: Global, order: Order<'_>, store: &mut S) -> Result<Repor
 }
 
 // What the word `follow` did.
-fn follow<S: Store>(alloc: Global, order: Order<'_>, store: &mut S) -> Result<Progress, RunFault>
+fn follow<S: Store>(
+    alloc: Global,
+    order: Order<'_>,
+    filter: Filter,
+    store: &mut S,
+) -> Result<Progress, RunFault>
     requires { IsFollow order }
-    ensures followed { IfOk result (HasFollowed (IsKnown (S.state store.old)) order.entry
+    ensures followed { IfOk result (HasFollowed (IsKnown (S.state store.old)) filter order.entry
         (S.state store.old).files (S.state store.new).files) }
-    ensures stops { IfErr result (RunStops (IsKnown (S.state store.old)) order.entry
+    ensures stops { IfErr result (RunStops (IsKnown (S.state store.old)) filter order.entry
         (S.state store.old).files (S.state store.new).files) }
     ensures refuses { IfErr result (λ fault. IsKnown (S.state store.old)
-        → StopsOver order.entry (S.state store.old).files (S.state store.new).files fault) }
+        → StopsOver filter order.entry (S.state store.old).files (S.state store.new).files fault) }
     ensures leaves { OnErr result (Leaves (IsKnown (S.state store.old)) order.entry
         (S.state store.old).files (S.state store.new).files) }
     ensures device { IfErr result
@@ -200,7 +216,7 @@ fn follow<S: Store>(alloc: Global, order: Order<'_>, store: &mut S) -> Result<Pr
     ensures kept { (S.state store.old).failures ≤ (S.state store.new).failures }
 {
     match order {
-        Order::Follow { dir, save } => follow_progress(alloc, store, dir, save),
+        Order::Follow { dir, save } => follow_progress(alloc, store, dir, save, filter),
         _ => unreachable!(),
     }
 }

@@ -72,11 +72,17 @@ pub(crate) const BEGIN: &str = "Begins a save with a data file; the ending of BA
 
 pub(crate) const BEGINNING: &str = "As in
   osmrepl begin extract.o5m state.txt follower.save
+  osmrepl begin extract.o5m state.txt roads.save highway --kinds w
 
 BASE is a data file, as an extract or what export wrote, and STATE is the state file of the sequence
 that it is of. SAVE is written with the objects of BASE, at the number and the time of STATE, and
 without counts of edits; whatever it held before is replaced. The number is printed, as 'number 7'.
 What follow then counts are the edits of the numbers after it.
+
+With --kinds or a KEY, SAVE keeps an extract: the objects of those kinds that have a tag with one of
+the keys. All of BASE is checked, and the counts are of all edits. SAVE says its kinds and keys, and
+follow takes it only with the same ones; a key may be given twice, and they may come in any order.
+Kinds or keys that make no filter are refused: 'bad filter'.
 
 A run locks SAVE by the file SAVE.lock, which stays there. If another run is at work on SAVE:
 'save: in use', and the status is 4.
@@ -92,6 +98,7 @@ pub(crate) const FOLLOW: &str = "Applies a folder's new sequences to a save";
 
 pub(crate) const FOLLOWING: &str = "As in
   osmrepl follow folder follower.save
+  osmrepl follow folder roads.save highway --kinds w
 
 Each number after the save's is taken from its .o5c file, or if there is none, from its .opl file.
 A number is missing if it has no state file, or neither change file: SAVE goes up to the number
@@ -104,6 +111,11 @@ After SAVE is written, this is printed:
 A file that is there but faulty stops the run at its number, with the place and the cause: SAVE and
 what was printed are those of the numbers before it. Put the right file there, or remove it, and
 follow again.
+
+With --kinds or a KEY, SAVE keeps an extract: the objects of those kinds that have a tag with one of
+the keys. The counts are of all edits. SAVE says its kinds and keys, and each run has to have the
+same ones, or it is refused: 'save: other filter'; a key may be given twice, and they may come in
+any order. Kinds or keys that make no filter are refused: 'bad filter'.
 
 A run locks SAVE by the file SAVE.lock, which stays there. If another run is at work on SAVE:
 'save: in use', and the status is 4.

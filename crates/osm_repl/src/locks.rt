@@ -15,8 +15,8 @@ pub enum Lock<'a> {
 }
 
 /// The lock that a run holds: of the folder that it publishes in, or of the save that it writes.
-pub fn lock_of<'a>(asked: Asked<'a>) -> Option<Lock<'a>>
-    ensures { result ≡ lock_of asked.entry }
+pub fn lock_of<'a>(asked: &Asked<'a>) -> Option<Lock<'a>>
+    ensures { result ≡ lock_of asked.now }
 {
     if asked.options.no_lock {
         return None;

@@ -1,10 +1,20 @@
 //! What the words of the command line ask for.
 
-/// A command with its words, and how it is to be run.
-#[derive(Clone, Copy, Debug, PartialEq, Eq)]
+/// A command with its words, how it is to be run, and what its save keeps.
+#[derive(Debug, Drop, PartialEq, Eq)]
 pub struct Asked<'a> {
     pub order: Order<'a>,
     pub options: Options,
+    pub extract: Extract<'a>,
+}
+
+/// Which objects a save keeps, as the words say it: all of them for a command that writes no save.
+#[derive(Debug, Drop, PartialEq, Eq)]
+pub struct Extract<'a> {
+    /// The letters of the kinds: `nwr` if the words have none.
+    pub kinds: &'a str,
+    /// The keys, of which an object has to have one as a tag, if there are any.
+    pub keys: Vec<&'a str>,
 }
 
 /// How a command is to be run.

@@ -8,12 +8,13 @@ use crate::locking::{locked, seconds};
 use crate::saying::{end, explain, refuse, report, report_of_run};
 use osm_disk::disk_store::DiskStore;
 use osm_folder::fault::RunFault;
+use osm_model::filter::Filter;
 use osm_repl::checks::{check_words, is_ahead};
 use osm_repl::command_line::asked;
 use osm_repl::ending::ending_of_unread;
 use osm_repl::execution::execute;
 use osm_repl::locks::lock_of;
-use osm_repl::orders::Asked;
+use osm_repl::orders::{Asked, Order};
 use osm_repl::refusal::Refusal;
 use std::process::ExitCode;
 use std::{env, process};
@@ -40,43 +41,45 @@ fn run(rt: &HostRuntime) -> u8 {
         return report(rt, RunFault::WantOfMemory);
     };
     match asked(alloc, words.as_slice()) {
-        Ok(asked) => begun(rt, asked),
+        Ok(asked) => begun(rt, &asked),
         Err(error) => explain(rt, &error, words.as_slice()),
     }
 }
 
 // Looks at the words, takes the lock, and does what was asked for. The lock is held to the end.
-fn begun(rt: &HostRuntime, asked: Asked<'_>) -> u8 {
-    if let Err(fault) = check_words(asked.order) {
-        return report_of_run(rt, asked.order, fault, None);
-    }
+fn begun(rt: &HostRuntime, asked: &Asked<'_>) -> u8 {
+    let filter = match check_words(rt.alloc(), asked) {
+        Ok(filter) => filter,
+        Err(fault) => return report_of_run(rt, asked.order, fault, None),
+    };
     if !asked.options.any_time && is_ahead(asked.order, seconds(rt)) {
         let hint = "--any-time takes it";
         return refuse(rt, Refusal::TimeAhead, asked.order.now(), None, hint);
     }
     let Some(lock) = lock_of(asked) else {
-        return done(rt, asked, false);
+        return done(rt, asked.order, filter, false);
     };
     match locked(rt, lock) {
-        Ok(held) => done(rt, asked, held.is_some()),
+        Ok(held) => done(rt, asked.order, filter, held.is_some()),
         Err(status) => status,
     }
 }
 
 // Does what was asked for, over the files on the disk. A run that holds its lock is alone there.
-fn done(rt: &HostRuntime, asked: Asked<'_>, is_alone: bool) -> u8 {
+fn done(rt: &HostRuntime, order: Order<'_>, filter: Filter, is_alone: bool) -> u8 {
     let mut store = DiskStore::new(rt, process::id(rt.process()));
     if is_alone {
         store.set_alone();
     }
     match execute(
         rt.alloc(),
-        asked.order,
+        order,
+        filter,
         &mut store,
         &mut rt.stdin(),
         &mut rt.stdout(),
     ) {
         Ok(status) => status,
-        Err(fault) => report_of_run(rt, asked.order, fault, store.said()),
+        Err(fault) => report_of_run(rt, order, fault, store.said()),
     }
 }

@@ -1,6 +1,7 @@
 use Rattle.std.specs.Prelude.{Result, Ok, Err, IfOk, OnOk}
-use Rattle.osm_folder.proofs.OverLemmas.{lag_in_step, lag_over_refuses, number_adds}
+use Rattle.osm_folder.proofs.OverLemmas.{number_adds}
 use Rattle.osm_folder.proofs.OverLemmas.{number_keeps, number_refuses, publish_adds, publish_keeps, publish_refuses}
+use Rattle.osm_repl.proofs.FollowLemmas.{lag_does, lag_stops}
 use Rattle.osm_repl.proofs.execution.run.Goals as goal
 
 -- what each run ensures is what its order asks for
@@ -11,7 +12,11 @@ pub returns-in-Begin-clause-over : goal.returns-in-Begin-clause-over
 returns-in-Begin-clause-over g c = rw c.in-Begin.is c.begin_run.ensures.in_step
 
 pub returns-in-Lag-clause-over : goal.returns-in-Lag-clause-over
-returns-in-Lag-clause-over g c = rw c.in-Lag.is (lag_in_step _ _ _ _ c.lag_run.result c.lag_run.ensures.over)
+returns-in-Lag-clause-over g c = rw c.in-Lag.is (lag_does c.args.filter c.in-Lag.dir c.in-Lag.save (g.S.Store.state c.args.store.now) (g.S.Store.state c.lag_run.new.store)
+    c.lag_run.result c.lag_run.ensures.over)
+
+pub returns-in-Show-clause-over : goal.returns-in-Show-clause-over
+returns-in-Show-clause-over g c = rw c.in-Show.is c.show_run.ensures.in_step
 
 pub returns-in-PublishAs-clause-stops : goal.returns-in-PublishAs-clause-stops
 returns-in-PublishAs-clause-stops g c = rw c.in-PublishAs.is c.publish_as_run.ensures.stops
@@ -23,7 +28,8 @@ pub returns-in-PublishAs-clause-refuses : goal.returns-in-PublishAs-clause-refus
 returns-in-PublishAs-clause-refuses g c = rw c.in-PublishAs.is (number_refuses _ _ _ _ _ _ _ c.publish_as_run.result c.publish_as_run.ensures.over)
 
 pub returns-in-Lag-clause-refuses : goal.returns-in-Lag-clause-refuses
-returns-in-Lag-clause-refuses g c = rw c.in-Lag.is (lag_over_refuses _ _ _ _ c.lag_run.result c.lag_run.ensures.over)
+returns-in-Lag-clause-refuses g c = rw c.in-Lag.is (lag_stops c.args.filter c.in-Lag.dir c.in-Lag.save (g.S.Store.state c.args.store.now)
+    (g.S.Store.state c.lag_run.new.store) c.lag_run.result c.lag_run.ensures.over)
 
 pub returns-in-Publish-clause-over : goal.returns-in-Publish-clause-over
 returns-in-Publish-clause-over g c = rw c.in-Publish.is (publish_adds _ _ _ _ _ _ c.publish_run.result c.publish_run.ensures.over)
