@@ -109,7 +109,7 @@ TEXTS = [
     Case("texts", "asked", b"osmrepl begin base state save",
          b'Begin { base: "base", state: "state", save: "save" } ' + EXTRACT_OF_ALL,
          refused={b"OutOfMemory\n": Refusal()}),
-    Case("texts", "asked", b"osmrepl follow dir save b --kinds w a b",
+    Case("texts", "asked", b"osmrepl follow dir save b a b --kinds=w",
          b'Follow { dir: "dir", save: "save" } Extract { kinds: "w", keys: ["b", "a", "b"] }\n',
          refused={b"OutOfMemory\n": Refusal()}),
     Case("texts", "asked", b"osmrepl publish dir changes --now 2024 --sequence 7",
