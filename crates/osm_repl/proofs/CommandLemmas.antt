@@ -27,7 +27,8 @@ use Rattle.std.specs.Borrow.{Bor}
 use Rattle.clap.specs.declared.error.kind.ErrorKind.TheVariants.{InvalidValue}
 use Rattle.osm_repl.specs.CommandLine.{flag_rule, is_raised, keys_in, keys_rule, kinds_rule, osmrepl_app, sequence_rule, time_rule, word_rule}
 use Rattle.osm_repl.specs.Steps.Commands.{HasValue, HasWord, HasWords, IsCommand, IsCommandOf}
-use Rattle.osm_repl.proofs.WordLemmas.{Each, HasValueIn, IsGoodRule, IsGoodValue, MayBeEmpty, Passes, first_passes, level_passes, second_passes, words_have_values}
+use Rattle.osm_repl.proofs.WordLemmas.{Each, HasValueIn, IsGoodRule, IsGoodValue, MayBeEmpty, Passes}
+use Rattle.osm_repl.proofs.WordLemmas.{first_passes, level_passes, second_passes, words_have_values}
 
 -- a step that meets no subcommand
 abbrev IsOwn : Step → Type 0
