@@ -5,6 +5,7 @@ use crate::commands::Command;
 use crate::filters::filter_of;
 use crate::subject::Subject;
 use anyhow::{Context, Result};
+use osm_folder::options::FollowOptions;
 use osm_model::filter::Filter;
 use osm_model::memory::WantOfMemory;
 use osm_reading::pieces::cut;
@@ -56,7 +57,8 @@ impl Files {
             None => Filter::all(alloc),
         };
         let (store, written) = (&mut self.store, &mut self.written);
-        match execute(alloc, order, filter, store, &mut input, written) {
+        let options = FollowOptions::new(filter);
+        match execute(alloc, order, options, store, &mut input, written) {
             Ok(status) => writeln!(&mut self.written, "status {status}")?,
             Err(fault) => writeln!(&mut self.written, "{fault}")?,
         }

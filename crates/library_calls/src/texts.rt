@@ -59,7 +59,7 @@ impl Texts {
 
     fn write_check(&self, alloc: Global, out: &mut Vec<u8>) -> Result<()> {
         let asked = self.asked.as_ref().context("no words")?;
-        write_filter_or(check_words(alloc, asked), out)
+        write_filter_or(check_words(alloc, asked).map(|options| options.filter), out)
     }
 }
 
@@ -149,8 +149,11 @@ fn asked_for_ways(alloc: Global) -> Result<Asked<'static>> {
         options: Options {
             no_lock: false,
             any_time: false,
+            json: false,
+            quiet: false,
         },
         extract: Extract { kinds: "w", keys },
+        limit: None,
     })
 }
 

@@ -11,7 +11,7 @@ use Rattle.osm_reading.specs.Steps.Answers.{and_then}
 use Rattle.osm_reading.proofs.PieceLemmas.{cut_again, cut_takes}
 use Rattle.osm_reading.proofs.StepLemmas.{both_held, guard_some, some_then}
 use Rattle.osm_save.specs.Save.{count_text}
-use Rattle.osm_save.specs.Steps.Reading.{count_at, is_above, number_at}
+use Rattle.osm_save.specs.Reading.{count_at, is_above, number_at}
 use Rattle.osm_save.proofs.NumberLemmas.{decimal_lacks, number_again, number_takes}
 
 -- what is read from a line

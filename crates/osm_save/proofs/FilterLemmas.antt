@@ -25,8 +25,8 @@ use Rattle.osm_reading.proofs.PieceLemmas.{cut_again, cut_takes}
 use Rattle.osm_reading.proofs.StepLemmas.{both_held, guard_some, some_then}
 use Rattle.osm_save.specs.Filters.{TellsFilter, filter_lines, kinds_text, told_lines}
 use Rattle.osm_save.specs.Lines.{ended, list_lines}
-use Rattle.osm_save.specs.Steps.Reading.{after_word, filter_at, filter_lines_at, filter_with, have_letters, is_above}
-use Rattle.osm_save.specs.Steps.Reading.{key_at, keys_at, kinds_at, kinds_in, last_of, letters_at}
+use Rattle.osm_save.specs.Reading.{after_word, filter_at, filter_lines_at, filter_with, have_letters, is_above}
+use Rattle.osm_save.specs.Reading.{key_at, keys_at, kinds_at, kinds_in, last_of, letters_at}
 use Rattle.osm_save.specs.declared.filter.Kinds.{Kinds}
 use Rattle.osm_save.specs.declared.version.Version.{Version}
 use Rattle.osm_save.specs.declared.version.Version.TheVariants.{One, Three, Two}

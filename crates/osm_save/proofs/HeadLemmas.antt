@@ -22,7 +22,7 @@ use Rattle.osm_save.specs.Head.{BeginsSave, HasKeys, IsHeadIn, TellsBase, first_
 use Rattle.osm_save.specs.Head.{maybe_time_text}
 use Rattle.osm_save.specs.Lines.{ended}
 use Rattle.osm_save.specs.Save.{SpellsSave}
-use Rattle.osm_save.specs.Steps.Reading.{TellsKeys, base_at, filter_at, head_at, kinds_at, numbered_at, sequence_at, time_line_at, version_at}
+use Rattle.osm_save.specs.Reading.{TellsKeys, base_at, filter_at, head_at, kinds_at, numbered_at, sequence_at, time_line_at, version_at}
 use Rattle.osm_save.specs.declared.filter.Kinds.{Kinds}
 use Rattle.osm_save.specs.declared.head.Head.{Head}
 use Rattle.osm_save.specs.declared.save.Saved.{Saved}

@@ -10,8 +10,8 @@ use Rattle.std.specs.declared.cmp.Ordering.TheVariants.{Less, Equal, Greater}
 use Rattle.osm_reading.specs.Pieces.{cut_at}
 use Rattle.osm_reading.specs.Steps.Answers.{and_then}
 use Rattle.std.specs.Prelude.{Err, Result}
-use Rattle.osm_save.specs.Steps.Answers.{Fails, Stops, WantedIf, WantsOnlyIf}
-use Rattle.osm_save.specs.Steps.Reading.{is_above, items_at}
+use Rattle.osm_save.specs.Answers.{Fails, Stops, WantedIf, WantsOnlyIf}
+use Rattle.osm_save.specs.Reading.{is_above, items_at}
 use Rattle.osm_save.specs.declared.stop.Stop.{Stop}
 use Rattle.osm_save.specs.declared.stop.Stop.TheVariants.{WantOfMemory, Wrong}
 

@@ -22,7 +22,7 @@ use Rattle.osm_reading.proofs.PieceLemmas.{cut_again, cut_takes, lacks_append}
 use Rattle.osm_reading.proofs.StepLemmas.{both_held, chosen, guard_some, some_then}
 use Rattle.std.proofs.lemmas.Bool.{eq-eqb}
 use Rattle.osm_save.specs.Head.{IsTimeOf, maybe_time_text}
-use Rattle.osm_save.specs.Steps.Reading.{after_word, fixed_at, number_at, numbered_at, time_line_at}
+use Rattle.osm_save.specs.Reading.{after_word, fixed_at, number_at, numbered_at, time_line_at}
 use Rattle.osm_save.proofs.NumberLemmas.{decimal_lacks, number_again, number_takes}
 
 -- ---- a test for a byte that a text lacks

@@ -14,7 +14,7 @@ use Rattle.osm_reading.specs.Steps.Answers.{and_then}
 use Rattle.osm_reading.proofs.PieceLemmas.{cut_again, cut_takes}
 use Rattle.osm_reading.proofs.StepLemmas.{some_then}
 use Rattle.osm_save.specs.Lines.{ended, list_lines}
-use Rattle.osm_save.specs.Steps.Reading.{is_above, items_at, numbered_at}
+use Rattle.osm_save.specs.Reading.{is_above, items_at, numbered_at}
 use Rattle.osm_save.proofs.LineLemmas.{numbered_again, numbered_takes}
 
 -- each key is above the one before it

@@ -24,7 +24,7 @@ use Rattle.osm_reading.specs.Pieces.{Lacks}
 use Rattle.osm_reading.proofs.PieceLemmas.{lacks_append}
 use Rattle.osm_save.specs.Lines.{ended, list_lines}
 use Rattle.osm_save.specs.Save.{count_text}
-use Rattle.osm_save.specs.Steps.Reading.{count_at, counts_at, object_at, objects_at}
+use Rattle.osm_save.specs.Reading.{count_at, counts_at, object_at, objects_at}
 use Rattle.osm_save.proofs.CountLemmas.{count_again, count_takes}
 use Rattle.osm_save.proofs.LineLemmas.{lacks_by}
 use Rattle.osm_save.proofs.ListLemmas.{IsItem, TakesList, list_again, list_takes}

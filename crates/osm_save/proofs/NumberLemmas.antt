@@ -12,7 +12,7 @@ use Rattle.osm_opl.proofs.NumberLemmas.{all_from_each, digits_again, digits_take
 use Rattle.osm_opl.proofs.NumberLaws.{digits_lack}
 use Rattle.osm_reading.proofs.StepLemmas.{guard_some, some_then}
 use Rattle.osm_reading.specs.Pieces.{Lacks}
-use Rattle.osm_save.specs.Steps.Reading.{number_at}
+use Rattle.osm_save.specs.Reading.{number_at}
 use Rattle.std.proofs.Math.Nat.{pow-le-pow_right}
 use Rattle.std.proofs.lemmas.Int.Digits.{digits_value-lt}
 use Rattle.std.specs.Str.Parse.{AllDigits, digits_value}

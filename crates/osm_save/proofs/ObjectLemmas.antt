@@ -18,7 +18,7 @@ use Rattle.osm_opl.specs.Written.{line_text}
 use Rattle.osm_opl.proofs.LineLaws.{line_again, line_takes}
 use Rattle.osm_opl.proofs.RoundTrip.{line_spells}
 use Rattle.osm_reading.proofs.StepLemmas.{both_held, guard_some, some_then}
-use Rattle.osm_save.specs.Steps.Reading.{is_above, object_at}
+use Rattle.osm_save.specs.Reading.{is_above, object_at}
 
 -- a line that spells no change is read as none
 pub no_change : (line : List ℕ) → ((c : ChangeValue) → SpellsLine line c → ⊥) → None ≡ line_at line

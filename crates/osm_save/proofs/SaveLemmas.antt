@@ -15,7 +15,7 @@ use Rattle.osm_save.specs.Head.{IsHeadIn, head_lines, head_of, most_counted}
 use Rattle.osm_save.specs.Lines.{ended, list_lines}
 use Rattle.osm_save.specs.Save.{IsSavable, SpellsSave, count_text, most_objects, save_text, saved_with}
 use Rattle.osm_opl.specs.Written.{line_text}
-use Rattle.osm_save.specs.Steps.Reading.{counts_at, fixed_at, head_at, mirror_at, objects_at, save_at}
+use Rattle.osm_save.specs.Reading.{counts_at, fixed_at, head_at, mirror_at, objects_at, save_at}
 use Rattle.osm_save.specs.declared.head.Head.{Head}
 use Rattle.osm_save.specs.declared.save.Saved.{Saved}
 use Rattle.osm_save.specs.declared.version.Version.{Version}

@@ -3,4 +3,5 @@ pub mod Filters
 pub mod Head
 pub mod Save
 pub mod Refusal
-pub mod Steps
+pub mod Answers
+pub mod Reading

@@ -3,8 +3,8 @@
 ghost use Rattle.std.specs.Prelude.{◌≡◌, ◌++◌, ◌∷◌, [], None, length, OnOk};
 ghost use Rattle.osm_save.specs.Lines.{ended, list_lines};
 ghost use Rattle.osm_save.specs.Save.{count_text};
-ghost use Rattle.osm_save.specs.Steps.Answers.{Gives};
-ghost use Rattle.osm_save.specs.Steps.Reading.{count_at, counts_at, items_at};
+ghost use Rattle.osm_save.specs.Answers.{Gives};
+ghost use Rattle.osm_save.specs.Reading.{count_at, counts_at, items_at};
 
 use crate::lines::{next_line, numbered_line, write_numbered};
 use crate::numbers::{read_number, write_number};
@@ -16,11 +16,7 @@ use osm_reading::pieces::cut;
 use std::alloc::Global;
 
 /// Appends the list of all counts, beginning with its word.
-pub(crate) fn write_counts(
-    word: &[u8],
-    counts: &Counts,
-    out: &mut Vec<u8>,
-) -> Result<(), WantOfMemory>
+pub fn write_counts(word: &[u8], counts: &Counts, out: &mut Vec<u8>) -> Result<(), WantOfMemory>
     ensures { OnOk result (out.new.items ≡ out.old.items
         ++ ended (list_lines word.now count_text counts.now)) }
 {
@@ -31,7 +27,8 @@ pub(crate) fn write_counts(
     Ok(())
 }
 
-fn write_count(number: u32, count: u64, out: &mut Vec<u8>) -> Result<(), WantOfMemory>
+/// Appends the line of a count.
+pub fn write_count(number: u32, count: u64, out: &mut Vec<u8>) -> Result<(), WantOfMemory>
     ensures { OnOk result
         (out.new.items ≡ out.old.items ++ ended (count_text (number, count) ∷ [])) }
 {
@@ -44,8 +41,8 @@ fn write_count(number: u32, count: u64, out: &mut Vec<u8>) -> Result<(), WantOfM
 
 /// Reads the list that begins with that word: its counts, each at most `most`, and the bytes after
 /// the list.
-#[tactic(auto, unfolding(crate::specs::Steps::Reading::counts_at))]
-pub(crate) fn read_counts<'a>(
+#[tactic(auto, unfolding(crate::specs::Reading::counts_at))]
+pub fn read_counts<'a>(
     alloc: Global,
     word: &[u8],
     most: u64,
@@ -85,9 +82,9 @@ fn read_count_lines(
     Ok((counts, rest))
 }
 
-// The line's number, which has to be above the last one, and its count.
-#[tactic(auto, unfolding(crate::specs::Steps::Reading::count_at))]
-fn read_count(last: Option<u32>, most: u64, line: &[u8]) -> Option<(u32, u64)>
+/// The line's number, which has to be above the last one, and its count, at most `most`.
+#[tactic(auto, unfolding(crate::specs::Reading::count_at))]
+pub fn read_count(last: Option<u32>, most: u64, line: &[u8]) -> Option<(u32, u64)>
     ensures { result ≡ count_at most last line.now }
 {
     let (number, Some(count)) = cut(line, b' ') else {

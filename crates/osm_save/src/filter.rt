@@ -18,10 +18,10 @@ ghost use Rattle.osm_opl.specs.Steps.Reading.{text_at};
 ghost use Rattle.osm_opl.specs.Written.{escaped_text};
 ghost use Rattle.osm_save.specs.Filters.{filter_lines, kinds_text};
 ghost use Rattle.osm_save.specs.Lines.{ended, list_lines};
-ghost use Rattle.osm_save.specs.Steps.Answers.{Finds, Gives, WantsOnlyIf};
-ghost use Rattle.osm_save.specs.Steps.Reading.{ListsKeys, SaysKeys, TellsKeys, filter_at};
-ghost use Rattle.osm_save.specs.Steps.Reading.{filter_lines_at, filter_with, is_above, items_at};
-ghost use Rattle.osm_save.specs.Steps.Reading.{key_at, keys_at, kinds_at, last_of, letters_at};
+ghost use Rattle.osm_save.specs.Answers.{Finds, Gives, WantsOnlyIf};
+ghost use Rattle.osm_save.specs.Reading.{ListsKeys, SaysKeys, TellsKeys, filter_at};
+ghost use Rattle.osm_save.specs.Reading.{filter_lines_at, filter_with, is_above, items_at};
+ghost use Rattle.osm_save.specs.Reading.{key_at, keys_at, kinds_at, last_of, letters_at};
 
 use crate::lines::{next_line, numbered_line, write_numbered};
 use crate::order::is_text_above;
@@ -73,7 +73,7 @@ pub(crate) fn read_filter(
     }
 }
 
-#[tactic(auto, unfolding(crate::specs::Steps::Reading::filter_lines_at))]
+#[tactic(auto, unfolding(crate::specs::Reading::filter_lines_at))]
 fn read_filter_lines(alloc: Global, rest: &[u8]) -> Result<(Filter, &[u8]), Stop>
     ensures value { Gives (λ r. (r.0, r.1.now)) result (filter_lines_at rest.now) }
     ensures wants { WantsOnlyIf (ListsKeys rest.now) result }
@@ -105,7 +105,7 @@ fn write_kinds(kinds: Kinds, out: &mut Vec<u8>) -> Result<(), WantOfMemory>
 }
 
 // Reads the line with the kinds.
-#[tactic(auto, unfolding(crate::specs::Steps::Reading::kinds_at))]
+#[tactic(auto, unfolding(crate::specs::Reading::kinds_at))]
 fn kinds_line(rest: &[u8]) -> Result<(Kinds, &[u8]), Stop>
     ensures value { Finds (λ r. (r.0, r.1.now)) result (kinds_at rest.now) }
 {
@@ -136,7 +136,7 @@ fn letters_of(kinds: Kinds) -> &'static [u8]
 }
 
 // The kinds with these letters, of which there is one at least.
-#[tactic(auto, unfolding(crate::specs::Steps::Reading::letters_at))]
+#[tactic(auto, unfolding(crate::specs::Reading::letters_at))]
 fn kinds_with(letters: &[u8]) -> Option<Kinds>
     ensures { result ≡ letters_at letters.now }
 {
@@ -173,7 +173,7 @@ fn write_key(key: &Text, out: &mut Vec<u8>) -> Result<(), WantOfMemory>
 }
 
 // Reads the list of keys, and gives the bytes after it.
-#[tactic(auto, unfolding(crate::specs::Steps::Reading::keys_at))]
+#[tactic(auto, unfolding(crate::specs::Reading::keys_at))]
 fn read_keys(alloc: Global, rest: &[u8]) -> Result<(Vec<Text>, &[u8]), Stop>
     ensures value { Gives (λ r. (r.0.items, r.1.now)) result (keys_at rest.now) }
     ensures wants { WantsOnlyIf (SaysKeys rest.now) result }
@@ -216,7 +216,7 @@ fn add_key(key: Text, keys: &mut Vec<Text>) -> Result<(), WantOfMemory>
 
 // The key that is written as this line, if it comes after those before it. `written` is a buffer
 // that all lines share; its contents are overwritten.
-#[tactic(auto, unfolding(crate::specs::Steps::Reading::key_at))]
+#[tactic(auto, unfolding(crate::specs::Reading::key_at))]
 fn read_key(
     alloc: Global,
     before: &[Text],

@@ -10,9 +10,9 @@ ghost use Rattle.osm_save.specs.Head.{maybe_time_text};
 ghost use Rattle.osm_save.specs.Lines.{ended};
 ghost use Rattle.osm_save.specs.Refusal.{HeadRefused};
 ghost use Rattle.osm_save.specs.Save.{SpellsSave};
-ghost use Rattle.osm_save.specs.Steps.Answers.{Finds, Gives, WantsOnlyIf};
-ghost use Rattle.osm_save.specs.Steps.Reading.{base_at, head_at, sequence_at, time_line_at};
-ghost use Rattle.osm_save.specs.Steps.Reading.{version_at};
+ghost use Rattle.osm_save.specs.Answers.{Finds, Gives, WantsOnlyIf};
+ghost use Rattle.osm_save.specs.Reading.{base_at, head_at, sequence_at, time_line_at};
+ghost use Rattle.osm_save.specs.Reading.{version_at};
 ghost use Rattle.osm_save.specs.declared.save.Saved.{Saved};
 ghost use Rattle.osm_save.specs.declared.version.Version.TheVariants.{Three};
 
@@ -66,9 +66,9 @@ pub fn head_read(alloc: Global, bytes: &[u8]) -> Result<Head, HeadError>
     }
 }
 
-// Reads the head, and gives the version, the filter and the bytes after the head too.
-#[tactic(auto, unfolding(crate::specs::Steps::Reading::head_at))]
-pub(crate) fn read_head(alloc: Global, bytes: &[u8]) -> Result<(Version, Head, Filter, &[u8]), Stop>
+/// Reads the head, and gives the version, the filter and the bytes after the head too.
+#[tactic(auto, unfolding(crate::specs::Reading::head_at))]
+pub fn read_head(alloc: Global, bytes: &[u8]) -> Result<(Version, Head, Filter, &[u8]), Stop>
     ensures value { Gives (λ r. (r.0, r.1, r.2, r.3.now)) result (head_at bytes.now) }
     ensures wants { WantsOnlyIf (HasKeys bytes.now) result }
     ensures limit { IfOk result (λ r. r.1.number ≤ max_sequence) }
@@ -85,7 +85,7 @@ pub(crate) fn read_head(alloc: Global, bytes: &[u8]) -> Result<(Version, Head, F
 }
 
 // Reads the line that names the version.
-#[tactic(auto, unfolding(crate::specs::Steps::Reading::version_at))]
+#[tactic(auto, unfolding(crate::specs::Reading::version_at))]
 fn version_line(bytes: &[u8]) -> Result<(Version, &[u8]), Stop>
     ensures { Finds (λ r. (r.0, r.1.now)) result (version_at bytes.now) }
 {
@@ -114,7 +114,7 @@ fn base_line(version: Version, rest: &[u8]) -> Result<(u64, &[u8]), Stop>
 }
 
 // Reads the line with the number, which isn't below the base.
-#[tactic(auto, unfolding(crate::specs::Steps::Reading::sequence_at))]
+#[tactic(auto, unfolding(crate::specs::Reading::sequence_at))]
 fn sequence_line(base: u64, rest: &[u8]) -> Result<(u64, &[u8]), Stop>
     ensures value { Finds (λ r. (r.0, r.1.now)) result (sequence_at base rest.now) }
     ensures limit { IfOk result (λ r. r.0 ≤ max_sequence) }
@@ -128,7 +128,7 @@ fn sequence_line(base: u64, rest: &[u8]) -> Result<(u64, &[u8]), Stop>
 }
 
 // Reads the line with the time of a number.
-#[tactic(auto, unfolding(crate::specs::Steps::Reading::time_line_at))]
+#[tactic(auto, unfolding(crate::specs::Reading::time_line_at))]
 fn time_line(number: u64, rest: &[u8]) -> Result<(Option<u32>, &[u8]), Stop>
     ensures { Finds (λ r. (r.0, r.1.now)) result (time_line_at number rest.now) }
 {
@@ -153,8 +153,8 @@ fn read_time(text: &[u8]) -> Option<u32>
     time_read(text)
 }
 
-// Appends the head of version 3.
-pub(crate) fn write_head(head: Head, filter: &Filter, out: &mut Vec<u8>) -> Result<(), WantOfMemory>
+/// Appends the head of version 3.
+pub fn write_head(head: Head, filter: &Filter, out: &mut Vec<u8>) -> Result<(), WantOfMemory>
     ensures { OnOk result
         (out.new.items ≡ out.old.items ++ ended (head_lines Three head filter.now)) }
 {

@@ -2,13 +2,13 @@
 //! most.
 #![tactic(auto)]
 
-mod counts;
+pub mod counts;
 mod filter;
 pub mod head;
-mod lines;
-mod numbers;
-mod objects;
-mod order;
+pub mod lines;
+pub mod numbers;
+pub mod objects;
+pub mod order;
 pub mod save;
-mod stop;
+pub mod stop;
 pub mod version;

@@ -3,8 +3,8 @@
 ghost use Rattle.std.specs.Prelude.{◌≡◌, ◌≤◌, ◌++◌, ◌∷◌, [], decimal, IfOk, OnOk};
 ghost use Rattle.osm_reading.specs.Pieces.{cut_at};
 ghost use Rattle.osm_save.specs.Lines.{ended};
-ghost use Rattle.osm_save.specs.Steps.Answers.{Finds};
-ghost use Rattle.osm_save.specs.Steps.Reading.{fixed_at, numbered_at};
+ghost use Rattle.osm_save.specs.Answers.{Finds};
+ghost use Rattle.osm_save.specs.Reading.{fixed_at, numbered_at};
 
 use crate::numbers::{read_number, write_number};
 use crate::stop::Stop;
@@ -12,7 +12,7 @@ use osm_model::memory::WantOfMemory;
 use osm_reading::pieces::cut;
 
 /// The next line without its LF, and the bytes after it.
-pub(crate) fn next_line(rest: &[u8]) -> Result<(&[u8], &[u8]), Stop>
+pub fn next_line(rest: &[u8]) -> Result<(&[u8], &[u8]), Stop>
     ensures { Finds (λ r. (r.0.now, r.1.now)) result (cut_at 10 rest.now) }
 {
     match cut(rest, b'\n') {
@@ -22,8 +22,8 @@ pub(crate) fn next_line(rest: &[u8]) -> Result<(&[u8], &[u8]), Stop>
 }
 
 /// The bytes after the next line, which must have this text.
-#[tactic(auto, unfolding(crate::specs::Steps::Reading::fixed_at))]
-pub(crate) fn fixed_line<'a>(text: &[u8], rest: &'a [u8]) -> Result<&'a [u8], Stop>
+#[tactic(auto, unfolding(crate::specs::Reading::fixed_at))]
+pub fn fixed_line<'a>(text: &[u8], rest: &'a [u8]) -> Result<&'a [u8], Stop>
     ensures { Finds (λ after. after.now) result (fixed_at text.now rest.now) }
 {
     let (line, after) = next_line(rest)?;
@@ -35,12 +35,8 @@ pub(crate) fn fixed_line<'a>(text: &[u8], rest: &'a [u8]) -> Result<&'a [u8], St
 
 /// The number after the word that the next line begins with, at most `most`, and the bytes after
 /// that line.
-#[tactic(auto, unfolding(crate::specs::Steps::Reading::numbered_at))]
-pub(crate) fn numbered_line<'a>(
-    word: &[u8],
-    most: u64,
-    rest: &'a [u8],
-) -> Result<(u64, &'a [u8]), Stop>
+#[tactic(auto, unfolding(crate::specs::Reading::numbered_at))]
+pub fn numbered_line<'a>(word: &[u8], most: u64, rest: &'a [u8]) -> Result<(u64, &'a [u8]), Stop>
     ensures value { Finds (λ r. (r.0, r.1.now)) result (numbered_at word.now most rest.now) }
     ensures limit { IfOk result (λ r. r.0 ≤ most) }
 {
@@ -58,11 +54,7 @@ pub(crate) fn numbered_line<'a>(
 }
 
 /// Appends a line with a word and a number.
-pub(crate) fn write_numbered(
-    word: &[u8],
-    number: u64,
-    out: &mut Vec<u8>,
-) -> Result<(), WantOfMemory>
+pub fn write_numbered(word: &[u8], number: u64, out: &mut Vec<u8>) -> Result<(), WantOfMemory>
     ensures { OnOk result
         (out.new.items ≡ out.old.items ++ ended ((word.now ++ decimal number) ∷ [])) }
 {
@@ -73,7 +65,7 @@ pub(crate) fn write_numbered(
 }
 
 /// The number, counted from 1, of the line at whose start `left` bytes are left.
-pub(crate) fn line_number(bytes: &[u8], left: usize) -> u64 {
+pub fn line_number(bytes: &[u8], left: usize) -> u64 {
     let mut number: u64 = 1;
     for byte in bytes.iter().take(bytes.len().saturating_sub(left)) {
         if *byte == b'\n' {

@@ -2,17 +2,17 @@
 
 ghost use Rattle.std.specs.Prelude.{◌≡◌, ◌<◌, ◌^◌, ◌++◌, decimal, IfSome, OnOk};
 ghost use Rattle.osm_opl.specs.Steps.Reading.{digits_at};
-ghost use Rattle.osm_save.specs.Steps.Reading.{number_at};
+ghost use Rattle.osm_save.specs.Reading.{number_at};
 
 use itoa::Buffer;
 use osm_model::memory::WantOfMemory;
 
 /// The most digits of a number.
-pub(crate) const MOST_DIGITS: usize = 18;
+pub const MOST_DIGITS: usize = 18;
 
 /// The number with this text, if it has at most 18 digits.
-#[tactic(auto, unfolding(crate::specs::Steps::Reading::number_at))]
-pub(crate) fn read_number(text: &[u8]) -> Option<u64>
+#[tactic(auto, unfolding(crate::specs::Reading::number_at))]
+pub fn read_number(text: &[u8]) -> Option<u64>
     ensures { result ≡ number_at text.now }
 {
     let number = read_digits(text)?;
@@ -39,7 +39,8 @@ fn read_digits(digits: &[u8]) -> Option<u64>
     Some(number)
 }
 
-pub(crate) fn write_number(number: u64, out: &mut Vec<u8>) -> Result<(), WantOfMemory>
+/// Appends a number.
+pub fn write_number(number: u64, out: &mut Vec<u8>) -> Result<(), WantOfMemory>
     ensures { OnOk result (out.new.items ≡ out.old.items ++ decimal number) }
 {
     out.extend_from_slice(Buffer::new().format(number).as_bytes())?;

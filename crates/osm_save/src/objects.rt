@@ -9,8 +9,8 @@ ghost use Rattle.osm_model.specs.KeyOrder.{key_cmp};
 ghost use Rattle.osm_opl.specs.Steps.Reading.{line_at};
 ghost use Rattle.osm_opl.specs.Written.{line_text};
 ghost use Rattle.osm_save.specs.Lines.{ended, list_lines};
-ghost use Rattle.osm_save.specs.Steps.Answers.{Fails, Gives, Stops};
-ghost use Rattle.osm_save.specs.Steps.Reading.{is_above, items_at, object_at, objects_at};
+ghost use Rattle.osm_save.specs.Answers.{Fails, Gives, Stops};
+ghost use Rattle.osm_save.specs.Reading.{is_above, items_at, object_at, objects_at};
 
 use crate::lines::{next_line, numbered_line, write_numbered};
 use crate::numbers::MOST_DIGITS;
@@ -25,10 +25,10 @@ use osm_opl::lines::{LineError, read_line, write_line};
 use std::alloc::Global;
 
 /// The most objects of a text, from version 2 on.
-pub(crate) const MOST_OBJECTS: u64 = 999_999_999_999_999_999;
+pub const MOST_OBJECTS: u64 = 999_999_999_999_999_999;
 
 /// Appends the list of all objects.
-pub(crate) fn write_objects(objects: &Objects, out: &mut Vec<u8>) -> Result<(), WantOfMemory>
+pub fn write_objects(objects: &Objects, out: &mut Vec<u8>) -> Result<(), WantOfMemory>
     ensures { OnOk result (out.new.items ≡ out.old.items
         ++ ended (list_lines (codes "objects ") line_text objects.now)) }
 {
@@ -39,7 +39,8 @@ pub(crate) fn write_objects(objects: &Objects, out: &mut Vec<u8>) -> Result<(), 
     Ok(())
 }
 
-fn write_object(change: &Change, out: &mut Vec<u8>) -> Result<(), WantOfMemory>
+/// Appends the line of an object.
+pub fn write_object(change: &Change, out: &mut Vec<u8>) -> Result<(), WantOfMemory>
     ensures { OnOk result (out.new.items ≡ out.old.items ++ ended (line_text change.now ∷ [])) }
 {
     write_line(change, out)?;
@@ -49,8 +50,8 @@ fn write_object(change: &Change, out: &mut Vec<u8>) -> Result<(), WantOfMemory>
 
 /// Reads the list of objects, which the filter keeps, and gives the bytes after it. There are at
 /// most `most`.
-#[tactic(auto, unfolding(crate::specs::Steps::Reading::objects_at))]
-pub(crate) fn read_objects<'a>(
+#[tactic(auto, unfolding(crate::specs::Reading::objects_at))]
+pub fn read_objects<'a>(
     alloc: Global,
     filter: &Filter,
     most: u64,
@@ -136,10 +137,10 @@ fn read_object_lines<'a>(
     Ok((objects, rest))
 }
 
-// The object that is written as this line, if the filter keeps it and its key comes after the last
-// one. `written` is a buffer that all lines share; its contents are overwritten.
-#[tactic(auto, unfolding(crate::specs::Steps::Reading::object_at))]
-fn read_object(
+/// The object that is written as this line, if the filter keeps it and its key comes after the last
+/// one. `written` is a buffer that all lines share; its contents are overwritten.
+#[tactic(auto, unfolding(crate::specs::Reading::object_at))]
+pub fn read_object(
     alloc: Global,
     filter: &Filter,
     last: Option<Key>,

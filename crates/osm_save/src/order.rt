@@ -4,13 +4,13 @@ ghost use Rattle.std.specs.Prelude.{◌≡◌, ℕ};
 ghost use Rattle.std.specs.Ordering.{nat_cmp};
 ghost use Rattle.osm_model.specs.KeyOrder.{key_cmp};
 ghost use Rattle.osm_model.specs.Text.{bytes_cmp};
-ghost use Rattle.osm_save.specs.Steps.Reading.{is_above, last_of};
+ghost use Rattle.osm_save.specs.Reading.{is_above, last_of};
 
 use osm_model::kind::Key;
 use osm_model::text::Text;
 
 /// Whether a key comes after the one before it.
-pub(crate) fn is_key_above(last: Option<Key>, key: Key) -> bool
+pub fn is_key_above(last: Option<Key>, key: Key) -> bool
     ensures { result ≡ is_above key_cmp last key }
 {
     match last {
@@ -20,7 +20,7 @@ pub(crate) fn is_key_above(last: Option<Key>, key: Key) -> bool
 }
 
 /// Whether a number comes after the one before it.
-pub(crate) fn is_number_above(last: Option<u32>, number: u32) -> bool
+pub fn is_number_above(last: Option<u32>, number: u32) -> bool
     ensures { result ≡ is_above nat_cmp last number }
 {
     match last {
@@ -30,7 +30,7 @@ pub(crate) fn is_number_above(last: Option<u32>, number: u32) -> bool
 }
 
 /// Whether a text comes after the last of those before it.
-pub(crate) fn is_text_above(before: &[Text], text: &Text) -> bool
+pub fn is_text_above(before: &[Text], text: &Text) -> bool
     ensures { result ≡ is_above bytes_cmp (last_of before.now) text.now }
 {
     match before.last() {

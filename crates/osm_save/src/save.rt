@@ -27,8 +27,8 @@ ghost use Rattle.osm_mirror.specs.Mirror.{HoldsSome, IsWithin};
 ghost use Rattle.osm_save.specs.Head.{IsHeadIn, most_counted};
 ghost use Rattle.osm_save.specs.Refusal.{SaveRefused};
 ghost use Rattle.osm_save.specs.Save.{IsSavable, SpellsSave, most_objects, save_text, saved_with};
-ghost use Rattle.osm_save.specs.Steps.Answers.{Gives};
-ghost use Rattle.osm_save.specs.Steps.Reading.{mirror_at, save_at};
+ghost use Rattle.osm_save.specs.Answers.{Gives};
+ghost use Rattle.osm_save.specs.Reading.{mirror_at, save_at};
 ghost use Rattle.osm_save.specs.declared.head.Head.{Head};
 ghost use Rattle.osm_save.specs.declared.version.Version.{Version};
 ghost use Rattle.osm_save.specs.declared.version.Version.TheVariants.{Three};
@@ -135,7 +135,7 @@ pub fn save_read(alloc: Global, bytes: &[u8]) -> Result<Saved, SaveError>
     }
 }
 
-#[tactic(auto, unfolding(crate::specs::Steps::Reading::save_at))]
+#[tactic(auto, unfolding(crate::specs::Reading::save_at))]
 fn read_save(alloc: Global, bytes: &[u8]) -> Result<Saved, Stop>
     ensures { Gives (λ saved. saved) result (save_at bytes.now) }
 {
@@ -144,7 +144,7 @@ fn read_save(alloc: Global, bytes: &[u8]) -> Result<Saved, Stop>
 }
 
 // Reads the lists and the line `end`.
-#[tactic(auto, unfolding(crate::specs::Steps::Reading::mirror_at))]
+#[tactic(auto, unfolding(crate::specs::Reading::mirror_at))]
 fn read_mirror(
     alloc: Global,
     version: Version,
@@ -174,8 +174,8 @@ fn read_mirror(
     })
 }
 
-// The most objects that a text of that version and number can have.
-fn objects_limit(version: Version, number: u32) -> u64
+/// The most objects that a text of that version and number can have.
+pub fn objects_limit(version: Version, number: u32) -> u64
     requires { number ≤ max_sequence }
     ensures { result ≡ most_objects version number }
 {

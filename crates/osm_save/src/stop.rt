@@ -5,7 +5,7 @@ use std::alloc::{AllocError, AllocFailed};
 
 /// Why reading stops.
 #[derive(Clone, Copy, Debug, PartialEq, Eq)]
-pub(crate) enum Stop {
+pub enum Stop {
     /// A line is wrong. The number is how many bytes are left, from that line on.
     Wrong(usize),
     /// Memory was refused.

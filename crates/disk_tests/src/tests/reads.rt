@@ -4,6 +4,7 @@ use super::failing::{Countdown, Failing};
 use super::scratch::scratch;
 use osm_disk::disk_store::DiskStore;
 use osm_folder::follow::follow_run;
+use osm_folder::options::FollowOptions;
 use osm_model::filter::Filter;
 use osm_store::store::{Store, StoreError};
 use std::alloc::Global;
@@ -150,7 +151,13 @@ fn finds_two_missing<R: Files>(
     folder: &str,
     save: &str,
 ) -> bool {
-    match follow_run(alloc, store, folder, save, Filter::all(alloc)) {
+    match follow_run(
+        alloc,
+        store,
+        folder,
+        save,
+        FollowOptions::new(Filter::all(alloc)),
+    ) {
         Ok(report) => report.text() == b"missing 1\nmissing 2\nnumber 0\n".as_slice(),
         Err(_) => false,
     }

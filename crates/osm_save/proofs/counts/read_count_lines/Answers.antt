@@ -3,7 +3,7 @@ use Rattle.std.specs.Ordering.{nat_cmp}
 use Rattle.std.proofs.lemmas.Cmp.{nat_cmp_total}
 use Rattle.std.proofs.lemmas.List.{map-append}
 use Rattle.osm_mirror.specs.Mirror.{Counted}
-use Rattle.osm_save.specs.Steps.Reading.{count_at, items_at}
+use Rattle.osm_save.specs.Reading.{count_at, items_at}
 use Rattle.osm_reading.specs.Pieces.{cut_at}
 use Rattle.osm_save.proofs.CountLemmas.{TakesCount, count_takes}
 use Rattle.osm_save.proofs.ItemLemmas.{below_begun, below_more, items_begun, items_cut, items_more, items_wrong, stops}

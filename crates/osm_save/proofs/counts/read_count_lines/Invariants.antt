@@ -1,6 +1,6 @@
 use Rattle.std.proofs.Common.{map}
 use Rattle.std.specs.Ordering.{nat_cmp}
-use Rattle.osm_save.specs.Steps.Reading.{count_at}
+use Rattle.osm_save.specs.Reading.{count_at}
 use Rattle.osm_save.proofs.ItemLemmas.{IsBelow, Items}
 use Rattle.osm_save.proofs.counts.read_count_lines.Given as goal
 

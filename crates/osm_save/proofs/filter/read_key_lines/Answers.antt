@@ -1,6 +1,6 @@
 use Rattle.std.proofs.Common.{◌≡◌, Some, None, sym, ◌∙◌, rules}
 use Rattle.osm_reading.specs.Pieces.{cut_at}
-use Rattle.osm_save.specs.Steps.Reading.{items_at, key_at, last_of}
+use Rattle.osm_save.specs.Reading.{items_at, key_at, last_of}
 use Rattle.osm_save.proofs.FilterLemmas.{last_of-more}
 use Rattle.osm_save.proofs.ItemLemmas.{items_begun, items_cut, items_more, items_wrong, stops}
 use Rattle.osm_save.proofs.filter.read_key_lines.Goals as goal

@@ -1,4 +1,4 @@
-use Rattle.osm_save.specs.Steps.Reading.{key_at, last_of}
+use Rattle.osm_save.specs.Reading.{key_at, last_of}
 use Rattle.osm_save.proofs.ItemLemmas.{Items}
 use Rattle.osm_save.proofs.filter.read_key_lines.Given as goal
 

@@ -1,6 +1,6 @@
 use Rattle.std.proofs.Common.{rules}
 use Rattle.osm_save.specs.Head.{HasKeys}
-use Rattle.osm_save.specs.Steps.Reading.{TellsKeys}
+use Rattle.osm_save.specs.Reading.{TellsKeys}
 use Rattle.osm_save.proofs.HeadLemmas.{has_keys}
 use Rattle.osm_save.proofs.ItemLemmas.{wants_from}
 use Rattle.osm_save.proofs.head.read_head.Goals as goal

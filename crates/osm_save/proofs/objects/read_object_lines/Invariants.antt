@@ -1,6 +1,6 @@
 use Rattle.std.proofs.Common.{map}
 use Rattle.osm_model.specs.KeyOrder.{key_cmp}
-use Rattle.osm_save.specs.Steps.Reading.{object_at}
+use Rattle.osm_save.specs.Reading.{object_at}
 use Rattle.osm_save.proofs.ItemLemmas.{IsBelow, Items}
 use Rattle.osm_save.proofs.objects.read_object_lines.Given as goal
 

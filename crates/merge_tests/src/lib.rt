@@ -1,0 +1,5 @@
+//! Tests of saves in blocks: osm_merge.
+#![tactic(auto)]
+
+#[cfg(test)]
+mod tests;

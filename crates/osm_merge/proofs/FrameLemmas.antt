@@ -1,0 +1,120 @@
+-- Calls of a store that come one after the other, and what was written by them.
+use Rattle.std.proofs.Common.{◌≡◌, ℕ, List, [], ◌++◌, map, Some, refl, sym, ap, subst, ◌∙◌, append_assoc}
+use Rattle.std.specs.Prelude.{Bool, Err, IsTrue, Ok, Result}
+use Rattle.std.proofs.lemmas.List.{append-nil}
+use Rattle.osm_store.specs.Files.{Files}
+use Rattle.osm_store.specs.Frames.{IsKnown, StoreState}
+use Rattle.osm_blocks.specs.Frames.{ReadsOften}
+use Rattle.osm_blocks.specs.Places.{HasFile}
+use Rattle.osm_blocks.specs.Writing.{IsWritten, Waiting}
+use Rattle.osm_blocks.proofs.OftenLemmas.{often_both}
+use Rattle.osm_save.specs.Lines.{ended}
+use Rattle.osm_merge.specs.Frames.{ReplacesOften}
+use Rattle.osm_merge.specs.Faults.{IsDeviceFault}
+use Rattle.osm_merge.specs.declared.fault.MergeFault.TheVariants.{Changed}
+use Rattle.osm_merge.specs.Laying.{Lays, Writes}
+
+-- what is known stays so
+pub known_still : {T E : Type 0} {blames : E → Type 0} (a b : StoreState) (x : T) → ReadsOften blames a b (Ok x) → IsKnown a → IsKnown b
+known_still a b x frame known = subst (λ (t : Bool). IsTrue t) (sym frame.known) known
+
+-- a file stays known, and has the same bytes
+pub has_still : {T E : Type 0} {blames : E → Type 0} (a b : StoreState) (x : T) (name file : List ℕ) → ReadsOften blames a b (Ok x) → HasFile a name file → HasFile b name file
+has_still a b x name file frame has = record {
+  known = subst (λ (t : Bool). IsTrue t) (sym frame.known) has.known;
+  there = subst (λ (f : Files). f name ≡ Some file) (sym frame.files) has.there;
+}
+
+-- nothing was written
+pub writes_none : (a : StoreState) (w : Waiting) → Writes a w a w []
+writes_none a w = λ known name text is. subst (λ (l : List ℕ). IsWritten a.stage w name l) (sym (append-nil text)) is
+
+-- a call that writes nothing leaves what was written
+pub writes_still : (a b : StoreState) (w : Waiting) → b.stage ≡ a.stage → Writes a w b w []
+writes_still a b w same = λ known name text is. rw (same, append-nil text) is
+
+-- what was written is the bytes of the calls, one after the other
+pub writes_both : {T E : Type 0} {blames : E → Type 0} (a b c : StoreState) (u v w : Waiting) (x : T) (bytes more : List ℕ) → ReadsOften blames a b (Ok x)
+    → Writes a u b v bytes → Writes b v c w more → Writes a u c w (bytes ++ more)
+writes_both a b c u v w x bytes more frame first second = λ known name text is.
+    subst (λ (l : List ℕ). IsWritten c.stage w name l) (append_assoc text bytes more)
+    (second (known_still a b x frame known) name (text ++ bytes) (first known name text is))
+
+-- a call that changes nothing in the file that was begun may come first
+pub writes_after : {T E : Type 0} {blames : E → Type 0} (a b c : StoreState) (v w : Waiting) (x : T) (bytes : List ℕ) → ReadsOften blames a b (Ok x) → b.stage ≡ a.stage
+    → Writes b v c w bytes → Writes a v c w bytes
+writes_after a b c v w x bytes frame same writes = λ known name text is. writes (known_still a b x frame known) name text (rw same is)
+
+pub lays_after : {A X T F : Type 0} {blames : F → Type 0} (lay : List A → List X → List X) (text : X → List ℕ) (es : List A) (y : X) (rest : List A) (many : ℕ)
+    (a b c : StoreState) (v w : Waiting) (x : T) → ReadsOften blames a b (Ok x) → b.stage ≡ a.stage
+    → Lays lay text es y rest many (Writes b v c w) → Lays lay text es y rest many (Writes a v c w)
+lays_after lay text es y rest many a b c v w x frame same h = record {
+  put = h.put;
+  laid = h.laid;
+  out = writes_after a b c v w x (ended (map text h.put)) frame same h.out;
+  many_are = h.many_are;
+  few = h.few;
+}
+
+-- a call that fails after others, in a longer call that fails
+pub often_fails : {T U V E : Type 0} (blames : E → Type 0) (a b c : StoreState) (x : T) (fault : E) → ReadsOften blames a b (Ok x)
+    → ReadsOften {T = U} blames b c (Err fault) → ReadsOften {T = V} blames a c (Err fault)
+often_fails {T} {U} {V} blames a b c x fault m n = often_both {U = V} blames a b c x (Err fault) m (record {
+  files = n.files;
+  known = n.known;
+  left = n.left;
+  failures = n.failures;
+  failed = n.failed;
+  stops = n.stops;
+})
+
+-- three parts, with a call that writes nothing before the last
+pub writes_three : {T U V E : Type 0} {blames : E → Type 0} (a b c d e : StoreState) (w v u t : Waiting) (x : T) (y : U) (z : V) (first second third : List ℕ)
+    → ReadsOften blames a b (Ok x) → ReadsOften blames b c (Ok y) → ReadsOften blames c d (Ok z) → d.stage ≡ c.stage
+    → Writes a w b v first → Writes b v c u second → Writes d u e t third → Writes a w e t (first ++ (second ++ third))
+writes_three a b c d e w v u t x y z first second third f g h same one two three =
+    writes_both a b e w v t x first (second ++ third) f one (writes_both b c e v u t y second third g two (writes_after c d e u t z third h same three))
+
+-- what was written is what was appended, if nothing waits
+pub staged_all : (a : StoreState) (w : Waiting) (name text : List ℕ) → IsWritten a.stage w name text → w.bytes ≡ [] → a.stage ≡ Some (name, text)
+staged_all a w name text is empty =
+    let whole : text ≡ is.appended = is.whole ∙ (ap (λ (l : List ℕ). is.appended ++ l) empty ∙ append-nil is.appended) in
+    is.staged ∙ ap (λ (l : List ℕ). Some (name, l)) (sym whole)
+
+-- calls that change no file, in a call that fails
+pub reads_fail : {T U E : Type 0} (blames : E → Type 0) (a b : StoreState) (fault : E) → ReadsOften {T = T} blames a b (Err fault) → ReplacesOften {T = U} blames a b (Err fault)
+reads_fail blames a b fault n = record {
+  files = n.files;
+  known = n.known;
+  left = n.left;
+  failures = n.failures;
+  failed = n.failed;
+  stops = n.stops;
+}
+
+-- after calls that change no file, a call that may replace one
+pub then_replaces : {T U E : Type 0} (blames : E → Type 0) (a b c : StoreState) (x : T) (r : Result U E) → ReadsOften blames a b (Ok x)
+    → ReplacesOften blames b c r → ReplacesOften blames a c r
+then_replaces {T} {U} blames a b c x (Ok y) m n =
+    let both = often_both {U = U} blames a b (same_files b c) x (Ok y) m (reads_of b c y n) in
+    record { files = tt; known = both.known; left = both.left; failures = both.failures; failed = tt; stops = tt }
+  where
+    same_files : StoreState → StoreState → StoreState
+    same_files b c = record { files = b.files; is_known = c.is_known; left = c.left; failures = c.failures; stage = c.stage }
+
+    reads_of : (b c : StoreState) (y : U) → ReplacesOften blames b c (Ok y) → ReadsOften blames b (same_files b c) (Ok y)
+    reads_of b c y n = record { files = refl; known = n.known; left = n.left; failures = n.failures; failed = tt; stops = tt }
+then_replaces {T} {U} blames a b c x (Err f) m n =
+    let both = often_both {U = U} blames a b c x (Err f) m (record { files = n.files; known = n.known; left = n.left; failures = n.failures; failed = n.failed; stops = n.stops }) in
+    reads_fail blames a c f both
+
+-- calls that change no file, in a call that finds that the file changed
+pub changed_frame : {T : Type 0} (a b : StoreState) → ReadsOften {T = Unit {0}} IsDeviceFault a b (Ok tt) → ReplacesOften {T = T} IsDeviceFault a b (Err Changed)
+changed_frame a b n = record {
+  files = n.files;
+  known = n.known;
+  left = n.left;
+  failures = n.failures;
+  failed = λ bad. absurd bad;
+  stops = λ known bad. absurd bad;
+}

@@ -1,0 +1,9 @@
+pub mod LineLemmas
+pub mod OpeningLemmas
+pub mod FrameLemmas
+pub mod LayLemmas
+pub mod ItemLemmas
+pub mod ObjectLemmas
+pub mod CountLemmas
+pub mod ListLemmas
+pub mod CheckLemmas

@@ -1,0 +1,26 @@
+use Rattle.osm_net.specs.Net.{NetValue}
+use Rattle.osm_merge.proofs.CheckLemmas.{is_counted, lists_stop, opening_stop}
+use Rattle.osm_merge.proofs.FrameLemmas.{has_still}
+use Rattle.osm_merge.proofs.merge.count_pass.Goals as goal
+
+pub returns-in-Err-clause-refused : goal.returns-in-Err-clause-refused
+returns-in-Err-clause-refused g c = λ known.
+    opening_stop ((g.S.Store.state c.args.store.now).files c.args.name.now) c.in-Err.fault (c.in-Err.ensures.refused known)
+
+pub returns-clause-refused : goal.returns-clause-refused
+returns-clause-refused g c = λ known.
+    let opened = c.in-Ok.ensures.opened known in
+    let has = has_still (g.S.Store.state c.args.store.now) (g.S.Store.state c.open_save.new.store) c.in-Ok.opened c.args.name.now opened.file c.in-Ok.ensures.frame
+    (record { known = known; there = opened.there }) in
+    lists_stop ((g.S.Store.state c.args.store.now).files c.args.name.now) c.in-Ok.opened.0 c.in-Ok.opened.1 c.in-Err-merge_lists.fault opened
+    (c.in-Err-merge_lists.ensures.refused opened.file has)
+
+pub returns-in-Ok-merge_lists-clause-counted : goal.returns-in-Ok-merge_lists-clause-counted
+returns-in-Ok-merge_lists-clause-counted g c = λ known.
+    let opened = c.in-Ok.ensures.opened known in
+    let m = c.in-Ok-merge_lists.ensures.merges in
+    let n : NetValue = record { objects = c.args.entries.now; users = c.args.users.now; changesets = c.args.changesets.now } in
+    let has = has_still (g.S.Store.state c.args.store.now) (g.S.Store.state c.open_save.new.store) c.in-Ok.opened c.args.name.now opened.file c.in-Ok.ensures.frame
+    (record { known = known; there = opened.there }) in
+    is_counted ((g.S.Store.state c.args.store.now).files c.args.name.now) c.in-Ok.opened.0 c.in-Ok.opened.1 n c.in-Ok-merge_lists.totals opened
+    m.mirror (m.read opened.file has) m.counted_are

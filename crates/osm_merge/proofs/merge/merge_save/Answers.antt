@@ -1,0 +1,92 @@
+use Rattle.std.proofs.Common.{◌≡◌, ℕ, List, Some, sym, subst, ap, ◌∙◌}
+use Rattle.std.specs.Prelude.{Err, Ok}
+use Rattle.osm_blocks.proofs.OftenLemmas.{often_both, often_then}
+use Rattle.osm_net.specs.Net.{NetValue}
+use Rattle.osm_net.specs.Laid.{laid_on}
+use Rattle.osm_save.specs.Save.{save_text, saved_with}
+use Rattle.osm_save.specs.declared.version.Version.TheVariants.{Three}
+use Rattle.osm_save.proofs.SaveLemmas.{save_takes}
+use Rattle.osm_store.specs.Files.{Files, Puts}
+use Rattle.osm_merge.specs.Checking.{CheckStops}
+use Rattle.osm_merge.specs.Faults.{IsDeviceFault}
+use Rattle.osm_merge.specs.Merging.{IsCounted, merged_text}
+use Rattle.osm_merge.specs.declared.lists.Totals.{Totals}
+use Rattle.osm_merge.proofs.CheckLemmas.{counted_once, merged_is, plain_stops}
+use Rattle.osm_merge.proofs.FrameLemmas.{changed_frame, known_still, reads_fail, then_replaces}
+use Rattle.osm_merge.proofs.merge.merge_save.Goals as goal
+
+pub returns-in-Err-clause-frame : goal.returns-in-Err-clause-frame
+returns-in-Err-clause-frame g c = reads_fail IsDeviceFault (g.S.Store.state c.args.store.now) (g.S.Store.state c.count_pass.new.store) c.in-Err.fault c.in-Err.ensures.frame
+
+pub returns-in-Err-write_pass-clause-refused : goal.returns-in-Err-write_pass-clause-refused
+returns-in-Err-write_pass-clause-refused g c = λ known.
+    let a = g.S.Store.state c.args.store.now in
+    let b = g.S.Store.state c.count_pass.new.store in
+    subst (λ (f : Files). CheckStops (f c.args.name.now) c.in-Err-write_pass.fault) c.in-Ok.ensures.frame.files
+    (c.in-Err-write_pass.ensures.refused (known_still a b c.in-Ok.totals c.in-Ok.ensures.frame known))
+
+pub returns-in-Err-write_pass-clause-frame : goal.returns-in-Err-write_pass-clause-frame
+returns-in-Err-write_pass-clause-frame g c =
+    let a = g.S.Store.state c.args.store.now in
+    let b = g.S.Store.state c.count_pass.new.store in
+    let d = g.S.Store.state c.write_pass.new.store in
+    reads_fail {T = Totals} IsDeviceFault a d c.in-Err-write_pass.fault (often_both {U = Totals} IsDeviceFault a b d c.in-Ok.totals (Err c.in-Err-write_pass.fault) c.in-Ok.ensures.frame c.in-Err-write_pass.ensures.frame)
+
+pub returns-then-not-are_same-clause-refused : goal.returns-then-not-are_same-clause-refused
+returns-then-not-are_same-clause-refused g c = λ known.
+    let a = g.S.Store.state c.args.store.now in
+    let b = g.S.Store.state c.count_pass.new.store in
+    let n : NetValue = record { objects = c.args.entries.now; users = c.args.users.now; changesets = c.args.changesets.now } in
+    let known_b = known_still a b c.in-Ok.totals c.in-Ok.ensures.frame known in
+    let second = (c.in-Ok-write_pass.ensures.staged known_b).count in
+    let again : IsCounted (a.files c.args.name.now) n c.in-Ok-write_pass.counted =
+    subst (λ (f : Files). IsCounted (f c.args.name.now) n c.in-Ok-write_pass.counted) c.in-Ok.ensures.frame.files second in
+    c.are_same.ensures.other c.if-not-are_same.true (counted_once (a.files c.args.name.now) n c.in-Ok.totals c.in-Ok-write_pass.counted (c.in-Ok.ensures.counted known) again)
+
+pub returns-then-not-are_same-clause-frame : goal.returns-then-not-are_same-clause-frame
+returns-then-not-are_same-clause-frame g c =
+    let a = g.S.Store.state c.args.store.now in
+    let b = g.S.Store.state c.count_pass.new.store in
+    let d = g.S.Store.state c.write_pass.new.store in
+    changed_frame a d (often_then {V = Unit {0}} IsDeviceFault a b d c.in-Ok.totals c.in-Ok-write_pass.counted tt c.in-Ok.ensures.frame c.in-Ok-write_pass.ensures.frame)
+
+pub returns-in-Ok-commit-clause-merged : goal.returns-in-Ok-commit-clause-merged
+returns-in-Ok-commit-clause-merged g c = λ known.
+    let a = g.S.Store.state c.args.store.now in
+    let b = g.S.Store.state c.count_pass.new.store in
+    let d = g.S.Store.state c.write_pass.new.store in
+    let e = g.S.Store.state c.commit.new.store in
+    let n : NetValue = record { objects = c.args.entries.now; users = c.args.users.now; changesets = c.args.changesets.now } in
+    let known_b = known_still a b c.in-Ok.totals c.in-Ok.ensures.frame known in
+    let known_d = known_still b d c.in-Ok-write_pass.counted c.in-Ok-write_pass.ensures.frame known_b in
+    let s = c.in-Ok-write_pass.ensures.staged known_b in
+    let v = s.count.saved in
+    let same : c.in-Ok.totals ≡ c.in-Ok-write_pass.counted = c.are_same.ensures.same c.if-not-are_same.false in
+    let text = merged_text c.args.head c.in-Ok.totals n v in
+    let is : text ≡ save_text Three (saved_with c.args.head v.filter (laid_on n v.mirror)) = merged_is c.args.head n v c.in-Ok.totals (same ∙ s.count.totals_are) in
+    let put : Puts d.files c.args.name.now (Some text) e.files = c.in-Ok-commit.ensures.put known_d c.args.name.now text s.says in
+    record {
+      file = s.count.file;
+      there = ap (λ (f : Files). f c.args.name.now) (sym c.in-Ok.ensures.frame.files) ∙ s.count.there;
+      saved = v;
+      spells = save_takes s.count.file v s.count.is;
+      put = subst (λ (l : List ℕ). Puts a.files c.args.name.now (Some l) e.files) is
+          (subst (λ (f : Files). Puts f c.args.name.now (Some text) e.files) (c.in-Ok-write_pass.ensures.frame.files ∙ c.in-Ok.ensures.frame.files) put);
+    }
+
+pub returns-in-Ok-commit-clause-frame : goal.returns-in-Ok-commit-clause-frame
+returns-in-Ok-commit-clause-frame g c =
+    let a = g.S.Store.state c.args.store.now in
+    let b = g.S.Store.state c.count_pass.new.store in
+    let d = g.S.Store.state c.write_pass.new.store in
+    then_replaces IsDeviceFault a d (g.S.Store.state c.commit.new.store) tt (Ok tt) (often_then {V = Unit {0}} IsDeviceFault a b d c.in-Ok.totals c.in-Ok-write_pass.counted tt c.in-Ok.ensures.frame c.in-Ok-write_pass.ensures.frame) c.in-Ok-commit.ensures.frame
+
+pub returns-in-Err-commit-clause-refused : goal.returns-in-Err-commit-clause-refused
+returns-in-Err-commit-clause-refused g c = λ known. plain_stops ((g.S.Store.state c.args.store.now).files c.args.name.now) c.in-Err-commit.fault c.in-Err-commit.ensures.refused
+
+pub returns-in-Err-commit-clause-frame : goal.returns-in-Err-commit-clause-frame
+returns-in-Err-commit-clause-frame g c =
+    let a = g.S.Store.state c.args.store.now in
+    let b = g.S.Store.state c.count_pass.new.store in
+    let d = g.S.Store.state c.write_pass.new.store in
+    then_replaces IsDeviceFault a d (g.S.Store.state c.commit.new.store) tt (Err c.in-Err-commit.fault) (often_then {V = Unit {0}} IsDeviceFault a b d c.in-Ok.totals c.in-Ok-write_pass.counted tt c.in-Ok.ensures.frame c.in-Ok-write_pass.ensures.frame) c.in-Err-commit.ensures.frame

@@ -1,0 +1,11 @@
+use Rattle.std.proofs.Common.{length}
+use Rattle.osm_net.specs.Laid.{laid_over}
+use Rattle.osm_opl.specs.Written.{line_text}
+use Rattle.osm_merge.proofs.LayLemmas.{LaysSome}
+use Rattle.osm_merge.proofs.objects.lay_rest.Given as goal
+
+abbrev pub invariant-loop-key : goal.invariant-loop-key
+invariant-loop-key l = LaysSome laid_over line_text l.fn.entries l.rest l.many l.fn.out.items l.out.items
+
+abbrev pub decreases-loop-key : goal.decreases-loop-key
+decreases-loop-key l = length l.rest

@@ -1,0 +1,64 @@
+use Rattle.std.proofs.Common.{◌+◌}
+use Rattle.osm_blocks.specs.Places.{HasFile, left_of}
+use Rattle.osm_blocks.proofs.OftenLemmas.{often_none, often_then}
+use Rattle.osm_net.specs.Laid.{laid_over}
+use Rattle.osm_opl.specs.Written.{line_text}
+use Rattle.osm_save.specs.Reading.{object_at}
+use Rattle.osm_merge.specs.Faults.{IsDeviceFault}
+use Rattle.osm_merge.proofs.FrameLemmas.{has_still, lays_after, often_fails}
+use Rattle.osm_merge.proofs.ItemLemmas.{merging_begun, merging_done, merging_more, merging_stops}
+use Rattle.osm_merge.proofs.objects.merge_objects.Goals as goal
+
+pub loop-init : goal.loop-init
+loop-init g c = merging_begun laid_over line_text (λ o. o.key) (object_at c.args.filter.now) c.args.many c.args.entries.now
+    (HasFile (g.S.Store.state c.args.store.now) c.args.name.now) (left_of c.args.source.now) (g.S.Store.state c.args.store.now) c.args.writer.now
+    (often_none IsDeviceFault (g.S.Store.state c.args.store.now) tt)
+
+pub returns-in-Err-clause-refused : goal.returns-in-Err-clause-refused
+returns-in-Err-clause-refused g c = λ file has.
+    let h = c.loop.invariant in
+    merging_stops laid_over line_text (λ o. o.key) (object_at c.args.filter.now) c.args.many c.args.entries.now c.loop.rest.now c.loop.counter c.loop.last c.loop.count
+    (HasFile (g.S.Store.state c.args.store.now) c.args.name.now) (left_of c.args.source.now) (left_of c.loop.source)
+    (g.S.Store.state c.args.store.now) (g.S.Store.state c.loop.store) c.args.writer.now c.loop.writer file c.in-Err.fault c.loop-test.true h has
+    (c.in-Err.ensures.read file (has_still (g.S.Store.state c.args.store.now) (g.S.Store.state c.loop.store) tt c.args.name.now file h.frame has))
+
+pub returns-in-Err-clause-frame : goal.returns-in-Err-clause-frame
+returns-in-Err-clause-frame g c = often_fails {T = Unit {0}} IsDeviceFault (g.S.Store.state c.args.store.now) (g.S.Store.state c.loop.store) (g.S.Store.state c.next_object.new.store)
+    tt c.in-Err.fault c.loop.invariant.frame c.in-Err.ensures.frame
+
+pub returns-in-Err-put_object-clause-frame : goal.returns-in-Err-put_object-clause-frame
+returns-in-Err-put_object-clause-frame g c = often_fails {T = Unit {0}} IsDeviceFault (g.S.Store.state c.args.store.now) (g.S.Store.state c.next_object.new.store) (g.S.Store.state c.put_object.new.store)
+    tt c.in-Err-put_object.fault
+    (often_then {T = Unit {0}} {V = Unit {0}} IsDeviceFault (g.S.Store.state c.args.store.now) (g.S.Store.state c.loop.store) (g.S.Store.state c.next_object.new.store) tt c.in-Ok.object tt
+    c.loop.invariant.frame c.in-Ok.ensures.frame) c.in-Err-put_object.ensures.frame
+
+pub loop-preserved : goal.loop-preserved
+loop-preserved g c =
+    let h = c.loop.invariant in
+    rw c.key.ensures.key (merging_more laid_over line_text (λ o. o.key) (object_at c.args.filter.now) c.args.many c.args.entries.now c.loop.rest.now c.in-Ok-put_object.laid.0.now
+    c.loop.counter c.loop.last c.loop.count c.in-Ok-put_object.laid.1 c.in-Ok.object
+    (HasFile (g.S.Store.state c.args.store.now) c.args.name.now) (left_of c.args.source.now) (left_of c.loop.source) (left_of c.next_object.new.source)
+    (g.S.Store.state c.args.store.now) (g.S.Store.state c.loop.store) (g.S.Store.state c.put_object.new.store) c.args.writer.now c.loop.writer c.put_object.new.writer
+    c.loop-test.true h
+    (lays_after laid_over line_text c.loop.rest.now c.in-Ok.object c.in-Ok-put_object.laid.0.now c.in-Ok-put_object.laid.1
+    (g.S.Store.state c.loop.store) (g.S.Store.state c.next_object.new.store) (g.S.Store.state c.put_object.new.store) c.loop.writer c.put_object.new.writer
+    c.in-Ok.object c.in-Ok.ensures.frame c.in-Ok.ensures.stage c.in-Ok-put_object.ensures.laid)
+    (λ file has. c.in-Ok.ensures.read file (has_still (g.S.Store.state c.args.store.now) (g.S.Store.state c.loop.store) tt c.args.name.now file h.frame has))
+    (often_then {V = Unit {0}} IsDeviceFault (g.S.Store.state c.loop.store) (g.S.Store.state c.next_object.new.store) (g.S.Store.state c.put_object.new.store) c.in-Ok.object c.in-Ok-put_object.laid tt
+    c.in-Ok.ensures.frame c.in-Ok-put_object.ensures.frame))
+
+pub returns-in-Ok-put_rest-clause-merges : goal.returns-in-Ok-put_rest-clause-merges
+returns-in-Ok-put_rest-clause-merges g c =
+    let h = c.loop.invariant in
+    merging_done laid_over line_text (λ o. o.key) (object_at c.args.filter.now) c.args.many c.args.entries.now c.loop.rest.now c.loop.counter c.loop.last c.loop.count c.in-Ok-put_rest.put
+    (HasFile (g.S.Store.state c.args.store.now) c.args.name.now) (left_of c.args.source.now) (left_of c.loop.source)
+    (g.S.Store.state c.args.store.now) (g.S.Store.state c.loop.store) (g.S.Store.state c.put_rest.new.store) c.args.writer.now c.loop.writer c.put_rest.new.writer
+    c.loop-test.false h c.in-Ok-put_rest.ensures.laid
+
+pub returns-in-Ok-put_rest-clause-frame : goal.returns-in-Ok-put_rest-clause-frame
+returns-in-Ok-put_rest-clause-frame g c = often_then {T = Unit {0}} IsDeviceFault (g.S.Store.state c.args.store.now) (g.S.Store.state c.loop.store) (g.S.Store.state c.put_rest.new.store)
+    tt c.in-Ok-put_rest.put (c.loop.count + c.in-Ok-put_rest.put) c.loop.invariant.frame c.in-Ok-put_rest.ensures.frame
+
+pub returns-clause-frame : goal.returns-clause-frame
+returns-clause-frame g c = often_fails {T = Unit {0}} IsDeviceFault (g.S.Store.state c.args.store.now) (g.S.Store.state c.loop.store) (g.S.Store.state c.put_rest.new.store)
+    tt c.in-Err-put_rest.fault c.loop.invariant.frame c.in-Err-put_rest.ensures.frame

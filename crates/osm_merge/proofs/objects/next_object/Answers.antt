@@ -1,0 +1,26 @@
+use Rattle.std.proofs.Common.{◌≡◌, ◌+◌, Some, None, take, sym, ◌∙◌}
+use Rattle.osm_blocks.specs.Places.{left_of, past}
+use Rattle.osm_save.specs.Reading.{object_at}
+use Rattle.osm_merge.specs.Laying.{next_at}
+use Rattle.osm_merge.proofs.LineLemmas.{refused_by}
+use Rattle.osm_merge.proofs.ObjectLemmas.{bad_refuses, next_is, next_none, object_long}
+use Rattle.osm_merge.proofs.objects.next_object.Goals as goal
+
+pub returns-in-Err-clause-read : goal.returns-in-Err-clause-read
+returns-in-Err-clause-read g c = λ file has.
+    refused_by file c.args.source.now c.next.new.self c.in-Err.fault (next_at (object_at c.args.filter.now) c.args.last (left_of c.args.source.now file))
+    (c.in-Err.ensures.found file has) (next_none (object_at c.args.filter.now) c.args.last (left_of c.args.source.now file))
+    (object_long c.args.filter.now c.args.last (left_of c.args.source.now file))
+
+pub returns-in-Ok-Some-clause-read : goal.returns-in-Ok-Some-clause-read
+returns-in-Ok-Some-clause-read g c = λ file has.
+    let read : Some c.in-Ok-Some.object ≡ object_at c.args.filter.now c.args.last c.line.result.now = sym c.in-Ok-Some.field-0-is ∙ c.in-Ok-Some.ensures in
+    rw c.pass.ensures (next_is (object_at c.args.filter.now) c.args.last (left_of c.args.source.now file) (take c.in-Ok.count c.next.new.self.unread)
+    (left_of (past (c.in-Ok.count + 1) c.next.new.self) file) (Some c.in-Ok-Some.object) (c.in-Ok.ensures.found file has) (rw c.line.ensures at read))
+
+pub returns-in-Ok-None-clause-read : goal.returns-in-Ok-None-clause-read
+returns-in-Ok-None-clause-read g c = λ file has.
+    let read : None ≡ object_at c.args.filter.now c.args.last c.line.result.now = sym c.in-Ok-None.field-0-is ∙ c.in-Ok-None.ensures in
+    bad_refuses file c.wrong.result (next_at (object_at c.args.filter.now) c.args.last (left_of c.args.source.now file)) c.wrong.ensures
+    (next_is (object_at c.args.filter.now) c.args.last (left_of c.args.source.now file) (take c.in-Ok.count c.next.new.self.unread)
+    (left_of (past (c.in-Ok.count + 1) c.next.new.self) file) None (c.in-Ok.ensures.found file has) (rw c.line.ensures at read))

@@ -1,0 +1,67 @@
+//! Save texts of any size, checked in blocks.
+
+ghost use Rattle.std.specs.Prelude.{IfErr, IfOk};
+ghost use Rattle.osm_store.specs.Frames.{IsKnown};
+ghost use Rattle.osm_blocks.specs.Frames.{ReadsOften};
+ghost use Rattle.osm_merge.specs.Checking.{CheckStops, IsChecked};
+ghost use Rattle.osm_merge.specs.Faults.{IsDeviceFault};
+
+use crate::fault::MergeFault;
+use crate::lists::{Totals, merge_lists};
+use crate::opening::open_save;
+use osm_blocks::block_writer::BlockWriter;
+use osm_model::filter::Filter;
+use osm_save::head::Head;
+use osm_save::version::Version;
+use osm_store::store::Store;
+use std::alloc::Global;
+
+/// What a file was found to be: a save text of that version, with that head and that filter, and as
+/// many objects, users and changesets.
+#[derive(Debug, Drop)]
+pub struct Checked {
+    pub version: Version,
+    pub head: Head,
+    pub filter: Filter,
+    pub totals: Totals,
+}
+
+/// Checks that a file is a save text, of any size. A block, a line and its object are in memory.
+pub fn check_save<S: Store>(alloc: Global, store: &mut S, name: &str) -> Result<Checked, MergeFault>
+    ensures checked { IfOk result (λ checked. IsKnown (S.state store.old)
+        → IsChecked ((S.state store.old).files name.now) checked) }
+    ensures refused { IfErr result (λ fault. IsKnown (S.state store.old)
+        → CheckStops ((S.state store.old).files name.now) fault) }
+    ensures frame { ReadsOften IsDeviceFault (S.state store.old) (S.state store.new) result }
+{
+    let (mut source, opening) = match open_save(alloc, store, name) {
+        Ok(opened) => opened,
+        Err(fault) => return Err(fault),
+    };
+    let mut writer = BlockWriter::dropping(alloc);
+    let none = Totals {
+        objects: 0,
+        users: 0,
+        changesets: 0,
+    };
+    match merge_lists(
+        alloc,
+        store,
+        name,
+        &mut source,
+        &mut writer,
+        &opening,
+        none,
+        &[],
+        &[],
+        &[],
+    ) {
+        Ok(totals) => Ok(Checked {
+            version: opening.version,
+            head: opening.head,
+            filter: opening.filter,
+            totals,
+        }),
+        Err(fault) => Err(fault),
+    }
+}

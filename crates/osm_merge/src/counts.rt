@@ -1,0 +1,213 @@
+//! The counts of a save text, with those of net changes added to them.
+
+ghost use Rattle.std.specs.Prelude.{◌≡◌, ℕ, ◌+◌, ◌++◌, ◌≤◌, ◌<◌, ◌∷◌, List, [], MatchOption};
+ghost use Rattle.std.specs.Prelude.{length};
+ghost use Rattle.std.specs.Prelude.{map, None, Some, IfErr, IfOk};
+ghost use Rattle.std.specs.List.{AllByRecursion};
+ghost use Rattle.osm_store.specs.Frames.{IsKnown};
+ghost use Rattle.osm_blocks.specs.Frames.{ReadsOften};
+ghost use Rattle.osm_blocks.specs.Places.{HasFile, left_of};
+ghost use Rattle.osm_net.specs.Laid.{added};
+ghost use Rattle.osm_save.specs.Lines.{ended};
+ghost use Rattle.osm_save.specs.Reading.{count_at, items_at};
+ghost use Rattle.osm_save.specs.Save.{count_text};
+ghost use Rattle.osm_merge.specs.Faults.{IsDeviceFault, IsPlain};
+ghost use Rattle.osm_merge.specs.Laying.{Appends, IsFew, Lays, LaysRest, Merges, Writes, next_at};
+ghost use Rattle.osm_merge.specs.Reading.{Follows, Refuses};
+
+use crate::fault::MergeFault;
+use crate::source::Source;
+use osm_blocks::block_writer::BlockWriter;
+use osm_model::memory::WantOfMemory;
+use osm_save::counts::{read_count, write_count};
+use osm_store::store::Store;
+use std::alloc::Global;
+use std::cmp::Ordering;
+
+// Passes the next line, which has to be that of a count of at most `most`, with a number above the
+// last one, and gives the count.
+fn next_count<S: Store>(
+    alloc: Global,
+    store: &mut S,
+    name: &str,
+    source: &mut Source,
+    most: u64,
+    last: Option<u32>,
+) -> Result<(u32, u64), MergeFault>
+    requires { most ≤ 999999999999999999 }
+    ensures read { (file : List ℕ) → HasFile (S.state store.old) name.now file
+        → Follows (λ c. c) file source.new result
+        (next_at (count_at most) last (left_of source.old file)) }
+    ensures limit { IfOk result (λ c. c.1 ≤ most) }
+    ensures stage { (S.state store.new).stage ≡ (S.state store.old).stage }
+    ensures frame { ReadsOften IsDeviceFault (S.state store.old) (S.state store.new) result }
+{
+    let length = match source.next(alloc, store, name) {
+        Ok(length) => length,
+        Err(fault) => return Err(fault),
+    };
+    let Some(count) = read_count(last, most, source.line(length)) else {
+        return Err(source.wrong());
+    };
+    source.pass(length);
+    Ok(count)
+}
+
+// The first increment's number, how many it has, and the increments after it.
+fn first_increment(increments: &[(u32, u64)]) -> Option<(u32, u64, &[(u32, u64)])>
+    ensures { MatchOption result (increments.now ≡ [])
+        (λ r. increments.now ≡ (r.0, r.1) ∷ r.2.now) }
+{
+    let (increment, after) = increments.split_first()?;
+    Some((increment.0, increment.1, after))
+}
+
+// Appends the lines of the increments up to the count's number, and that of the count, with the
+// increment of its number if there is one. Gives the increments after that, and the number of
+// lines.
+fn lay_count<'a>(
+    increments: &'a [(u32, u64)],
+    count: (u32, u64),
+    out: &mut Vec<u8>,
+) -> Result<(&'a [(u32, u64)], u64), WantOfMemory>
+    requires few { AllByRecursion IsFew increments.now }
+    requires count { count.1 ≤ 999999999999999999 }
+    ensures lays { IfOk result (λ r. Lays added count_text increments.now count r.0.now r.1
+        (Appends out.old.items out.new.items)) }
+    ensures few { IfOk result (λ r. AllByRecursion IsFew r.0.now) }
+{
+    let mut rest = increments;
+    let mut many = 0;
+    while let Some((number, more, after)) = first_increment(rest) {
+        match number.cmp(&count.0) {
+            Ordering::Less => {
+                write_count(number, more, out)?;
+                rest = after;
+                many += 1;
+            }
+            Ordering::Equal => {
+                write_count(count.0, more + count.1, out)?;
+                return Ok((after, many + 1));
+            }
+            Ordering::Greater => {
+                write_count(count.0, count.1, out)?;
+                return Ok((rest, many + 1));
+            }
+        }
+    }
+    write_count(count.0, count.1, out)?;
+    Ok((rest, many + 1))
+}
+
+// Appends the lines of the increments, and gives their number.
+fn lay_rest(increments: &[(u32, u64)], out: &mut Vec<u8>) -> Result<u64, WantOfMemory>
+    ensures { IfOk result (λ many. LaysRest added count_text increments.now many
+        (Appends out.old.items out.new.items)) }
+{
+    let mut rest = increments;
+    let mut many = 0;
+    while let Some((number, more, after)) = first_increment(rest) {
+        write_count(number, more, out)?;
+        rest = after;
+        many += 1;
+    }
+    Ok(many)
+}
+
+// Writes what `lay_count` appends.
+fn put_count<'a, S: Store>(
+    store: &mut S,
+    writer: &mut BlockWriter,
+    increments: &'a [(u32, u64)],
+    count: (u32, u64),
+    out: &mut Vec<u8>,
+) -> Result<(&'a [(u32, u64)], u64), MergeFault>
+    requires few { AllByRecursion IsFew increments.now }
+    requires count { count.1 ≤ 999999999999999999 }
+    ensures laid { IfOk result (λ r. Lays added count_text increments.now count r.0.now r.1
+        (Writes (S.state store.old) writer.old (S.state store.new) writer.new)) }
+    ensures few { IfOk result (λ r. AllByRecursion IsFew r.0.now) }
+    ensures refused { IfErr result IsPlain }
+    ensures frame { ReadsOften IsDeviceFault (S.state store.old) (S.state store.new) result }
+{
+    out.clear();
+    let (rest, many) = match lay_count(increments, count, out) {
+        Ok(laid) => laid,
+        Err(WantOfMemory) => return Err(MergeFault::WantOfMemory),
+    };
+    match writer.put(store, out.as_slice()) {
+        Ok(()) => Ok((rest, many)),
+        Err(fault) => Err(MergeFault::from(fault)),
+    }
+}
+
+// Writes what `lay_rest` appends.
+fn put_rest<S: Store>(
+    store: &mut S,
+    writer: &mut BlockWriter,
+    increments: &[(u32, u64)],
+    out: &mut Vec<u8>,
+) -> Result<u64, MergeFault>
+    ensures laid { IfOk result (λ many. LaysRest added count_text increments.now many
+        (Writes (S.state store.old) writer.old (S.state store.new) writer.new)) }
+    ensures refused { IfErr result IsPlain }
+    ensures frame { ReadsOften IsDeviceFault (S.state store.old) (S.state store.new) result }
+{
+    out.clear();
+    let many = match lay_rest(increments, out) {
+        Ok(many) => many,
+        Err(WantOfMemory) => return Err(MergeFault::WantOfMemory),
+    };
+    match writer.put(store, out.as_slice()) {
+        Ok(()) => Ok(many),
+        Err(fault) => Err(MergeFault::from(fault)),
+    }
+}
+
+/// Passes the lines of so many counts, each at most `most`, writes the counts with the increments
+/// added to them, and gives their number.
+pub(crate) fn merge_counts<S: Store>(
+    alloc: Global,
+    store: &mut S,
+    name: &str,
+    source: &mut Source,
+    writer: &mut BlockWriter,
+    most: u64,
+    many: u64,
+    increments: &[(u32, u64)],
+) -> Result<u64, MergeFault>
+    requires most { most ≤ 999999999999999999 }
+    requires many { many ≤ 999999999999999999 }
+    requires few { AllByRecursion IsFew increments.now }
+    ensures merges { IfOk result (λ total. Merges added count_text increments.now total
+        (λ counts. (file : List ℕ) → HasFile (S.state store.old) name.now file
+        → items_at (λ e. e.0) (count_at most) many None (left_of source.old file)
+        ≡ Some (counts, left_of source.new file))
+        (Writes (S.state store.old) writer.old (S.state store.new) writer.new)) }
+    ensures refused { IfErr result (λ fault. (file : List ℕ)
+        → HasFile (S.state store.old) name.now file → Refuses file fault
+        (items_at (λ e. e.0) (count_at most) many None (left_of source.old file))) }
+    ensures frame { ReadsOften IsDeviceFault (S.state store.old) (S.state store.new) result }
+{
+    let mut out = Vec::new(alloc);
+    let mut last = None;
+    let mut rest = increments;
+    let mut total: u64 = 0;
+    for _ in 0..many {
+        let count = match next_count(alloc, store, name, source, most, last) {
+            Ok(count) => count,
+            Err(fault) => return Err(fault),
+        };
+        let (after, put) = match put_count(store, writer, rest, count, &mut out) {
+            Ok(laid) => laid,
+            Err(fault) => return Err(fault),
+        };
+        last = Some(count.0);
+        rest = after;
+        total += put;
+    }
+    match put_rest(store, writer, rest, &mut out) {
+        Ok(put) => Ok(total + put),
+        Err(fault) => Err(fault),
+    }
+}

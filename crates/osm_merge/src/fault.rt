@@ -1,0 +1,76 @@
+//! Why a save text isn't checked or merged.
+
+ghost use Rattle.std.specs.Prelude.{◌↔◌};
+ghost use Rattle.osm_merge.specs.Faults.{IsDeviceFault, IsPlain};
+ghost use Rattle.osm_store.specs.Files.{NeverTooLarge};
+ghost use Rattle.osm_store.specs.Frames.{IsDevice};
+
+use osm_blocks::fault::BlockFault;
+use osm_model::memory::WantOfMemory;
+use osm_store::store::StoreError;
+use thiserror::Error;
+
+/// Why a save text isn't checked or merged.
+#[derive(Clone, Copy, Debug, PartialEq, Eq, Error)]
+pub enum MergeFault {
+    /// The device failed.
+    #[error("Device")]
+    Device,
+    /// Memory was refused.
+    #[error("WantOfMemory")]
+    WantOfMemory,
+    /// There is no such file.
+    #[error("NoSave")]
+    NoSave,
+    /// The file is no save text. The line, counted from 1, is the first that can't follow those
+    /// before it, or one past the last line if the text ends too early.
+    #[error("BadSave")]
+    BadSave { line: u64 },
+    /// A line of the file has more than 256 MiB.
+    #[error("LongLine")]
+    LongLine,
+    /// The file has more bytes than 64 bits count.
+    #[error("TooLarge")]
+    TooLarge,
+    /// The file changed between the two passes over it.
+    #[error("Changed")]
+    Changed,
+}
+
+impl From<BlockFault> for MergeFault {
+    ghost use Rattle.osm_merge.specs.Faults.{IsCausedBy};
+
+    ghost from_gives = { λ e fault. IsCausedBy e fault };
+
+    fn from(error: BlockFault) -> MergeFault {
+        match error {
+            BlockFault::Device => MergeFault::Device,
+            BlockFault::LongLine => MergeFault::LongLine,
+            BlockFault::TooLarge => MergeFault::TooLarge,
+            BlockFault::WantOfMemory => MergeFault::WantOfMemory,
+        }
+    }
+}
+
+impl From<WantOfMemory> for MergeFault {
+    ghost use Rattle.std.specs.Prelude.{◌≡◌};
+    ghost use Rattle.osm_merge.specs.declared.fault.MergeFault.TheVariants as faults;
+
+    ghost from_gives = { λ _ e. e ≡ faults.WantOfMemory };
+
+    fn from(_error: WantOfMemory) -> MergeFault {
+        MergeFault::WantOfMemory
+    }
+}
+
+/// The fault of a store that never calls a file too large.
+pub(crate) fn fault_of(error: StoreError) -> MergeFault
+    ensures device { IsDevice error ↔ IsDeviceFault result }
+    ensures other { NeverTooLarge error → IsPlain result }
+{
+    match error {
+        StoreError::Device => MergeFault::Device,
+        StoreError::TooLarge => MergeFault::TooLarge,
+        StoreError::WantOfMemory => MergeFault::WantOfMemory,
+    }
+}

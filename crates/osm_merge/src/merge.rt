@@ -1,0 +1,291 @@
+//! A save text merged with net changes.
+
+ghost use Rattle.std.specs.Prelude.{IsTrue, false, ◌≡◌, ℕ, ◌++◌, ◌≤◌, List, [], Some, IfErr, IfOk};
+ghost use Rattle.std.specs.Prelude.{OnErr, OnOk};
+ghost use Rattle.std.specs.List.{AllByRecursion};
+ghost use Rattle.osm_model.specs.Limits.{max_sequence};
+ghost use Rattle.osm_store.specs.Frames.{IsKnown};
+ghost use Rattle.osm_blocks.specs.Frames.{ReadsOften};
+ghost use Rattle.osm_blocks.specs.Places.{HasFile, left_of};
+ghost use Rattle.osm_save.specs.Head.{head_lines};
+ghost use Rattle.osm_save.specs.Lines.{ended};
+ghost use Rattle.osm_save.specs.Reading.{mirror_at};
+ghost use Rattle.osm_save.specs.Save.{saved_with};
+ghost use Rattle.osm_save.specs.declared.version.Version.TheVariants.{Three};
+ghost use Rattle.osm_merge.specs.Faults.{IsDeviceFault, IsPlain};
+ghost use Rattle.osm_merge.specs.Laying.{IsFew, Writes};
+ghost use Rattle.osm_merge.specs.Checking.{CheckStops};
+ghost use Rattle.osm_merge.specs.Merging.{IsCounted, IsMerged, IsStaged, merged_text};
+ghost use Rattle.osm_store.specs.Files.{Puts};
+ghost use Rattle.osm_merge.specs.Frames.{ReplacesOften};
+ghost use Rattle.osm_merge.specs.Mirrors.{MergesMirror};
+ghost use Rattle.osm_merge.specs.Reading.{Refuses};
+
+use crate::fault::{MergeFault, fault_of};
+use crate::lists::{Totals, merge_lists};
+use crate::opening::{Opening, open_save};
+use crate::source::Source;
+use osm_blocks::block_writer::BlockWriter;
+use osm_model::change::Change;
+use osm_model::filter::Filter;
+use osm_model::kind::Key;
+use osm_save::head::{Head, write_head};
+use osm_store::store::Store;
+use std::alloc::Global;
+
+// Begins the file.
+fn begin<S: Store>(alloc: Global, store: &mut S, name: &str) -> Result<(), MergeFault>
+    ensures begun { OnOk result (IsKnown (S.state store.old)
+        → (S.state store.new).stage ≡ Some (name.now, [])) }
+    ensures refused { IfErr result IsPlain }
+    ensures frame { ReadsOften IsDeviceFault (S.state store.old) (S.state store.new) result }
+{
+    match store.begin(alloc, name) {
+        Ok(()) => Ok(()),
+        Err(error) => Err(fault_of(error)),
+    }
+}
+
+// Writes the head of version 3.
+fn put_head<S: Store>(
+    alloc: Global,
+    store: &mut S,
+    writer: &mut BlockWriter,
+    head: Head,
+    filter: &Filter,
+) -> Result<(), MergeFault>
+    ensures written { OnOk result (Writes (S.state store.old) writer.old
+        (S.state store.new) writer.new
+        (ended (head_lines Three head filter.now))) }
+    ensures refused { IfErr result IsPlain }
+    ensures frame { ReadsOften IsDeviceFault (S.state store.old) (S.state store.new) result }
+{
+    let mut lines = Vec::new(alloc);
+    let Ok(()) = write_head(head, filter, &mut lines) else {
+        return Err(MergeFault::WantOfMemory);
+    };
+    match writer.put(store, lines.as_slice()) {
+        Ok(()) => Ok(()),
+        Err(fault) => Err(MergeFault::from(fault)),
+    }
+}
+
+/// Begins the file, and writes to it the new head, the lists after net changes, under the numbers
+/// in `totals`, and `end`. Gives the numbers that the lists have.
+pub(crate) fn write_lists<S: Store>(
+    alloc: Global,
+    store: &mut S,
+    name: &str,
+    source: &mut Source,
+    opening: &Opening,
+    head: Head,
+    totals: Totals,
+    entries: &[(Key, Option<Change>)],
+    users: &[(u32, u64)],
+    changesets: &[(u32, u64)],
+) -> Result<Totals, MergeFault>
+    requires number { opening.now.head.number ≤ max_sequence }
+    requires base { opening.now.head.base ≤ opening.now.head.number }
+    requires users { AllByRecursion IsFew users.now }
+    requires changesets { AllByRecursion IsFew changesets.now }
+    ensures merges { IfOk result (λ counted. MergesMirror
+        (record { objects = entries.now; users = users.now; changesets = changesets.now })
+        totals counted
+        (λ mirror. (file : List ℕ) → HasFile (S.state store.old) name.now file
+        → mirror_at opening.now.version opening.now.head opening.now.filter
+        (left_of source.old file)
+        ≡ Some (saved_with opening.now.head opening.now.filter mirror))
+        (λ bytes. IsKnown (S.state store.old) → (S.state store.new).stage
+        ≡ Some (name.now, ended (head_lines Three head opening.now.filter) ++ bytes))) }
+    ensures refused { IfErr result (λ fault. (file : List ℕ)
+        → HasFile (S.state store.old) name.now file → Refuses file fault
+        (mirror_at opening.now.version opening.now.head opening.now.filter
+        (left_of source.old file))) }
+    ensures frame { ReadsOften IsDeviceFault (S.state store.old) (S.state store.new) result }
+{
+    match begin(alloc, store, name) {
+        Ok(()) => {}
+        Err(fault) => return Err(fault),
+    }
+    let mut writer = BlockWriter::new(alloc);
+    match put_head(alloc, store, &mut writer, head, &opening.filter) {
+        Ok(()) => {}
+        Err(fault) => return Err(fault),
+    }
+    let counted = match merge_lists(
+        alloc,
+        store,
+        name,
+        source,
+        &mut writer,
+        opening,
+        totals,
+        entries,
+        users,
+        changesets,
+    ) {
+        Ok(counted) => counted,
+        Err(fault) => return Err(fault),
+    };
+    match writer.flush(store) {
+        Ok(()) => Ok(counted),
+        Err(fault) => Err(MergeFault::from(fault)),
+    }
+}
+
+// The first pass: checks the file, and gives the numbers that its lists have after net changes.
+fn count_pass<S: Store>(
+    alloc: Global,
+    store: &mut S,
+    name: &str,
+    entries: &[(Key, Option<Change>)],
+    users: &[(u32, u64)],
+    changesets: &[(u32, u64)],
+) -> Result<Totals, MergeFault>
+    requires users { AllByRecursion IsFew users.now }
+    requires changesets { AllByRecursion IsFew changesets.now }
+    ensures counted { IfOk result (λ totals. IsKnown (S.state store.old)
+        → IsCounted ((S.state store.old).files name.now)
+        (record { objects = entries.now; users = users.now; changesets = changesets.now })
+        totals) }
+    ensures refused { IfErr result (λ fault. IsKnown (S.state store.old)
+        → CheckStops ((S.state store.old).files name.now) fault) }
+    ensures frame { ReadsOften IsDeviceFault (S.state store.old) (S.state store.new) result }
+{
+    let (mut source, opening) = match open_save(alloc, store, name) {
+        Ok(opened) => opened,
+        Err(fault) => return Err(fault),
+    };
+    let mut writer = BlockWriter::dropping(alloc);
+    let none = Totals {
+        objects: 0,
+        users: 0,
+        changesets: 0,
+    };
+    match merge_lists(
+        alloc,
+        store,
+        name,
+        &mut source,
+        &mut writer,
+        &opening,
+        none,
+        entries,
+        users,
+        changesets,
+    ) {
+        Ok(totals) => Ok(totals),
+        Err(fault) => Err(fault),
+    }
+}
+
+// The second pass: checks the file again, and writes what it gives with the new head and after net
+// changes.
+fn write_pass<S: Store>(
+    alloc: Global,
+    store: &mut S,
+    name: &str,
+    head: Head,
+    totals: Totals,
+    entries: &[(Key, Option<Change>)],
+    users: &[(u32, u64)],
+    changesets: &[(u32, u64)],
+) -> Result<Totals, MergeFault>
+    requires users { AllByRecursion IsFew users.now }
+    requires changesets { AllByRecursion IsFew changesets.now }
+    ensures staged { IfOk result (λ counted. IsKnown (S.state store.old)
+        → IsStaged ((S.state store.old).files name.now)
+        (record { objects = entries.now; users = users.now; changesets = changesets.now })
+        counted
+        (λ saved. (S.state store.new).stage
+        ≡ Some (
+          name.now,
+          merged_text head totals
+              (record { objects = entries.now; users = users.now; changesets = changesets.now })
+              saved,
+        ))) }
+    ensures refused { IfErr result (λ fault. IsKnown (S.state store.old)
+        → CheckStops ((S.state store.old).files name.now) fault) }
+    ensures frame { ReadsOften IsDeviceFault (S.state store.old) (S.state store.new) result }
+{
+    let (mut source, opening) = match open_save(alloc, store, name) {
+        Ok(opened) => opened,
+        Err(fault) => return Err(fault),
+    };
+    match write_lists(
+        alloc,
+        store,
+        name,
+        &mut source,
+        &opening,
+        head,
+        totals,
+        entries,
+        users,
+        changesets,
+    ) {
+        Ok(counted) => Ok(counted),
+        Err(fault) => Err(fault),
+    }
+}
+
+// Whether both are the same numbers.
+fn are_same(a: Totals, b: Totals) -> bool
+    ensures same { IsTrue result → a ≡ b }
+    ensures other { result ≡ false → a ≡ b → ⊥ }
+{
+    a.objects == b.objects && a.users == b.users && a.changesets == b.changesets
+}
+
+// Puts the file that was begun into its place.
+fn commit<S: Store>(store: &mut S) -> Result<(), MergeFault>
+    ensures put { OnOk result (IsKnown (S.state store.old) → (name text : List ℕ)
+        → (S.state store.old).stage ≡ Some (name, text)
+        → Puts (S.state store.old).files name (Some text) (S.state store.new).files) }
+    ensures refused { IfErr result IsPlain }
+    ensures frame { ReplacesOften IsDeviceFault (S.state store.old) (S.state store.new) result }
+{
+    match store.commit() {
+        Ok(()) => Ok(()),
+        Err(error) => Err(fault_of(error)),
+    }
+}
+
+/// Merges the save text of a file with net changes, in two passes: what is left of objects, keys
+/// rising, and the increments of users and of changesets, numbers rising. The new text has the head
+/// that is given and the filter of before. Until the commit, the last call, no file changes; after
+/// a fault a file may have been begun, which `abandon` drops.
+pub fn merge_save<S: Store>(
+    alloc: Global,
+    store: &mut S,
+    name: &str,
+    head: Head,
+    entries: &[(Key, Option<Change>)],
+    users: &[(u32, u64)],
+    changesets: &[(u32, u64)],
+) -> Result<(), MergeFault>
+    requires users { AllByRecursion IsFew users.now }
+    requires changesets { AllByRecursion IsFew changesets.now }
+    ensures merged { OnOk result (IsKnown (S.state store.old) → IsMerged head
+        (record { objects = entries.now; users = users.now; changesets = changesets.now })
+        name.now (S.state store.old).files (S.state store.new).files) }
+    ensures refused { IfErr result (λ fault. IsKnown (S.state store.old)
+        → CheckStops ((S.state store.old).files name.now) fault) }
+    ensures frame { ReplacesOften IsDeviceFault (S.state store.old) (S.state store.new) result }
+{
+    let totals = match count_pass(alloc, store, name, entries, users, changesets) {
+        Ok(totals) => totals,
+        Err(fault) => return Err(fault),
+    };
+    let counted = match write_pass(alloc, store, name, head, totals, entries, users, changesets) {
+        Ok(counted) => counted,
+        Err(fault) => return Err(fault),
+    };
+    if !are_same(totals, counted) {
+        return Err(MergeFault::Changed);
+    }
+    match commit(store) {
+        Ok(()) => Ok(()),
+        Err(fault) => Err(fault),
+    }
+}

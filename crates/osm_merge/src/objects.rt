@@ -1,0 +1,224 @@
+//! The objects of a save text, with net changes laid over them.
+
+ghost use Rattle.std.specs.Prelude.{◌≡◌, ℕ, ◌+◌, ◌++◌, ◌≤◌, ◌<◌, ◌∷◌, List, [], MatchOption};
+ghost use Rattle.std.specs.Prelude.{length, map, None, Some, IfErr, IfOk};
+ghost use Rattle.osm_model.specs.Change.{ChangeValue};
+ghost use Rattle.osm_opl.specs.Written.{line_text};
+ghost use Rattle.osm_store.specs.Frames.{IsKnown};
+ghost use Rattle.osm_blocks.specs.Frames.{ReadsOften};
+ghost use Rattle.osm_blocks.specs.Places.{HasFile, left_of};
+ghost use Rattle.osm_net.specs.Laid.{laid_over, put_before};
+ghost use Rattle.osm_save.specs.Lines.{ended};
+ghost use Rattle.osm_save.specs.Reading.{items_at, object_at};
+ghost use Rattle.osm_merge.specs.Faults.{IsDeviceFault, IsPlain};
+ghost use Rattle.osm_merge.specs.Laying.{Appends, Lays, LaysRest, Merges, Writes, next_at};
+ghost use Rattle.osm_merge.specs.Reading.{Follows, Refuses};
+
+use crate::fault::MergeFault;
+use crate::source::Source;
+use osm_blocks::block_writer::BlockWriter;
+use osm_model::change::Change;
+use osm_model::filter::Filter;
+use osm_model::kind::Key;
+use osm_model::memory::WantOfMemory;
+use osm_save::objects::{read_object, write_object};
+use osm_store::store::Store;
+use std::alloc::Global;
+use std::cmp::Ordering;
+
+/// Passes the next line, which has to be that of an object that the filter keeps, with a key after
+/// the last one, and gives the object.
+fn next_object<S: Store>(
+    alloc: Global,
+    store: &mut S,
+    name: &str,
+    source: &mut Source,
+    filter: &Filter,
+    last: Option<Key>,
+    spelled: &mut Vec<u8>,
+) -> Result<Change, MergeFault>
+    ensures read { (file : List ℕ) → HasFile (S.state store.old) name.now file
+        → Follows (λ c. c) file source.new result
+        (next_at (object_at filter.now) last (left_of source.old file)) }
+    ensures stage { (S.state store.new).stage ≡ (S.state store.old).stage }
+    ensures frame { ReadsOften IsDeviceFault (S.state store.old) (S.state store.new) result }
+{
+    let count = match source.next(alloc, store, name) {
+        Ok(count) => count,
+        Err(fault) => return Err(fault),
+    };
+    match read_object(alloc, filter, last, source.line(count), spelled) {
+        Ok(Some(object)) => {
+            source.pass(count);
+            Ok(object)
+        }
+        Ok(None) => Err(source.wrong()),
+        Err(WantOfMemory) => Err(MergeFault::WantOfMemory),
+    }
+}
+
+// Appends the line of what is left of an object, if anything, and gives the number of lines.
+fn put_left(left: &Option<Change>, out: &mut Vec<u8>) -> Result<u64, WantOfMemory>
+    ensures out { IfOk result (λ many. out.new.items
+        ≡ out.old.items ++ ended (map line_text (put_before left.now []))) }
+    ensures many { IfOk result (λ many. many ≡ length (put_before left.now [])) }
+{
+    match left {
+        None => Ok(0),
+        Some(object) => {
+            write_object(object, out)?;
+            Ok(1)
+        }
+    }
+}
+
+// The first entry's key, what is left of its object, and the entries after it.
+fn first_entry(
+    entries: &[(Key, Option<Change>)],
+) -> Option<(Key, &Option<Change>, &[(Key, Option<Change>)])>
+    ensures { MatchOption result (entries.now ≡ [])
+        (λ r. entries.now ≡ (r.0, r.1.now) ∷ r.2.now) }
+{
+    let (entry, after) = entries.split_first()?;
+    Some((entry.0, &entry.1, after))
+}
+
+// Appends the lines of what the entries leave up to the object's key, and that of the object if no
+// entry has its key. Gives the entries after that, and the number of lines.
+fn lay_object<'a>(
+    entries: &'a [(Key, Option<Change>)],
+    object: &Change,
+    out: &mut Vec<u8>,
+) -> Result<(&'a [(Key, Option<Change>)], u64), WantOfMemory>
+    ensures { IfOk result (λ r. Lays laid_over line_text entries.now object.now r.0.now r.1
+        (Appends out.old.items out.new.items)) }
+{
+    let mut rest = entries;
+    let mut many = 0;
+    while let Some((key, left, after)) = first_entry(rest) {
+        match key.cmp(&object.key()) {
+            Ordering::Less => {
+                many += put_left(left, out)?;
+                rest = after;
+            }
+            Ordering::Equal => {
+                many += put_left(left, out)?;
+                return Ok((after, many));
+            }
+            Ordering::Greater => {
+                write_object(object, out)?;
+                return Ok((rest, many + 1));
+            }
+        }
+    }
+    write_object(object, out)?;
+    Ok((rest, many + 1))
+}
+
+// Appends the lines of what the entries leave, and gives their number.
+fn lay_rest(entries: &[(Key, Option<Change>)], out: &mut Vec<u8>) -> Result<u64, WantOfMemory>
+    ensures { IfOk result (λ many. LaysRest laid_over line_text entries.now many
+        (Appends out.old.items out.new.items)) }
+{
+    let mut rest = entries;
+    let mut many = 0;
+    while let Some((_key, left, after)) = first_entry(rest) {
+        many += put_left(left, out)?;
+        rest = after;
+    }
+    Ok(many)
+}
+
+// Writes what `lay_object` appends.
+fn put_object<'a, S: Store>(
+    store: &mut S,
+    writer: &mut BlockWriter,
+    entries: &'a [(Key, Option<Change>)],
+    object: &Change,
+    out: &mut Vec<u8>,
+) -> Result<(&'a [(Key, Option<Change>)], u64), MergeFault>
+    ensures laid { IfOk result (λ r. Lays laid_over line_text entries.now object.now r.0.now r.1
+        (Writes (S.state store.old) writer.old (S.state store.new) writer.new)) }
+    ensures refused { IfErr result IsPlain }
+    ensures frame { ReadsOften IsDeviceFault (S.state store.old) (S.state store.new) result }
+{
+    out.clear();
+    let (rest, many) = match lay_object(entries, object, out) {
+        Ok(laid) => laid,
+        Err(WantOfMemory) => return Err(MergeFault::WantOfMemory),
+    };
+    match writer.put(store, out.as_slice()) {
+        Ok(()) => Ok((rest, many)),
+        Err(fault) => Err(MergeFault::from(fault)),
+    }
+}
+
+// Writes what `lay_rest` appends.
+fn put_rest<S: Store>(
+    store: &mut S,
+    writer: &mut BlockWriter,
+    entries: &[(Key, Option<Change>)],
+    out: &mut Vec<u8>,
+) -> Result<u64, MergeFault>
+    ensures laid { IfOk result (λ many. LaysRest laid_over line_text entries.now many
+        (Writes (S.state store.old) writer.old (S.state store.new) writer.new)) }
+    ensures refused { IfErr result IsPlain }
+    ensures frame { ReadsOften IsDeviceFault (S.state store.old) (S.state store.new) result }
+{
+    out.clear();
+    let many = match lay_rest(entries, out) {
+        Ok(many) => many,
+        Err(WantOfMemory) => return Err(MergeFault::WantOfMemory),
+    };
+    match writer.put(store, out.as_slice()) {
+        Ok(()) => Ok(many),
+        Err(fault) => Err(MergeFault::from(fault)),
+    }
+}
+
+/// Passes the lines of so many objects, writes the objects with the entries laid over them, and
+/// gives their number.
+pub(crate) fn merge_objects<S: Store>(
+    alloc: Global,
+    store: &mut S,
+    name: &str,
+    source: &mut Source,
+    writer: &mut BlockWriter,
+    filter: &Filter,
+    many: u64,
+    entries: &[(Key, Option<Change>)],
+) -> Result<u64, MergeFault>
+    requires { many ≤ 999999999999999999 }
+    ensures merges { IfOk result (λ count. Merges laid_over line_text entries.now count
+        (λ objects. (file : List ℕ) → HasFile (S.state store.old) name.now file
+        → items_at (λ c. c.key) (object_at filter.now) many None (left_of source.old file)
+        ≡ Some (objects, left_of source.new file))
+        (Writes (S.state store.old) writer.old (S.state store.new) writer.new)) }
+    ensures refused { IfErr result (λ fault. (file : List ℕ)
+        → HasFile (S.state store.old) name.now file → Refuses file fault
+        (items_at (λ c. c.key) (object_at filter.now) many None (left_of source.old file))) }
+    ensures frame { ReadsOften IsDeviceFault (S.state store.old) (S.state store.new) result }
+{
+    let mut spelled = Vec::new(alloc);
+    let mut out = Vec::new(alloc);
+    let mut last = None;
+    let mut rest = entries;
+    let mut count: u64 = 0;
+    for _ in 0..many {
+        let object = match next_object(alloc, store, name, source, filter, last, &mut spelled) {
+            Ok(object) => object,
+            Err(fault) => return Err(fault),
+        };
+        let (after, put) = match put_object(store, writer, rest, &object, &mut out) {
+            Ok(laid) => laid,
+            Err(fault) => return Err(fault),
+        };
+        last = Some(object.key());
+        rest = after;
+        count += put;
+    }
+    match put_rest(store, writer, rest, &mut out) {
+        Ok(put) => Ok(count + put),
+        Err(fault) => Err(fault),
+    }
+}

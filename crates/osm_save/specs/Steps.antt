@@ -1,3 +1,0 @@
--- Steps of the reader: only clauses of private functions cite them.
-pub mod Answers
-pub mod Reading
