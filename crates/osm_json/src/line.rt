@@ -1,0 +1,62 @@
+//! Lines of JSON, each one object and LF. The keys are always there, sorted, and null where nothing
+//! is known.
+
+ghost use Rattle.std.specs.Prelude.{◌≡◌, ◌≤◌, IfOk, option_map};
+ghost use Rattle.osm_json.specs.Line.{fault_data, follow_data, json_line, lag_data};
+
+use crate::values::{fault_value, follow_value, lag_value, line_of};
+use osm_model::memory::WantOfMemory;
+use std::alloc::Global;
+
+/// How far a follower of a folder is.
+#[derive(Clone, Copy, Debug, PartialEq, Eq)]
+pub struct Standing {
+    /// The number of the last sequence that was applied; 0 at the start.
+    pub number: u32,
+    /// Its time, in seconds since 1970-01-01T00:00:00Z; none at number 0.
+    pub time: Option<u32>,
+    /// The number after which edits are counted.
+    pub base: u32,
+    /// The number of the folder's newest sequence.
+    pub top: u32,
+    /// Its time.
+    pub top_time: u32,
+}
+
+/// The line of a run that followed a folder: where it stands, the ranges that were applied, the
+/// numbers that are missing, and the text of the fault that ended it, if there was one.
+#[tactic(auto, using(crate::proofs::FloatLemmas::no_follow))]
+pub fn follow_line(
+    alloc: Global,
+    standing: Standing,
+    applied: &[(u32, u32)],
+    missing: &[u32],
+    fault: Option<&str>,
+) -> Result<Vec<u8>, WantOfMemory>
+    requires { standing.number ≤ standing.top }
+    ensures { IfOk result (λ line. line.items
+        ≡ json_line (follow_data standing applied.now missing.now
+        (option_map (λ said. said.now) fault.entry))) }
+{
+    let value = follow_value(alloc, standing, applied, missing, fault)?;
+    Ok(line_of(alloc, &value)?)
+}
+
+/// The line of a run that looked how far a follower is behind.
+#[tactic(auto, using(crate::proofs::FloatLemmas::no_lag))]
+pub fn lag_line(alloc: Global, standing: Standing) -> Result<Vec<u8>, WantOfMemory>
+    requires { standing.number ≤ standing.top }
+    ensures { IfOk result (λ line. line.items ≡ json_line (lag_data standing)) }
+{
+    let value = lag_value(alloc, standing)?;
+    Ok(line_of(alloc, &value)?)
+}
+
+/// The line of a run that was refused: nothing is known but the text of its fault.
+#[tactic(auto, using(crate::proofs::FloatLemmas::no_fault))]
+pub fn fault_line(alloc: Global, fault: &str) -> Result<Vec<u8>, WantOfMemory>
+    ensures { IfOk result (λ line. line.items ≡ json_line (fault_data fault.now)) }
+{
+    let value = fault_value(alloc, fault)?;
+    Ok(line_of(alloc, &value)?)
+}

@@ -1,0 +1,50 @@
+//! What is said of a run while it goes on.
+
+ghost use Rattle.std.specs.Prelude.{◌≡◌, ◌<◌, ◌≤◌, ◌⊎◌, ◌↔◌, IfSome, None};
+ghost use Rattle.osm_progress.specs.Progress.{IsProgressOf, least_time};
+
+use std::fmt;
+
+// Nothing is said of a run before it took half a second.
+const LEAST_MILLIS: u32 = 500;
+
+/// How many of a run's numbers are done, how fast, and how long the others take at that rate.
+#[derive(Clone, Copy, Debug, PartialEq, Eq)]
+pub struct Progress {
+    pub done: u32,
+    pub all: u32,
+    /// Numbers a second, rounded down.
+    pub rate: u64,
+    /// In seconds, rounded down.
+    pub left: u64,
+}
+
+impl fmt::Display for Progress {
+    fn fmt<W: fmt::Write>(&self, f: &mut fmt::Formatter<W>) -> fmt::Result {
+        let (minutes, seconds) = (self.left / 60, self.left % 60);
+        write!(
+            f,
+            "{} of {} numbers, {} a second, ",
+            self.done, self.all, self.rate
+        )?;
+        write!(f, "{minutes}:{seconds:02} left")
+    }
+}
+
+/// How far a run is that did so many of its numbers in so many milliseconds. None in its first half
+/// second, and before a number is done.
+pub fn progress_of(done: u32, all: u32, millis: u32) -> Option<Progress>
+    requires { done ≤ all }
+    ensures progress { IfSome result (IsProgressOf done all millis) }
+    ensures early { (result ≡ None) ↔ ((millis < least_time) ⊎ (done ≡ 0)) }
+{
+    if millis < LEAST_MILLIS || done == 0 {
+        return None;
+    }
+    Some(Progress {
+        done,
+        all,
+        rate: u64::from(done) * 1000 / u64::from(millis),
+        left: u64::from(all - done) * u64::from(millis) / (u64::from(done) * 1000),
+    })
+}
