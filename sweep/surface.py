@@ -27,6 +27,8 @@ TAKE_NO_MEMORY = set("""
     Counts::new Counts::get Counts::len Counts::iter Counts::limits
     Mirror::new Mirror::limits Mirror::from_parts Mirror::objects_by_key Mirror::user_counts
     Mirror::changeset_counts Mirror::get Mirror::user_count Mirror::changeset_count
+    next_line fixed_line numbered_line line_number read_number read_count is_key_above is_number_above is_text_above
+    objects_limit
     Objects::new Objects::get Objects::len Objects::iter Objects::limits
     Publisher::new Publisher::resume Publisher::number Publisher::pending Publisher::check_close
     Published::number Published::state Published::o5c Published::opl
@@ -36,7 +38,7 @@ TAKE_NO_MEMORY = set("""
     View::held
     World::publisher World::follower World::published
     ending_of_error ending_of_unread ending_of_fault ending_of_refusal
-    is_ahead lock_of Refusal::status hint_of is_of_content look_of
+    is_ahead lock_of Refusal::status hint_of is_of_content look_of line_of_field
     Order::dir Order::save Order::base Order::changes Order::now Order::input Order::output
     Opl::laws O5c::laws laws_of_content laws_of_filters laws_of_texts laws_of_opl laws_of_data laws_of_o5c laws_of_state
     laws_of_holding
@@ -44,8 +46,14 @@ TAKE_NO_MEMORY = set("""
     laws_of_replies laws_of_histories laws_of_progress laws_of_archives laws_of_views laws_of_order laws_of_replays
 """.split())
 
-# These want a key or a number above all others. They are tried by a call that gives them such ones.
-TRIED_BY = {"Objects::push": "save_read", "Counts::push": "save_read"}
+# These want a key or a number above all others, or are a part of a save text. They are tried by a call of the whole.
+TRIED_BY = {"Objects::push": "save_read", "Counts::push": "save_read", "read_head": "save_read",
+            "read_objects": "save_read", "read_object": "save_read", "read_counts": "save_read",
+            "write_head": "save_write", "write_objects": "save_write", "write_object": "save_write",
+            "write_counts": "save_write", "write_count": "save_write", "write_number": "save_write"}
+
+# What is said of a fault, if there is memory for it: the sweep over causes tries it.
+TRIED_ELSEWHERE = {"field_text"}
 
 
 def name_of(call):

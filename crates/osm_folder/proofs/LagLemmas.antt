@@ -1,20 +1,19 @@
 -- A lag that is told, and why one isn't.
-use Rattle.std.proofs.Common.{◌≡◌, ℕ, ◌≤◌, List, length, take, Option, Some, None, inl, inr, arith, refl, sym, ap, ◌∙◌}
+use Rattle.std.proofs.Common.{◌≡◌, ℕ, ◌≤◌, List, length, take, Option, Some, None, arith, refl, sym, ap, ◌∙◌}
 use Rattle.std.proofs.lemmas.Option.{same_Some}
 use Rattle.osm_model.specs.Filter.{FilterValue}
 use Rattle.osm_save.specs.Head.{BeginsSave, head_of, max_head}
 use Rattle.osm_save.specs.declared.head.Head.{Head}
 use Rattle.osm_save.specs.declared.save.Saved.{Saved}
-use Rattle.osm_state.proofs.StateLemmas.{one_state}
 use Rattle.osm_state.specs.State.{StateValue}
 use Rattle.osm_state.specs.StateLaws.{NoFaultBesideState}
 use Rattle.osm_follow.specs.Published.{PublishedValue, sequence_at, time_at}
 use Rattle.osm_store.specs.Files.{Files, prefix_of}
-use Rattle.osm_folder.specs.Folder.{IsFolderOf, IsStateFile, IsThere, IsTop}
-use Rattle.osm_folder.specs.Following.{IsSaveOf, IsSaved}
-use Rattle.osm_folder.specs.Lagging.{IsBadHead, IsBegun, IsHead, IsLag, IsLagOf, LagRefuses, LagStops}
+use Rattle.osm_folder.specs.Folder.{IsFolderOf}
+use Rattle.osm_folder.specs.Following.{IsSaveOf, IsSaved, standing_at}
+use Rattle.osm_folder.specs.Lagging.{IsBadHead, IsBegun, IsHead, IsLag, IsLagOf, LagRefuses, LagStops, standing_from}
 use Rattle.osm_folder.specs.Names.{top_name_of}
-use Rattle.osm_folder.specs.Reports.{ReportValue}
+use Rattle.osm_folder.specs.Reports.{ReportValue, lag_told}
 use Rattle.osm_folder.specs.Steps.Following.{TopStateStops}
 use Rattle.osm_folder.specs.Steps.Lagging.{HeadStops, HeadTextStops, IsTold, ToldStops}
 use Rattle.osm_folder.specs.declared.fault.FileName.TheVariants.{Top}
@@ -23,7 +22,8 @@ use Rattle.osm_folder.specs.declared.fault.RunFault.TheVariants.{WantOfMemory, R
 use Rattle.osm_folder.specs.declared.fault.RunFault.TheVariants.{BadState, BadSave, TopBehind, TimeBehind}
 use Rattle.osm_save.proofs.HeadLemmas.{begins_first, save_has_head}
 use Rattle.osm_folder.proofs.HeadLemmas.{begins_more, head_is}
-use Rattle.osm_folder.proofs.InStepLemmas.{top_number}
+use Rattle.osm_folder.specs.declared.options.Layout.{Layout}
+use Rattle.osm_folder.proofs.InStepLemmas.{top_number, top_time}
 use Rattle.osm_folder.proofs.RefusalLemmas.{good_top, small_top}
 use Rattle.osm_folder.proofs.StopLemmas.{none_published}
 
@@ -53,9 +53,9 @@ head_text_stops known told most bytes fault enough is h = absurd h
 
 -- ---- a lag, and why there is none
 
-pub is_lag : (dir save : List ℕ) (files : Files) (start : Head) (top : StateValue) (report : ReportValue)
-    → IsBegun dir save files start top → IsTold start top report → IsLag dir save files report
-is_lag dir save files start top report begun told = record {
+pub is_lag : (layout : Layout) (dir save : List ℕ) (files : Files) (start : Head) (top : StateValue) (report : ReportValue)
+    → IsBegun dir save files start top → IsTold layout start top report → IsLag layout dir save files report
+is_lag layout dir save files start top report begun told = record {
   start = start;
   top = top;
   begun = begun;
@@ -102,29 +102,31 @@ told_lags known dir save files start top fault begun h = absurd h
 
 -- ---- over the folder of what was published
 
-top_time : (ps : List PublishedValue) (told : Option (List ℕ)) (top : StateValue) → IsTop ps told
-    → IsThere told (IsStateFile top.sequence top.time) → top.time ≡ (sequence_at ps (length ps)).time
-top_time ps None top t there = absurd there
-top_time ps (Some bytes) top (inl a) there = absurd (let e = a.1 in cc)
-top_time ps (Some bytes) top (inr a) there = ap (λ (s : StateValue). s.time) (one_state bytes top _ there.names a.1.names)
-
 start_time : (given : FilterValue) (ps : List PublishedValue) (base number : ℕ) (told : Option (List ℕ)) (saved : IsSaveOf ps given base number told) → saved.value.time ≡ time_at ps number
 start_time given ps base number told saved = saved.in_step.time ∙ ap (time_at ps) saved.number_is
 
-pub lag_of : (given : FilterValue) (ps : List PublishedValue) (base number : ℕ) (dir save : List ℕ) (files : Files) (report : ReportValue)
-    → IsFolderOf ps files dir → IsSaveOf ps given base number (files save) → IsLag dir save files report → IsLagOf ps number report
-lag_of given ps base number dir save files report folder saved lag =
+standing_is : (ps : List PublishedValue) (base number : ℕ) (head : Head) (top : StateValue) → head.number ≡ number → head.time ≡ time_at ps number
+    → head.base ≡ base → top.sequence ≡ length ps → top.time ≡ (sequence_at ps (length ps)).time
+    → standing_from head top ≡ standing_at ps base number
+standing_is ps base number head top n t b q w = rw (n, t, b, q, w) refl
+
+pub lag_of : (layout : Layout) (given : FilterValue) (ps : List PublishedValue) (base number : ℕ) (dir save : List ℕ) (files : Files) (report : ReportValue)
+    → IsFolderOf ps files dir → IsSaveOf ps given base number (files save) → IsLag layout dir save files report
+    → IsLagOf layout ps base number report
+lag_of layout given ps base number dir save files report folder saved lag =
     let same : lag.start ≡ head_of saved.value = lag.saved given saved.value saved.saved in
     let start_is : lag.start.number ≡ number = ap (λ (h : Head). h.number) same ∙ saved.number_is in
     let time_is : lag.start.time ≡ time_at ps number = ap (λ (h : Head). h.time) same ∙ start_time given ps base number (files save) saved in
     let top_is : lag.top.sequence ≡ length ps = top_number ps (files (top_name_of dir)) lag.top folder.sequences folder.top lag.begun.top_is in
     let top_at : lag.top.time ≡ (sequence_at ps (length ps)).time = top_time ps (files (top_name_of dir)) lag.top folder.top lag.begun.top_is in
+    let base_is : lag.start.base ≡ base = ap (λ (h : Head). h.base) same ∙ saved.base_is in
     record {
       behind = lag.behind;
       seconds = lag.seconds;
       behind_is = rw (← start_is, ← top_is) lag.behind_is;
       seconds_are = rw (← time_is, ← top_at) lag.seconds_are;
-      report_is = lag.report_is;
+      report_is = lag.report_is ∙ ap (λ x. lag_told layout x lag.behind lag.seconds)
+          (standing_is ps base number lag.start lag.top start_is time_is base_is top_is top_at);
     }
 
 no_bad_head : (given : FilterValue) (told : Option (List ℕ)) (v : Saved) → IsSaved given told v → IsBadHead told → ⊥

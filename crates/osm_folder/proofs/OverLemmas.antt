@@ -1,18 +1,17 @@
 -- What runs do over the folder of published sequences, a clause at a time.
 use Rattle.std.proofs.Common.{ℕ, List}
 use Rattle.std.specs.Prelude.{Result, Ok, Err, IfErr, IfOk, OnErr}
-use Rattle.osm_model.specs.Filter.{FilterValue}
 use Rattle.osm_follow.specs.Published.{PublishedValue}
 use Rattle.osm_store.specs.Files.{Files}
 use Rattle.osm_folder.specs.Folder.{IsFolderOf}
 use Rattle.osm_folder.specs.Following.{FollowRefuses, FollowsOver, IsInStepAfter, IsSaveOf, follow_calls}
 use Rattle.osm_store.specs.Frames.{IsKnown, StoreState}
-use Rattle.osm_folder.specs.Lagging.{IsLagOf, LagRefuses, LagsOver}
 use Rattle.osm_folder.specs.Numbered.{IsAddedAs, NumberedRefuses, PublishesAsOver}
 use Rattle.osm_folder.specs.Publication.{FolderRefuses, IsAdded, PublishesOver}
 use Rattle.osm_folder.specs.Reports.{ReportValue}
 use Rattle.osm_folder.specs.Runs.{LacksCalls}
 use Rattle.osm_folder.specs.declared.fault.RunFault.{RunFault}
+use Rattle.osm_folder.specs.declared.options.FollowOptions.{FollowOptions}
 
 -- ---- a publication
 
@@ -58,44 +57,26 @@ number_keeps known dir changes now sequence old new (Err fault) over = λ sure p
 
 -- ---- a run of the follower
 
-pub follow_in_step : (given : FilterValue) (dir save : List ℕ) (old new : StoreState) (r : Result ReportValue RunFault)
-    → (IsKnown old → (p : List PublishedValue) (b n : ℕ) → IsFolderOf p old.files dir → IsSaveOf p given b n (old.files save)
-    → FollowsOver p given b n dir save old new r)
+pub follow_in_step : (options : FollowOptions) (dir save : List ℕ) (old new : StoreState) (r : Result ReportValue RunFault)
+    → (IsKnown old → (p : List PublishedValue) (b n : ℕ) → IsFolderOf p old.files dir → IsSaveOf p options.filter b n (old.files save)
+    → FollowsOver p options b n dir save old new r)
     → IfOk r (λ report. IsKnown old → (p : List PublishedValue) (b n : ℕ) → IsFolderOf p old.files dir
-    → IsSaveOf p given b n (old.files save) → IsInStepAfter p given b n dir save old.files new.files report)
-follow_in_step given dir save old new (Ok report) over = λ sure p b n is s. (over sure p b n is s).in_step
-follow_in_step given dir save old new (Err fault) over = tt
+    → IsSaveOf p options.filter b n (old.files save) → IsInStepAfter p options b n dir save old.files new.files report)
+follow_in_step options dir save old new (Ok report) over = λ sure p b n is s. (over sure p b n is s).in_step
+follow_in_step options dir save old new (Err fault) over = tt
 
-pub follow_over_refuses : (given : FilterValue) (dir save : List ℕ) (old new : StoreState) (r : Result ReportValue RunFault)
-    → (IsKnown old → (p : List PublishedValue) (b n : ℕ) → IsFolderOf p old.files dir → IsSaveOf p given b n (old.files save)
-    → FollowsOver p given b n dir save old new r)
+pub follow_over_refuses : (options : FollowOptions) (dir save : List ℕ) (old new : StoreState) (r : Result ReportValue RunFault)
+    → (IsKnown old → (p : List PublishedValue) (b n : ℕ) → IsFolderOf p old.files dir → IsSaveOf p options.filter b n (old.files save)
+    → FollowsOver p options b n dir save old new r)
     → IfErr r (λ fault. IsKnown old → (p : List PublishedValue) (b n : ℕ) → IsFolderOf p old.files dir
-    → IsSaveOf p given b n (old.files save) → FollowRefuses p given (old.files save) fault)
-follow_over_refuses given dir save old new (Ok report) over = tt
-follow_over_refuses given dir save old new (Err fault) over = λ sure p b n is s. (over sure p b n is s).refuses
+    → IsSaveOf p options.filter b n (old.files save) → FollowRefuses p options.filter (old.files save) fault)
+follow_over_refuses options dir save old new (Ok report) over = tt
+follow_over_refuses options dir save old new (Err fault) over = λ sure p b n is s. (over sure p b n is s).refuses
 
-pub follow_lacks : (given : FilterValue) (dir save : List ℕ) (old new : StoreState) (r : Result ReportValue RunFault)
-    → (IsKnown old → (p : List PublishedValue) (b n : ℕ) → IsFolderOf p old.files dir → IsSaveOf p given b n (old.files save)
-    → FollowsOver p given b n dir save old new r)
+pub follow_lacks : (options : FollowOptions) (dir save : List ℕ) (old new : StoreState) (r : Result ReportValue RunFault)
+    → (IsKnown old → (p : List PublishedValue) (b n : ℕ) → IsFolderOf p old.files dir → IsSaveOf p options.filter b n (old.files save)
+    → FollowsOver p options b n dir save old new r)
     → IfErr r (λ fault. IsKnown old → (p : List PublishedValue) (b n : ℕ) → IsFolderOf p old.files dir
-    → IsSaveOf p given b n (old.files save) → LacksCalls (follow_calls p n) old.left fault)
-follow_lacks given dir save old new (Ok report) over = tt
-follow_lacks given dir save old new (Err fault) over = λ sure p b n is s. (over sure p b n is s).calls.lacks sure
-
--- ---- a lag
-
-pub lag_in_step : (given : FilterValue) (known : Type 0) (dir save : List ℕ) (files : Files) (r : Result ReportValue RunFault)
-    → (known → (p : List PublishedValue) (b n : ℕ) → IsFolderOf p files dir → IsSaveOf p given b n (files save)
-    → LagsOver p n r)
-    → IfOk r (λ report. known → (p : List PublishedValue) (b n : ℕ) → IsFolderOf p files dir → IsSaveOf p given b n (files save)
-    → IsLagOf p n report)
-lag_in_step given known dir save files (Ok report) over = λ sure p b n is s. (over sure p b n is s).in_step
-lag_in_step given known dir save files (Err fault) over = tt
-
-pub lag_over_refuses : (given : FilterValue) (known : Type 0) (dir save : List ℕ) (files : Files) (r : Result ReportValue RunFault)
-    → (known → (p : List PublishedValue) (b n : ℕ) → IsFolderOf p files dir → IsSaveOf p given b n (files save)
-    → LagsOver p n r)
-    → IfErr r (λ fault. known → (p : List PublishedValue) (b n : ℕ) → IsFolderOf p files dir → IsSaveOf p given b n (files save)
-    → LagRefuses p n fault)
-lag_over_refuses given known dir save files (Ok report) over = tt
-lag_over_refuses given known dir save files (Err fault) over = λ sure p b n is s. (over sure p b n is s).refuses
+    → IsSaveOf p options.filter b n (old.files save) → LacksCalls (follow_calls p n) old.left fault)
+follow_lacks options dir save old new (Ok report) over = tt
+follow_lacks options dir save old new (Err fault) over = λ sure p b n is s. (over sure p b n is s).calls.lacks sure

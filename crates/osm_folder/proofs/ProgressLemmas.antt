@@ -15,11 +15,11 @@ use Rattle.osm_store.specs.Files.{Files}
 use Rattle.osm_folder.specs.Folder.{IsAbsentOr, IsFile, IsStateFile, IsThere}
 use Rattle.osm_folder.specs.Following.{AddsAll, AreChanges, BeyondStops, ComesTo, FollowRefuses, FollowStops}
 use Rattle.osm_folder.specs.Following.{GoesOn, HasFiles, IsReadable, IsStarted, NumberStops, SaveStops, StartStops}
-use Rattle.osm_folder.specs.Following.{is_lost, lost_numbers, max_save, ranges}
+use Rattle.osm_folder.specs.Following.{end_of, is_lost, lost_numbers, max_save, ranges, standing_of}
 use Rattle.osm_store.specs.Frames.{Makes, StoreState}
 use Rattle.osm_folder.specs.Names.{file_name_of, top_name_of}
 use Rattle.osm_folder.specs.Progress.{ComesBefore, IsOfContent, ProgressStops}
-use Rattle.osm_folder.specs.Reports.{ReportValue, follow_report_of}
+use Rattle.osm_folder.specs.Reports.{Outcome, ReportValue, report_of}
 use Rattle.osm_folder.specs.Runs.{IsDeviceFault, ReplacesAtLeast}
 use Rattle.osm_folder.specs.Steps.Following.{MissingStops, StopsBeyond, StopsOnTheWay, TextStops}
 use Rattle.osm_folder.specs.Steps.Progressing.{IsBegun, IsMadeBefore, IsNothingBefore, MadeBeforeStops}
@@ -28,6 +28,7 @@ use Rattle.osm_folder.specs.declared.fault.FileName.TheVariants.{Sequence, Save}
 use Rattle.osm_folder.specs.declared.fault.RunFault.{RunFault}
 use Rattle.osm_folder.specs.declared.fault.RunFault.TheVariants.{WantOfMemory, ReadFault, WriteFault, TooLarge}
 use Rattle.osm_folder.specs.declared.fault.RunFault.TheVariants.{BadState, Mismatch, BadChange}
+use Rattle.osm_folder.specs.declared.options.FollowOptions.{FollowOptions}
 use Rattle.osm_store.proofs.FileLemmas.{spends_both}
 use Rattle.osm_store.proofs.FrameLemmas.{failed_after}
 use Rattle.osm_folder.proofs.InStepLemmas.{not_bad, not_faulty, not_faulty_opl, not_other, not_over, one_saved}
@@ -106,21 +107,21 @@ start_content given known dir save files (Mismatch j) k h c = h
 start_content given known dir save files (BadChange (Sequence j suffix) place why) k h c = h
 start_content given known dir save files fault k h c = c
 
-beyond_content : (given : FilterValue) (known : Type 0) (dir save : List ℕ) (files : Files) (fault : RunFault) (k : ℕ)
-    → BeyondStops known given dir save files fault → IsOfContent fault k → ⊥
-beyond_content given known dir save files (TooLarge (Sequence j suffix)) k h c = h
-beyond_content given known dir save files (BadState (Sequence j State) cause) k h c = h
-beyond_content given known dir save files (Mismatch j) k h c = h
-beyond_content given known dir save files (BadChange (Sequence j suffix) place why) k h c = h
-beyond_content given known dir save files fault k h c = c
+beyond_content : (options : FollowOptions) (known : Type 0) (dir save : List ℕ) (files : Files) (fault : RunFault) (k : ℕ)
+    → BeyondStops known options dir save files fault → IsOfContent fault k → ⊥
+beyond_content options known dir save files (TooLarge (Sequence j suffix)) k h c = h
+beyond_content options known dir save files (BadState (Sequence j State) cause) k h c = h
+beyond_content options known dir save files (Mismatch j) k h c = h
+beyond_content options known dir save files (BadChange (Sequence j suffix) place why) k h c = h
+beyond_content options known dir save files fault k h c = c
 
-save_content : (given : FilterValue) (known : Type 0) (dir save : List ℕ) (files : Files) (fault : RunFault) (k : ℕ)
-    → SaveStops known given dir save files fault → IsOfContent fault k → ⊥
-save_content given known dir save files (TooLarge (Sequence j suffix)) k h c = h
-save_content given known dir save files (BadState (Sequence j State) cause) k h c = h
-save_content given known dir save files (Mismatch j) k h c = h
-save_content given known dir save files (BadChange (Sequence j suffix) place why) k h c = h
-save_content given known dir save files fault k h c = c
+save_content : (options : FollowOptions) (known : Type 0) (dir save : List ℕ) (files : Files) (fault : RunFault) (k : ℕ)
+    → SaveStops known options dir save files fault → IsOfContent fault k → ⊥
+save_content options known dir save files (TooLarge (Sequence j suffix)) k h c = h
+save_content options known dir save files (BadState (Sequence j State) cause) k h c = h
+save_content options known dir save files (Mismatch j) k h c = h
+save_content options known dir save files (BadChange (Sequence j suffix) place why) k h c = h
+save_content options known dir save files fault k h c = c
 
 -- over the folder of what was published no number is faulty
 pub refuses_content : (given : FilterValue) (ps : List PublishedValue) (told : Option (List ℕ)) (fault : RunFault) (k : ℕ)
@@ -132,17 +133,17 @@ refuses_content given ps told (BadChange (Sequence j suffix) place why) k h c = 
 refuses_content given ps told fault k h c = c
 
 -- the way to a faulty number
-faulty_at : (given : FilterValue) (known : Type 0) (dir save : List ℕ) (files : Files) (fault : RunFault) (number : ℕ)
-    → IsOfContent fault number → FollowStops known given dir save files fault
-    → (known → ComesTo given dir save files number) × NumberStops known dir files number fault
-faulty_at given known dir save files fault number content (inl h) = absurd (start_content given known dir save files fault number h content)
-faulty_at given known dir save files fault number content (inr (inl h)) =
+faulty_at : (options : FollowOptions) (known : Type 0) (dir save : List ℕ) (files : Files) (fault : RunFault) (number : ℕ)
+    → IsOfContent fault number → FollowStops known options dir save files fault
+    → (known → ComesTo options dir save files number) × NumberStops known dir files number fault
+faulty_at options known dir save files fault number content (inl h) = absurd (start_content options.filter known dir save files fault number h content)
+faulty_at options known dir save files fault number content (inr (inl h)) =
     let same = stops_number known dir files h.number number fault h.stops content in (
-      λ yes. subst (λ n. ComesTo given dir save files n) same (h.comes yes),
+      λ yes. subst (λ n. ComesTo options dir save files n) same (h.comes yes),
       subst (λ n. NumberStops known dir files n fault) same h.stops,
     )
-faulty_at given known dir save files fault number content (inr (inr (inl h))) = absurd (beyond_content given known dir save files fault number h content)
-faulty_at given known dir save files fault number content (inr (inr (inr h))) = absurd (save_content given known dir save files fault number h content)
+faulty_at options known dir save files fault number content (inr (inr (inl h))) = absurd (beyond_content options known dir save files fault number h content)
+faulty_at options known dir save files fault number content (inr (inr (inr h))) = absurd (save_content options known dir save files fault number h content)
 
 same_top : (told : Option (List ℕ)) (a b : StateValue) → IsThere told (IsStateFile a.sequence a.time)
     → IsThere told (IsStateFile b.sequence b.time) → a.sequence ≡ b.sequence
@@ -156,18 +157,20 @@ record IsAfter (dir save : List ℕ) (files : Files) (number : ℕ) (start : Sav
   pub below : last < top
   pub each : (k : ℕ) → start.number < k → k < number → IsReadable files dir k
 
-begun_after : (given : FilterValue) (dir save : List ℕ) (files : Files) (number : ℕ) (start : Saved) (last : ℕ) → ComesTo given dir save files number
-    → (b : IsBegun given dir save files number start last) → IsAfter dir save files number start last b.top.sequence
-begun_after given dir save files number start last c b =
-    let same : c.start ≡ start = one_saved given (files save) c.start start c.started.saved b.started.saved in
+begun_after : (options : FollowOptions) (dir save : List ℕ) (files : Files) (number : ℕ) (start : Saved) (last : ℕ) → ComesTo options dir save files number
+    → (b : IsBegun options dir save files number start last) → IsAfter dir save files number start last (end_of options start b.top)
+begun_after options dir save files number start last c b =
+    let same : c.start ≡ start = one_saved options.filter (files save) c.start start c.started.saved b.started.saved in
     let top = same_top (files (top_name_of dir)) c.top b.top c.started.top_is b.started.top_is in
     let above : start.number < number = subst (λ (v : Saved). v.number < number) same c.above in
+    let from : c.start.number ≡ start.number = ap (λ (v : Saved). v.number) same in
+    let end : end_of options c.start c.top ≡ end_of options start b.top = rw (from, top) refl in
     let until = c.until in
     let last_is = b.last_is in
     record {
       above = above;
-      last_is = omega (arith, above, until, top, last_is);
-      below = omega (arith, above, until, top, last_is);
+      last_is = omega (arith, above, until, end, last_is);
+      below = omega (arith, above, until, end, last_is);
       each = subst (λ (v : Saved). (k : ℕ) → v.number < k → k < number → IsReadable files dir k) same c.each;
     }
 
@@ -192,16 +195,16 @@ none_lost files dir n last at =
     let nothing : min 64 (last - n) ≡ 0 = omega (arith, at) in
     rw nothing refl
 
-from_count : (given : FilterValue) (known : Type 0) (dir save : List ℕ) (files : Files) (fault : RunFault) (text : List ℕ) (report : ReportValue)
-    (start reached : Saved) (top : StateValue) (count : ℕ) → IsStarted given dir save files start top
+from_count : (options : FollowOptions) (known : Type 0) (dir save : List ℕ) (files : Files) (fault : RunFault) (text : List ℕ) (report : ReportValue)
+    (start reached : Saved) (top : StateValue) (count : ℕ) → IsStarted options.filter dir save files start top
     → AddsAll files dir count start reached → reached.number ≡ start.number + count → start.number < reached.number
-    → reached.number < top.sequence → IsOfContent fault (reached.number + 1)
-    → NumberStops known dir files (reached.number + 1) fault → SpellsSave text reached
-    → report ≡ follow_report_of (ranges start.number count) [] reached.number
-    → ComesBefore known given dir save files fault text report
-from_count given known dir save files fault text report start reached top zero started added sum some below content stops spelled is =
+    → reached.number < end_of options start top → IsOfContent fault (reached.number + 1)
+    → NumberStops known dir files (reached.number + 1) fault → SpellsSave text reached → (said : List ℕ)
+    → report ≡ report_of options.layout (Some said) (record { standing = standing_of reached top; applied = ranges start.number count; missing = [] })
+    → ComesBefore known options dir save files fault text report
+from_count options known dir save files fault text report start reached top zero started added sum some below content stops spelled said is =
     absurd (omega (arith, sum, some))
-from_count given known dir save files fault text report start reached top (suc count) started added sum some below content stops spelled is =
+from_count options known dir save files fault text report start reached top (suc count) started added sum some below content stops spelled said is =
     record {
       start = start;
       top = top;
@@ -213,43 +216,47 @@ from_count given known dir save files fault text report start reached top (suc c
       content = content;
       stops = stops;
       spelled = spelled;
+      said = said;
       report_is = is;
     }
 
-pub comes_before : (given : FilterValue) (known : Type 0) (dir save : List ℕ) (files : Files) (fault : RunFault) (number : ℕ) (text : List ℕ)
-    (report : ReportValue) → IsOfContent fault number → FollowStops known given dir save files fault → known
-    → IsMadeBefore given dir save files number text report → ComesBefore known given dir save files fault text report
-comes_before given known dir save files fault number text report content first sure m =
-    let at = faulty_at given known dir save files fault number content first in
-    let a = begun_after given dir save files number m.start m.last (at.0 sure) m.begun in
+pub comes_before : (options : FollowOptions) (known : Type 0) (dir save : List ℕ) (files : Files) (fault : RunFault) (number : ℕ) (text : List ℕ)
+    (report : ReportValue) → IsOfContent fault number → FollowStops known options dir save files fault → known
+    → IsMadeBefore options dir save files number text report → ComesBefore known options dir save files fault text report
+comes_before options known dir save files fault number text report content first sure m =
+    let at = faulty_at options known dir save files fault number content first in
+    let a = begun_after options dir save files number m.start m.last (at.0 sure) m.begun in
     let reached = reaches_last dir save files number m.start m.last _ m.made.count m.made.reached a m.made.goes_on in
     let last_is = a.last_is in
     let below = a.below in
     let above = m.above in
     let next : number ≡ m.made.reached.number + 1 = omega (arith, reached, last_is) in
-    from_count given known dir save files fault text report m.start m.made.reached m.begun.top m.made.count m.begun.started
+    from_count options known dir save files fault text report m.start m.made.reached m.begun.top m.made.count m.begun.started
     m.made.goes_on.added m.made.goes_on.number (omega (arith, reached, above)) (omega (arith, reached, below))
     (subst (λ n. IsOfContent fault n) next content) (subst (λ n. NumberStops known dir files n fault) next at.1)
-    m.made.spelled (m.made.report_is ∙ ap (λ xs. follow_report_of (ranges m.start.number m.made.count) xs m.made.reached.number)
-    (none_lost files dir m.made.reached.number m.last reached))
+    m.made.spelled m.said (m.made.report_is ∙ ap (λ xs. report_of options.layout (Some m.said) (record {
+      standing = standing_of m.made.reached m.begun.top;
+      applied = ranges m.start.number m.made.count;
+      missing = xs;
+    })) (none_lost files dir m.made.reached.number m.last reached))
 
 -- ---- why the word stops
 
 -- any other fault stays
-pub other_stops : (given : FilterValue) (known : Type 0) (dir save : List ℕ) (files : Files) (fault : RunFault)
-    → ((k : ℕ) → IsOfContent fault k → ⊥) → FollowStops known given dir save files fault
-    → ProgressStops known given dir save files fault
-other_stops given known dir save files fault none stops = inl (record { stops = stops; next = λ sure k content. absurd (none k content) })
+pub other_stops : (options : FollowOptions) (known : Type 0) (dir save : List ℕ) (files : Files) (fault : RunFault)
+    → ((k : ℕ) → IsOfContent fault k → ⊥) → FollowStops known options dir save files fault
+    → ProgressStops known options dir save files fault
+other_stops options known dir save files fault none stops = inl (record { stops = stops; next = λ sure k content. absurd (none k content) })
 
 -- nothing comes before the faulty number
-pub next_stops : (given : FilterValue) (known : Type 0) (dir save : List ℕ) (files : Files) (fault : RunFault) (number : ℕ)
-    → IsOfContent fault number → FollowStops known given dir save files fault
-    → (known → IsNothingBefore given dir save files number) → ProgressStops known given dir save files fault
-next_stops given known dir save files fault number content first nothing = inl (record {
+pub next_stops : (options : FollowOptions) (known : Type 0) (dir save : List ℕ) (files : Files) (fault : RunFault) (number : ℕ)
+    → IsOfContent fault number → FollowStops known options dir save files fault
+    → (known → IsNothingBefore options dir save files number) → ProgressStops known options dir save files fault
+next_stops options known dir save files fault number content first nothing = inl (record {
   stops = first;
   next = λ sure k other. (let n = nothing sure in
-      let at = faulty_at given known dir save files fault number content first in
-      let a = begun_after given dir save files number n.start n.last (at.0 sure) n.begun in
+      let at = faulty_at options known dir save files fault number content first in
+      let a = begun_after options dir save files number n.start n.last (at.0 sure) n.begun in
       let last_is = a.last_is in
       let below = n.below in
       let above = a.above in
@@ -257,10 +264,10 @@ next_stops given known dir save files fault number content first nothing = inl (
       (n.start, n.begun.started.saved, (let is : k ≡ n.start.number + 1 = omega (arith, same, last_is, below, above) in is)));
 })
 
-way_stops : (given : FilterValue) → NoFaultBesideState → (known : Type 0) (dir save : List ℕ) (files : Files) (number : ℕ) (start : Saved) (last : ℕ)
-    (fault : RunFault) → (known → ComesTo given dir save files number) → (known → IsBegun given dir save files number start last)
-    → StopsOnTheWay known dir files start.number last fault → ProgressStops known given dir save files fault
-way_stops given law known dir save files number start last fault comes begun way = inl (record {
+way_stops : (options : FollowOptions) → NoFaultBesideState → (known : Type 0) (dir save : List ℕ) (files : Files) (number : ℕ) (start : Saved) (last : ℕ)
+    (fault : RunFault) → (known → ComesTo options dir save files number) → (known → IsBegun options dir save files number start last)
+    → StopsOnTheWay known dir files start.number last fault → ProgressStops known options dir save files fault
+way_stops options law known dir save files number start last fault comes begun way = inl (record {
   stops = inr (inl (record {
     number = way.number;
     comes = λ sure. (let b = begun sure in
@@ -279,75 +286,87 @@ way_stops given law known dir save files number start last fault comes begun way
   }));
   next = λ sure k content. absurd (let b = begun sure in
       let n = way.next sure in
-      let a = begun_after given dir save files number start last (comes sure) b in
+      let a = begun_after options dir save files number start last (comes sure) b in
       let until = n.until in
       let last_is = a.last_is in
       let p = a.each way.number n.above (omega (arith, until, last_is)) in
       right_number law known dir files p.0 fault k sure p.2 (subst (λ j. NumberStops known dir files j fault) (sym p.1) way.stops) content);
 })
 
-missing_stops : (given : FilterValue) (known : Type 0) (dir save : List ℕ) (files : Files) (number : ℕ) (start : Saved) (last count : ℕ)
-    (reached : Saved) (fault : RunFault) → (known → ComesTo given dir save files number)
-    → (known → IsBegun given dir save files number start last) → (known → GoesOn files dir start last count reached)
-    → MissingStops known dir files reached.number last fault → ProgressStops known given dir save files fault
-missing_stops given known dir save files number start last count reached WantOfMemory comes begun goes_on stops =
+missing_stops : (options : FollowOptions) (known : Type 0) (dir save : List ℕ) (files : Files) (number : ℕ) (start : Saved) (last count : ℕ)
+    (reached : Saved) (fault : RunFault) → (known → ComesTo options dir save files number)
+    → (known → IsBegun options dir save files number start last) → (known → GoesOn files dir start last count reached)
+    → MissingStops known dir files reached.number last fault → ProgressStops known options dir save files fault
+missing_stops options known dir save files number start last count reached WantOfMemory comes begun goes_on stops =
     inl (record { stops = inr (inr (inl tt)); next = λ sure k content. absurd content })
-missing_stops given known dir save files number start last count reached (ReadFault (Sequence j suffix)) comes begun goes_on stops =
+missing_stops options known dir save files number start last count reached (ReadFault (Sequence j suffix)) comes begun goes_on stops =
     inl (record {
-      stops = inr (inr (inl (λ sure. absurd (let a = begun_after given dir save files number start last (comes sure) (begun sure) in
+      stops = inr (inr (inl (λ sure. absurd (let a = begun_after options dir save files number start last (comes sure) (begun sure) in
           let all = reaches_last dir save files number start last _ count reached a (goes_on sure) in
           let beyond = stops.0.beyond in
           let until = stops.0.until in
           omega (arith, all, beyond, until)))));
       next = λ sure k content. absurd content;
     })
-missing_stops given known dir save files number start last count reached fault comes begun goes_on stops = absurd stops
+missing_stops options known dir save files number start last count reached fault comes begun goes_on stops = absurd stops
 
-text_stops : (given : FilterValue) (known : Type 0) (dir save : List ℕ) (files : Files) (first : RunFault) (number : ℕ) (start : Saved) (last : ℕ)
-    (fault : RunFault) → IsOfContent first number → FollowStops known given dir save files first → start.number < last
-    → (known → IsBegun given dir save files number start last) → TextStops known dir files start last fault
-    → ProgressStops known given dir save files fault
-text_stops given known dir save files first number start last WantOfMemory content stops above begun t =
+text_stops : (options : FollowOptions) (known : Type 0) (dir save : List ℕ) (files : Files) (first : RunFault) (number : ℕ) (start : Saved) (last : ℕ)
+    (fault : RunFault) → IsOfContent first number → FollowStops known options dir save files first → start.number < last
+    → (known → IsBegun options dir save files number start last) → TextStops known dir files start last fault
+    → ProgressStops known options dir save files fault
+text_stops options known dir save files first number start last WantOfMemory content stops above begun t =
     inl (record { stops = inr (inr (inr tt)); next = λ sure k other. absurd other })
-text_stops given known dir save files first number start last (TooLarge file) content stops above begun t =
-    rw t.0 (inr (λ sure. (let big = t.1 sure in (
+text_stops options known dir save files first number start last (TooLarge file) content stops above begun t =
+    rw t.0 (inr (λ sure. (let big = t.1 sure in
+    let b = begun sure in
+    let outcome : Outcome = record {
+      standing = standing_of big.reached b.top;
+      applied = ranges start.number big.count;
+      missing = lost_numbers files dir big.reached.number last;
+    } in (
       first,
       big.text,
-      big.report,
-      comes_before given known dir save files first number big.text big.report content stops sure
-          (record { start = start; last = last; begun = begun sure; above = above; made = big.made }),
+      report_of options.layout (Some []) outcome,
+      comes_before options known dir save files first number big.text (report_of options.layout (Some []) outcome) content stops sure (record {
+        start = start;
+        last = last;
+        begun = b;
+        above = above;
+        said = [];
+        made = record { count = big.count; reached = big.reached; goes_on = big.goes_on; spelled = big.spelled; report_is = refl };
+      }),
       big.over,
     ))))
-text_stops given known dir save files first number start last fault content stops above begun t = absurd t
+text_stops options known dir save files first number start last fault content stops above begun t = absurd t
 
 -- what comes before the faulty number isn't made
-pub made_before_stops : (given : FilterValue) → NoFaultBesideState → (known : Type 0) (dir save : List ℕ) (files : Files) (first fault : RunFault)
-    (number : ℕ) → IsOfContent first number → FollowStops known given dir save files first
-    → MadeBeforeStops known given dir save files number fault → ProgressStops known given dir save files fault
-made_before_stops given law known dir save files first fault number content stops (inl h) =
-    inl (record { stops = inl h; next = λ sure k other. absurd (start_content given known dir save files fault k h other) })
-made_before_stops given law known dir save files first fault number content stops (inr b) = by_reason b.stops
+pub made_before_stops : (options : FollowOptions) → NoFaultBesideState → (known : Type 0) (dir save : List ℕ) (files : Files) (first fault : RunFault)
+    (number : ℕ) → IsOfContent first number → FollowStops known options dir save files first
+    → MadeBeforeStops known options dir save files number fault → ProgressStops known options dir save files fault
+made_before_stops options law known dir save files first fault number content stops (inl h) =
+    inl (record { stops = inl h; next = λ sure k other. absurd (start_content options.filter known dir save files fault k h other) })
+made_before_stops options law known dir save files first fault number content stops (inr b) = by_reason b.stops
   where
-    comes : known → ComesTo given dir save files number
-    comes = (faulty_at given known dir save files first number content stops).0
+    comes : known → ComesTo options dir save files number
+    comes = (faulty_at options known dir save files first number content stops).0
 
     by_reason : StopsOnTheWay known dir files b.start.number b.last fault
         ⊎ (StopsBeyond known dir files b.start b.last fault
-        ⊎ TextStops known dir files b.start b.last fault) → ProgressStops known given dir save files fault
-    by_reason (inl way) = way_stops given law known dir save files number b.start b.last fault comes b.begun way
-    by_reason (inr (inl m)) = missing_stops given known dir save files number b.start b.last m.count m.reached fault comes b.begun m.goes_on m.stops
-    by_reason (inr (inr t)) = text_stops given known dir save files first number b.start b.last fault content stops b.above b.begun t
+        ⊎ TextStops known dir files b.start b.last fault) → ProgressStops known options dir save files fault
+    by_reason (inl way) = way_stops options law known dir save files number b.start b.last fault comes b.begun way
+    by_reason (inr (inl m)) = missing_stops options known dir save files number b.start b.last m.count m.reached fault comes b.begun m.goes_on m.stops
+    by_reason (inr (inr t)) = text_stops options known dir save files first number b.start b.last fault content stops b.above b.begun t
 
 -- the save of what comes before isn't written
-pub put_before_stops : (given : FilterValue) (known : Type 0) (dir save : List ℕ) (files : Files) (first fault : RunFault) (number : ℕ)
-    (text : List ℕ) (report : ReportValue) → IsOfContent first number → FollowStops known given dir save files first
-    → (known → IsMadeBefore given dir save files number text report) → length text ≤ max_save → PutStops Save fault
-    → ProgressStops known given dir save files fault
-put_before_stops given known dir save files first WantOfMemory number text report content stops made small put =
+pub put_before_stops : (options : FollowOptions) (known : Type 0) (dir save : List ℕ) (files : Files) (first fault : RunFault) (number : ℕ)
+    (text : List ℕ) (report : ReportValue) → IsOfContent first number → FollowStops known options dir save files first
+    → (known → IsMadeBefore options dir save files number text report) → length text ≤ max_save → PutStops Save fault
+    → ProgressStops known options dir save files fault
+put_before_stops options known dir save files first WantOfMemory number text report content stops made small put =
     inl (record { stops = inr (inr (inr tt)); next = λ sure k other. absurd other })
-put_before_stops given known dir save files first (WriteFault file) number text report content stops made small put =
-    rw put (inr (λ sure. (first, text, report, comes_before given known dir save files first number text report content stops sure (made sure), small)))
-put_before_stops given known dir save files first fault number text report content stops made small put = absurd put
+put_before_stops options known dir save files first (WriteFault file) number text report content stops made small put =
+    rw put (inr (λ sure. (first, text, report, comes_before options known dir save files first number text report content stops sure (made sure), small)))
+put_before_stops options known dir save files first fault number text report content stops made small put = absurd put
 
 -- ---- the frame
 

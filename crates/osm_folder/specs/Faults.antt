@@ -2,7 +2,7 @@
 use Rattle.std.specs.Prelude.{ℕ}
 use Rattle.osm_folder.specs.declared.fault.RunFault.{RunFault}
 use Rattle.osm_folder.specs.declared.fault.RunFault.TheVariants.{UnknownForm, BadNow}
-use Rattle.osm_folder.specs.declared.fault.RunFault.TheVariants.{BadSequence, BadFilter}
+use Rattle.osm_folder.specs.declared.fault.RunFault.TheVariants.{BadSequence, BadFilter, BadLimit}
 
 -- 2 if a word of the command line is wrong, 3 for any other fault
 abbrev pub status_of : RunFault → ℕ
@@ -10,4 +10,5 @@ status_of UnknownForm = 2
 status_of BadNow = 2
 status_of BadSequence = 2
 status_of BadFilter = 2
+status_of BadLimit = 2
 status_of fault = 3

@@ -1,5 +1,6 @@
 -- A follower that goes on from its save over a folder. `known` says that it is known what the files
--- hold, and `given` is the filter that the run was given.
+-- hold, `given` is the filter that the run was given, and `options` are the filter, the limit and
+-- the layout of a run.
 use Rattle.std.specs.Prelude.{◌≡◌, ◌≢◌, ℕ, zero, suc, ◌+◌, ◌-◌, ◌*◌, ◌<◌, ◌≤◌, ◌⊎◌, ◌↔◌, List}
 use Rattle.std.specs.Prelude.{[], length, map, filter, min, Bool, true, false, ◌||◌, ◌&&◌, Option}
 use Rattle.std.specs.Prelude.{Some, None, is_none, Result, IfErr, IfOk}
@@ -11,7 +12,8 @@ use Rattle.osm_save.specs.declared.save.Saved.{Saved}
 use Rattle.osm_state.specs.State.{StateValue}
 use Rattle.osm_state.specs.declared.paths.Suffix.{Suffix}
 use Rattle.osm_state.specs.declared.paths.Suffix.TheVariants.{O5c, Opl, State}
-use Rattle.osm_follow.specs.Published.{PublishedValue, changes_after, changes_up_to, time_at}
+use Rattle.osm_follow.specs.Published.{PublishedValue, changes_after, changes_up_to, sequence_at}
+use Rattle.osm_follow.specs.Published.{time_at}
 use Rattle.osm_follow.specs.Reach.{numbers}
 use Rattle.osm_store.specs.Files.{Files, IsOver, Puts}
 use Rattle.osm_folder.specs.Folder.{IsFile, IsStateFile, IsThere, max_state}
@@ -19,7 +21,7 @@ use Rattle.osm_folder.specs.Forms.{IsFaulty}
 use Rattle.osm_store.specs.Frames.{StoreState}
 use Rattle.osm_folder.specs.Names.{file_name_of, top_name_of}
 use Rattle.osm_folder.specs.Publication.{IsBadState}
-use Rattle.osm_folder.specs.Reports.{ReportValue, follow_report_of}
+use Rattle.osm_folder.specs.Reports.{ReportValue, report_of}
 use Rattle.osm_folder.specs.Runs.{CallsUpTo}
 use Rattle.osm_folder.specs.declared.fault.FileName.TheVariants.{Top, Sequence, Save}
 use Rattle.osm_folder.specs.declared.fault.RunFault.{RunFault}
@@ -28,10 +30,44 @@ use Rattle.osm_folder.specs.declared.fault.RunFault.TheVariants.{WriteFault, Too
 use Rattle.osm_folder.specs.declared.fault.RunFault.TheVariants.{BadState, Mismatch, BadChange}
 use Rattle.osm_folder.specs.declared.fault.RunFault.TheVariants.{BadSave, OtherFilter, TopBehind}
 use Rattle.osm_folder.specs.declared.form.Form.TheVariants as forms
+use Rattle.osm_folder.specs.declared.options.FollowOptions.{FollowOptions}
+use Rattle.osm_folder.specs.declared.options.Layout.{Layout}
+use Rattle.osm_folder.specs.declared.options.Layout.TheVariants.{Lines}
+use Rattle.osm_json.specs.declared.line.Standing.{Standing}
 
 -- the most bytes of a save: 1 GiB
 abbrev pub max_save : ℕ
 max_save = 1073741824
+
+-- all that there is, told in lines
+abbrev pub plainly : FilterValue → FollowOptions
+plainly given = record { filter = given; limit = None; layout = Lines }
+
+-- the last number that a run from that number goes to: the top, or as many numbers further on as it
+-- may take
+abbrev pub last_number : Option ℕ → ℕ → ℕ → ℕ
+last_number None number top = top
+last_number (Some limit) number top = min top (number + limit)
+
+-- where a follower stands that saved this, beside the folder's top state
+abbrev pub standing_of : Saved → StateValue → Standing
+standing_of v top = record {
+  number = v.number;
+  time = v.time;
+  base = v.base;
+  top = top.sequence;
+  top_time = top.time;
+}
+
+-- where one stands beside what was published
+abbrev pub standing_at : List PublishedValue → ℕ → ℕ → Standing
+standing_at published base number = record {
+  number = number;
+  time = time_at published number;
+  base = base;
+  top = length published;
+  top_time = (sequence_at published (length published)).time;
+}
 
 -- what a follower with that filter goes on from if it saved nothing
 abbrev pub no_save : FilterValue → Saved
@@ -108,37 +144,59 @@ pub record IsStarted (given : FilterValue) (dir save : List ℕ) (files : Files)
   pub filter_is : start.filter ≡ given
   pub top_is : IsThere (files (top_name_of dir)) (IsStateFile top.sequence top.time)
 
+-- the last number of a run from that start
+abbrev pub end_of : FollowOptions → Saved → StateValue → ℕ
+end_of options start top = last_number options.limit start.number top.sequence
+
 -- what a run of the follower saves and prints
-pub record IsFollowing (given : FilterValue) (dir save : List ℕ) (files : Files) (text : List ℕ)
+pub record IsFollowing (options : FollowOptions) (dir save : List ℕ) (files : Files) (text : List ℕ)
     (report : ReportValue) : Type 0 where
   pub start : Saved
   pub top : StateValue
-  pub started : IsStarted given dir save files start top
+  pub started : IsStarted options.filter dir save files start top
   pub count : ℕ
   pub reached : Saved
-  pub goes_on : GoesOn files dir start top.sequence count reached
+  pub goes_on : GoesOn files dir start (end_of options start top) count reached
   pub spelled : SpellsSave text reached
-  pub report_is : report ≡ follow_report_of (ranges start.number count)
-      (lost_numbers files dir reached.number top.sequence) reached.number
+  pub report_is : report ≡ report_of options.layout None (record {
+    standing = standing_of reached top;
+    applied = ranges start.number count;
+    missing = lost_numbers files dir reached.number (end_of options start top);
+  })
 
 -- the save holds what was reached, and no other name changes
-pub record IsFollowed (given : FilterValue) (dir save : List ℕ) (old new : Files)
+pub record IsFollowed (options : FollowOptions) (dir save : List ℕ) (old new : Files)
     (report : ReportValue) : Type 0 where
   pub text : List ℕ
-  pub following : IsFollowing given dir save old text report
+  pub following : IsFollowing options dir save old text report
   pub small : length text ≤ max_save
   pub put : Puts old save (Some text) new
 
--- a report of a follower, whatever is known of the files: a number is missing exactly if the one
--- that was reached is below the top
-pub record IsFollowReport (report : ReportValue) : Type 0 where
+-- a report of a follower, with the text of its fault, whatever is known of the files: a number is
+-- missing exactly if the one that was reached is below the last one, which the top isn't
+pub record IsFollowReport (layout : Layout) (fault : Option (List ℕ)) (report : ReportValue) :
+    Type 0 where
   pub start : ℕ
   pub count : ℕ
-  pub top : ℕ
+  pub last : ℕ
   pub missing : List ℕ
-  pub until : start + count ≤ top
-  pub report_is : report ≡ follow_report_of (ranges start count) missing (start + count)
-  pub gap : (missing ≡ []) ↔ (start + count ≡ top)
+  pub time : Option ℕ
+  pub base : ℕ
+  pub top : StateValue
+  pub until : start + count ≤ last
+  pub below : last ≤ top.sequence
+  pub report_is : report ≡ report_of layout fault (record {
+    standing = record {
+      number = start + count;
+      time = time;
+      base = base;
+      top = top.sequence;
+      top_time = top.time;
+    };
+    applied = ranges start count;
+    missing = missing;
+  })
+  pub gap : (missing ≡ []) ↔ (start + count ≡ last)
 
 -- a save under the given filter can be read
 abbrev pub HasSave : FilterValue → List ℕ → Files → Type 0
@@ -184,15 +242,15 @@ StartStops known given dir save files (BadState Top cause) =
 StartStops known given dir save files TopBehind = known → IsTopBehind given dir save files
 StartStops known given dir save files fault = ⊥
 
--- a number is read: it is after the save's and at most the top's, and those between are right, so
--- none of them is lost
-pub record ComesTo (given : FilterValue) (dir save : List ℕ) (files : Files) (number : ℕ) :
+-- a number is read: it is after the save's and at most the last one, and those between are right,
+-- so none of them is lost
+pub record ComesTo (options : FollowOptions) (dir save : List ℕ) (files : Files) (number : ℕ) :
     Type 0 where
   pub start : Saved
   pub top : StateValue
-  pub started : IsStarted given dir save files start top
+  pub started : IsStarted options.filter dir save files start top
   pub above : start.number < number
-  pub until : number ≤ top.sequence
+  pub until : number ≤ end_of options start top
   pub each : (k : ℕ) → start.number < k → k < number → IsReadable files dir k
 
 -- the state of a number is right
@@ -240,25 +298,25 @@ NumberStops known dir files number (BadChange (Sequence k Opl) place why) =
 NumberStops known dir files number fault = ⊥
 
 -- a number that is read isn't taken
-pub record StopsAt (known : Type 0) (given : FilterValue) (dir save : List ℕ) (files : Files)
+pub record StopsAt (known : Type 0) (options : FollowOptions) (dir save : List ℕ) (files : Files)
     (fault : RunFault) : Type 0 where
   pub number : ℕ
-  pub comes : known → ComesTo given dir save files number
+  pub comes : known → ComesTo options dir save files number
   pub stops : NumberStops known dir files number fault
 
--- a number beyond the first lost one is looked for: up to the top, and to 64 after the number that
--- was reached
-pub record LooksFor (given : FilterValue) (dir save : List ℕ) (files : Files) (number : ℕ) :
+-- a number beyond the first lost one is looked for: up to the last one, and to 64 after the number
+-- that was reached
+pub record LooksFor (options : FollowOptions) (dir save : List ℕ) (files : Files) (number : ℕ) :
     Type 0 where
   pub start : Saved
   pub top : StateValue
-  pub started : IsStarted given dir save files start top
+  pub started : IsStarted options.filter dir save files start top
   pub count : ℕ
   pub reached : Saved
-  pub goes_on : GoesOn files dir start top.sequence count reached
+  pub goes_on : GoesOn files dir start (end_of options start top) count reached
   pub beyond : reached.number + 1 < number
   pub within : number ≤ reached.number + 64
-  pub until : number ≤ top.sequence
+  pub until : number ≤ end_of options start top
 
 -- when a file of a number is looked for: a change file only if the state is there, and the OPL file
 -- only if there is no o5c file
@@ -270,33 +328,33 @@ IsLookedFor files dir number Opl =
     × (files (file_name_of dir number O5c) ≡ None)
 
 -- why the lost numbers beyond the first aren't named: never for what a file there holds
-abbrev pub BeyondStops : Type 0 → FilterValue → List ℕ → List ℕ → Files → RunFault → Type 0
-BeyondStops known given dir save files WantOfMemory = Unit {0}
-BeyondStops known given dir save files (ReadFault (Sequence number suffix)) =
-    known → LooksFor given dir save files number × IsLookedFor files dir number suffix
-BeyondStops known given dir save files fault = ⊥
+abbrev pub BeyondStops : Type 0 → FollowOptions → List ℕ → List ℕ → Files → RunFault → Type 0
+BeyondStops known options dir save files WantOfMemory = Unit {0}
+BeyondStops known options dir save files (ReadFault (Sequence number suffix)) =
+    known → LooksFor options dir save files number × IsLookedFor files dir number suffix
+BeyondStops known options dir save files fault = ⊥
 
 -- everything was read, and this holds of the text to save
-abbrev pub HasText : FilterValue → List ℕ → List ℕ → Files → (List ℕ → Type 0) → Type 0
-HasText given dir save files holds =
-    (text : List ℕ) × (report : ReportValue) × IsFollowing given dir save files text report
+abbrev pub HasText : FollowOptions → List ℕ → List ℕ → Files → (List ℕ → Type 0) → Type 0
+HasText options dir save files holds =
+    (text : List ℕ) × (report : ReportValue) × IsFollowing options dir save files text report
     × holds text
 
 -- why what was reached isn't saved
-abbrev pub SaveStops : Type 0 → FilterValue → List ℕ → List ℕ → Files → RunFault → Type 0
-SaveStops known given dir save files WantOfMemory = Unit {0}
-SaveStops known given dir save files (TooLarge Save) =
-    known → HasText given dir save files (λ text. max_save < length text)
-SaveStops known given dir save files (WriteFault Save) =
-    known → HasText given dir save files (λ text. length text ≤ max_save)
-SaveStops known given dir save files fault = ⊥
+abbrev pub SaveStops : Type 0 → FollowOptions → List ℕ → List ℕ → Files → RunFault → Type 0
+SaveStops known options dir save files WantOfMemory = Unit {0}
+SaveStops known options dir save files (TooLarge Save) =
+    known → HasText options dir save files (λ text. max_save < length text)
+SaveStops known options dir save files (WriteFault Save) =
+    known → HasText options dir save files (λ text. length text ≤ max_save)
+SaveStops known options dir save files fault = ⊥
 
 -- why a run of the follower stops: at the save or the top state, at a number up to the first lost
 -- one, beyond it, or at what it saves
-abbrev pub FollowStops : Type 0 → FilterValue → List ℕ → List ℕ → Files → RunFault → Type 0
-FollowStops known given dir save files fault =
-    StartStops known given dir save files fault ⊎ StopsAt known given dir save files fault
-    ⊎ BeyondStops known given dir save files fault ⊎ SaveStops known given dir save files fault
+abbrev pub FollowStops : Type 0 → FollowOptions → List ℕ → List ℕ → Files → RunFault → Type 0
+FollowStops known options dir save files fault =
+    StartStops known options.filter dir save files fault ⊎ StopsAt known options dir save files fault
+    ⊎ BeyondStops known options dir save files fault ⊎ SaveStops known options dir save files fault
 
 -- exactly what the filter keeps of the mirror of published sequences 1 to the number, its time, and
 -- the counts of all edits of those after the base
@@ -320,15 +378,19 @@ pub record IsSaveOf (published : List PublishedValue) (given : FilterValue) (bas
   pub in_step : IsInStep published given value
 
 -- a follower in step with what was published went on from that number: it saved as many more
--- numbers as it reports, with its base, and stopped at the last published one or before a lost one
-pub record IsInStepAfter (published : List PublishedValue) (given : FilterValue) (base number : ℕ)
+-- numbers as it reports, with its base, and stopped at the last one or before a lost one
+pub record IsInStepAfter (published : List PublishedValue) (options : FollowOptions) (base number : ℕ)
     (dir save : List ℕ) (old new : Files) (report : ReportValue) : Type 0 where
   pub count : ℕ
-  pub saved : IsSaveOf published given base (number + count) (new save)
-  pub far : (number + count ≡ length published)
+  pub saved : IsSaveOf published options.filter base (number + count) (new save)
+  pub far : (number + count ≡ last_number options.limit number (length published))
       ⊎ (is_lost old dir (number + count + 1) ≡ true)
-  pub report_is : report ≡ follow_report_of (ranges number count)
-      (lost_numbers old dir (number + count) (length published)) (number + count)
+  pub report_is : report ≡ report_of options.layout None (record {
+    standing = standing_at published base (number + count);
+    applied = ranges number count;
+    missing = lost_numbers old dir (number + count)
+        (last_number options.limit number (length published));
+  })
   pub others : (name : List ℕ) → (name ≡ save → ⊥) → new name ≡ old name
 
 -- the most calls of a run from that number: its save, the top state, at most three files of each
@@ -361,9 +423,9 @@ FollowRefuses published given told (TooLarge file) =
 FollowRefuses published given told fault = StartRefuses published told fault
 
 -- what a run of the follower does over them: it goes on in step, within its calls, or is refused
-pub record FollowsOver (published : List PublishedValue) (given : FilterValue) (base number : ℕ)
+pub record FollowsOver (published : List PublishedValue) (options : FollowOptions) (base number : ℕ)
     (dir save : List ℕ) (old new : StoreState) (result : Result ReportValue RunFault) : Type 0 where
   pub in_step :
-      IfOk result (IsInStepAfter published given base number dir save old.files new.files)
-  pub refuses : IfErr result (FollowRefuses published given (old.files save))
+      IfOk result (IsInStepAfter published options base number dir save old.files new.files)
+  pub refuses : IfErr result (FollowRefuses published options.filter (old.files save))
   pub calls : CallsUpTo (follow_calls published number) old new result

@@ -10,19 +10,31 @@ use Rattle.osm_follow.specs.Lag.{AreSeconds}
 use Rattle.osm_follow.specs.Published.{PublishedValue, sequence_at, time_at}
 use Rattle.osm_store.specs.Files.{Files, IsOver}
 use Rattle.osm_folder.specs.Folder.{IsStateFile, IsThere, max_state}
-use Rattle.osm_folder.specs.Following.{IsSaved}
+use Rattle.osm_folder.specs.Following.{IsSaved, standing_at}
 use Rattle.osm_folder.specs.Names.{top_name_of}
 use Rattle.osm_folder.specs.Publication.{IsBadState}
-use Rattle.osm_folder.specs.Reports.{ReportValue, lag_report_of}
+use Rattle.osm_folder.specs.Reports.{ReportValue, lag_told}
+use Rattle.osm_json.specs.declared.line.Standing.{Standing}
 use Rattle.osm_folder.specs.declared.fault.FileName.TheVariants.{Top, Save}
 use Rattle.osm_folder.specs.declared.fault.RunFault.{RunFault}
 use Rattle.osm_folder.specs.declared.fault.RunFault.TheVariants.{WantOfMemory, ReadFault, TooLarge}
 use Rattle.osm_folder.specs.declared.fault.RunFault.TheVariants.{Absent, BadState, BadSave}
 use Rattle.osm_folder.specs.declared.fault.RunFault.TheVariants.{TopBehind, TimeBehind}
+use Rattle.osm_folder.specs.declared.options.Layout.{Layout}
 
 -- the head of the start
 abbrev pub no_head : Head
 no_head = record { number = 0; base = 0; time = None }
+
+-- where a follower stands whose save has that head, beside the top state
+abbrev pub standing_from : Head → StateValue → Standing
+standing_from head top = record {
+  number = head.number;
+  time = head.time;
+  base = head.base;
+  top = top.sequence;
+  top_time = top.time;
+}
 
 -- what a save begins with, whatever comes after it; no save is the start
 abbrev pub IsHead : Option (List ℕ) → Head → Type 0
@@ -37,7 +49,8 @@ pub record IsBegun (dir save : List ℕ) (files : Files) (start : Head) (top : S
 
 -- the numbers and the seconds from the head of the save to the top state are reported. If the save
 -- is a save text, that is the head of what it saves, under whatever filter
-pub record IsLag (dir save : List ℕ) (files : Files) (report : ReportValue) : Type 0 where
+pub record IsLag (layout : Layout) (dir save : List ℕ) (files : Files) (report : ReportValue) :
+    Type 0 where
   pub start : Head
   pub top : StateValue
   pub begun : IsBegun dir save files start top
@@ -46,11 +59,13 @@ pub record IsLag (dir save : List ℕ) (files : Files) (report : ReportValue) : 
   pub seconds : Option ℕ
   pub behind_is : start.number + behind ≡ top.sequence
   pub seconds_are : AreSeconds start.time top.time seconds
-  pub report_is : report ≡ lag_report_of behind seconds
+  pub report_is : report ≡ lag_told layout (standing_from start top) behind seconds
 
 -- a report of a lag, whatever is known of the files
-abbrev pub IsLagReport : ReportValue → Type 0
-IsLagReport report = (behind : ℕ) × (seconds : Option ℕ) × (report ≡ lag_report_of behind seconds)
+abbrev pub IsLagReport : Layout → ReportValue → Type 0
+IsLagReport layout report =
+    (standing : Standing) × (behind : ℕ) × (seconds : Option ℕ)
+    × (report ≡ lag_told layout standing behind seconds)
 
 -- there is no save, or it begins with a head
 abbrev pub HasHead : List ℕ → Files → Type 0
@@ -96,14 +111,14 @@ LagStops known dir save files TimeBehind = known → IsTimeBehind dir save files
 LagStops known dir save files fault = ⊥
 
 -- the lag of a follower that is in step with what was published, at that number
-pub record IsLagOf (published : List PublishedValue) (number : ℕ) (report : ReportValue) :
-    Type 0 where
+pub record IsLagOf (layout : Layout) (published : List PublishedValue) (base number : ℕ)
+    (report : ReportValue) : Type 0 where
   pub behind : ℕ
   pub seconds : Option ℕ
   pub behind_is : number + behind ≡ length published
   pub seconds_are : AreSeconds (time_at published number)
       (sequence_at published (length published)).time seconds
-  pub report_is : report ≡ lag_report_of behind seconds
+  pub report_is : report ≡ lag_told layout (standing_at published base number) behind seconds
 
 -- why a lag is refused over the folder of published sequences and a save in step with them:
 -- besides memory and the device, only that nothing was published yet, or that the last time is
@@ -118,7 +133,7 @@ LagRefuses published number TimeBehind =
 LagRefuses published number fault = ⊥
 
 -- what a run does over them: it tells the lag, or is refused
-pub record LagsOver (published : List PublishedValue) (number : ℕ)
+pub record LagsOver (layout : Layout) (published : List PublishedValue) (base number : ℕ)
     (result : Result ReportValue RunFault) : Type 0 where
-  pub in_step : IfOk result (IsLagOf published number)
+  pub in_step : IfOk result (IsLagOf layout published base number)
   pub refuses : IfErr result (LagRefuses published number)

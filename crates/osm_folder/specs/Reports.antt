@@ -4,6 +4,10 @@ use Rattle.std.specs.List.{flat_map}
 use Rattle.osm_follow.specs.View.{ViewValue}
 use Rattle.osm_show.specs.Lines.{applied_line, numbered_line}
 use Rattle.osm_show.specs.Show.{view_text}
+use Rattle.osm_json.specs.Line.{fault_data, follow_data, json_line, lag_data}
+use Rattle.osm_json.specs.declared.line.Standing.{Standing}
+use Rattle.osm_folder.specs.declared.options.Layout.{Layout}
+use Rattle.osm_folder.specs.declared.options.Layout.TheVariants.{Json, Lines}
 
 -- an exit status, and lines that each end with LF
 pub record ReportValue : Type 0 where
@@ -53,3 +57,28 @@ gap_status (n ∷ missing) = 1
 abbrev pub follow_report_of : List (ℕ × ℕ) → List ℕ → ℕ → ReportValue
 follow_report_of applied missing number =
     record { status = gap_status missing; text = follow_text applied missing number }
+
+-- what a run of the follower came to: where it stands, the ranges that it applied, and the numbers
+-- that are missing
+pub record Outcome : Type 0 where
+  pub standing : Standing
+  pub applied : List (ℕ × ℕ)
+  pub missing : List ℕ
+
+-- its report, and the text of the fault that ended it, which lines don't show
+abbrev pub report_of : Layout → Option (List ℕ) → Outcome → ReportValue
+report_of Lines fault x = follow_report_of x.applied x.missing x.standing.number
+report_of Json fault x = record {
+  status = gap_status x.missing;
+  text = json_line (follow_data x.standing x.applied x.missing fault);
+}
+
+-- the report of a lag
+abbrev pub lag_told : Layout → Standing → ℕ → Option ℕ → ReportValue
+lag_told Lines standing behind seconds = lag_report_of behind seconds
+lag_told Json standing behind seconds =
+    record { status = 0; text = json_line (lag_data standing) }
+
+-- the report of a run that was refused, in JSON
+abbrev pub fault_report_of : ℕ → List ℕ → ReportValue
+fault_report_of status fault = record { status = status; text = json_line (fault_data fault) }

@@ -127,6 +127,9 @@ pub enum RunFault {
     /// than 100 different keys.
     #[error("bad filter")]
     BadFilter,
+    /// The limit isn't a number from 1 to 999,999,999.
+    #[error("bad limit")]
+    BadLimit,
     /// The number is published, but with other changes, at another time, or some files are gone.
     #[error("sequence {0}: already published, and differs")]
     Differs(u32),
@@ -144,7 +147,8 @@ impl RunFault {
             RunFault::UnknownForm
             | RunFault::BadNow
             | RunFault::BadSequence
-            | RunFault::BadFilter => 2,
+            | RunFault::BadFilter
+            | RunFault::BadLimit => 2,
             _ => 3,
         }
     }

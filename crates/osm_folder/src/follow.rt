@@ -2,7 +2,7 @@
 
 ghost use Rattle.std.specs.Prelude.{◌≡◌, ℕ, ◌+◌, ◌-◌, ◌*◌, ◌<◌, ◌≤◌, ◌↔◌, ◌++◌, ◌∷◌, [], List};
 ghost use Rattle.std.specs.Prelude.{None, true, false, IfErr, IfOk, OnOk, cond, filter, length};
-ghost use Rattle.std.specs.Prelude.{min};
+ghost use Rattle.std.specs.Prelude.{min, option_map, string_bytes};
 ghost use Rattle.osm_model.specs.Limits.{max_file, max_sequence};
 ghost use Rattle.osm_save.specs.Save.{SpellsSave};
 ghost use Rattle.osm_state.specs.State.{StateValue};
@@ -15,9 +15,10 @@ ghost use Rattle.osm_folder.specs.Folder.{IsFolderOf};
 ghost use Rattle.osm_store.specs.Frames.{IsKnown};
 ghost use Rattle.osm_folder.specs.Following.{FollowStops, FollowsOver, IsFollowReport, IsFollowed};
 ghost use Rattle.osm_folder.specs.Following.{IsFollowing, IsReached, IsSaveOf, NumberStops};
-ghost use Rattle.osm_folder.specs.Following.{is_lost, lost_numbers, max_save};
+ghost use Rattle.osm_folder.specs.Following.{is_lost, last_number, lost_numbers, max_save};
+ghost use Rattle.osm_folder.specs.Following.{standing_of};
 ghost use Rattle.osm_folder.specs.Forms.{place_of, spells_of};
-ghost use Rattle.osm_folder.specs.Reports.{follow_report_of};
+ghost use Rattle.osm_folder.specs.Reports.{report_of};
 ghost use Rattle.osm_folder.specs.Runs.{CallsUpTo, ReadsAtLeast, ReadsUpTo, ReplacesAtLeast};
 ghost use Rattle.osm_folder.specs.Steps.Following.{DeliverStops, GoOnStops, IsDelivered, IsFresh};
 ghost use Rattle.osm_folder.specs.Steps.Following.{IsMade, IsNoted, IsTaken, IsTakenUp, LookStops};
@@ -28,18 +29,20 @@ use crate::fault::{FileName, RunFault};
 use crate::fetch::{Fetched, fetch, lacks_files};
 use crate::files::write_file;
 use crate::form::Form;
-use crate::report::{Report, follow_report};
+use crate::options::{FollowOptions, Layout};
+use crate::report::{Report, follow_in};
 use crate::start::{MAX_SAVE, read_start};
 use osm_follow::delivery::{DeliverError, Delivered};
 use osm_follow::follower::Follower;
 use osm_follow::view::ViewError;
-use osm_model::filter::Filter;
+use osm_json::line::Standing;
 use osm_model::form::{ChangeForm, FormError};
 use osm_model::memory::WantOfMemory;
 use osm_o5c::o5c::O5c;
 use osm_opl::opl::Opl;
 use osm_state::laws::laws_of_state;
 use osm_state::paths::Suffix;
+use osm_state::state::State;
 use osm_store::store::Store;
 use std::alloc::Global;
 
@@ -53,9 +56,17 @@ pub(crate) struct Following {
     pub(crate) report: Report,
 }
 
+// How a run reports: in which layout, beside which top state, and with which fault's text.
+#[derive(Drop)]
+pub(crate) struct Telling {
+    pub(crate) layout: Layout,
+    pub(crate) top: State,
+    pub(crate) fault: Option<String>,
+}
+
 /// Follows a folder from a save, or from the start if there is none, up to the folder's newest
-/// state or to the first lost number, and writes the save. Of the objects it keeps those that the
-/// filter keeps; the edits of all others are counted too. A save of another filter is refused as
+/// state, the limit or the first lost number, and writes the save. Of the objects it keeps those
+/// that the filter keeps; the edits of all others are counted too. A save of another filter is refused as
 /// `OtherFilter`. A number is lost if its state isn't there, or its changes in neither form. The
 /// lost numbers are named, up to 64 after the one that was reached: of those beyond the first it is
 /// asked only which files are there, so a faulty file there is no fault of the run. A refusal
@@ -65,23 +76,23 @@ pub fn follow_run<S: Store>(
     store: &mut S,
     dir: &str,
     save: &str,
-    filter: Filter,
+    options: FollowOptions,
 ) -> Result<Report, RunFault>
     ensures followed { IfOk result (λ report. IsKnown (S.state store.old)
-        → IsFollowed filter dir.now save.now (S.state store.old).files (S.state store.new).files
+        → IsFollowed options dir.now save.now (S.state store.old).files (S.state store.new).files
         report) }
-    ensures report { IfOk result IsFollowReport }
-    ensures stops { IfErr result (FollowStops (IsKnown (S.state store.old)) filter
+    ensures report { IfOk result (IsFollowReport options.layout None) }
+    ensures stops { IfErr result (FollowStops (IsKnown (S.state store.old)) options
         dir.now save.now (S.state store.old).files) }
     ensures over { IsKnown (S.state store.old) → (published : List PublishedValue) (base number : ℕ)
         → IsFolderOf published (S.state store.old).files dir.now
-        → IsSaveOf published filter base number ((S.state store.old).files save.now)
-        → FollowsOver published filter base number dir.now save.now
+        → IsSaveOf published options.filter base number ((S.state store.old).files save.now)
+        → FollowsOver published options base number dir.now save.now
         (S.state store.old) (S.state store.new) result }
     ensures frame { ReplacesAtLeast 3 (S.state store.old) (S.state store.new) result }
 {
     laws_of_state();
-    let made = prepare(alloc, store, dir, save, filter)?;
+    let made = prepare(alloc, store, dir, save, options)?;
     write_file(alloc, store, FileName::Save, save, made.text.as_slice())?;
     Ok(made.report)
 }
@@ -92,54 +103,81 @@ fn prepare<S: Store>(
     store: &mut S,
     dir: &str,
     save: &str,
-    filter: Filter,
+    options: FollowOptions,
 ) -> Result<Following, RunFault>
     ensures made { IfOk result (λ a. IsKnown (S.state store.old)
-        → IsFollowing filter dir.now save.now (S.state store.old).files a.text.items a.report) }
+        → IsFollowing options dir.now save.now (S.state store.old).files a.text.items a.report) }
     ensures small { IfOk result (λ a. length a.text.items ≤ max_save) }
-    ensures report { IfOk result (λ a. IsFollowReport a.report) }
-    ensures stops { IfErr result (FollowStops (IsKnown (S.state store.old)) filter
+    ensures report { IfOk result (λ a. IsFollowReport options.layout None a.report) }
+    ensures stops { IfErr result (FollowStops (IsKnown (S.state store.old)) options
         dir.now save.now (S.state store.old).files) }
     ensures calls { IsKnown (S.state store.old)
         → (published : List PublishedValue) (base number : ℕ)
         → IsFolderOf published (S.state store.old).files dir.now
-        → IsSaveOf published filter base number ((S.state store.old).files save.now)
+        → IsSaveOf published options.filter base number ((S.state store.old).files save.now)
         → CallsUpTo (2 + 3 * (length published - number))
         (S.state store.old) (S.state store.new) result }
     ensures frame { ReadsAtLeast 2 (S.state store.old) (S.state store.new) result }
 {
-    let mut start = read_start(alloc, store, dir, save, filter)?;
+    let mut start = read_start(alloc, store, dir, save, options.filter)?;
+    let number = number_of(&start.follower);
     let top = start.top.sequence();
-    if top < number_of(&start.follower) {
+    if top < number {
         return Err(RunFault::TopBehind);
     }
-    go_on(alloc, store, dir, top, &mut start.follower)
+    let last = last_number(options.limit, number, top);
+    let telling = Telling {
+        layout: options.layout,
+        top: start.top,
+        fault: None,
+    };
+    go_on(alloc, store, dir, last, &telling, &mut start.follower)
 }
 
-// Goes on from the start, up to the top or to the first lost number.
+// The last number that a run from that number goes to.
+pub(crate) fn last_number(limit: Option<u32>, number: u32, top: u32) -> u32
+    ensures { result ≡ last_number limit number top }
+{
+    match limit {
+        None => top,
+        Some(limit) => top.min(number.saturating_add(limit)),
+    }
+}
+
+// Goes on from the start, up to the last number or to the first lost one.
 pub(crate) fn go_on<S: Store>(
     alloc: Global,
     store: &mut S,
     dir: &str,
-    top: u32,
+    last: u32,
+    telling: &Telling,
     follower: &mut Follower,
 ) -> Result<Following, RunFault>
     requires fresh { IsFresh follower.old }
-    requires from { follower.old.number ≤ top }
-    requires most { top ≤ max_sequence }
+    requires from { follower.old.number ≤ last }
+    requires below { last ≤ telling.now.top.sequence }
+    requires most { telling.now.top.sequence ≤ max_sequence }
     ensures made { IfOk result (λ a. IsKnown (S.state store.old)
-        → IsMade (S.state store.old).files dir.now (saved_of follower.old) top
+        → IsMade telling.now.layout (option_map string_bytes telling.now.fault)
+        (S.state store.old).files dir.now (saved_of follower.old) telling.now.top last
         a.text.items a.report) }
     ensures small { IfOk result (λ a. length a.text.items ≤ max_save) }
-    ensures report { IfOk result (λ a. IsFollowReport a.report) }
+    ensures report { IfOk result (λ a. IsFollowReport telling.now.layout
+        (option_map string_bytes telling.now.fault) a.report) }
     ensures stops { IfErr result (GoOnStops (IsKnown (S.state store.old))
-        dir.now (S.state store.old).files (saved_of follower.old) top) }
-    ensures frame { ReadsUpTo (3 * (top - follower.old.number))
+        dir.now (S.state store.old).files (saved_of follower.old) last) }
+    ensures frame { ReadsUpTo (3 * (last - follower.old.number))
         (S.state store.old) (S.state store.new) result }
 {
-    let applied = take_up(alloc, store, dir, top, follower)?;
-    let missing = missing(alloc, store, dir, number_of(follower), top)?;
-    make(alloc, follower, missing.as_slice(), applied.as_slice())
+    let applied = take_up(alloc, store, dir, last, follower)?;
+    let missing = missing(alloc, store, dir, number_of(follower), last)?;
+    make(
+        alloc,
+        follower,
+        telling,
+        missing.as_slice(),
+        applied.as_slice(),
+    )
 }
 
 // Takes the numbers after the follower's, up to the top or to the first lost one, and gives the
@@ -303,19 +341,44 @@ fn deliver<F: ChangeForm>(
 fn make(
     alloc: Global,
     follower: &Follower,
+    telling: &Telling,
     missing: &[u32],
     applied: &[(u32, u32)],
 ) -> Result<Following, RunFault>
     requires whole { follower.now.is_broken ≡ false }
+    requires below { follower.now.number ≤ telling.now.top.sequence }
     ensures spelled { IfOk result (λ a. SpellsSave a.text.items (saved_of follower.now)) }
     ensures small { IfOk result (λ a. length a.text.items ≤ max_save) }
-    ensures report { IfOk result (λ a.
-        a.report ≡ follow_report_of applied.now missing.now follower.now.number) }
+    ensures report { IfOk result (λ a. a.report ≡ report_of telling.now.layout
+        (option_map string_bytes telling.now.fault) (record {
+          standing = standing_of (saved_of follower.now) telling.now.top;
+          applied = applied.now;
+          missing = missing.now;
+        })) }
     ensures stops { IfErr result (MadeStops follower.now) }
 {
-    let report = follow_report(alloc, applied, missing, number_of(follower))?;
+    let standing = standing_of(follower, &telling.top);
+    let fault = telling.fault.as_ref().map(|fault| fault.as_str());
+    let report = follow_in(alloc, telling.layout, standing, applied, missing, fault)?;
     let text = save(alloc, follower)?;
     Ok(Following { text, report })
+}
+
+// Where a follower stands.
+fn standing_of(follower: &Follower, top: &State) -> Standing
+    requires { follower.now.is_broken ≡ false }
+    ensures { result ≡ standing_of (saved_of follower.now) top.now }
+{
+    match (follower.number(), follower.time(), follower.base()) {
+        (Ok(number), Ok(time), Ok(base)) => Standing {
+            number,
+            time,
+            base,
+            top: top.sequence(),
+            top_time: top.time(),
+        },
+        _ => unreachable!(),
+    }
 }
 
 // The lost numbers of the window after the one that was reached, which is the top or comes before a

@@ -8,14 +8,17 @@ ghost use Rattle.osm_folder.specs.Folder.{IsFolderOf};
 ghost use Rattle.osm_store.specs.Frames.{IsKnown};
 ghost use Rattle.osm_folder.specs.Following.{IsSaveOf};
 ghost use Rattle.osm_folder.specs.Lagging.{IsHead, IsLag, IsLagReport, LagStops, LagsOver};
+ghost use Rattle.osm_folder.specs.Lagging.{standing_from};
 ghost use Rattle.osm_folder.specs.Runs.{Reads};
 ghost use Rattle.osm_folder.specs.Steps.Lagging.{HeadStops, HeadTextStops, IsTold, ToldStops};
 
 use crate::fault::{FileName, RunFault};
 use crate::files::read_prefix;
-use crate::report::{Report, lag_report};
+use crate::options::Layout;
+use crate::report::{Report, lag_in};
 use crate::start::read_top;
 use osm_follow::lag::{LagError, lag_from};
+use osm_json::line::Standing;
 use osm_save::head::{Head, HeadError, head_read};
 use osm_state::laws::laws_of_state;
 use osm_state::state::State;
@@ -27,30 +30,31 @@ use std::alloc::Global;
 const HEAD: u64 = 409_600;
 
 /// How many numbers and seconds a save, or the start if there is none, is behind the folder's
-/// newest state, whatever the filter of the save. Changes no file. Of the save only the head is
+/// newest state, in that layout, whatever the filter of the save. Changes no file. Of the save only the head is
 /// read, so a fault after it isn't found.
 pub fn lag_run<S: Store>(
     alloc: Global,
     store: &mut S,
     dir: &str,
     save: &str,
+    layout: Layout,
 ) -> Result<Report, RunFault>
     ensures lag { IfOk result (λ report. IsKnown (S.state store.old)
-        → IsLag dir.now save.now (S.state store.old).files report) }
-    ensures report { IfOk result IsLagReport }
+        → IsLag layout dir.now save.now (S.state store.old).files report) }
+    ensures report { IfOk result (IsLagReport layout) }
     ensures stops { IfErr result
         (LagStops (IsKnown (S.state store.old)) dir.now save.now (S.state store.old).files) }
     ensures over { IsKnown (S.state store.old)
         → (published : List PublishedValue) (given : FilterValue) (base number : ℕ)
         → IsFolderOf published (S.state store.old).files dir.now
         → IsSaveOf published given base number ((S.state store.old).files save.now)
-        → LagsOver published number result }
+        → LagsOver layout published base number result }
     ensures frame { Reads 2 (S.state store.old) (S.state store.new) result }
 {
     laws_of_state();
     let start = read_start(alloc, store, save)?;
     let top = read_top(alloc, store, dir)?;
-    tell(alloc, start, &top)
+    tell(alloc, layout, start, &top)
 }
 
 // The head of a save, or that of the start if there is none.
@@ -83,14 +87,27 @@ fn read_head(alloc: Global, bytes: &[u8]) -> Result<Head, RunFault>
     }
 }
 
-fn tell(alloc: Global, start: Head, top: &State) -> Result<Report, RunFault>
-    ensures told { IfOk result (IsTold start top.now) }
+fn tell(alloc: Global, layout: Layout, start: Head, top: &State) -> Result<Report, RunFault>
+    ensures told { IfOk result (IsTold layout start top.now) }
     ensures stops { IfErr result (ToldStops start top.now) }
 {
     match lag_from(start.number, start.time, top) {
-        Ok(lag) => Ok(lag_report(alloc, lag.behind, lag.seconds)?),
+        Ok(lag) => Ok(lag_in(alloc, layout, standing_from(start, top), lag)?),
         Err(LagError::TopBehind) => Err(RunFault::TopBehind),
         Err(LagError::TimeBehind) => Err(RunFault::TimeBehind),
         Err(LagError::Broken) => unreachable!(),
+    }
+}
+
+// Where a follower stands whose save has that head.
+fn standing_from(start: Head, top: &State) -> Standing
+    ensures { result ≡ standing_from start top.now }
+{
+    Standing {
+        number: start.number,
+        time: start.time,
+        base: start.base,
+        top: top.sequence(),
+        top_time: top.time(),
     }
 }

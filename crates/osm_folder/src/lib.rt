@@ -15,6 +15,7 @@ pub mod form;
 pub mod lag;
 pub mod laws;
 pub mod names;
+pub mod options;
 pub mod progress;
 pub mod publish;
 pub mod publish_as;

@@ -1,7 +1,7 @@
 //! Following a folder up to a faulty number.
 
 ghost use Rattle.std.specs.Prelude.{◌≡◌, ℕ, ◌-◌, ◌≤◌, List, IfErr, IfOk, IfSome, MatchOption};
-ghost use Rattle.std.specs.Prelude.{length, min};
+ghost use Rattle.std.specs.Prelude.{length, min, Some, string_bytes};
 ghost use Rattle.osm_follow.specs.Published.{PublishedValue};
 ghost use Rattle.osm_folder.specs.Folder.{IsFolderOf};
 ghost use Rattle.osm_folder.specs.Following.{FollowStops, FollowsOver, IsFollowReport, IsSaveOf};
@@ -15,10 +15,10 @@ ghost use Rattle.osm_folder.specs.Steps.Progressing.{MadeBeforeStops};
 
 use crate::fault::{FileName, RunFault};
 use crate::files::write_file;
-use crate::follow::{Following, follow_run, go_on, number_of};
-use crate::report::Report;
+use crate::follow::{Following, Telling, follow_run, go_on, last_number, number_of};
+use crate::options::FollowOptions;
+use crate::report::{Report, fault_text};
 use crate::start::read_start;
-use osm_model::filter::Filter;
 use osm_state::laws::laws_of_state;
 use osm_state::paths::Suffix;
 use osm_store::store::Store;
@@ -41,22 +41,22 @@ pub fn follow_progress<S: Store>(
     store: &mut S,
     dir: &str,
     save: &str,
-    filter: Filter,
+    options: FollowOptions,
 ) -> Result<Progress, RunFault>
-    ensures done { IfOk result (IsProgress (IsKnown (S.state store.old)) filter
+    ensures done { IfOk result (IsProgress (IsKnown (S.state store.old)) options
         dir.now save.now (S.state store.old).files (S.state store.new).files) }
-    ensures report { IfOk result IsProgressReport }
-    ensures stops { IfErr result (ProgressStops (IsKnown (S.state store.old)) filter
+    ensures report { IfOk result (IsProgressReport options.layout) }
+    ensures stops { IfErr result (ProgressStops (IsKnown (S.state store.old)) options
         dir.now save.now (S.state store.old).files) }
     ensures over { IsKnown (S.state store.old) → (published : List PublishedValue) (base number : ℕ)
         → IsFolderOf published (S.state store.old).files dir.now
-        → IsSaveOf published filter base number ((S.state store.old).files save.now)
-        → IsWhole result (FollowsOver published filter base number dir.now save.now
+        → IsSaveOf published options.filter base number ((S.state store.old).files save.now)
+        → IsWhole result (FollowsOver published options base number dir.now save.now
         (S.state store.old) (S.state store.new)) }
     ensures frame { ReplacesAtLeast 3 (S.state store.old) (S.state store.new) result }
 {
-    let again = filter.copy(alloc)?;
-    match follow_run(alloc, store, dir, save, filter) {
+    let again = options.copy(alloc)?;
+    match follow_run(alloc, store, dir, save, options) {
         Ok(report) => Ok(Progress::Whole(report)),
         Err(fault) => match faulty_number(&fault) {
             Some(number) => follow_before(alloc, store, dir, save, again, number, fault),
@@ -71,22 +71,23 @@ fn follow_before<S: Store>(
     store: &mut S,
     dir: &str,
     save: &str,
-    filter: Filter,
+    options: FollowOptions,
     number: u32,
     fault: RunFault,
 ) -> Result<Progress, RunFault>
     requires content { IsOfContent fault number }
-    requires stops { FollowStops (IsKnown (S.state store.old)) filter
+    requires stops { FollowStops (IsKnown (S.state store.old)) options
         dir.now save.now (S.state store.old).files fault }
-    ensures done { IfOk result (IsProgress (IsKnown (S.state store.old)) filter
+    ensures done { IfOk result (IsProgress (IsKnown (S.state store.old)) options
         dir.now save.now (S.state store.old).files (S.state store.new).files) }
-    ensures report { IfOk result IsProgressReport }
-    ensures stops { IfErr result (ProgressStops (IsKnown (S.state store.old)) filter
+    ensures report { IfOk result (IsProgressReport options.layout) }
+    ensures stops { IfErr result (ProgressStops (IsKnown (S.state store.old)) options
         dir.now save.now (S.state store.old).files) }
     ensures frame { ReplacesAtLeast 3 (S.state store.old) (S.state store.new) result }
 {
     laws_of_state();
-    let Some(made) = prepare_before(alloc, store, dir, save, filter, number)? else {
+    let said = fault_text(alloc, fault)?;
+    let Some(made) = prepare_before(alloc, store, dir, save, options, number, said)? else {
         return Err(fault);
     };
     write_file(alloc, store, FileName::Save, save, made.text.as_slice())?;
@@ -113,30 +114,39 @@ fn prepare_before<S: Store>(
     store: &mut S,
     dir: &str,
     save: &str,
-    filter: Filter,
+    options: FollowOptions,
     number: u32,
+    said: String,
 ) -> Result<Option<Following>, RunFault>
     ensures made { IfOk result (λ o. IsKnown (S.state store.old) → MatchOption o
-        (IsNothingBefore filter dir.now save.now (S.state store.old).files number)
-        (λ a. IsMadeBefore filter dir.now save.now (S.state store.old).files number
+        (IsNothingBefore options dir.now save.now (S.state store.old).files number)
+        (λ a. IsMadeBefore options dir.now save.now (S.state store.old).files number
         a.text.items a.report)) }
     ensures small { IfOk result (λ o. IfSome o (λ a. length a.text.items ≤ max_save)) }
-    ensures report { IfOk result (λ o. IfSome o (λ a. IsFollowReport a.report)) }
-    ensures stops { IfErr result (MadeBeforeStops (IsKnown (S.state store.old)) filter
+    ensures report { IfOk result (λ o. IfSome o
+        (λ a. IsFollowReport options.layout (Some (string_bytes said)) a.report)) }
+    ensures stops { IfErr result (MadeBeforeStops (IsKnown (S.state store.old)) options
         dir.now save.now (S.state store.old).files number) }
     ensures frame { ReadsAtLeast 2 (S.state store.old) (S.state store.new) result }
 {
-    let mut start = read_start(alloc, store, dir, save, filter)?;
-    let last = last_before(start.top.sequence(), number);
-    if last <= number_of(&start.follower) {
+    let mut start = read_start(alloc, store, dir, save, options.filter)?;
+    let from = number_of(&start.follower);
+    let end = last_number(options.limit, from, start.top.sequence());
+    let last = last_before(end, number);
+    if last <= from {
         return Ok(None);
     }
-    let made = go_on(alloc, store, dir, last, &mut start.follower)?;
+    let telling = Telling {
+        layout: options.layout,
+        top: start.top,
+        fault: Some(said),
+    };
+    let made = go_on(alloc, store, dir, last, &telling, &mut start.follower)?;
     Ok(Some(made))
 }
 
-fn last_before(top: u32, number: u32) -> u32
-    ensures { result ≡ min top (number - 1) }
+fn last_before(end: u32, number: u32) -> u32
+    ensures { result ≡ min end (number - 1) }
 {
-    top.min(number.saturating_sub(1))
+    end.min(number.saturating_sub(1))
 }

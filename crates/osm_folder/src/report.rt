@@ -1,14 +1,20 @@
 //! What a run prints, and its exit status.
 
-ghost use Rattle.std.specs.Prelude.{◌≡◌, ◌++◌, [], IfOk, OnOk, length};
+ghost use Rattle.std.specs.Prelude.{◌≡◌, ◌≤◌, ◌++◌, ℕ, List, [], IfOk, OnOk, length};
+ghost use Rattle.std.specs.Prelude.{option_map};
 ghost use Rattle.std.specs.List.{flat_map};
 ghost use Rattle.osm_show.specs.Lines.{applied_line};
-ghost use Rattle.osm_folder.specs.Reports.{begin_report_of, convert_report_of};
+ghost use Rattle.osm_folder.specs.Faults.{status_of};
+ghost use Rattle.osm_folder.specs.Reports.{begin_report_of, convert_report_of, fault_report_of};
 ghost use Rattle.osm_folder.specs.Reports.{follow_report_of, follow_text, gap_status};
-ghost use Rattle.osm_folder.specs.Reports.{lag_report_of, publish_report_of, seconds_line};
-ghost use Rattle.osm_folder.specs.Reports.{show_report_of};
+ghost use Rattle.osm_folder.specs.Reports.{lag_report_of, lag_told, publish_report_of, report_of};
+ghost use Rattle.osm_folder.specs.Reports.{seconds_line, show_report_of};
 
+use crate::fault::RunFault;
+use crate::options::Layout;
+use osm_follow::lag::Lag;
 use osm_follow::view::View;
+use osm_json::line::{Standing, fault_line, follow_line, lag_line};
 use osm_model::memory::WantOfMemory;
 use osm_show::lines::{write_applied, write_bytes, write_numbered, write_numbered_lines};
 use osm_show::show::write_view;
@@ -88,6 +94,42 @@ pub fn lag_report(alloc: Global, behind: u32, seconds: Option<u32>) -> Result<Re
     Ok(Report { status: 0, text })
 }
 
+/// The report of a lag: by `lag_report`, or as JSON.
+pub(crate) fn lag_in(
+    alloc: Global,
+    layout: Layout,
+    standing: Standing,
+    lag: Lag,
+) -> Result<Report, WantOfMemory>
+    requires { standing.number ≤ standing.top }
+    ensures { IfOk result (λ report. report ≡ lag_told layout standing lag.behind lag.seconds) }
+{
+    match layout {
+        Layout::Lines => lag_report(alloc, lag.behind, lag.seconds),
+        Layout::Json => Ok(Report {
+            status: 0,
+            text: lag_line(alloc, standing)?,
+        }),
+    }
+}
+
+/// The line of JSON of a run that was refused: nothing is known but the text of its fault. The
+/// status is the fault's.
+pub fn fault_report(alloc: Global, fault: RunFault) -> Result<Report, WantOfMemory>
+    ensures { IfOk result
+        (λ report. (said : List ℕ) × (report ≡ fault_report_of (status_of fault) said)) }
+{
+    let said = fault_text(alloc, fault)?;
+    let text = fault_line(alloc, said.as_str())?;
+    let status = fault.status();
+    Ok(Report { status, text })
+}
+
+/// A fault's text.
+pub(crate) fn fault_text(alloc: Global, fault: RunFault) -> Result<String, WantOfMemory> {
+    Ok(format!(in alloc; "{fault}")?)
+}
+
 /// The show text of a view.
 pub fn show_report(alloc: Global, view: &View) -> Result<Report, WantOfMemory>
     ensures { IfOk result (λ report. report ≡ show_report_of view.now) }
@@ -124,6 +166,33 @@ pub fn follow_report(
     write_numbered(b"number ", number as u64, &mut text)?;
     let status = status_of_gap(missing);
     Ok(Report { status, text })
+}
+
+/// The report of a run of the follower, and of the text of its fault if it has one: by
+/// `follow_report`, or as JSON.
+pub(crate) fn follow_in(
+    alloc: Global,
+    layout: Layout,
+    standing: Standing,
+    applied: &[(u32, u32)],
+    missing: &[u32],
+    fault: Option<&str>,
+) -> Result<Report, WantOfMemory>
+    requires { standing.number ≤ standing.top }
+    ensures { IfOk result (λ report.
+        report ≡ report_of layout (option_map (λ said. said.now) fault.entry) (record {
+          standing = standing;
+          applied = applied.now;
+          missing = missing.now;
+        })) }
+{
+    match layout {
+        Layout::Lines => follow_report(alloc, applied, missing, standing.number),
+        Layout::Json => Ok(Report {
+            status: status_of_gap(missing),
+            text: follow_line(alloc, standing, applied, missing, fault)?,
+        }),
+    }
 }
 
 fn status_of_gap(missing: &[u32]) -> u8

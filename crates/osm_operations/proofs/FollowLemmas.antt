@@ -27,6 +27,7 @@ use Rattle.osm_operations.specs.Correct.{AreApart, IsExtractOf}
 use Rattle.osm_operations.specs.History.{Standing, count_from, text_of, unless_lost}
 use Rattle.osm_operations.specs.Steps.Stepping.{IsNoDevice}
 use Rattle.osm_operations.proofs.AgreeLemmas.{Agrees, few, folder_same}
+use Rattle.osm_folder.specs.Following.{plainly}
 
 -- a number is lost, by its files
 abbrev pub number_lost : (ℕ → Suffix → Bool) → ℕ → Bool
@@ -108,7 +109,7 @@ gone_on m count = record { number = m.number + count; base = m.base; is_saved = 
 -- a run that is done
 pub followed : (p : List PublishedValue) (lost : ℕ → Suffix → Bool) (m : Standing) (given : FilterValue) (dir save changes extract : List ℕ)
     (start f g l : Files) (n : ℕ) (report : ReportValue) → AreApart dir save changes extract
-    → Agrees p lost m given dir save changes extract start f l n → IsFollowed given dir save f g report
+    → Agrees p lost m given dir save changes extract start f l n → IsFollowed (plainly given) dir save f g report
     → (let c = count_from (number_lost lost) m.number (length p - m.number) in
     Agrees p lost (gone_on m c) given dir save changes extract start g l n
     × (report ≡ follow_report_of (ranges m.number c)
@@ -116,8 +117,8 @@ pub followed : (p : List PublishedValue) (lost : ℕ → Suffix → Bool) (m : S
 followed p lost m given dir save changes extract start f g l n report apart s run =
     rw count_same (agrees, after.report_is ∙ ap (λ xs. follow_report_of (ranges m.number count) xs (m.number + count)) lost_are)
   where
-    after : IsInStepAfter p given m.base m.number dir save f g report
-    after = in_step_after given p m.base m.number dir save f g report s.folder s.saved.save_is run
+    after : IsInStepAfter p (plainly given) m.base m.number dir save f g report
+    after = in_step_after (plainly given) p m.base m.number dir save f g report s.folder s.saved.save_is run
 
     count : ℕ
     count = after.count

@@ -17,6 +17,7 @@ use Rattle.osm_folder.proofs.InStepLemmas.{one_saved}
 use Rattle.osm_operations.specs.Allowed.{OtherRefused}
 use Rattle.osm_operations.specs.Steps.Stepping.{IsNoDevice}
 use Rattle.osm_operations.proofs.ExtractLemmas.{saved_right, saved_small}
+use Rattle.osm_folder.specs.Following.{plainly}
 
 -- a save that is there saves the same under any filter
 same_saved : (given other : FilterValue) (told : Option (List ℕ)) (v : Saved) → is_none told ≡ false → IsSaved other told v → IsSaved given told v
@@ -37,10 +38,10 @@ module _ (given other : FilterValue) (p : List PublishedValue) (base number : �
   not_held : HasSave other save f → ⊥
   not_held has = none_other has.0 has.1 has.2
 
-  pub not_followed : (g : Files) (report : ReportValue) → IsFollowed other dir save f g report → ⊥
+  pub not_followed : (g : Files) (report : ReportValue) → IsFollowed (plainly other) dir save f g report → ⊥
   not_followed g report run = not_started run.following.start run.following.top run.following.started
 
-  pub not_before : (g : Files) (fault : RunFault) (report : ReportValue) → IsFollowedBefore (IsTrue true) other dir save f g fault report → ⊥
+  pub not_before : (g : Files) (fault : RunFault) (report : ReportValue) → IsFollowedBefore (IsTrue true) (plainly other) dir save f g fault report → ⊥
   not_before g fault report run = not_started run.before.start run.before.top run.before.started
 
   start_other : (fault : RunFault) → IsNoDevice fault → StartStops (IsTrue true) other dir save f fault → OtherRefused fault
@@ -56,29 +57,29 @@ module _ (given other : FilterValue) (p : List PublishedValue) (base number : �
   start_other TopBehind none h = absurd (let b = h refl in not_started b.start b.top b.started)
   start_other fault none h = absurd h
 
-  beyond_other : (fault : RunFault) → IsNoDevice fault → BeyondStops (IsTrue true) other dir save f fault → OtherRefused fault
+  beyond_other : (fault : RunFault) → IsNoDevice fault → BeyondStops (IsTrue true) (plainly other) dir save f fault → OtherRefused fault
   beyond_other WantOfMemory none h = tt
   beyond_other (ReadFault file) none h = absurd none
   beyond_other fault none h = absurd h
 
-  save_other : (fault : RunFault) → IsNoDevice fault → SaveStops (IsTrue true) other dir save f fault → OtherRefused fault
+  save_other : (fault : RunFault) → IsNoDevice fault → SaveStops (IsTrue true) (plainly other) dir save f fault → OtherRefused fault
   save_other WantOfMemory none h = tt
   save_other (TooLarge Save) none h = absurd (let run = (h refl).2 in not_started run.start run.top run.started)
   save_other (WriteFault file) none h = absurd none
   save_other fault none h = absurd h
 
-  before_other : (fault : RunFault) → IsNoDevice fault → BeforeStops (IsTrue true) other dir save f fault → OtherRefused fault
+  before_other : (fault : RunFault) → IsNoDevice fault → BeforeStops (IsTrue true) (plainly other) dir save f fault → OtherRefused fault
   before_other (TooLarge Save) none h = absurd (let c = (h refl).3 in not_started c.start c.top c.started)
   before_other (WriteFault file) none h = absurd none
   before_other fault none h = absurd h
 
-  follow_other : (fault : RunFault) → IsNoDevice fault → FollowStops (IsTrue true) other dir save f fault → OtherRefused fault
+  follow_other : (fault : RunFault) → IsNoDevice fault → FollowStops (IsTrue true) (plainly other) dir save f fault → OtherRefused fault
   follow_other fault none (inl h) = start_other fault none h
   follow_other fault none (inr (inl h)) = absurd (let c = h.comes refl in not_started c.start c.top c.started)
   follow_other fault none (inr (inr (inl h))) = beyond_other fault none h
   follow_other fault none (inr (inr (inr h))) = save_other fault none h
 
   -- for the filter, or for want of memory
-  pub other_refused : (fault : RunFault) → IsNoDevice fault → ProgressStops (IsTrue true) other dir save f fault → OtherRefused fault
+  pub other_refused : (fault : RunFault) → IsNoDevice fault → ProgressStops (IsTrue true) (plainly other) dir save f fault → OtherRefused fault
   other_refused fault none (inl h) = follow_other fault none h.stops
   other_refused fault none (inr h) = before_other fault none h

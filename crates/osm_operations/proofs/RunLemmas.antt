@@ -33,6 +33,8 @@ use Rattle.osm_operations.specs.Steps.Stepping.{PublishAsTo, PublishStep, Return
 use Rattle.osm_operations.specs.Steps.Stepping.{stopped_reply}
 use Rattle.osm_operations.specs.declared.operation.Reply.{Reply}
 use Rattle.osm_operations.specs.declared.world.World.{World}
+use Rattle.osm_folder.specs.Following.{plainly}
+use Rattle.osm_folder.specs.declared.options.Layout.TheVariants.{Lines}
 
 -- what the contract of a run says of its answer
 pub record Answers (left : Option ℕ) (dir changes now : List ℕ) (middle new : Files)
@@ -184,12 +186,12 @@ answer_to left dir changes batch time n answer r a m b o5c_name opl_name first s
 -- what a run of the follower answers, as a step
 pub follow_step : (given : FilterValue) (dir save : List ℕ) (f f' g g' : Files) (w : Result Progress RunFault)
     (r : Result ReportValue RunFault) → IsReportOf w r → f' ≡ f → g' ≡ g
-    → IfOk w (IsProgress (IsTrue true) given dir save f' g)
+    → IfOk w (IsProgress (IsTrue true) (plainly given) dir save f' g)
     → (IsTrue true → (p : List PublishedValue) (base n : ℕ) → IsFolderOf p f' dir → IsSaveOf p given base n (f' save)
     → IsWhole w (λ x. IfErr x (FollowRefuses p given (f' save)))) → OnErr w (g ≡ f') → FollowStep given dir save r f g'
 follow_step given dir save f f' g g' (Ok (Whole report)) r is same same_after done over unchanged =
-    rw is (subst (λ (x : Files). IsFollowed given dir save f x report) (sym same_after)
-    (subst (λ (x : Files). IsFollowed given dir save x g report) same (done refl)))
+    rw is (subst (λ (x : Files). IsFollowed (plainly given) dir save f x report) (sym same_after)
+    (subst (λ (x : Files). IsFollowed (plainly given) dir save x g report) same (done refl)))
 follow_step given dir save f f' g g' (Ok (Before report fault)) r is same same_after done over unchanged =
     rw is (λ p base n folder saved. absurd (over refl p base n (subst (λ (x : Files). IsFolderOf p x dir) (sym same) folder)
     (subst (λ (x : Files). IsSaveOf p given base n (x save)) (sym same) saved)))
@@ -204,7 +206,7 @@ follow_step given dir save f f' g g' (Err fault) r is same same_after done over 
 -- what the word says over the folder of what was published
 pub progress_over_refuses : (given : FilterValue) (dir save : List ℕ) (a b : StoreState) (w : Result Progress RunFault)
     → (IsKnown a → (p : List PublishedValue) (base n : ℕ) → IsFolderOf p a.files dir → IsSaveOf p given base n (a.files save)
-    → IsWhole w (FollowsOver p given base n dir save a b))
+    → IsWhole w (FollowsOver p (plainly given) base n dir save a b))
     → IsKnown a → (p : List PublishedValue) (base n : ℕ) → IsFolderOf p a.files dir → IsSaveOf p given base n (a.files save)
     → IsWhole w (λ x. IfErr x (FollowRefuses p given (a.files save)))
 progress_over_refuses given dir save a b (Ok (Whole report)) over sure p base n folder saved = tt
@@ -213,7 +215,7 @@ progress_over_refuses given dir save a b (Err fault) over sure p base n folder s
 
 pub progress_lacks : (given : FilterValue) (dir save : List ℕ) (a b : StoreState) (w : Result Progress RunFault) (r : Result ReportValue RunFault)
     → IsReportOf w r → (IsKnown a → (p : List PublishedValue) (base n : ℕ) → IsFolderOf p a.files dir
-    → IsSaveOf p given base n (a.files save) → IsWhole w (FollowsOver p given base n dir save a b))
+    → IsSaveOf p given base n (a.files save) → IsWhole w (FollowsOver p (plainly given) base n dir save a b))
     → IfErr r (λ fault. IsKnown a → (p : List PublishedValue) (base n : ℕ) → IsFolderOf p a.files dir
     → IsSaveOf p given base n (a.files save) → LacksCalls (follow_calls p n) a.left fault)
 progress_lacks given dir save a b (Ok (Whole report)) r is over = rw is tt
@@ -227,7 +229,7 @@ content_no_device (WriteFault file) k c = absurd c
 content_no_device fault k c = tt
 
 pub progress_no_device : (w : Result Progress RunFault) (r : Result ReportValue RunFault) → IsReportOf w r
-    → IfOk w IsProgressReport → IfErr w IsNoDevice → IfErr r IsNoDevice
+    → IfOk w (IsProgressReport Lines) → IfErr w IsNoDevice → IfErr r IsNoDevice
 progress_no_device (Ok (Whole report)) r is ok none = rw is tt
 progress_no_device (Ok (Before report fault)) r is ok none = rw is (content_no_device fault ok.1.0 ok.1.1)
 progress_no_device (Err fault) r is ok none = rw is none

@@ -34,6 +34,7 @@ use Rattle.osm_folder.proofs.TakingLemmas.{adds_has, adds_number, has_not_lost}
 use Rattle.osm_operations.specs.Spoiling.{IsSpoiledFault, spoiled}
 use Rattle.osm_operations.proofs.SpoiledLemmas.{IsSpoiled, lost_alike, no_state, other_number, other_suffix, suffix_cases, there_same}
 use Rattle.osm_operations.proofs.SpoiledLemmas.{unread_among, unspoiled_all}
+use Rattle.osm_folder.specs.Following.{plainly}
 
 -- when a file of number k is read, if its turn comes: a change file only if the state is there, and the OPL file only if
 -- there is no o5c file
@@ -160,7 +161,7 @@ module _ (given : FilterValue) (ps : List PublishedValue) (base number : ℕ) (d
         lost_alike dir k (n + suc count) s old new o.is (omega (arith, most)),
       ) refl
 
-  pub same_run : (text : List ℕ) (report : ReportValue) → IsFollowing given dir save new text report → IsFollowing given dir save old text report
+  pub same_run : (text : List ℕ) (report : ReportValue) → IsFollowing (plainly given) dir save new text report → IsFollowing (plainly given) dir save old text report
   same_run text report run =
       let most = few_over o in
       let top = top_is run.start run.top run.started in
@@ -189,7 +190,7 @@ module _ (given : FilterValue) (ps : List PublishedValue) (base number : ℕ) (d
       min_within a b = grind (arith)
 
   -- the spoiled file isn't one that such a run reads
-  pub unread : (text : List ℕ) (report : ReportValue) (run : IsFollowing given dir save new text report) → number < k → k ≤ number + run.count
+  pub unread : (text : List ℕ) (report : ReportValue) (run : IsFollowing (plainly given) dir save new text report) → number < k → k ≤ number + run.count
       → (s ≡ Opl) × (is_none (old (file_name_of dir k O5c)) ≡ false)
   unread text report run above until =
       let most = few_over o in
@@ -271,7 +272,7 @@ module _ (given : FilterValue) (ps : List PublishedValue) (base number : ℕ) (d
 
   -- what comes before the spoiled file
   pub before : NoFaultBesideState → (known : Type 0) → known → (fault : RunFault) (text : List ℕ) (report : ReportValue)
-      → ComesBefore known given dir save new fault text report → IsSpoiledBefore given ps base number dir k s old fault text report
+      → ComesBefore known (plainly given) dir save new fault text report → IsSpoiledBefore given ps base number dir k s old fault text report
   before law known sure fault text report c =
       let most = few_over o in
       let top = top_is c.start c.top c.started in
@@ -320,16 +321,16 @@ module _ (given : FilterValue) (ps : List PublishedValue) (base number : ℕ) (d
   })
   start_over known fault h = absurd h
 
-  save_refuses : (known : Type 0) → known → (fault : RunFault) → SaveStops known given dir save new fault → FollowRefuses ps given (old save) fault
+  save_refuses : (known : Type 0) → known → (fault : RunFault) → SaveStops known (plainly given) dir save new fault → FollowRefuses ps given (old save) fault
   save_refuses known sure WantOfMemory h = tt
   save_refuses known sure (TooLarge Save) h =
       let t = h sure in
-      let r = reached_of given ps base number dir save old t.0 t.1 o.folder o.saved (same_run t.0 t.1 t.2) in
+      let r = reached_of (plainly given) ps base number dir save old t.0 t.1 o.folder o.saved (same_run t.0 t.1 t.2) in
       (refl, inr (r.value, t.0, r.in_step, r.spelled, t.3))
   save_refuses known sure (WriteFault Save) h = refl
   save_refuses known sure fault h = absurd h
 
-  before_refuses : NoFaultBesideState → (known : Type 0) → known → (fault : RunFault) → BeforeStops known given dir save new fault
+  before_refuses : NoFaultBesideState → (known : Type 0) → known → (fault : RunFault) → BeforeStops known (plainly given) dir save new fault
       → FollowRefuses ps given (old save) fault
   before_refuses law known sure (TooLarge Save) h =
       let t = h sure in
@@ -338,7 +339,7 @@ module _ (given : FilterValue) (ps : List PublishedValue) (base number : ℕ) (d
   before_refuses law known sure (WriteFault Save) h = refl
   before_refuses law known sure fault h = absurd h
 
-  beyond_refuses : (known : Type 0) (fault : RunFault) → BeyondStops known given dir save new fault → FollowRefuses ps given (old save) fault
+  beyond_refuses : (known : Type 0) (fault : RunFault) → BeyondStops known (plainly given) dir save new fault → FollowRefuses ps given (old save) fault
   beyond_refuses known WantOfMemory h = tt
   beyond_refuses known (ReadFault (Sequence j t)) h = tt
   beyond_refuses known fault h = absurd h
@@ -373,11 +374,11 @@ module _ (given : FilterValue) (ps : List PublishedValue) (base number : ℕ) (d
   number_refuses law known sure j above until fault h next = absurd h
 
   -- for what stops a run over the folder, or for the spoiled file of the next number
-  pub progress_stops : NoFaultBesideState → (known : Type 0) → known → (fault : RunFault) → ProgressStops known given dir save new fault
+  pub progress_stops : NoFaultBesideState → (known : Type 0) → known → (fault : RunFault) → ProgressStops known (plainly given) dir save new fault
       → FollowRefuses ps given (old save) fault ⊎ ((k ≡ number + 1) × IsSpoiledFault k s fault × IsReadAt old dir k s)
   progress_stops law known sure fault (inr b) = inl (before_refuses law known sure fault b)
   progress_stops law known sure fault (inl f) = elim f.stops [
-    | inl a ↦ inl (follow_refuses given law known ps base number dir save old fault sure o.folder o.saved (inl (start_over known fault a)))
+    | inl a ↦ inl (follow_refuses (plainly given) law known ps base number dir save old fault sure o.folder o.saved (inl (start_over known fault a)))
     | inr (inl at) ↦ (
         let c = at.comes sure in
         let above = c.above in

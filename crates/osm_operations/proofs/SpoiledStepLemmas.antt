@@ -28,6 +28,7 @@ use Rattle.osm_operations.specs.Spoiling.{IsSpoiledFault, number_before, spoiled
 use Rattle.osm_operations.proofs.AgreeLemmas.{Agrees, few, folder_same, untouched}
 use Rattle.osm_operations.proofs.FollowLemmas.{lost_same, number_lost}
 use Rattle.osm_operations.proofs.SpoiledRunLemmas.{IsReadAt, IsSpoiledFolder, before, number_is, same_run, unread}
+use Rattle.osm_folder.specs.Following.{plainly}
 
 -- ---- the files after the run
 
@@ -100,8 +101,8 @@ module _ (p : List PublishedValue) (lost : ℕ → Suffix → Bool) (m : Standin
   -- ---- a run that is done as over the right file
 
   pub spoiled_followed : (k : ℕ) (t : Suffix) (during after g : Files) (report : ReportValue)
-      → IsSpoiledFolder given p m.base m.number dir save k t f during → IsFollowed given dir save during after report
-      → IsMended save f after g → IsFollowed given dir save f g report
+      → IsSpoiledFolder given p m.base m.number dir save k t f during → IsFollowed (plainly given) dir save during after report
+      → IsMended save f after g → IsFollowed (plainly given) dir save f g report
   spoiled_followed k t during after g report o run is = record {
     text = run.text;
     following = same_run given p m.base m.number dir save k t f during o run.text report run.following;
@@ -111,7 +112,7 @@ module _ (p : List PublishedValue) (lost : ℕ → Suffix → Bool) (m : Standin
 
   -- it didn't read the spoiled file
   pub not_read : (k : ℕ) (t : Suffix) (during after g : Files) (report : ReportValue) (count : ℕ)
-      → IsSpoiledFolder given p m.base m.number dir save k t f during → IsFollowed given dir save during after report → IsMended save f after g
+      → IsSpoiledFolder given p m.base m.number dir save k t f during → IsFollowed (plainly given) dir save during after report → IsMended save f after g
       → IsSaveOf p given m.base (m.number + count) (g save) → m.number < k → k ≤ m.number + count
       → (t ≡ Opl) × (lost k O5c ≡ false)
   not_read k t during after g report count o run is saved above until =
@@ -150,7 +151,7 @@ module _ (p : List PublishedValue) (lost : ℕ → Suffix → Bool) (m : Standin
     pub read : IsReadAt f dir k t
 
   pub came_before : NoFaultBesideState → (k : ℕ) (t : Suffix) (during after g : Files) (report : ReportValue) (fault : RunFault)
-      → IsSpoiledFolder given p m.base m.number dir save k t f during → IsFollowedBefore (IsTrue true) given dir save during after fault report
+      → IsSpoiledFolder given p m.base m.number dir save k t f during → IsFollowedBefore (IsTrue true) (plainly given) dir save during after fault report
       → IsMended save f after g → CameBefore k t g report fault
   came_before law k t during after g report fault o run is =
       let b = before given p m.base m.number dir save k t f during o law (IsTrue true) refl fault run.text report run.before in

@@ -23,6 +23,7 @@ use osm_folder::begin::begin_run;
 use osm_folder::export::export_run;
 use osm_folder::fault::{FileName, RunFault};
 use osm_folder::names::file_name;
+use osm_folder::options::FollowOptions;
 use osm_folder::progress::{Progress, follow_progress};
 use osm_folder::publish::publish_run;
 use osm_folder::publish_as::publish_as_run;
@@ -151,7 +152,7 @@ pub(crate) fn follow(
     ensures device { IfErr result IsNoDevice }
 {
     let filter = filter.copy(alloc)?;
-    report_of(follow_progress(alloc, store, dir, save, filter))
+    report_of(follow_progress(alloc, store, dir, save, FollowOptions::new(filter)))
 }
 
 // The same, by a run that is killed after that many calls.
@@ -171,7 +172,7 @@ pub(crate) fn follow_killed(
 {
     let filter = filter.copy(alloc)?;
     let mut stopping = stopping_over(alloc, store, calls);
-    let progress = follow_progress(alloc, &mut stopping, dir, save, filter);
+    let progress = follow_progress(alloc, &mut stopping, dir, save, FollowOptions::new(filter));
     *store = stopping.into_inner();
     report_of(progress)
 }
@@ -192,7 +193,7 @@ pub(crate) fn follow_other(
     if store.get(save).is_none() || other == *filter {
         return None;
     }
-    Some(follow_progress(alloc, store, dir, save, other))
+    Some(follow_progress(alloc, store, dir, save, FollowOptions::new(other)))
 }
 
 // The file of a sequence that is spoiled for a while, and the bytes that it held.
@@ -256,7 +257,7 @@ pub(crate) fn follow_spoiled(
         Err(WantOfMemory) => Some(Err(RunFault::WantOfMemory)),
         Ok(None) => None,
         Ok(Some(spoiled)) => {
-            let progress = follow_progress(alloc, store, dir, save, filter);
+            let progress = follow_progress(alloc, store, dir, save, FollowOptions::new(filter));
             mend(store, spoiled);
             Some(progress)
         }
@@ -288,7 +289,13 @@ pub(crate) fn follow_spoiled_killed(
         Ok(None) => None,
         Ok(Some(spoiled)) => {
             let mut stopping = stopping_over(alloc, store, calls);
-            let progress = follow_progress(alloc, &mut stopping, dir, save, filter);
+            let progress = follow_progress(
+                alloc,
+                &mut stopping,
+                dir,
+                save,
+                FollowOptions::new(filter),
+            );
             *store = stopping.into_inner();
             mend(store, spoiled);
             Some(progress)

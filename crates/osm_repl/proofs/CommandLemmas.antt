@@ -25,9 +25,10 @@ use Rattle.clap.specs.Walk.{all_of, first_of, rows_after}
 use Rattle.std.specs.Option.{option_map_or}
 use Rattle.std.specs.Borrow.{Bor}
 use Rattle.clap.specs.declared.error.kind.ErrorKind.TheVariants.{InvalidValue}
-use Rattle.osm_repl.specs.CommandLine.{flag_rule, is_raised, keys_in, keys_rule, kinds_rule, osmrepl_app, sequence_rule, time_rule, word_rule}
+use Rattle.osm_repl.specs.CommandLine.{flag_rule, is_raised, keys_in, keys_rule, kinds_rule, limit_rule, osmrepl_app, sequence_rule, time_rule, word_rule}
 use Rattle.osm_repl.specs.Steps.Commands.{HasValue, HasWord, HasWords, IsCommand, IsCommandOf}
-use Rattle.osm_repl.proofs.WordLemmas.{Each, HasValueIn, IsGoodRule, IsGoodValue, MayBeEmpty, Passes, first_passes, level_passes, second_passes, words_have_values}
+use Rattle.osm_repl.proofs.WordLemmas.{Each, HasValueIn, IsGoodRule, IsGoodValue, MayBeEmpty, Passes, first_passes, level_passes}
+use Rattle.osm_repl.proofs.WordLemmas.{second_passes, words_have_values}
 
 -- a step that meets no subcommand
 abbrev IsOwn : Step → Type 0
@@ -187,7 +188,7 @@ two_ways word fine h =
 
 -- ---- the words of the commands
 
--- the rules of a word, of the time, of the number, of keys, of kinds, of a flag and of help, as they are built
+-- the rules of a word, of the time, of the number, of the limit, of keys, of kinds, of a flag and of help, as they are built
 abbrev built_word : Text → ℕ → Rule
 built_word id i = with_index i (filled (word_rule id))
 
@@ -196,6 +197,9 @@ built_time i = with_index i (filled time_rule)
 
 abbrev built_sequence : ℕ → Rule
 built_sequence i = with_index i (filled sequence_rule)
+
+abbrev built_limit : ℕ → Rule
+built_limit i = with_index i (filled limit_rule)
 
 abbrev built_keys : ℕ → Rule
 built_keys i = with_index i (filled keys_rule)
@@ -234,6 +238,16 @@ good_time i = record {
 
 good_sequence : (i : ℕ) → IsGoodRule (built_sequence i)
 good_sequence i = record {
+  use_is = inr (inl (record {
+    sets = inl refl;
+    some = λ h. let bad : ◌≡◌ {A = Kinds} (InvalidValue ∷ []) [] = h in absurd cc;
+    empty = λ h. let bad : ◌≡◌ {A = Kinds} (InvalidValue ∷ []) [] = h in absurd cc;
+  }));
+  default_is = inl refl;
+}
+
+good_limit : (i : ℕ) → IsGoodRule (built_limit i)
+good_limit i = record {
   use_is = inr (inl (record {
     sets = inl refl;
     some = λ h. let bad : ◌≡◌ {A = Kinds} (InvalidValue ∷ []) [] = h in absurd cc;
@@ -362,23 +376,24 @@ is_command p f fine (inr (inr (inl h))) =
     let has = triple_with p.0 p.1 f _ (codes "BASE") (codes "STATE") (codes "SAVE") refl (refl, refl) (refl, refl) (refl, refl) h in
     named (codes "begin") f has.0 (inr (inr (inl refl)), has.1, tt)
 is_command p f fine (inr (inr (inr (inl h)))) =
-    let rules : List Rule = built_word (codes "DIR") 1 ∷ built_word (codes "SAVE") 2 ∷ built_keys 3 ∷ built_kinds 4 ∷ built_flag (codes "no-lock") 4
-    ∷ built_help 4 ∷ [] in
-    let has = entered_with p.0 p.1 f _ rules refl (
-      good_word (codes "DIR") 1,
-      (
-        good_word (codes "SAVE") 2,
-        (good_keys 3, (good_kinds 4, (good_flag (codes "no-lock") 4, (good_help 4, tt)))),
-      ),
-    ) h in
+    let flags : List Rule = built_flag (codes "json") 4 ∷ built_flag (codes "quiet") 4 ∷ built_flag (codes "no-lock") 4 ∷ built_help 4 ∷ [] in
+    let good : Each IsGoodRule flags =
+    (good_flag (codes "json") 4, (good_flag (codes "quiet") 4, (good_flag (codes "no-lock") 4, (good_help 4, tt)))) in
+    let rules : List Rule = built_word (codes "DIR") 1 ∷ built_word (codes "SAVE") 2 ∷ built_keys 3 ∷ built_kinds 4 ∷ built_limit 4 ∷ flags in
+    let has = entered_with p.0 p.1 f _ rules refl
+    (good_word (codes "DIR") 1, (good_word (codes "SAVE") 2, (good_keys 3, (good_kinds 4, (good_limit 4, good))))) h in
     named (codes "follow") f has.0 (
       inr (inr (inr (inl refl))),
       (has_word f.1 (codes "DIR") (refl, refl) (has.1.0 refl), (has_word f.1 (codes "SAVE") (refl, refl) (has.1.1.0 refl), tt)),
       tt,
     )
 is_command p f fine (inr (inr (inr (inr (inl h))))) =
-    let has = pair_with p.0 p.1 f _ (codes "DIR") (codes "SAVE") refl (refl, refl) (refl, refl) h in
-    named (codes "lag") f has.0 (inr (inr (inr (inr (inl refl)))), has.1, tt)
+    let rules : List Rule = built_word (codes "DIR") 1 ∷ built_word (codes "SAVE") 2 ∷ built_flag (codes "json") 3 ∷ built_help 3 ∷ [] in
+    let has = entered_with p.0 p.1 f _ rules refl
+    (good_word (codes "DIR") 1, (good_word (codes "SAVE") 2, (good_flag (codes "json") 3, (good_help 3, tt)))) h in
+    let words : HasWords f.1 (codes "DIR" ∷ codes "SAVE" ∷ []) =
+    (has_word f.1 (codes "DIR") (refl, refl) (has.1.0 refl), (has_word f.1 (codes "SAVE") (refl, refl) (has.1.1.0 refl), tt)) in
+    named (codes "lag") f has.0 (inr (inr (inr (inr (inl refl)))), words, tt)
 is_command p f fine (inr (inr (inr (inr (inr (inl h)))))) =
     let has = entered_with p.0 p.1 f _ (built_word (codes "SAVE") 1 ∷ built_help 2 ∷ []) refl (good_word (codes "SAVE") 1, (good_help 2, tt)) h in
     named (codes "show") f has.0 (inr (inr (inr (inr (inr (inl refl))))), (has_word f.1 (codes "SAVE") (refl, refl) (has.1.0 refl), tt), tt)

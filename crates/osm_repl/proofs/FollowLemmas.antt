@@ -11,41 +11,42 @@ use Rattle.osm_folder.specs.Lagging.{LagsOver}
 use Rattle.osm_folder.specs.Progress.{IsProgress, IsProgressReport, IsWhole}
 use Rattle.osm_folder.specs.Reports.{ReportValue}
 use Rattle.osm_folder.specs.declared.fault.RunFault.{RunFault}
+use Rattle.osm_folder.specs.declared.options.FollowOptions.{FollowOptions}
 use Rattle.osm_folder.specs.declared.progress.Progress.{Progress}
 use Rattle.osm_folder.specs.declared.progress.Progress.TheVariants.{Whole, Before}
 use Rattle.osm_repl.specs.Execution.{DoesOver, HasFollowed, StopsOver}
 use Rattle.osm_repl.specs.declared.orders.Order.TheVariants.{Follow, Lag}
 
-pub has_followed : (given : FilterValue) (dir save : Bor (List ℕ)) (old new : StoreState) (r : Result Progress RunFault)
-    → IfOk r (IsProgress (IsKnown old) given dir.now save.now old.files new.files) → IfOk r IsProgressReport
-    → (IsKnown old → (p : List PublishedValue) (b n : ℕ) → IsFolderOf p old.files dir.now → IsSaveOf p given b n (old.files save.now)
-    → IsWhole r (FollowsOver p given b n dir.now save.now old new))
-    → IfOk r (HasFollowed (IsKnown old) given (Follow dir save) old.files new.files)
-has_followed given dir save old new (Ok (Whole report)) done is over = record {
+pub has_followed : (options : FollowOptions) (dir save : Bor (List ℕ)) (old new : StoreState) (r : Result Progress RunFault)
+    → IfOk r (IsProgress (IsKnown old) options dir.now save.now old.files new.files) → IfOk r (IsProgressReport options.layout)
+    → (IsKnown old → (p : List PublishedValue) (b n : ℕ) → IsFolderOf p old.files dir.now → IsSaveOf p options.filter b n (old.files save.now)
+    → IsWhole r (FollowsOver p options b n dir.now save.now old new))
+    → IfOk r (HasFollowed (IsKnown old) options (Follow dir save) old.files new.files)
+has_followed options dir save old new (Ok (Whole report)) done is over = record {
   does = done;
   over = λ sure p b n folder saved. (over sure p b n folder saved).in_step;
   report_is = is;
 }
-has_followed given dir save old new (Ok (Before report fault)) done is over = (done, is)
-has_followed given dir save old new (Err fault) done is over = tt
+has_followed options dir save old new (Ok (Before report fault)) done is over = (done, is)
+has_followed options dir save old new (Err fault) done is over = tt
 
-pub stops_over : (given : FilterValue) (dir save : Bor (List ℕ)) (old new : StoreState) (r : Result Progress RunFault)
-    → (IsKnown old → (p : List PublishedValue) (b n : ℕ) → IsFolderOf p old.files dir.now → IsSaveOf p given b n (old.files save.now)
-    → IsWhole r (FollowsOver p given b n dir.now save.now old new))
-    → IfErr r (λ fault. IsKnown old → StopsOver given (Follow dir save) old.files new.files fault)
-stops_over given dir save old new (Ok progress) over = tt
-stops_over given dir save old new (Err fault) over = λ sure p b n folder saved. (over sure p b n folder saved).refuses
+pub stops_over : (options : FollowOptions) (dir save : Bor (List ℕ)) (old new : StoreState) (r : Result Progress RunFault)
+    → (IsKnown old → (p : List PublishedValue) (b n : ℕ) → IsFolderOf p old.files dir.now → IsSaveOf p options.filter b n (old.files save.now)
+    → IsWhole r (FollowsOver p options b n dir.now save.now old new))
+    → IfErr r (λ fault. IsKnown old → StopsOver options (Follow dir save) old.files new.files fault)
+stops_over options dir save old new (Ok progress) over = tt
+stops_over options dir save old new (Err fault) over = λ sure p b n folder saved. (over sure p b n folder saved).refuses
 
-pub lag_does : (given : FilterValue) (dir save : Bor (List ℕ)) (old new : StoreState) (r : Result ReportValue RunFault)
+pub lag_does : (options : FollowOptions) (dir save : Bor (List ℕ)) (old new : StoreState) (r : Result ReportValue RunFault)
     → (IsKnown old → (p : List PublishedValue) (own : FilterValue) (b n : ℕ) → IsFolderOf p old.files dir.now
-    → IsSaveOf p own b n (old.files save.now) → LagsOver p n r)
-    → IfOk r (λ report. IsKnown old → DoesOver given (Lag dir save) old.files new.files report)
-lag_does given dir save old new (Ok report) over = λ sure p own b n folder saved. (over sure p own b n folder saved).in_step
-lag_does given dir save old new (Err fault) over = tt
+    → IsSaveOf p own b n (old.files save.now) → LagsOver options.layout p b n r)
+    → IfOk r (λ report. IsKnown old → DoesOver options (Lag dir save) old.files new.files report)
+lag_does options dir save old new (Ok report) over = λ sure p own b n folder saved. (over sure p own b n folder saved).in_step
+lag_does options dir save old new (Err fault) over = tt
 
-pub lag_stops : (given : FilterValue) (dir save : Bor (List ℕ)) (old new : StoreState) (r : Result ReportValue RunFault)
+pub lag_stops : (options : FollowOptions) (dir save : Bor (List ℕ)) (old new : StoreState) (r : Result ReportValue RunFault)
     → (IsKnown old → (p : List PublishedValue) (own : FilterValue) (b n : ℕ) → IsFolderOf p old.files dir.now
-    → IsSaveOf p own b n (old.files save.now) → LagsOver p n r)
-    → IfErr r (λ fault. IsKnown old → StopsOver given (Lag dir save) old.files new.files fault)
-lag_stops given dir save old new (Ok report) over = tt
-lag_stops given dir save old new (Err fault) over = λ sure p own b n folder saved. (over sure p own b n folder saved).refuses
+    → IsSaveOf p own b n (old.files save.now) → LagsOver options.layout p b n r)
+    → IfErr r (λ fault. IsKnown old → StopsOver options (Lag dir save) old.files new.files fault)
+lag_stops options dir save old new (Ok report) over = tt
+lag_stops options dir save old new (Err fault) over = λ sure p own b n folder saved. (over sure p own b n folder saved).refuses

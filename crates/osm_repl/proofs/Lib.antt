@@ -4,4 +4,5 @@ pub mod EchoLemmas
 pub mod ReplayLemmas
 pub mod WordLemmas
 pub mod CommandLemmas
+pub mod FaultLineLemmas
 pub mod FollowLemmas

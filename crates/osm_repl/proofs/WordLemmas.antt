@@ -1,5 +1,5 @@
 -- Rows of a command whose words pass: each has a first value, and only a time and kinds may be empty.
-use Rattle.std.proofs.Common.{◌≡◌, ◌∙◌, ◌++◌, ◌&&◌, ◌||◌, ◌⊎◌, inl, inr, ℕ, zero, suc, Bool, true, false, not, List, []}
+use Rattle.std.proofs.Common.{◌≡◌, ◌++◌, ◌&&◌, ◌||◌, ◌⊎◌, inl, inr, ℕ, zero, suc, Bool, true, false, not, List, []}
 use Rattle.std.proofs.Common.{◌∷◌, Option, Some, None, refl, sym, subst, is_some, codes, length, drop}
 use Rattle.std.specs.Prelude.{cond, encode_utf8, find, fold, option_and_then, slice_get}
 use Rattle.std.specs.Option.{option_map_or}

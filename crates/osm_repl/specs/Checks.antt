@@ -1,5 +1,7 @@
 -- What is looked at before a run takes its lock.
-use Rattle.std.specs.Prelude.{◌≡◌, ℕ, ◌+◌, ◌<◌, ◌⊎◌, List, map}
+use Rattle.std.specs.Prelude.{◌≡◌, ℕ, ◌+◌, ◌<◌, ◌⊎◌, List, map, Option, None, Some}
+use Rattle.std.specs.Prelude.{if◌then◌else◌}
+use Rattle.std.specs.Borrow.{Bor}
 use Rattle.osm_model.specs.Filter.{FilterValue, everything}
 use Rattle.osm_model.specs.Time.{TimeText}
 use Rattle.osm_reading.specs.Sequence.{SpellsSequence}
@@ -8,9 +10,13 @@ use Rattle.osm_folder.specs.Exporting.{HasDataForm}
 use Rattle.osm_folder.specs.Filters.{FilterStops, IsAsked}
 use Rattle.osm_folder.specs.Publication.{HasTime}
 use Rattle.osm_folder.specs.declared.fault.RunFault.{RunFault}
-use Rattle.osm_folder.specs.declared.fault.RunFault.TheVariants.{BadNow, BadSequence, UnknownForm}
+use Rattle.osm_folder.specs.declared.fault.RunFault.TheVariants.{BadLimit, BadNow, BadSequence}
+use Rattle.osm_folder.specs.declared.fault.RunFault.TheVariants.{UnknownForm}
+use Rattle.osm_folder.specs.declared.options.Layout.{Layout}
+use Rattle.osm_folder.specs.declared.options.Layout.TheVariants.{Json, Lines}
 use Rattle.osm_repl.specs.declared.orders.Asked.{Asked}
 use Rattle.osm_repl.specs.declared.orders.Extract.{Extract}
+use Rattle.osm_repl.specs.declared.orders.Options.{Options}
 use Rattle.osm_repl.specs.declared.orders.Order.{Order}
 use Rattle.osm_repl.specs.declared.orders.Order.TheVariants.{Publish, PublishAs, Begin, Follow}
 
@@ -47,6 +53,22 @@ RefusesExtract (Begin base state save) extract fault = RefusesFilter extract fau
 RefusesExtract (Follow dir save) extract fault = RefusesFilter extract fault
 RefusesExtract order extract fault = ⊥
 
+-- the limit that a word asks for, if there is one: a number above 0
+abbrev pub IsLimit : Option (Bor (List ℕ)) → Option ℕ → Type 0
+IsLimit None limit = limit ≡ None
+IsLimit (Some word) None = ⊥
+IsLimit (Some word) (Some limit) = SpellsSequence word.now limit × (0 < limit)
+
+-- a word that asks for no limit
+abbrev pub RefusesLimit : Option (Bor (List ℕ)) → RunFault → Type 0
+RefusesLimit None fault = ⊥
+RefusesLimit (Some word) fault =
+    (fault ≡ BadLimit) × ((limit : ℕ) → SpellsSequence word.now limit → limit ≡ 0)
+
+-- the layout that the options ask for
+abbrev pub layout_for : Options → Layout
+layout_for options = if options.json then Json else Lines
+
 -- the words are right, as far as no file is read
 abbrev pub AreGoodWords : Order → Type 0
 AreGoodWords (Publish dir changes now) = HasTime now.now
@@ -68,11 +90,12 @@ RefusesOrder (PublishAs dir changes now sequence) fault =
 RefusesOrder (Begin base state save) fault = (fault ≡ UnknownForm) × HasNoDataForm base.now
 RefusesOrder order fault = ⊥
 
--- the words make a filter, and another one is wrong
+-- the words make a filter, and the limit or another one is wrong: the limit is looked at first
 pub record RefusesRest (asked : Asked) (fault : RunFault) : Type 0 where
   pub given : FilterValue
   pub makes : IsFilterOf asked.order asked.extract given
-  pub refuses : RefusesOrder asked.order fault
+  pub refuses : RefusesLimit asked.limit fault
+      ⊎ (((limit : Option ℕ) × IsLimit asked.limit limit) × RefusesOrder asked.order fault)
 
 -- which word is wrong: kinds and keys are looked at before all others
 abbrev pub RefusesWords : Asked → RunFault → Type 0

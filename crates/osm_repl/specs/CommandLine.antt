@@ -1,7 +1,8 @@
 -- The command line: the words that are taken, and the order that they give.
 use Rattle.std.specs.Prelude.{◌≡◌, Bool, List, [], ◌∷◌, Option, Some, None, codes, true, false}
-use Rattle.std.specs.Prelude.{map, unwrap_or}
+use Rattle.std.specs.Prelude.{map, option_map, unwrap_or}
 use Rattle.std.specs.Option.{option_map_or}
+use Rattle.std.specs.Borrow.{Bor}
 use Rattle.std.specs.Str.{bytes_eq}
 use Rattle.clap.specs.Words.{App, Row, Rule, Text, all_of, first_of, new_app, new_rule}
 use Rattle.clap.specs.Words.{subcommand_of}
@@ -30,6 +31,10 @@ time_rule = record (new_rule (codes "TIME")) { long = Some (codes "now"); requir
 abbrev pub sequence_rule : Rule
 sequence_rule = record (filled_rule (codes "N")) { long = Some (codes "sequence") }
 
+-- `--limit LIMIT`, which may be left out, but isn't empty
+abbrev pub limit_rule : Rule
+limit_rule = record (filled_rule (codes "LIMIT")) { long = Some (codes "limit") }
+
 -- the letters of all kinds
 abbrev pub all_kinds : Text
 all_kinds = codes "nwr"
@@ -46,6 +51,10 @@ keys_rule = record (filled_rule (codes "KEY")) { action = Some Append }
 -- `--NAME`, which has no value
 abbrev pub flag_rule : Text → Rule
 flag_rule name = record (new_rule name) { long = Some name; action = Some SetTrue }
+
+-- the command with one more flag
+abbrev pub with_flag : App → Text → App
+with_flag app name = with_rule app (flag_rule name)
 
 -- the command with one more word
 abbrev pub with_word : App → Text → App
@@ -67,11 +76,11 @@ publish_number_app = with_rule publish_next_app sequence_rule
 
 -- the command with `--no-lock`
 abbrev pub with_lock : App → App
-with_lock app = with_rule app (flag_rule (codes "no-lock"))
+with_lock app = with_flag app (codes "no-lock")
 
 -- the same, and perhaps `--any-time` and `--no-lock`
 abbrev pub publish_app : App
-publish_app = with_lock (with_rule publish_number_app (flag_rule (codes "any-time")))
+publish_app = with_lock (with_flag publish_number_app (codes "any-time"))
 
 -- `begin BASE STATE SAVE`
 abbrev pub begin_words_app : App
@@ -99,13 +108,22 @@ follow_words_app = with_word (with_word (new_app (codes "follow")) (codes "DIR")
 abbrev pub follow_extract_app : App
 follow_extract_app = with_extract follow_words_app
 
+-- the same, and perhaps `--limit LIMIT`, `--json` and `--quiet`
+abbrev pub follow_flags_app : App
+follow_flags_app =
+    with_flag (with_flag (with_rule follow_extract_app limit_rule) (codes "json")) (codes "quiet")
+
 -- the same, and perhaps `--no-lock`
 abbrev pub follow_app : App
-follow_app = with_lock follow_extract_app
+follow_app = with_lock follow_flags_app
 
 -- `lag DIR SAVE`
+abbrev pub lag_words_app : App
+lag_words_app = with_word (with_word (new_app (codes "lag")) (codes "DIR")) (codes "SAVE")
+
+-- the same, and perhaps `--json`
 abbrev pub lag_app : App
-lag_app = with_word (with_word (new_app (codes "lag")) (codes "DIR")) (codes "SAVE")
+lag_app = with_flag lag_words_app (codes "json")
 
 -- `show SAVE`
 abbrev pub show_app : App
@@ -181,10 +199,12 @@ is_raised name rows =
 
 -- the options of the command that was found
 abbrev pub options_in : Option (Text × List Row) → Options
-options_in None = record { no_lock = false; any_time = false }
+options_in None = record { no_lock = false; any_time = false; json = false; quiet = false }
 options_in (Some found) = record {
   no_lock = is_raised (codes "no-lock") found.1;
   any_time = is_raised (codes "any-time") found.1;
+  json = is_raised (codes "json") found.1;
+  quiet = is_raised (codes "quiet") found.1;
 }
 
 -- the options of the words, as clap reads them
@@ -210,8 +230,18 @@ IsExtractIn (Some found) extract = (extract.kinds.now ≡ kinds_in found.1)
 abbrev pub IsExtractOf : List Text → Extract → Type 0
 IsExtractOf words = IsExtractIn (subcommand_of osmrepl_app words)
 
--- no word of the order is empty, except a time; the number of a sequence and a key aren't either,
--- by their rules
+-- the limit is that of the command that was found; one that takes none has none
+abbrev pub IsLimitIn : Option (Text × List Row) → Option (Bor Text) → Type 0
+IsLimitIn None limit = ⊥
+IsLimitIn (Some found) limit =
+    option_map (λ word. word.now) limit ≡ first_of (codes "LIMIT") found.1
+
+-- the limit is that of the words, as clap reads them
+abbrev pub IsLimitOf : List Text → Option (Bor Text) → Type 0
+IsLimitOf words = IsLimitIn (subcommand_of osmrepl_app words)
+
+-- no word of the order is empty, except a time; the number of a sequence, a limit and a key aren't
+-- either, by their rules
 abbrev pub HasNoEmptyWord : Order → Type 0
 HasNoEmptyWord Replay = Unit {0}
 HasNoEmptyWord (Publish dir changes now) = (dir.now ≡ [] → ⊥) × (changes.now ≡ [] → ⊥)

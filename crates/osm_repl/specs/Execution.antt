@@ -1,8 +1,10 @@
 -- What the program does for an order: it replays standard input, or it runs over the files and
--- prints a report. `known` says that it is known what the files hold; `given` is the filter of the
--- saves that `follow` and `begin` write.
-use Rattle.std.specs.Prelude.{◌≡◌, ℕ, ◌<◌, ◌⊎◌, List, Option, take}
+-- prints a report. `known` says that it is known what the files hold; `options` has the filter of
+-- the saves that `follow` and `begin` write, the limit of `follow`, and the layout of what `follow`
+-- and `lag` print.
+use Rattle.std.specs.Prelude.{◌≡◌, ℕ, ◌<◌, ◌⊎◌, List, None, Option, take}
 use Rattle.std.specs.Io.KnownBytes.{Appends}
+use Rattle.osm_json.specs.Line.{fault_data, json_line}
 use Rattle.osm_model.specs.Filter.{FilterValue}
 use Rattle.osm_follow.specs.Published.{PublishedValue}
 use Rattle.osm_follow.specs.View.{ViewValue}
@@ -24,7 +26,10 @@ use Rattle.osm_folder.specs.Runs.{Blames}
 use Rattle.osm_folder.specs.Showing.{IsShown, IsShownOf, ShowStops}
 use Rattle.osm_folder.specs.declared.fault.FileName.TheVariants.{Output}
 use Rattle.osm_folder.specs.declared.fault.RunFault.{RunFault}
-use Rattle.osm_folder.specs.declared.fault.RunFault.TheVariants.{WriteFault}
+use Rattle.osm_folder.specs.declared.fault.RunFault.TheVariants.{WantOfMemory, WriteFault}
+use Rattle.osm_folder.specs.declared.options.FollowOptions.{FollowOptions}
+use Rattle.osm_folder.specs.declared.options.Layout.{Layout}
+use Rattle.osm_folder.specs.declared.options.Layout.TheVariants.{Json, Lines}
 use Rattle.osm_folder.specs.declared.progress.Progress.{Progress}
 use Rattle.osm_folder.specs.declared.progress.Progress.TheVariants.{Whole, Before}
 use Rattle.osm_repl.specs.Replay.{ReplayFault, ReplayLeaves, Replays}
@@ -61,100 +66,101 @@ calls_of (Convert input output) = 2
 calls_of Replay = 0
 
 -- what the run of the order does with files that are known, and its report
-abbrev pub Does : FilterValue → Order → Files → Files → ReportValue → Type 0
-Does given (Publish dir changes now) old new report =
+abbrev pub Does : FollowOptions → Order → Files → Files → ReportValue → Type 0
+Does options (Publish dir changes now) old new report =
     IsPublished dir.now changes.now now.now old new report
-Does given (PublishAs dir changes now sequence) old new report =
+Does options (PublishAs dir changes now sequence) old new report =
     IsPublishedAs dir.now changes.now now.now sequence.now old new report
-Does given (Begin base state save) old new report =
-    IsBegunFrom given base.now state.now save.now old new report
-Does given (Follow dir save) old new report = IsFollowed given dir.now save.now old new report
-Does given (Lag dir save) old new report = IsLag dir.now save.now old report
-Does given (Show save) old new report = IsShown (old save.now) report
-Does given (Export save output) old new report = IsExported save.now output.now old new
-Does given (Convert input output) old new report = IsConverted input.now output.now old new
-Does given Replay old new report = ⊥
+Does options (Begin base state save) old new report =
+    IsBegunFrom options.filter base.now state.now save.now old new report
+Does options (Follow dir save) old new report = IsFollowed options dir.now save.now old new report
+Does options (Lag dir save) old new report = IsLag options.layout dir.now save.now old report
+Does options (Show save) old new report = IsShown (old save.now) report
+Does options (Export save output) old new report = IsExported save.now output.now old new
+Does options (Convert input output) old new report = IsConverted input.now output.now old new
+Does options Replay old new report = ⊥
 
 -- the same, if the folder is that of published sequences, and the save or the data file is one of
 -- theirs; the words `lag`, `show` and `export` go by the save's own filter
-abbrev pub DoesOver : FilterValue → Order → Files → Files → ReportValue → Type 0
-DoesOver given (Publish dir changes now) old new report =
+abbrev pub DoesOver : FollowOptions → Order → Files → Files → ReportValue → Type 0
+DoesOver options (Publish dir changes now) old new report =
     (published : List PublishedValue) → IsFolderOf published old dir.now
     → IsAdded published dir.now changes.now now.now old new report
-DoesOver given (PublishAs dir changes now sequence) old new report =
+DoesOver options (PublishAs dir changes now sequence) old new report =
     (published : List PublishedValue) → IsFolderOf published old dir.now
     → IsAddedAs published dir.now changes.now now.now sequence.now old new report
-DoesOver given (Begin base state save) old new report =
+DoesOver options (Begin base state save) old new report =
     (published : List PublishedValue) (number : ℕ)
     → IsBaseOf published number base.now state.now old
-    → IsSaveOf published given number number (new save.now) × (report ≡ begin_report_of number)
-DoesOver given (Follow dir save) old new report =
+    → IsSaveOf published options.filter number number (new save.now)
+    × (report ≡ begin_report_of number)
+DoesOver options (Follow dir save) old new report =
     (published : List PublishedValue) (base number : ℕ) → IsFolderOf published old dir.now
-    → IsSaveOf published given base number (old save.now)
-    → IsInStepAfter published given base number dir.now save.now old new report
-DoesOver given (Lag dir save) old new report =
+    → IsSaveOf published options.filter base number (old save.now)
+    → IsInStepAfter published options base number dir.now save.now old new report
+DoesOver options (Lag dir save) old new report =
     (published : List PublishedValue) (own : FilterValue) (base number : ℕ)
     → IsFolderOf published old dir.now → IsSaveOf published own base number (old save.now)
-    → IsLagOf published number report
-DoesOver given (Show save) old new report =
+    → IsLagOf options.layout published base number report
+DoesOver options (Show save) old new report =
     (published : List PublishedValue) (own : FilterValue) (base number : ℕ)
     → IsSaveOf published own base number (old save.now)
     → IsShownOf published own base number report
-DoesOver given (Export save output) old new report =
+DoesOver options (Export save output) old new report =
     (published : List PublishedValue) (own : FilterValue) (base number : ℕ)
     → IsSaveOf published own base number (old save.now)
     → IsExportOf published own number output.now (new output.now)
-DoesOver given order old new report = Unit {0}
+DoesOver options order old new report = Unit {0}
 
 -- the report of such a run, whatever is known of the files
-abbrev pub IsReportOf : Order → ReportValue → Type 0
-IsReportOf (Publish dir changes now) report = (n : ℕ) × (report ≡ publish_report_of n)
-IsReportOf (PublishAs dir changes now sequence) report =
+abbrev pub IsReportOf : FollowOptions → Order → ReportValue → Type 0
+IsReportOf options (Publish dir changes now) report = (n : ℕ) × (report ≡ publish_report_of n)
+IsReportOf options (PublishAs dir changes now sequence) report =
     (n : ℕ) × SpellsSequence sequence.now n × (report ≡ publish_report_of n)
-IsReportOf (Begin base state save) report =
+IsReportOf options (Begin base state save) report =
     (n : ℕ) × (0 < n) × (report ≡ begin_report_of n)
-IsReportOf (Follow dir save) report = IsFollowReport report
-IsReportOf (Lag dir save) report = IsLagReport report
-IsReportOf (Show save) report = (view : ViewValue) × (report ≡ show_report_of view)
-IsReportOf (Export save output) report = report ≡ convert_report_of
-IsReportOf (Convert input output) report = report ≡ convert_report_of
-IsReportOf Replay report = ⊥
+IsReportOf options (Follow dir save) report = IsFollowReport options.layout None report
+IsReportOf options (Lag dir save) report = IsLagReport options.layout report
+IsReportOf options (Show save) report = (view : ViewValue) × (report ≡ show_report_of view)
+IsReportOf options (Export save output) report = report ≡ convert_report_of
+IsReportOf options (Convert input output) report = report ≡ convert_report_of
+IsReportOf options Replay report = ⊥
 
 -- why the run of the order stops
-abbrev pub RunStops : Type 0 → FilterValue → Order → Files → Files → RunFault → Type 0
-RunStops known given (Publish dir changes now) old new fault =
+abbrev pub RunStops : Type 0 → FollowOptions → Order → Files → Files → RunFault → Type 0
+RunStops known options (Publish dir changes now) old new fault =
     PublishStops known dir.now changes.now now.now old new fault
-RunStops known given (PublishAs dir changes now sequence) old new fault =
+RunStops known options (PublishAs dir changes now sequence) old new fault =
     NumberedStops known dir.now changes.now now.now sequence.now old new fault
-RunStops known given (Begin base state save) old new fault =
-    BeginStops known given base.now state.now old fault
-RunStops known given (Follow dir save) old new fault =
-    ProgressStops known given dir.now save.now old fault
-RunStops known given (Lag dir save) old new fault = LagStops known dir.now save.now old fault
-RunStops known given (Show save) old new fault = ShowStops known (old save.now) fault
-RunStops known given (Export save output) old new fault =
+RunStops known options (Begin base state save) old new fault =
+    BeginStops known options.filter base.now state.now old fault
+RunStops known options (Follow dir save) old new fault =
+    ProgressStops known options dir.now save.now old fault
+RunStops known options (Lag dir save) old new fault = LagStops known dir.now save.now old fault
+RunStops known options (Show save) old new fault = ShowStops known (old save.now) fault
+RunStops known options (Export save output) old new fault =
     ExportStops known save.now output.now old fault
-RunStops known given (Convert input output) old new fault =
+RunStops known options (Convert input output) old new fault =
     ConvertStops known input.now output.now old fault
-RunStops known given Replay old new fault = ⊥
+RunStops known options Replay old new fault = ⊥
 
 -- the same, if the folder is that of published sequences, and the save is one of theirs
-abbrev pub StopsOver : FilterValue → Order → Files → Files → RunFault → Type 0
-StopsOver given (Publish dir changes now) old new fault =
+abbrev pub StopsOver : FollowOptions → Order → Files → Files → RunFault → Type 0
+StopsOver options (Publish dir changes now) old new fault =
     (published : List PublishedValue) → IsFolderOf published old dir.now
     → FolderRefuses published now.now fault
-StopsOver given (PublishAs dir changes now sequence) old new fault =
+StopsOver options (PublishAs dir changes now sequence) old new fault =
     (published : List PublishedValue) → IsFolderOf published old dir.now
     → NumberedRefuses published dir.now changes.now now.now sequence.now old fault
-StopsOver given (Follow dir save) old new fault =
+StopsOver options (Follow dir save) old new fault =
     (published : List PublishedValue) (base number : ℕ) → IsFolderOf published old dir.now
-    → IsSaveOf published given base number (old save.now)
-    → FollowRefuses published given (old save.now) fault
-StopsOver given (Lag dir save) old new fault =
+    → IsSaveOf published options.filter base number (old save.now)
+    → FollowRefuses published options.filter (old save.now) fault
+StopsOver options (Lag dir save) old new fault =
     (published : List PublishedValue) (own : FilterValue) (base number : ℕ)
     → IsFolderOf published old dir.now → IsSaveOf published own base number (old save.now)
     → LagRefuses published number fault
-StopsOver given order old new fault = Unit {0}
+StopsOver options order old new fault = Unit {0}
 
 -- what a run that stops leaves: all files as they were, or, for a publication, which may be cut
 -- off, the folder of what was published before
@@ -180,77 +186,101 @@ IsUntouched (Export save output) name = name ≡ output.now → ⊥
 IsUntouched (Convert input output) name = name ≡ output.now → ⊥
 
 -- a run was done, and gave that report
-pub record IsRun (known : Type 0) (given : FilterValue) (order : Order) (old new : Files)
+pub record IsRun (known : Type 0) (options : FollowOptions) (order : Order) (old new : Files)
     (report : ReportValue) : Type 0 where
-  pub does : known → Does given order old new report
-  pub over : known → DoesOver given order old new report
-  pub report_is : IsReportOf order report
+  pub does : known → Does options order old new report
+  pub over : known → DoesOver options order old new report
+  pub report_is : IsReportOf options order report
 
 -- a run was done, its report was printed, and its status is the program's
-pub record IsDone (known : Type 0) (given : FilterValue) (order : Order) (old new : Files)
+pub record IsDone (known : Type 0) (options : FollowOptions) (order : Order) (old new : Files)
     (printed after : Option (List ℕ)) (status : ℕ) : Type 0 where
   pub report : ReportValue
-  pub run : IsRun known given order old new report
+  pub run : IsRun known options order old new report
   pub all : Appends printed after report.text
   pub status_is : status ≡ report.status
 
--- a run stopped, and nothing was printed
-pub record IsStopped (known : Type 0) (given : FilterValue) (order : Order) (old new : Files)
+-- what the order prints is in that layout: it is always in lines, except for `follow` and `lag`
+abbrev pub layout_of : FollowOptions → Order → Layout
+layout_of options (Follow dir save) = options.layout
+layout_of options (Lag dir save) = options.layout
+layout_of options order = Lines
+
+-- a fault of which a line of JSON is made: none is if memory is wanted
+abbrev pub IsTold : RunFault → Type 0
+IsTold WantOfMemory = ⊥
+IsTold fault = Unit {0}
+
+-- the line of JSON of a refused run, or a prefix of it if standard output didn't take all
+pub record IsFaultLine (printed after : Option (List ℕ)) : Type 0 where
+  pub said : List ℕ
+  pub count : ℕ
+  pub line : Appends printed after (take count (json_line (fault_data said)))
+
+-- what is printed of a fault: nothing in lines, and in JSON its line, unless there is no memory for
+-- that
+abbrev pub TellsFault : Layout → RunFault → Option (List ℕ) → Option (List ℕ) → Type 0
+TellsFault Lines fault printed after = after ≡ printed
+TellsFault Json fault printed after =
+    (after ≡ printed) ⊎ (IsTold fault × IsFaultLine printed after)
+
+-- a run stopped, and nothing was printed but perhaps the line of its fault
+pub record IsStopped (known : Type 0) (options : FollowOptions) (order : Order) (old new : Files)
     (failed fails : ℕ) (printed after : Option (List ℕ)) (fault : RunFault) : Type 0 where
-  pub stops : RunStops known given order old new fault
-  pub over : known → StopsOver given order old new fault
+  pub stops : RunStops known options order old new fault
+  pub over : known → StopsOver options order old new fault
   pub leaves : Leaves known order old new
   pub device : Blames failed fails fault
-  pub nothing : after ≡ printed
+  pub told : TellsFault (layout_of options order) fault printed after
 
 -- a run was done, but standard output didn't take all of its report
-pub record IsCutShort (known : Type 0) (given : FilterValue) (order : Order) (old new : Files)
+pub record IsCutShort (known : Type 0) (options : FollowOptions) (order : Order) (old new : Files)
     (printed after : Option (List ℕ)) (fault : RunFault) : Type 0 where
   pub report : ReportValue
-  pub run : IsRun known given order old new report
+  pub run : IsRun known options order old new report
   pub fault_is : fault ≡ WriteFault Output
   pub count : ℕ
   pub some : Appends printed after (take count report.text)
 
 -- the word `follow` kept what comes before a faulty number, and gave that report
-abbrev pub Keeps : Type 0 → FilterValue → Order → Files → Files → RunFault → ReportValue → Type 0
-Keeps known given (Follow dir save) old new fault report =
-    (known → IsFollowedBefore known given dir.now save.now old new fault report)
-    × IsProgressReport (Before report fault)
-Keeps known given order old new fault report = ⊥
+abbrev pub Keeps : Type 0 → FollowOptions → Order → Files → Files → RunFault → ReportValue → Type 0
+Keeps known options (Follow dir save) old new fault report =
+    (known → IsFollowedBefore known options dir.now save.now old new fault report)
+    × IsProgressReport options.layout (Before report fault)
+Keeps known options order old new fault report = ⊥
 
 -- what the word `follow` did
-abbrev pub HasFollowed : Type 0 → FilterValue → Order → Files → Files → Progress → Type 0
-HasFollowed known given order old new (Whole report) = IsRun known given order old new report
-HasFollowed known given order old new (Before report fault) =
-    Keeps known given order old new fault report
+abbrev pub HasFollowed : Type 0 → FollowOptions → Order → Files → Files → Progress → Type 0
+HasFollowed known options order old new (Whole report) = IsRun known options order old new report
+HasFollowed known options order old new (Before report fault) =
+    Keeps known options order old new fault report
 
 -- it kept what comes before a faulty number, that was printed, and the fault is that number's
-pub record IsPrintedBefore (known : Type 0) (given : FilterValue) (order : Order) (old new : Files)
-    (printed after : Option (List ℕ)) (fault : RunFault) : Type 0 where
+pub record IsPrintedBefore (known : Type 0) (options : FollowOptions) (order : Order)
+    (old new : Files) (printed after : Option (List ℕ)) (fault : RunFault) : Type 0 where
   pub report : ReportValue
-  pub keeps : Keeps known given order old new fault report
+  pub keeps : Keeps known options order old new fault report
   pub all : Appends printed after report.text
 
 -- it kept that, but standard output didn't take all of the report
-pub record IsCutBefore (known : Type 0) (given : FilterValue) (order : Order) (old new : Files)
+pub record IsCutBefore (known : Type 0) (options : FollowOptions) (order : Order) (old new : Files)
     (printed after : Option (List ℕ)) (fault : RunFault) : Type 0 where
   pub report : ReportValue
   pub first : RunFault
-  pub keeps : Keeps known given order old new first report
+  pub keeps : Keeps known options order old new first report
   pub fault_is : fault ≡ WriteFault Output
   pub count : ℕ
   pub some : Appends printed after (take count report.text)
 
 -- why an order over the files isn't done: its run stops, or its report isn't printed, or it is done
 -- up to a faulty number; the files that the run wrote then stay
-abbrev pub IsNotDone : Type 0 → FilterValue → Order → Files → Files → ℕ → ℕ
+abbrev pub IsNotDone : Type 0 → FollowOptions → Order → Files → Files → ℕ → ℕ
     → Option (List ℕ) → Option (List ℕ) → RunFault → Type 0
-IsNotDone known given order old new failed fails printed after fault =
-    IsStopped known given order old new failed fails printed after fault
-    ⊎ IsCutShort known given order old new printed after fault
-    ⊎ IsPrintedBefore known given order old new printed after fault
-    ⊎ IsCutBefore known given order old new printed after fault
+IsNotDone known options order old new failed fails printed after fault =
+    IsStopped known options order old new failed fails printed after fault
+    ⊎ IsCutShort known options order old new printed after fault
+    ⊎ IsPrintedBefore known options order old new printed after fault
+    ⊎ IsCutBefore known options order old new printed after fault
 
 -- a replay was done: the replies were printed, and the status is 0
 abbrev pub IsReplayed : Option (List ℕ) → Option (List ℕ) → Option (List ℕ) → ℕ → Type 0

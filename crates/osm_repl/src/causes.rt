@@ -10,6 +10,7 @@ use crate::echo::push_shown;
 use crate::orders::Order;
 use osm_folder::fault::{FileName, RunFault};
 use osm_folder::form::form_of;
+use osm_model::form::Why;
 use osm_state::paths::Suffix;
 use std::alloc::{AllocError, Global};
 use std::io;
@@ -150,6 +151,7 @@ pub fn hint_of(order: Order<'_>, fault: RunFault) -> &'static str {
     match (fault, order) {
         (RunFault::BadNow, _) => "a time is written as 2024-01-01T00:00:00Z",
         (RunFault::BadSequence, _) => "a number has 1 to 9 digits",
+        (RunFault::BadLimit, _) => "a limit is a number from 1 to 999999999",
         (RunFault::BadFilter, _) => {
             "kinds are some of n, w and r in this order, keys at most 100 of at most 1020 bytes"
         }
@@ -160,6 +162,16 @@ pub fn hint_of(order: Order<'_>, fault: RunFault) -> &'static str {
         (RunFault::UnknownForm, _) => "the name of a data file ends in .opl or .o5m",
         (RunFault::TimeBack, _) => "its time is after that of --now",
         _ => "",
+    }
+}
+
+/// The line of an OPL file with a field that isn't read, if the fault is one of these; `name` is
+/// that of the file.
+pub fn line_of_field(name: &str, fault: RunFault) -> Option<u64> {
+    match fault {
+        RunFault::BadChange(FileName::Changes, line, Why::BadField) => Some(line),
+        RunFault::BadChange(_, line, Why::BadField) if name.ends_with(".opl") => Some(line),
+        _ => None,
     }
 }
 

@@ -7,13 +7,15 @@ ghost use Rattle.osm_folder.specs.Filters.{FilterStops, IsAsked};
 ghost use Rattle.osm_folder.specs.Publication.{HasTime};
 ghost use Rattle.osm_folder.specs.declared.fault.RunFault.{RunFault};
 ghost use Rattle.osm_repl.specs.Checks.{AreGoodWords, HasNoNumber, HasNoTime, HasNumber};
-ghost use Rattle.osm_repl.specs.Checks.{IsAhead, IsFilterOf, IsPast, RefusesExtract};
-ghost use Rattle.osm_repl.specs.Checks.{RefusesNumbered, RefusesOrder, RefusesWords};
+ghost use Rattle.osm_repl.specs.Checks.{IsAhead, IsFilterOf, IsLimit, IsPast, RefusesExtract};
+ghost use Rattle.osm_repl.specs.Checks.{RefusesLimit, RefusesNumbered, RefusesOrder, RefusesWords};
+ghost use Rattle.osm_repl.specs.Checks.{layout_for};
 
-use crate::orders::{Asked, Extract, Order};
+use crate::orders::{Asked, Extract, Options, Order};
 use osm_folder::data_form::data_form_of;
 use osm_folder::fault::RunFault;
 use osm_folder::filters::filter_of;
+use osm_folder::options::{FollowOptions, Layout, limit_of};
 use osm_model::filter::Filter;
 use osm_model::time::time_read;
 use osm_reading::sequence::sequence_read;
@@ -22,17 +24,49 @@ use std::alloc::Global;
 // A day.
 const MOST_SECONDS_AHEAD: u64 = 86_400;
 
-/// The filter that the words of `begin` and `follow` ask for; that of all objects for any other
-/// word. Refuses kinds and keys that make no filter, and then the words of a run with a lock that
-/// the run itself would refuse before it reads a file.
-pub fn check_words(alloc: Global, asked: &Asked<'_>) -> Result<Filter, RunFault>
-    ensures extract { IfOk result (IsFilterOf asked.now.order asked.now.extract) }
+/// What the words ask for besides their order. The filter is that of `begin` and `follow`, and that
+/// of all objects for any other word. Refuses kinds and keys that make no filter, then a limit that
+/// is no number above 0, and then the words of a run with a lock that the run itself would refuse
+/// before it reads a file.
+pub fn check_words(alloc: Global, asked: &Asked<'_>) -> Result<FollowOptions, RunFault>
+    ensures extract { IfOk result
+        (λ options. IsFilterOf asked.now.order asked.now.extract options.filter) }
+    ensures limit { IfOk result (λ options. IsLimit asked.now.limit options.limit) }
+    ensures layout { IfOk result (λ options. options.layout ≡ layout_for asked.now.options) }
     ensures good { OnOk result (AreGoodWords asked.now.order) }
     ensures refused { IfErr result (RefusesWords asked.now) }
 {
     let filter = filter_asked(alloc, asked.order, &asked.extract)?;
+    let limit = check_limit(asked.limit)?;
     check_order(asked.order)?;
-    Ok(filter)
+    Ok(FollowOptions {
+        filter,
+        limit,
+        layout: layout_for(asked.options),
+    })
+}
+
+fn check_limit(word: Option<&str>) -> Result<Option<u32>, RunFault>
+    ensures limit { IfOk result (IsLimit word.entry) }
+    ensures refused { IfErr result (RefusesLimit word.entry) }
+{
+    match word {
+        None => Ok(None),
+        Some(word) => match limit_of(word) {
+            Ok(limit) => Ok(Some(limit)),
+            Err(fault) => Err(fault),
+        },
+    }
+}
+
+fn layout_for(options: Options) -> Layout
+    ensures { result ≡ layout_for options }
+{
+    if options.json {
+        Layout::Json
+    } else {
+        Layout::Lines
+    }
 }
 
 // The filter of a command's save.

@@ -7,7 +7,9 @@ ghost use Rattle.clap.specs.Words.{first_of, rows_of, rule_of, subcommand_rows_o
 ghost use Rattle.clap.specs.declared.builder.Command.TheViews.{out-Command as fields_of};
 ghost use Rattle.osm_repl.specs.CommandLine.{HasNoEmptyWord, IsExtractIn, IsExtractOf, IsOrderIn};
 ghost use Rattle.osm_repl.specs.CommandLine.{IsOrderOf, begin_app, begin_extract_app};
-ghost use Rattle.osm_repl.specs.CommandLine.{begin_words_app, follow_extract_app, follow_words_app};
+ghost use Rattle.osm_repl.specs.CommandLine.{IsLimitIn, IsLimitOf, lag_words_app, limit_rule};
+ghost use Rattle.osm_repl.specs.CommandLine.{begin_words_app, follow_extract_app, follow_flags_app};
+ghost use Rattle.osm_repl.specs.CommandLine.{follow_words_app};
 ghost use Rattle.osm_repl.specs.CommandLine.{keys_in, keys_rule, kinds_in, kinds_rule};
 ghost use Rattle.osm_repl.specs.CommandLine.{convert_app};
 ghost use Rattle.osm_repl.specs.CommandLine.{export_app, filled_rule, flag_rule, follow_app};
@@ -31,13 +33,15 @@ const ALL_KINDS: &str = "nwr";
 
 /// What the words, with the program's name first, ask for. No word of the order is empty except a
 /// time. Refused if `clap` refuses the words, and if they ask for help or the version. Whether the
-/// kinds and keys make a filter isn't looked at here.
+/// kinds and keys make a filter isn't looked at here, nor the limit.
 pub fn asked<'a>(alloc: Global, words: &'a [&'a str]) -> Result<Asked<'a>, Error>
     ensures order { IfOk result (λ a. IsOrderOf (map (λ s. s.now) words.entry.now) a.order) }
     ensures options { IfOk result
         (λ a. a.options ≡ options_of (map (λ s. s.now) words.entry.now)) }
     ensures extract { IfOk result
         (λ a. IsExtractOf (map (λ s. s.now) words.entry.now) a.extract) }
+    ensures limit { IfOk result
+        (λ a. IsLimitOf (map (λ s. s.now) words.entry.now) a.limit) }
     ensures not_empty { IfOk result (λ a. HasNoEmptyWord a.order) }
     ensures taken { IfErr result (λ e. takes osmrepl_app (map (λ s. s.now) words.entry.now) ≡ true
         → kind_of e ≡ ErrorKind.OutOfMemory) }
@@ -48,7 +52,19 @@ pub fn asked<'a>(alloc: Global, words: &'a [&'a str]) -> Result<Asked<'a>, Error
         order: order_of(&matches),
         options: options_of(&matches),
         extract: extract_of(alloc, &matches)?,
+        limit: limit_of(&matches),
     })
+}
+
+// The limit of the command that was found.
+fn limit_of<'a>(matches: &ArgMatches<'a>) -> Option<&'a str>
+    requires { IsCommand (subcommand_rows_of matches.now) }
+    ensures { IsLimitIn (subcommand_rows_of matches.now) result }
+{
+    let Some((_, given)) = matches.subcommand() else {
+        unreachable!()
+    };
+    optional(given, "LIMIT")
 }
 
 // The kinds and keys of the command that was found.
@@ -97,6 +113,8 @@ fn options_of(matches: &ArgMatches<'_>) -> Options
     Options {
         no_lock: is_raised(given, "no-lock"),
         any_time: is_raised(given, "any-time"),
+        json: is_raised(given, "json"),
+        quiet: is_raised(given, "quiet"),
     }
 }
 
@@ -358,10 +376,21 @@ fn follow<'a>(alloc: Global) -> Result<Command<'a>, AllocError>
     ensures app { IfOk result (λ c. app_of c ≡ follow_app) }
     ensures local { IfOk result (λ c. (fields_of c).has_globals ≡ false) }
 {
-    follow_extract(alloc)?.arg(no_lock(alloc))
+    follow_flags(alloc)?.arg(no_lock(alloc))
 }
 
-// `follow` with its words, keys and kinds, and without its flag.
+// `follow` with all but `--no-lock`.
+fn follow_flags<'a>(alloc: Global) -> Result<Command<'a>, AllocError>
+    ensures app { IfOk result (λ c. app_of c ≡ follow_flags_app) }
+    ensures local { IfOk result (λ c. (fields_of c).has_globals ≡ false) }
+{
+    follow_extract(alloc)?
+        .arg(limit(alloc))?
+        .arg(json(alloc))?
+        .arg(quiet(alloc))
+}
+
+// `follow` with its words, keys and kinds.
 fn follow_extract<'a>(alloc: Global) -> Result<Command<'a>, AllocError>
     ensures app { IfOk result (λ c. app_of c ≡ follow_extract_app) }
     ensures local { IfOk result (λ c. (fields_of c).has_globals ≡ false) }
@@ -387,6 +416,14 @@ fn follow_words<'a>(alloc: Global) -> Result<Command<'a>, AllocError>
 
 fn lag<'a>(alloc: Global) -> Result<Command<'a>, AllocError>
     ensures app { IfOk result (λ c. app_of c ≡ lag_app) }
+    ensures local { IfOk result (λ c. (fields_of c).has_globals ≡ false) }
+{
+    lag_words(alloc)?.arg(json(alloc))
+}
+
+// `lag` with the words that have to be there.
+fn lag_words<'a>(alloc: Global) -> Result<Command<'a>, AllocError>
+    ensures app { IfOk result (λ c. app_of c ≡ lag_words_app) }
     ensures local { IfOk result (λ c. (fields_of c).has_globals ≡ false) }
 {
     Command::new(alloc, "lag")
@@ -472,6 +509,15 @@ fn sequence<'a>(alloc: Global) -> Arg<'a>
     filled(alloc, "N", says).long("sequence")
 }
 
+// `--limit LIMIT`, which may be left out.
+fn limit<'a>(alloc: Global) -> Arg<'a>
+    ensures rule { rule_of result ≡ limit_rule }
+    ensures local { result.global ≡ false }
+{
+    let says = "Takes at most so many numbers in this run";
+    filled(alloc, "LIMIT", says).long("limit")
+}
+
 // `KEY..`, any number of words that aren't empty.
 fn keys<'a>(alloc: Global) -> Arg<'a>
     ensures rule { rule_of result ≡ keys_rule }
@@ -501,6 +547,26 @@ fn no_lock<'a>(alloc: Global) -> Arg<'a>
         alloc,
         "no-lock",
         "Takes no lock; nothing else may write there then",
+    )
+}
+
+// `--json`
+fn json<'a>(alloc: Global) -> Arg<'a>
+    ensures rule { rule_of result ≡ flag_rule (codes "json") }
+    ensures local { result.global ≡ false }
+{
+    flag(alloc, "json", "Prints one line of JSON, after a fault too")
+}
+
+// `--quiet`
+fn quiet<'a>(alloc: Global) -> Arg<'a>
+    ensures rule { rule_of result ≡ flag_rule (codes "quiet") }
+    ensures local { result.global ≡ false }
+{
+    flag(
+        alloc,
+        "quiet",
+        "Shows no progress; a terminal shows it otherwise",
     )
 }
 

@@ -1,13 +1,16 @@
 //! Carrying out what the words of the command line ask for.
 
-ghost use Rattle.std.specs.Prelude.{◌≡◌, ℕ, ◌≤◌, List, IfOk, IfErr, OnOk, OnErr};
+ghost use Rattle.std.specs.Prelude.{◌≡◌, ℕ, ◌≤◌, ◌⊎◌, List, IfOk, IfErr, OnOk, OnErr};
+ghost use Rattle.std.specs.Io.KnownBytes.{Appends};
 ghost use Rattle.osm_store.specs.Files.{Spends};
 ghost use Rattle.osm_store.specs.Frames.{IsKnown};
 ghost use Rattle.osm_folder.specs.Runs.{Blames};
 ghost use Rattle.osm_repl.specs.Execution.{Does, DoesOver, IsDone, IsNotDone, IsNotReplayed};
 ghost use Rattle.osm_repl.specs.Execution.{HasFollowed, IsFollow, IsOtherRun, IsOverFiles};
 ghost use Rattle.osm_repl.specs.Execution.{IsReplayed, IsReportOf, IsUntouched};
-ghost use Rattle.osm_repl.specs.Execution.{Leaves, RunStops, StopsOver, calls_of};
+ghost use Rattle.osm_repl.specs.Execution.{IsFaultLine, Leaves, RunStops, StopsOver, TellsFault};
+ghost use Rattle.osm_repl.specs.Execution.{calls_of, layout_of};
+ghost use Rattle.osm_repl.specs.Steps.Replaying.{WritingFault};
 
 use crate::orders::Order;
 use crate::replay::replay_run;
@@ -17,36 +20,40 @@ use osm_folder::convert::convert_run;
 use osm_folder::export::export_run;
 use osm_folder::fault::RunFault;
 use osm_folder::lag::lag_run;
+use osm_folder::options::{FollowOptions, Layout};
 use osm_folder::progress::{Progress, follow_progress};
 use osm_folder::publish::publish_run;
 use osm_folder::publish_as::publish_as_run;
-use osm_folder::report::Report;
+use osm_folder::report::{Report, fault_report};
 use osm_folder::show::show_run;
-use osm_model::filter::Filter;
 use osm_store::store::Store;
 use std::alloc::Global;
 use std::io::{Read, Write};
 
 /// Does what an order asks for, and answers the exit status. The words `follow` and `begin` write
-/// their save under the filter, which no other order looks at. A replay reads from `reader` and
-/// writes its replies to `writer`; every other order runs over the files of the store, and then
-/// writes its report to `writer`. On a fault nothing was written to `writer`, except on
-/// `WriteFault(Output)`: then a prefix was, and the files that a run wrote stay. The word `follow`
-/// may also end with the fault of a faulty number, after it saved and reported the numbers before.
+/// their save under the filter of the options; `follow` goes by their limit, and `follow` and `lag`
+/// by their layout. A replay reads from `reader` and writes its replies to `writer`; every other
+/// order runs over the files of the store, and then writes its report to `writer`.
+///
+/// On a fault nothing was written to `writer`, with three exceptions. On `WriteFault(Output)` a
+/// prefix of the report was, and the files that a run wrote stay. The word `follow` may end with
+/// the fault of a faulty number, after it saved and reported the numbers before. In JSON the line
+/// of `fault_report` is written, as far as `writer` takes it, unless memory was wanted for the run
+/// or for the line.
 pub fn execute<S: Store, R: Read, W: Write>(
     alloc: Global,
     order: Order<'_>,
-    filter: Filter,
+    options: FollowOptions,
     store: &mut S,
     reader: &mut R,
     writer: &mut W,
 ) -> Result<u8, RunFault>
     ensures done { IsOverFiles order.entry
-        → IfOk result (IsDone (IsKnown (S.state store.old)) filter order.entry
+        → IfOk result (IsDone (IsKnown (S.state store.old)) options order.entry
         (S.state store.old).files (S.state store.new).files (W.contents writer.old)
         (W.contents writer.new)) }
     ensures not_done { IsOverFiles order.entry
-        → IfErr result (IsNotDone (IsKnown (S.state store.old)) filter order.entry
+        → IfErr result (IsNotDone (IsKnown (S.state store.old)) options order.entry
         (S.state store.old).files (S.state store.new).files (S.state store.old).failures
         (S.state store.new).failures (W.contents writer.old) (W.contents writer.new)) }
     ensures silent { IsOverFiles order.entry → reader.new ≡ reader.old }
@@ -66,8 +73,8 @@ pub fn execute<S: Store, R: Read, W: Write>(
 {
     match order {
         Order::Replay => replay(alloc, reader, writer),
-        Order::Follow { .. } => follow_and_print(alloc, order, filter, store, writer),
-        _ => run_and_print(alloc, order, filter, store, writer),
+        Order::Follow { .. } => follow_and_print(alloc, order, options, store, writer),
+        _ => run_and_print(alloc, order, options, store, writer),
     }
 }
 
@@ -85,15 +92,15 @@ fn replay<R: Read, W: Write>(alloc: Global, reader: &mut R, writer: &mut W) -> R
 fn run_and_print<S: Store, W: Write>(
     alloc: Global,
     order: Order<'_>,
-    filter: Filter,
+    options: FollowOptions,
     store: &mut S,
     writer: &mut W,
 ) -> Result<u8, RunFault>
     requires { IsOtherRun order }
-    ensures done { IfOk result (IsDone (IsKnown (S.state store.old)) filter order.entry
+    ensures done { IfOk result (IsDone (IsKnown (S.state store.old)) options order.entry
         (S.state store.old).files (S.state store.new).files (W.contents writer.old)
         (W.contents writer.new)) }
-    ensures not_done { IfErr result (IsNotDone (IsKnown (S.state store.old)) filter order.entry
+    ensures not_done { IfErr result (IsNotDone (IsKnown (S.state store.old)) options order.entry
         (S.state store.old).files (S.state store.new).files (S.state store.old).failures
         (S.state store.new).failures (W.contents writer.old) (W.contents writer.new)) }
     ensures untouched { IsKnown (S.state store.old) → (name : List ℕ) → IsUntouched order.entry name
@@ -104,23 +111,25 @@ fn run_and_print<S: Store, W: Write>(
     ensures left_after { Spends 0 (S.state store.old).left (S.state store.new).left }
     ensures kept { (S.state store.old).failures ≤ (S.state store.new).failures }
 {
-    let report = run(alloc, order, filter, store)?;
-    write_text(writer, report.text())?;
-    Ok(report.status())
+    let layout = layout_of(&options, order);
+    match run(alloc, order, options, store) {
+        Ok(report) => print(writer, &report),
+        Err(fault) => Err(tell_fault(alloc, layout, fault, writer)),
+    }
 }
 
 fn follow_and_print<S: Store, W: Write>(
     alloc: Global,
     order: Order<'_>,
-    filter: Filter,
+    options: FollowOptions,
     store: &mut S,
     writer: &mut W,
 ) -> Result<u8, RunFault>
     requires { IsFollow order }
-    ensures done { IfOk result (IsDone (IsKnown (S.state store.old)) filter order.entry
+    ensures done { IfOk result (IsDone (IsKnown (S.state store.old)) options order.entry
         (S.state store.old).files (S.state store.new).files (W.contents writer.old)
         (W.contents writer.new)) }
-    ensures not_done { IfErr result (IsNotDone (IsKnown (S.state store.old)) filter order.entry
+    ensures not_done { IfErr result (IsNotDone (IsKnown (S.state store.old)) options order.entry
         (S.state store.old).files (S.state store.new).files (S.state store.old).failures
         (S.state store.new).failures (W.contents writer.old) (W.contents writer.new)) }
     ensures untouched { IsKnown (S.state store.old) → (name : List ℕ) → IsUntouched order.entry name
@@ -131,15 +140,57 @@ fn follow_and_print<S: Store, W: Write>(
     ensures left_after { Spends 0 (S.state store.old).left (S.state store.new).left }
     ensures kept { (S.state store.old).failures ≤ (S.state store.new).failures }
 {
-    match follow(alloc, order, filter, store)? {
-        Progress::Whole(report) => {
-            write_text(writer, report.text())?;
-            Ok(report.status())
-        }
-        Progress::Before(report, fault) => {
+    let layout = layout_of(&options, order);
+    match follow(alloc, order, options, store) {
+        Ok(Progress::Whole(report)) => print(writer, &report),
+        Ok(Progress::Before(report, fault)) => {
             write_text(writer, report.text())?;
             Err(fault)
         }
+        Err(fault) => Err(tell_fault(alloc, layout, fault, writer)),
+    }
+}
+
+// Prints a report, and gives its status.
+fn print<W: Write>(writer: &mut W, report: &Report) -> Result<u8, RunFault>
+    ensures printed { IfOk result (λ status. (status ≡ report.now.status)
+        × Appends (W.contents writer.old) (W.contents writer.new) report.now.text) }
+    ensures cut { IfErr result
+        (WritingFault (W.contents writer.old) (W.contents writer.new) report.now.text) }
+{
+    write_text(writer, report.text())?;
+    Ok(report.status())
+}
+
+// In JSON, prints the line of a fault, and gives the fault. What isn't written of the line is left
+// out, and so is all of it if there is no memory for it: the fault stands anyhow.
+fn tell_fault<W: Write>(alloc: Global, layout: Layout, fault: RunFault, writer: &mut W) -> RunFault
+    ensures told { TellsFault layout fault (W.contents writer.old) (W.contents writer.new) }
+    ensures stands { result ≡ fault }
+{
+    match (layout, fault) {
+        (Layout::Lines, _) | (_, RunFault::WantOfMemory) => {}
+        _ => print_fault(alloc, fault, writer),
+    }
+    fault
+}
+
+fn print_fault<W: Write>(alloc: Global, fault: RunFault, writer: &mut W)
+    ensures { (W.contents writer.new ≡ W.contents writer.old)
+        ⊎ IsFaultLine (W.contents writer.old) (W.contents writer.new) }
+{
+    if let Ok(report) = fault_report(alloc, fault) {
+        let _ = write_text(writer, report.text());
+    }
+}
+
+// The layout of what the order prints.
+fn layout_of(options: &FollowOptions, order: Order<'_>) -> Layout
+    ensures { result ≡ layout_of options.now order.entry }
+{
+    match order {
+        Order::Follow { .. } | Order::Lag { .. } => options.layout,
+        _ => Layout::Lines,
     }
 }
 
@@ -147,19 +198,19 @@ fn follow_and_print<S: Store, W: Write>(
 fn run<S: Store>(
     alloc: Global,
     order: Order<'_>,
-    filter: Filter,
+    options: FollowOptions,
     store: &mut S,
 ) -> Result<Report, RunFault>
     requires { IsOtherRun order }
     ensures does { IfOk result (λ report. IsKnown (S.state store.old)
-        → Does filter order.entry (S.state store.old).files (S.state store.new).files report) }
+        → Does options order.entry (S.state store.old).files (S.state store.new).files report) }
     ensures over { IfOk result (λ report. IsKnown (S.state store.old)
-        → DoesOver filter order.entry (S.state store.old).files (S.state store.new).files report) }
-    ensures report { IfOk result (IsReportOf order.entry) }
-    ensures stops { IfErr result (RunStops (IsKnown (S.state store.old)) filter order.entry
+        → DoesOver options order.entry (S.state store.old).files (S.state store.new).files report) }
+    ensures report { IfOk result (IsReportOf options order.entry) }
+    ensures stops { IfErr result (RunStops (IsKnown (S.state store.old)) options order.entry
         (S.state store.old).files (S.state store.new).files) }
     ensures refuses { IfErr result (λ fault. IsKnown (S.state store.old)
-        → StopsOver filter order.entry (S.state store.old).files (S.state store.new).files fault) }
+        → StopsOver options order.entry (S.state store.old).files (S.state store.new).files fault) }
     ensures leaves { OnErr result (Leaves (IsKnown (S.state store.old)) order.entry
         (S.state store.old).files (S.state store.new).files) }
     ensures device { IfErr result
@@ -180,8 +231,15 @@ fn run<S: Store>(
             now,
             sequence,
         } => publish_as_run(alloc, store, dir, changes, now, sequence),
-        Order::Begin { base, state, save } => begin_run(alloc, store, base, state, save, filter),
-        Order::Lag { dir, save } => lag_run(alloc, store, dir, save),
+        Order::Begin { base, state, save } => begin_run(
+            alloc,
+            store,
+            base,
+            state,
+            save,
+            options.filter,
+        ),
+        Order::Lag { dir, save } => lag_run(alloc, store, dir, save, options.layout),
         Order::Show { save } => show_run(alloc, store, save),
         Order::Export { save, output } => export_run(alloc, store, save, output),
         Order::Convert { input, output } => convert_run(alloc, store, input, output),
@@ -193,16 +251,16 @@ fn run<S: Store>(
 fn follow<S: Store>(
     alloc: Global,
     order: Order<'_>,
-    filter: Filter,
+    options: FollowOptions,
     store: &mut S,
 ) -> Result<Progress, RunFault>
     requires { IsFollow order }
-    ensures followed { IfOk result (HasFollowed (IsKnown (S.state store.old)) filter order.entry
+    ensures followed { IfOk result (HasFollowed (IsKnown (S.state store.old)) options order.entry
         (S.state store.old).files (S.state store.new).files) }
-    ensures stops { IfErr result (RunStops (IsKnown (S.state store.old)) filter order.entry
+    ensures stops { IfErr result (RunStops (IsKnown (S.state store.old)) options order.entry
         (S.state store.old).files (S.state store.new).files) }
     ensures refuses { IfErr result (λ fault. IsKnown (S.state store.old)
-        → StopsOver filter order.entry (S.state store.old).files (S.state store.new).files fault) }
+        → StopsOver options order.entry (S.state store.old).files (S.state store.new).files fault) }
     ensures leaves { OnErr result (Leaves (IsKnown (S.state store.old)) order.entry
         (S.state store.old).files (S.state store.new).files) }
     ensures device { IfErr result
@@ -216,7 +274,7 @@ fn follow<S: Store>(
     ensures kept { (S.state store.old).failures ≤ (S.state store.new).failures }
 {
     match order {
-        Order::Follow { dir, save } => follow_progress(alloc, store, dir, save, filter),
+        Order::Follow { dir, save } => follow_progress(alloc, store, dir, save, options),
         _ => unreachable!(),
     }
 }

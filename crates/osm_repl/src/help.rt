@@ -99,6 +99,8 @@ pub(crate) const FOLLOW: &str = "Applies a folder's new sequences to a save";
 pub(crate) const FOLLOWING: &str = "As in
   osmrepl follow folder follower.save
   osmrepl follow folder roads.save highway --kinds w
+  osmrepl follow folder follower.save --limit 1000
+  osmrepl follow folder follower.save --json
 
 Each number after the save's is taken from its .o5c file, or if there is none, from its .opl file.
 A number is missing if it has no state file, or neither change file: SAVE goes up to the number
@@ -111,6 +113,25 @@ After SAVE is written, this is printed:
 A file that is there but faulty stops the run at its number, with the place and the cause: SAVE and
 what was printed are those of the numbers before it. Put the right file there, or remove it, and
 follow again.
+
+With --limit N the run takes at most N numbers, from 1 to 999999999, as if the folder ended there:
+the numbers after them aren't looked at, and the status isn't 1 because of them. Any other limit is
+refused: 'bad limit'.
+
+With --json one line is printed instead, an object of JSON, also after a fault:
+  applied  [[LOW,HIGH],..], the ranges that were applied
+  base     the number after which edits are counted
+  behind   how many numbers SAVE is behind the folder
+  fault    null, or the fault
+  missing  [K,..], the missing numbers
+  number   the number that SAVE is at
+  seconds  the time from that number to the folder's newest
+  time     the time of that number, as 2024-01-01T00:00:00Z
+  top      the folder's newest number
+A value that isn't known is null. No line is printed if the words are refused or if memory runs out.
+
+A run that takes more than half a second shows on a terminal how many numbers are done, unless
+--quiet or --json is given.
 
 With --kinds or a KEY, SAVE keeps an extract: the objects of those kinds that have a tag with one of
 the keys. The counts are of all edits. SAVE says its kinds and keys, and each run has to have the
@@ -126,10 +147,14 @@ pub(crate) const LAG: &str = "Prints how far a save is behind a folder";
 
 pub(crate) const LAGGING: &str = "As in
   osmrepl lag folder follower.save
+  osmrepl lag folder follower.save --json
 
 It prints 'behind B', the numbers after the save's, and 'seconds S', the time from the save's
 sequence to the folder's newest, or 'seconds none' if nothing was followed yet. Of SAVE it reads the
 first lines alone, as far as its time.
+
+With --json one line is printed instead, an object of JSON, also after a fault: it has the keys that
+'osmrepl follow --help' names, and 'applied' and 'missing' are null.
 
 A fault names DIR/state.txt as state.txt, and SAVE as save.";
 

@@ -8,6 +8,7 @@ pub mod command_line;
 pub mod echo;
 pub mod ending;
 pub mod execution;
+pub mod fields;
 mod help;
 pub mod locks;
 pub mod orders;

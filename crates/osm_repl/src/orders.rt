@@ -6,6 +6,8 @@ pub struct Asked<'a> {
     pub order: Order<'a>,
     pub options: Options,
     pub extract: Extract<'a>,
+    /// The most numbers that `follow` takes, as the words say it.
+    pub limit: Option<&'a str>,
 }
 
 /// Which objects a save keeps, as the words say it: all of them for a command that writes no save.
@@ -24,6 +26,10 @@ pub struct Options {
     pub no_lock: bool,
     /// The time of a publication may be far ahead of the clock.
     pub any_time: bool,
+    /// The report is a line of JSON.
+    pub json: bool,
+    /// Nothing is shown while the run goes on.
+    pub quiet: bool,
 }
 
 /// A command of the program, with its words.

@@ -1,24 +1,32 @@
 //! The lock of a run, and the clock.
 
-use crate::saying::{refuse, report};
+use crate::saying::{refuse, report, tell};
 use osm_disk::lock::{self, LockError, folder_lock, save_lock, take_lock};
 use osm_folder::fault::RunFault;
+use osm_folder::options::Layout;
 use osm_repl::locks::Lock;
 use osm_repl::refusal::Refusal;
 use std::io::{self, ErrorKind};
 use std::time::Clock;
 
-// Takes the lock; None for a save that needs none. If it can't be taken, says so and gives the
-// status.
-pub(crate) fn locked(rt: &HostRuntime, lock: Lock<'_>) -> Result<Option<lock::Lock>, u8> {
+// Takes the lock; None for a save that needs none. If it can't be taken, says so, in JSON too if
+// that is the layout, and gives the status.
+pub(crate) fn locked(
+    rt: &HostRuntime,
+    lock: Lock<'_>,
+    layout: Layout,
+) -> Result<Option<lock::Lock>, u8> {
     let path = match path_of(rt, lock) {
         Ok(Some(path)) => path,
         Ok(None) => return Ok(None),
-        Err(error) => return Err(unlocked(rt, lock, word_of(lock), LockError::Failed(error))),
+        Err(error) => {
+            let error = LockError::Failed(error);
+            return Err(unlocked(rt, lock, layout, word_of(lock), error));
+        }
     };
     match take_lock(rt, path.as_str()) {
         Ok(held) => Ok(Some(held)),
-        Err(error) => Err(unlocked(rt, lock, path.as_str(), error)),
+        Err(error) => Err(unlocked(rt, lock, layout, path.as_str(), error)),
     }
 }
 
@@ -39,7 +47,7 @@ fn word_of<'a>(lock: Lock<'a>) -> &'a str {
 }
 
 // Says why the lock isn't held, and gives the status.
-fn unlocked(rt: &HostRuntime, lock: Lock<'_>, path: &str, error: LockError) -> u8 {
+fn unlocked(rt: &HostRuntime, lock: Lock<'_>, layout: Layout, path: &str, error: LockError) -> u8 {
     let said = match error {
         LockError::InUse => None,
         LockError::Failed(error) => Some(error),
@@ -55,6 +63,9 @@ fn unlocked(rt: &HostRuntime, lock: Lock<'_>, path: &str, error: LockError) -> u
         (Lock::Save(_), false) => Refusal::SaveInUse,
         (Lock::Save(_), true) => Refusal::SaveLockFailed,
     };
+    if layout == Layout::Json {
+        tell(rt, refusal);
+    }
     refuse(rt, refusal, path, said, "--no-lock runs without the lock")
 }
 

@@ -3,12 +3,15 @@
 
 mod locking;
 mod saying;
+mod watching;
 
 use crate::locking::{locked, seconds};
 use crate::saying::{end, explain, refuse, report, report_of_run};
+use crate::watching::Screen;
 use osm_disk::disk_store::DiskStore;
 use osm_folder::fault::RunFault;
-use osm_model::filter::Filter;
+use osm_folder::options::FollowOptions;
+use osm_progress::watched_store::WatchedStore;
 use osm_repl::checks::{check_words, is_ahead};
 use osm_repl::command_line::asked;
 use osm_repl::ending::ending_of_unread;
@@ -48,8 +51,8 @@ fn run(rt: &HostRuntime) -> u8 {
 
 // Looks at the words, takes the lock, and does what was asked for. The lock is held to the end.
 fn begun(rt: &HostRuntime, asked: &Asked<'_>) -> u8 {
-    let filter = match check_words(rt.alloc(), asked) {
-        Ok(filter) => filter,
+    let options = match check_words(rt.alloc(), asked) {
+        Ok(options) => options,
         Err(fault) => return report_of_run(rt, asked.order, fault, None),
     };
     if !asked.options.any_time && is_ahead(asked.order, seconds(rt)) {
@@ -57,29 +60,41 @@ fn begun(rt: &HostRuntime, asked: &Asked<'_>) -> u8 {
         return refuse(rt, Refusal::TimeAhead, asked.order.now(), None, hint);
     }
     let Some(lock) = lock_of(asked) else {
-        return done(rt, asked.order, filter, false);
+        return done(rt, asked, options, false);
     };
-    match locked(rt, lock) {
-        Ok(held) => done(rt, asked.order, filter, held.is_some()),
+    match locked(rt, lock, options.layout) {
+        Ok(held) => done(rt, asked, options, held.is_some()),
         Err(status) => status,
     }
 }
 
 // Does what was asked for, over the files on the disk. A run that holds its lock is alone there.
-fn done(rt: &HostRuntime, order: Order<'_>, filter: Filter, is_alone: bool) -> u8 {
-    let mut store = DiskStore::new(rt, process::id(rt.process()));
+fn done(rt: &HostRuntime, asked: &Asked<'_>, options: FollowOptions, is_alone: bool) -> u8 {
+    let mut disk = DiskStore::new(rt, process::id(rt.process()));
     if is_alone {
-        store.set_alone();
+        disk.set_alone();
     }
-    match execute(
+    let mut store = WatchedStore::new(disk, Screen::new(rt, shown_dir(asked)));
+    let result = execute(
         rt.alloc(),
-        order,
-        filter,
+        asked.order,
+        options,
         &mut store,
         &mut rt.stdin(),
         &mut rt.stdout(),
-    ) {
+    );
+    let (disk, mut screen) = store.into_parts();
+    screen.clear();
+    match result {
         Ok(status) => status,
-        Err(fault) => report_of_run(rt, order, fault, store.said()),
+        Err(fault) => report_of_run(rt, asked.order, fault, disk.said()),
+    }
+}
+
+// The folder of a run whose progress may be shown.
+fn shown_dir<'a>(asked: &Asked<'a>) -> Option<&'a str> {
+    match asked.order {
+        Order::Follow { dir, .. } if !asked.options.quiet && !asked.options.json => Some(dir),
+        _ => None,
     }
 }

@@ -1,23 +1,31 @@
 //! What the program says last.
 
 use clap::Error;
-use osm_disk::reading::read_prefix;
+use osm_disk::reading::{read_file, read_prefix};
 use osm_folder::fault::{FileName, RunFault};
-use osm_repl::causes::{Cause, cause_text, hint_of, is_of_content, look_of, path_of};
+use osm_json::line::fault_line;
+use osm_model::memory::WantOfMemory;
+use osm_repl::causes::{
+    Cause, cause_text, hint_of, is_of_content, line_of_field, look_of, path_of,
+};
 use osm_repl::command_line::asked;
 use osm_repl::echo::echoes;
 use osm_repl::ending::{
     Ending, Message, Stream, ending_of_error, ending_of_fault, ending_of_refusal,
 };
+use osm_repl::fields::field_text;
 use osm_repl::orders::Order;
 use osm_repl::refusal::Refusal;
-use std::alloc::AllocError;
-use std::io;
+use std::alloc::{AllocError, Global};
+use std::io::{self, Write};
 
 const NOT_TEXT: &str = "the words of the command line aren't text";
 
 // The first bytes of a file say what it is.
 const LOOKED_AT: u64 = 7;
+
+// No file of changes or data is larger.
+const MOST_READ: u64 = 67_108_864;
 
 // Says why the words gave no order. `clap` makes the text from the words' echoes, since it repeats
 // a word that it refuses.
@@ -69,13 +77,39 @@ fn cause_of(
         RunFault::ReadFault(_) | RunFault::WriteFault(_) => said,
         _ => None,
     };
+    let hint = hint(rt, order, fault, path.as_str())?;
+    let (path, hint) = (path.as_str(), hint.as_str());
+    cause_text(rt.alloc(), Cause { path, said, hint })
+}
+
+// The field of an OPL file that isn't read, what a file looks like, or what may help; or nothing.
+fn hint(
+    rt: &HostRuntime,
+    order: Order<'_>,
+    fault: RunFault,
+    path: &str,
+) -> Result<String, AllocError> {
+    let field = field(rt, path, fault)?;
+    if !field.is_empty() {
+        return Ok(field);
+    }
     let hint = if is_of_content(fault) {
-        look(rt, path.as_str())
+        look(rt, path)
     } else {
         hint_of(order, fault)
     };
-    let path = path.as_str();
-    cause_text(rt.alloc(), Cause { path, said, hint })
+    String::from_str(rt.alloc(), hint)
+}
+
+// The field of an OPL file that isn't read, or nothing.
+fn field(rt: &HostRuntime, path: &str, fault: RunFault) -> Result<String, AllocError> {
+    let Some(line) = line_of_field(path, fault) else {
+        return Ok(String::new(rt.alloc()));
+    };
+    match read_file(rt.alloc(), rt, path, MOST_READ) {
+        Ok(Some(bytes)) => field_text(rt.alloc(), bytes.as_slice(), line),
+        _ => Ok(String::new(rt.alloc())),
+    }
 }
 
 // What a file looks like by its first bytes, or nothing.
@@ -84,6 +118,19 @@ fn look(rt: &HostRuntime, path: &str) -> &'static str {
         Ok(Some(bytes)) => look_of(path, bytes.as_slice()),
         _ => "",
     }
+}
+
+// Prints the line of JSON of a run that isn't begun, as far as standard output takes it, if there is
+// memory for it.
+pub(crate) fn tell(rt: &HostRuntime, refusal: Refusal) {
+    if let Ok(line) = refusal_line(rt.alloc(), refusal) {
+        let _ = rt.stdout().write_all(line.as_slice());
+    }
+}
+
+fn refusal_line(alloc: Global, refusal: Refusal) -> Result<Vec<u8>, WantOfMemory> {
+    let fault = format!(in alloc; "{refusal}")?;
+    fault_line(alloc, fault.as_str())
 }
 
 // Says why the run isn't begun. If there is no memory for the cause, it is left out.

@@ -7,6 +7,7 @@ use osm_folder::fault::RunFault;
 use osm_folder::filters::filter_of;
 use osm_folder::follow::follow_run;
 use osm_folder::lag::lag_run;
+use osm_folder::options::{FollowOptions, Layout};
 use osm_folder::publish::publish_run;
 use osm_folder::report::Report;
 use osm_folder::show::show_run;
@@ -65,8 +66,14 @@ pub enum Run {
     Follow,
     /// Follows from the save of an extract.
     FollowExtract,
+    /// Follows from the save, at most so many numbers.
+    FollowSome(u32),
+    /// Follows from the save, and reports in JSON.
+    FollowJson,
     /// Prints the lag of the save.
     Lag,
+    /// Prints it in JSON.
+    LagJson,
     /// Shows the save.
     Show,
     /// Exports the save to the data file of that name.
@@ -84,16 +91,40 @@ pub fn outcome<S: Store>(alloc: Global, store: &mut S, run: Run) -> Result<Repor
             let filter = filter_of(alloc, "w", &["highway"])?;
             begin_run(alloc, store, base, "state", "save", filter)
         }
-        Run::Follow => follow_run(alloc, store, "dir", "save", Filter::all(alloc)),
+        Run::Follow => follow_run(
+            alloc,
+            store,
+            "dir",
+            "save",
+            FollowOptions::new(Filter::all(alloc)),
+        ),
         Run::FollowExtract => {
             let filter = filter_of(alloc, "w", &["highway"])?;
-            follow_run(alloc, store, "dir", "save", filter)
+            follow_run(alloc, store, "dir", "save", FollowOptions::new(filter))
         }
-        Run::Lag => lag_run(alloc, store, "dir", "save"),
+        Run::FollowSome(limit) => follow_all(alloc, store, Some(limit), Layout::Lines),
+        Run::FollowJson => follow_all(alloc, store, None, Layout::Json),
+        Run::Lag => lag_run(alloc, store, "dir", "save", Layout::Lines),
+        Run::LagJson => lag_run(alloc, store, "dir", "save", Layout::Json),
         Run::Show => show_run(alloc, store, "save"),
         Run::Export(output) => export_run(alloc, store, "save", output),
         Run::Convert => convert_run(alloc, store, "a.opl", "b.o5c"),
     }
+}
+
+// Follows all objects.
+fn follow_all<S: Store>(
+    alloc: Global,
+    store: &mut S,
+    limit: Option<u32>,
+    layout: Layout,
+) -> Result<Report, RunFault> {
+    let options = FollowOptions {
+        filter: Filter::all(alloc),
+        limit,
+        layout,
+    };
+    follow_run(alloc, store, "dir", "save", options)
 }
 
 /// Whether the run prints that text and has that status.

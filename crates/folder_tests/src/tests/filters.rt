@@ -3,6 +3,7 @@
 use super::files::{Run, are_files, is_file, refusal, reports, store_with};
 use osm_folder::fault::{FileName, RunFault};
 use osm_folder::filters::filter_of;
+use osm_folder::options::FollowOptions;
 use osm_folder::progress::{Progress, follow_progress};
 use osm_model::filter::Filter;
 use osm_model::text::Text;
@@ -192,7 +193,7 @@ fn is_kept(alloc: Global) -> bool {
     let Ok(filter) = filter_of(alloc, "w", &["highway"]) else {
         return false;
     };
-    let progress = follow_progress(alloc, &mut store, "dir", "save", filter);
+    let progress = follow_progress(alloc, &mut store, "dir", "save", FollowOptions::new(filter));
     is_there && is_before(&progress) && is_file(&store, "save", SAVE_1)
 }
 

@@ -6,6 +6,7 @@ use super::files::{
 };
 use osm_folder::convert::convert_run;
 use osm_folder::fault::{FileName, RunFault};
+use osm_folder::options::FollowOptions;
 use osm_folder::progress::{Progress, follow_progress};
 use osm_folder::publish::publish_run;
 use osm_model::filter::Filter;
@@ -480,7 +481,13 @@ fn is_kept(
     expected: Option<&str>,
     fault: RunFault,
 ) -> bool {
-    match follow_progress(alloc, store, "dir", "save", Filter::all(alloc)) {
+    match follow_progress(
+        alloc,
+        store,
+        "dir",
+        "save",
+        FollowOptions::new(Filter::all(alloc)),
+    ) {
         Ok(Progress::Whole(_)) => false,
         Ok(Progress::Before(report, last)) => {
             let text = expected.unwrap_or("");
@@ -526,4 +533,55 @@ fn refusal_at_no_time(alloc: Global) -> Option<RunFault> {
 #[test]
 fn a_time_that_is_wrong_is_refused_before_any_call(rt: HostRuntime) {
     assert!(rt; refusal_at_no_time(rt.alloc()) == Some(RunFault::BadNow));
+}
+
+const THREE_APPLIED: &str = "applied 1..1\napplied 2..2\napplied 3..3\nnumber 3\n";
+
+const FOURTH_IN_JSON: &str = "{\"applied\":[[4,4]],\"base\":0,\"behind\":0,\"fault\":null,\
+    \"missing\":[],\"number\":4,\"seconds\":0,\"time\":\"2024-01-01T00:03:00Z\",\"top\":4}\n";
+
+const LAG_IN_JSON: &str = "{\"applied\":null,\"base\":0,\"behind\":1,\"fault\":null,\
+    \"missing\":null,\"number\":3,\"seconds\":60,\"time\":\"2024-01-01T00:02:00Z\",\"top\":4}\n";
+
+// Whether a run takes no more numbers than it may, the next one goes on from there, and JSON says
+// the same as lines.
+fn goes_on_in_steps(alloc: Global) -> bool {
+    let Ok(mut store) = store_with(alloc, FOUR) else {
+        return false;
+    };
+    reports(alloc, &mut store, Run::FollowSome(3), (0, THREE_APPLIED))
+        && reports(alloc, &mut store, Run::LagJson, (0, LAG_IN_JSON))
+        && reports(alloc, &mut store, Run::FollowJson, (0, FOURTH_IN_JSON))
+        && reports(alloc, &mut store, Run::FollowSome(9), (0, "number 4\n"))
+}
+
+// All but the changes of number 3.
+const WITHOUT_3: &[(&str, &[u8])] = &[
+    ("dir/state.txt", STATE_4),
+    ("dir/000/000/001.state.txt", STATE_1),
+    ("dir/000/000/001.o5c", EMPTY_O5C),
+    ("dir/000/000/002.state.txt", STATE_2),
+    ("dir/000/000/002.o5c", EMPTY_O5C),
+    ("dir/000/000/003.state.txt", STATE_3),
+];
+
+// Whether a number is missing only if the run could have come to it.
+fn misses_what_it_may_take(alloc: Global) -> bool {
+    let Ok(mut store) = store_with(alloc, WITHOUT_3) else {
+        return false;
+    };
+    let two = "applied 1..1\napplied 2..2\nnumber 2\n";
+    reports(alloc, &mut store, Run::FollowSome(2), (0, two))
+        && reports(
+            alloc,
+            &mut store,
+            Run::FollowSome(1),
+            (1, "missing 3\nnumber 2\n"),
+        )
+}
+
+#[test]
+fn a_run_with_a_limit_goes_no_further(rt: HostRuntime) {
+    assert!(rt; goes_on_in_steps(rt.alloc()));
+    assert!(rt; misses_what_it_may_take(rt.alloc()));
 }

@@ -220,7 +220,7 @@ fn the_end_of_a_name_tells_the_form(rt: HostRuntime) {
 }
 
 // A fault, its text and its exit status.
-const FAULTS: [(RunFault, &str, u8); 26] = [
+const FAULTS: [(RunFault, &str, u8); 27] = [
     (RunFault::WantOfMemory, "out of memory", 3),
     (
         RunFault::ReadFault(FileName::Top),
@@ -282,6 +282,7 @@ const FAULTS: [(RunFault, &str, u8); 26] = [
     (RunFault::SequenceFull, "close refused: SequenceFull", 3),
     (RunFault::UnknownForm, "unknown form", 2),
     (RunFault::BadFilter, "bad filter", 2),
+    (RunFault::BadLimit, "bad limit", 2),
     (RunFault::BadNow, "bad time", 2),
     (RunFault::BadSequence, "bad sequence", 2),
     (

@@ -7,6 +7,7 @@ use Rattle.osm_model.specs.Filter.{FilterValue}
 use Rattle.osm_model.specs.Limits.{max_file}
 use Rattle.osm_save.specs.Save.{SpellsSave}
 use Rattle.osm_save.specs.declared.save.Saved.{Saved}
+use Rattle.osm_state.specs.State.{StateValue}
 use Rattle.osm_state.specs.StateFault.{FaultOf}
 use Rattle.osm_state.specs.declared.paths.Suffix.{Suffix}
 use Rattle.osm_state.specs.declared.paths.Suffix.TheVariants as suffixes
@@ -21,10 +22,10 @@ use Rattle.osm_store.specs.Files.{Files, IsOver}
 use Rattle.osm_folder.specs.Folder.{IsStateFile, max_state}
 use Rattle.osm_folder.specs.Following.{AddsAll, GoesOn, HasFiles, IsBadSave, IsLookedFor}
 use Rattle.osm_folder.specs.Following.{IsOtherSave, IsReached, IsReadable, NumberStops, is_lost}
-use Rattle.osm_folder.specs.Following.{lost_numbers, max_save, ranges}
+use Rattle.osm_folder.specs.Following.{lost_numbers, max_save, ranges, standing_of}
 use Rattle.osm_folder.specs.Names.{file_name_of}
 use Rattle.osm_folder.specs.Publication.{IsBadState}
-use Rattle.osm_folder.specs.Reports.{ReportValue, follow_report_of}
+use Rattle.osm_folder.specs.Reports.{ReportValue, report_of}
 use Rattle.osm_folder.specs.declared.fault.FileName.{FileName}
 use Rattle.osm_folder.specs.declared.fault.FileName.TheVariants.{Top, Sequence, Save}
 use Rattle.osm_folder.specs.declared.fault.RunFault.{RunFault}
@@ -33,6 +34,7 @@ use Rattle.osm_folder.specs.declared.fault.RunFault.TheVariants.{TooLarge, Absen
 use Rattle.osm_folder.specs.declared.fault.RunFault.TheVariants.{BadChange, BadSave, Mismatch}
 use Rattle.osm_folder.specs.declared.fault.RunFault.TheVariants.{OtherFilter}
 use Rattle.osm_folder.specs.declared.form.Form.{Form}
+use Rattle.osm_folder.specs.declared.options.Layout.{Layout}
 use Rattle.osm_folder.specs.declared.form.Form.TheVariants.{Opl, O5c}
 
 -- the follower holds nothing, and isn't broken
@@ -228,15 +230,19 @@ MadeStops f WantOfMemory = Unit {0}
 MadeStops f (TooLarge file) = (file ≡ Save) × IsBigSave f
 MadeStops f fault = ⊥
 
--- the text to save and the report of a run that goes on from the start
-pub record IsMade (files : Files) (dir : List ℕ) (start : Saved) (top : ℕ) (text : List ℕ)
-    (report : ReportValue) : Type 0 where
+-- the text to save and the report of a run that goes on from the start up to a last number
+pub record IsMade (layout : Layout) (fault : Option (List ℕ)) (files : Files) (dir : List ℕ)
+    (start : Saved) (top : StateValue) (last : ℕ) (text : List ℕ) (report : ReportValue) :
+    Type 0 where
   pub count : ℕ
   pub reached : Saved
-  pub goes_on : GoesOn files dir start top count reached
+  pub goes_on : GoesOn files dir start last count reached
   pub spelled : SpellsSave text reached
-  pub report_is : report ≡ follow_report_of (ranges start.number count)
-      (lost_numbers files dir reached.number top) reached.number
+  pub report_is : report ≡ report_of layout fault (record {
+    standing = standing_of reached top;
+    applied = ranges start.number count;
+    missing = lost_numbers files dir reached.number last;
+  })
 
 -- the lost numbers beyond the first aren't named
 pub record StopsBeyond (known : Type 0) (dir : List ℕ) (files : Files) (start : Saved) (top : ℕ)
@@ -248,9 +254,11 @@ pub record StopsBeyond (known : Type 0) (dir : List ℕ) (files : Files) (start 
 
 -- the text to save passes 1 GiB
 pub record IsBig (files : Files) (dir : List ℕ) (start : Saved) (top : ℕ) : Type 0 where
+  pub count : ℕ
+  pub reached : Saved
+  pub goes_on : GoesOn files dir start top count reached
   pub text : List ℕ
-  pub report : ReportValue
-  pub made : IsMade files dir start top text report
+  pub spelled : SpellsSave text reached
   pub over : max_save < length text
 
 -- why what was reached from the start isn't saved

@@ -4,12 +4,13 @@ use Rattle.osm_save.specs.Head.{BeginsSave}
 use Rattle.osm_save.specs.declared.head.Head.{Head}
 use Rattle.osm_state.specs.State.{StateValue}
 use Rattle.osm_follow.specs.Lag.{AreSeconds}
-use Rattle.osm_folder.specs.Lagging.{IsBadHead}
-use Rattle.osm_folder.specs.Reports.{ReportValue, lag_report_of}
+use Rattle.osm_folder.specs.Lagging.{IsBadHead, standing_from}
+use Rattle.osm_folder.specs.Reports.{ReportValue, lag_told}
 use Rattle.osm_folder.specs.declared.fault.FileName.TheVariants.{Save}
 use Rattle.osm_folder.specs.declared.fault.RunFault.{RunFault}
 use Rattle.osm_folder.specs.declared.fault.RunFault.TheVariants.{WantOfMemory, ReadFault, BadSave}
 use Rattle.osm_folder.specs.declared.fault.RunFault.TheVariants.{TopBehind, TimeBehind}
+use Rattle.osm_folder.specs.declared.options.Layout.{Layout}
 
 -- why the head of a save isn't read
 abbrev pub HeadStops : Type 0 → Option (List ℕ) → RunFault → Type 0
@@ -25,12 +26,13 @@ HeadTextStops bytes (BadSave line) = (head : Head) → BeginsSave bytes head →
 HeadTextStops bytes fault = ⊥
 
 -- the numbers and the seconds from a head to a state are reported
-pub record IsTold (start : Head) (top : StateValue) (report : ReportValue) : Type 0 where
+pub record IsTold (layout : Layout) (start : Head) (top : StateValue) (report : ReportValue) :
+    Type 0 where
   pub behind : ℕ
   pub seconds : Option ℕ
   pub behind_is : start.number + behind ≡ top.sequence
   pub seconds_are : AreSeconds start.time top.time seconds
-  pub report_is : report ≡ lag_report_of behind seconds
+  pub report_is : report ≡ lag_told layout (standing_from start top) behind seconds
 
 -- why no lag is reported
 abbrev pub ToldStops : Head → StateValue → RunFault → Type 0

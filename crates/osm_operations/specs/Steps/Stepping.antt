@@ -55,6 +55,7 @@ use Rattle.osm_operations.specs.declared.operation.Reply.TheVariants.{Refused, C
 use Rattle.osm_operations.specs.declared.operation.Reply.TheVariants.{NotThere}
 use Rattle.osm_operations.specs.declared.runs.Spoiled.{Spoiled}
 use Rattle.osm_operations.specs.declared.world.World.{World}
+use Rattle.osm_folder.specs.Following.{plainly}
 
 -- the file holds the batch in OPL
 pub record AreChangesPut (name : List ℕ) (batch : List ChangeValue) (old new : Files) :
@@ -159,7 +160,7 @@ IsReportOf (Err fault) result = result ≡ Err fault
 -- what the word `follow` did: over the folder of what was published nothing is faulty
 abbrev pub FollowStep :
     FilterValue → List ℕ → List ℕ → Result ReportValue RunFault → Files → Files → Type 0
-FollowStep given dir save (Ok report) old new = IsFollowed given dir save old new report
+FollowStep given dir save (Ok report) old new = IsFollowed (plainly given) dir save old new report
 FollowStep given dir save (Err fault) old new =
     (published : List PublishedValue) (base number : ℕ) → IsFolderOf published old dir
     → IsSaveOf published given base number (old save)
@@ -170,8 +171,8 @@ pub record IsOtherRun (given other : FilterValue) (dir save : List ℕ)
     (w : Result Progress RunFault) (old new : Files) : Type 0 where
   pub there : is_none (old save) ≡ false
   pub differs : other ≢ given
-  pub done : IfOk w (IsProgress (IsTrue true) other dir save old new)
-  pub stops : IfErr w (ProgressStops (IsTrue true) other dir save old)
+  pub done : IfOk w (IsProgress (IsTrue true) (plainly other) dir save old new)
+  pub stops : IfErr w (ProgressStops (IsTrue true) (plainly other) dir save old)
   pub kept : OnErr w (new ≡ old)
   pub device : IfErr w IsNoDevice
 
@@ -360,8 +361,8 @@ pub record IsSpoiledRun (given : FilterValue) (dir save name : List ℕ)
   pub during : Files
   pub put : Puts old name (Some spoiled) during
   pub after : Files
-  pub done : IfOk w (IsProgress (IsTrue true) given dir save during after)
-  pub stops : IfErr w (ProgressStops (IsTrue true) given dir save during)
+  pub done : IfOk w (IsProgress (IsTrue true) (plainly given) dir save during after)
+  pub stops : IfErr w (ProgressStops (IsTrue true) (plainly given) dir save during)
   pub kept : OnErr w (after ≡ during)
   pub back : is_some (after name) ≡ true → Puts after name (Some bytes) new
   pub law : NoFaultBesideState

@@ -12,10 +12,10 @@ use Rattle.osm_folder.proofs.follow.follow_run.Goals as goal
 
 pub returns-in_err-made-clause-over : goal.returns-in_err-made-clause-over
 returns-in_err-made-clause-over g c = λ yes p b n is s.
-    same_result (FollowsOver p c.args.filter b n c.args.dir.now c.args.save.now (g.S.Store.state c.args.store.now)
+    same_result (FollowsOver p c.args.options b n c.args.dir.now c.args.save.now (g.S.Store.state c.args.store.now)
     (g.S.Store.state c.prepare.new.store)) c.from_residual.result _ c.from_residual.ensures.1 (record {
       in_step = tt;
-      refuses = follow_refuses c.args.filter c.laws_of_state.ensures.no_fault_beside_state
+      refuses = follow_refuses c.args.options c.laws_of_state.ensures.no_fault_beside_state
           (IsKnown (g.S.Store.state c.args.store.now)) p b n c.args.dir.now c.args.save.now
           (g.S.Store.state c.args.store.now).files _ yes is s c.in_err-made.ensures.stops;
       calls = at_most_more IsDeviceFault (2 + 3 * (length p - n)) (3 + 3 * (length p - n)) _ _ _ (omega arith)
@@ -24,11 +24,11 @@ returns-in_err-made-clause-over g c = λ yes p b n is s.
 
 pub returns-in_err-write_file-clause-over : goal.returns-in_err-write_file-clause-over
 returns-in_err-write_file-clause-over g c = λ yes p b n is s.
-    same_result (FollowsOver p c.args.filter b n c.args.dir.now c.args.save.now (g.S.Store.state c.args.store.now)
+    same_result (FollowsOver p c.args.options b n c.args.dir.now c.args.save.now (g.S.Store.state c.args.store.now)
     (g.S.Store.state c.write_file.new.store)) c.from_residual-in_err-write_file.result _
     c.from_residual-in_err-write_file.ensures.1 (record {
       in_step = tt;
-      refuses = put_save_refuses c.args.filter p _ _ c.in_err-write_file.ensures.stops;
+      refuses = put_save_refuses c.args.options p _ _ c.in_err-write_file.ensures.stops;
       calls = (let all = at_most_both IsDeviceFault (2 + 3 * (length p - n)) 1 (3 + 3 * (length p - n)) _ _ _ _ _ (omega arith)
           c.prepare.ensures.frame.makes.known (c.in_ok-made.ensures.calls yes p b n is s) c.in_err-write_file.ensures.frame.at_most in
           record { spent = tt; lacks = all.lacks });
@@ -38,7 +38,7 @@ pub returns-clause-over : goal.returns-clause-over
 returns-clause-over g c = λ yes p b n is s.
     let then : IsKnown (g.S.Store.state c.prepare.new.store) = subst IsTrue (sym c.prepare.ensures.frame.makes.known) yes in
     record {
-      in_step = in_step_after c.args.filter p b n c.args.dir.now c.args.save.now (g.S.Store.state c.args.store.now).files
+      in_step = in_step_after c.args.options p b n c.args.dir.now c.args.save.now (g.S.Store.state c.args.store.now).files
           (g.S.Store.state c.write_file.new.store).files c.in_ok-made.made.report is s (record {
             text = c.in_ok-made.made.text.items;
             following = c.in_ok-made.ensures.made yes;

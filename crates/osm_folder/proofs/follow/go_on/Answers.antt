@@ -7,13 +7,12 @@ pub returns-clause-report : goal.returns-clause-report
 returns-clause-report g c =
     let gap = rw c.number_of.ensures at c.in_ok-missing.ensures.gap in
     ok_map _ _ c.make.result c.make.ensures.report (λ a is.
-    follow_report_is _ _ _ _ _ _ c.in_ok-applied.applied.items _ c.in_ok-missing.missing.items _ a.report
-    c.in_ok-applied.ensures.taken gap c.as_slice-2.ensures.value c.as_slice.ensures.value is)
+    follow_report_is _ _ _ _ _ _ _ c.args.telling.now.top c.args.last c.in_ok-applied.applied.items _ c.in_ok-missing.missing.items _ a.report
+    c.in_ok-applied.ensures.taken c.requires.below gap c.as_slice-2.ensures.value c.as_slice.ensures.value is)
 
 pub returns-clause-stops : goal.returns-clause-stops
 returns-clause-stops g c =
-    let lost = rw (c.take_up.ensures.frame.makes.known, c.take_up.ensures.frame.files, c.number_of.ensures) at c.in_ok-missing.ensures.missing in
     err_map _ _ c.make.result c.make.ensures.stops (λ fault stops.
     big_stops (IsKnown (g.S.Store.state c.args.store.now)) (g.S.Store.state c.args.store.now).files c.args.dir.now
-    c.args.follower.now c.take_up.new.follower c.args.top c.in_ok-applied.applied.items c.in_ok-missing.missing.items fault
-    c.in_ok-applied.ensures.taken lost stops)
+    c.args.follower.now c.take_up.new.follower c.args.last c.in_ok-applied.applied.items fault
+    c.in_ok-applied.ensures.taken stops)

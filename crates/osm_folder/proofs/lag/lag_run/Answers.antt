@@ -12,7 +12,7 @@ returns-in_err-start-clause-stops g c =
 
 pub returns-in_err-start-clause-over : goal.returns-in_err-start-clause-over
 returns-in_err-start-clause-over g c = λ yes p given b n is s.
-    same_result (LagsOver p n) c.from_residual.result _ c.from_residual.ensures.1 (record {
+    same_result (LagsOver c.args.layout p b n) c.from_residual.result _ c.from_residual.ensures.1 (record {
       in_step = tt;
       refuses = lag_refuses given p b n c.args.dir.now c.args.save.now (g.S.Store.state c.args.store.now).files
           (IsKnown (g.S.Store.state c.args.store.now)) _ c.laws_of_state.ensures.no_fault_beside_state yes is s
@@ -29,7 +29,7 @@ returns-in_err-top-clause-stops g c =
 
 pub returns-in_err-top-clause-over : goal.returns-in_err-top-clause-over
 returns-in_err-top-clause-over g c = λ yes p given b n is s.
-    same_result (LagsOver p n) c.from_residual-in_err-top.result _ c.from_residual-in_err-top.ensures.1 (record {
+    same_result (LagsOver c.args.layout p b n) c.from_residual-in_err-top.result _ c.from_residual-in_err-top.ensures.1 (record {
       in_step = tt;
       refuses = lag_refuses given p b n c.args.dir.now c.args.save.now (g.S.Store.state c.args.store.now).files
           (IsKnown (g.S.Store.state c.args.store.now)) _ c.laws_of_state.ensures.no_fault_beside_state yes is s
@@ -42,7 +42,7 @@ pub returns-clause-lag : goal.returns-clause-lag
 returns-clause-lag g c =
     let top = rw (c.read_start.ensures.frame.makes.known, c.read_start.ensures.frame.files) at c.in_ok-top.ensures.top in
     ok_map _ _ c.tell.result c.tell.ensures.told (λ report told yes.
-    is_lag _ _ _ c.in_ok-start.start c.in_ok-top.top report
+    is_lag c.args.layout _ _ _ c.in_ok-start.start c.in_ok-top.top report
     (record { head = c.in_ok-start.ensures.head yes; top_is = top yes }) told)
 
 pub returns-clause-stops : goal.returns-clause-stops
@@ -60,8 +60,8 @@ returns-clause-over g c = λ yes p given b n is s.
     c.in_ok-top.top = record { head = c.in_ok-start.ensures.head yes; top_is = top yes } in
     record {
       in_step = ok_map _ _ c.tell.result c.tell.ensures.told (λ report told.
-          lag_of given p b n c.args.dir.now c.args.save.now (g.S.Store.state c.args.store.now).files report is s
-          (is_lag _ _ _ c.in_ok-start.start c.in_ok-top.top report begun told));
+          lag_of c.args.layout given p b n c.args.dir.now c.args.save.now (g.S.Store.state c.args.store.now).files report is s
+          (is_lag c.args.layout _ _ _ c.in_ok-start.start c.in_ok-top.top report begun told));
       refuses = err_map _ _ c.tell.result c.tell.ensures.stops (λ fault stops.
           lag_refuses given p b n c.args.dir.now c.args.save.now (g.S.Store.state c.args.store.now).files
           (IsKnown (g.S.Store.state c.args.store.now)) fault c.laws_of_state.ensures.no_fault_beside_state yes is s

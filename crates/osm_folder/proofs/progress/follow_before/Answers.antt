@@ -8,21 +8,21 @@ use Rattle.osm_folder.proofs.progress.follow_before.Goals as goal
 
 pub returns-in_err-made-clause-stops : goal.returns-in_err-made-clause-stops
 returns-in_err-made-clause-stops g c =
-    same_err _ c.from_residual.result _ c.from_residual.ensures.1
-    (made_before_stops c.args.filter c.laws_of_state.ensures.no_fault_beside_state (IsKnown (g.S.Store.state c.args.store.now))
+    same_err _ c.from_residual-in_err-made.result _ c.from_residual-in_err-made.ensures.1
+    (made_before_stops c.args.options c.laws_of_state.ensures.no_fault_beside_state (IsKnown (g.S.Store.state c.args.store.now))
     c.args.dir.now c.args.save.now (g.S.Store.state c.args.store.now).files c.args.fault _ c.args.number
     c.requires.content c.requires.stops c.in_err-made.ensures.stops)
 
 pub returns-in_default-clause-stops : goal.returns-in_default-clause-stops
 returns-in_default-clause-stops g c =
-    next_stops c.args.filter (IsKnown (g.S.Store.state c.args.store.now)) c.args.dir.now c.args.save.now
+    next_stops c.args.options (IsKnown (g.S.Store.state c.args.store.now)) c.args.dir.now c.args.save.now
     (g.S.Store.state c.args.store.now).files c.args.fault c.args.number c.requires.content c.requires.stops
     (rw c.in_default.is at c.in_ok-made.ensures.made)
 
 pub returns-in_err-write_file-clause-stops : goal.returns-in_err-write_file-clause-stops
 returns-in_err-write_file-clause-stops g c =
     same_err _ c.from_residual-in_err-write_file.result _ c.from_residual-in_err-write_file.ensures.1
-    (put_before_stops c.args.filter (IsKnown (g.S.Store.state c.args.store.now)) c.args.dir.now c.args.save.now
+    (put_before_stops c.args.options (IsKnown (g.S.Store.state c.args.store.now)) c.args.dir.now c.args.save.now
     (g.S.Store.state c.args.store.now).files c.args.fault _ c.args.number c.in-Some.made.text.items
     c.in-Some.made.report c.requires.content c.requires.stops (rw c.in-Some.is at c.in_ok-made.ensures.made)
     (rw c.in-Some.is at c.in_ok-made.ensures.small) c.in_err-write_file.ensures.stops)
@@ -33,7 +33,7 @@ returns-clause-done g c = λ yes.
     subst IsTrue (sym c.prepare_before.ensures.frame.makes.known) yes in
     record {
       text = c.in-Some.made.text.items;
-      before = comes_before c.args.filter (IsKnown (g.S.Store.state c.args.store.now)) c.args.dir.now c.args.save.now
+      before = comes_before c.args.options (IsKnown (g.S.Store.state c.args.store.now)) c.args.dir.now c.args.save.now
           (g.S.Store.state c.args.store.now).files c.args.fault c.args.number c.in-Some.made.text.items
           c.in-Some.made.report c.requires.content c.requires.stops yes
           ((rw c.in-Some.is at c.in_ok-made.ensures.made) yes);

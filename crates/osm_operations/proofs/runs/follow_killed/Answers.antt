@@ -13,10 +13,10 @@ returns-clause-step c =
     follow_step c.args.filter.now c.args.dir.now c.args.save.now (files_of c.args.store.now) (files_of c.stopping_over-stopping.result.inner)
     (files_of c.follow_progress-progress.new.store.inner) (files_of c.into_inner.result) c.follow_progress-progress.result
     c.report_of.result c.report_of.ensures c.stopping_over-stopping.ensures.inner (ap files_of c.into_inner.ensures)
-    (rw (← c.in_ok-filter.ensures.ok) c.follow_progress-progress.ensures.done)
+    (rw (← c.in_ok-filter.ensures.ok) (rw c.new.ensures at c.follow_progress-progress.ensures.done))
     (progress_over_refuses c.args.filter.now c.args.dir.now c.args.save.now (stopping_state memory_state c.stopping_over-stopping.result)
     (stopping_state memory_state c.follow_progress-progress.new.store) c.follow_progress-progress.result
-    (rw (← c.in_ok-filter.ensures.ok) c.follow_progress-progress.ensures.over))
+    (rw (← c.in_ok-filter.ensures.ok) (rw c.new.ensures at c.follow_progress-progress.ensures.over)))
     c.follow_progress-progress.ensures.frame.files
 
 pub returns-clause-lacks : goal.returns-clause-lacks
@@ -24,7 +24,7 @@ returns-clause-lacks c =
     err_map _ _ c.report_of.result (progress_lacks c.args.filter.now c.args.dir.now c.args.save.now
     (stopping_state memory_state c.stopping_over-stopping.result) (stopping_state memory_state c.follow_progress-progress.new.store)
     c.follow_progress-progress.result c.report_of.result
-    c.report_of.ensures (rw (← c.in_ok-filter.ensures.ok) c.follow_progress-progress.ensures.over))
+    c.report_of.ensures (rw (← c.in_ok-filter.ensures.ok) (rw c.new.ensures at c.follow_progress-progress.ensures.over)))
     (λ fault lacks p base n folder saved.
     subst (λ calls. LacksCalls (follow_calls p n) (Some calls) fault) c.stopping_over-stopping.ensures.calls
     (lacks refl p base n (subst (λ (f : Files). IsFolderOf p f c.args.dir.now) (sym c.stopping_over-stopping.ensures.inner) folder)

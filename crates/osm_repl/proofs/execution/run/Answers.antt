@@ -12,7 +12,7 @@ pub returns-in-Begin-clause-over : goal.returns-in-Begin-clause-over
 returns-in-Begin-clause-over g c = rw c.in-Begin.is c.begin_run.ensures.in_step
 
 pub returns-in-Lag-clause-over : goal.returns-in-Lag-clause-over
-returns-in-Lag-clause-over g c = rw c.in-Lag.is (lag_does c.args.filter c.in-Lag.dir c.in-Lag.save (g.S.Store.state c.args.store.now) (g.S.Store.state c.lag_run.new.store)
+returns-in-Lag-clause-over g c = rw c.in-Lag.is (lag_does c.args.options c.in-Lag.dir c.in-Lag.save (g.S.Store.state c.args.store.now) (g.S.Store.state c.lag_run.new.store)
     c.lag_run.result c.lag_run.ensures.over)
 
 pub returns-in-Show-clause-over : goal.returns-in-Show-clause-over
@@ -28,7 +28,7 @@ pub returns-in-PublishAs-clause-refuses : goal.returns-in-PublishAs-clause-refus
 returns-in-PublishAs-clause-refuses g c = rw c.in-PublishAs.is (number_refuses _ _ _ _ _ _ _ c.publish_as_run.result c.publish_as_run.ensures.over)
 
 pub returns-in-Lag-clause-refuses : goal.returns-in-Lag-clause-refuses
-returns-in-Lag-clause-refuses g c = rw c.in-Lag.is (lag_stops c.args.filter c.in-Lag.dir c.in-Lag.save (g.S.Store.state c.args.store.now)
+returns-in-Lag-clause-refuses g c = rw c.in-Lag.is (lag_stops c.args.options c.in-Lag.dir c.in-Lag.save (g.S.Store.state c.args.store.now)
     (g.S.Store.state c.lag_run.new.store) c.lag_run.result c.lag_run.ensures.over)
 
 pub returns-in-Publish-clause-over : goal.returns-in-Publish-clause-over

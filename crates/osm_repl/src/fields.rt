@@ -1,0 +1,128 @@
+//! The field of a line of an OPL file that isn't read.
+
+use osm_model::form::Why;
+use osm_opl::lines::{LineError, read_line};
+use osm_reading::lines::split_line;
+use osm_reading::pieces::cut;
+use std::alloc::{AllocError, Global};
+
+// Longer fields are cut.
+const MOST_SHOWN: usize = 60;
+
+// Fields of an object of each kind that are right.
+const NODE: &[&[u8]] = &[
+    b"n1",
+    b"v1",
+    b"dV",
+    b"c1",
+    b"t2024-01-01T00:00:00Z",
+    b"i1",
+    b"ua",
+    b"T",
+    b"x1",
+    b"y1",
+];
+
+const WAY: &[&[u8]] = &[
+    b"w1",
+    b"v1",
+    b"dV",
+    b"c1",
+    b"t2024-01-01T00:00:00Z",
+    b"i1",
+    b"ua",
+    b"T",
+    b"N",
+];
+
+const RELATION: &[&[u8]] = &[
+    b"r1",
+    b"v1",
+    b"dV",
+    b"c1",
+    b"t2024-01-01T00:00:00Z",
+    b"i1",
+    b"ua",
+    b"T",
+    b"M",
+];
+
+/// The field of that line, counted from 1, that is a `BadField`: `field`, and up to 60 characters
+/// of it, or `no field`, and the letter of the one that is missing. Nothing if it isn't found.
+///
+/// It is the first field with which the line isn't read any more, if all the fields after it are
+/// replaced by ones that are right.
+pub fn field_text(alloc: Global, bytes: &[u8], place: u64) -> Result<String, AllocError> {
+    match line_at(bytes, place) {
+        Some(line) => field_of_line(alloc, line),
+        None => Ok(String::new(alloc)),
+    }
+}
+
+fn line_at(bytes: &[u8], place: u64) -> Option<&[u8]> {
+    let mut rest = Some(bytes);
+    for _ in 1..place {
+        rest = split_line(rest?).1;
+    }
+    Some(split_line(rest?).0)
+}
+
+fn field_of_line(alloc: Global, line: &[u8]) -> Result<String, AllocError> {
+    let mut right = right_fields(line);
+    let mut read = Vec::new(alloc);
+    let mut rest = Some(line);
+    for _ in 0..=right.len() {
+        let Some(fields) = rest else {
+            return missing_text(alloc, right);
+        };
+        let (field, after) = cut(fields, b' ');
+        right = right.split_first().map_or(right, |(_, others)| others);
+        read.extend_from_slice(field)?;
+        if is_bad(alloc, read.as_slice(), right)? {
+            return bad_text(alloc, field);
+        }
+        read.push(b' ')?;
+        rest = after;
+    }
+    Ok(String::new(alloc))
+}
+
+// The right fields of the line's kind.
+fn right_fields(line: &[u8]) -> &'static [&'static [u8]] {
+    match line.first() {
+        Some(b'w') => WAY,
+        Some(b'r') => RELATION,
+        _ => NODE,
+    }
+}
+
+// Whether the line of the fields that are read and of the right ones after them has a bad field.
+fn is_bad(alloc: Global, read: &[u8], right: &[&[u8]]) -> Result<bool, AllocError> {
+    let mut line = Vec::from_slice(alloc, read)?;
+    for field in right {
+        line.push(b' ')?;
+        line.extend_from_slice(field)?;
+    }
+    match read_line(alloc, line.as_slice()) {
+        Err(LineError::Fault(Why::BadField)) => Ok(true),
+        _ => Ok(false),
+    }
+}
+
+fn bad_text(alloc: Global, field: &[u8]) -> Result<String, AllocError> {
+    let mut text = String::from_str(alloc, "field ")?;
+    if let Ok(field) = std::str::from_utf8(field) {
+        for character in field.chars().take(MOST_SHOWN) {
+            text.push(character)?;
+        }
+    }
+    Ok(text)
+}
+
+fn missing_text(alloc: Global, right: &[&[u8]]) -> Result<String, AllocError> {
+    let mut text = String::from_str(alloc, "no field ")?;
+    if let Some((letter, _)) = right.first().and_then(|field| field.split_first()) {
+        text.push(char::from(*letter))?;
+    }
+    Ok(text)
+}
