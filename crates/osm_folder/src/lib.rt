@@ -2,13 +2,13 @@
 #![tactic(auto)]
 
 pub mod begin;
-mod compare;
+pub mod compare;
 pub mod convert;
 pub mod data_form;
 pub mod export;
 pub mod fault;
 mod fetch;
-mod files;
+pub mod files;
 pub mod filters;
 pub mod follow;
 pub mod form;

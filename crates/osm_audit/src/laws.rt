@@ -1,0 +1,21 @@
+//! What a whole folder means for those who follow it or publish in it.
+
+ghost use Rattle.osm_audit.specs.Laws.{WholeIsFolder, WholeIsFollowed, WholeIsPublishedIn};
+ghost use Rattle.osm_audit.specs.Laws.{WholeIsReadable};
+
+use osm_state::laws::laws_of_state;
+
+/// Tells the prover that no file of a folder without findings is why a run over it stops: each
+/// number can be read and none is lost; up to its newest state it can be followed from a save that
+/// isn't below the number before the first one, and published in; and from 1 on it is the folder of
+/// published sequences, of which the runs' own contracts speak. Memory, the device, sizes of saves
+/// and of what is written, and the time of a publication may still stop a run. Does nothing at run
+/// time.
+pub fn laws_of_audits()
+    ensures readable { WholeIsReadable }
+    ensures followed { WholeIsFollowed }
+    ensures published_in { WholeIsPublishedIn }
+    ensures is_folder { WholeIsFolder }
+{
+    laws_of_state();
+}
