@@ -1,7 +1,7 @@
 -- What an audit finds in the files of a folder, from a first number to a last one: each file that is
 -- wrong, once, with its cause, in the order of the numbers.
 use Rattle.std.specs.Prelude.{◌≡◌, ℕ, zero, suc, ◌+◌, ◌-◌, ◌<◌, ◌≤◌, List, [], ◌∷◌, ◌++◌, length}
-use Rattle.std.specs.Prelude.{Option, Some, None}
+use Rattle.std.specs.Prelude.{Contains, Option, Some, None}
 use Rattle.osm_model.specs.Change.{ChangeValue}
 use Rattle.osm_model.specs.Limits.{max_file}
 use Rattle.osm_state.specs.declared.paths.Suffix.{Suffix}
@@ -143,3 +143,23 @@ pub record AreFindings (files : Files) (dir : List ℕ) (from to : ℕ) (found :
   pub numbers_are : AreOfNumbers files dir from (to + 1 - from) numbers
   pub top_said : IsTopSaid files dir from to top
   pub found_are : found ≡ numbers ++ noted to Top top
+
+-- a finding of a number is true: its file is one of that number, which is in the range, and it is
+-- wrong for that cause
+pub record IsOfNumber (files : Files) (dir : List ℕ) (from to : ℕ) (f : Finding) : Type 0 where
+  pub suffix : Suffix
+  pub file_is : f.file ≡ Sequence f.number suffix
+  pub low : from ≤ f.number
+  pub high : f.number ≤ to
+  pub wrong : IsWrong files dir from f.number suffix f.cause
+
+-- a finding of the newest state is true
+pub record IsOfTop (files : Files) (dir : List ℕ) (from to : ℕ) (f : Finding) : Type 0 where
+  pub number_is : f.number ≡ to
+  pub file_is : f.file ≡ Top
+  pub cause_is : f.cause ≡ Differs
+  pub wrong : IsOtherTop files dir from to
+
+-- a file is named by a finding
+abbrev pub IsFound : List Finding → FileName → Type 0
+IsFound found file = (f : Finding) × Contains found f × (f.file ≡ file)

@@ -1,6 +1,6 @@
--- What a whole folder means for those who follow it or publish in it. `is_known` says that it is
--- known what the files hold.
-use Rattle.std.specs.Prelude.{◌≡◌, ℕ, ◌+◌, ◌<◌, ◌≤◌, List, Bool, IsTrue, None, false}
+-- What findings mean, and what a whole folder means for those who follow it or publish in it.
+-- `is_known` says that it is known what the files hold.
+use Rattle.std.specs.Prelude.{◌≡◌, ℕ, ◌+◌, ◌<◌, ◌≤◌, ◌⊎◌, List, Bool, Contains, IsTrue, None, false}
 use Rattle.osm_save.specs.declared.save.Saved.{Saved}
 use Rattle.osm_state.specs.declared.paths.Suffix.{Suffix}
 use Rattle.osm_store.specs.Files.{Files}
@@ -14,7 +14,10 @@ use Rattle.osm_folder.specs.declared.fault.RunFault.TheVariants.{TooLarge, Absen
 use Rattle.osm_folder.specs.declared.fault.RunFault.TheVariants.{BadChange}
 use Rattle.osm_folder.specs.declared.options.FollowOptions.{FollowOptions}
 use Rattle.osm_audit.specs.Audit.{IsLast}
+use Rattle.osm_audit.specs.Findings.{AreFindings, IsFound, IsOfNumber, IsOfTop, IsOtherTop, IsWrong}
 use Rattle.osm_audit.specs.Whole.{IsWhole}
+use Rattle.osm_audit.specs.declared.finding.Cause.{Cause}
+use Rattle.osm_audit.specs.declared.finding.Finding.{Finding}
 
 -- the file is one of a folder
 abbrev pub IsFolderFile : FileName → Type 0
@@ -56,3 +59,20 @@ WholeIsPublishedIn = (is_known : Bool) (dir changes now : List ℕ) (files new :
 abbrev pub WholeIsFolder : Type 0
 WholeIsFolder = (files : Files) (dir : List ℕ) (to : ℕ) → 0 < to → (w : IsWhole files dir 1 to)
     → IsLast None dir files to → IsFolderOf w.published files dir
+
+-- each finding is true
+abbrev pub FindingsAreTrue : Type 0
+FindingsAreTrue = (files : Files) (dir : List ℕ) (from to : ℕ) (found : List Finding)
+    (f : Finding) → AreFindings files dir from to found → Contains found f
+    → IsOfNumber files dir from to f ⊎ IsOfTop files dir from to f
+
+-- each file of a number that is wrong for some cause has a finding
+abbrev pub WrongFilesAreFound : Type 0
+WrongFilesAreFound = (files : Files) (dir : List ℕ) (from to k : ℕ) (suffix : Suffix)
+    (cause : Cause) (found : List Finding) → AreFindings files dir from to found → from ≤ k → k ≤ to
+    → IsWrong files dir from k suffix cause → IsFound found (Sequence k suffix)
+
+-- so has the newest state
+abbrev pub WrongTopIsFound : Type 0
+WrongTopIsFound = (files : Files) (dir : List ℕ) (from to : ℕ) (found : List Finding)
+    → AreFindings files dir from to found → IsOtherTop files dir from to → IsFound found Top

@@ -1,5 +1,5 @@
 use Rattle.osm_audit.proofs.LawLemmas.{whole_is_followed, whole_is_folder, whole_is_published_in, whole_is_readable}
-use Rattle.osm_audit.proofs.laws.laws_of_audits.Goals as goal
+use Rattle.osm_audit.proofs.laws.laws_of_whole_folders.Goals as goal
 
 pub returns-clause-readable : goal.returns-clause-readable
 returns-clause-readable c = whole_is_readable
