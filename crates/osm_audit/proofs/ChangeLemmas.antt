@@ -1,5 +1,5 @@
 -- What is said of two change files, from what each holds.
-use Rattle.std.proofs.Common.{◌≡◌, ℕ, ◌<◌, ◌≤◌, List, length, Option, Some, None, arith, refl, ap, sym, subst, ◌∙◌}
+use Rattle.std.proofs.Common.{◌≡◌, ℕ, List, length, Option, Some, None, arith, ap, sym, subst, ◌∙◌}
 use Rattle.std.proofs.lemmas.Option.{same_Some}
 use Rattle.osm_model.specs.Change.{ChangeValue}
 use Rattle.osm_model.specs.Limits.{max_file}
@@ -9,8 +9,8 @@ use Rattle.osm_folder.specs.Folder.{IsThere}
 use Rattle.osm_folder.specs.Forms.{IsFaulty}
 use Rattle.osm_folder.specs.declared.form.Form.{Form}
 use Rattle.osm_folder.specs.declared.form.Form.TheVariants as forms
-use Rattle.osm_audit.specs.Findings.{HasChanges, IsO5cRight, IsO5cWrong, IsOplRight, IsOplWrong}
-use Rattle.osm_audit.specs.Steps.Looking.{AreChangesSaid, IsHeld, IsO5cSaid, IsOplSaid, cause_in}
+use Rattle.osm_audit.specs.Findings.{HasChanges, IsO5cWrong, IsOplRight, IsOplWrong}
+use Rattle.osm_audit.specs.Steps.Looking.{AreChangesSaid, IsHeld, IsOplSaid, cause_in}
 use Rattle.osm_audit.specs.declared.changes.Held.{Held}
 use Rattle.osm_audit.specs.declared.changes.Held.TheVariants as held
 use Rattle.osm_audit.specs.declared.finding.Cause.{Cause}
@@ -51,12 +51,8 @@ o5c_wrong o5c opl Mismatch w = absurd w
 o5c_wrong o5c opl TimeBack w = absurd w
 o5c_wrong o5c opl Differs w = absurd w
 
-pub o5c_right : (o5c opl : Option (List ℕ)) (changes : List ChangeValue) → IsThere o5c (HasChanges forms.O5c changes) → IsO5cRight o5c opl
-o5c_right None opl changes h = absurd h
-o5c_right (Some bytes) opl changes h = (changes, h)
-
 -- what is said of an OPL file that can't be read
-pub opl_wrong : (o5c opl : Option (List ℕ)) (cause : Cause) → IsHeld forms.Opl opl (held.Wrong cause) → IsOplWrong o5c opl cause
+opl_wrong : (o5c opl : Option (List ℕ)) (cause : Cause) → IsHeld forms.Opl opl (held.Wrong cause) → IsOplWrong o5c opl cause
 opl_wrong o5c opl TooLarge w = w
 opl_wrong o5c opl (BadChange place why) w = w
 opl_wrong o5c opl Absent w = absurd w
@@ -84,38 +80,7 @@ pub opl_same : (o5c opl : Option (List ℕ)) (others changes : List ChangeValue)
 opl_same o5c None others changes p h same = absurd h
 opl_same o5c (Some bytes) others changes p h same = (changes, h, λ more there. one_o5c o5c more others there p ∙ same)
 
-pub opl_other : (o5c opl : Option (List ℕ)) (others changes : List ChangeValue) → IsThere o5c (HasChanges forms.O5c others)
-    → IsHeld forms.Opl opl (held.Changes changes) → (others ≡ changes → ⊥) → IsOplWrong o5c opl Differs
-opl_other o5c opl others changes p h apart = (others, changes, p, h, apart)
-
-pub opl_read : (o5c opl : Option (List ℕ)) (others : List ChangeValue) (holds : Held) → IsThere o5c (HasChanges forms.O5c others)
-    → ((changes : List ChangeValue) → holds ≡ held.Changes changes → ⊥) → IsHeld forms.Opl opl holds → IsOplSaid o5c opl (cause_in holds)
-opl_read o5c opl others held.Absent p not h = subst (λ (o : Option (List ℕ)). IsOplRight o5c o) (sym h) tt
-opl_read o5c opl others (held.Wrong cause) p not h = opl_wrong o5c opl cause h
-opl_read o5c opl others (held.Changes changes) p not h = absurd (not changes refl)
-
 -- an o5c file that isn't there
 pub without_o5c : (o5c opl : Option (List ℕ)) (first second : Option Cause) → o5c ≡ None → AreChangesSaid None opl first second
     → AreChangesSaid o5c opl first second
 without_o5c o5c opl first second none said = subst (λ (o : Option (List ℕ)). AreChangesSaid o opl first second) (sym none) said
-
--- neither is there
-pub neither : (opl : Option (List ℕ)) → opl ≡ None → AreChangesSaid None opl (Some Absent) None
-neither opl none = subst (λ (o : Option (List ℕ)). AreChangesSaid None o (Some Absent) None) (sym none) ((refl, refl), tt)
-
--- only the OPL file is there
-pub opl_only : (opl : Option (List ℕ)) (holds : Held) → (holds ≡ held.Absent → ⊥) → IsHeld forms.Opl opl holds
-    → AreChangesSaid None opl None (cause_in holds)
-opl_only opl holds there h = (right opl holds there h, opl_alone None opl holds (λ others none. none) h)
-  where
-    right : (told : Option (List ℕ)) (x : Held) → (x ≡ held.Absent → ⊥) → IsHeld forms.Opl told x → IsO5cRight None told
-    right (Some bytes) x there h = tt
-    right None held.Absent there h = absurd (there refl)
-    right None (held.Wrong TooLarge) there h = (let e = h.there in cc)
-    right None (held.Wrong (BadChange place why)) there h = absurd h
-    right None (held.Wrong Absent) there h = absurd h
-    right None (held.Wrong (BadState e)) there h = absurd h
-    right None (held.Wrong Mismatch) there h = absurd h
-    right None (held.Wrong TimeBack) there h = absurd h
-    right None (held.Wrong Differs) there h = absurd h
-    right None (held.Changes changes) there h = absurd h

@@ -1,21 +1,20 @@
 -- Each finding is true, and each file that is wrong has one.
-use Rattle.std.proofs.Common.{◌≡◌, ℕ, zero, suc, ◌+◌, ◌-◌, ◌<◌, ◌≤◌, List, [], ◌∷◌, ◌++◌, length, Option, Some, None, inl, inr}
-use Rattle.std.proofs.Common.{arith, refl, sym, ap, subst, ◌∙◌}
+use Rattle.std.proofs.Common.{◌≡◌, ℕ, zero, suc, ◌+◌, ◌-◌, ◌<◌, ◌≤◌, List, [], ◌∷◌, ◌++◌, Option, Some, None, inl, inr}
+use Rattle.std.proofs.Common.{arith, refl, sym, subst, ◌∙◌}
 use Rattle.std.specs.Prelude.{◌⊎◌, Contains}
 use Rattle.std.proofs.lemmas.Bool.{cases_lt}
 use Rattle.std.proofs.lemmas.List.Elements.{Contains-append_cases, Contains-append_left, Contains-append_right, Contains-push}
-use Rattle.osm_model.specs.Change.{ChangeValue}
 use Rattle.osm_opl.proofs.FileLaws as opl_file
 use Rattle.osm_state.specs.StateLaws.{NoFaultBesideState}
 use Rattle.osm_state.specs.declared.paths.Suffix.{Suffix}
 use Rattle.osm_state.specs.declared.paths.Suffix.TheVariants.{O5c, Opl, State}
-use Rattle.osm_store.specs.Files.{Files, IsOver}
+use Rattle.osm_store.specs.Files.{Files}
 use Rattle.osm_folder.specs.Folder.{IsStateFile, IsThere}
 use Rattle.osm_folder.specs.Names.{file_name_of}
 use Rattle.osm_folder.specs.declared.fault.FileName.{FileName}
 use Rattle.osm_folder.specs.declared.fault.FileName.TheVariants.{Top, Sequence}
 use Rattle.osm_folder.specs.declared.form.Form.TheVariants as forms
-use Rattle.osm_audit.specs.Findings.{AreFindings, AreOfNumber, AreOfNumbers, Falls, HasChanges, IsFound, IsO5cRight, IsO5cWrong, IsOfNumber, IsOfTop}
+use Rattle.osm_audit.specs.Findings.{AreFindings, AreOfNumber, AreOfNumbers, Falls, IsFound, IsO5cRight, IsO5cWrong, IsOfNumber, IsOfTop}
 use Rattle.osm_audit.specs.Findings.{IsOplRight, IsOplWrong, IsOtherTop, IsRight, IsSaid, IsTopSaid, IsWrong, noted}
 use Rattle.osm_audit.specs.declared.finding.Cause.{Cause}
 use Rattle.osm_audit.specs.declared.finding.Cause.TheVariants.{Absent, TooLarge, BadState, Mismatch, TimeBack, BadChange, Differs}
@@ -38,9 +37,6 @@ state_either apart files dir from n TimeBack right wrong =
     (one_time (files (file_name_of dir n State)) n wrong.0 right.0 wrong.1 right.1) wrong.2)
 state_either apart files dir from n (BadChange place why) right wrong = wrong
 state_either apart files dir from n Differs right wrong = wrong
-
-over_none : (limit : ℕ) → IsOver limit None → ⊥
-over_none limit o = (let e = o.there in cc)
 
 o5c_either : (o5c opl : Option (List ℕ)) (cause : Cause) → IsO5cRight o5c opl → IsO5cWrong o5c opl cause → ⊥
 o5c_either None None cause right wrong = right

@@ -1,33 +1,29 @@
 -- No file of a whole folder stops a run.
-use Rattle.std.proofs.Common.{◌≡◌, ◌≢◌, ℕ, ◌+◌, ◌-◌, ◌<◌, ◌≤◌, List, length, Option, Some, None, inl, inr, true, false, arith, refl, sym, ap, subst, ◌∙◌}
-use Rattle.std.specs.Prelude.{◌||◌, ◌&&◌, ◌⊎◌, Bool, IsTrue, is_none, min}
+use Rattle.std.proofs.Common.{◌≡◌, ℕ, ◌+◌, ◌<◌, ◌≤◌, List, length, Option, Some, None, inl, inr, true, false, arith, sym, subst}
+use Rattle.std.specs.Prelude.{◌||◌, ◌&&◌, ◌⊎◌, Bool, IsTrue, is_none}
 use Rattle.osm_model.specs.Filter.{FilterValue}
 use Rattle.osm_model.specs.Limits.{max_file}
 use Rattle.osm_save.specs.declared.save.Saved.{Saved}
-use Rattle.osm_state.specs.State.{StateValue}
 use Rattle.osm_state.specs.StateLaws.{NoFaultBesideState}
 use Rattle.osm_state.specs.declared.paths.Suffix.{Suffix}
 use Rattle.osm_state.specs.declared.paths.Suffix.TheVariants.{O5c, Opl, State}
 use Rattle.osm_follow.specs.Published.{PublishedValue, sequence_at}
 use Rattle.osm_store.specs.Files.{Files, IsOver}
-use Rattle.osm_folder.specs.Folder.{IsAbsentOr, IsFile, IsFolderOf, IsStateFile, IsThere, IsTop, max_state}
-use Rattle.osm_folder.specs.Following.{AreChanges, BeyondStops, FollowStops, HasFiles, IsReadable, IsSaved, NumberStops, SaveStops, StartStops, StopsAt}
-use Rattle.osm_folder.specs.Following.{end_of, is_lost, last_number}
+use Rattle.osm_folder.specs.Folder.{IsAbsentOr, IsFile, IsFolderOf, IsStateFile, IsThere, max_state}
+use Rattle.osm_folder.specs.Following.{AreChanges, BeyondStops, FollowStops, IsReadable, IsSaved, NumberStops, SaveStops, StartStops, StopsAt}
+use Rattle.osm_folder.specs.Following.{is_lost, last_number}
 use Rattle.osm_folder.specs.Names.{file_name_of, top_name_of}
 use Rattle.osm_folder.specs.Numbered.{AreFilesOf}
 use Rattle.osm_folder.specs.Publication.{CutsOff, HasTop, IsBadState, IsBig, IsReadWith, NotReady, PublishStops}
 use Rattle.osm_folder.specs.declared.fault.FileName.{FileName}
-use Rattle.osm_folder.specs.declared.fault.FileName.TheVariants.{Top, Sequence, Save, Base, Changes, Input, Output}
-use Rattle.osm_folder.specs.declared.fault.FileName.TheVariants as names
+use Rattle.osm_folder.specs.declared.fault.FileName.TheVariants.{Top, Sequence, Save, Changes}
 use Rattle.osm_folder.specs.declared.fault.RunFault.{RunFault}
-use Rattle.osm_folder.specs.declared.fault.RunFault.TheVariants.{WantOfMemory, ReadFault, WriteFault, TooLarge, Absent, BadState, Mismatch, BadChange}
+use Rattle.osm_folder.specs.declared.fault.RunFault.TheVariants.{WantOfMemory, ReadFault, TooLarge, Absent, BadState, Mismatch, BadChange}
 use Rattle.osm_folder.specs.declared.form.Form.TheVariants as forms
 use Rattle.osm_folder.specs.declared.options.FollowOptions.{FollowOptions}
 use Rattle.osm_audit.specs.Audit.{IsLast}
-use Rattle.osm_audit.specs.Findings.{HasChanges}
 use Rattle.osm_audit.specs.Laws.{IsFolderFile, IsOfFolder}
 use Rattle.osm_audit.specs.Whole.{IsWhole}
-use Rattle.osm_audit.proofs.ChangeLemmas.{faulty_changes, over_changes}
 use Rattle.osm_audit.proofs.StateLemmas.{bad_state, one_file, over_state}
 use Rattle.osm_audit.proofs.WholeLemmas.{AreOf, absent_changes, faulty_there, state_of, whole_at}
 

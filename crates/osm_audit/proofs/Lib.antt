@@ -1,4 +1,3 @@
-pub mod ContentLemmas
 pub mod StateLemmas
 pub mod ChangeLemmas
 pub mod NumberLemmas

@@ -1,5 +1,5 @@
 -- The findings of one number more.
-use Rattle.std.proofs.Common.{◌≡◌, ℕ, zero, suc, ◌+◌, ◌-◌, ◌<◌, ◌≤◌, List, [], ◌∷◌, ◌++◌, Option, Some, None, arith, refl, ap, sym, subst, ◌∙◌}
+use Rattle.std.proofs.Common.{◌≡◌, ℕ, suc, ◌+◌, ◌-◌, ◌≤◌, List, ◌++◌, Option, Some, None, arith, sym, subst, ◌∙◌}
 use Rattle.osm_state.specs.State.{StateValue}
 use Rattle.osm_state.specs.StateLaws.{NoFaultBesideState}
 use Rattle.osm_state.specs.declared.paths.Suffix.TheVariants.{O5c, Opl, State}
@@ -9,8 +9,9 @@ use Rattle.osm_folder.specs.Names.{file_name_of, top_name_of}
 use Rattle.osm_folder.specs.declared.fault.FileName.TheVariants.{Top}
 use Rattle.osm_folder.specs.declared.fault.RunFault.{RunFault}
 use Rattle.osm_folder.specs.declared.fault.RunFault.TheVariants.{WantOfMemory, ReadFault}
-use Rattle.osm_audit.specs.Findings.{AreFindings, AreOfNumber, AreOfNumbers, IsOtherTop, IsSaid, IsTopSaid, noted}
-use Rattle.osm_audit.specs.Steps.Looking.{AreLookedThrough, IsLookedAt, IsO5cSaid, IsOplSaid, IsStateSaid, IsTimeBefore, IsTimeOf, IsTopCause, IsTopRead, NumberStops, RangeStops}
+use Rattle.osm_audit.specs.Findings.{AreFindings, AreOfNumber, IsOtherTop, IsSaid, IsTopSaid, noted}
+use Rattle.osm_audit.specs.Steps.Looking.{AreLookedThrough, IsLookedAt, IsO5cSaid, IsOplSaid, IsTimeBefore, IsTimeOf, IsTopCause}
+use Rattle.osm_audit.specs.Steps.Looking.{IsTopRead, NumberStops, RangeStops}
 use Rattle.osm_audit.specs.declared.finding.Cause.{Cause}
 use Rattle.osm_audit.specs.declared.finding.Cause.TheVariants.{Absent, TooLarge, BadState, Mismatch, TimeBack, BadChange, Differs}
 use Rattle.osm_audit.specs.declared.finding.Finding.{Finding}
@@ -48,10 +49,7 @@ next_time files dir from n (Some time) in_range t =
     let same : n + 1 - 1 ≡ n = omega arith in
     (omega arith, subst (λ (k : ℕ). IsTimeOf (files (file_name_of dir k State)) k (Some time)) (sym same) t)
 
-pub none_yet : (files : Files) (dir : List ℕ) (from : ℕ) → AreLookedThrough files dir from 0 None []
-none_yet files dir from = record { numbers = refl; last = λ within. absurd (omega (arith, within)) }
-
-pub one_more : NoFaultBesideState → (files : Files) (dir : List ℕ) (from count n : ℕ) (before after : Option ℕ)
+one_more : NoFaultBesideState → (files : Files) (dir : List ℕ) (from count n : ℕ) (before after : Option ℕ)
     (old last new : List Finding) → n ≡ from + count → AreLookedThrough files dir from count before old
     → IsLookedAt files dir n before after last → new ≡ old ++ last → AreLookedThrough files dir from (suc count) after new
 one_more apart files dir from count n before after old last new at through looked new_is = record {

@@ -1,5 +1,5 @@
 -- What is said of a state file, and what that says beside the number before.
-use Rattle.std.proofs.Common.{◌≡◌, ℕ, ◌+◌, ◌-◌, ◌<◌, ◌≤◌, List, length, Option, Some, None, arith, refl, ap, sym, subst, ◌∙◌}
+use Rattle.std.proofs.Common.{◌≡◌, ℕ, ◌-◌, List, length, Option, Some, None, arith, ap, subst}
 use Rattle.std.proofs.lemmas.Option.{same_Some}
 use Rattle.osm_state.proofs.StateLemmas.{one_state}
 use Rattle.osm_state.specs.State.{StateValue}
@@ -8,29 +8,12 @@ use Rattle.osm_state.specs.declared.paths.Suffix.TheVariants.{State}
 use Rattle.osm_state.specs.declared.state_text.StateError.{StateError}
 use Rattle.osm_store.specs.Files.{Files, IsOver}
 use Rattle.osm_folder.specs.Folder.{IsStateFile, IsThere, max_state}
-use Rattle.osm_folder.specs.Following.{NamesOther}
 use Rattle.osm_folder.specs.Names.{file_name_of}
 use Rattle.osm_folder.specs.Publication.{IsBadState}
 use Rattle.osm_audit.specs.Findings.{Falls, IsSaid}
-use Rattle.osm_audit.specs.Steps.Looking.{IsBelow, IsNoState, IsNotBelow, IsStateSaid, IsTimeBefore, IsTimeOf, IsTimeSaid}
+use Rattle.osm_audit.specs.Steps.Looking.{IsBelow, IsNoState, IsNotBelow, IsStateSaid, IsTimeBefore, IsTimeOf}
 use Rattle.osm_audit.specs.declared.finding.Cause.{Cause}
 use Rattle.osm_audit.specs.declared.finding.Cause.TheVariants.{Absent, TooLarge, BadState, Mismatch, TimeBack, BadChange, Differs}
-
--- what is said of a text that is the number's state
-pub time_said : (text : List ℕ) (number time : ℕ) (before : Option ℕ) (cause : Option Cause) (after : Option ℕ)
-    → IsStateFile number time text → IsTimeSaid time before cause → after ≡ Some time → IsStateSaid (Some text) number before cause after
-time_said text number time before cause after file said is =
-    subst (λ (o : Option ℕ). IsStateSaid (Some text) number before cause o) (sym is) (by_cause cause said)
-  where
-    by_cause : (c : Option Cause) → IsTimeSaid time before c → IsStateSaid (Some text) number before c (Some time)
-    by_cause None s = (file, s)
-    by_cause (Some TimeBack) s = (file, s)
-    by_cause (Some Absent) s = absurd s
-    by_cause (Some TooLarge) s = absurd s
-    by_cause (Some (BadState e)) s = absurd s
-    by_cause (Some Mismatch) s = absurd s
-    by_cause (Some (BadChange place why)) s = absurd s
-    by_cause (Some Differs) s = absurd s
 
 -- two states of one file
 pub one_file : (told : Option (List ℕ)) (m n t u : ℕ) → IsThere told (IsStateFile m t) → IsThere told (IsStateFile n u)
@@ -58,7 +41,7 @@ bad_state apart (Some bytes) n t e b a =
     let same = same_Some bytes b.bytes b.there in
     apart bytes (record { sequence = n; time = t }) e a.names (rw same b.fault)
 
-pub no_state : NoFaultBesideState → (told : Option (List ℕ)) (n t : ℕ) (cause : Cause) → IsNoState told n cause
+no_state : NoFaultBesideState → (told : Option (List ℕ)) (n t : ℕ) (cause : Cause) → IsNoState told n cause
     → IsThere told (IsStateFile n t) → ⊥
 no_state apart told n t Absent none a = subst (λ (o : Option (List ℕ)). IsThere o (IsStateFile n t)) none a
 no_state apart told n t TooLarge none a = over_state told n t none a

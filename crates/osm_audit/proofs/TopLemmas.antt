@@ -1,5 +1,5 @@
 -- The newest state that was read.
-use Rattle.std.proofs.Common.{◌≡◌, ℕ, List, Option, Some, None, subst}
+use Rattle.std.proofs.Common.{ℕ, List, Option, subst}
 use Rattle.std.specs.Prelude.{Result, Ok, Err, IfOk, IfErr, MatchResult}
 use Rattle.std.specs.Result.{result_ok}
 use Rattle.osm_state.specs.State.{StateValue}

@@ -1,6 +1,6 @@
 -- A folder has no findings exactly if it is whole.
 use Rattle.std.proofs.Common.{◌≡◌, ℕ, zero, suc, ◌+◌, ◌-◌, ◌<◌, ◌≤◌, List, [], ◌∷◌, ◌++◌, length, Option, Some, None, inl, inr}
-use Rattle.std.proofs.Common.{true, false, arith, refl, sym, ap, subst, ◌∙◌, length-append}
+use Rattle.std.proofs.Common.{true, false, arith, refl, sym, subst, ◌∙◌, length-append}
 use Rattle.std.specs.Prelude.{◌||◌, ◌&&◌, ◌⊎◌, ◌↔◌, is_none}
 use Rattle.std.proofs.lemmas.List.{get_or_append_left}
 use Rattle.std.proofs.Math.Seq.{get_or-append_seam}
@@ -21,13 +21,13 @@ use Rattle.osm_store.specs.Files.{Files, IsOver}
 use Rattle.osm_folder.specs.Folder.{IsAbsentOr, IsFile, IsStateFile, IsThere}
 use Rattle.osm_folder.specs.Following.{is_lost}
 use Rattle.osm_folder.specs.Forms.{IsFaulty}
-use Rattle.osm_folder.specs.Names.{file_name_of, top_name_of}
+use Rattle.osm_folder.specs.Names.{file_name_of}
 use Rattle.osm_folder.specs.Numbered.{AreFilesOf}
 use Rattle.osm_folder.specs.declared.fault.FileName.{FileName}
 use Rattle.osm_folder.specs.declared.fault.FileName.TheVariants.{Top, Sequence}
 use Rattle.osm_folder.specs.declared.form.Form.{Form}
 use Rattle.osm_folder.specs.declared.form.Form.TheVariants as forms
-use Rattle.osm_audit.specs.Findings.{AreFindings, AreOfNumber, AreOfNumbers, Falls, HasChanges, IsO5cRight, IsO5cWrong, IsOplRight, IsOplWrong}
+use Rattle.osm_audit.specs.Findings.{AreFindings, AreOfNumber, AreOfNumbers, Falls, HasChanges, IsO5cRight, IsOplRight}
 use Rattle.osm_audit.specs.Findings.{IsOtherTop, IsRight, IsSaid, IsTopSaid, IsWrong, noted}
 use Rattle.osm_audit.specs.Audit.{AuditValue, IsAsked, IsAudit}
 use Rattle.osm_audit.specs.Whole.{IsWhole}
@@ -76,6 +76,9 @@ pub record Blanks (n : ℕ) : Type 0 where
   pub sequences : AreSequences published
   pub count : length published ≡ n
 
+no_changes : IsBatch []
+no_changes = record { few = omega arith; each = tt }
+
 blanks : (n : ℕ) → n ≤ max_sequence → Blanks n
 blanks zero most = record { published = []; sequences = λ k above within. absurd (omega (arith, above, within)); count = refl }
 blanks (suc n) most =
@@ -85,7 +88,7 @@ blanks (suc n) most =
     record {
       published = before.published ++ one ∷ [];
       sequences = sequences_more before.published one (suc n) (omega (arith, count)) before.sequences
-          (record { number_is = refl; most = most; changes = record { few = omega arith; each = tt }; time = record { low = omega arith; high = omega arith } });
+          (record { number_is = refl; most = most; changes = no_changes; time = record { low = omega arith; high = omega arith } });
       count = grind (arith, length-append, count);
     }
 
@@ -100,7 +103,7 @@ pub record Agreed (o5c opl : Option (List ℕ)) : Type 0 where
   pub some : (is_none o5c && is_none opl) ≡ false
 
 front_batch : (prefix : List ℕ) (C : Context) (changes : List ChangeValue) → Front beginning IsBatch prefix C changes → IsBatch changes
-front_batch _ _ _ begin = record { few = omega arith; each = tt }
+front_batch _ _ _ begin = no_changes
 front_batch _ _ _ (next prefix C changes dataset found after front one limits) = limits
 
 o5c_batch : (bytes : List ℕ) (changes : List ChangeValue) → SpellsO5c bytes changes → IsBatch changes
@@ -130,7 +133,7 @@ pub state_of : (told : Option (List ℕ)) (p : PublishedValue) → IsThere told 
 state_of None p h = h
 state_of (Some bytes) p h = h
 
-pub own_state : (told : Option (List ℕ)) (p : PublishedValue) → IsThere told (IsFile State p) → IsThere told (IsStateFile p.number p.time)
+own_state : (told : Option (List ℕ)) (p : PublishedValue) → IsThere told (IsFile State p) → IsThere told (IsStateFile p.number p.time)
 own_state None p h = h
 own_state (Some bytes) p h = h
 
@@ -196,7 +199,7 @@ pub record IsWholeTo (files : Files) (dir : List ℕ) (from count : ℕ) : Type 
   pub rising : (k : ℕ) → from ≤ k → k + 1 < from + count → (sequence_at published k).time ≤ (sequence_at published (k + 1)).time
 
 -- the state of a sequence is in its file
-pub state_at : (files : Files) (dir : List ℕ) (ps : List PublishedValue) (k : ℕ) → AreSequences ps → 0 < k → k ≤ length ps
+state_at : (files : Files) (dir : List ℕ) (ps : List PublishedValue) (k : ℕ) → AreSequences ps → 0 < k → k ≤ length ps
     → AreFilesOf files dir (sequence_at ps k) → IsThere (files (file_name_of dir k State)) (IsStateFile k (sequence_at ps k).time)
 state_at files dir ps k are above within is =
     let number = (are k above within).number_is in
@@ -283,7 +286,7 @@ equal_times t u not = by_order (cases_lt t u)
         by_rest (inl above) = absurd (not (λ same. omega (arith, same, above)))
         by_rest (inr within) = omega (arith, reached, within)
 
-pub nothing_is_whole : (files : Files) (dir : List ℕ) (from to : ℕ) (found : List Finding) → 0 < from → from ≤ to + 1 → to ≤ max_sequence
+nothing_is_whole : (files : Files) (dir : List ℕ) (from to : ℕ) (found : List Finding) → 0 < from → from ≤ to + 1 → to ≤ max_sequence
     → AreFindings files dir from to found → found ≡ [] → IsWhole files dir from to
 nothing_is_whole files dir from to found above until most are none =
     let joined : are.numbers ++ noted to Top are.top ≡ [] = sym are.found_are ∙ none in
@@ -302,7 +305,8 @@ nothing_is_whole files dir from to found above until most are none =
         top = time;
         own = (sequence_at is.published to).time;
         top_is = there;
-        own_is = state_at files dir is.published to is.sequences (omega (arith, some, above)) (omega (arith, last, until)) (is.each to some (omega (arith, some)));
+        own_is = state_at files dir is.published to is.sequences (omega (arith, some, above)) (omega (arith, last, until))
+            (is.each to some (omega (arith, some)));
         other = other;
       }));
     }
@@ -459,7 +463,7 @@ top_not_noted files dir from to (Some Mismatch) above w said = absurd said
 top_not_noted files dir from to (Some TimeBack) above w said = absurd said
 top_not_noted files dir from to (Some (BadChange place why)) above w said = absurd said
 
-pub whole_is_nothing : NoFaultBesideState → (files : Files) (dir : List ℕ) (from to : ℕ) (found : List Finding) → 0 < from → from ≤ to + 1
+whole_is_nothing : NoFaultBesideState → (files : Files) (dir : List ℕ) (from to : ℕ) (found : List Finding) → 0 < from → from ≤ to + 1
     → AreFindings files dir from to found → IsWhole files dir from to → found ≡ []
 whole_is_nothing apart files dir from to found above until are w =
     let numbers = numbers_fine apart files dir from to (to + 1 - from) are.numbers above w (omega (arith, until)) are.numbers_are in

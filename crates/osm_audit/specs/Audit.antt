@@ -1,6 +1,7 @@
 -- An audit of a folder: from a first number, 1 if none is given, to a last one, that of the newest
 -- state if none is given.
-use Rattle.std.specs.Prelude.{◌≡◌, ℕ, ◌+◌, ◌-◌, ◌*◌, ◌<◌, ◌≤◌, ◌⊎◌, List, Option, Some, None, IfSome}
+use Rattle.std.specs.Prelude.{◌≡◌, ℕ, ◌+◌, ◌-◌, ◌*◌, ◌<◌, ◌≤◌, ◌⊎◌, List}
+use Rattle.std.specs.Prelude.{Option, Some, None, IfSome}
 use Rattle.osm_model.specs.Limits.{max_sequence}
 use Rattle.osm_store.specs.Files.{Files}
 use Rattle.osm_folder.specs.Folder.{IsStateFile, IsThere}

@@ -1,5 +1,5 @@
--- What an audit finds in the files of a folder, from a first number to a last one: each file that is
--- wrong, once, with its cause, in the order of the numbers.
+-- What an audit finds in the files of a folder, from a first number to a last one: each file that
+-- is wrong, once, with its cause, in the order of the numbers.
 use Rattle.std.specs.Prelude.{◌≡◌, ℕ, zero, suc, ◌+◌, ◌-◌, ◌<◌, ◌≤◌, List, [], ◌∷◌, ◌++◌, length}
 use Rattle.std.specs.Prelude.{Contains, Option, Some, None}
 use Rattle.osm_model.specs.Change.{ChangeValue}
@@ -29,7 +29,8 @@ HasChanges form changes bytes = (length bytes ≤ max_file) × spells_of form by
 pub record Falls (files : Files) (dir : List ℕ) (from number time : ℕ) : Type 0 where
   pub within : from < number
   pub before : ℕ
-  pub there : IsThere (files (file_name_of dir (number - 1) State)) (IsStateFile (number - 1) before)
+  pub there : IsThere (files (file_name_of dir (number - 1) State))
+      (IsStateFile (number - 1) before)
   pub later : time < before
 
 -- the changes are there in one form at least, and as an o5c file, if it is there, can be read

@@ -10,8 +10,8 @@ use Rattle.osm_folder.specs.Publication.{PublishStops}
 use Rattle.osm_folder.specs.declared.fault.FileName.{FileName}
 use Rattle.osm_folder.specs.declared.fault.FileName.TheVariants.{Top, Sequence}
 use Rattle.osm_folder.specs.declared.fault.RunFault.{RunFault}
-use Rattle.osm_folder.specs.declared.fault.RunFault.TheVariants.{TooLarge, Absent, BadState, Mismatch}
-use Rattle.osm_folder.specs.declared.fault.RunFault.TheVariants.{BadChange}
+use Rattle.osm_folder.specs.declared.fault.RunFault.TheVariants.{TooLarge, Absent, BadState}
+use Rattle.osm_folder.specs.declared.fault.RunFault.TheVariants.{Mismatch, BadChange}
 use Rattle.osm_folder.specs.declared.options.FollowOptions.{FollowOptions}
 use Rattle.osm_audit.specs.Audit.{IsLast}
 use Rattle.osm_audit.specs.Findings.{AreFindings, IsFound, IsOfNumber, IsOfTop, IsOtherTop, IsWrong}

@@ -1,6 +1,6 @@
--- Why there is no audit: never for what a file of a number holds. `known` says that it is known what
--- the files hold.
-use Rattle.std.specs.Prelude.{◌≡◌, ℕ, ◌<◌, ◌≤◌, ◌⊎◌, List, Option, Some, None, Result}
+-- Why there is no audit: never for what a file of a number holds. `known` says that it is known
+-- what the files hold.
+use Rattle.std.specs.Prelude.{◌≡◌, ℕ, ◌≤◌, ◌⊎◌, List, Option, Some, None, Result}
 use Rattle.osm_state.specs.declared.paths.Suffix.{Suffix}
 use Rattle.osm_store.specs.Files.{Files, IsOver}
 use Rattle.osm_store.specs.Frames.{Makes, StoreState}
@@ -10,7 +10,6 @@ use Rattle.osm_folder.specs.Names.{top_name_of}
 use Rattle.osm_folder.specs.Publication.{IsBadState}
 use Rattle.osm_folder.specs.declared.fault.FileName.{FileName}
 use Rattle.osm_folder.specs.declared.fault.FileName.TheVariants.{Top, Sequence}
-use Rattle.osm_folder.specs.declared.fault.RunFault.{RunFault}
 use Rattle.osm_folder.specs.declared.fault.RunFault.TheVariants.{WantOfMemory, ReadFault, TooLarge}
 use Rattle.osm_folder.specs.declared.fault.RunFault.TheVariants.{WriteFault, Absent, BadState}
 use Rattle.osm_audit.specs.Audit.{IsLast, IsRange}

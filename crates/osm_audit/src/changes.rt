@@ -103,8 +103,9 @@ fn held_in(alloc: Global, form: Form, bytes: &[u8]) -> Result<Held, WantOfMemory
 
 // What is said of the two files, from what each holds.
 fn say(alloc: Global, o5c: &Held, opl: &Held) -> Result<ChangesSaid, WantOfMemory>
-    ensures { IfOk result (λ said. (in_o5c in_opl : Option (List ℕ)) → IsHeld Form.O5c in_o5c o5c.now
-        → IsHeld Form.Opl in_opl opl.now → AreChangesSaid in_o5c in_opl said.o5c said.opl) }
+    ensures { IfOk result (λ said. (in_o5c in_opl : Option (List ℕ))
+        → IsHeld Form.O5c in_o5c o5c.now → IsHeld Form.Opl in_opl opl.now
+        → AreChangesSaid in_o5c in_opl said.o5c said.opl) }
 {
     match o5c {
         Held::Absent => Ok(say_without_o5c(opl)),

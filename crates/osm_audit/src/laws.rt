@@ -6,8 +6,8 @@ ghost use Rattle.osm_audit.specs.Laws.{WrongTopIsFound};
 
 use osm_state::laws::laws_of_state;
 
-/// Tells the prover that each finding is true, and that each file that is wrong has one. Does nothing
-/// at run time.
+/// Tells the prover that each finding is true, and that each file that is wrong has one. Does
+/// nothing at run time.
 pub fn laws_of_findings()
     ensures are_true { FindingsAreTrue }
     ensures files_found { WrongFilesAreFound }

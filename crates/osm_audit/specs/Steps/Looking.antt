@@ -1,6 +1,5 @@
 -- Steps of an audit. `known` says that it is known what the files hold.
-use Rattle.std.specs.Prelude.{◌≡◌, ℕ, ◌+◌, ◌-◌, ◌<◌, ◌≤◌, List, [], ◌∷◌, ◌++◌, length, Option, Some, None}
-use Rattle.osm_model.specs.Change.{ChangeValue}
+use Rattle.std.specs.Prelude.{◌≡◌, ℕ, ◌+◌, ◌-◌, ◌<◌, ◌≤◌, List, ◌++◌, length, Option, Some, None}
 use Rattle.osm_model.specs.Limits.{max_file}
 use Rattle.osm_state.specs.State.{StateValue}
 use Rattle.osm_state.specs.StateFault.{FaultOf}
@@ -9,7 +8,7 @@ use Rattle.osm_state.specs.declared.paths.Suffix.TheVariants.{O5c, Opl, State}
 use Rattle.osm_store.specs.Files.{Files, IsOver}
 use Rattle.osm_folder.specs.Folder.{IsStateFile, IsThere, max_state}
 use Rattle.osm_folder.specs.Following.{NamesOther}
-use Rattle.osm_folder.specs.Forms.{IsFaulty, spells_of}
+use Rattle.osm_folder.specs.Forms.{IsFaulty}
 use Rattle.osm_folder.specs.Names.{file_name_of}
 use Rattle.osm_folder.specs.Publication.{IsBadState}
 use Rattle.osm_folder.specs.declared.fault.FileName.{FileName}
@@ -23,14 +22,12 @@ use Rattle.osm_audit.specs.Findings.{AreOfNumbers, HasChanges, IsO5cRight, IsO5c
 use Rattle.osm_audit.specs.Findings.{IsOplWrong, noted}
 use Rattle.osm_audit.specs.declared.changes.Held as held
 use Rattle.osm_audit.specs.declared.changes.Held.{Held}
-use Rattle.osm_audit.specs.declared.changes.ChangesSaid.{ChangesSaid}
 use Rattle.osm_audit.specs.declared.contents.Contents as contents
 use Rattle.osm_audit.specs.declared.contents.Contents.{Contents}
 use Rattle.osm_audit.specs.declared.finding.Cause.{Cause}
 use Rattle.osm_audit.specs.declared.finding.Cause.TheVariants.{Absent, TooLarge, BadState, Mismatch}
 use Rattle.osm_audit.specs.declared.finding.Cause.TheVariants.{TimeBack, BadChange, Differs}
 use Rattle.osm_audit.specs.declared.finding.Finding.{Finding}
-use Rattle.osm_audit.specs.declared.states.StateSaid.{StateSaid}
 
 -- what was read of a file, beside its limit
 abbrev pub IsContents : ℕ → Option (List ℕ) → Contents → Type 0
@@ -101,7 +98,8 @@ abbrev pub IsTimeBefore : Files → List ℕ → ℕ → ℕ → Option ℕ → 
 IsTimeBefore files dir from number None =
     from < number → IsTimeOf (files (file_name_of dir (number - 1) State)) (number - 1) None
 IsTimeBefore files dir from number (Some time) =
-    (from < number) × IsTimeOf (files (file_name_of dir (number - 1) State)) (number - 1) (Some time)
+    (from < number)
+    × IsTimeOf (files (file_name_of dir (number - 1) State)) (number - 1) (Some time)
 
 -- what a change file holds
 abbrev pub IsHeld : Form → Option (List ℕ) → Held → Type 0
@@ -163,8 +161,8 @@ ContentsStop (contents.TheVariants.Bytes bytes) (faults.BadState file cause) =
     (file ≡ Top) × FaultOf bytes.items cause
 ContentsStop read fault = ⊥
 
--- the cause for which the newest state is wrong, beside the time of the last number's own state: they
--- are compared only if there are both, and it is the last number's
+-- the cause for which the newest state is wrong, beside the time of the last number's own state:
+-- they are compared only if there are both, and it is the last number's
 abbrev pub IsTopCause : Option StateValue → ℕ → Option ℕ → Option Cause → Type 0
 IsTopCause (Some s) to (Some time) None = s.sequence ≡ to → s.time ≡ time
 IsTopCause (Some s) to (Some time) (Some Differs) = (s.sequence ≡ to) × (s.time ≡ time → ⊥)
@@ -184,7 +182,8 @@ pub record IsLookedAt (files : Files) (dir : List ℕ) (number : ℕ) (before af
   pub found_are : found ≡ noted number (Sequence number State) state
       ++ (noted number (Sequence number O5c) o5c ++ noted number (Sequence number Opl) opl)
 
--- the findings of `count` numbers, of which `from` is the first, and the time of the last one's state
+-- the findings of `count` numbers, of which `from` is the first, and the time of the last one's
+-- state
 pub record AreLookedThrough (files : Files) (dir : List ℕ) (from count : ℕ) (time : Option ℕ)
     (found : List Finding) : Type 0 where
   pub numbers : AreOfNumbers files dir from count found

@@ -1,11 +1,9 @@
-use Rattle.std.proofs.Common.{◌≡◌, ℕ, ◌<◌, [], ◌∷◌, ◌++◌, length, take, refl, arith, sym, ap, subst, ◌∙◌}
+use Rattle.std.proofs.Common.{◌≡◌, ◌<◌, [], ◌∷◌, ◌++◌, length, take, refl, arith, ◌∙◌}
 use Rattle.std.proofs.Math.Seq.{take-length}
 use Rattle.std.proofs.lemmas.Grind.{common_steps}
 use Rattle.std.proofs.lemmas.List.{map-append}
-use Rattle.serde_json.specs.Data.{array}
-use Rattle.serde_json.specs.View.{items_of}
 use Rattle.osm_folder.specs.declared.fault.FileName.TheVariants.{Top}
-use Rattle.osm_audit.specs.Reports.{AreTold, finding_data}
+use Rattle.osm_audit.specs.Reports.{finding_data}
 use Rattle.osm_audit.specs.declared.finding.Cause.TheVariants.{Absent}
 use Rattle.osm_audit.proofs.ReportLemmas.{told_more}
 use Rattle.osm_audit.proofs.report.findings_value.Goals as goal
