@@ -1,5 +1,6 @@
 -- What an audit prints.
 use Rattle.std.specs.Prelude.{◌≡◌, ℕ, List, [], ◌∷◌, ◌++◌, codes, decimal, map}
+use Rattle.std.specs.List.{flat_map}
 use Rattle.serde_json.specs.Data.{Data, array, member, no_members, null, object, string}
 use Rattle.serde_json.specs.View.{items_of}
 use Rattle.osm_json.specs.Line.{json_line, number_data}
@@ -21,6 +22,13 @@ pub record Told : Type 0 where
   pub number : ℕ
   pub file : List ℕ
   pub cause : List ℕ
+
+-- FILE: CAUSE
+abbrev pub finding_line : List ℕ → List ℕ → List ℕ
+finding_line file cause = file ++ (codes ": " ++ (cause ++ codes "\n"))
+
+abbrev pub told_line : Told → List ℕ
+told_line told = finding_line told.file told.cause
 
 abbrev pub finding_data : Told → Data
 finding_data told = object (
@@ -50,6 +58,16 @@ fault_data fault = object (
 -- the findings are told, each with its number, in their order
 abbrev pub AreTold : List Finding → List Told → Type 0
 AreTold findings told = map (λ t. t.number) told ≡ map (λ f. f.number) findings
+
+-- the text of an audit without findings, or of its findings
+abbrev pub IsTextOf : ℕ → ℕ → List Finding → List ℕ → Type 0
+IsTextOf from to [] text = text ≡ ok_line from to
+IsTextOf from to (f ∷ found) text =
+    (told : List Told) × AreTold (f ∷ found) told × (text ≡ flat_map told_line told)
+
+-- the text of an audit
+abbrev pub IsAuditText : AuditValue → List ℕ → Type 0
+IsAuditText a text = IsTextOf a.from a.to a.findings text
 
 -- the line of an audit
 pub record IsAuditLine (a : AuditValue) (line : List ℕ) : Type 0 where

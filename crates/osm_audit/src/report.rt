@@ -1,12 +1,14 @@
 //! What an audit prints: in lines, or as a line of JSON.
 
 ghost use Rattle.std.specs.Prelude.{◌≡◌, ◌++◌, ◌∷◌, ℕ, List, [], IfOk, OnOk, false, map};
+ghost use Rattle.std.specs.List.{flat_map};
 ghost use Rattle.serde_json.specs.Data.{array};
 ghost use Rattle.serde_json.specs.View.{items_of, view};
 ghost use Rattle.serde_json.specs.Written.{has_float};
 ghost use Rattle.osm_json.specs.Line.{json_line};
-ghost use Rattle.osm_audit.specs.Reports.{AreTold, IsAuditLine, Told, audit_data, fault_data};
-ghost use Rattle.osm_audit.specs.Reports.{finding_data, findings_data, findings_status, ok_line};
+ghost use Rattle.osm_audit.specs.Reports.{AreTold, IsAuditLine, IsAuditText, Told, audit_data};
+ghost use Rattle.osm_audit.specs.Reports.{fault_data, finding_data, finding_line, findings_data};
+ghost use Rattle.osm_audit.specs.Reports.{findings_status, ok_line, told_line};
 
 use crate::audit::Audit;
 use crate::fault::AuditFault;
@@ -29,16 +31,12 @@ pub fn audit_status(audit: &Audit) -> u8
 /// `ok FROM..TO` if nothing is wrong, else `FILE: CAUSE` for each finding, in order. Each line ends
 /// with LF.
 pub fn audit_text(alloc: Global, audit: &Audit) -> Result<Vec<u8>, WantOfMemory>
-    ensures ok { IfOk result (λ text. audit.now.findings ≡ []
-        → text.items ≡ ok_line audit.now.from audit.now.to) }
+    ensures { IfOk result (λ text. IsAuditText audit.now text.items) }
 {
     let mut text = Vec::new(alloc);
-    if audit.findings().is_empty() {
-        write_ok(audit.from(), audit.to(), &mut text)?;
-        return Ok(text);
-    }
-    for finding in audit.findings() {
-        write_finding(alloc, finding, &mut text)?;
+    match audit.findings() {
+        [] => write_ok(audit.from(), audit.to(), &mut text)?,
+        findings => write_findings(alloc, findings, &mut text)?,
     }
     Ok(text)
 }
@@ -53,9 +51,37 @@ fn write_ok(from: u32, to: u32, text: &mut Vec<u8>) -> Result<(), WantOfMemory>
     write_bytes(b"\n", text)
 }
 
-fn write_finding(alloc: Global, finding: &Finding, text: &mut Vec<u8>) -> Result<(), WantOfMemory> {
-    let line = format!(in alloc; "{}: {}\n", finding.file, finding.cause)?;
-    write_bytes(line.as_bytes(), text)
+fn write_findings(
+    alloc: Global,
+    findings: &[Finding],
+    text: &mut Vec<u8>,
+) -> Result<(), WantOfMemory>
+    ensures { OnOk result ((told : List Told) × AreTold findings.now told
+        × (text.new.items ≡ text.old.items ++ flat_map told_line told)) }
+{
+    for finding in findings {
+        write_finding(alloc, finding, text)?;
+    }
+    Ok(())
+}
+
+fn write_finding(alloc: Global, finding: &Finding, text: &mut Vec<u8>) -> Result<(), WantOfMemory>
+    ensures { OnOk result ((told : Told) × (told.number ≡ finding.now.number)
+        × (text.new.items ≡ text.old.items ++ told_line told)) }
+{
+    let file = format!(in alloc; "{}", finding.file)?;
+    let cause = format!(in alloc; "{}", finding.cause)?;
+    write_line(file.as_str(), cause.as_str(), text)
+}
+
+fn write_line(file: &str, cause: &str, text: &mut Vec<u8>) -> Result<(), WantOfMemory>
+    ensures { OnOk result
+        (text.new.items ≡ text.old.items ++ finding_line file.now cause.now) }
+{
+    write_bytes(file.as_bytes(), text)?;
+    write_bytes(b": ", text)?;
+    write_bytes(cause.as_bytes(), text)?;
+    write_bytes(b"\n", text)
 }
 
 /// The line of JSON of an audit: the range, and each finding with its number, its file and its
