@@ -6,3 +6,4 @@ pub mod ReportLemmas
 pub mod LawLemmas
 pub mod TopLemmas
 pub mod FoundLemmas
+pub mod SameLemmas

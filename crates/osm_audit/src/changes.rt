@@ -1,6 +1,7 @@
 //! What is wrong with the change files of a number.
 
-ghost use Rattle.std.specs.Prelude.{◌≡◌, ℕ, ◌≤◌, List, Option, Some, None, IfErr, IfOk, length};
+ghost use Rattle.std.specs.Prelude.{◌≡◌, ℕ, ◌≤◌, ◌↔◌, List, Option, Some, None, IfErr, IfOk};
+ghost use Rattle.std.specs.Prelude.{IsTrue, length};
 ghost use Rattle.osm_model.specs.Limits.{max_file, max_sequence};
 ghost use Rattle.osm_store.specs.Frames.{IsKnown};
 ghost use Rattle.osm_folder.specs.Names.{file_name_of};
@@ -12,7 +13,6 @@ ghost use Rattle.osm_folder.specs.Folder.{IsThere};
 
 use crate::contents::{Contents, read_numbered};
 use crate::finding::Cause;
-use osm_folder::compare::are_same;
 use osm_folder::fault::{FileName, RunFault};
 use osm_folder::form::{Form, read_form};
 use osm_model::batch::Batch;
@@ -56,7 +56,7 @@ pub(crate) fn check_changes<S: Store>(
 {
     let o5c = read_held(alloc, store, dir, number, Form::O5c)?;
     let opl = read_held(alloc, store, dir, number, Form::Opl)?;
-    Ok(say(alloc, &o5c, &opl)?)
+    Ok(say(&o5c, &opl))
 }
 
 fn read_held<S: Store>(
@@ -102,21 +102,20 @@ fn held_in(alloc: Global, form: Form, bytes: &[u8]) -> Result<Held, WantOfMemory
 }
 
 // What is said of the two files, from what each holds.
-fn say(alloc: Global, o5c: &Held, opl: &Held) -> Result<ChangesSaid, WantOfMemory>
-    ensures { IfOk result (λ said. (in_o5c in_opl : Option (List ℕ))
-        → IsHeld Form.O5c in_o5c o5c.now → IsHeld Form.Opl in_opl opl.now
-        → AreChangesSaid in_o5c in_opl said.o5c said.opl) }
+fn say(o5c: &Held, opl: &Held) -> ChangesSaid
+    ensures { (in_o5c in_opl : Option (List ℕ)) → IsHeld Form.O5c in_o5c o5c.now
+        → IsHeld Form.Opl in_opl opl.now → AreChangesSaid in_o5c in_opl result.o5c result.opl }
 {
     match o5c {
-        Held::Absent => Ok(say_without_o5c(opl)),
-        Held::Wrong(cause) => Ok(ChangesSaid {
+        Held::Absent => say_without_o5c(opl),
+        Held::Wrong(cause) => ChangesSaid {
             o5c: Some(*cause),
             opl: cause_of(opl),
-        }),
-        Held::Changes(batch) => Ok(ChangesSaid {
+        },
+        Held::Changes(batch) => ChangesSaid {
             o5c: None,
-            opl: compare(alloc, batch, opl)?,
-        }),
+            opl: compare(batch, opl),
+        },
     }
 }
 
@@ -148,19 +147,20 @@ fn cause_of(held: &Held) -> Option<Cause>
 }
 
 // Why the OPL file is wrong beside the changes of the o5c file.
-fn compare(alloc: Global, batch: &Batch, opl: &Held) -> Result<Option<Cause>, WantOfMemory>
-    ensures { IfOk result (λ cause. (in_o5c in_opl : Option (List ℕ))
-        → IsThere in_o5c (HasChanges Form.O5c batch.now) → IsHeld Form.Opl in_opl opl.now
-        → IsOplSaid in_o5c in_opl cause) }
+fn compare(batch: &Batch, opl: &Held) -> Option<Cause>
+    ensures { (in_o5c in_opl : Option (List ℕ)) → IsThere in_o5c (HasChanges Form.O5c batch.now)
+        → IsHeld Form.Opl in_opl opl.now → IsOplSaid in_o5c in_opl result }
 {
     match opl {
-        Held::Changes(other) => {
-            if are_same(alloc, batch.changes(), other.changes())? {
-                Ok(None)
-            } else {
-                Ok(Some(Cause::Differs))
-            }
-        }
-        _ => Ok(cause_of(opl)),
+        Held::Changes(other) if are_same(batch, other) => None,
+        Held::Changes(_) => Some(Cause::Differs),
+        Held::Absent | Held::Wrong(_) => cause_of(opl),
     }
+}
+
+// Whether two batches have the same changes, in the same order.
+fn are_same(left: &Batch, right: &Batch) -> bool
+    ensures { IsTrue result ↔ (left.now ≡ right.now) }
+{
+    left == right
 }

@@ -198,8 +198,8 @@ fn read_of<S: Store>(
     }
 }
 
-/// Whether two lists of changes are the same, in the same order.
-pub fn are_same(alloc: Global, left: &[Change], right: &[Change]) -> Result<bool, WantOfMemory>
+// Whether two lists of changes are the same, in the same order.
+fn are_same(alloc: Global, left: &[Change], right: &[Change]) -> Result<bool, WantOfMemory>
     requires left { AllByRecursion IsChange left.now }
     requires right { AllByRecursion IsChange right.now }
     ensures { IfOk result (λ same. IsTrue same ↔ (left.now ≡ right.now)) }

@@ -2,7 +2,7 @@
 #![tactic(auto)]
 
 pub mod begin;
-pub mod compare;
+mod compare;
 pub mod convert;
 pub mod data_form;
 pub mod export;

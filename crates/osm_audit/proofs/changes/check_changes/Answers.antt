@@ -4,6 +4,6 @@ use Rattle.osm_audit.proofs.changes.check_changes.Goals as goal
 
 pub returns-clause-said : goal.returns-clause-said
 returns-clause-said g c = λ sure.
-    c.in_ok-say.ensures ((g.S.Store.state c.args.store.now).files (file_name_of c.args.dir.now c.args.number O5c))
+    c.say.ensures ((g.S.Store.state c.args.store.now).files (file_name_of c.args.dir.now c.args.number O5c))
     ((g.S.Store.state c.args.store.now).files (file_name_of c.args.dir.now c.args.number Opl)) (c.in_ok-o5c.ensures.held sure)
     ((rw (c.in_ok-o5c.ensures.frame.makes.known, c.in_ok-o5c.ensures.frame.files) at c.in_ok-opl.ensures.held) sure)
