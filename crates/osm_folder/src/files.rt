@@ -10,8 +10,8 @@ use crate::fault::{FileName, RunFault};
 use osm_store::store::{Store, StoreError};
 use std::alloc::Global;
 
-// The most bytes of a state file.
-pub(crate) const MAX_STATE: u64 = 65_536;
+/// The most bytes of a state file.
+pub const MAX_STATE: u64 = 65_536;
 
 // All bytes of a file, or `TooLarge` above the limit; None if there is no such file.
 pub(crate) fn read_file<S: Store>(

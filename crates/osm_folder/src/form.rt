@@ -64,7 +64,8 @@ pub fn convert(alloc: Global, from: Form, to: Form, bytes: Vec<u8>) -> Result<Ve
     }
 }
 
-pub(crate) fn read_form(alloc: Global, form: Form, bytes: &[u8]) -> Result<Batch, FormError>
+/// The batch that the bytes spell in that form.
+pub fn read_form(alloc: Global, form: Form, bytes: &[u8]) -> Result<Batch, FormError>
     ensures spelled { IfOk result (λ batch. spells_of form bytes.now batch) }
     ensures small { OnOk result (length bytes.now ≤ max_file) }
     ensures refused { IfErr result (ReadFails form bytes.now) }

@@ -8,7 +8,7 @@ pub mod data_form;
 pub mod export;
 pub mod fault;
 mod fetch;
-mod files;
+pub mod files;
 pub mod filters;
 pub mod follow;
 pub mod form;

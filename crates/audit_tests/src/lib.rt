@@ -1,0 +1,5 @@
+//! Tests of audits.
+#![tactic(auto)]
+
+#[cfg(test)]
+mod tests;

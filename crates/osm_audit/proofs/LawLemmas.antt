@@ -1,0 +1,226 @@
+-- No file of a whole folder stops a run.
+use Rattle.std.proofs.Common.{◌≡◌, ℕ, ◌+◌, ◌<◌, ◌≤◌, List, length, Option, Some, None, inl, inr, true, false, arith, sym, subst}
+use Rattle.std.specs.Prelude.{◌||◌, ◌&&◌, ◌⊎◌, Bool, IsTrue, is_none}
+use Rattle.osm_model.specs.Filter.{FilterValue}
+use Rattle.osm_model.specs.Limits.{max_file}
+use Rattle.osm_save.specs.declared.save.Saved.{Saved}
+use Rattle.osm_state.specs.StateLaws.{NoFaultBesideState}
+use Rattle.osm_state.specs.declared.paths.Suffix.{Suffix}
+use Rattle.osm_state.specs.declared.paths.Suffix.TheVariants.{O5c, Opl, State}
+use Rattle.osm_follow.specs.Published.{PublishedValue, sequence_at}
+use Rattle.osm_store.specs.Files.{Files, IsOver}
+use Rattle.osm_folder.specs.Folder.{IsAbsentOr, IsFile, IsFolderOf, IsStateFile, IsThere, max_state}
+use Rattle.osm_folder.specs.Following.{AreChanges, BeyondStops, FollowStops, IsReadable, IsSaved, NumberStops, SaveStops, StartStops, StopsAt}
+use Rattle.osm_folder.specs.Following.{is_lost, last_number}
+use Rattle.osm_folder.specs.Names.{file_name_of, top_name_of}
+use Rattle.osm_folder.specs.Numbered.{AreFilesOf}
+use Rattle.osm_folder.specs.Publication.{CutsOff, HasTop, IsBadState, IsBig, IsReadWith, NotReady, PublishStops}
+use Rattle.osm_folder.specs.declared.fault.FileName.{FileName}
+use Rattle.osm_folder.specs.declared.fault.FileName.TheVariants.{Top, Sequence, Save, Changes}
+use Rattle.osm_folder.specs.declared.fault.RunFault.{RunFault}
+use Rattle.osm_folder.specs.declared.fault.RunFault.TheVariants.{WantOfMemory, ReadFault, TooLarge, Absent, BadState, Mismatch, BadChange}
+use Rattle.osm_folder.specs.declared.form.Form.TheVariants as forms
+use Rattle.osm_folder.specs.declared.options.FollowOptions.{FollowOptions}
+use Rattle.osm_audit.specs.Audit.{IsLast}
+use Rattle.osm_audit.specs.Laws.{IsFolderFile, IsOfFolder}
+use Rattle.osm_audit.specs.Whole.{IsWhole}
+use Rattle.osm_audit.proofs.StateLemmas.{bad_state, one_file, over_state}
+use Rattle.osm_audit.proofs.WholeLemmas.{AreOf, absent_changes, faulty_there, state_of, whole_at}
+
+-- ---- a number can be read
+
+changes_are : (state o5c opl : Option (List ℕ)) (p : PublishedValue) → IsAbsentOr o5c (IsFile O5c p) → IsAbsentOr opl (IsFile Opl p)
+    → (is_none state || (is_none o5c && is_none opl)) ≡ false → AreChanges o5c opl p
+changes_are state (Some bytes) opl p a b found = a
+changes_are state None (Some bytes) p a b found = b
+changes_are None None None p a b found = absurd (let e : true ≡ false = found in cc)
+changes_are (Some bytes) None None p a b found = absurd (let e : true ≡ false = found in cc)
+
+pub whole_is_readable : (files : Files) (dir : List ℕ) (from to k : ℕ) → 0 < from → IsWhole files dir from to → from ≤ k → k ≤ to
+    → IsReadable files dir k × (is_lost files dir k ≡ false)
+whole_is_readable files dir from to k above w low high =
+    let count = w.count in
+    let p = sequence_at w.published k in
+    let is = w.each k low high in (
+      (
+        p,
+        (w.sequences k (omega (arith, above, low)) (omega (arith, high, count))).number_is,
+        record {
+          state = is.state;
+          changes = changes_are (files (file_name_of dir p.number State)) (files (file_name_of dir p.number O5c)) (files (file_name_of dir p.number Opl)) p
+              is.o5c is.opl is.found;
+        },
+      ),
+      (whole_at files dir from to k above w low high).found,
+    )
+
+-- ---- what stops a run
+
+number_stops : NoFaultBesideState → (known : Type 0) (dir : List ℕ) (files : Files) (k : ℕ) (p : PublishedValue) (fault : RunFault) → known
+    → AreOf files dir k p → NumberStops known dir files k fault → IsOfFolder fault → ⊥
+number_stops apart known dir files k p (TooLarge (Sequence n State)) sure are s f =
+    over_state (files (file_name_of dir k State)) k p.time (s.1 sure).1 are.state
+number_stops apart known dir files k p (TooLarge (Sequence n O5c)) sure are s f =
+    absent_changes forms.O5c (files (file_name_of dir k O5c)) p.changes (s.1 sure).1 are.o5c
+number_stops apart known dir files k p (TooLarge (Sequence n Opl)) sure are s f =
+    absent_changes forms.Opl (files (file_name_of dir k Opl)) p.changes (s.1 sure).1 are.opl
+number_stops apart known dir files k p (BadState (Sequence n State) cause) sure are s f =
+    bad_state apart (files (file_name_of dir k State)) k p.time cause (s.1 sure) are.state
+number_stops apart known dir files k p (Mismatch n) sure are s f =
+    let other = s.1 sure in
+    other.2 (one_file (files (file_name_of dir k State)) other.0 k other.1 p.time other.3 are.state).0
+number_stops apart known dir files k p (BadChange (Sequence n O5c) place why) sure are s f =
+    faulty_there forms.O5c (files (file_name_of dir k O5c)) place p.changes (s.1 sure).1 are.o5c
+number_stops apart known dir files k p (BadChange (Sequence n Opl) place why) sure are s f =
+    faulty_there forms.Opl (files (file_name_of dir k Opl)) place p.changes (s.1 sure).1 are.opl
+number_stops apart known dir files k p WantOfMemory sure are s f = f
+number_stops apart known dir files k p (ReadFault file) sure are s f = f
+number_stops apart known dir files k p fault sure are s f = absurd s
+
+-- the newest state is why a run stops
+abbrev IsTopFault : Option (List ℕ) → RunFault → Type 0
+IsTopFault told (Absent file) = told ≡ None
+IsTopFault told (TooLarge file) = IsOver max_state told
+IsTopFault told (BadState file cause) = IsBadState told cause
+IsTopFault told fault = ⊥
+
+top_there : NoFaultBesideState → (files : Files) (dir : List ℕ) (to : ℕ) (fault : RunFault) → IsLast None dir files to
+    → IsTopFault (files (top_name_of dir)) fault → ⊥
+top_there apart files dir to (Absent file) last f =
+    subst (λ (o : Option (List ℕ)). IsThere o (IsStateFile to last.0)) f last.1
+top_there apart files dir to (TooLarge file) last f = over_state (files (top_name_of dir)) to last.0 f last.1
+top_there apart files dir to (BadState file cause) last f = bad_state apart (files (top_name_of dir)) to last.0 cause f last.1
+top_there apart files dir to fault last f = f
+
+start_stops : NoFaultBesideState → (known : Type 0) (given : FilterValue) (dir save : List ℕ) (files : Files) (to : ℕ) (fault : RunFault)
+    → known → IsLast None dir files to → StartStops known given dir save files fault → IsOfFolder fault → ⊥
+start_stops apart known given dir save files to (Absent Top) sure last s f = top_there apart files dir to (Absent Top) last (s sure).1
+start_stops apart known given dir save files to (TooLarge Top) sure last s f = top_there apart files dir to (TooLarge Top) last (s sure).1
+start_stops apart known given dir save files to (BadState Top cause) sure last s f =
+    top_there apart files dir to (BadState Top cause) last (s sure).1
+start_stops apart known given dir save files to (TooLarge Save) sure last s f = f
+start_stops apart known given dir save files to (Absent file) sure last s f = s
+start_stops apart known given dir save files to (TooLarge file) sure last s f = s
+start_stops apart known given dir save files to (BadState file cause) sure last s f = s
+start_stops apart known given dir save files to (Mismatch n) sure last s f = s
+start_stops apart known given dir save files to (BadChange file place why) sure last s f = s
+start_stops apart known given dir save files to fault sure last s f = f
+
+beyond_stops : (known : Type 0) (options : FollowOptions) (dir save : List ℕ) (files : Files) (fault : RunFault)
+    → BeyondStops known options dir save files fault → IsOfFolder fault → ⊥
+beyond_stops known options dir save files (Absent file) s f = s
+beyond_stops known options dir save files (TooLarge file) s f = s
+beyond_stops known options dir save files (BadState file cause) s f = s
+beyond_stops known options dir save files (Mismatch n) s f = s
+beyond_stops known options dir save files (BadChange file place why) s f = s
+beyond_stops known options dir save files fault s f = f
+
+save_stops : (known : Type 0) (options : FollowOptions) (dir save : List ℕ) (files : Files) (fault : RunFault)
+    → SaveStops known options dir save files fault → IsOfFolder fault → ⊥
+save_stops known options dir save files (TooLarge Save) s f = f
+save_stops known options dir save files (Absent file) s f = s
+save_stops known options dir save files (TooLarge file) s f = s
+save_stops known options dir save files (BadState file cause) s f = s
+save_stops known options dir save files (Mismatch n) s f = s
+save_stops known options dir save files (BadChange file place why) s f = s
+save_stops known options dir save files fault s f = f
+
+end_below : (limit : Option ℕ) (number top : ℕ) → last_number limit number top ≤ top
+end_below None number top = omega arith
+end_below (Some limit) number top = omega arith
+
+way_stops : NoFaultBesideState → (known : Type 0) (options : FollowOptions) (dir save : List ℕ) (files : Files) (from to : ℕ) (fault : RunFault)
+    → known → 0 < from → IsWhole files dir from to → IsLast None dir files to
+    → ((v : Saved) → IsSaved options.filter (files save) v → from ≤ v.number + 1)
+    → StopsAt known options dir save files fault → IsOfFolder fault → ⊥
+way_stops apart known options dir save files from to fault sure above w last high stops f =
+    let comes = stops.comes sure in
+    let start = high comes.start comes.started.saved in
+    let top = (one_file (files (top_name_of dir)) comes.top.sequence to comes.top.time last.0 comes.started.top_is last.1).0 in
+    let below = end_below options.limit comes.start.number comes.top.sequence in
+    let after = comes.above in
+    let until = comes.until in
+    number_stops apart known dir files stops.number (sequence_at w.published stops.number) fault sure
+    (whole_at files dir from to stops.number above w (omega (arith, start, after)) (omega (arith, until, below, top))) stops.stops f
+
+pub whole_is_followed : NoFaultBesideState → (is_known : Bool) (options : FollowOptions) (dir save : List ℕ) (files : Files) (from to : ℕ)
+    (fault : RunFault) → IsTrue is_known → 0 < from → IsWhole files dir from to → IsLast None dir files to
+    → ((v : Saved) → IsSaved options.filter (files save) v → from ≤ v.number + 1)
+    → FollowStops (IsTrue is_known) options dir save files fault → IsOfFolder fault → ⊥
+whole_is_followed apart known options dir save files from to fault sure above w last high (inl s) f =
+    start_stops apart (IsTrue known) options.filter dir save files to fault sure last s f
+whole_is_followed apart known options dir save files from to fault sure above w last high (inr (inl s)) f =
+    way_stops apart (IsTrue known) options dir save files from to fault sure above w last high s f
+whole_is_followed apart known options dir save files from to fault sure above w last high (inr (inr (inl s))) f =
+    beyond_stops (IsTrue known) options dir save files fault s f
+whole_is_followed apart known options dir save files from to fault sure above w last high (inr (inr (inr s))) f =
+    save_stops (IsTrue known) options dir save files fault s f
+
+-- ---- a publication
+
+not_changes : (file : FileName) → file ≡ Changes → IsFolderFile file → ⊥
+not_changes file same f = subst IsFolderFile same f
+
+not_ready : NoFaultBesideState → (known : Type 0) (dir changes now : List ℕ) (files : Files) (to : ℕ) (fault : RunFault)
+    → known → IsLast None dir files to → NotReady known dir changes now files fault → IsOfFolder fault → ⊥
+not_ready apart known dir changes now files to (Absent file) sure last s f = not_changes file s.1 f
+not_ready apart known dir changes now files to (TooLarge file) sure last s f = too_large s.1
+  where
+    too_large : ((file ≡ Top) × (known → IsOver max_state (files (top_name_of dir))))
+        ⊎ (((file ≡ Changes) × (known → HasTop dir files × IsOver max_file (files changes)))
+        ⊎ ((file ≡ Changes) × (known → IsReadWith dir changes now files IsBig))) → ⊥
+    too_large (inl top) = top_there apart files dir to (TooLarge Top) last (top.1 sure)
+    too_large (inr (inl big)) = not_changes file big.0 f
+    too_large (inr (inr big)) = not_changes file big.0 f
+not_ready apart known dir changes now files to (BadState file cause) sure last s f = top_there apart files dir to (BadState Top cause) last (s.2 sure)
+not_ready apart known dir changes now files to (Mismatch n) sure last s f = s
+not_ready apart known dir changes now files to (BadChange file place why) sure last s f = not_changes file s.1 f
+not_ready apart known dir changes now files to fault sure last s f = f
+
+cuts_off : (number count : ℕ) (fault : RunFault) → CutsOff number count fault → IsOfFolder fault → ⊥
+cuts_off number count (Absent file) s f = s
+cuts_off number count (TooLarge file) s f = s
+cuts_off number count (BadState file cause) s f = s
+cuts_off number count (Mismatch n) s f = s
+cuts_off number count (BadChange file place why) s f = s
+cuts_off number count fault s f = f
+
+pub whole_is_published_in : NoFaultBesideState → (is_known : Bool) (dir changes now : List ℕ) (files new : Files) (to : ℕ) (fault : RunFault)
+    → IsTrue is_known → IsLast None dir files to → PublishStops (IsTrue is_known) dir changes now files new fault → IsOfFolder fault → ⊥
+whole_is_published_in apart known dir changes now files new to fault sure last (inl s) f =
+    not_ready apart (IsTrue known) dir changes now files to fault sure last s.0 f
+whole_is_published_in apart known dir changes now files new to fault sure last (inr s) f = cuts_off s.0.0 s.0.1 fault s.0.2 f
+
+-- ---- the folder of what was published
+
+absent_or : (told : Option (List ℕ)) (holds : List ℕ → Type 0) → IsThere told holds → IsAbsentOr told holds
+absent_or None holds h = absurd h
+absent_or (Some bytes) holds h = h
+
+file_at : (files : Files) (dir : List ℕ) (p : PublishedValue) (s : Suffix) → AreFilesOf files dir p
+    → IsAbsentOr (files (file_name_of dir p.number s)) (IsFile s p)
+file_at files dir p State is = absent_or (files (file_name_of dir p.number State)) (IsFile State p) is.state
+file_at files dir p O5c is = is.o5c
+file_at files dir p Opl is = is.opl
+
+pub whole_is_folder : (files : Files) (dir : List ℕ) (to : ℕ) → 0 < to → (w : IsWhole files dir 1 to) → IsLast None dir files to
+    → IsFolderOf w.published files dir
+whole_is_folder files dir to above w last = record {
+  sequences = w.sequences;
+  top = inr (
+    omega (arith, above, count),
+    subst (λ (n : ℕ). IsThere (files (top_name_of dir)) (IsFile State (sequence_at w.published n))) (sym count)
+        (state_of (files (top_name_of dir)) (sequence_at w.published to)
+        (subst (λ (n : ℕ). IsThere (files (top_name_of dir)) (IsStateFile n (sequence_at w.published to).time)) (sym (at to above (omega arith)))
+        (subst (λ (t : ℕ). IsThere (files (top_name_of dir)) (IsStateFile to t)) (w.top last.0 above last.1) last.1))),
+  );
+  each = λ k s low high. subst (λ (n : ℕ). IsAbsentOr (files (file_name_of dir n s)) (IsFile s (sequence_at w.published k)))
+      (at k low (omega (arith, high, count)))
+      (file_at files dir (sequence_at w.published k) s (w.each k low (omega (arith, high, count))));
+}
+  where
+    count : length w.published ≡ to
+    count = w.count
+
+    at : (k : ℕ) → 0 < k → k ≤ to → (sequence_at w.published k).number ≡ k
+    at k low high = (w.sequences k low (omega (arith, high, count))).number_is

@@ -1,0 +1,78 @@
+-- What findings mean, and what a whole folder means for those who follow it or publish in it.
+-- `is_known` says that it is known what the files hold.
+use Rattle.std.specs.Prelude.{◌≡◌, ℕ, ◌+◌, ◌<◌, ◌≤◌, ◌⊎◌, List, Bool, Contains, IsTrue, None, false}
+use Rattle.osm_save.specs.declared.save.Saved.{Saved}
+use Rattle.osm_state.specs.declared.paths.Suffix.{Suffix}
+use Rattle.osm_store.specs.Files.{Files}
+use Rattle.osm_folder.specs.Folder.{IsFolderOf}
+use Rattle.osm_folder.specs.Following.{FollowStops, IsReadable, IsSaved, is_lost}
+use Rattle.osm_folder.specs.Publication.{PublishStops}
+use Rattle.osm_folder.specs.declared.fault.FileName.{FileName}
+use Rattle.osm_folder.specs.declared.fault.FileName.TheVariants.{Top, Sequence}
+use Rattle.osm_folder.specs.declared.fault.RunFault.{RunFault}
+use Rattle.osm_folder.specs.declared.fault.RunFault.TheVariants.{TooLarge, Absent, BadState}
+use Rattle.osm_folder.specs.declared.fault.RunFault.TheVariants.{Mismatch, BadChange}
+use Rattle.osm_folder.specs.declared.options.FollowOptions.{FollowOptions}
+use Rattle.osm_audit.specs.Audit.{IsLast}
+use Rattle.osm_audit.specs.Findings.{AreFindings, IsFound, IsOfNumber, IsOfTop, IsOtherTop, IsWrong}
+use Rattle.osm_audit.specs.Whole.{IsWhole}
+use Rattle.osm_audit.specs.declared.finding.Cause.{Cause}
+use Rattle.osm_audit.specs.declared.finding.Finding.{Finding}
+
+-- the file is one of a folder
+abbrev pub IsFolderFile : FileName → Type 0
+IsFolderFile Top = Unit {0}
+IsFolderFile (Sequence number suffix) = Unit {0}
+IsFolderFile file = ⊥
+
+-- what a file of the folder holds, or that it isn't there, is the reason
+abbrev pub IsOfFolder : RunFault → Type 0
+IsOfFolder (TooLarge file) = IsFolderFile file
+IsOfFolder (Absent file) = IsFolderFile file
+IsOfFolder (BadState file cause) = IsFolderFile file
+IsOfFolder (Mismatch number) = Unit {0}
+IsOfFolder (BadChange file place why) = IsFolderFile file
+IsOfFolder fault = ⊥
+
+-- a follower can read each number of a whole folder, and misses none
+abbrev pub WholeIsReadable : Type 0
+WholeIsReadable = (files : Files) (dir : List ℕ) (from to k : ℕ) → 0 < from
+    → IsWhole files dir from to → from ≤ k → k ≤ to
+    → IsReadable files dir k × (is_lost files dir k ≡ false)
+
+-- no file of a folder that is whole up to its newest state is why a run of the follower stops, if
+-- its save isn't below the number before the first one
+abbrev pub WholeIsFollowed : Type 0
+WholeIsFollowed = (is_known : Bool) (options : FollowOptions) (dir save : List ℕ) (files : Files)
+    (from to : ℕ) (fault : RunFault) → IsTrue is_known → 0 < from → IsWhole files dir from to
+    → IsLast None dir files to
+    → ((v : Saved) → IsSaved options.filter (files save) v → from ≤ v.number + 1)
+    → FollowStops (IsTrue is_known) options dir save files fault → IsOfFolder fault → ⊥
+
+-- no file of a folder that has a newest state is why a publication stops
+abbrev pub WholeIsPublishedIn : Type 0
+WholeIsPublishedIn = (is_known : Bool) (dir changes now : List ℕ) (files new : Files) (to : ℕ)
+    (fault : RunFault) → IsTrue is_known → IsLast None dir files to
+    → PublishStops (IsTrue is_known) dir changes now files new fault → IsOfFolder fault → ⊥
+
+-- a folder that is whole from 1 up to its newest state is the folder of what was published
+abbrev pub WholeIsFolder : Type 0
+WholeIsFolder = (files : Files) (dir : List ℕ) (to : ℕ) → 0 < to → (w : IsWhole files dir 1 to)
+    → IsLast None dir files to → IsFolderOf w.published files dir
+
+-- each finding is true
+abbrev pub FindingsAreTrue : Type 0
+FindingsAreTrue = (files : Files) (dir : List ℕ) (from to : ℕ) (found : List Finding)
+    (f : Finding) → AreFindings files dir from to found → Contains found f
+    → IsOfNumber files dir from to f ⊎ IsOfTop files dir from to f
+
+-- each file of a number that is wrong for some cause has a finding
+abbrev pub WrongFilesAreFound : Type 0
+WrongFilesAreFound = (files : Files) (dir : List ℕ) (from to k : ℕ) (suffix : Suffix)
+    (cause : Cause) (found : List Finding) → AreFindings files dir from to found → from ≤ k → k ≤ to
+    → IsWrong files dir from k suffix cause → IsFound found (Sequence k suffix)
+
+-- so has the newest state
+abbrev pub WrongTopIsFound : Type 0
+WrongTopIsFound = (files : Files) (dir : List ℕ) (from to : ℕ) (found : List Finding)
+    → AreFindings files dir from to found → IsOtherTop files dir from to → IsFound found Top

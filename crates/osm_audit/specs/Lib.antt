@@ -1,0 +1,7 @@
+pub mod Findings
+pub mod Whole
+pub mod Audit
+pub mod Stops
+pub mod Laws
+pub mod Reports
+pub mod Steps

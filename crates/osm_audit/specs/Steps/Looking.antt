@@ -1,0 +1,190 @@
+-- Steps of an audit. `known` says that it is known what the files hold.
+use Rattle.std.specs.Prelude.{◌≡◌, ℕ, ◌+◌, ◌-◌, ◌<◌, ◌≤◌, List, ◌++◌, length, Option, Some, None}
+use Rattle.osm_model.specs.Limits.{max_file}
+use Rattle.osm_state.specs.State.{StateValue}
+use Rattle.osm_state.specs.StateFault.{FaultOf}
+use Rattle.osm_state.specs.declared.paths.Suffix.{Suffix}
+use Rattle.osm_state.specs.declared.paths.Suffix.TheVariants.{O5c, Opl, State}
+use Rattle.osm_store.specs.Files.{Files, IsOver}
+use Rattle.osm_folder.specs.Folder.{IsStateFile, IsThere, max_state}
+use Rattle.osm_folder.specs.Following.{NamesOther}
+use Rattle.osm_folder.specs.Forms.{IsFaulty}
+use Rattle.osm_folder.specs.Names.{file_name_of}
+use Rattle.osm_folder.specs.Publication.{IsBadState}
+use Rattle.osm_folder.specs.declared.fault.FileName.{FileName}
+use Rattle.osm_folder.specs.declared.fault.FileName.TheVariants.{Top, Sequence}
+use Rattle.osm_folder.specs.declared.fault.RunFault.{RunFault}
+use Rattle.osm_folder.specs.declared.fault.RunFault.TheVariants as faults
+use Rattle.osm_folder.specs.declared.fault.RunFault.TheVariants.{WantOfMemory, ReadFault}
+use Rattle.osm_folder.specs.declared.form.Form.{Form}
+use Rattle.osm_folder.specs.declared.form.Form.TheVariants as forms
+use Rattle.osm_audit.specs.Findings.{AreOfNumbers, HasChanges, IsO5cRight, IsO5cWrong, IsOplRight}
+use Rattle.osm_audit.specs.Findings.{IsOplWrong, noted}
+use Rattle.osm_audit.specs.declared.changes.Held as held
+use Rattle.osm_audit.specs.declared.changes.Held.{Held}
+use Rattle.osm_audit.specs.declared.contents.Contents as contents
+use Rattle.osm_audit.specs.declared.contents.Contents.{Contents}
+use Rattle.osm_audit.specs.declared.finding.Cause.{Cause}
+use Rattle.osm_audit.specs.declared.finding.Cause.TheVariants.{Absent, TooLarge, BadState, Mismatch}
+use Rattle.osm_audit.specs.declared.finding.Cause.TheVariants.{TimeBack, BadChange, Differs}
+use Rattle.osm_audit.specs.declared.finding.Finding.{Finding}
+
+-- what was read of a file, beside its limit
+abbrev pub IsContents : ℕ → Option (List ℕ) → Contents → Type 0
+IsContents limit told contents.TheVariants.Absent = told ≡ None
+IsContents limit told contents.TheVariants.TooLarge = IsOver limit told
+IsContents limit told (contents.TheVariants.Bytes bytes) = told ≡ Some bytes.items
+
+-- the bytes that were read are within the limit
+abbrev pub IsWithinLimit : ℕ → Contents → Type 0
+IsWithinLimit limit (contents.TheVariants.Bytes bytes) = length bytes.items ≤ limit
+IsWithinLimit limit read = Unit {0}
+
+-- why a file isn't read: never for its size
+abbrev pub ReadStops : FileName → RunFault → Type 0
+ReadStops file WantOfMemory = Unit {0}
+ReadStops file (ReadFault named) = named ≡ file
+ReadStops file fault = ⊥
+
+-- why the files of a number aren't read
+abbrev pub NumberStops : ℕ → RunFault → Type 0
+NumberStops number WantOfMemory = Unit {0}
+NumberStops number (ReadFault file) = (suffix : Suffix) × (file ≡ Sequence number suffix)
+NumberStops number fault = ⊥
+
+-- why the files of a range aren't read
+abbrev pub RangeStops : ℕ → ℕ → RunFault → Type 0
+RangeStops from to WantOfMemory = Unit {0}
+RangeStops from to (ReadFault file) =
+    (number : ℕ) × (suffix : Suffix) × (from ≤ number) × (number ≤ to)
+    × (file ≡ Sequence number suffix)
+RangeStops from to fault = ⊥
+
+-- the time isn't below that of the number before
+abbrev pub IsNotBelow : ℕ → Option ℕ → Type 0
+IsNotBelow time None = Unit {0}
+IsNotBelow time (Some before) = before ≤ time
+
+-- the time is below that of the number before
+abbrev pub IsBelow : ℕ → Option ℕ → Type 0
+IsBelow time None = ⊥
+IsBelow time (Some before) = time < before
+
+-- a state file isn't the number's
+abbrev pub IsNoState : Option (List ℕ) → ℕ → Cause → Type 0
+IsNoState told number Absent = told ≡ None
+IsNoState told number TooLarge = IsOver max_state told
+IsNoState told number (BadState cause) = IsBadState told cause
+IsNoState told number Mismatch = NamesOther told number
+IsNoState told number cause = ⊥
+
+-- what is said of a state file, beside the time of the number before: the cause for which it is
+-- wrong, and its time if it is the number's
+abbrev pub IsStateSaid : Option (List ℕ) → ℕ → Option ℕ → Option Cause → Option ℕ → Type 0
+IsStateSaid told number before None (Some time) =
+    IsThere told (IsStateFile number time) × IsNotBelow time before
+IsStateSaid told number before (Some TimeBack) (Some time) =
+    IsThere told (IsStateFile number time) × IsBelow time before
+IsStateSaid told number before (Some cause) None = IsNoState told number cause
+IsStateSaid told number before cause time = ⊥
+
+-- the time of the state of a number, none if its state file isn't the number's
+abbrev pub IsTimeOf : Option (List ℕ) → ℕ → Option ℕ → Type 0
+IsTimeOf told number None = (time : ℕ) → IsThere told (IsStateFile number time) → ⊥
+IsTimeOf told number (Some time) = IsThere told (IsStateFile number time)
+
+-- the time of the number before, none at the first number
+abbrev pub IsTimeBefore : Files → List ℕ → ℕ → ℕ → Option ℕ → Type 0
+IsTimeBefore files dir from number None =
+    from < number → IsTimeOf (files (file_name_of dir (number - 1) State)) (number - 1) None
+IsTimeBefore files dir from number (Some time) =
+    (from < number)
+    × IsTimeOf (files (file_name_of dir (number - 1) State)) (number - 1) (Some time)
+
+-- what a change file holds
+abbrev pub IsHeld : Form → Option (List ℕ) → Held → Type 0
+IsHeld form told held.TheVariants.Absent = told ≡ None
+IsHeld form told (held.TheVariants.Wrong TooLarge) = IsOver max_file told
+IsHeld form told (held.TheVariants.Wrong (BadChange place why)) =
+    IsThere told (λ bytes. IsFaulty form bytes place)
+IsHeld form told (held.TheVariants.Wrong cause) = ⊥
+IsHeld form told (held.TheVariants.Changes batch) = IsThere told (HasChanges form batch)
+
+-- why what a file holds is wrong by itself
+abbrev pub cause_in : Held → Option Cause
+cause_in (held.TheVariants.Wrong cause) = Some cause
+cause_in holds = None
+
+-- what is said of an o5c file, beside an OPL file
+abbrev pub IsO5cSaid : Option (List ℕ) → Option (List ℕ) → Option Cause → Type 0
+IsO5cSaid o5c opl None = IsO5cRight o5c opl
+IsO5cSaid o5c opl (Some cause) = IsO5cWrong o5c opl cause
+
+-- what is said of an OPL file, beside an o5c file
+abbrev pub IsOplSaid : Option (List ℕ) → Option (List ℕ) → Option Cause → Type 0
+IsOplSaid o5c opl None = IsOplRight o5c opl
+IsOplSaid o5c opl (Some cause) = IsOplWrong o5c opl cause
+
+-- what is said of both
+abbrev pub AreChangesSaid :
+    Option (List ℕ) → Option (List ℕ) → Option Cause → Option Cause → Type 0
+AreChangesSaid o5c opl first second = IsO5cSaid o5c opl first × IsOplSaid o5c opl second
+
+-- what is said of a time that is the number's
+abbrev pub IsTimeSaid : ℕ → Option ℕ → Option Cause → Type 0
+IsTimeSaid time before None = IsNotBelow time before
+IsTimeSaid time before (Some TimeBack) = IsBelow time before
+IsTimeSaid time before (Some cause) = ⊥
+
+-- the suffix of a form
+abbrev pub suffix_of : Form → Suffix
+suffix_of forms.O5c = O5c
+suffix_of forms.Opl = Opl
+
+-- the newest state, if there is one
+abbrev pub IsTopRead : Option (List ℕ) → Option StateValue → Type 0
+IsTopRead told None = (number time : ℕ) → IsThere told (IsStateFile number time) → ⊥
+IsTopRead told (Some s) = IsThere told (IsStateFile s.sequence s.time)
+
+-- what is wrong with the newest state
+abbrev pub TopStops : Type 0 → Option (List ℕ) → RunFault → Type 0
+TopStops known told (faults.Absent file) = (file ≡ Top) × (known → told ≡ None)
+TopStops known told (faults.TooLarge file) = (file ≡ Top) × (known → IsOver max_state told)
+TopStops known told (faults.BadState file cause) = (file ≡ Top) × (known → IsBadState told cause)
+TopStops known told fault = ⊥
+
+-- the same, by what was read of it
+abbrev pub ContentsStop : Contents → RunFault → Type 0
+ContentsStop contents.TheVariants.Absent (faults.Absent file) = file ≡ Top
+ContentsStop contents.TheVariants.TooLarge (faults.TooLarge file) = file ≡ Top
+ContentsStop (contents.TheVariants.Bytes bytes) (faults.BadState file cause) =
+    (file ≡ Top) × FaultOf bytes.items cause
+ContentsStop read fault = ⊥
+
+-- the cause for which the newest state is wrong, beside the time of the last number's own state:
+-- they are compared only if there are both, and it is the last number's
+abbrev pub IsTopCause : Option StateValue → ℕ → Option ℕ → Option Cause → Type 0
+IsTopCause (Some s) to (Some time) None = s.sequence ≡ to → s.time ≡ time
+IsTopCause (Some s) to (Some time) (Some Differs) = (s.sequence ≡ to) × (s.time ≡ time → ⊥)
+IsTopCause (Some s) to (Some time) (Some cause) = ⊥
+IsTopCause top to time None = Unit {0}
+IsTopCause top to time (Some cause) = ⊥
+
+-- the findings of a number, and the time of its state
+pub record IsLookedAt (files : Files) (dir : List ℕ) (number : ℕ) (before after : Option ℕ)
+    (found : List Finding) : Type 0 where
+  pub state : Option Cause
+  pub o5c : Option Cause
+  pub opl : Option Cause
+  pub state_said : IsStateSaid (files (file_name_of dir number State)) number before state after
+  pub changes_said : AreChangesSaid (files (file_name_of dir number O5c))
+      (files (file_name_of dir number Opl)) o5c opl
+  pub found_are : found ≡ noted number (Sequence number State) state
+      ++ (noted number (Sequence number O5c) o5c ++ noted number (Sequence number Opl) opl)
+
+-- the findings of `count` numbers, of which `from` is the first, and the time of the last one's
+-- state
+pub record AreLookedThrough (files : Files) (dir : List ℕ) (from count : ℕ) (time : Option ℕ)
+    (found : List Finding) : Type 0 where
+  pub numbers : AreOfNumbers files dir from count found
+  pub last : IsTimeBefore files dir from (from + count) time

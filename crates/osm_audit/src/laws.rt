@@ -1,0 +1,32 @@
+//! What findings mean, and what a whole folder means for those who follow it or publish in it.
+
+ghost use Rattle.osm_audit.specs.Laws.{FindingsAreTrue, WholeIsFolder, WholeIsFollowed};
+ghost use Rattle.osm_audit.specs.Laws.{WholeIsPublishedIn, WholeIsReadable, WrongFilesAreFound};
+ghost use Rattle.osm_audit.specs.Laws.{WrongTopIsFound};
+
+use osm_state::laws::laws_of_state;
+
+/// Tells the prover that each finding is true, and that each file that is wrong has one. Does
+/// nothing at run time.
+pub fn laws_of_findings()
+    ensures are_true { FindingsAreTrue }
+    ensures files_found { WrongFilesAreFound }
+    ensures top_found { WrongTopIsFound }
+{
+    laws_of_state();
+}
+
+/// Tells the prover that no file of a folder without findings is why a run over it stops: each
+/// number can be read and none is lost; up to its newest state it can be followed from a save that
+/// isn't below the number before the first one, and published in; and from 1 on it is the folder of
+/// published sequences, of which the runs' own contracts speak. Memory, the device, sizes of saves
+/// and of what is written, and the time of a publication may still stop a run. Does nothing at run
+/// time.
+pub fn laws_of_whole_folders()
+    ensures readable { WholeIsReadable }
+    ensures followed { WholeIsFollowed }
+    ensures published_in { WholeIsPublishedIn }
+    ensures is_folder { WholeIsFolder }
+{
+    laws_of_state();
+}

@@ -1,0 +1,12 @@
+//! Whether a folder is whole: what is wrong with the files of a range of numbers.
+#![tactic(auto)]
+
+pub mod audit;
+mod changes;
+mod contents;
+pub mod fault;
+pub mod finding;
+pub mod laws;
+mod numbers;
+pub mod report;
+mod states;

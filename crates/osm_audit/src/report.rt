@@ -1,0 +1,184 @@
+//! What an audit prints: in lines, or as a line of JSON.
+
+ghost use Rattle.std.specs.Prelude.{◌≡◌, ◌++◌, ◌∷◌, ℕ, List, [], IfOk, OnOk, false, map};
+ghost use Rattle.std.specs.List.{flat_map};
+ghost use Rattle.serde_json.specs.Data.{array};
+ghost use Rattle.serde_json.specs.View.{items_of, view};
+ghost use Rattle.serde_json.specs.Written.{has_float};
+ghost use Rattle.osm_json.specs.Line.{json_line};
+ghost use Rattle.osm_audit.specs.Reports.{AreTold, IsAuditLine, IsAuditText, Told, audit_data};
+ghost use Rattle.osm_audit.specs.Reports.{fault_data, finding_data, finding_line, findings_data};
+ghost use Rattle.osm_audit.specs.Reports.{findings_status, ok_line, told_line};
+
+use crate::audit::Audit;
+use crate::fault::AuditFault;
+use crate::finding::Finding;
+use osm_model::memory::WantOfMemory;
+use osm_show::lines::{write_bytes, write_number};
+use serde_json::{Value, json};
+use std::alloc::{AllocError, Global};
+
+/// The exit status of an audit: 1 exactly if something is wrong.
+pub fn audit_status(audit: &Audit) -> u8
+    ensures { result ≡ findings_status audit.now.findings }
+{
+    match audit.findings() {
+        [] => 0,
+        [_, ..] => 1,
+    }
+}
+
+/// `ok FROM..TO` if nothing is wrong, else `FILE: CAUSE` for each finding, in order. Each line ends
+/// with LF.
+pub fn audit_text(alloc: Global, audit: &Audit) -> Result<Vec<u8>, WantOfMemory>
+    ensures { IfOk result (λ text. IsAuditText audit.now text.items) }
+{
+    let mut text = Vec::new(alloc);
+    match audit.findings() {
+        [] => write_ok(audit.from(), audit.to(), &mut text)?,
+        findings => write_findings(alloc, findings, &mut text)?,
+    }
+    Ok(text)
+}
+
+fn write_ok(from: u32, to: u32, text: &mut Vec<u8>) -> Result<(), WantOfMemory>
+    ensures { OnOk result (text.new.items ≡ text.old.items ++ ok_line from to) }
+{
+    write_bytes(b"ok ", text)?;
+    write_number(from as u64, text)?;
+    write_bytes(b"..", text)?;
+    write_number(to as u64, text)?;
+    write_bytes(b"\n", text)
+}
+
+fn write_findings(
+    alloc: Global,
+    findings: &[Finding],
+    text: &mut Vec<u8>,
+) -> Result<(), WantOfMemory>
+    ensures { OnOk result ((told : List Told) × AreTold findings.now told
+        × (text.new.items ≡ text.old.items ++ flat_map told_line told)) }
+{
+    for finding in findings {
+        write_finding(alloc, finding, text)?;
+    }
+    Ok(())
+}
+
+fn write_finding(alloc: Global, finding: &Finding, text: &mut Vec<u8>) -> Result<(), WantOfMemory>
+    ensures { OnOk result ((told : Told) × (told.number ≡ finding.now.number)
+        × (text.new.items ≡ text.old.items ++ told_line told)) }
+{
+    let file = format!(in alloc; "{}", finding.file)?;
+    let cause = format!(in alloc; "{}", finding.cause)?;
+    write_line(file.as_str(), cause.as_str(), text)
+}
+
+fn write_line(file: &str, cause: &str, text: &mut Vec<u8>) -> Result<(), WantOfMemory>
+    ensures { OnOk result
+        (text.new.items ≡ text.old.items ++ finding_line file.now cause.now) }
+{
+    write_bytes(file.as_bytes(), text)?;
+    write_bytes(b": ", text)?;
+    write_bytes(cause.as_bytes(), text)?;
+    write_bytes(b"\n", text)
+}
+
+/// The line of JSON of an audit: the range, and each finding with its number, its file and its
+/// cause. The keys are sorted.
+#[tactic(auto, using(crate::proofs::ReportLemmas::no_audit))]
+pub fn audit_line(alloc: Global, audit: &Audit) -> Result<Vec<u8>, WantOfMemory>
+    ensures { IfOk result (λ line. IsAuditLine audit.now line.items) }
+{
+    let findings = findings_value(alloc, audit.findings())?;
+    let value = audit_value(alloc, audit.from(), audit.to(), findings)?;
+    Ok(line_of(alloc, &value)?)
+}
+
+/// The line of JSON of a run without an audit: nothing is known but the text of its fault.
+#[tactic(auto, using(crate::proofs::ReportLemmas::no_fault))]
+pub fn audit_fault_line(alloc: Global, fault: AuditFault) -> Result<Vec<u8>, WantOfMemory>
+    ensures { IfOk result
+        (λ line. (said : List ℕ) × (line.items ≡ json_line (fault_data said))) }
+{
+    let said = format!(in alloc; "{fault}")?;
+    let value = fault_value(alloc, said.as_str())?;
+    Ok(line_of(alloc, &value)?)
+}
+
+// The text of a value without floats, and LF.
+fn line_of(alloc: Global, value: &Value) -> Result<Vec<u8>, AllocError>
+    requires { has_float (view value.now) ≡ false }
+    ensures { IfOk result (λ line. line.items ≡ json_line (view value.now)) }
+{
+    let mut line = value.to_string(alloc)?;
+    line.push('\n')?;
+    Ok(line.into_bytes())
+}
+
+fn audit_value(alloc: Global, from: u32, to: u32, findings: Value) -> Result<Value, AllocError>
+    ensures { IfOk result (λ v. view v ≡ audit_data from to (view findings)) }
+{
+    json!(in alloc; {
+        "fault": null,
+        "findings": findings,
+        "from": from,
+        "to": to
+    })
+}
+
+fn fault_value(alloc: Global, fault: &str) -> Result<Value, AllocError>
+    ensures { IfOk result (λ v. view v ≡ fault_data fault.now) }
+{
+    json!(in alloc; {
+        "fault": fault,
+        "findings": null,
+        "from": null,
+        "to": null
+    })
+}
+
+fn findings_value(alloc: Global, findings: &[Finding]) -> Result<Value, AllocError>
+    ensures { IfOk result (λ v. (told : List Told) × AreTold findings.now told
+        × (view v ≡ findings_data told)) }
+{
+    let mut values = Vec::with_capacity(alloc, findings.len())?;
+    for finding in findings {
+        let value = told_value(alloc, finding)?;
+        push_value(value, &mut values)?;
+    }
+    Ok(array_value(values))
+}
+
+fn array_value(values: Vec<Value>) -> Value
+    ensures { view result ≡ array (items_of (map view values.items)) }
+{
+    Value::Array(values)
+}
+
+fn push_value(value: Value, values: &mut Vec<Value>) -> Result<(), AllocError>
+    ensures { OnOk result (map view values.new.items
+        ≡ map view values.old.items ++ view value ∷ []) }
+{
+    Ok(values.push(value)?)
+}
+
+fn told_value(alloc: Global, finding: &Finding) -> Result<Value, AllocError>
+    ensures { IfOk result (λ v. (told : Told) × (told.number ≡ finding.now.number)
+        × (view v ≡ finding_data told)) }
+{
+    let file = format!(in alloc; "{}", finding.file)?;
+    let cause = format!(in alloc; "{}", finding.cause)?;
+    finding_value(alloc, finding.number, file.as_str(), cause.as_str())
+}
+
+fn finding_value(alloc: Global, number: u32, file: &str, cause: &str) -> Result<Value, AllocError>
+    ensures { IfOk result (λ v. view v
+        ≡ finding_data (record { number = number; file = file.now; cause = cause.now })) }
+{
+    json!(in alloc; {
+        "cause": cause,
+        "file": file,
+        "number": number
+    })
+}
