@@ -14,7 +14,7 @@ use Rattle.osm_save.proofs.LineLemmas.{TakesNumbered, fixed_takes, numbered_take
 use Rattle.osm_merge.specs.Faults.{AreLinesShort}
 use Rattle.osm_merge.specs.Reading.{FindsNext, Refuses}
 use Rattle.osm_merge.specs.declared.fault.MergeFault.{MergeFault}
-use Rattle.osm_merge.specs.declared.fault.MergeFault.TheVariants.{BadSave, Changed, Device, LongLine, NoSave, TooLarge, WantOfMemory}
+use Rattle.osm_merge.specs.declared.fault.MergeFault.TheVariants.{BadSave, Changed, LongLine, NoSave, ReadFault, TooLarge, WantOfMemory, WriteFault}
 
 -- ---- long lines
 
@@ -96,7 +96,8 @@ refused_by file old new LongLine reading found none long = long found
 refused_by file old new TooLarge reading found none long = found
 refused_by file old new NoSave reading found none long = found
 refused_by file old new Changed reading found none long = found
-refused_by file old new Device reading found none long = tt
+refused_by file old new ReadFault reading found none long = tt
+refused_by file old new WriteFault reading found none long = tt
 refused_by file old new WantOfMemory reading found none long = tt
 
 pub numbered_none : (word : List ℕ) (most : ℕ) (bytes : List ℕ) → cut_at 10 bytes ≡ None → numbered_at word most bytes ≡ None
@@ -114,7 +115,8 @@ refuses_all file LongLine r s none f = λ short. f (none short)
 refuses_all file TooLarge r s none f = none
 refuses_all file NoSave r s none f = none
 refuses_all file Changed r s none f = none
-refuses_all file Device r s none f = tt
+refuses_all file ReadFault r s none f = tt
+refuses_all file WriteFault r s none f = tt
 refuses_all file WantOfMemory r s none f = tt
 
 -- a reading that takes no memory fails only if nothing can be read

@@ -13,7 +13,7 @@ use Rattle.osm_merge.specs.Laying.{Merges, MergesList, Writes}
 use Rattle.osm_merge.specs.Mirrors.{both_at, end_at}
 use Rattle.osm_merge.specs.Reading.{Ends, Refuses}
 use Rattle.osm_merge.specs.declared.fault.MergeFault.{MergeFault}
-use Rattle.osm_merge.specs.declared.fault.MergeFault.TheVariants.{BadSave, Changed, Device, LongLine, NoSave, TooLarge, WantOfMemory}
+use Rattle.osm_merge.specs.declared.fault.MergeFault.TheVariants.{BadSave, Changed, LongLine, NoSave, ReadFault, TooLarge, WantOfMemory, WriteFault}
 use Rattle.osm_merge.proofs.FrameLemmas.{writes_both}
 
 pub objects_none : (f : FilterValue) (most : ℕ) (bytes : List ℕ) → numbered_at (codes "objects ") most bytes ≡ None → objects_at f most bytes ≡ None
@@ -95,5 +95,6 @@ ends_refused file place LongLine r bad = absurd bad
 ends_refused file place TooLarge r huge = huge
 ends_refused file place NoSave r bad = bad
 ends_refused file place Changed r bad = bad
-ends_refused file place Device r ok = tt
+ends_refused file place ReadFault r ok = tt
+ends_refused file place WriteFault r ok = tt
 ends_refused file place WantOfMemory r ok = tt

@@ -19,7 +19,7 @@ use Rattle.osm_merge.specs.Faults.{AreLinesShort, IsBadLine}
 use Rattle.osm_merge.specs.Laying.{next_at}
 use Rattle.osm_merge.specs.Reading.{Refuses}
 use Rattle.osm_merge.specs.declared.fault.MergeFault.{MergeFault}
-use Rattle.osm_merge.specs.declared.fault.MergeFault.TheVariants.{BadSave, Changed, Device, LongLine, NoSave, TooLarge, WantOfMemory}
+use Rattle.osm_merge.specs.declared.fault.MergeFault.TheVariants.{BadSave, Changed, LongLine, NoSave, ReadFault, TooLarge, WantOfMemory, WriteFault}
 use Rattle.osm_merge.proofs.LineLemmas.{none_by, not_long}
 
 pub put_before-append : (z : Option ChangeValue) (cs : List ChangeValue) → put_before z cs ≡ put_before z [] ++ cs
@@ -79,5 +79,6 @@ bad_refuses file LongLine r bad none = absurd bad
 bad_refuses file TooLarge r bad none = absurd bad
 bad_refuses file NoSave r bad none = absurd bad
 bad_refuses file Changed r bad none = absurd bad
-bad_refuses file Device r bad none = absurd bad
+bad_refuses file ReadFault r bad none = absurd bad
+bad_refuses file WriteFault r bad none = absurd bad
 bad_refuses file WantOfMemory r bad none = absurd bad

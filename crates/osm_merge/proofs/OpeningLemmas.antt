@@ -13,7 +13,7 @@ use Rattle.osm_save.proofs.TextLemmas.{ended_before}
 use Rattle.osm_merge.proofs.LineLemmas.{none_by}
 use Rattle.osm_merge.specs.Opening.{IsOpened, OpeningStops, ReadingStops, ReadsOpening}
 use Rattle.osm_merge.specs.declared.fault.MergeFault.{MergeFault}
-use Rattle.osm_merge.specs.declared.fault.MergeFault.TheVariants.{BadSave, Changed, Device, LongLine, NoSave, TooLarge, WantOfMemory}
+use Rattle.osm_merge.specs.declared.fault.MergeFault.TheVariants.{BadSave, Changed, LongLine, NoSave, ReadFault, TooLarge, WantOfMemory, WriteFault}
 use Rattle.osm_merge.specs.declared.opening.Opening.{Opening}
 
 abbrev Parts : Type 0
@@ -76,7 +76,8 @@ opening_stops told old (BadSave line) opens none = record {
   head = head_absent max_block opens.0 (lit≤ tt) (rw opens.2 at none);
 }
 opening_stops told old WantOfMemory opens none = tt
-opening_stops told old Device opens none = tt
+opening_stops told old ReadFault opens none = tt
+opening_stops told old WriteFault opens none = tt
 opening_stops told old NoSave opens none = absurd none
 opening_stops told old Changed opens none = absurd none
 opening_stops told old LongLine opens none = absurd none

@@ -8,8 +8,9 @@ use Rattle.osm_save.specs.declared.save.Saved.{Saved}
 use Rattle.osm_merge.specs.Faults.{AreLinesShort}
 use Rattle.osm_merge.specs.Mirrors.{totals_of}
 use Rattle.osm_merge.specs.declared.check.Checked.{Checked}
+use Rattle.osm_merge.specs.declared.opening.Opening.{Opening}
 use Rattle.osm_merge.specs.declared.fault.MergeFault.{MergeFault}
-use Rattle.osm_merge.specs.declared.fault.MergeFault.TheVariants.{BadSave, Changed, Device}
+use Rattle.osm_merge.specs.declared.fault.MergeFault.TheVariants.{BadSave, Changed, ReadFault, WriteFault}
 use Rattle.osm_merge.specs.declared.fault.MergeFault.TheVariants.{LongLine, NoSave, TooLarge}
 use Rattle.osm_merge.specs.declared.fault.MergeFault.TheVariants.{WantOfMemory}
 
@@ -25,6 +26,16 @@ pub record IsChecked (told : Option (List ℕ)) (checked : Checked) : Type 0 whe
   pub totals : checked.totals ≡ totals_of saved.mirror
   pub rest : List ℕ
   pub begins : file ≡ ended (head_lines checked.version checked.head checked.filter) ++ rest
+
+-- the file begins with that head, of that version and with that filter; if it is a save text, they
+-- are those of what it saves
+pub record BeginsWith (told : Option (List ℕ)) (opening : Opening) : Type 0 where
+  pub file : List ℕ
+  pub there : told ≡ Some file
+  pub rest : List ℕ
+  pub begins : file ≡ ended (head_lines opening.version opening.head opening.filter) ++ rest
+  pub head : (v : Saved) → SpellsSave file v → head_of v ≡ opening.head
+  pub filter : (v : Saved) → SpellsSave file v → v.filter ≡ opening.filter
 
 -- the file is the save text of nothing
 pub record IsNoSave (told : Option (List ℕ)) : Type 0 where
@@ -46,5 +57,6 @@ CheckStops told (BadSave line) = IsNoSave told
 CheckStops told LongLine = AreLinesShort → IsNoSave told
 CheckStops told TooLarge = IsHugeFile told
 CheckStops told Changed = ⊥
-CheckStops told Device = Unit {0}
+CheckStops told ReadFault = Unit {0}
+CheckStops told WriteFault = Unit {0}
 CheckStops told WantOfMemory = Unit {0}

@@ -7,19 +7,20 @@ use Rattle.osm_mirror.specs.Mirror.{IsObject}
 use Rattle.osm_model.specs.Change.{ChangeValue}
 use Rattle.osm_opl.specs.Written.{line_text}
 use Rattle.osm_merge.specs.declared.fault.MergeFault.{MergeFault}
-use Rattle.osm_merge.specs.declared.fault.MergeFault.TheVariants.{BadSave, Device, LongLine}
-use Rattle.osm_merge.specs.declared.fault.MergeFault.TheVariants.{TooLarge, WantOfMemory}
+use Rattle.osm_merge.specs.declared.fault.MergeFault.TheVariants.{BadSave, LongLine, ReadFault}
+use Rattle.osm_merge.specs.declared.fault.MergeFault.TheVariants.{TooLarge, WantOfMemory, WriteFault}
 
 -- the fault of a file that is read in blocks, as one of a merge
 abbrev pub IsCausedBy : BlockFault → MergeFault → Type 0
-IsCausedBy blocks.Device fault = fault ≡ Device
+IsCausedBy blocks.Device fault = fault ≡ ReadFault
 IsCausedBy blocks.LongLine fault = fault ≡ LongLine
 IsCausedBy blocks.TooLarge fault = fault ≡ TooLarge
 IsCausedBy blocks.WantOfMemory fault = fault ≡ WantOfMemory
 
 -- the device is the reason
 abbrev pub IsDeviceFault : MergeFault → Type 0
-IsDeviceFault Device = Unit {0}
+IsDeviceFault ReadFault = Unit {0}
+IsDeviceFault WriteFault = Unit {0}
 IsDeviceFault fault = ⊥
 
 -- a line is the reason
@@ -29,7 +30,8 @@ IsBadLine fault = ⊥
 
 -- the device or memory is the reason
 abbrev pub IsPlain : MergeFault → Type 0
-IsPlain Device = Unit {0}
+IsPlain ReadFault = Unit {0}
+IsPlain WriteFault = Unit {0}
 IsPlain WantOfMemory = Unit {0}
 IsPlain fault = ⊥
 

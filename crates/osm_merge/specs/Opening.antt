@@ -3,7 +3,7 @@ use Rattle.std.specs.Prelude.{◌≡◌, ℕ, List, drop, Option, None, Some}
 use Rattle.osm_blocks.specs.Places.{Place, left_of, past}
 use Rattle.osm_save.specs.Reading.{head_at}
 use Rattle.osm_merge.specs.declared.fault.MergeFault.{MergeFault}
-use Rattle.osm_merge.specs.declared.fault.MergeFault.TheVariants.{BadSave, Device, NoSave}
+use Rattle.osm_merge.specs.declared.fault.MergeFault.TheVariants.{BadSave, NoSave, ReadFault, WriteFault}
 use Rattle.osm_merge.specs.declared.fault.MergeFault.TheVariants.{WantOfMemory}
 use Rattle.osm_merge.specs.declared.opening.Opening.{Opening}
 
@@ -35,6 +35,7 @@ pub record HasNoHead (told : Option (List ℕ)) : Type 0 where
 abbrev pub OpeningStops : Option (List ℕ) → MergeFault → Type 0
 OpeningStops told NoSave = told ≡ None
 OpeningStops told (BadSave line) = HasNoHead told
-OpeningStops told Device = Unit {0}
+OpeningStops told ReadFault = Unit {0}
+OpeningStops told WriteFault = Unit {0}
 OpeningStops told WantOfMemory = Unit {0}
 OpeningStops told fault = ⊥

@@ -5,7 +5,7 @@ use Rattle.osm_blocks.specs.Places.{IsHuge, IsLong, Place, left_of, past}
 use Rattle.osm_reading.specs.Pieces.{cut_at}
 use Rattle.osm_merge.specs.Faults.{AreLinesShort}
 use Rattle.osm_merge.specs.declared.fault.MergeFault.{MergeFault}
-use Rattle.osm_merge.specs.declared.fault.MergeFault.TheVariants.{BadSave, Changed, Device}
+use Rattle.osm_merge.specs.declared.fault.MergeFault.TheVariants.{BadSave, Changed, ReadFault, WriteFault}
 use Rattle.osm_merge.specs.declared.fault.MergeFault.TheVariants.{LongLine, NoSave, TooLarge}
 use Rattle.osm_merge.specs.declared.fault.MergeFault.TheVariants.{WantOfMemory}
 
@@ -19,7 +19,8 @@ FindsNext file old new (Err LongLine) = IsLong (left_of old file)
 FindsNext file old new (Err TooLarge) = IsHuge file
 FindsNext file old new (Err NoSave) = ⊥
 FindsNext file old new (Err Changed) = ⊥
-FindsNext file old new (Err Device) = Unit {0}
+FindsNext file old new (Err ReadFault) = Unit {0}
+FindsNext file old new (Err WriteFault) = Unit {0}
 FindsNext file old new (Err WantOfMemory) = Unit {0}
 
 -- why nothing is read: a bad line only if nothing can be read, a long one too, unless some object
@@ -30,7 +31,8 @@ Refuses file LongLine reading = AreLinesShort → reading ≡ None
 Refuses file TooLarge reading = IsHuge file
 Refuses file NoSave reading = ⊥
 Refuses file Changed reading = ⊥
-Refuses file Device reading = Unit {0}
+Refuses file ReadFault reading = Unit {0}
+Refuses file WriteFault reading = Unit {0}
 Refuses file WantOfMemory reading = Unit {0}
 
 -- the answer and what is left of the file at the new place are what the reading gives
@@ -52,12 +54,14 @@ Ends file place (Err LongLine) = ⊥
 Ends file place (Err TooLarge) = IsHuge file
 Ends file place (Err NoSave) = ⊥
 Ends file place (Err Changed) = ⊥
-Ends file place (Err Device) = Unit {0}
+Ends file place (Err ReadFault) = Unit {0}
+Ends file place (Err WriteFault) = Unit {0}
 Ends file place (Err WantOfMemory) = Unit {0}
 
 -- why a file isn't opened: there is none
 abbrev pub OpenStops : Option (List ℕ) → MergeFault → Type 0
 OpenStops told NoSave = told ≡ None
-OpenStops told Device = Unit {0}
+OpenStops told ReadFault = Unit {0}
+OpenStops told WriteFault = Unit {0}
 OpenStops told WantOfMemory = Unit {0}
 OpenStops told fault = ⊥

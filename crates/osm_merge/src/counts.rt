@@ -15,7 +15,7 @@ ghost use Rattle.osm_merge.specs.Faults.{IsDeviceFault, IsPlain};
 ghost use Rattle.osm_merge.specs.Laying.{Appends, IsFew, Lays, LaysRest, Merges, Writes, next_at};
 ghost use Rattle.osm_merge.specs.Reading.{Follows, Refuses};
 
-use crate::fault::MergeFault;
+use crate::fault::{MergeFault, unwritten};
 use crate::source::Source;
 use osm_blocks::block_writer::BlockWriter;
 use osm_model::memory::WantOfMemory;
@@ -137,7 +137,7 @@ fn put_count<'a, S: Store>(
     };
     match writer.put(store, out.as_slice()) {
         Ok(()) => Ok((rest, many)),
-        Err(fault) => Err(MergeFault::from(fault)),
+        Err(fault) => Err(unwritten(fault)),
     }
 }
 
@@ -160,7 +160,7 @@ fn put_rest<S: Store>(
     };
     match writer.put(store, out.as_slice()) {
         Ok(()) => Ok(many),
-        Err(fault) => Err(MergeFault::from(fault)),
+        Err(fault) => Err(unwritten(fault)),
     }
 }
 

@@ -1,6 +1,7 @@
 //! Why a save text isn't checked or merged.
 
 ghost use Rattle.std.specs.Prelude.{◌↔◌};
+ghost use Rattle.osm_blocks.specs.Frames as blocks;
 ghost use Rattle.osm_merge.specs.Faults.{IsDeviceFault, IsPlain};
 ghost use Rattle.osm_store.specs.Files.{NeverTooLarge};
 ghost use Rattle.osm_store.specs.Frames.{IsDevice};
@@ -13,9 +14,12 @@ use thiserror::Error;
 /// Why a save text isn't checked or merged.
 #[derive(Clone, Copy, Debug, PartialEq, Eq, Error)]
 pub enum MergeFault {
-    /// The device failed.
-    #[error("Device")]
-    Device,
+    /// The device failed while the file was read.
+    #[error("ReadFault")]
+    ReadFault,
+    /// The device failed while the new file was begun, written or put into its place.
+    #[error("WriteFault")]
+    WriteFault,
     /// Memory was refused.
     #[error("WantOfMemory")]
     WantOfMemory,
@@ -29,7 +33,8 @@ pub enum MergeFault {
     /// A line of the file has more than 256 MiB.
     #[error("LongLine")]
     LongLine,
-    /// The file has more bytes than 64 bits count.
+    /// The file has more bytes than 64 bits count, or the new one would have more objects than a save
+    /// text can have.
     #[error("TooLarge")]
     TooLarge,
     /// The file changed between the two passes over it.
@@ -44,7 +49,7 @@ impl From<BlockFault> for MergeFault {
 
     fn from(error: BlockFault) -> MergeFault {
         match error {
-            BlockFault::Device => MergeFault::Device,
+            BlockFault::Device => MergeFault::ReadFault,
             BlockFault::LongLine => MergeFault::LongLine,
             BlockFault::TooLarge => MergeFault::TooLarge,
             BlockFault::WantOfMemory => MergeFault::WantOfMemory,
@@ -63,13 +68,26 @@ impl From<WantOfMemory> for MergeFault {
     }
 }
 
-/// The fault of a store that never calls a file too large.
+/// The fault of a writer, which never calls a line or a file too long.
+pub(crate) fn unwritten(fault: BlockFault) -> MergeFault
+    ensures device { blocks.IsDeviceFault fault ↔ IsDeviceFault result }
+    ensures other { blocks.IsPlain fault → IsPlain result }
+{
+    match fault {
+        BlockFault::Device => MergeFault::WriteFault,
+        BlockFault::LongLine => MergeFault::LongLine,
+        BlockFault::TooLarge => MergeFault::TooLarge,
+        BlockFault::WantOfMemory => MergeFault::WantOfMemory,
+    }
+}
+
+/// The fault of a store that began a file, or put it into its place, and never calls it too large.
 pub(crate) fn fault_of(error: StoreError) -> MergeFault
     ensures device { IsDevice error ↔ IsDeviceFault result }
     ensures other { NeverTooLarge error → IsPlain result }
 {
     match error {
-        StoreError::Device => MergeFault::Device,
+        StoreError::Device => MergeFault::WriteFault,
         StoreError::TooLarge => MergeFault::TooLarge,
         StoreError::WantOfMemory => MergeFault::WantOfMemory,
     }

@@ -18,7 +18,7 @@ ghost use Rattle.osm_merge.specs.Mirrors.{MergesBoth, MergesMirror, both_at};
 ghost use Rattle.osm_merge.specs.Reading.{Follows, Refuses};
 
 use crate::counts::merge_counts;
-use crate::fault::MergeFault;
+use crate::fault::{MergeFault, unwritten};
 use crate::objects::merge_objects;
 use crate::opening::Opening;
 use crate::source::Source;
@@ -61,7 +61,7 @@ fn put_header<S: Store>(
     };
     match writer.put(store, line.as_slice()) {
         Ok(()) => Ok(()),
-        Err(fault) => Err(MergeFault::from(fault)),
+        Err(fault) => Err(unwritten(fault)),
     }
 }
 
@@ -179,7 +179,7 @@ fn put_end<S: Store>(store: &mut S, writer: &mut BlockWriter) -> Result<(), Merg
 {
     match writer.put(store, b"end\n") {
         Ok(()) => Ok(()),
-        Err(fault) => Err(MergeFault::from(fault)),
+        Err(fault) => Err(unwritten(fault)),
     }
 }
 

@@ -15,13 +15,13 @@ ghost use Rattle.osm_save.specs.declared.version.Version.TheVariants.{Three};
 ghost use Rattle.osm_merge.specs.Faults.{IsDeviceFault, IsPlain};
 ghost use Rattle.osm_merge.specs.Laying.{IsFew, Writes};
 ghost use Rattle.osm_merge.specs.Checking.{CheckStops};
-ghost use Rattle.osm_merge.specs.Merging.{IsCounted, IsMerged, IsStaged, merged_text};
+ghost use Rattle.osm_merge.specs.Merging.{IsCounted, IsMerged, IsStaged, MergeStops, merged_text};
 ghost use Rattle.osm_store.specs.Files.{Puts};
 ghost use Rattle.osm_merge.specs.Frames.{ReplacesOften};
 ghost use Rattle.osm_merge.specs.Mirrors.{MergesMirror};
 ghost use Rattle.osm_merge.specs.Reading.{Refuses};
 
-use crate::fault::{MergeFault, fault_of};
+use crate::fault::{MergeFault, fault_of, unwritten};
 use crate::lists::{Totals, merge_lists};
 use crate::opening::{Opening, open_save};
 use crate::source::Source;
@@ -30,6 +30,7 @@ use osm_model::change::Change;
 use osm_model::filter::Filter;
 use osm_model::kind::Key;
 use osm_save::head::{Head, write_head};
+use osm_save::objects::MOST_OBJECTS;
 use osm_store::store::Store;
 use std::alloc::Global;
 
@@ -66,7 +67,7 @@ fn put_head<S: Store>(
     };
     match writer.put(store, lines.as_slice()) {
         Ok(()) => Ok(()),
-        Err(fault) => Err(MergeFault::from(fault)),
+        Err(fault) => Err(unwritten(fault)),
     }
 }
 
@@ -129,7 +130,7 @@ pub(crate) fn write_lists<S: Store>(
     };
     match writer.flush(store) {
         Ok(()) => Ok(counted),
-        Err(fault) => Err(MergeFault::from(fault)),
+        Err(fault) => Err(unwritten(fault)),
     }
 }
 
@@ -253,7 +254,8 @@ fn commit<S: Store>(store: &mut S) -> Result<(), MergeFault>
 
 /// Merges the save text of a file with net changes, in two passes: what is left of objects, keys
 /// rising, and the increments of users and of changesets, numbers rising. The new text has the head
-/// that is given and the filter of before. Until the commit, the last call, no file changes; after
+/// that is given and the filter of before. It has at most 999,999,999,999,999,999 objects, as a save
+/// text may have; else the answer is `TooLarge`. Until the commit, the last call, no file changes; after
 /// a fault a file may have been begun, which `abandon` drops.
 pub fn merge_save<S: Store>(
     alloc: Global,
@@ -270,13 +272,18 @@ pub fn merge_save<S: Store>(
         (record { objects = entries.now; users = users.now; changesets = changesets.now })
         name.now (S.state store.old).files (S.state store.new).files) }
     ensures refused { IfErr result (λ fault. IsKnown (S.state store.old)
-        → CheckStops ((S.state store.old).files name.now) fault) }
+        → MergeStops ((S.state store.old).files name.now)
+        (record { objects = entries.now; users = users.now; changesets = changesets.now })
+        fault) }
     ensures frame { ReplacesOften IsDeviceFault (S.state store.old) (S.state store.new) result }
 {
     let totals = match count_pass(alloc, store, name, entries, users, changesets) {
         Ok(totals) => totals,
         Err(fault) => return Err(fault),
     };
+    if totals.objects > MOST_OBJECTS {
+        return Err(MergeFault::TooLarge);
+    }
     let counted = match write_pass(alloc, store, name, head, totals, entries, users, changesets) {
         Ok(counted) => counted,
         Err(fault) => return Err(fault),

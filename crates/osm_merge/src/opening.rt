@@ -4,6 +4,7 @@ ghost use Rattle.std.specs.Prelude.{◌≡◌, ◌≤◌, IfErr, IfOk};
 ghost use Rattle.osm_model.specs.Limits.{max_sequence};
 ghost use Rattle.osm_store.specs.Frames.{IsKnown};
 ghost use Rattle.osm_blocks.specs.Frames.{ReadsOften};
+ghost use Rattle.osm_merge.specs.Checking.{BeginsWith, CheckStops};
 ghost use Rattle.osm_merge.specs.Faults.{IsDeviceFault};
 ghost use Rattle.osm_merge.specs.Opening.{IsOpened, OpeningStops, ReadingStops, ReadsOpening};
 
@@ -22,6 +23,27 @@ pub struct Opening {
     pub version: Version,
     pub head: Head,
     pub filter: Filter,
+}
+
+/// Reads what a save text of any size begins with. Of the file no more than its first block is
+/// read, so a fault after the head isn't found.
+pub fn read_beginning<S: Store>(
+    alloc: Global,
+    store: &mut S,
+    name: &str,
+) -> Result<Opening, MergeFault>
+    ensures begins { IfOk result (λ opening. IsKnown (S.state store.old)
+        → BeginsWith ((S.state store.old).files name.now) opening) }
+    ensures number { IfOk result (λ opening. opening.head.number ≤ max_sequence) }
+    ensures base { IfOk result (λ opening. opening.head.base ≤ opening.head.number) }
+    ensures refused { IfErr result (λ fault. IsKnown (S.state store.old)
+        → CheckStops ((S.state store.old).files name.now) fault) }
+    ensures frame { ReadsOften IsDeviceFault (S.state store.old) (S.state store.new) result }
+{
+    match open_save(alloc, store, name) {
+        Ok((_source, opening)) => Ok(opening),
+        Err(fault) => Err(fault),
+    }
 }
 
 /// Opens a save text, and reads its head.

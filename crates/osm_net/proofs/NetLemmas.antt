@@ -19,7 +19,7 @@ use Rattle.osm_mirror.specs.Mirror.{count_at, object_at}
 use Rattle.osm_mirror.proofs.MirrorLaws.{stays_kept}
 use Rattle.osm_mirror.proofs.MirrorLemmas.{edits_by_changeset-most, edits_by_user-most, rising-nil}
 use Rattle.osm_net.specs.Laid.{added, laid_on, laid_over}
-use Rattle.osm_net.specs.Net.{HasOwnKey, HasRoomFor, IsNetOf, LeavesObject, NetEntry, NetValue, Takes, net_at, taken_at}
+use Rattle.osm_net.specs.Net.{HasOwnKey, HasRoomFor, IsNetOf, LeavesObject, NetEntry, NetValue, Takes, WidensBy, net_at, taken_at}
 use Rattle.osm_net.specs.NetLaws.{AppliedIsLaid, CountsAreFew, HaveRoom, NetsApply, NoneChangesNothing, NothingIsNone, OneIsApplied}
 use Rattle.osm_net.specs.NetLaws.{StaysKeptBy, StaysMirror, StaysOrderly}
 use Rattle.osm_net.specs.Steps.Entries.{AreEntries}
@@ -85,6 +85,15 @@ net_grown f a b xs ys t n = record {
   users = λ uid. (let p = t.users uid in let q = n.users uid in let r = edits_by_user-append xs ys uid in omega arith);
   changesets = λ id. (let p = t.changesets id in let q = n.changesets id in let r = edits_by_changeset-append xs ys id in omega arith);
 }
+
+-- users and changesets after one list of changes and then another
+pub widens_more : (a b c : NetValue) (n more total : ℕ) → WidensBy n a b → WidensBy more b c → total ≡ n + more → WidensBy total a c
+widens_more a b c n more total f g is =
+    let fu = f.users in
+    let fs = f.changesets in
+    let gu = g.users in
+    let gs = g.changesets in
+    record { users = omega arith; changesets = omega arith }
 
 -- room for all is room for one after those before it
 pub room_left : (f : FilterValue) (a b : NetValue) (before after : List ChangeValue) (c : ChangeValue)

@@ -1,6 +1,6 @@
 -- Net changes: what a list of changes comes to, as sorted lists, with one entry for each object
 -- that changes, however often it does, and one count for each user and for each changeset.
-use Rattle.std.specs.Prelude.{◌≡◌, ℕ, ◌+◌, ◌<◌, ◌⊎◌, ◌^◌, List, [], Contains}
+use Rattle.std.specs.Prelude.{◌≡◌, ℕ, ◌+◌, ◌<◌, ◌≤◌, ◌⊎◌, ◌^◌, List, [], Contains, length}
 use Rattle.std.specs.Prelude.{Option, Some, None}
 use Rattle.std.specs.BTreeMap.{is_at}
 use Rattle.std.specs.List.{AllByRecursion}
@@ -85,6 +85,11 @@ pub record Takes (f : FilterValue) (old : NetValue) (changes : List ChangeValue)
 -- the net changes of no changes
 abbrev pub no_net : NetValue
 no_net = record { objects = []; users = []; changesets = [] }
+
+-- at most that many users, and as many changesets, are new
+pub record WidensBy (most : ℕ) (old new : NetValue) : Type 0 where
+  pub users : length new.users ≤ length old.users + most
+  pub changesets : length new.changesets ≤ length old.changesets + most
 
 -- each count has room for that many more edits
 pub record HasRoomFor (more : ℕ) (n : NetValue) : Type 0 where

@@ -5,7 +5,7 @@ ghost use Rattle.std.specs.Prelude.{◌≡◌, ◌++◌, ◌↔◌, List, [], �
 ghost use Rattle.std.specs.Prelude.{IsTrue, OnOk, OnErr};
 ghost use Rattle.osm_model.specs.Change.{ChangeValue};
 ghost use Rattle.osm_net.specs.Net.{HasRoomFor, IsNet, IsNetOf, IsNew, NeedsEntry, Takes};
-ghost use Rattle.osm_net.specs.Net.{no_net};
+ghost use Rattle.osm_net.specs.Net.{WidensBy, no_net};
 
 use crate::objects::NetObjects;
 use osm_mirror::counts::Counts;
@@ -57,6 +57,7 @@ impl Net {
         ensures taken { OnOk result ((before : List ChangeValue) →
             IsNetOf filter.now before self.old
             → IsNetOf filter.now (before ++ changes.items) self.new) }
+        ensures grown { OnOk result (WidensBy (length changes.items) self.old self.new) }
         ensures refused { OnErr result (NeedsEntry self.old changes.items) }
     {
         self.limits();
@@ -71,6 +72,7 @@ impl Net {
     fn take_one(&mut self, filter: &Filter, change: Change) -> Result<(), WantOfMemory>
         requires { HasRoomFor 1 self.old }
         ensures takes { OnOk result (Takes filter.now self.old (change ∷ []) self.new) }
+        ensures grown { OnOk result (WidensBy 1 self.old self.new) }
         ensures refused { OnErr result (IsNew self.old change) }
     {
         change.meta().limits();

@@ -1,4 +1,5 @@
-use Rattle.std.proofs.Common.{◌≡◌, ℕ, List, Some, sym, subst, ap, ◌∙◌}
+use Rattle.std.proofs.Common.{◌≡◌, ℕ, ◌<◌, ◌≤◌, List, Some, inr, sym, subst, ap, ◌∙◌, arith}
+use Rattle.std.proofs.lemmas.Grind.{common_steps}
 use Rattle.std.specs.Prelude.{Err, Ok}
 use Rattle.osm_blocks.proofs.OftenLemmas.{often_both, often_then}
 use Rattle.osm_net.specs.Net.{NetValue}
@@ -11,19 +12,26 @@ use Rattle.osm_merge.specs.Checking.{CheckStops}
 use Rattle.osm_merge.specs.Faults.{IsDeviceFault}
 use Rattle.osm_merge.specs.Merging.{IsCounted, merged_text}
 use Rattle.osm_merge.specs.declared.lists.Totals.{Totals}
-use Rattle.osm_merge.proofs.CheckLemmas.{counted_once, merged_is, plain_stops}
+use Rattle.osm_merge.proofs.CheckLemmas.{counted_once, merge_stops, merged_is, plain_stops}
 use Rattle.osm_merge.proofs.FrameLemmas.{changed_frame, known_still, reads_fail, then_replaces}
 use Rattle.osm_merge.proofs.merge.merge_save.Goals as goal
 
 pub returns-in-Err-clause-frame : goal.returns-in-Err-clause-frame
 returns-in-Err-clause-frame g c = reads_fail IsDeviceFault (g.S.Store.state c.args.store.now) (g.S.Store.state c.count_pass.new.store) c.in-Err.fault c.in-Err.ensures.frame
 
+pub returns-in-Err-clause-refused : goal.returns-in-Err-clause-refused
+returns-in-Err-clause-refused g c = λ known.
+    merge_stops ((g.S.Store.state c.args.store.now).files c.args.name.now)
+    (record { objects = c.args.entries.now; users = c.args.users.now; changesets = c.args.changesets.now }) c.in-Err.fault (c.in-Err.ensures.refused known)
+
 pub returns-in-Err-write_pass-clause-refused : goal.returns-in-Err-write_pass-clause-refused
 returns-in-Err-write_pass-clause-refused g c = λ known.
     let a = g.S.Store.state c.args.store.now in
     let b = g.S.Store.state c.count_pass.new.store in
-    subst (λ (f : Files). CheckStops (f c.args.name.now) c.in-Err-write_pass.fault) c.in-Ok.ensures.frame.files
-    (c.in-Err-write_pass.ensures.refused (known_still a b c.in-Ok.totals c.in-Ok.ensures.frame known))
+    merge_stops (a.files c.args.name.now)
+    (record { objects = c.args.entries.now; users = c.args.users.now; changesets = c.args.changesets.now }) c.in-Err-write_pass.fault
+    (subst (λ (f : Files). CheckStops (f c.args.name.now) c.in-Err-write_pass.fault) c.in-Ok.ensures.frame.files
+    (c.in-Err-write_pass.ensures.refused (known_still a b c.in-Ok.totals c.in-Ok.ensures.frame known)))
 
 pub returns-in-Err-write_pass-clause-frame : goal.returns-in-Err-write_pass-clause-frame
 returns-in-Err-write_pass-clause-frame g c =
@@ -50,6 +58,19 @@ returns-then-not-are_same-clause-frame g c =
     let d = g.S.Store.state c.write_pass.new.store in
     changed_frame a d (often_then {V = Unit {0}} IsDeviceFault a b d c.in-Ok.totals c.in-Ok-write_pass.counted tt c.in-Ok.ensures.frame c.in-Ok-write_pass.ensures.frame)
 
+pub returns-then-totals-gt-MOST_OBJECTS-clause-refused : goal.returns-then-totals-gt-MOST_OBJECTS-clause-refused
+returns-then-totals-gt-MOST_OBJECTS-clause-refused g c = λ known.
+    let counted = c.in-Ok.ensures.counted known in
+    let above : 999999999999999999 < c.in-Ok.totals.objects = grind (arith, common_steps) in
+    let is = ap (λ (t : Totals). t.objects) counted.totals_are in
+    inr (record {
+      file = counted.file;
+      there = counted.there;
+      saved = counted.saved;
+      spells = save_takes counted.file counted.saved counted.is;
+      many = omega (arith, above, is);
+    })
+
 pub returns-in-Ok-commit-clause-merged : goal.returns-in-Ok-commit-clause-merged
 returns-in-Ok-commit-clause-merged g c = λ known.
     let a = g.S.Store.state c.args.store.now in
@@ -70,6 +91,9 @@ returns-in-Ok-commit-clause-merged g c = λ known.
       there = ap (λ (f : Files). f c.args.name.now) (sym c.in-Ok.ensures.frame.files) ∙ s.count.there;
       saved = v;
       spells = save_takes s.count.file v s.count.is;
+      few = (let low : c.in-Ok.totals.objects ≤ 999999999999999999 = grind (arith, common_steps) in
+          let many = ap (λ (t : Totals). t.objects) (same ∙ s.count.totals_are) in
+          omega (arith, low, many));
       put = subst (λ (l : List ℕ). Puts a.files c.args.name.now (Some l) e.files) is
           (subst (λ (f : Files). Puts f c.args.name.now (Some text) e.files) (c.in-Ok-write_pass.ensures.frame.files ∙ c.in-Ok.ensures.frame.files) put);
     }
@@ -82,7 +106,10 @@ returns-in-Ok-commit-clause-frame g c =
     then_replaces IsDeviceFault a d (g.S.Store.state c.commit.new.store) tt (Ok tt) (often_then {V = Unit {0}} IsDeviceFault a b d c.in-Ok.totals c.in-Ok-write_pass.counted tt c.in-Ok.ensures.frame c.in-Ok-write_pass.ensures.frame) c.in-Ok-commit.ensures.frame
 
 pub returns-in-Err-commit-clause-refused : goal.returns-in-Err-commit-clause-refused
-returns-in-Err-commit-clause-refused g c = λ known. plain_stops ((g.S.Store.state c.args.store.now).files c.args.name.now) c.in-Err-commit.fault c.in-Err-commit.ensures.refused
+returns-in-Err-commit-clause-refused g c = λ known.
+    merge_stops ((g.S.Store.state c.args.store.now).files c.args.name.now)
+    (record { objects = c.args.entries.now; users = c.args.users.now; changesets = c.args.changesets.now }) c.in-Err-commit.fault
+    (plain_stops ((g.S.Store.state c.args.store.now).files c.args.name.now) c.in-Err-commit.fault c.in-Err-commit.ensures.refused)
 
 pub returns-in-Err-commit-clause-frame : goal.returns-in-Err-commit-clause-frame
 returns-in-Err-commit-clause-frame g c =
