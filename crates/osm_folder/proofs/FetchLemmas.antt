@@ -77,7 +77,7 @@ has_changes : (files : Files) (dir : List ℕ) (number : ℕ) (form : Form) (byt
 has_changes files dir number forms.O5c bytes p small spelled is = rw is (small, spelled)
 has_changes files dir number forms.Opl bytes p small spelled is = rw (is.0, is.1) (small, spelled)
 
-has_files : (known : Type 0) (dir : List ℕ) (files : Files) (number : ℕ) (state : List ℕ) (form : Form) (bytes : List ℕ)
+pub has_files : (known : Type 0) (dir : List ℕ) (files : Files) (number : ℕ) (state : List ℕ) (form : Form) (bytes : List ℕ)
     (s : StateValue) (changes : List ChangeValue) → IsFetched known files dir number state form bytes → StateOf state s
     → s.sequence ≡ number → spells_of form bytes changes → known → HasFiles files dir (sequence_of s changes)
 has_files known dir files number state form bytes s changes has names same spelled sure =

@@ -11,10 +11,10 @@ use Rattle.osm_follow.specs.Published.{PublishedValue, sequence_at, time_at}
 use Rattle.osm_store.specs.Files.{Files, prefix_of}
 use Rattle.osm_folder.specs.Folder.{IsFolderOf}
 use Rattle.osm_folder.specs.Following.{IsSaveOf, IsSaved, standing_at}
+use Rattle.osm_folder.specs.Following.{TopStateStops}
 use Rattle.osm_folder.specs.Lagging.{IsBadHead, IsBegun, IsHead, IsLag, IsLagOf, LagRefuses, LagStops, standing_from}
 use Rattle.osm_folder.specs.Names.{top_name_of}
 use Rattle.osm_folder.specs.Reports.{ReportValue, lag_told}
-use Rattle.osm_folder.specs.Steps.Following.{TopStateStops}
 use Rattle.osm_folder.specs.Steps.Lagging.{HeadStops, HeadTextStops, IsTold, ToldStops}
 use Rattle.osm_folder.specs.declared.fault.FileName.TheVariants.{Top}
 use Rattle.osm_folder.specs.declared.fault.RunFault.{RunFault}

@@ -16,12 +16,13 @@ use Rattle.osm_folder.specs.Folder.{IsAbsentOr, IsFile, IsStateFile, IsThere}
 use Rattle.osm_folder.specs.Following.{AddsAll, AreChanges, BeyondStops, ComesTo, FollowRefuses, FollowStops}
 use Rattle.osm_folder.specs.Following.{GoesOn, HasFiles, IsReadable, IsStarted, NumberStops, SaveStops, StartStops}
 use Rattle.osm_folder.specs.Following.{end_of, is_lost, lost_numbers, max_save, ranges, standing_of}
+use Rattle.osm_folder.specs.Following.{MissingStops}
 use Rattle.osm_store.specs.Frames.{Makes, StoreState}
 use Rattle.osm_folder.specs.Names.{file_name_of, top_name_of}
 use Rattle.osm_folder.specs.Progress.{ComesBefore, IsOfContent, ProgressStops}
 use Rattle.osm_folder.specs.Reports.{Outcome, ReportValue, report_of}
 use Rattle.osm_folder.specs.Runs.{IsDeviceFault, ReplacesAtLeast}
-use Rattle.osm_folder.specs.Steps.Following.{MissingStops, StopsBeyond, StopsOnTheWay, TextStops}
+use Rattle.osm_folder.specs.Steps.Following.{StopsBeyond, StopsOnTheWay, TextStops}
 use Rattle.osm_folder.specs.Steps.Progressing.{IsBegun, IsMadeBefore, IsNothingBefore, MadeBeforeStops}
 use Rattle.osm_folder.specs.Steps.Reading.{PutStops}
 use Rattle.osm_folder.specs.declared.fault.FileName.TheVariants.{Sequence, Save}

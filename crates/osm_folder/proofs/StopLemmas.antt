@@ -11,9 +11,10 @@ use Rattle.osm_store.specs.Files.{Files}
 use Rattle.osm_folder.specs.Folder.{IsFolderOf, IsTop}
 use Rattle.osm_folder.specs.Following.{BeyondStops, FollowRefuses, FollowStops, GoesOn, HasText, IsBadSave, IsOtherSave, IsSaveOf, IsSaved}
 use Rattle.osm_folder.specs.Following.{IsStarted, NumberStops, SaveStops, StartRefuses, StartStops, end_of, lost_numbers, max_save, ranges, standing_of}
+use Rattle.osm_folder.specs.Following.{MissingStops}
 use Rattle.osm_folder.specs.Reports.{Outcome, report_of}
 use Rattle.osm_folder.specs.Names.{file_name_of, top_name_of}
-use Rattle.osm_folder.specs.Steps.Following.{GoOnStops, IsBig, MissingStops, StopsOnTheWay, TextStops}
+use Rattle.osm_folder.specs.Steps.Following.{GoOnStops, IsBig, StopsOnTheWay, TextStops}
 use Rattle.osm_folder.specs.Steps.Reading.{PutStops}
 use Rattle.osm_folder.specs.declared.fault.FileName.TheVariants.{Top, Sequence, Save}
 use Rattle.osm_folder.specs.declared.fault.RunFault.{RunFault}

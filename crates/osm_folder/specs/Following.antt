@@ -4,8 +4,10 @@
 use Rattle.std.specs.Prelude.{◌≡◌, ◌≢◌, ℕ, zero, suc, ◌+◌, ◌-◌, ◌*◌, ◌<◌, ◌≤◌, ◌⊎◌, ◌↔◌, List}
 use Rattle.std.specs.Prelude.{[], length, map, filter, min, Bool, true, false, ◌||◌, ◌&&◌, Option}
 use Rattle.std.specs.Prelude.{Some, None, is_none, Result, IfErr, IfOk}
+use Rattle.osm_model.specs.Batch.{IsBatch}
+use Rattle.osm_model.specs.Change.{ChangeValue}
 use Rattle.osm_model.specs.Filter.{FilterValue}
-use Rattle.osm_model.specs.Limits.{max_file}
+use Rattle.osm_model.specs.Limits.{IsPositive, max_file}
 use Rattle.osm_mirror.specs.Mirror.{Applies, IsMirrorOf, no_mirror}
 use Rattle.osm_save.specs.Save.{SpellsSave}
 use Rattle.osm_save.specs.declared.save.Saved.{Saved}
@@ -98,6 +100,17 @@ pub record HasFiles (files : Files) (dir : List ℕ) (p : PublishedValue) : Type
 -- the files of a number are there and right
 abbrev pub IsReadable : Files → List ℕ → ℕ → Type 0
 IsReadable files dir k = (p : PublishedValue) × (p.number ≡ k) × HasFiles files dir p
+
+-- the files of a number were read: they are those of a sequence with that time and these changes
+pub record IsNumber (known : Type 0) (files : Files) (dir : List ℕ) (number time : ℕ)
+    (changes : List ChangeValue) : Type 0 where
+  pub limits : IsBatch changes
+  pub positive : IsPositive time
+  pub there : known → HasFiles files dir (record {
+    number = number;
+    changes = changes;
+    time = time;
+  })
 
 -- the next number's changes are applied under the filter, which stays
 pub record Adds (files : Files) (dir : List ℕ) (old new : Saved) : Type 0 where
@@ -225,6 +238,15 @@ pub record IsTopBehind (given : FilterValue) (dir save : List ℕ) (files : File
   pub started : IsStarted given dir save files start top
   pub below : top.sequence < start.number
 
+-- why the top state isn't read
+abbrev pub TopStateStops : Type 0 → Option (List ℕ) → RunFault → Type 0
+TopStateStops known told WantOfMemory = Unit {0}
+TopStateStops known told (ReadFault file) = file ≡ Top
+TopStateStops known told (Absent file) = (file ≡ Top) × (known → told ≡ None)
+TopStateStops known told (TooLarge file) = (file ≡ Top) × (known → IsOver max_state told)
+TopStateStops known told (BadState file cause) = (file ≡ Top) × (known → IsBadState told cause)
+TopStateStops known told fault = ⊥
+
 -- why a run can't start from the save and the top state: the save is read before the top state
 abbrev pub StartStops : Type 0 → FilterValue → List ℕ → List ℕ → Files → RunFault → Type 0
 StartStops known given dir save files WantOfMemory = Unit {0}
@@ -326,6 +348,19 @@ IsLookedFor files dir number O5c = is_none (files (file_name_of dir number State
 IsLookedFor files dir number Opl =
     (is_none (files (file_name_of dir number State)) ≡ false)
     × (files (file_name_of dir number O5c) ≡ None)
+
+-- a number beyond the first lost one
+pub record IsBeyond (reached top number : ℕ) : Type 0 where
+  pub beyond : reached + 1 < number
+  pub within : number ≤ reached + 64
+  pub until : number ≤ top
+
+-- why the lost numbers beyond the first aren't named
+abbrev pub MissingStops : Type 0 → List ℕ → Files → ℕ → ℕ → RunFault → Type 0
+MissingStops known dir files reached top WantOfMemory = Unit {0}
+MissingStops known dir files reached top (ReadFault (Sequence number suffix)) =
+    IsBeyond reached top number × (known → IsLookedFor files dir number suffix)
+MissingStops known dir files reached top fault = ⊥
 
 -- why the lost numbers beyond the first aren't named: never for what a file there holds
 abbrev pub BeyondStops : Type 0 → FollowOptions → List ℕ → List ℕ → Files → RunFault → Type 0

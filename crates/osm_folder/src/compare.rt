@@ -139,7 +139,7 @@ fn check_changes<S: Store>(
     Ok(true)
 }
 
-fn suffix(form: Form) -> Suffix
+pub(crate) fn suffix(form: Form) -> Suffix
     ensures { result ≡ suffix_of form }
 {
     match form {

@@ -76,6 +76,9 @@ pub enum RunFault {
     /// The file is over its limit.
     #[error("{0}: too large")]
     TooLarge(FileName),
+    /// The file changed while it was read.
+    #[error("{0}: changed while it was read")]
+    Changed(FileName),
     /// There is no such file.
     #[error("{0}: not there")]
     Absent(FileName),

@@ -17,12 +17,13 @@ ghost use Rattle.osm_folder.specs.Following.{FollowStops, FollowsOver, IsFollowR
 ghost use Rattle.osm_folder.specs.Following.{IsFollowing, IsReached, IsSaveOf, NumberStops};
 ghost use Rattle.osm_folder.specs.Following.{is_lost, last_number, lost_numbers, max_save};
 ghost use Rattle.osm_folder.specs.Following.{standing_of};
+ghost use Rattle.osm_folder.specs.Following.{MissingStops};
 ghost use Rattle.osm_folder.specs.Forms.{place_of, spells_of};
 ghost use Rattle.osm_folder.specs.Reports.{report_of};
 ghost use Rattle.osm_folder.specs.Runs.{CallsUpTo, ReadsAtLeast, ReadsUpTo, ReplacesAtLeast};
 ghost use Rattle.osm_folder.specs.Steps.Following.{DeliverStops, GoOnStops, IsDelivered, IsFresh};
 ghost use Rattle.osm_folder.specs.Steps.Following.{IsMade, IsNoted, IsTaken, IsTakenUp, LookStops};
-ghost use Rattle.osm_folder.specs.Steps.Following.{MadeStops, MissingStops};
+ghost use Rattle.osm_folder.specs.Steps.Following.{MadeStops};
 ghost use Rattle.osm_folder.specs.Steps.Following.{StopsOnTheWay, range_of, suffix_of};
 
 use crate::fault::{FileName, RunFault};
@@ -134,8 +135,8 @@ fn prepare<S: Store>(
     go_on(alloc, store, dir, last, &telling, &mut start.follower)
 }
 
-// The last number that a run from that number goes to.
-pub(crate) fn last_number(limit: Option<u32>, number: u32, top: u32) -> u32
+/// The last number that a run from that number goes to.
+pub fn last_number(limit: Option<u32>, number: u32, top: u32) -> u32
     ensures { result ≡ last_number limit number top }
 {
     match limit {
@@ -381,9 +382,9 @@ fn standing_of(follower: &Follower, top: &State) -> Standing
     }
 }
 
-// The lost numbers of the window after the one that was reached, which is the top or comes before a
-// lost one. It asks only which files are there.
-fn missing<S: Store>(
+/// The lost numbers of the window after the one that was reached, which is the top or comes before a
+/// lost one. It asks only which files are there.
+pub fn missing<S: Store>(
     alloc: Global,
     store: &mut S,
     dir: &str,

@@ -94,8 +94,8 @@ fn follow_before<S: Store>(
     Ok(Progress::Before(made.report, fault))
 }
 
-// The number whose files are faulty.
-fn faulty_number(fault: &RunFault) -> Option<u32>
+/// The number whose files are faulty, if that is the reason of a fault.
+pub fn faulty_number(fault: &RunFault) -> Option<u32>
     ensures { MatchOption result
         ((number : ℕ) → IsOfContent fault.now number → ⊥) (IsOfContent fault.now) }
 {

@@ -126,7 +126,7 @@ pub fn fault_report(alloc: Global, fault: RunFault) -> Result<Report, WantOfMemo
 }
 
 /// A fault's text.
-pub(crate) fn fault_text(alloc: Global, fault: RunFault) -> Result<String, WantOfMemory> {
+pub fn fault_text(alloc: Global, fault: RunFault) -> Result<String, WantOfMemory> {
     Ok(format!(in alloc; "{fault}")?)
 }
 
@@ -170,7 +170,7 @@ pub fn follow_report(
 
 /// The report of a run of the follower, and of the text of its fault if it has one: by
 /// `follow_report`, or as JSON.
-pub(crate) fn follow_in(
+pub fn follow_in(
     alloc: Global,
     layout: Layout,
     standing: Standing,

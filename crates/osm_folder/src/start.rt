@@ -6,10 +6,11 @@ ghost use Rattle.osm_follow.specs.Restart.{follower_of, saved_of};
 ghost use Rattle.osm_folder.specs.Folder.{IsStateFile, IsThere, max_state};
 ghost use Rattle.osm_store.specs.Frames.{IsKnown};
 ghost use Rattle.osm_folder.specs.Following.{IsSaved, IsStarted, StartStops, no_save};
+ghost use Rattle.osm_folder.specs.Following.{TopStateStops};
 ghost use Rattle.osm_folder.specs.Names.{top_name_of};
 ghost use Rattle.osm_folder.specs.Runs.{Reads};
 ghost use Rattle.osm_folder.specs.Steps.Following.{FollowerStops, IsFresh, RestartStops};
-ghost use Rattle.osm_folder.specs.Steps.Following.{TopStateStops, TopTextStops};
+ghost use Rattle.osm_folder.specs.Steps.Following.{TopTextStops};
 
 use crate::fault::{FileName, RunFault};
 use crate::files::{MAX_STATE, read_file, read_present};
@@ -97,8 +98,8 @@ fn restart(alloc: Global, text: &[u8], filter: Filter) -> Result<Follower, RunFa
     }
 }
 
-// The newest state of a folder.
-pub(crate) fn read_top<S: Store>(alloc: Global, store: &mut S, dir: &str) -> Result<State, RunFault>
+/// The newest state of a folder.
+pub fn read_top<S: Store>(alloc: Global, store: &mut S, dir: &str) -> Result<State, RunFault>
     ensures top { IfOk result (λ s. IsKnown (S.state store.old)
         → IsThere ((S.state store.old).files (top_name_of dir.now))
         (IsStateFile s.sequence s.time)) }

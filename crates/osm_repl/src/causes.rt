@@ -96,7 +96,7 @@ pub fn path_of(alloc: Global, order: Order<'_>, fault: RunFault) -> Result<Strin
 fn file_of(fault: RunFault) -> Option<FileName> {
     match fault {
         RunFault::ReadFault(file) | RunFault::WriteFault(file) => Some(file),
-        RunFault::TooLarge(file) | RunFault::Absent(file) => Some(file),
+        RunFault::TooLarge(file) | RunFault::Absent(file) | RunFault::Changed(file) => Some(file),
         RunFault::BadState(file, _) | RunFault::BadChange(file, _, _) => Some(file),
         RunFault::Mismatch(number) => Some(FileName::Sequence(number, Suffix::State)),
         RunFault::Differs(number) => Some(FileName::Sequence(number, Suffix::State)),

@@ -19,18 +19,18 @@ use Rattle.osm_follow.specs.Restart.{follower_of, saved_of}
 use Rattle.osm_follow.specs.declared.delivery.Delivered.{Delivered}
 use Rattle.osm_follow.specs.declared.delivery.Delivered.TheVariants.{Old, Again, Held, Applied}
 use Rattle.osm_store.specs.Files.{Files, IsOver}
-use Rattle.osm_folder.specs.Folder.{IsStateFile, max_state}
+use Rattle.osm_folder.specs.Folder.{IsStateFile}
 use Rattle.osm_folder.specs.Following.{AddsAll, GoesOn, HasFiles, IsBadSave, IsLookedFor}
+use Rattle.osm_folder.specs.Following.{MissingStops}
 use Rattle.osm_folder.specs.Following.{IsOtherSave, IsReached, IsReadable, NumberStops, is_lost}
 use Rattle.osm_folder.specs.Following.{lost_numbers, max_save, ranges, standing_of}
 use Rattle.osm_folder.specs.Names.{file_name_of}
-use Rattle.osm_folder.specs.Publication.{IsBadState}
 use Rattle.osm_folder.specs.Reports.{ReportValue, report_of}
 use Rattle.osm_folder.specs.declared.fault.FileName.{FileName}
 use Rattle.osm_folder.specs.declared.fault.FileName.TheVariants.{Top, Sequence, Save}
 use Rattle.osm_folder.specs.declared.fault.RunFault.{RunFault}
 use Rattle.osm_folder.specs.declared.fault.RunFault.TheVariants.{WantOfMemory, ReadFault}
-use Rattle.osm_folder.specs.declared.fault.RunFault.TheVariants.{TooLarge, Absent, BadState}
+use Rattle.osm_folder.specs.declared.fault.RunFault.TheVariants.{TooLarge, BadState}
 use Rattle.osm_folder.specs.declared.fault.RunFault.TheVariants.{BadChange, BadSave, Mismatch}
 use Rattle.osm_folder.specs.declared.fault.RunFault.TheVariants.{OtherFilter}
 use Rattle.osm_folder.specs.declared.form.Form.{Form}
@@ -60,15 +60,6 @@ FollowerStops known given told (TooLarge file) = (file ≡ Save) × (known → I
 FollowerStops known given told (BadSave line) = known → IsBadSave told
 FollowerStops known given told OtherFilter = known → IsOtherSave given told
 FollowerStops known given told fault = ⊥
-
--- why the top state isn't read
-abbrev pub TopStateStops : Type 0 → Option (List ℕ) → RunFault → Type 0
-TopStateStops known told WantOfMemory = Unit {0}
-TopStateStops known told (ReadFault file) = file ≡ Top
-TopStateStops known told (Absent file) = (file ≡ Top) × (known → told ≡ None)
-TopStateStops known told (TooLarge file) = (file ≡ Top) × (known → IsOver max_state told)
-TopStateStops known told (BadState file cause) = (file ≡ Top) × (known → IsBadState told cause)
-TopStateStops known told fault = ⊥
 
 -- why a text isn't the top state
 abbrev pub TopTextStops : List ℕ → RunFault → Type 0
@@ -189,12 +180,6 @@ LookStops known dir files number (ReadFault (Sequence k suffix)) =
     (k ≡ number) × (known → IsLookedFor files dir number suffix)
 LookStops known dir files number fault = ⊥
 
--- a number beyond the first lost one
-pub record IsBeyond (reached top number : ℕ) : Type 0 where
-  pub beyond : reached + 1 < number
-  pub within : number ≤ reached + 64
-  pub until : number ≤ top
-
 -- the lost ones of the numbers after the one that was reached are named, up to the last one
 pub record AreNamed (known : Type 0) (files : Files) (dir : List ℕ) (reached top last : ℕ)
     (missing : List ℕ) : Type 0 where
@@ -203,13 +188,6 @@ pub record AreNamed (known : Type 0) (files : Files) (dir : List ℕ) (reached t
   pub some : 0 < length missing
   pub named : known → IsReached files dir reached top
       → missing ≡ filter (is_lost files dir) (numbers reached (suc count))
-
--- why the lost numbers beyond the first aren't named
-abbrev pub MissingStops : Type 0 → List ℕ → Files → ℕ → ℕ → RunFault → Type 0
-MissingStops known dir files reached top WantOfMemory = Unit {0}
-MissingStops known dir files reached top (ReadFault (Sequence number suffix)) =
-    IsBeyond reached top number × (known → IsLookedFor files dir number suffix)
-MissingStops known dir files reached top fault = ⊥
 
 -- a number on the way from the start to the top isn't taken
 pub record StopsOnTheWay (known : Type 0) (dir : List ℕ) (files : Files) (start top : ℕ)

@@ -1,0 +1,90 @@
+//! A sequence of a folder, read from its files.
+
+ghost use Rattle.std.specs.Prelude.{◌≡◌, ℕ, ◌≤◌, true, IfErr, IfOk, MatchOption, length};
+ghost use Rattle.osm_model.specs.Batch.{IsBatch};
+ghost use Rattle.osm_model.specs.Limits.{IsPositive, max_file, max_sequence};
+ghost use Rattle.osm_store.specs.Frames.{IsKnown};
+ghost use Rattle.osm_folder.specs.Folder.{IsStateFile};
+ghost use Rattle.osm_folder.specs.Following.{IsNumber, NumberStops, is_lost};
+ghost use Rattle.osm_folder.specs.Forms.{place_of, spells_of};
+ghost use Rattle.osm_folder.specs.Runs.{ReadsUpTo};
+ghost use Rattle.osm_folder.specs.Steps.Following.{DeliverStops, suffix_of};
+
+use crate::compare::suffix;
+use crate::fault::{FileName, RunFault};
+use crate::fetch::{Fetched, fetch};
+use crate::form::read_form;
+use osm_model::change::Change;
+use osm_model::form::FormError;
+use osm_state::laws::laws_of_state;
+use osm_state::state_text::state_read;
+use osm_store::store::Store;
+use std::alloc::Global;
+
+/// What the files of a sequence hold.
+#[derive(Debug, Drop)]
+pub struct Numbered {
+    /// The time of the sequence, in seconds since 1970-01-01T00:00:00Z.
+    pub time: u32,
+    /// Its changes, in their order.
+    pub changes: Vec<Change>,
+}
+
+/// Reads the files of a number: its state, and its changes from the o5c file or, if there is none,
+/// from the OPL file. None if the number is lost: its state isn't there, or neither of the two.
+pub fn read_number<S: Store>(
+    alloc: Global,
+    store: &mut S,
+    dir: &str,
+    number: u32,
+) -> Result<Option<Numbered>, RunFault>
+    requires { number ≤ max_sequence }
+    ensures read { IfOk result (λ o. MatchOption o
+        (IsKnown (S.state store.old) → is_lost (S.state store.old).files dir.now number ≡ true)
+        (λ a. IsNumber (IsKnown (S.state store.old)) (S.state store.old).files dir.now number
+        a.time a.changes.items)) }
+    ensures stops { IfErr result
+        (NumberStops (IsKnown (S.state store.old)) dir.now (S.state store.old).files number) }
+    ensures frame { ReadsUpTo 3 (S.state store.old) (S.state store.new) result }
+{
+    let Some(fetched) = fetch(alloc, store, dir, number)? else {
+        return Ok(None);
+    };
+    let time = time_of(fetched.state.as_slice());
+    let changes = changes_of(alloc, number, &fetched)?;
+    Ok(Some(Numbered { time, changes }))
+}
+
+// The time that a state names.
+fn time_of(state: &[u8]) -> u32
+    requires { (number time : ℕ) × IsStateFile number time state.now }
+    ensures time { (number time : ℕ) → IsStateFile number time state.now → result ≡ time }
+    ensures positive { IsPositive result }
+{
+    laws_of_state();
+    match state_read(state) {
+        Ok(state) => state.time(),
+        Err(_) => unreachable!(),
+    }
+}
+
+// The changes of a file of a number.
+fn changes_of(alloc: Global, number: u32, fetched: &Fetched) -> Result<Vec<Change>, RunFault>
+    requires { length fetched.now.changes.items ≤ max_file }
+    ensures spelled { IfOk result
+        (λ changes. spells_of fetched.now.form fetched.now.changes.items changes.items) }
+    ensures limits { IfOk result (λ changes. IsBatch changes.items) }
+    ensures stops { IfErr result (DeliverStops
+        (spells_of fetched.now.form) (place_of fetched.now.form) fetched.now.changes.items
+        (FileName.Sequence number (suffix_of fetched.now.form))) }
+{
+    match read_form(alloc, fetched.form, fetched.changes.as_slice()) {
+        Ok(batch) => Ok(batch.into_changes()),
+        Err(FormError::WantOfMemory) => Err(RunFault::WantOfMemory),
+        Err(FormError::TooLarge) => unreachable!(),
+        Err(FormError::Fault { place, why }) => {
+            let file = FileName::Sequence(number, suffix(fetched.form));
+            Err(RunFault::BadChange(file, place, why))
+        }
+    }
+}
