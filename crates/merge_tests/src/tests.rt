@@ -1,2 +1,3 @@
 mod large;
 mod merge;
+mod rounds;

@@ -102,12 +102,16 @@ fn a_save_is_merged(rt: HostRuntime) {
     assert!(rt; is_merged(rt.alloc()));
 }
 
+fn is_of_device(fault: MergeFault) -> bool {
+    fault == MergeFault::ReadFault || fault == MergeFault::WriteFault
+}
+
 // Whether a merge that can make so many calls does all or nothing. None if it did all.
 fn stops_whole(alloc: Global, calls: u64) -> Option<bool> {
     let mut store = StoppingStore::new(store_of(alloc, BEFORE), calls);
     match merged(alloc, &mut store) {
         Ok(()) => None,
-        Err(fault) => Some(fault == MergeFault::Device && holds(&store.into_inner(), BEFORE)),
+        Err(fault) => Some(is_of_device(fault) && holds(&store.into_inner(), BEFORE)),
     }
 }
 

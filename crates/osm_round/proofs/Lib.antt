@@ -1,0 +1,6 @@
+pub mod FrameLemmas
+pub mod CountLemmas
+pub mod ListLemmas
+pub mod TakenLemmas
+pub mod PutLemmas
+pub mod RoundLemmas

@@ -1,0 +1,383 @@
+-- What a run does, and why it is refused.
+use Rattle.std.proofs.Common.{◌≡◌, ℕ, ◌+◌, ◌<◌, ◌≤◌, List, [], Option, Some, None, inl, inr}
+use Rattle.std.proofs.Common.{arith, refl, sym, ap, subst, ◌∙◌}
+use Rattle.std.specs.Prelude.{◌⊎◌}
+use Rattle.std.proofs.lemmas.Option.{same_Some}
+use Rattle.osm_model.specs.Filter.{FilterValue}
+use Rattle.osm_mirror.specs.Mirror.{IsOrderly}
+use Rattle.osm_save.specs.Head.{head_of}
+use Rattle.osm_save.specs.Save.{SpellsSave}
+use Rattle.osm_save.specs.declared.head.Head.{Head}
+use Rattle.osm_save.specs.declared.save.Saved.{Saved}
+use Rattle.osm_state.specs.State.{StateValue}
+use Rattle.osm_store.specs.Files.{Files, Puts}
+use Rattle.osm_merge.specs.Merging.{HasTooMany}
+use Rattle.osm_folder.specs.Folder.{IsStateFile, IsThere}
+use Rattle.osm_model.specs.Limits.{max_sequence}
+use Rattle.osm_folder.specs.Following.{AddsAll, IsReached, MissingStops, TopStateStops, last_number, no_save}
+use Rattle.osm_folder.specs.Names.{top_name_of}
+use Rattle.osm_folder.specs.Progress.{IsProgressReport}
+use Rattle.osm_folder.specs.Reports.{report_of}
+use Rattle.osm_folder.specs.declared.fault.RunFault.{RunFault}
+use Rattle.osm_folder.specs.declared.fault.RunFault.TheVariants.{Absent, BadSave, BadState, Changed}
+use Rattle.osm_folder.specs.declared.fault.RunFault.TheVariants.{OtherFilter, ReadFault, TooLarge, WantOfMemory, WriteFault}
+use Rattle.osm_folder.specs.declared.options.FollowOptions.{FollowOptions}
+use Rattle.osm_folder.specs.declared.progress.Progress.{Progress}
+use Rattle.osm_folder.specs.declared.progress.Progress.TheVariants.{Before, Whole}
+use Rattle.osm_folder.proofs.InStepLemmas.{last_within}
+use Rattle.osm_round.specs.Putting.{PutsTaken, saved_after}
+use Rattle.osm_round.specs.Rounds.{BeforeStops, IsPrepared, IsProgress, IsReport, IsStarted, IsWhole, PrepareStops}
+use Rattle.osm_round.specs.Rounds.{HasManyObjects, HasSave, RoundStops, StartStops, StopsLooking, StopsTaking, outcome_of, progress_of}
+use Rattle.osm_round.specs.Starting.{BeginStops, BeginsOther, IsBegun, IsBegunAt, IsOtherSave, IsTooLarge, PutStops, Saves, WholeStops}
+use Rattle.osm_round.specs.Taking.{AdvancesAll, HasTaken, StopsOnTheWay, TakesUp}
+use Rattle.osm_round.specs.declared.round.Prepared.{Prepared}
+use Rattle.osm_round.specs.declared.start.Start.{Start}
+use Rattle.osm_round.specs.declared.taken.End.TheVariants.{Faulty, Reached}
+use Rattle.osm_round.specs.declared.taken.Taken.{Taken}
+use Rattle.osm_round.proofs.PutLemmas.{orderly_nothing}
+use Rattle.osm_round.proofs.TakenLemmas.{adds_all}
+
+pub saves_orderly : (given : FilterValue) (told : Option (List ℕ)) (v : Saved) → Saves given told v → IsOrderly v.mirror
+saves_orderly given None v s = subst (λ (x : Saved). IsOrderly x.mirror) (sym s) orderly_nothing
+saves_orderly given (Some bytes) v s = s.savable.mirror.orderly
+
+-- ---- what is done
+
+module _ (known : Type 0) (options : FollowOptions) (dir save : List ℕ) (old new : Files) where
+  done_by : (v : Saved) (p : Prepared) → known → Saves options.filter (old save) v → v.filter ≡ options.filter → (text : List ℕ)
+      → SpellsSave text (saved_after v p.taken) → Puts old save (Some text) new
+      → IsPrepared known options dir old (head_of v) p → IsProgress known options dir save old new (progress_of p.report p.fault)
+  done_by v p sure saved filter_is text spelled put is = by_fault p.fault is.report
+    where
+      started : IsStarted options.filter dir save old v is.top
+      started = record { saved = saved; filter_is = filter_is; top_is = is.top_is sure }
+
+      added : AddsAll old dir is.taken.count v (saved_after v p.taken)
+      added = adds_all old dir options.filter v is.taken.count p.taken filter_is (saves_orderly options.filter (old save) v saved)
+          (is.taken.advances sure)
+
+      by_fault : (o : Option RunFault) → IsReport known options.layout old dir (head_of v) is.top
+          (last_number options.limit v.number is.top.sequence) is.taken.count p.taken.head o p.report
+          → IsProgress known options dir save old new (progress_of p.report o)
+      by_fault None (missing, reached, named, gap, report) = λ yes. record {
+        text = text;
+        following = record {
+          start = v;
+          top = is.top;
+          started = started;
+          count = is.taken.count;
+          reached = saved_after v p.taken;
+          goes_on = record { added = added; number = is.taken.is.number; until = is.until; far = reached yes };
+          spelled = spelled;
+          report_is = report ∙ ap (λ (ms : List ℕ). report_of options.layout None (outcome_of p.taken.head is.top (head_of v) is.taken.count ms)) (named yes);
+        };
+        put = put;
+      }
+      by_fault (Some fault) (said, some, below, content, stops, report) = λ yes. record {
+        text = text;
+        before = record {
+          start = v;
+          top = is.top;
+          started = started;
+          count = is.taken.count;
+          some = some;
+          reached = saved_after v p.taken;
+          added = added;
+          below = below;
+          content = content;
+          stops = stops;
+          spelled = spelled;
+          said = said;
+          report_is = report;
+        };
+        put = put;
+      }
+
+  pub done : (start : Head) (p : Prepared) → known → IsPrepared known options dir old start p
+      → PutsTaken options.filter save start p.taken old new → IsProgress known options dir save old new (progress_of p.report p.fault)
+  done start p sure is put = done_by put.before p sure put.saved put.filter put.text put.spelled put.put
+      (subst (λ (h : Head). IsPrepared known options dir old h p) (sym put.head) is)
+
+-- ---- its report, whatever is known
+
+pub reports : (known : Type 0) (options : FollowOptions) (dir : List ℕ) (files : Files) (start : Head) (p : Prepared)
+    → IsPrepared known options dir files start p → IsProgressReport options.layout (progress_of p.report p.fault)
+reports known options dir files start p is = by_fault p.fault is.report
+  where
+    within : last_number options.limit start.number is.top.sequence ≤ is.top.sequence
+    within = last_within options.limit start.number is.top.sequence
+
+    number_is : p.taken.head.number ≡ start.number + is.taken.count
+    number_is = is.taken.is.number
+
+    by_fault : (o : Option RunFault) → IsReport known options.layout files dir start is.top
+        (last_number options.limit start.number is.top.sequence) is.taken.count p.taken.head o p.report
+        → IsProgressReport options.layout (progress_of p.report o)
+    by_fault None (missing, reached, named, gap, report) = record {
+      start = start.number;
+      count = is.taken.count;
+      last = last_number options.limit start.number is.top.sequence;
+      missing = missing;
+      time = p.taken.head.time;
+      base = p.taken.head.base;
+      top = is.top;
+      until = (let until = is.until in omega (arith, until, number_is));
+      below = within;
+      report_is = rw (← number_is) report;
+      gap = rw (← number_is) gap;
+    }
+    by_fault (Some fault) (said, some, below, content, stops, report) = (
+      (
+        said,
+        record {
+          start = start.number;
+          count = is.taken.count;
+          last = p.taken.head.number;
+          missing = [];
+          time = p.taken.head.time;
+          base = p.taken.head.base;
+          top = is.top;
+          until = omega (arith, number_is);
+          below = omega (arith, below, within);
+          report_is = rw (← number_is) report;
+          gap = (λ e. sym number_is, λ e. refl);
+        },
+      ),
+      (p.taken.head.number + 1, content),
+    )
+
+-- ---- why it is refused
+
+pub whole_stops : (known : Type 0) (options : FollowOptions) (dir save : List ℕ) (files : Files) (fault : RunFault)
+    → WholeStops known (files save) fault → RoundStops known options dir save files fault
+whole_stops known options dir save files WantOfMemory h = inl tt
+whole_stops known options dir save files (ReadFault file) h = inl (rw h tt)
+whole_stops known options dir save files (TooLarge file) h = inl (rw h.0 (λ sure. inl (h.1 sure)))
+whole_stops known options dir save files (BadSave line) h = inl h
+whole_stops known options dir save files (Changed file) h = inl (rw h.0 h.1)
+whole_stops known options dir save files fault h = absurd h
+
+-- what a whole save saves, if a run began at it
+pub whole_saves : (given : FilterValue) (told : Option (List ℕ)) (start : Start) → IsBegun given told start → IsWhole told
+    → (v : Saved) × Saves given told v × (head_of v ≡ start.head) × (v.filter ≡ given)
+whole_saves given None start b w = (no_save given, refl, sym (ap (λ (s : Start). s.head) b), refl)
+whole_saves given (Some file) start b (inl none) = absurd (let bad : Some file ≡ None = none in cc)
+whole_saves given (Some file) start b (inr is) =
+    let spelled : SpellsSave file is.saved = rw (same_Some file is.file is.there) is.spells in
+    (is.saved, spelled, b.head is.saved spelled, b.filter is.saved spelled)
+
+pub other_save : (given : FilterValue) (told : Option (List ℕ)) → BeginsOther given told → IsWhole told → IsOtherSave given told
+other_save given told b (inl none) = absurd (let bad : Some b.bytes ≡ None = sym b.there ∙ none in cc)
+other_save given told b (inr is) =
+    let spelled : SpellsSave b.bytes is.saved = rw (same_Some b.bytes is.file (sym b.there ∙ is.there)) is.spells in
+    record { bytes = b.bytes; value = is.saved; there = b.there; spelled = spelled; other = b.other is.saved spelled }
+
+pub begin_stops : (known : Type 0) (options : FollowOptions) (dir save : List ℕ) (files : Files) (fault : RunFault)
+    → BeginStops known options.filter (files save) fault → (known → IsWhole (files save)) → RoundStops known options dir save files fault
+begin_stops known options dir save files WantOfMemory h whole = inl tt
+begin_stops known options dir save files (ReadFault file) h whole = inl (rw h tt)
+begin_stops known options dir save files (TooLarge file) h whole = inl (rw h.0 (λ sure. inl (h.1 sure)))
+begin_stops known options dir save files (BadSave line) h whole = inl h
+begin_stops known options dir save files (Changed file) h whole = inl (rw h.0 h.1)
+begin_stops known options dir save files OtherFilter h whole = inl (λ sure. other_save options.filter (files save) (h sure) (whole sure))
+begin_stops known options dir save files fault h whole = absurd h
+
+module _ (known : Type 0) (options : FollowOptions) (dir save : List ℕ) (files : Files) (start : Start)
+    (begun : known → IsBegun options.filter (files save) start) where
+  has_save : (known → IsWhole (files save)) → known → HasSave options.filter save files
+  has_save whole sure = let w = whole_saves options.filter (files save) start (begun sure) (whole sure) in (w.0, w.1, w.3)
+
+  top_stops : (fault : RunFault) → TopStateStops known (files (top_name_of dir)) fault → (known → IsWhole (files save))
+      → StartStops known options dir save files fault
+  top_stops WantOfMemory h whole = tt
+  top_stops (ReadFault file) h whole = rw h (has_save whole)
+  top_stops (Absent file) h whole = rw h.0 (λ sure. (has_save whole sure, h.1 sure))
+  top_stops (TooLarge file) h whole = rw h.0 (λ sure. (has_save whole sure, h.1 sure))
+  top_stops (BadState file cause) h whole = rw h.0 (λ sure. (has_save whole sure, h.1 sure))
+  top_stops fault h whole = absurd h
+
+  taking_stops : (fault : RunFault) → StopsTaking known options dir files start.head fault → (known → IsWhole (files save))
+      → RoundStops known options dir save files fault
+  taking_stops fault s whole = inr (inl (record {
+    number = s.number;
+    comes = λ sure. (let w = whole_saves options.filter (files save) start (begun sure) (whole sure) in
+        let same : w.0.number ≡ start.head.number = ap (λ (h : Head). h.number) w.2 in
+        record {
+          start = w.0;
+          top = s.top;
+          started = record { saved = w.1; filter_is = w.3; top_is = s.top_is sure };
+          above = rw same s.above;
+          until = rw same s.until;
+          each = rw same (s.each sure);
+        });
+    next = λ sure content. (let w = whole_saves options.filter (files save) start (begun sure) (whole sure) in
+        s.next content ∙ ap (λ (h : Head). h.number + 1) (sym w.2));
+    stops = s.stops;
+  }))
+
+  looking_stops : (fault : RunFault) → StopsLooking known options dir files start.head fault → (known → IsWhole (files save))
+      → RoundStops known options dir save files fault
+  looking_stops fault s whole = inr (inr (record {
+    last = last_number options.limit start.head.number s.top.sequence;
+    reached = s.taken.head.number;
+    comes = λ sure. (let w = whole_saves options.filter (files save) start (begun sure) (whole sure) in
+        let same : w.0.number ≡ start.head.number = ap (λ (h : Head). h.number) w.2 in
+        record {
+          start = w.0;
+          top = s.top;
+          started = record { saved = w.1; filter_is = w.3; top_is = s.top_is sure };
+          count = s.has.count;
+          value = saved_after w.0 s.taken;
+          goes_on = record {
+            added = adds_all files dir options.filter w.0 s.has.count s.taken w.3 (saves_orderly options.filter (files save) w.0 w.1)
+                (subst (λ (h : Head). AdvancesAll files dir options.filter h s.has.count s.taken) (sym w.2) (s.has.advances sure));
+            number = s.has.is.number ∙ ap (λ (h : Head). h.number + s.has.count) (sym w.2);
+            until = rw same s.until;
+            far = rw same (s.reached sure);
+          };
+          reached_is = refl;
+          last_is = ap (λ (h : Head). last_number options.limit h.number s.top.sequence) (sym w.2);
+        });
+    stops = s.stops;
+  }))
+
+  pub prepare_stops : (fault : RunFault) → PrepareStops known options dir files start.head fault → (known → IsWhole (files save))
+      → RoundStops known options dir save files fault
+  prepare_stops fault (inl h) whole = inl (top_stops fault h whole)
+  prepare_stops fault (inr (inl h)) whole = rw h.0 (inl (λ sure. (let w = whole_saves options.filter (files save) start (begun sure) (whole sure) in
+      let b = h.1 sure in
+      let same : w.0.number ≡ start.head.number = ap (λ (h : Head). h.number) w.2 in
+      record {
+        start = w.0;
+        top = b.top;
+        started = record { saved = w.1; filter_is = w.3; top_is = b.top_is };
+        below = rw same b.below;
+      })))
+  prepare_stops fault (inr (inr (inl h))) whole = taking_stops fault h whole
+  prepare_stops fault (inr (inr (inr h))) whole = looking_stops fault h whole
+
+  too_many : (p : Prepared) → known → IsPrepared known options dir files start.head p → HasTooMany (files save) p.taken.net
+      → HasManyObjects options dir save files
+  too_many p sure is many =
+      let w = whole_saves options.filter (files save) start (begun sure) (inr (record {
+        file = many.file;
+        there = many.there;
+        saved = many.saved;
+        spells = many.spells;
+      })) in
+      let b : IsBegunAt options.filter many.file start = rw many.there at (begun sure) in
+      let head = b.head many.saved many.spells in
+      let same : many.saved.number ≡ start.head.number = ap (λ (h : Head). h.number) head in
+      record {
+        start = many.saved;
+        top = is.top;
+        started = record { saved = rw many.there many.spells; filter_is = b.filter many.saved many.spells; top_is = is.top_is sure };
+        count = is.taken.count;
+        reached = saved_after many.saved p.taken;
+        added = adds_all files dir options.filter many.saved is.taken.count p.taken (b.filter many.saved many.spells)
+            many.spells.savable.mirror.orderly
+            (subst (λ (h : Head). AdvancesAll files dir options.filter h is.taken.count p.taken) (sym head) (is.taken.advances sure));
+        until = rw same is.until;
+        many = many.many;
+      }
+
+  pub put_stops : (p : Prepared) (fault : RunFault) → IsPrepared known options dir files start.head p
+      → PutStops known (files save) p.taken.net fault → (known → IsWhole (files save)) → RoundStops known options dir save files fault
+  put_stops p WantOfMemory is h whole = inl tt
+  put_stops p (ReadFault file) is h whole = inl (rw h tt)
+  put_stops p (WriteFault file) is h whole = inl (rw h (has_save whole))
+  put_stops p (Absent file) is h whole = inl (rw h.0 h.1)
+  put_stops p (TooLarge file) is h whole = inl (rw h.0 (λ sure. by_reason sure (h.1 sure)))
+    where
+      by_reason : known → IsTooLarge (files save) ⊎ HasTooMany (files save) p.taken.net
+          → IsTooLarge (files save) ⊎ HasManyObjects options dir save files
+      by_reason sure (inl large) = inl large
+      by_reason sure (inr many) = inr (too_many p sure is many)
+  put_stops p (BadSave line) is h whole = inl h
+  put_stops p (Changed file) is h whole = inl (rw h.0 h.1)
+  put_stops p fault is h whole = absurd h
+
+-- ---- what is prepared
+
+module _ (known : Type 0) (options : FollowOptions) (dir : List ℕ) (files : Files) (start : Head) (top : StateValue)
+    (top_is : known → IsThere (files (top_name_of dir)) (IsStateFile top.sequence top.time)) (most : top.sequence ≤ max_sequence)
+    (last : ℕ) (last_is : last ≡ last_number options.limit start.number top.sequence) (taken : Taken) where
+  prepared_by : (o : Option RunFault) (p : Prepared) → HasTaken known files dir options.filter start taken → taken.head.number ≤ last
+      → p.taken ≡ taken → p.fault ≡ o
+      → ((count : ℕ) → taken.head.number ≡ start.number + count → IsReport known options.layout files dir start top last count taken.head o p.report)
+      → IsPrepared known options dir files start p
+  prepared_by o p has until is fault report =
+      let own : HasTaken known files dir options.filter start p.taken = subst (HasTaken known files dir options.filter start) (sym is) has in
+      let number : taken.head.number ≡ start.number + own.count = ap (λ (t : Taken). t.head.number) (sym is) ∙ own.is.number in
+      let of_taken : IsReport known options.layout files dir start top last own.count p.taken.head o p.report =
+      subst (λ (t : Taken). IsReport known options.layout files dir start top last own.count t.head o p.report) (sym is) (report own.count number) in
+      let of_fault : IsReport known options.layout files dir start top last own.count p.taken.head p.fault p.report =
+      subst (λ (x : Option RunFault). IsReport known options.layout files dir start top last own.count p.taken.head x p.report) (sym fault) of_taken in
+      record {
+        top = top;
+        top_is = top_is;
+        most = most;
+        taken = own;
+        until = subst (λ (n : ℕ). p.taken.head.number ≤ n) last_is (subst (λ (t : Taken). t.head.number ≤ last) (sym is) until);
+        report = subst (λ (n : ℕ). IsReport known options.layout files dir start top n own.count p.taken.head p.fault p.report) last_is of_fault;
+      }
+
+  pub prepared_whole : (p : Prepared) → TakesUp known files dir options.filter last start taken Reached → p.taken ≡ taken → p.fault ≡ None
+      → ((count : ℕ) → taken.head.number ≡ start.number + count → IsReport known options.layout files dir start top last count taken.head None p.report)
+      → IsPrepared known options dir files start p
+  prepared_whole p takes is none report = prepared_by None p takes.taken_are takes.until is none report
+
+  pub prepared_before : (fault : RunFault) (p : Prepared) → TakesUp known files dir options.filter last start taken (Faulty fault) → p.taken ≡ taken
+      → p.fault ≡ Some fault → start.number < taken.head.number
+      → ((count : ℕ) → taken.head.number ≡ start.number + count
+      → (said : List ℕ) × (p.report ≡ report_of options.layout (Some said) (outcome_of taken.head top start count [])))
+      → IsPrepared known options dir files start p
+  prepared_before fault p takes is some above report = prepared_by (Some fault) p takes.taken_are takes.until is some
+      (λ count number. (let r = report count number in (r.0, omega (arith, above, number), takes.ends.0, takes.ends.1, takes.ends.2, r.1)))
+
+  pub taking_prepare : (fault : RunFault) → StopsOnTheWay known files dir options.filter last start fault → PrepareStops known options dir files start fault
+  taking_prepare fault s = inr (inr (inl (record {
+    top = top;
+    top_is = top_is;
+    number = s.number;
+    above = s.above;
+    until = subst (λ (n : ℕ). s.number ≤ n) last_is s.until;
+    each = s.each;
+    next = λ content. absurd (s.plain s.number content);
+    stops = s.stops;
+  })))
+
+  pub looking_prepare : (fault : RunFault) → TakesUp known files dir options.filter last start taken Reached
+      → MissingStops known dir files taken.head.number last fault → PrepareStops known options dir files start fault
+  looking_prepare fault takes stops = inr (inr (inr (record {
+    top = top;
+    top_is = top_is;
+    taken = taken;
+    has = takes.taken_are;
+    until = subst (λ (n : ℕ). taken.head.number ≤ n) last_is takes.until;
+    reached = subst (λ (n : ℕ). known → IsReached files dir taken.head.number n) last_is takes.ends;
+    stops = subst (λ (n : ℕ). MissingStops known dir files taken.head.number n fault) last_is stops;
+  })))
+
+  pub before_prepare : (fault refused : RunFault) → TakesUp known files dir options.filter last start taken (Faulty fault)
+      → BeforeStops start taken.head fault refused → PrepareStops known options dir files start refused
+  before_prepare fault refused takes (inl memory) = rw memory (inl tt)
+  before_prepare fault refused takes (inr same) =
+      let below = takes.ends.0 in
+      let at = same.1 in
+      rw same.0 (inr (inr (inl (record {
+        top = top;
+        top_is = top_is;
+        number = taken.head.number + 1;
+        above = omega (arith, at);
+        until = subst (λ (n : ℕ). taken.head.number + 1 ≤ n) last_is (omega (arith, below));
+        each = λ sure k above under. absurd (omega (arith, at, above, under));
+        next = λ content. ap (λ (n : ℕ). n + 1) at;
+        stops = takes.ends.2;
+      }))))
+
+-- a run is done as it is if what the files hold is known
+pub done_if : (known : Type 0) (options : FollowOptions) (dir save : List ℕ) (old new : Files) (progress : Progress)
+    → (known → IsProgress known options dir save old new progress) → IsProgress known options dir save old new progress
+done_if known options dir save old new (Whole report) h = λ sure. h sure sure
+done_if known options dir save old new (Before report fault) h = λ sure. h sure sure

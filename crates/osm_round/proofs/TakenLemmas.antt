@@ -1,0 +1,211 @@
+-- The numbers that a run takes, one after the other.
+use Rattle.std.proofs.Common.{◌≡◌, ℕ, zero, suc, ◌+◌, ◌<◌, ◌≤◌, List, [], ◌++◌, length, length-append, Option, Some, None}
+use Rattle.std.proofs.Common.{true, inl, inr, arith, refl, sym, ap, subst, ◌∙◌}
+use Rattle.std.specs.Prelude.{Result, Ok, Err, IfErr, IfOk, unwrap_or}
+use Rattle.std.proofs.lemmas.Bool.{cases_lt}
+use Rattle.osm_model.specs.Change.{ChangeValue}
+use Rattle.osm_model.specs.Content.{last_of, over_at}
+use Rattle.osm_model.specs.Filter.{FilterValue, left_by}
+use Rattle.osm_model.specs.Limits.{max_changes, max_sequence}
+use Rattle.osm_mirror.specs.Mirror.{Applies, IsOrderly, MirrorValue, object_at}
+use Rattle.osm_net.specs.Laid.{laid_on}
+use Rattle.osm_net.specs.Net.{HasRoomFor, IsNetOf, NetValue, Takes, net_at, no_net, taken_at}
+use Rattle.osm_net.proofs.AddedLemmas.{added_at}
+use Rattle.osm_net.proofs.LaidLemmas.{laid_at}
+use Rattle.osm_net.proofs.NetLemmas.{have_room, net_grown, none_changes_nothing, nothing_is_none, stays_orderly, widens_more}
+use Rattle.osm_save.specs.Head.{head_of}
+use Rattle.osm_save.specs.Save.{saved_with}
+use Rattle.osm_save.specs.declared.head.Head.{Head}
+use Rattle.osm_save.specs.declared.save.Saved.{Saved}
+use Rattle.osm_store.specs.Files.{Files}
+use Rattle.osm_folder.specs.Following.{AddsAll, IsReadable, NumberStops}
+use Rattle.osm_folder.specs.Progress.{IsOfContent}
+use Rattle.osm_state.specs.declared.paths.Suffix.TheVariants.{O5c, Opl, State}
+use Rattle.osm_folder.specs.declared.fault.FileName.TheVariants.{Sequence}
+use Rattle.osm_folder.specs.declared.fault.RunFault.{RunFault}
+use Rattle.osm_folder.specs.declared.fault.RunFault.TheVariants.{BadChange, BadState, Mismatch, TooLarge}
+use Rattle.osm_round.specs.Taking.{AdvancesAll, EndsAt, HasTaken, IsTaken, StopsOnTheWay, TakesNumber, TakesUp}
+use Rattle.osm_round.specs.declared.taken.End.{End}
+use Rattle.osm_round.specs.declared.taken.End.TheVariants.{Faulty}
+use Rattle.osm_round.specs.declared.taken.Taken.{Taken}
+
+-- ---- changes after others, laid over a mirror
+
+object_over : (f : FilterValue) (x : Option (Option ChangeValue)) (y o : Option ChangeValue)
+    → unwrap_or (taken_at f x y) o ≡ over_at (left_by f) (unwrap_or x o) y
+object_over f x None o = refl
+object_over f x (Some c) o = refl
+
+pub applies_after : (f : FilterValue) (xs ys : List ChangeValue) (a b : NetValue) → IsNetOf f xs a → Takes f a ys b
+    → (m : MirrorValue) → IsOrderly m → Applies f (laid_on a m) ys (laid_on b m)
+applies_after f xs ys a b net t m orderly = record {
+  orderly = stays_orderly b m t.orderly orderly;
+  objects = λ k. laid_at b.objects m.objects k t.orderly.rising t.orderly.own orderly.objects
+      ∙ (ap (λ (z : Option (Option ChangeValue)). unwrap_or z (object_at m.objects k)) (t.objects k)
+      ∙ (object_over f (net_at a.objects k) (last_of ys k) (object_at m.objects k)
+      ∙ ap (λ (o : Option ChangeValue). over_at (left_by f) o (last_of ys k))
+      (sym (laid_at a.objects m.objects k net.orderly.rising net.orderly.own orderly.objects))));
+  users = λ uid. (let p = added_at b.users m.users uid t.orderly.users orderly.users in
+      let q = added_at a.users m.users uid net.orderly.users orderly.users in
+      let r = t.users uid in
+      omega (arith, p, q, r));
+  changesets = λ id. (let p = added_at b.changesets m.changesets id t.orderly.changesets orderly.changesets in
+      let q = added_at a.changesets m.changesets id net.orderly.changesets orderly.changesets in
+      let r = t.changesets id in
+      omega (arith, p, q, r));
+}
+
+-- ---- nothing, and one number more
+
+pub takes_nothing : (known : Type 0) (files : Files) (dir : List ℕ) (f : FilterValue) (taken : Taken) → taken.net ≡ no_net
+    → HasTaken known files dir f taken.head taken
+takes_nothing known files dir f taken none = record {
+  count = 0;
+  is = record {
+    number = omega arith;
+    base = refl;
+    time = λ t. t;
+    none = λ zero_is. (refl, none);
+    changes = [];
+    few = omega arith;
+    net = rw none (nothing_is_none f);
+    widens = rw none (record { users = omega arith; changesets = omega arith });
+  };
+  advances = λ sure. (refl, none);
+}
+
+pub takes_more : (known : Type 0) (files : Files) (dir : List ℕ) (f : FilterValue) (start : Head) (number : ℕ) (old new : Taken)
+    → number ≡ old.head.number + 1 → HasTaken known files dir f start old
+    → TakesNumber known files dir number f old new true → (new.head.number ≡ number) × HasTaken known files dir f start new
+takes_more known files dir f start number old new next has (time, changes, is, head, takes, widens) =
+    let t = has.is in
+    let at : new.head.number ≡ number = ap (λ (h : Head). h.number) head in
+    let count_is = t.number in
+    let few = t.few in
+    let limit = is.limits.few in (
+      at,
+      record {
+        count = suc has.count;
+        is = record {
+          number = omega (arith, at, next, count_is);
+          base = ap (λ (h : Head). h.base) head ∙ t.base;
+          time = λ start_time. rw head (let above : 0 < number = omega (arith, next) in (above, is.positive));
+          none = λ zero_is. absurd (omega (arith, zero_is));
+          changes = t.changes ++ changes;
+          few = (let sum = length-append t.changes changes in omega (arith, sum, few, limit));
+          net = net_grown f old.net new.net t.changes changes takes t.net;
+          widens = widens_more no_net old.net new.net (length t.changes) (length changes) (length (t.changes ++ changes)) t.widens widens
+              (length-append t.changes changes);
+        };
+        advances = λ sure. (
+          old,
+          has.advances sure,
+          record {
+            next = record { number = number; changes = changes; time = time };
+            number_is = next;
+            there = is.there sure;
+            head = head;
+            applies = applies_after f t.changes changes old.net new.net t.net takes;
+          },
+        );
+      },
+    )
+
+-- ---- room
+
+pub room_for_more : (f : FilterValue) (start : Head) (count : ℕ) (taken : Taken) → IsTaken f start count taken
+    → taken.head.number ≤ max_sequence → HasRoomFor max_changes taken.net
+room_for_more f start count taken t most =
+    let number_is = t.number in
+    let few = t.few in
+    have_room f t.changes taken.net max_changes t.net (omega (arith, number_is, few, most))
+
+-- ---- what was taken is what is added to a save
+
+pub adds_all : (files : Files) (dir : List ℕ) (f : FilterValue) (v : Saved) (count : ℕ) (taken : Taken)
+    → v.filter ≡ f → IsOrderly v.mirror → AdvancesAll files dir f (head_of v) count taken
+    → AddsAll files dir count v (saved_with taken.head v.filter (laid_on taken.net v.mirror))
+adds_all files dir f v zero taken filter_is orderly (head, none) =
+    rw (head, none, none_changes_nothing v.mirror) refl
+adds_all files dir f v (suc count) taken filter_is orderly (between, before, last) = (
+  saved_with between.head v.filter (laid_on between.net v.mirror),
+  adds_all files dir f v count between filter_is orderly before,
+  record {
+    next = last.next;
+    number_is = last.number_is;
+    there = last.there;
+    applied = rw filter_is (last.applies v.mirror orderly);
+    number = ap (λ (h : Head). h.number) last.head;
+    base = ap (λ (h : Head). h.base) last.head;
+    same_filter = refl;
+    time = ap (λ (h : Head). h.time) last.head;
+  },
+)
+
+pub advances_number : (files : Files) (dir : List ℕ) (f : FilterValue) (start : Head) (count : ℕ) (taken : Taken)
+    → AdvancesAll files dir f start count taken → taken.head.number ≡ start.number + count
+advances_number files dir f start zero taken (head, none) = let at = ap (λ (h : Head). h.number) head in omega (arith, at)
+advances_number files dir f start (suc count) taken (between, before, last) =
+    let one = advances_number files dir f start count between before in
+    let at = ap (λ (h : Head). h.number) last.head in
+    let next = last.number_is in
+    omega (arith, one, at, next)
+
+-- the files of each number that was taken are there
+pub advances_has : (files : Files) (dir : List ℕ) (f : FilterValue) (start : Head) (count : ℕ) (taken : Taken)
+    → AdvancesAll files dir f start count taken → (k : ℕ) → start.number < k → k ≤ start.number + count → IsReadable files dir k
+advances_has files dir f start zero taken a k above within = absurd (omega arith)
+advances_has files dir f start (suc count) taken (between, before, last) k above within =
+    let one = advances_number files dir f start count between before in
+    let next = last.number_is in
+    elim (cases_lt (start.number + count) k) [
+      | inl past ↦ (last.next, (let same : last.next.number ≡ k = omega (arith, one, next) in same), last.there)
+      | inr until ↦ advances_has files dir f start count between before k above until
+    ]
+
+-- ---- faults
+
+-- a fault of content is one of the number that it stops
+pub content_of : (known : Type 0) (dir : List ℕ) (files : Files) (number k : ℕ) (fault : RunFault)
+    → NumberStops known dir files number fault → IsOfContent fault k → IsOfContent fault number
+content_of known dir files number k fault h c = by_fault fault h c
+  where
+    by_fault : (x : RunFault) → NumberStops known dir files number x → IsOfContent x k → IsOfContent x number
+    by_fault (TooLarge (Sequence j suffix)) h c = h.0
+    by_fault (BadState (Sequence j State) cause) h c = h.0
+    by_fault (Mismatch j) h c = h.0
+    by_fault (BadChange (Sequence j O5c) place why) h c = h.0
+    by_fault (BadChange (Sequence j Opl) place why) h c = h.0
+    by_fault (BadChange (Sequence j State) place why) h c = absurd h
+    by_fault x h c = absurd c
+
+-- where taking ends, if a file of the next number is faulty
+pub end_taken : (known : Type 0) (files : Files) (dir : List ℕ) (f : FilterValue) (last : ℕ) (start : Head) (old new : Taken) (fault : RunFault)
+    (r : Result End RunFault) → IfOk r (λ end. end ≡ Faulty fault) → IfOk r (λ end. (k : ℕ) × IsOfContent fault k)
+    → ((k : ℕ) → IsOfContent fault k → new ≡ old) → HasTaken known files dir f start old → old.head.number < last
+    → NumberStops known dir files (old.head.number + 1) fault → IfOk r (TakesUp known files dir f last start new)
+end_taken known files dir f last start old new fault (Ok end) is content same has below stops =
+    let still : new ≡ old = same content.0 content.1 in
+    rw still (record {
+      taken_are = has;
+      until = omega (arith, below);
+      ends = subst (EndsAt known files dir last old.head.number) (sym is)
+          (below, content_of known dir files (old.head.number + 1) content.0 fault stops content.1, stops);
+    })
+end_taken known files dir f last start old new fault (Err e) is content same has below stops = tt
+
+-- another fault
+pub end_stops : (known : Type 0) (files : Files) (dir : List ℕ) (f : FilterValue) (last : ℕ) (start : Head) (taken : Taken) (fault : RunFault)
+    (r : Result End RunFault) → IfErr r (λ x. x ≡ fault) → IfErr r (λ x. (k : ℕ) → IsOfContent x k → ⊥) → HasTaken known files dir f start taken
+    → taken.head.number < last → NumberStops known dir files (taken.head.number + 1) fault → IfErr r (StopsOnTheWay known files dir f last start)
+end_stops known files dir f last start taken fault (Ok end) is plain has below stops = tt
+end_stops known files dir f last start taken fault (Err x) is plain has below stops =
+    let number_is = has.is.number in
+    record {
+      number = taken.head.number + 1;
+      above = omega (arith, number_is);
+      until = omega (arith, below);
+      each = λ sure k above under. advances_has files dir f start has.count taken (has.advances sure) k above (omega (arith, number_is, under));
+      plain = plain;
+      stops = subst (NumberStops known dir files (taken.head.number + 1)) (sym is) stops;
+    }

@@ -1,0 +1,74 @@
+use Rattle.std.proofs.Common.{◌+◌, ◌<◌, arith, refl, subst}
+use Rattle.std.proofs.lemmas.Grind.{common_steps}
+use Rattle.osm_blocks.proofs.OftenLemmas.{often_both, often_none, often_then}
+use Rattle.osm_store.specs.Frames.{IsKnown}
+use Rattle.osm_folder.specs.Runs.{IsDeviceFault}
+use Rattle.osm_round.specs.Taking.{TakesNumber}
+use Rattle.osm_round.proofs.FrameLemmas.{often_of, often_told}
+use Rattle.osm_round.proofs.TakenLemmas.{end_stops, end_taken, room_for_more, takes_more, takes_nothing}
+use Rattle.osm_round.proofs.taken.take_numbers.Goals as goal
+
+pub loop-before-init : goal.loop-before-init
+loop-before-init g c = record {
+  at = refl;
+  from = omega arith;
+  until = c.requires.from;
+  frame = often_none IsDeviceFault (g.S.Store.state c.args.store.now) _;
+  taken = takes_nothing (IsKnown (g.S.Store.state c.args.store.now)) (g.S.Store.state c.args.store.now).files c.args.dir.now c.args.filter.now
+      c.args.taken.now c.requires.none;
+}
+
+pub take_number-requires-clause-room : goal.take_number-requires-clause-room
+take_number-requires-clause-room g c =
+    let i = c.loop-before.invariant in
+    let at = i.at in
+    let most = c.requires.most in
+    let below : c.loop-before.before < c.args.last = grind (arith, common_steps) in
+    room_for_more c.args.filter.now c.args.taken.now.head i.taken.count c.loop-before.taken i.taken.is (omega (arith, at, below, most))
+
+pub returns-in-Err-clause-taken : goal.returns-in-Err-clause-taken
+returns-in-Err-clause-taken g c =
+    let i = c.loop-before.invariant in
+    let at = i.at in
+    let below : c.loop-before.before < c.args.last = grind (arith, common_steps) in
+    end_taken (IsKnown (g.S.Store.state c.args.store.now)) (g.S.Store.state c.args.store.now).files c.args.dir.now c.args.filter.now c.args.last
+    c.args.taken.now.head c.loop-before.taken c.take_number.new.taken c.in-Err.fault c.end_at.result c.end_at.ensures.faulty c.end_at.ensures.content
+    c.in-Err.ensures.unchanged i.taken (omega (arith, at, below))
+    (rw (at) (rw (i.frame.known, i.frame.files) at c.in-Err.ensures.stops))
+
+pub returns-in-Err-clause-stops : goal.returns-in-Err-clause-stops
+returns-in-Err-clause-stops g c =
+    let i = c.loop-before.invariant in
+    let at = i.at in
+    let below : c.loop-before.before < c.args.last = grind (arith, common_steps) in
+    end_stops (IsKnown (g.S.Store.state c.args.store.now)) (g.S.Store.state c.args.store.now).files c.args.dir.now c.args.filter.now c.args.last
+    c.args.taken.now.head c.loop-before.taken c.in-Err.fault c.end_at.result c.end_at.ensures.other c.end_at.ensures.plain i.taken
+    (omega (arith, at, below)) (rw (at) (rw (i.frame.known, i.frame.files) at c.in-Err.ensures.stops))
+
+pub returns-in-Err-clause-frame : goal.returns-in-Err-clause-frame
+returns-in-Err-clause-frame g c =
+    let a = g.S.Store.state c.args.store.now in
+    let b = g.S.Store.state c.loop-before.store in
+    let d = g.S.Store.state c.take_number.new.store in
+    often_told IsDeviceFault a d c.in-Err.fault c.end_at.result
+    (often_both IsDeviceFault a b d _ _ c.loop-before.invariant.frame (often_of IsDeviceFault 0 3 b d _ c.in-Err.ensures.frame)) c.end_at.ensures.other
+
+pub loop-before-preserved : goal.loop-before-preserved
+loop-before-preserved g c =
+    let i = c.loop-before.invariant in
+    let at = i.at in
+    let from = i.from in
+    let a = g.S.Store.state c.args.store.now in
+    let b = g.S.Store.state c.loop-before.store in
+    let d = g.S.Store.state c.take_number.new.store in
+    let took = subst (λ t. TakesNumber (IsKnown a) a.files c.args.dir.now (c.loop-before.before + 1) c.args.filter.now c.loop-before.taken
+    c.take_number.new.taken t) c.in-Ok-true.field-0-test (rw (i.frame.known, i.frame.files) at c.in-Ok-true.ensures.taken) in
+    let more = takes_more (IsKnown a) a.files c.args.dir.now c.args.filter.now c.args.taken.now.head (c.loop-before.before + 1) c.loop-before.taken
+    c.take_number.new.taken (omega (arith, at)) i.taken took in
+    record {
+      at = more.0;
+      from = omega (arith, from);
+      until = grind (arith, common_steps);
+      frame = often_then IsDeviceFault a b d _ _ _ i.frame (often_of IsDeviceFault 0 3 b d _ c.in-Ok-true.ensures.frame);
+      taken = more.1;
+    }

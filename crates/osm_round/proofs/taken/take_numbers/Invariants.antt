@@ -1,0 +1,15 @@
+use Rattle.std.proofs.Common.{◌≡◌, ◌≤◌, Ok}
+use Rattle.osm_store.specs.Frames.{IsKnown}
+use Rattle.osm_blocks.specs.Frames.{ReadsOften}
+use Rattle.osm_folder.specs.Runs.{IsDeviceFault}
+use Rattle.osm_round.specs.Taking.{HasTaken}
+use Rattle.osm_round.proofs.taken.take_numbers.Given as goal
+
+abbrev pub invariant-loop-before : goal.invariant-loop-before
+invariant-loop-before g l = record {
+  at : l.taken.head.number ≡ l.before;
+  from : l.fn.taken.head.number ≤ l.before;
+  until : l.before ≤ l.fn.last;
+  frame : ReadsOften IsDeviceFault (g.S.Store.state l.fn.store) (g.S.Store.state l.store) (Ok l.before);
+  taken : HasTaken (IsKnown (g.S.Store.state l.fn.store)) (g.S.Store.state l.fn.store).files l.fn.dir l.fn.filter l.fn.taken.head l.taken;
+}

@@ -1,0 +1,48 @@
+-- What a run leaves of its save.
+use Rattle.std.specs.Prelude.{◌≡◌, ℕ, List, Option, Some}
+use Rattle.osm_mirror.specs.Mirror.{IsWithin, no_mirror}
+use Rattle.osm_model.specs.Filter.{AreKept, FilterValue}
+use Rattle.osm_net.specs.Laid.{laid_on}
+use Rattle.osm_save.specs.Head.{IsHeadIn, head_of, most_counted}
+use Rattle.osm_save.specs.Save.{SpellsSave, saved_with}
+use Rattle.osm_save.specs.declared.head.Head.{Head}
+use Rattle.osm_save.specs.declared.save.Saved.{Saved}
+use Rattle.osm_save.specs.declared.version.Version.TheVariants.{Three}
+use Rattle.osm_store.specs.Files.{Files, Puts}
+use Rattle.osm_round.specs.Starting.{Saves}
+use Rattle.osm_round.specs.declared.taken.Taken.{Taken}
+
+-- what a save holds after what was taken
+abbrev pub saved_after : Saved → Taken → Saved
+saved_after v taken = saved_with taken.head v.filter (laid_on taken.net v.mirror)
+
+-- the file is the save text of something
+pub record IsSaveText (told : Option (List ℕ)) : Type 0 where
+  pub file : List ℕ
+  pub there : told ≡ Some file
+  pub saved : Saved
+  pub spells : SpellsSave file saved
+
+-- the save was that of something under the given filter at that head, and is that of it after what
+-- was taken; no other file changed
+pub record PutsTaken (given : FilterValue) (save : List ℕ) (start : Head) (taken : Taken)
+    (old new : Files) : Type 0 where
+  pub before : Saved
+  pub saved : Saves given (old save) before
+  pub head : head_of before ≡ start
+  pub filter : before.filter ≡ given
+  pub text : List ℕ
+  pub spelled : SpellsSave text (saved_after before taken)
+  pub put : Puts old save (Some text) new
+
+-- what was taken where there was no save can be saved
+pub record IsSavableAlone (f : FilterValue) (taken : Taken) : Type 0 where
+  pub head : IsHeadIn Three taken.head
+  pub within : IsWithin (most_counted taken.head) (laid_on taken.net no_mirror)
+  pub kept : AreKept f (laid_on taken.net no_mirror).objects
+
+-- the file is the save text of that, and no other file changed
+pub record IsMadeOf (f : FilterValue) (taken : Taken) (save : List ℕ) (old new : Files) : Type 0 where
+  pub text : List ℕ
+  pub spelled : SpellsSave text (saved_with taken.head f (laid_on taken.net no_mirror))
+  pub put : Puts old save (Some text) new

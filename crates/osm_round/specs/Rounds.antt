@@ -1,0 +1,283 @@
+-- What a run of the follower over a folder does, whatever the size of its save. `known` says that it
+-- is known what the files hold, and `options` are the filter, the limit and the layout of the run.
+use Rattle.std.specs.Prelude.{◌≡◌, ℕ, ◌+◌, ◌<◌, ◌≤◌, ◌⊎◌, ◌↔◌, List, [], length, Option}
+use Rattle.std.specs.Prelude.{Some, None}
+use Rattle.osm_model.specs.Filter.{FilterValue}
+use Rattle.osm_model.specs.Limits.{max_sequence}
+use Rattle.osm_save.specs.Save.{SpellsSave}
+use Rattle.osm_save.specs.declared.head.Head.{Head}
+use Rattle.osm_save.specs.declared.save.Saved.{Saved}
+use Rattle.osm_state.specs.State.{StateValue}
+use Rattle.osm_store.specs.Files.{Files, IsOver, Puts}
+use Rattle.osm_merge.specs.Checking.{IsNoSave}
+use Rattle.osm_folder.specs.Folder.{IsStateFile, IsThere, max_state}
+use Rattle.osm_folder.specs.Following.{AddsAll, GoesOn, IsReached, IsReadable}
+use Rattle.osm_folder.specs.Following.{MissingStops, NumberStops, TopStateStops, end_of, last_number}
+use Rattle.osm_folder.specs.Following.{lost_numbers, ranges, standing_of}
+use Rattle.osm_folder.specs.Lagging.{standing_from}
+use Rattle.osm_folder.specs.Names.{top_name_of}
+use Rattle.osm_folder.specs.Progress.{IsOfContent}
+use Rattle.osm_folder.specs.Publication.{IsBadState}
+use Rattle.osm_folder.specs.Reports.{Outcome, ReportValue, report_of}
+use Rattle.osm_folder.specs.declared.fault.FileName.TheVariants.{Save, Top}
+use Rattle.osm_folder.specs.declared.fault.RunFault.{RunFault}
+use Rattle.osm_folder.specs.declared.fault.RunFault.TheVariants.{Absent, BadSave, BadState, Changed}
+use Rattle.osm_folder.specs.declared.fault.RunFault.TheVariants.{OtherFilter, ReadFault, TooLarge}
+use Rattle.osm_folder.specs.declared.fault.RunFault.TheVariants.{TopBehind, WantOfMemory, WriteFault}
+use Rattle.osm_folder.specs.declared.options.FollowOptions.{FollowOptions}
+use Rattle.osm_folder.specs.declared.options.Layout.{Layout}
+use Rattle.osm_folder.specs.declared.progress.Progress.{Progress}
+use Rattle.osm_folder.specs.declared.progress.Progress.TheVariants.{Before, Whole}
+use Rattle.osm_round.specs.Putting.{IsSaveText}
+use Rattle.osm_round.specs.Starting.{IsOtherSave, IsTooLarge, Saves}
+use Rattle.osm_round.specs.Taking.{HasTaken}
+use Rattle.osm_round.specs.declared.taken.Taken.{Taken}
+use Rattle.osm_round.specs.declared.round.Prepared.{Prepared}
+
+-- ---- what it saves and prints
+
+-- the save, which is one under the given filter, and the top state were read
+pub record IsStarted (given : FilterValue) (dir save : List ℕ) (files : Files) (start : Saved)
+    (top : StateValue) : Type 0 where
+  pub saved : Saves given (files save) start
+  pub filter_is : start.filter ≡ given
+  pub top_is : IsThere (files (top_name_of dir)) (IsStateFile top.sequence top.time)
+
+-- what a run saves and prints that comes to the last number, or to one before a lost one
+pub record IsFollowing (options : FollowOptions) (dir save : List ℕ) (files : Files) (text : List ℕ)
+    (report : ReportValue) : Type 0 where
+  pub start : Saved
+  pub top : StateValue
+  pub started : IsStarted options.filter dir save files start top
+  pub count : ℕ
+  pub reached : Saved
+  pub goes_on : GoesOn files dir start (end_of options start top) count reached
+  pub spelled : SpellsSave text reached
+  pub report_is : report ≡ report_of options.layout None (record {
+    standing = standing_of reached top;
+    applied = ranges start.number count;
+    missing = lost_numbers files dir reached.number (end_of options start top);
+  })
+
+-- what one saves and prints that comes to the number before a faulty one, and takes some
+pub record ComesBefore (known : Type 0) (options : FollowOptions) (dir save : List ℕ) (files : Files)
+    (fault : RunFault) (text : List ℕ) (report : ReportValue) : Type 0 where
+  pub start : Saved
+  pub top : StateValue
+  pub started : IsStarted options.filter dir save files start top
+  pub count : ℕ
+  pub some : 0 < count
+  pub reached : Saved
+  pub added : AddsAll files dir count start reached
+  pub below : reached.number < end_of options start top
+  pub content : IsOfContent fault (reached.number + 1)
+  pub stops : NumberStops known dir files (reached.number + 1) fault
+  pub spelled : SpellsSave text reached
+  pub said : List ℕ
+  pub report_is : report ≡ report_of options.layout (Some said) (record {
+    standing = standing_of reached top;
+    applied = ranges start.number count;
+    missing = [];
+  })
+
+-- the save holds what one of these gives, and no other name changes
+pub record IsFollowed (options : FollowOptions) (dir save : List ℕ) (old new : Files)
+    (report : ReportValue) : Type 0 where
+  pub text : List ℕ
+  pub following : IsFollowing options dir save old text report
+  pub put : Puts old save (Some text) new
+
+pub record IsFollowedBefore (known : Type 0) (options : FollowOptions) (dir save : List ℕ)
+    (old new : Files) (fault : RunFault) (report : ReportValue) : Type 0 where
+  pub text : List ℕ
+  pub before : ComesBefore known options dir save old fault text report
+  pub put : Puts old save (Some text) new
+
+-- what a run does
+abbrev pub IsProgress :
+    Type 0 → FollowOptions → List ℕ → List ℕ → Files → Files → Progress → Type 0
+IsProgress known options dir save old new (Whole report) =
+    known → IsFollowed options dir save old new report
+IsProgress known options dir save old new (Before report fault) =
+    known → IsFollowedBefore known options dir save old new fault report
+
+-- ---- why it is refused
+
+-- a save under the given filter can be read
+abbrev pub HasSave : FilterValue → List ℕ → Files → Type 0
+HasSave given save files = (v : Saved) × Saves given (files save) v × (v.filter ≡ given)
+
+-- after what was taken up to some number there are more objects than a save can have
+pub record HasManyObjects (options : FollowOptions) (dir save : List ℕ) (files : Files) : Type 0
+  where
+    pub start : Saved
+    pub top : StateValue
+    pub started : IsStarted options.filter dir save files start top
+    pub count : ℕ
+    pub reached : Saved
+    pub added : AddsAll files dir count start reached
+    pub until : reached.number ≤ end_of options start top
+    pub many : 999999999999999999 < length reached.mirror.objects
+
+-- the top state is below the save
+pub record IsTopBehind (given : FilterValue) (dir save : List ℕ) (files : Files) : Type 0 where
+  pub start : Saved
+  pub top : StateValue
+  pub started : IsStarted given dir save files start top
+  pub below : top.sequence < start.number
+
+-- for the save, or for the top state: the fault of a save that can't be read comes before all others
+abbrev pub StartStops : Type 0 → FollowOptions → List ℕ → List ℕ → Files → RunFault → Type 0
+StartStops known options dir save files WantOfMemory = Unit {0}
+StartStops known options dir save files (ReadFault Save) = Unit {0}
+StartStops known options dir save files (WriteFault Save) =
+    known → HasSave options.filter save files
+StartStops known options dir save files (Changed Save) = known → ⊥
+StartStops known options dir save files (Absent Save) = known → ⊥
+StartStops known options dir save files (TooLarge Save) =
+    known → IsTooLarge (files save) ⊎ HasManyObjects options dir save files
+StartStops known options dir save files (BadSave line) = known → IsNoSave (files save)
+StartStops known options dir save files OtherFilter = known → IsOtherSave options.filter (files save)
+StartStops known options dir save files (ReadFault Top) = known → HasSave options.filter save files
+StartStops known options dir save files (Absent Top) =
+    known → HasSave options.filter save files × (files (top_name_of dir) ≡ None)
+StartStops known options dir save files (TooLarge Top) =
+    known → HasSave options.filter save files × IsOver max_state (files (top_name_of dir))
+StartStops known options dir save files (BadState Top cause) =
+    known → HasSave options.filter save files × IsBadState (files (top_name_of dir)) cause
+StartStops known options dir save files TopBehind = known → IsTopBehind options.filter dir save files
+StartStops known options dir save files fault = ⊥
+
+-- a number is read: it is after the save's and at most the last one, and those between are right,
+-- so none of them is lost
+pub record ComesTo (options : FollowOptions) (dir save : List ℕ) (files : Files) (number : ℕ) :
+    Type 0 where
+  pub start : Saved
+  pub top : StateValue
+  pub started : IsStarted options.filter dir save files start top
+  pub above : start.number < number
+  pub until : number ≤ end_of options start top
+  pub each : (k : ℕ) → start.number < k → k < number → IsReadable files dir k
+
+-- a number that is read isn't taken; if for what its files hold, it is the next one after the save's
+pub record StopsAt (known : Type 0) (options : FollowOptions) (dir save : List ℕ) (files : Files)
+    (fault : RunFault) : Type 0 where
+  pub number : ℕ
+  pub comes : known → ComesTo options dir save files number
+  pub next : (yes : known) → IsOfContent fault number → number ≡ (comes yes).start.number + 1
+  pub stops : NumberStops known dir files number fault
+
+-- what a run comes to before it looks for lost numbers
+pub record ComesBeyond (options : FollowOptions) (dir save : List ℕ) (files : Files)
+    (reached last : ℕ) : Type 0 where
+  pub start : Saved
+  pub top : StateValue
+  pub started : IsStarted options.filter dir save files start top
+  pub count : ℕ
+  pub value : Saved
+  pub goes_on : GoesOn files dir start (end_of options start top) count value
+  pub reached_is : reached ≡ value.number
+  pub last_is : last ≡ end_of options start top
+
+-- a number beyond the first lost one isn't looked for
+pub record StopsBeyond (known : Type 0) (options : FollowOptions) (dir save : List ℕ) (files : Files)
+    (fault : RunFault) : Type 0 where
+  pub last : ℕ
+  pub reached : ℕ
+  pub comes : known → ComesBeyond options dir save files reached last
+  pub stops : MissingStops known dir files reached last fault
+
+-- why a run is refused
+abbrev pub RoundStops : Type 0 → FollowOptions → List ℕ → List ℕ → Files → RunFault → Type 0
+RoundStops known options dir save files fault =
+    StartStops known options dir save files fault
+    ⊎ StopsAt known options dir save files fault
+    ⊎ StopsBeyond known options dir save files fault
+
+-- there is no save, or it is a save text
+abbrev pub IsWhole : Option (List ℕ) → Type 0
+IsWhole told = (told ≡ None) ⊎ IsSaveText told
+
+-- ---- before its save is put
+
+-- where a run stands, what it applied and what is missing
+abbrev pub outcome_of : Head → StateValue → Head → ℕ → List ℕ → Outcome
+outcome_of head top start count missing = record {
+  standing = standing_from head top;
+  applied = ranges start.number count;
+  missing = missing;
+}
+
+-- the report of a run that reached that head, and has no fault or that one
+abbrev pub IsReport : Type 0 → Layout → Files → List ℕ → Head → StateValue → ℕ → ℕ → Head
+    → Option RunFault → ReportValue → Type 0
+IsReport known layout files dir start top last count head None report =
+    (missing : List ℕ) × (known → IsReached files dir head.number last)
+    × (known → missing ≡ lost_numbers files dir head.number last)
+    × ((missing ≡ []) ↔ (head.number ≡ last))
+    × (report ≡ report_of layout None (outcome_of head top start count missing))
+IsReport known layout files dir start top last count head (Some fault) report =
+    (said : List ℕ) × (0 < count) × (head.number < last) × IsOfContent fault (head.number + 1)
+    × NumberStops known dir files (head.number + 1) fault
+    × (report ≡ report_of layout (Some said) (outcome_of head top start count []))
+
+-- what a run took, and its report
+pub record IsPrepared (known : Type 0) (options : FollowOptions) (dir : List ℕ) (files : Files)
+    (start : Head) (p : Prepared) : Type 0 where
+  pub top : StateValue
+  pub top_is : known → IsThere (files (top_name_of dir)) (IsStateFile top.sequence top.time)
+  pub most : top.sequence ≤ max_sequence
+  pub taken : HasTaken known files dir options.filter start p.taken
+  pub until : p.taken.head.number ≤ last_number options.limit start.number top.sequence
+  pub report : IsReport known options.layout files dir start top
+      (last_number options.limit start.number top.sequence) taken.count p.taken.head p.fault p.report
+
+-- the top state is below the head
+pub record IsBelow (dir : List ℕ) (files : Files) (start : Head) : Type 0 where
+  pub top : StateValue
+  pub top_is : IsThere (files (top_name_of dir)) (IsStateFile top.sequence top.time)
+  pub below : top.sequence < start.number
+
+-- a number after the head isn't taken; if for what its files hold, it is the next one
+pub record StopsTaking (known : Type 0) (options : FollowOptions) (dir : List ℕ) (files : Files)
+    (start : Head) (fault : RunFault) : Type 0 where
+  pub top : StateValue
+  pub top_is : known → IsThere (files (top_name_of dir)) (IsStateFile top.sequence top.time)
+  pub number : ℕ
+  pub above : start.number < number
+  pub until : number ≤ last_number options.limit start.number top.sequence
+  pub each : known → (k : ℕ) → start.number < k → k < number → IsReadable files dir k
+  pub next : IsOfContent fault number → number ≡ start.number + 1
+  pub stops : NumberStops known dir files number fault
+
+-- a number beyond the first lost one isn't looked for
+pub record StopsLooking (known : Type 0) (options : FollowOptions) (dir : List ℕ) (files : Files)
+    (start : Head) (fault : RunFault) : Type 0 where
+  pub top : StateValue
+  pub top_is : known → IsThere (files (top_name_of dir)) (IsStateFile top.sequence top.time)
+  pub taken : Taken
+  pub has : HasTaken known files dir options.filter start taken
+  pub until : taken.head.number ≤ last_number options.limit start.number top.sequence
+  pub reached : known → IsReached files dir taken.head.number
+      (last_number options.limit start.number top.sequence)
+  pub stops : MissingStops known dir files taken.head.number
+      (last_number options.limit start.number top.sequence) fault
+
+-- why nothing is saved after a head
+abbrev pub PrepareStops :
+    Type 0 → FollowOptions → List ℕ → Files → Head → RunFault → Type 0
+PrepareStops known options dir files start fault =
+    TopStateStops known (files (top_name_of dir)) fault
+    ⊎ ((fault ≡ TopBehind) × (known → IsBelow dir files start))
+    ⊎ StopsTaking known options dir files start fault
+    ⊎ StopsLooking known options dir files start fault
+
+-- why no report is made of what comes before a faulty number: for memory, or nothing does
+abbrev pub BeforeStops : Head → Head → RunFault → RunFault → Type 0
+BeforeStops start head fault refused =
+    (refused ≡ WantOfMemory) ⊎ ((refused ≡ fault) × (head.number ≡ start.number))
+
+-- a run is done with that report, and that fault if it has one
+abbrev pub progress_of : ReportValue → Option RunFault → Progress
+progress_of report None = Whole report
+progress_of report (Some fault) = Before report fault

@@ -1,0 +1,99 @@
+-- What a run takes of a folder: the numbers after a head, one after the other, as net changes.
+-- `known` says that it is known what the files hold.
+use Rattle.std.specs.Prelude.{◌≡◌, ℕ, zero, suc, ◌+◌, ◌*◌, ◌<◌, ◌≤◌, List, length, Bool, true}
+use Rattle.std.specs.Prelude.{false, Some}
+use Rattle.osm_model.specs.Change.{ChangeValue}
+use Rattle.osm_model.specs.Filter.{FilterValue}
+use Rattle.osm_model.specs.Limits.{max_changes}
+use Rattle.osm_mirror.specs.Mirror.{Applies, IsOrderly, MirrorValue}
+use Rattle.osm_net.specs.Laid.{laid_on}
+use Rattle.osm_net.specs.Net.{IsNetOf, Takes, WidensBy, no_net}
+use Rattle.osm_save.specs.Head.{IsTimeOf}
+use Rattle.osm_save.specs.declared.head.Head.{Head}
+use Rattle.osm_follow.specs.Published.{PublishedValue}
+use Rattle.osm_store.specs.Files.{Files}
+use Rattle.osm_folder.specs.Following.{HasFiles, IsNumber, IsReached, IsReadable, NumberStops, is_lost}
+use Rattle.osm_folder.specs.Progress.{IsOfContent}
+use Rattle.osm_folder.specs.declared.fault.RunFault.{RunFault}
+use Rattle.osm_round.specs.declared.taken.End.{End}
+use Rattle.osm_round.specs.declared.taken.End.TheVariants.{Faulty, Reached}
+use Rattle.osm_round.specs.declared.taken.Taken.{Taken}
+
+-- the head after a sequence
+abbrev pub head_after : Head → ℕ → ℕ → Head
+head_after head number time = record { number = number; base = head.base; time = Some time }
+
+-- the next number's files are there, and the new net changes are the old ones with its changes
+-- after them
+pub record Advances (files : Files) (dir : List ℕ) (f : FilterValue) (old new : Taken) : Type 0 where
+  pub next : PublishedValue
+  pub number_is : next.number ≡ old.head.number + 1
+  pub there : HasFiles files dir next
+  pub head : new.head ≡ head_after old.head next.number next.time
+  pub applies : (m : MirrorValue) → IsOrderly m
+      → Applies f (laid_on old.net m) next.changes (laid_on new.net m)
+
+-- nothing is new after that head
+abbrev pub IsNothing : Head → Taken → Type 0
+IsNothing start taken = (taken.head ≡ start) × (taken.net ≡ no_net)
+
+-- that many numbers after that head were taken, one after the other
+abbrev pub AdvancesAll : Files → List ℕ → FilterValue → Head → ℕ → Taken → Type 0
+AdvancesAll files dir f start zero new = IsNothing start new
+AdvancesAll files dir f start (suc count) new =
+    (between : Taken) × AdvancesAll files dir f start count between
+    × Advances files dir f between new
+
+-- what was taken after that head is the net changes of that many numbers, each with no more changes
+-- than a sequence may have
+pub record IsTaken (f : FilterValue) (start : Head) (count : ℕ) (taken : Taken) : Type 0 where
+  pub number : taken.head.number ≡ start.number + count
+  pub base : taken.head.base ≡ start.base
+  pub time : IsTimeOf start.number start.time → IsTimeOf taken.head.number taken.head.time
+  pub none : count ≡ 0 → IsNothing start taken
+  pub changes : List ChangeValue
+  pub few : length changes ≤ max_changes * count
+  pub net : IsNetOf f changes taken.net
+  pub widens : WidensBy (length changes) no_net taken.net
+
+-- the numbers after that head were taken
+pub record HasTaken (known : Type 0) (files : Files) (dir : List ℕ) (f : FilterValue) (start : Head)
+    (taken : Taken) : Type 0 where
+  pub count : ℕ
+  pub is : IsTaken f start count taken
+  pub advances : known → AdvancesAll files dir f start count taken
+
+-- a number was taken, or is lost
+abbrev pub TakesNumber :
+    Type 0 → Files → List ℕ → ℕ → FilterValue → Taken → Taken → Bool → Type 0
+TakesNumber known files dir number f old new true =
+    (time : ℕ) × (changes : List ChangeValue) × IsNumber known files dir number time changes
+    × (new.head ≡ head_after old.head number time) × Takes f old.net changes new.net
+    × WidensBy (length changes) old.net new.net
+TakesNumber known files dir number f old new false =
+    (known → is_lost files dir number ≡ true) × (new ≡ old)
+
+-- why no further number is taken: all that may be are, or the next one is lost; or a file of the
+-- next one is faulty
+abbrev pub EndsAt : Type 0 → Files → List ℕ → ℕ → ℕ → End → Type 0
+EndsAt known files dir last number Reached = known → IsReached files dir number last
+EndsAt known files dir last number (Faulty fault) =
+    (number < last) × IsOfContent fault (number + 1) × NumberStops known dir files (number + 1) fault
+
+-- the numbers after that head were taken, up to the last one or to an earlier end
+pub record TakesUp (known : Type 0) (files : Files) (dir : List ℕ) (f : FilterValue) (last : ℕ)
+    (start : Head) (taken : Taken) (end : End) : Type 0 where
+  pub taken_are : HasTaken known files dir f start taken
+  pub until : taken.head.number ≤ last
+  pub ends : EndsAt known files dir last taken.head.number end
+
+-- a number after that head isn't taken, for no fault of what its files hold: it is at most the last
+-- one, and those between are right
+pub record StopsOnTheWay (known : Type 0) (files : Files) (dir : List ℕ) (f : FilterValue) (last : ℕ)
+    (start : Head) (fault : RunFault) : Type 0 where
+  pub number : ℕ
+  pub above : start.number < number
+  pub until : number ≤ last
+  pub each : known → (k : ℕ) → start.number < k → k < number → IsReadable files dir k
+  pub plain : (k : ℕ) → IsOfContent fault k → ⊥
+  pub stops : NumberStops known dir files number fault

@@ -1,0 +1,166 @@
+//! Saving what a run took: laid over its save, or as a save of its own.
+
+ghost use Rattle.std.specs.Prelude.{◌≡◌, ℕ, ◌≤◌, [], ◌∷◌, ◌++◌, Some, IfErr, IfOk, IfSome, OnOk};
+ghost use Rattle.std.specs.List.{AllByRecursion};
+ghost use Rattle.osm_model.specs.Content.{object_after};
+ghost use Rattle.osm_model.specs.Limits.{max_sequence};
+ghost use Rattle.osm_mirror.specs.Mirror.{AreRising, no_mirror};
+ghost use Rattle.osm_net.specs.Laid.{laid_on, laid_over, put_before};
+ghost use Rattle.osm_store.specs.Frames.{IsKnown};
+ghost use Rattle.osm_blocks.specs.Frames.{ReadsOften};
+ghost use Rattle.osm_merge.specs.Frames.{ReplacesOften};
+ghost use Rattle.osm_merge.specs.Laying.{IsFew};
+ghost use Rattle.osm_merge.specs.Merging.{IsMerged};
+ghost use Rattle.osm_folder.specs.Runs.{IsDeviceFault};
+ghost use Rattle.osm_round.specs.Putting.{IsMadeOf, IsSavableAlone, IsSaveText, PutsTaken};
+ghost use Rattle.osm_round.specs.Starting.{IsBegun, MergeStops, PutStops, ReadStops};
+ghost use Rattle.osm_round.specs.Taking.{IsTaken};
+
+use crate::start::{Start, read_fault, write_fault};
+use crate::taken::Taken;
+use osm_folder::fault::{FileName, RunFault};
+use osm_merge::check::check_save;
+use osm_merge::merge::merge_save;
+use osm_mirror::mirror::Mirror;
+use osm_mirror::objects::Objects;
+use osm_model::change::Change;
+use osm_model::filter::Filter;
+use osm_model::memory::WantOfMemory;
+use osm_net::net::Net;
+use osm_net::objects::NetObjects;
+use osm_save::save::save_write;
+use osm_store::store::{Store, StoreError};
+use std::alloc::Global;
+
+/// Saves what was taken. If nothing was, the save is only checked.
+pub(crate) fn put<S: Store>(
+    alloc: Global,
+    store: &mut S,
+    save: &str,
+    filter: &Filter,
+    start: Start,
+    taken: Taken,
+) -> Result<(), RunFault>
+    requires taken { (count : ℕ) × IsTaken filter.now start.head count taken }
+    requires number { taken.head.number ≤ max_sequence }
+    requires base { start.head.base ≤ start.head.number }
+    requires begun { IsKnown (S.state store.old)
+        → IsBegun filter.now ((S.state store.old).files save.now) start }
+    ensures put { OnOk result (IsKnown (S.state store.old) → PutsTaken filter.now save.now start.head
+        taken (S.state store.old).files (S.state store.new).files) }
+    ensures stops { IfErr result (PutStops (IsKnown (S.state store.old))
+        ((S.state store.old).files save.now) taken.net) }
+    ensures frame { ReplacesOften IsDeviceFault (S.state store.old) (S.state store.new) result }
+{
+    taken.net.limits();
+    filter.limits();
+    if !start.has_save {
+        return make(alloc, store, save, filter, taken);
+    }
+    if taken.head.number == start.head.number {
+        return check(alloc, store, save);
+    }
+    merge(alloc, store, save, taken)
+}
+
+// Checks the save, which stays as it is.
+fn check<S: Store>(alloc: Global, store: &mut S, save: &str) -> Result<(), RunFault>
+    ensures checked { OnOk result (IsKnown (S.state store.old)
+        → IsSaveText ((S.state store.old).files save.now)) }
+    ensures stops { IfErr result (ReadStops (IsKnown (S.state store.old))
+        ((S.state store.old).files save.now)) }
+    ensures frame { ReadsOften IsDeviceFault (S.state store.old) (S.state store.new) result }
+{
+    match check_save(alloc, store, save) {
+        Ok(_checked) => Ok(()),
+        Err(fault) => Err(read_fault(fault)),
+    }
+}
+
+// Lays what was taken over the save.
+fn merge<S: Store>(alloc: Global, store: &mut S, save: &str, taken: Taken) -> Result<(), RunFault>
+    requires users { AllByRecursion IsFew taken.net.users }
+    requires changesets { AllByRecursion IsFew taken.net.changesets }
+    ensures merged { OnOk result (IsKnown (S.state store.old) → IsMerged taken.head taken.net save.now
+        (S.state store.old).files (S.state store.new).files) }
+    ensures stops { IfErr result (MergeStops (IsKnown (S.state store.old))
+        ((S.state store.old).files save.now) taken.net) }
+    ensures frame { ReplacesOften IsDeviceFault (S.state store.old) (S.state store.new) result }
+{
+    let head = taken.head;
+    let (objects, users, changesets) = taken.net.into_parts();
+    let entries = objects.into_entries(alloc)?;
+    let users = users.to_vec(alloc)?;
+    let changesets = changesets.to_vec(alloc)?;
+    match merge_save(
+        alloc,
+        store,
+        save,
+        head,
+        entries.as_slice(),
+        users.as_slice(),
+        changesets.as_slice(),
+    ) {
+        Ok(()) => Ok(()),
+        Err(fault) => {
+            store.abandon();
+            Err(write_fault(fault))
+        }
+    }
+}
+
+// Writes what was taken as a save of its own.
+fn make<S: Store>(
+    alloc: Global,
+    store: &mut S,
+    save: &str,
+    filter: &Filter,
+    taken: Taken,
+) -> Result<(), RunFault>
+    ensures made { OnOk result (IsKnown (S.state store.old) → IsSavableAlone filter.now taken
+        → IsMadeOf filter.now taken save.now (S.state store.old).files (S.state store.new).files) }
+    ensures stops { IfErr result (PutStops (IsKnown (S.state store.old))
+        ((S.state store.old).files save.now) taken.net) }
+    ensures frame { ReplacesOften IsDeviceFault (S.state store.old) (S.state store.new) result }
+{
+    let head = taken.head;
+    let mirror = mirror_of(alloc, taken.net)?;
+    let text = save_write(alloc, head, filter, &mirror)?;
+    match store.write(alloc, save, text.as_slice()) {
+        Ok(()) => Ok(()),
+        Err(StoreError::Device) => Err(RunFault::WriteFault(FileName::Save)),
+        Err(StoreError::TooLarge) => unreachable!(),
+        Err(StoreError::WantOfMemory) => Err(RunFault::WantOfMemory),
+    }
+}
+
+// The mirror that net changes leave where there was none.
+fn mirror_of(alloc: Global, net: Net) -> Result<Mirror, WantOfMemory>
+    ensures { IfOk result (λ mirror. mirror ≡ laid_on net no_mirror) }
+{
+    let (objects, users, changesets) = net.into_parts();
+    let objects = objects_of(alloc, objects)?;
+    Ok(Mirror::from_parts(objects, users, changesets))
+}
+
+fn objects_of(alloc: Global, entries: NetObjects) -> Result<Objects, WantOfMemory>
+    ensures { IfOk result (λ objects. objects ≡ laid_over entries []) }
+{
+    entries.limits();
+    let mut objects = Objects::new(alloc);
+    for (_key, left) in entries.into_entries(alloc)? {
+        add(left, &mut objects)?;
+    }
+    Ok(objects)
+}
+
+fn add(left: Option<Change>, objects: &mut Objects) -> Result<(), WantOfMemory>
+    requires rising { IfSome left (λ c. AreRising (objects.old ++ c ∷ [])) }
+    requires is_left { IfSome left (λ c. object_after c ≡ Some c) }
+    ensures { OnOk result (objects.new ≡ objects.old ++ put_before left []) }
+{
+    if let Some(change) = left {
+        objects.push(change)?;
+    }
+    Ok(())
+}

@@ -1,0 +1,266 @@
+//! A run of the follower over a folder, from its save. In memory are what is new, the files of one
+//! number, and a block of the save.
+
+ghost use Rattle.std.specs.Prelude.{◌≡◌, ℕ, ◌+◌, ◌-◌, ◌*◌, ◌<◌, ◌≤◌, List, [], None, Some, IfErr, IfOk, OnOk};
+ghost use Rattle.osm_model.specs.Limits.{max_sequence};
+ghost use Rattle.osm_store.specs.Frames.{IsKnown};
+ghost use Rattle.osm_blocks.specs.Frames.{ReadsOften};
+ghost use Rattle.osm_merge.specs.Frames.{ReplacesOften};
+ghost use Rattle.osm_folder.specs.Following.{IsReached, MissingStops, ranges};
+ghost use Rattle.osm_folder.specs.Lagging.{standing_from};
+ghost use Rattle.osm_folder.specs.Progress.{IsProgressReport};
+ghost use Rattle.osm_folder.specs.Runs.{IsDeviceFault, ReadsUpTo};
+ghost use Rattle.osm_folder.specs.Reports.{report_of};
+ghost use Rattle.osm_round.specs.Rounds.{BeforeStops, IsPrepared, IsProgress, IsReport, IsWhole, PrepareStops};
+ghost use Rattle.osm_round.specs.Rounds.{RoundStops, outcome_of, progress_of};
+ghost use Rattle.osm_round.specs.Starting.{WholeStops};
+
+use crate::put::put;
+use crate::start::{read_fault, read_start};
+use crate::taken::{End, Taken, take_numbers};
+use osm_folder::fault::RunFault;
+use osm_folder::follow::{last_number, missing};
+use osm_folder::options::{FollowOptions, Layout};
+use osm_folder::progress::Progress;
+use osm_folder::report::{Report, fault_text, follow_in};
+use osm_folder::start::read_top;
+use osm_json::line::Standing;
+use osm_merge::check::check_save;
+use osm_merge::fault::MergeFault;
+use osm_model::memory::WantOfMemory;
+use osm_save::head::Head;
+use osm_state::state::State;
+use osm_store::store::Store;
+use std::alloc::Global;
+
+// What a run saves and prints, and the fault of the number at which it stops taking.
+#[derive(Drop)]
+struct Prepared {
+    taken: Taken,
+    report: Report,
+    fault: Option<RunFault>,
+}
+
+/// Follows a folder from a save, or from the start if there is none, up to the folder's newest
+/// state, the limit, the first lost number or the number before a faulty one, and writes the save.
+/// It prints and refuses as `follow_progress` does, but a save of any size is taken, and what is in
+/// memory doesn't grow with it.
+pub fn follow_round<S: Store>(
+    alloc: Global,
+    store: &mut S,
+    dir: &str,
+    save: &str,
+    options: &FollowOptions,
+) -> Result<Progress, RunFault>
+    ensures done { IfOk result (IsProgress (IsKnown (S.state store.old)) options.now
+        dir.now save.now (S.state store.old).files (S.state store.new).files) }
+    ensures report { IfOk result (IsProgressReport options.now.layout) }
+    ensures stops { IfErr result (RoundStops (IsKnown (S.state store.old)) options.now
+        dir.now save.now (S.state store.old).files) }
+    ensures frame { ReplacesOften IsDeviceFault (S.state store.old) (S.state store.new) result }
+{
+    match follow(alloc, store, dir, save, options) {
+        Ok(progress) => Ok(progress),
+        Err(fault) => match check_whole(alloc, store, save) {
+            Ok(()) => Err(fault),
+            Err(found) => Err(found),
+        },
+    }
+}
+
+// Follows, and finds a fault after the head of the save only when that is merged.
+fn follow<S: Store>(
+    alloc: Global,
+    store: &mut S,
+    dir: &str,
+    save: &str,
+    options: &FollowOptions,
+) -> Result<Progress, RunFault>
+    ensures done { IfOk result (IsProgress (IsKnown (S.state store.old)) options.now
+        dir.now save.now (S.state store.old).files (S.state store.new).files) }
+    ensures report { IfOk result (IsProgressReport options.now.layout) }
+    ensures stops { IfErr result (λ fault.
+        (IsKnown (S.state store.old) → IsWhole ((S.state store.old).files save.now))
+        → RoundStops (IsKnown (S.state store.old)) options.now
+        dir.now save.now (S.state store.old).files fault) }
+    ensures frame { ReplacesOften IsDeviceFault (S.state store.old) (S.state store.new) result }
+{
+    let start = match read_start(alloc, store, save, &options.filter) {
+        Ok(start) => start,
+        Err(fault) => return Err(fault),
+    };
+    let Prepared {
+        taken,
+        report,
+        fault,
+    } = match prepare(alloc, store, dir, start.head, options) {
+        Ok(prepared) => prepared,
+        Err(fault) => return Err(fault),
+    };
+    match put(alloc, store, save, &options.filter, start, taken) {
+        Ok(()) => Ok(progress_of(report, fault)),
+        Err(fault) => Err(fault),
+    }
+}
+
+fn progress_of(report: Report, fault: Option<RunFault>) -> Progress
+    ensures { result ≡ progress_of report fault }
+{
+    match fault {
+        None => Progress::Whole(report),
+        Some(fault) => Progress::Before(report, fault),
+    }
+}
+
+// Refuses a save that is no save text.
+fn check_whole<S: Store>(alloc: Global, store: &mut S, save: &str) -> Result<(), RunFault>
+    ensures whole { OnOk result (IsKnown (S.state store.old)
+        → IsWhole ((S.state store.old).files save.now)) }
+    ensures stops { IfErr result (WholeStops (IsKnown (S.state store.old))
+        ((S.state store.old).files save.now)) }
+    ensures frame { ReadsOften IsDeviceFault (S.state store.old) (S.state store.new) result }
+{
+    match check_save(alloc, store, save) {
+        Ok(_) | Err(MergeFault::NoSave) => Ok(()),
+        Err(fault) => Err(read_fault(fault)),
+    }
+}
+
+// Takes what there is to take, and makes the report.
+fn prepare<S: Store>(
+    alloc: Global,
+    store: &mut S,
+    dir: &str,
+    start: Head,
+    options: &FollowOptions,
+) -> Result<Prepared, RunFault>
+    requires number { start.number ≤ max_sequence }
+    ensures prepared { IfOk result (IsPrepared (IsKnown (S.state store.old)) options.now dir.now
+        (S.state store.old).files start) }
+    ensures stops { IfErr result (PrepareStops (IsKnown (S.state store.old)) options.now dir.now
+        (S.state store.old).files start) }
+    ensures frame { ReadsOften IsDeviceFault (S.state store.old) (S.state store.new) result }
+{
+    let top = read_top(alloc, store, dir)?;
+    if top.sequence() < start.number {
+        return Err(RunFault::TopBehind);
+    }
+    let last = last_number(options.limit, start.number, top.sequence());
+    let mut taken = Taken::after(alloc, start);
+    match take_numbers(alloc, store, dir, last, &options.filter, &mut taken)? {
+        End::Reached => reached(alloc, store, dir, last, start, options.layout, &top, taken),
+        End::Faulty(fault) => before(alloc, start, options.layout, &top, taken, fault),
+    }
+}
+
+// The report of a run that reached the last number, or comes to a lost one.
+fn reached<S: Store>(
+    alloc: Global,
+    store: &mut S,
+    dir: &str,
+    last: u32,
+    start: Head,
+    layout: Layout,
+    top: &State,
+    taken: Taken,
+) -> Result<Prepared, RunFault>
+    requires from { start.number ≤ taken.head.number }
+    requires until { taken.head.number ≤ last }
+    requires below { last ≤ top.now.sequence }
+    requires most { last ≤ max_sequence }
+    requires reached { IsKnown (S.state store.old)
+        → IsReached (S.state store.old).files dir.now taken.head.number last }
+    ensures taken { IfOk result (λ p. p.taken ≡ taken) }
+    ensures whole { IfOk result (λ p. p.fault ≡ None) }
+    ensures report { IfOk result (λ p. (count : ℕ) → taken.head.number ≡ start.number + count
+        → IsReport (IsKnown (S.state store.old)) layout (S.state store.old).files dir.now start top.now
+        last count taken.head None p.report) }
+    ensures stops { IfErr result (MissingStops (IsKnown (S.state store.old)) dir.now
+        (S.state store.old).files taken.head.number last) }
+    ensures frame { ReadsUpTo (3 * (last - (taken.head.number + 1)))
+        (S.state store.old) (S.state store.new) result }
+{
+    let missing = missing(alloc, store, dir, taken.head.number, last)?;
+    let applied = ranges(alloc, start.number, taken.head.number)?;
+    let standing = standing_from(taken.head, top);
+    let report = follow_in(
+        alloc,
+        layout,
+        standing,
+        applied.as_slice(),
+        missing.as_slice(),
+        None,
+    )?;
+    Ok(Prepared {
+        taken,
+        report,
+        fault: None,
+    })
+}
+
+// The report of what comes before a faulty number, whose fault refuses the run if nothing does.
+fn before(
+    alloc: Global,
+    start: Head,
+    layout: Layout,
+    top: &State,
+    taken: Taken,
+    fault: RunFault,
+) -> Result<Prepared, RunFault>
+    requires from { start.number ≤ taken.head.number }
+    requires below { taken.head.number ≤ top.now.sequence }
+    requires most { taken.head.number ≤ max_sequence }
+    ensures taken { IfOk result (λ p. p.taken ≡ taken) }
+    ensures fault { IfOk result (λ p. p.fault ≡ Some fault) }
+    ensures some { IfOk result (λ p. start.number < taken.head.number) }
+    ensures report { IfOk result (λ p. (count : ℕ) → taken.head.number ≡ start.number + count
+        → (said : List ℕ) × (p.report
+        ≡ report_of layout (Some said) (outcome_of taken.head top.now start count []))) }
+    ensures stops { IfErr result (BeforeStops start taken.head fault) }
+{
+    if taken.head.number == start.number {
+        return Err(fault);
+    }
+    let said = fault_text(alloc, fault)?;
+    let applied = ranges(alloc, start.number, taken.head.number)?;
+    let standing = standing_from(taken.head, top);
+    let report = follow_in(
+        alloc,
+        layout,
+        standing,
+        applied.as_slice(),
+        &[],
+        Some(said.as_str()),
+    )?;
+    Ok(Prepared {
+        taken,
+        report,
+        fault: Some(fault),
+    })
+}
+
+// The numbers from one to another, each as a range of its own.
+fn ranges(alloc: Global, from: u32, to: u32) -> Result<Vec<(u32, u32)>, WantOfMemory>
+    requires below { from ≤ to }
+    requires most { to ≤ max_sequence }
+    ensures { IfOk result (λ v. (count : ℕ) → from + count ≡ to → v.items ≡ ranges from count) }
+{
+    let mut ranges = Vec::new(alloc);
+    for before in from..to {
+        ranges.push((before + 1, before + 1))?;
+    }
+    Ok(ranges)
+}
+
+// Where a follower stands at that head.
+fn standing_from(head: Head, top: &State) -> Standing
+    ensures { result ≡ standing_from head top.now }
+{
+    Standing {
+        number: head.number,
+        time: head.time,
+        base: head.base,
+        top: top.sequence(),
+        top_time: top.time(),
+    }
+}

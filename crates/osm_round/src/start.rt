@@ -1,0 +1,102 @@
+//! What a run starts from: the head of its save.
+
+ghost use Rattle.std.specs.Prelude.{◌≡◌, ◌≢◌, ◌≤◌, ◌↔◌, true, IfErr, IfOk, IsTrue};
+ghost use Rattle.osm_model.specs.Limits.{max_sequence};
+ghost use Rattle.osm_store.specs.Frames.{IsKnown};
+ghost use Rattle.osm_blocks.specs.Frames.{ReadsOften};
+ghost use Rattle.osm_folder.specs.Runs.{IsDeviceFault};
+ghost use Rattle.osm_folder.specs.declared.fault.RunFault.TheVariants.{OtherFilter};
+ghost use Rattle.osm_round.specs.Starting.{BeginStops, IsBegun, read_fault_of, write_fault_of};
+
+use osm_folder::fault::{FileName, RunFault};
+use osm_merge::fault::MergeFault;
+use osm_merge::opening::{Opening, read_beginning};
+use osm_model::filter::{Filter, laws_of_filters};
+use osm_save::head::Head;
+use osm_store::store::Store;
+use std::alloc::Global;
+
+/// What a run starts from: the head of its save, or that of the start if there is none.
+#[derive(Clone, Copy, Debug, PartialEq, Eq)]
+pub(crate) struct Start {
+    pub(crate) head: Head,
+    pub(crate) has_save: bool,
+}
+
+// At number 0, with no save.
+const NOTHING: Start = Start {
+    head: Head {
+        number: 0,
+        base: 0,
+        time: None,
+    },
+    has_save: false,
+};
+
+/// Reads the head of a save, which has to have that filter. What follows the head isn't read.
+pub(crate) fn read_start<S: Store>(
+    alloc: Global,
+    store: &mut S,
+    save: &str,
+    filter: &Filter,
+) -> Result<Start, RunFault>
+    ensures begun { IfOk result (λ start. IsKnown (S.state store.old)
+        → IsBegun filter.now ((S.state store.old).files save.now) start) }
+    ensures number { IfOk result (λ start. start.head.number ≤ max_sequence) }
+    ensures base { IfOk result (λ start. start.head.base ≤ start.head.number) }
+    ensures stops { IfErr result (BeginStops (IsKnown (S.state store.old)) filter.now
+        ((S.state store.old).files save.now)) }
+    ensures frame { ReadsOften IsDeviceFault (S.state store.old) (S.state store.new) result }
+{
+    match read_beginning(alloc, store, save) {
+        Ok(opening) => start_at(opening, filter),
+        Err(MergeFault::NoSave) => Ok(NOTHING),
+        Err(fault) => Err(read_fault(fault)),
+    }
+}
+
+fn start_at(opening: Opening, filter: &Filter) -> Result<Start, RunFault>
+    ensures same { IfOk result (λ start. opening.filter ≡ filter.now) }
+    ensures start { IfOk result (λ start. start ≡ record { head = opening.head; has_save = true }) }
+    ensures other { IfErr result (λ fault. (fault ≡ OtherFilter) × (opening.filter ≢ filter.now)) }
+{
+    if !are_same(&opening.filter, filter) {
+        return Err(RunFault::OtherFilter);
+    }
+    Ok(Start {
+        head: opening.head,
+        has_save: true,
+    })
+}
+
+// Whether two filters are equal.
+fn are_same(filter: &Filter, other: &Filter) -> bool
+    ensures { IsTrue result ↔ (filter.now ≡ other.now) }
+{
+    laws_of_filters();
+    filter == other
+}
+
+/// The fault of a save text as one of a run that reads it.
+pub(crate) fn read_fault(fault: MergeFault) -> RunFault
+    ensures { result ≡ read_fault_of fault }
+{
+    match fault {
+        MergeFault::ReadFault | MergeFault::WriteFault => RunFault::ReadFault(FileName::Save),
+        MergeFault::WantOfMemory => RunFault::WantOfMemory,
+        MergeFault::NoSave => RunFault::Absent(FileName::Save),
+        MergeFault::BadSave { line } => RunFault::BadSave(line),
+        MergeFault::LongLine | MergeFault::TooLarge => RunFault::TooLarge(FileName::Save),
+        MergeFault::Changed => RunFault::Changed(FileName::Save),
+    }
+}
+
+/// The fault of a save text as one of a run that writes it too.
+pub(crate) fn write_fault(fault: MergeFault) -> RunFault
+    ensures { result ≡ write_fault_of fault }
+{
+    match fault {
+        MergeFault::WriteFault => RunFault::WriteFault(FileName::Save),
+        _ => read_fault(fault),
+    }
+}

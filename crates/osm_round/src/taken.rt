@@ -1,0 +1,121 @@
+//! What a run takes of a folder: the numbers after a head, as net changes.
+
+ghost use Rattle.std.specs.Prelude.{◌≡◌, ℕ, ◌≤◌, IfErr, IfOk};
+ghost use Rattle.osm_model.specs.Limits.{max_changes, max_sequence};
+ghost use Rattle.osm_store.specs.Frames.{IsKnown};
+ghost use Rattle.osm_net.specs.Net.{HasRoomFor, no_net};
+ghost use Rattle.osm_folder.specs.Following.{NumberStops};
+ghost use Rattle.osm_folder.specs.Progress.{IsOfContent};
+ghost use Rattle.osm_blocks.specs.Frames.{ReadsOften};
+ghost use Rattle.osm_folder.specs.Runs.{IsDeviceFault, ReadsUpTo};
+ghost use Rattle.osm_round.specs.Taking.{HasTaken, TakesNumber, TakesUp, StopsOnTheWay};
+
+use osm_folder::fault::RunFault;
+use osm_folder::number::read_number;
+use osm_folder::progress::faulty_number;
+use osm_model::filter::Filter;
+use osm_net::net::Net;
+use osm_save::head::Head;
+use osm_store::store::Store;
+use std::alloc::Global;
+
+/// How far a run came, and what is new since the head that it started from.
+#[derive(Debug, Drop)]
+pub(crate) struct Taken {
+    pub(crate) head: Head,
+    pub(crate) net: Net,
+}
+
+/// Where a run stops taking.
+#[derive(Clone, Copy, Debug, PartialEq, Eq)]
+pub(crate) enum End {
+    /// At the last number that it may take, or before a lost one.
+    Reached,
+    /// Before a number of which a file is faulty.
+    Faulty(RunFault),
+}
+
+impl Taken {
+    /// Nothing after that head.
+    pub(crate) fn after(alloc: Global, head: Head) -> Taken
+        ensures { result ≡ record { head = head; net = no_net } }
+    {
+        Taken {
+            head,
+            net: Net::new(alloc),
+        }
+    }
+}
+
+/// Takes the numbers after the head, up to the last one, to one before a lost one, or to one before
+/// one of which a file is faulty.
+pub(crate) fn take_numbers<S: Store>(
+    alloc: Global,
+    store: &mut S,
+    dir: &str,
+    last: u32,
+    filter: &Filter,
+    taken: &mut Taken,
+) -> Result<End, RunFault>
+    requires from { taken.old.head.number ≤ last }
+    requires most { last ≤ max_sequence }
+    requires none { taken.old.net ≡ no_net }
+    ensures taken { IfOk result (TakesUp (IsKnown (S.state store.old)) (S.state store.old).files
+        dir.now filter.now last taken.old.head taken.new) }
+    ensures stops { IfErr result (StopsOnTheWay (IsKnown (S.state store.old)) (S.state store.old).files
+        dir.now filter.now last taken.old.head) }
+    ensures frame { ReadsOften IsDeviceFault (S.state store.old) (S.state store.new) result }
+{
+    for before in taken.head.number..last {
+        match take_number(alloc, store, dir, before + 1, filter, taken) {
+            Ok(true) => {}
+            Ok(false) => return Ok(End::Reached),
+            Err(fault) => return end_at(fault),
+        }
+    }
+    Ok(End::Reached)
+}
+
+// Takes a number's changes, unless it is lost. Tells whether they were taken.
+fn take_number<S: Store>(
+    alloc: Global,
+    store: &mut S,
+    dir: &str,
+    number: u32,
+    filter: &Filter,
+    taken: &mut Taken,
+) -> Result<bool, RunFault>
+    requires most { number ≤ max_sequence }
+    requires room { HasRoomFor max_changes taken.old.net }
+    ensures taken { IfOk result (TakesNumber (IsKnown (S.state store.old)) (S.state store.old).files
+        dir.now number filter.now taken.old taken.new) }
+    ensures unchanged { IfErr result
+        (λ fault. (k : ℕ) → IsOfContent fault k → taken.new ≡ taken.old) }
+    ensures stops { IfErr result
+        (NumberStops (IsKnown (S.state store.old)) dir.now (S.state store.old).files number) }
+    ensures frame { ReadsUpTo 3 (S.state store.old) (S.state store.new) result }
+{
+    let Some(numbered) = read_number(alloc, store, dir, number)? else {
+        return Ok(false);
+    };
+    taken.net.take(filter, numbered.changes)?;
+    taken.head = Head {
+        number,
+        base: taken.head.base,
+        time: Some(numbered.time),
+    };
+    Ok(true)
+}
+
+// A fault of what a file of a number holds is where a run stops taking. Any other refuses the run.
+fn end_at(fault: RunFault) -> Result<End, RunFault>
+    ensures faulty { IfOk result (λ end. end ≡ End.Faulty fault) }
+    ensures content { IfOk result (λ end. (number : ℕ) × IsOfContent fault number) }
+    ensures other { IfErr result (λ refused. refused ≡ fault) }
+    ensures plain { IfErr result (λ refused. (number : ℕ) → IsOfContent refused number → ⊥) }
+{
+    match faulty_number(&fault) {
+        Some(_number) => Ok(End::Faulty(fault)),
+        None => Err(fault),
+    }
+}
