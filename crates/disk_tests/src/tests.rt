@@ -1,8 +1,9 @@
-//! Tests of the store over the disk, in folders of their own below the system's temporary folder.
+//! Tests of the store over the disk, in a folder of their own below the system's temporary folder.
 
 mod blocks;
+mod cases;
 mod failing;
 mod parts;
 mod reads;
-mod scratch;
+mod steps;
 mod writes;

@@ -1,31 +1,19 @@
 //! The files of the disk with one call failing.
 
-use std::alloc::{AllocError, AllocFailed, Global};
 use std::cell::Cell;
 use std::fs::{Files, Metadata, OpenFile, OpenOptions};
 use std::io::{self, ErrorKind, Read, Seek, SeekFrom, Write};
 use std::path::PathBuf;
-use std::rc::Rc;
 
 /// Counts calls down, and fails the first one after them with an error of its kind.
-#[derive(Drop)]
-pub struct Countdown {
-    left: Rc<Cell<u64>>,
-    kind: ErrorKind,
+#[derive(Clone, Copy)]
+pub struct Countdown<'a> {
+    pub left: &'a Cell<u64>,
+    pub kind: ErrorKind,
 }
 
-impl Countdown {
-    /// Lets that many calls through, and fails the next one.
-    pub fn new(
-        alloc: Global,
-        calls: u64,
-        kind: ErrorKind,
-    ) -> Result<Countdown, AllocFailed<Cell<u64>>> {
-        let left = Rc::new(alloc, Cell::new(calls))?;
-        Ok(Countdown { left, kind })
-    }
-
-    fn spend(&self) -> io::Result<()> {
+impl Countdown<'_> {
+    fn spend(self) -> io::Result<()> {
         let left = self.left.get();
         self.left.set(left.wrapping_sub(1));
         if left == 0 {
@@ -33,42 +21,30 @@ impl Countdown {
         }
         Ok(())
     }
-
-    fn share(&self) -> Result<Countdown, AllocError> {
-        let left = self.left.clone()?;
-        let kind = self.kind;
-        Ok(Countdown { left, kind })
-    }
 }
 
 /// Files whose calls count down, and so do the calls on their open files.
 #[derive(Drop)]
-pub struct Failing<R: Files> {
-    files: R,
-    countdown: Countdown,
-}
-
-impl<R: Files> Failing<R> {
-    pub fn new(files: R, countdown: Countdown) -> Failing<R> {
-        Failing { files, countdown }
-    }
+pub struct Failing<'a, R: Files> {
+    pub files: R,
+    pub countdown: Countdown<'a>,
 }
 
 /// An open file of such files. It takes and gives at most three bytes at a time.
 #[derive(Drop)]
-pub struct FailingFile<F: Drop> {
+pub struct FailingFile<'a, F: Drop> {
     file: F,
-    countdown: Countdown,
+    countdown: Countdown<'a>,
 }
 
-impl<R: Files> Files for Failing<R> {
-    type File = FailingFile<R::File>;
+impl<'a, R: Files> Files for Failing<'a, R> {
+    type File = FailingFile<'a, R::File>;
 
     type Dir = R::Dir;
 
-    fn open_file(&self, how: &OpenOptions, path: &str) -> io::Result<FailingFile<R::File>> {
+    fn open_file(&self, how: &OpenOptions, path: &str) -> io::Result<FailingFile<'a, R::File>> {
         self.countdown.spend()?;
-        let countdown = self.countdown.share()?;
+        let countdown = self.countdown;
         let file = self.files.open_file(how, path)?;
         Ok(FailingFile { file, countdown })
     }
@@ -124,7 +100,7 @@ impl<R: Files> Files for Failing<R> {
     }
 }
 
-impl<F: Read + Drop> Read for FailingFile<F> {
+impl<F: Read + Drop> Read for FailingFile<'_, F> {
     fn read(&mut self, buf: &mut [u8]) -> io::Result<usize> {
         self.countdown.spend()?;
         let most = buf.len().min(3);
@@ -132,7 +108,7 @@ impl<F: Read + Drop> Read for FailingFile<F> {
     }
 }
 
-impl<F: Write + Drop> Write for FailingFile<F> {
+impl<F: Write + Drop> Write for FailingFile<'_, F> {
     fn write(&mut self, buf: &[u8]) -> io::Result<usize> {
         self.countdown.spend()?;
         let most = buf.len().min(3);
@@ -144,14 +120,14 @@ impl<F: Write + Drop> Write for FailingFile<F> {
     }
 }
 
-impl<F: Seek + Drop> Seek for FailingFile<F> {
+impl<F: Seek + Drop> Seek for FailingFile<'_, F> {
     fn seek(&mut self, to: SeekFrom) -> io::Result<u64> {
         self.countdown.spend()?;
         self.file.seek(to)
     }
 }
 
-impl<F: OpenFile + Drop> OpenFile for FailingFile<F> {
+impl<F: OpenFile + Drop> OpenFile for FailingFile<'_, F> {
     fn metadata(&self) -> io::Result<Metadata> {
         self.countdown.spend()?;
         self.file.metadata()
