@@ -145,13 +145,12 @@ def copy_of(lines, function, clause=""):
 def answers_of(text, clause):
     """The answers of a proof file for a function that has that `ensures` alone: its goals aren't named for it then, and
     those of others aren't there."""
-    kept, dropped = [], ""
+    kept, is_dropped = [], False
     for line in text.split("\n"):
-        if line and not line[0].isspace():
-            name = re.split("[ :]", line.removeprefix("pub "))[0]
-            of = GOAL_OF.fullmatch(name)
-            dropped = name if of and of[2] != clause else ""
-        if not dropped:
+        if re.match(r"\w", line):
+            of = GOAL_OF.fullmatch(re.split("[ :]", line.removeprefix("pub "))[0])
+            is_dropped = of is not None and of[2] != clause
+        if not is_dropped:
             kept.append(GOAL_OF.sub(lambda it: it[1] if it[2] == clause else it[0], line))
     return "\n".join(kept)
 
