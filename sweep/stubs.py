@@ -14,6 +14,8 @@ PROOF = ("Invariants", "Answers", "Proof")
 CLAUSE = re.compile(r"^ *(requires|ensures|ghost)\*? (?:(\w+)\b)?")
 # a goal of an `ensures`, which is named for the clause if there are several
 GOAL_OF = re.compile(r"(?<![\w-])(returns[\w-]*)-clause-(\w+)(?![\w-])")
+# what a proof file says first of an answer: its name, which is that of its goal, unless others cite it
+DECLARED = re.compile(r"(?:pub )?(\S+) : goal\.(\S+)$")
 # a declaration that is refused: where a function's file has one, the prover doesn't run once more to offer answers
 NO_OFFER = "no_offer"
 
@@ -145,11 +147,13 @@ def copy_of(lines, function, clause=""):
 def answers_of(text, clause):
     """The answers of a proof file for a function that has that `ensures` alone: its goals aren't named for it then, and
     those of others aren't there."""
-    kept, is_dropped = [], False
+    kept, name, is_dropped = [], "", False
     for line in text.split("\n"):
-        if re.match(r"\w", line):
-            of = GOAL_OF.fullmatch(re.split("[ :]", line.removeprefix("pub "))[0])
+        if begins := DECLARED.match(line):
+            name, of = begins[1], GOAL_OF.fullmatch(begins[2])
             is_dropped = of is not None and of[2] != clause
+        elif re.match(r"\w", line) and line.split()[0] != name:
+            is_dropped = False
         if not is_dropped:
             kept.append(GOAL_OF.sub(lambda it: it[1] if it[2] == clause else it[0], line))
     return "\n".join(kept)
