@@ -15,7 +15,7 @@ CLAUSE = re.compile(r"^ *(requires|ensures|ghost)\*? (?:(\w+)\b)?")
 # a goal of an `ensures`, which is named for the clause if there are several
 GOAL_OF = re.compile(r"(?<![\w-])(returns[\w-]*)-clause-(\w+)(?![\w-])")
 # what a proof file says first of an answer: its name, which is that of its goal, unless others cite it
-DECLARED = re.compile(r"(?:pub )?(\S+) : goal\.(\S+)$")
+DECLARED = re.compile(r"(?:pub )?(\S+) :\s+goal\.(\S+)\s")
 # a declaration that is refused: where a function's file has one, the prover doesn't run once more to offer answers
 NO_OFFER = "no_offer"
 
@@ -147,16 +147,16 @@ def copy_of(lines, function, clause=""):
 def answers_of(text, clause):
     """The answers of a proof file for a function that has that `ensures` alone: its goals aren't named for it then, and
     those of others aren't there."""
-    kept, name, is_dropped = [], "", False
-    for line in text.split("\n"):
-        if begins := DECLARED.match(line):
-            name, of = begins[1], GOAL_OF.fullmatch(begins[2])
-            is_dropped = of is not None and of[2] != clause
-        elif re.match(r"\w", line) and line.split()[0] != name:
-            is_dropped = False
-        if not is_dropped:
-            kept.append(GOAL_OF.sub(lambda it: it[1] if it[2] == clause else it[0], line))
-    return "\n".join(kept)
+    kept, dropped = [], ""
+    for item in re.split(r"^(?=\w)", text, flags=re.MULTILINE):
+        if begins := DECLARED.match(item):
+            of = GOAL_OF.fullmatch(begins[2])
+            dropped = begins[1] if of and of[2] != clause else ""
+        elif not item.startswith(f"{dropped} "):
+            dropped = ""
+        if not dropped:
+            kept.append(GOAL_OF.sub(lambda it: it[1] if it[2] == clause else it[0], item))
+    return "".join(kept).rstrip("\n") + "\n"
 
 
 def stub(lines, function):
