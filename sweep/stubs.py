@@ -11,6 +11,11 @@ TYPE = re.compile(r"^(?:pub(?:\([a-z ]+\))? )?(?:struct|enum) (\w+)", re.MULTILI
 TYPES = re.compile(r"<[^<>]*>")
 # what the folder of a function's proof holds, beside the folders of other functions
 PROOF = ("Invariants", "Answers", "Proof")
+CLAUSE = re.compile(r"^ *(requires|ensures|ghost)\*? (?:(\w+)\b)?")
+# a goal of an `ensures`, which is named for the clause if there are several
+GOAL_OF = re.compile(r"(?<![\w-])(returns[\w-]*)-clause-(\w+)(?![\w-])")
+# what a proof file says first of an answer: its name, which is that of its goal, unless others cite it
+DECLARED = re.compile(r"(?:pub )?(\S+) :\s+goal\.(\S+)\s")
 # a declaration that is refused: where a function's file has one, the prover doesn't run once more to offer answers
 NO_OFFER = "no_offer"
 
@@ -107,6 +112,53 @@ def attributes(lines, function):
     return lines[first:function.first]
 
 
+class Clause(NamedTuple):
+    """A clause of a contract: its word, its name, if it has one, and its lines."""
+    word: str
+    name: str
+    first: int
+    last: int
+
+
+def clauses_of(lines, function):
+    begins = [at for at in range(function.first + 1, function.body) if CLAUSE.match(lines[at])]
+    ends = [at - 1 for at in begins[1:] + [function.body]]
+    return [Clause(*CLAUSE.match(lines[at]).groups(""), at, end) for at, end in zip(begins, ends)]
+
+
+def has_others(lines, function, clause):
+    """Whether a function has an `ensures` of that name and others."""
+    names = [it.name for it in clauses_of(lines, function) if it.word == "ensures"]
+    return clause in names and len(names) > 1
+
+
+def copy_of(lines, function, clause=""):
+    """The lines of a function with its attributes; with one `ensures` of its contract alone, if one is named. That one
+    loses its name: otherwise its goals would ask for a record of it, and the answers wouldn't fit."""
+    own = lines[:function.last + 1]
+    for it in reversed(clauses_of(lines, function) if clause else []):
+        if it.word == "ensures" and it.name == clause:
+            own[it.first] = own[it.first].replace(f" {clause} ", " ", 1)
+        elif it.word == "ensures":
+            del own[it.first:it.last + 1]
+    return [*attributes(lines, function), *own[function.first:]]
+
+
+def answers_of(text, clause):
+    """The answers of a proof file for a function that has that `ensures` alone: its goals aren't named for it then, and
+    those of others aren't there."""
+    kept, dropped = [], ""
+    for item in re.split(r"^(?=\w)", text, flags=re.MULTILINE):
+        if begins := DECLARED.match(item):
+            of = GOAL_OF.fullmatch(begins[2])
+            dropped = begins[1] if of and of[2] != clause else ""
+        elif not item.startswith(f"{dropped} "):
+            dropped = ""
+        if not dropped:
+            kept.append(GOAL_OF.sub(lambda it: it[1] if it[2] == clause else it[0], item))
+    return "".join(kept).rstrip("\n") + "\n"
+
+
 def stub(lines, function):
     """The lines of the function with a body that any type has."""
     column = lines[function.last].removesuffix("}")
@@ -139,16 +191,23 @@ def leave_a_hole(crate, folder, path):
         f"pub {name}_spec : {{M : Type 1}} → stated.statement M\n{name}_spec = ?\n", encoding="utf-8")
 
 
-def copy_proof(folder, path, copy):
-    """Gives the copy of a function what its proof is."""
-    name = re.compile(rf"\bproofs\.{re.escape(path.replace('::', '.'))}(?=[.\s])")
+def proof_of(folder, path, clause=""):
+    """The files of the proof of a function, by their paths below its folder, and their texts; if a copy has one clause
+    alone, with the answers for that one."""
     own = folder_of(folder, path)
     for it in proof_files(folder, path):
-        for file in [it] if it.is_file() else it.rglob("*.antt"):
-            to = folder_of(folder, copy) / file.relative_to(own)
-            to.parent.mkdir(parents=True, exist_ok=True)
-            text = name.sub(f"proofs.{copy.replace('::', '.')}", file.read_text(encoding="utf-8"))
-            to.write_text(text, encoding="utf-8")
+        for file in [it] if it.is_file() else sorted(it.rglob("*.antt")):
+            text = file.read_text(encoding="utf-8")
+            yield file.relative_to(own), answers_of(text, clause) if clause else text
+
+
+def copy_proof(folder, path, copy, clause=""):
+    """Gives the copy of a function what its proof is."""
+    name = re.compile(rf"\bproofs\.{re.escape(path.replace('::', '.'))}(?=[.\s])")
+    for file, text in list(proof_of(folder, path, clause)):
+        to = folder_of(folder, copy) / file
+        to.parent.mkdir(parents=True, exist_ok=True)
+        to.write_text(name.sub(f"proofs.{copy.replace('::', '.')}", text), encoding="utf-8")
 
 
 def ask_for_no_offer(folder, path):
