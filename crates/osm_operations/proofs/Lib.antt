@@ -1,3 +1,4 @@
+pub mod WorldLemmas
 pub mod RunLemmas
 pub mod AgreeLemmas
 pub mod RowLemmas

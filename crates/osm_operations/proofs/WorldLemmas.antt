@@ -1,0 +1,30 @@
+-- What a step of a world is, from what its run answered.
+use Rattle.std.proofs.Common.{◌≡◌, ℕ, List, Bool, true, Option, Some, None, inr, subst}
+use Rattle.std.specs.Prelude.{Result, Ok, Err}
+use Rattle.osm_model.specs.Filter.{FilterValue}
+use Rattle.osm_state.specs.declared.paths.Suffix.{Suffix}
+use Rattle.osm_store.specs.Stores.{files_of}
+use Rattle.osm_folder.specs.Names.{file_name_of}
+use Rattle.osm_folder.specs.declared.fault.RunFault.{RunFault}
+use Rattle.osm_folder.specs.declared.progress.Progress.{Progress}
+use Rattle.osm_folder.specs.declared.progress.Progress.TheVariants.{Before, Whole}
+use Rattle.osm_operations.specs.Steps.Stepping.{IsNumber, SpoiledAnswer, SpoiledTo, progress_reply}
+use Rattle.osm_operations.specs.declared.world.World.{World}
+
+by_answer : (given : FilterValue) (dir save : List ℕ) (n : ℕ) (s : Suffix) (w : Option (Result Progress RunFault)) (a b : World)
+    → IsNumber true a.published n → SpoiledAnswer given dir save (file_name_of dir n s) w (files_of a.store) (files_of b.store)
+    → b.lost ≡ a.lost → b.published ≡ a.published → SpoiledTo given dir save n s (progress_reply w) a b
+by_answer given dir save n s None a b number answer lost published = (inr (number, answer.0), answer.1, lost, published)
+by_answer given dir save n s (Some (Ok (Whole report))) a b number answer lost published =
+    record { number = number; step = answer; lost = lost; published = published }
+by_answer given dir save n s (Some (Ok (Before report fault))) a b number answer lost published =
+    record { number = number; step = answer; lost = lost; published = published }
+by_answer given dir save n s (Some (Err fault)) a b number answer lost published =
+    record { number = number; step = answer; lost = lost; published = published }
+
+-- a run over a spoiled file of a published number
+pub spoiled_to : (given : FilterValue) (dir save : List ℕ) (n : ℕ) (s : Suffix) (w : Option (Result Progress RunFault)) (a b : World) (t : Bool)
+    → IsNumber t a.published n → t ≡ true → SpoiledAnswer given dir save (file_name_of dir n s) w (files_of a.store) (files_of b.store)
+    → b.lost ≡ a.lost → b.published ≡ a.published → SpoiledTo given dir save n s (progress_reply w) a b
+spoiled_to given dir save n s w a b t number is answer lost published =
+    by_answer given dir save n s w a b (subst (λ (x : Bool). IsNumber x a.published n) is number) answer lost published
