@@ -204,13 +204,9 @@ fn stops_whole(alloc: Global, calls: u64) -> Option<bool> {
 
 #[test]
 fn a_run_that_fails_at_a_call_changes_nothing(rt: HostRuntime) {
-    let mut failed = 0;
     for calls in 0..40 {
-        match stops_whole(rt.alloc(), calls) {
-            None => break,
-            Some(is_whole) => assert!(rt; is_whole, "{calls}"),
-        }
-        failed += 1;
+        assert!(rt; stops_whole(rt.alloc(), calls) != Some(false), "{calls}");
     }
-    assert!(rt; failed > 9 && failed < 40);
+    assert!(rt; stops_whole(rt.alloc(), 9) == Some(true));
+    assert!(rt; stops_whole(rt.alloc(), 40).is_none());
 }
