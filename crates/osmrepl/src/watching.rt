@@ -23,6 +23,9 @@ pub(crate) struct Screen<'a> {
     course: Course,
     start: Option<Instant>,
     shown_at: Option<u32>,
+    // How many numbers are done at most. A run up to a faulty number begins anew, and its line
+    // doesn't go back.
+    most: u32,
 }
 
 impl<'a> Screen<'a> {
@@ -34,6 +37,7 @@ impl<'a> Screen<'a> {
             course: Course::new(),
             start: None,
             shown_at: None,
+            most: 0,
         }
     }
 
@@ -52,10 +56,14 @@ impl<'a> Screen<'a> {
         }
     }
 
-    // Writes the line again, unless it was written a moment ago.
+    // Writes the line again, unless it was written a moment ago or goes back.
     fn show(&mut self, done: u32, all: u32)
         requires { done ≤ all }
     {
+        if self.shown_at.is_some() && done <= self.most {
+            return;
+        }
+        self.most = done;
         let Some(millis) = self.millis() else {
             return;
         };
