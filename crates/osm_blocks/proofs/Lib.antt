@@ -1,3 +1,4 @@
+pub mod CallLemmas
 pub mod OftenLemmas
 pub mod PlaceLemmas
 pub mod FindLemmas

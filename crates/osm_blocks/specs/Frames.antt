@@ -1,9 +1,10 @@
 -- The frame of calls of a store that are as many as a file has blocks.
-use Rattle.std.specs.Prelude.{◌≡◌, ℕ, ◌≤◌, Result, IfErr, IsSome}
+use Rattle.std.specs.Prelude.{◌≡◌, ◌≤◌, Result, IfErr, IsSome}
 use Rattle.osm_store.specs.Files.{HasFailed, Spends}
 use Rattle.osm_store.specs.Frames.{IsKnown, StoreState}
 use Rattle.osm_blocks.specs.declared.fault.BlockFault.{BlockFault}
-use Rattle.osm_blocks.specs.declared.fault.BlockFault.TheVariants.{Device, LongLine, TooLarge, WantOfMemory}
+use Rattle.osm_blocks.specs.declared.fault.BlockFault.TheVariants.{Device, LongLine, TooLarge}
+use Rattle.osm_blocks.specs.declared.fault.BlockFault.TheVariants.{WantOfMemory}
 
 -- the device is the reason
 abbrev pub IsDeviceFault : BlockFault → Type 0

@@ -1,10 +1,11 @@
 -- How far a file was read.
-use Rattle.std.specs.Prelude.{◌≡◌, ℕ, ◌<◌, ◌≤◌, ◌+◌, List, ◌++◌, length, take, drop, Option, Some}
+use Rattle.std.specs.Prelude.{◌≡◌, ℕ, ◌<◌, ◌+◌, List, ◌++◌, length, take, drop, Option, Some}
 use Rattle.std.specs.Prelude.{None, Result, Ok, Err, Bool, ◌==◌}
 use Rattle.osm_reading.specs.Pieces.{Lacks, cut_at}
 use Rattle.osm_store.specs.Frames.{IsKnown, StoreState}
 use Rattle.osm_blocks.specs.declared.fault.BlockFault.{BlockFault}
-use Rattle.osm_blocks.specs.declared.fault.BlockFault.TheVariants.{Device, LongLine, TooLarge, WantOfMemory}
+use Rattle.osm_blocks.specs.declared.fault.BlockFault.TheVariants.{Device, LongLine, TooLarge}
+use Rattle.osm_blocks.specs.declared.fault.BlockFault.TheVariants.{WantOfMemory}
 
 -- the most bytes of a block: 1 MiB
 abbrev pub max_block : ℕ

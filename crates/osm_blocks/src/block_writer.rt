@@ -1,7 +1,8 @@
 //! A file that is written in blocks.
 
 ghost use Rattle.std.specs.Prelude.{◌≡◌, ℕ, ◌++◌, [], List, false, true, IfErr, OnOk};
-ghost use Rattle.osm_store.specs.Frames.{IsKnown};
+ghost use Rattle.osm_store.specs.Frames.{IsKnown, MakesAtMost};
+ghost use Rattle.osm_blocks.specs.Calls.{puts_of};
 ghost use Rattle.osm_blocks.specs.Frames.{IsDeviceFault, IsPlain, ReadsOften};
 ghost use Rattle.osm_blocks.specs.Writing.{IsWritten};
 
@@ -56,6 +57,9 @@ impl BlockWriter {
             → IsWritten (S.state store.new).stage self.new name (text ++ bytes.now)) }
         ensures refused { IfErr result IsPlain }
         ensures frame { ReadsOften IsDeviceFault (S.state store.old) (S.state store.new) result }
+        ensures calls { MakesAtMost IsDeviceFault (puts_of self.old)
+            (S.state store.old) (S.state store.new) result }
+        ensures keeps { self.new.is_writing ≡ self.old.is_writing }
     {
         if !self.is_writing {
             return Ok(());
@@ -75,6 +79,8 @@ impl BlockWriter {
         ensures empty { OnOk result (self.new.bytes ≡ []) }
         ensures refused { IfErr result IsPlain }
         ensures frame { ReadsOften IsDeviceFault (S.state store.old) (S.state store.new) result }
+        ensures calls { MakesAtMost IsDeviceFault 1 (S.state store.old) (S.state store.new) result }
+        ensures keeps { self.new.is_writing ≡ self.old.is_writing }
     {
         match store.append(self.buffer.as_slice()) {
             Ok(()) => {

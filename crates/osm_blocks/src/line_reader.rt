@@ -1,9 +1,11 @@
 //! Lines of a file that is read in blocks.
 
 ghost use Rattle.std.specs.Prelude.{◌≡◌, ℕ, ◌+◌, ◌<◌, ◌≤◌, ◌++◌, List, length, take};
-ghost use Rattle.std.specs.Prelude.{IfErr, IfOk, IfSome, None, OnOk, OnErr};
+ghost use Rattle.std.specs.Prelude.{IfErr, IfOk, IfSome, IsTrue, None, OnOk, OnErr};
 ghost use Rattle.osm_reading.specs.Pieces.{cut_at};
-ghost use Rattle.osm_store.specs.Frames.{IsKnown};
+ghost use Rattle.osm_store.specs.Files.{Spends};
+ghost use Rattle.osm_store.specs.Frames.{IsKnown, MakesAtMost};
+ghost use Rattle.osm_blocks.specs.Calls.{Advances, found_ahead, reads_ahead};
 ghost use Rattle.osm_blocks.specs.Frames.{IsDeviceFault, IsPlain, ReadsOften};
 ghost use Rattle.osm_blocks.specs.Places.{FindsEnd, FindsLine, HasFile, IsLine, Opens};
 ghost use Rattle.osm_blocks.specs.Places.{past};
@@ -54,6 +56,8 @@ impl LineReader {
         ensures refused { IfErr result IsPlain }
         ensures stage { (S.state store.new).stage ≡ (S.state store.old).stage }
         ensures frame { ReadsOften IsDeviceFault (S.state store.old) (S.state store.new) result }
+        ensures spends { OnOk result (Spends 1 (S.state store.old).left (S.state store.new).left) }
+        ensures calls { MakesAtMost IsDeviceFault 1 (S.state store.old) (S.state store.new) result }
     {
         let Some(buffer) = read_block(alloc, store, name, 0)? else {
             return Ok(None);
@@ -102,6 +106,9 @@ impl LineReader {
             → FindsLine file self.old self.new result }
         ensures stage { (S.state store.new).stage ≡ (S.state store.old).stage }
         ensures frame { ReadsOften IsDeviceFault (S.state store.old) (S.state store.new) result }
+        ensures calls { (file : List ℕ) → HasFile (S.state store.old) name.now file
+            → Advances IsDeviceFault (reads_ahead self.old file) (found_ahead self.new file)
+            (S.state store.old) (S.state store.new) result }
     {
         let mut searched = 0;
         'blocks: loop {
@@ -133,6 +140,7 @@ impl LineReader {
             → FindsEnd file self.old result }
         ensures stage { (S.state store.new).stage ≡ (S.state store.old).stage }
         ensures frame { ReadsOften IsDeviceFault (S.state store.old) (S.state store.new) result }
+        ensures calls { MakesAtMost IsDeviceFault 1 (S.state store.old) (S.state store.new) result }
     {
         if !self.unread().is_empty() {
             return Ok(false);
@@ -168,6 +176,10 @@ impl LineReader {
             → ReadsMore file self.old self.new result }
         ensures stage { (S.state store.new).stage ≡ (S.state store.old).stage }
         ensures frame { ReadsOften IsDeviceFault (S.state store.old) (S.state store.new) result }
+        ensures calls { MakesAtMost IsDeviceFault 1 (S.state store.old) (S.state store.new) result }
+        ensures fewer { (file : List ℕ) → HasFile (S.state store.old) name.now file
+            → IfOk result (λ is_more. IsTrue is_more
+            → reads_ahead self.new file + 1 ≤ reads_ahead self.old file) }
     {
         let Some(block) = read_block(alloc, store, name, self.from)? else {
             return Ok(false);
@@ -234,6 +246,8 @@ fn read_block<S: Store>(
     ensures refused { IfErr result IsPlain }
     ensures stage { (S.state store.new).stage ≡ (S.state store.old).stage }
     ensures frame { ReadsOften IsDeviceFault (S.state store.old) (S.state store.new) result }
+    ensures spends { OnOk result (Spends 1 (S.state store.old).left (S.state store.new).left) }
+    ensures calls { MakesAtMost IsDeviceFault 1 (S.state store.old) (S.state store.new) result }
 {
     match store.read_at(alloc, name, from, MAX_BLOCK) {
         Ok(block) => Ok(block),

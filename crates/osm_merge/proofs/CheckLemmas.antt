@@ -159,10 +159,10 @@ lists_stop told place o (BadSave line) opened none = record {
   there = opened.there;
   none = no_save opened.file (save_is opened.file (left_of place opened.file) o opened.head ∙ none);
 }
-lists_stop told place o LongLine opened none = λ short. record {
+lists_stop told place o LongLine opened none = record {
   file = opened.file;
   there = opened.there;
-  none = no_save opened.file (save_is opened.file (left_of place opened.file) o opened.head ∙ none short);
+  none = no_save opened.file (save_is opened.file (left_of place opened.file) o opened.head ∙ none);
 }
 lists_stop told place o TooLarge opened huge = record { file = opened.file; there = opened.there; huge = huge }
 lists_stop told place o NoSave opened bad = absurd bad

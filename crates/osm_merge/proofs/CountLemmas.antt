@@ -12,7 +12,6 @@ use Rattle.osm_reading.proofs.PieceLemmas.{cut_takes}
 use Rattle.osm_save.specs.Reading.{count_at}
 use Rattle.osm_save.specs.Save.{count_text}
 use Rattle.osm_save.proofs.CountLemmas.{TakesCount, count_takes}
-use Rattle.osm_merge.specs.Faults.{AreLinesShort}
 use Rattle.osm_merge.specs.Laying.{Appends, IsFew, LaysBelow, next_at}
 use Rattle.osm_merge.proofs.LineLemmas.{none_by, not_long}
 use Rattle.osm_merge.proofs.ObjectLemmas.{next_long}
@@ -43,9 +42,9 @@ plus_none c cs = added-no_increment (c ∷ cs) ∙ ap (λ (l : List Counted). c 
 pub plus_nothing : (m : Counted) (ms : List Counted) → added (m ∷ ms) [] ≡ (m ∷ []) ++ added ms []
 plus_nothing m ms = added-no_count (m ∷ ms) ∙ ap (λ (l : List Counted). m ∷ l) (sym (added-no_count ms))
 
-pub count_long : (most : ℕ) (last : Option ℕ) (bytes : List ℕ) → most ≤ 999999999999999999 → IsLong bytes → AreLinesShort
+pub count_long : (most : ℕ) (last : Option ℕ) (bytes : List ℕ) → most ≤ 999999999999999999 → IsLong bytes
     → next_at (count_at most) last bytes ≡ None
-count_long most last bytes small long short = next_long (count_at most) last bytes (λ line after cut. none_by (count_at most last line) (λ e is.
+count_long most last bytes small long = next_long (count_at most) last bytes (λ line after cut. none_by (count_at most last line) (λ e is.
     let t : TakesCount most last line e = count_takes most last line e is in
     let number : e.0 < 2 ^ 32 = t.number.high in
     let count : e.1 ≤ most = t.few in

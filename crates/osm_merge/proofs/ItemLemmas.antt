@@ -33,6 +33,27 @@ pub record Merging {E X K : Type 0} (lay : List E → List X → List X) (text :
   pub read : (file : List ℕ) → Has file → Items key item many (begun file) i values last (now file)
   pub frame : ReadsOften {T = Unit {0}} IsDeviceFault a b (Ok tt)
 
+-- the next line and its value
+pub next_parts : {X K : Type 0} (item : Option K → List ℕ → Option X) (last : Option K) (bytes after : List ℕ) (x : X)
+    → next_at item last bytes ≡ Some (x, after)
+    → (line : List ℕ) × (◌≡◌ {A = Option (List ℕ × List ℕ)} (cut_at 10 bytes) (Some (line, after))) × (item last line ≡ Some x)
+unfolding next_at
+next_parts {X} {K} item last bytes after x e = by_cut (cut_at 10 bytes) e
+  where
+    by_item : (line rest : List ℕ) (o : Option X) → item last line ≡ o → and_then {A = X} {B = X × List ℕ} o (λ y. Some (y, rest)) ≡ Some (x, after)
+        → (l : List ℕ) × (◌≡◌ {A = Option (List ℕ × List ℕ)} (Some (line, rest)) (Some (l, after))) × (item last l ≡ Some x)
+    by_item line rest None is e = absurd cc
+    by_item line rest (Some y) is e =
+        let both : ◌≡◌ {A = X × List ℕ} (y, rest) (x, after) = same_Some (y, rest) (x, after) e in
+        let value : y ≡ x = ap (λ (p : X × List ℕ). p.0) both in
+        let left : rest ≡ after = ap (λ (p : X × List ℕ). p.1) both in
+        (line, rw left refl, rw (← value) is)
+
+    by_cut : (o : Option (List ℕ × List ℕ)) → and_then {A = List ℕ × List ℕ} {B = X × List ℕ} o (λ l. and_then {A = X} {B = X × List ℕ} (item last l.0) (λ y. Some (y, l.1))) ≡ Some (x, after)
+        → (l : List ℕ) × (◌≡◌ {A = Option (List ℕ × List ℕ)} o (Some (l, after))) × (item last l ≡ Some x)
+    by_cut None e = absurd cc
+    by_cut (Some l) e = by_item l.0 l.1 (item last l.0) refl e
+
 module _ {E X K : Type 0} (lay : List E → List X → List X) (text : X → List ℕ) (key : X → K) (item : Option K → List ℕ → Option X) where
   pub texts-append : (xs ys : List X) → ended (map text xs) ++ ended (map text ys) ≡ ended (map text (xs ++ ys))
   texts-append xs ys = sym (ap ended (map-append text xs ys) ∙ ended-append (map text xs) (map text ys))
@@ -51,25 +72,6 @@ module _ {E X K : Type 0} (lay : List E → List X → List X) (text : X → Lis
     frame = frame;
   }
 
-  next_parts : (last : Option K) (bytes after : List ℕ) (x : X) → next_at item last bytes ≡ Some (x, after)
-      → (line : List ℕ) × (◌≡◌ {A = Option (List ℕ × List ℕ)} (cut_at 10 bytes) (Some (line, after))) × (item last line ≡ Some x)
-  unfolding next_at
-  next_parts last bytes after x e = by_cut (cut_at 10 bytes) e
-    where
-      by_item : (line rest : List ℕ) (o : Option X) → item last line ≡ o → and_then {A = X} {B = X × List ℕ} o (λ y. Some (y, rest)) ≡ Some (x, after)
-          → (l : List ℕ) × (◌≡◌ {A = Option (List ℕ × List ℕ)} (Some (line, rest)) (Some (l, after))) × (item last l ≡ Some x)
-      by_item line rest None is e = absurd cc
-      by_item line rest (Some y) is e =
-          let both : ◌≡◌ {A = X × List ℕ} (y, rest) (x, after) = same_Some (y, rest) (x, after) e in
-          let value : y ≡ x = ap (λ (p : X × List ℕ). p.0) both in
-          let left : rest ≡ after = ap (λ (p : X × List ℕ). p.1) both in
-          (line, rw left refl, rw (← value) is)
-
-      by_cut : (o : Option (List ℕ × List ℕ)) → and_then {A = List ℕ × List ℕ} {B = X × List ℕ} o (λ l. and_then {A = X} {B = X × List ℕ} (item last l.0) (λ y. Some (y, l.1))) ≡ Some (x, after)
-          → (l : List ℕ) × (◌≡◌ {A = Option (List ℕ × List ℕ)} o (Some (l, after))) × (item last l ≡ Some x)
-      by_cut None e = absurd cc
-      by_cut (Some l) e = by_item l.0 l.1 (item last l.0) refl e
-
   pub merging_more : (many : ℕ) (es rest after : List E) (i : ℕ) (last : Option K) (count k : ℕ) (x : X) (Has : List ℕ → Type 0) (begun now new : List ℕ → List ℕ)
       (a b c : StoreState) (w v u : Waiting) → i < many
       → Merging lay text key item many es i last rest count Has begun now a w b v
@@ -86,7 +88,7 @@ module _ {E X K : Type 0} (lay : List E → List X → List X) (text : X → Lis
         (writes_both a b c w v u tt (ended (map text h.put)) (ended (map text step.put)) h.frame h.out step.out);
     counted = (let both = length-append h.put step.put in let m = h.counted in let n = step.many_are in omega (arith, both, m, n));
     few = (let f = h.few in let g = step.few in omega (arith, f, g));
-    read = λ file has. (let p = next_parts last (now file) (new file) x (next file has) in
+    read = λ file has. (let p = next_parts item last (now file) (new file) x (next file has) in
         items_more key item many (begun file) i h.values last (now file) p.0 (new file) x lt (h.read file has) p.1 p.2);
     frame = often_then IsDeviceFault a b c tt tt tt h.frame frame;
   }

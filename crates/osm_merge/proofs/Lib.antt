@@ -1,4 +1,6 @@
+pub mod CallLemmas
 pub mod LineLemmas
+pub mod LineLengthLemmas
 pub mod OpeningLemmas
 pub mod FrameLemmas
 pub mod LayLemmas

@@ -15,11 +15,12 @@ use Rattle.osm_reading.proofs.PieceLemmas.{cut_takes}
 use Rattle.osm_save.specs.Reading.{object_at}
 use Rattle.osm_save.proofs.ObjectLemmas.{TakesObject, object_takes}
 use Rattle.osm_opl.specs.Written.{line_text}
-use Rattle.osm_merge.specs.Faults.{AreLinesShort, IsBadLine}
+use Rattle.osm_merge.specs.Faults.{IsBadLine}
 use Rattle.osm_merge.specs.Laying.{next_at}
 use Rattle.osm_merge.specs.Reading.{Refuses}
 use Rattle.osm_merge.specs.declared.fault.MergeFault.{MergeFault}
 use Rattle.osm_merge.specs.declared.fault.MergeFault.TheVariants.{BadSave, Changed, LongLine, NoSave, ReadFault, TooLarge, WantOfMemory, WriteFault}
+use Rattle.osm_merge.proofs.LineLengthLemmas.{lines_are_short}
 use Rattle.osm_merge.proofs.LineLemmas.{none_by, not_long}
 
 pub put_before-append : (z : Option ChangeValue) (cs : List ChangeValue) → put_before z cs ≡ put_before z [] ++ cs
@@ -68,10 +69,10 @@ next_long {X} {K} item last bytes none = by_cut (cut_at 10 bytes) refl
     by_cut None cut = refl
     by_cut (Some l) cut = let nothing = none l.0 l.1 cut in rw nothing refl
 
-pub object_long : (f : FilterValue) (last : Option Key) (bytes : List ℕ) → IsLong bytes → AreLinesShort → next_at (object_at f) last bytes ≡ None
-object_long f last bytes long short = next_long (object_at f) last bytes (λ line after cut. none_by (object_at f last line) (λ c e.
+pub object_long : (f : FilterValue) (last : Option Key) (bytes : List ℕ) → IsLong bytes → next_at (object_at f) last bytes ≡ None
+object_long f last bytes long = next_long (object_at f) last bytes (λ line after cut. none_by (object_at f last line) (λ c e.
     let t : TakesObject f last line c = object_takes f last line c e in
-    not_long bytes (line_text c) after long (cut_takes 10 bytes line after cut ∙ ap (λ (l : List ℕ). l ++ 10 ∷ after) t.text) (short c t.good.object)))
+    not_long bytes (line_text c) after long (cut_takes 10 bytes line after cut ∙ ap (λ (l : List ℕ). l ++ 10 ∷ after) t.text) (lines_are_short c t.good.object)))
 
 pub bad_refuses : {A : Type 0} (file : List ℕ) (fault : MergeFault) (r : Option A) → IsBadLine fault → r ≡ None → Refuses file fault r
 bad_refuses file (BadSave line) r bad none = none

@@ -5,12 +5,12 @@ use Rattle.osm_save.specs.Head.{head_lines, head_of}
 use Rattle.osm_save.specs.Lines.{ended}
 use Rattle.osm_save.specs.Save.{SpellsSave}
 use Rattle.osm_save.specs.declared.save.Saved.{Saved}
-use Rattle.osm_merge.specs.Faults.{AreLinesShort}
 use Rattle.osm_merge.specs.Mirrors.{totals_of}
 use Rattle.osm_merge.specs.declared.check.Checked.{Checked}
 use Rattle.osm_merge.specs.declared.opening.Opening.{Opening}
 use Rattle.osm_merge.specs.declared.fault.MergeFault.{MergeFault}
-use Rattle.osm_merge.specs.declared.fault.MergeFault.TheVariants.{BadSave, Changed, ReadFault, WriteFault}
+use Rattle.osm_merge.specs.declared.fault.MergeFault.TheVariants.{BadSave, Changed, ReadFault}
+use Rattle.osm_merge.specs.declared.fault.MergeFault.TheVariants.{WriteFault}
 use Rattle.osm_merge.specs.declared.fault.MergeFault.TheVariants.{LongLine, NoSave, TooLarge}
 use Rattle.osm_merge.specs.declared.fault.MergeFault.TheVariants.{WantOfMemory}
 
@@ -49,12 +49,12 @@ pub record IsHugeFile (told : Option (List ℕ)) : Type 0 where
   pub there : told ≡ Some file
   pub huge : IsHuge file
 
--- why a file isn't found to be a save text: a line is bad only if the file saves nothing, and too
--- long too, unless some object has such a line
+-- why a file isn't found to be a save text: a line is bad or too long only if the file saves
+-- nothing
 abbrev pub CheckStops : Option (List ℕ) → MergeFault → Type 0
 CheckStops told NoSave = told ≡ None
 CheckStops told (BadSave line) = IsNoSave told
-CheckStops told LongLine = AreLinesShort → IsNoSave told
+CheckStops told LongLine = IsNoSave told
 CheckStops told TooLarge = IsHugeFile told
 CheckStops told Changed = ⊥
 CheckStops told ReadFault = Unit {0}

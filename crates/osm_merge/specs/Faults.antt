@@ -1,14 +1,11 @@
 -- Why a save text isn't checked or merged.
-use Rattle.std.specs.Prelude.{◌≡◌, ◌≤◌, length}
-use Rattle.osm_blocks.specs.Places.{max_line}
+use Rattle.std.specs.Prelude.{◌≡◌}
 use Rattle.osm_blocks.specs.declared.fault.BlockFault.{BlockFault}
 use Rattle.osm_blocks.specs.declared.fault.BlockFault.TheVariants as blocks
-use Rattle.osm_mirror.specs.Mirror.{IsObject}
-use Rattle.osm_model.specs.Change.{ChangeValue}
-use Rattle.osm_opl.specs.Written.{line_text}
 use Rattle.osm_merge.specs.declared.fault.MergeFault.{MergeFault}
 use Rattle.osm_merge.specs.declared.fault.MergeFault.TheVariants.{BadSave, LongLine, ReadFault}
-use Rattle.osm_merge.specs.declared.fault.MergeFault.TheVariants.{TooLarge, WantOfMemory, WriteFault}
+use Rattle.osm_merge.specs.declared.fault.MergeFault.TheVariants.{TooLarge, WantOfMemory}
+use Rattle.osm_merge.specs.declared.fault.MergeFault.TheVariants.{WriteFault}
 
 -- the fault of a file that is read in blocks, as one of a merge
 abbrev pub IsCausedBy : BlockFault → MergeFault → Type 0
@@ -34,7 +31,3 @@ IsPlain ReadFault = Unit {0}
 IsPlain WriteFault = Unit {0}
 IsPlain WantOfMemory = Unit {0}
 IsPlain fault = ⊥
-
--- no object has a longer line than a line of a file can be
-abbrev pub AreLinesShort : Type 0
-AreLinesShort = (c : ChangeValue) → IsObject c → length (line_text c) ≤ max_line

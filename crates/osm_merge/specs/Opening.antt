@@ -3,7 +3,8 @@ use Rattle.std.specs.Prelude.{◌≡◌, ℕ, List, drop, Option, None, Some}
 use Rattle.osm_blocks.specs.Places.{Place, left_of, past}
 use Rattle.osm_save.specs.Reading.{head_at}
 use Rattle.osm_merge.specs.declared.fault.MergeFault.{MergeFault}
-use Rattle.osm_merge.specs.declared.fault.MergeFault.TheVariants.{BadSave, NoSave, ReadFault, WriteFault}
+use Rattle.osm_merge.specs.declared.fault.MergeFault.TheVariants.{BadSave, NoSave, ReadFault}
+use Rattle.osm_merge.specs.declared.fault.MergeFault.TheVariants.{WriteFault}
 use Rattle.osm_merge.specs.declared.fault.MergeFault.TheVariants.{WantOfMemory}
 use Rattle.osm_merge.specs.declared.opening.Opening.{Opening}
 

@@ -3,9 +3,9 @@ use Rattle.std.specs.Prelude.{◌≡◌, ℕ, ◌+◌, List, length, take, Optio
 use Rattle.std.specs.Prelude.{Bool, ◌==◌}
 use Rattle.osm_blocks.specs.Places.{IsHuge, IsLong, Place, left_of, past}
 use Rattle.osm_reading.specs.Pieces.{cut_at}
-use Rattle.osm_merge.specs.Faults.{AreLinesShort}
 use Rattle.osm_merge.specs.declared.fault.MergeFault.{MergeFault}
-use Rattle.osm_merge.specs.declared.fault.MergeFault.TheVariants.{BadSave, Changed, ReadFault, WriteFault}
+use Rattle.osm_merge.specs.declared.fault.MergeFault.TheVariants.{BadSave, Changed, ReadFault}
+use Rattle.osm_merge.specs.declared.fault.MergeFault.TheVariants.{WriteFault}
 use Rattle.osm_merge.specs.declared.fault.MergeFault.TheVariants.{LongLine, NoSave, TooLarge}
 use Rattle.osm_merge.specs.declared.fault.MergeFault.TheVariants.{WantOfMemory}
 
@@ -23,11 +23,11 @@ FindsNext file old new (Err ReadFault) = Unit {0}
 FindsNext file old new (Err WriteFault) = Unit {0}
 FindsNext file old new (Err WantOfMemory) = Unit {0}
 
--- why nothing is read: a bad line only if nothing can be read, a long one too, unless some object
--- has such a line, and a large file only if it is
+-- why nothing is read: a bad line or a long one only if nothing can be read, and a large file only
+-- if it is
 abbrev pub Refuses : {A : Type 0} → List ℕ → MergeFault → Option A → Type 0
 Refuses file (BadSave line) reading = reading ≡ None
-Refuses file LongLine reading = AreLinesShort → reading ≡ None
+Refuses file LongLine reading = reading ≡ None
 Refuses file TooLarge reading = IsHuge file
 Refuses file NoSave reading = ⊥
 Refuses file Changed reading = ⊥

@@ -1,7 +1,9 @@
 //! Save texts of any size, checked in blocks.
 
-ghost use Rattle.std.specs.Prelude.{IfErr, IfOk};
-ghost use Rattle.osm_store.specs.Frames.{IsKnown};
+ghost use Rattle.std.specs.Prelude.{IfErr, IfOk, OnOk};
+ghost use Rattle.osm_store.specs.Files.{Spends};
+ghost use Rattle.osm_store.specs.Frames.{IsKnown, MakesAtMost};
+ghost use Rattle.osm_merge.specs.Calls.{bytes_in, check_calls};
 ghost use Rattle.osm_blocks.specs.Frames.{ReadsOften};
 ghost use Rattle.osm_merge.specs.Checking.{CheckStops, IsChecked};
 ghost use Rattle.osm_merge.specs.Faults.{IsDeviceFault};
@@ -33,6 +35,10 @@ pub fn check_save<S: Store>(alloc: Global, store: &mut S, name: &str) -> Result<
     ensures refused { IfErr result (λ fault. IsKnown (S.state store.old)
         → CheckStops ((S.state store.old).files name.now) fault) }
     ensures frame { ReadsOften IsDeviceFault (S.state store.old) (S.state store.new) result }
+    ensures spends { OnOk result (Spends 1 (S.state store.old).left (S.state store.new).left) }
+    ensures calls { IsKnown (S.state store.old) → MakesAtMost IsDeviceFault
+        (check_calls (bytes_in ((S.state store.old).files name.now)))
+        (S.state store.old) (S.state store.new) result }
 {
     let (mut source, opening) = match open_save(alloc, store, name) {
         Ok(opened) => opened,

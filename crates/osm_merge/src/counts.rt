@@ -2,9 +2,11 @@
 
 ghost use Rattle.std.specs.Prelude.{◌≡◌, ℕ, ◌+◌, ◌++◌, ◌≤◌, ◌<◌, ◌∷◌, List, [], MatchOption};
 ghost use Rattle.std.specs.Prelude.{length};
-ghost use Rattle.std.specs.Prelude.{map, None, Some, IfErr, IfOk};
+ghost use Rattle.std.specs.Prelude.{map, None, Some, IfErr, IfOk, OnOk};
 ghost use Rattle.std.specs.List.{AllByRecursion};
-ghost use Rattle.osm_store.specs.Frames.{IsKnown};
+ghost use Rattle.osm_store.specs.Frames.{IsKnown, MakesAtMost};
+ghost use Rattle.osm_blocks.specs.Calls.{Advances, puts_of, reads_ahead};
+ghost use Rattle.osm_merge.specs.Calls.{calls_ahead};
 ghost use Rattle.osm_blocks.specs.Frames.{ReadsOften};
 ghost use Rattle.osm_blocks.specs.Places.{HasFile, left_of};
 ghost use Rattle.osm_net.specs.Laid.{added};
@@ -41,6 +43,10 @@ fn next_count<S: Store>(
     ensures limit { IfOk result (λ c. c.1 ≤ most) }
     ensures stage { (S.state store.new).stage ≡ (S.state store.old).stage }
     ensures frame { ReadsOften IsDeviceFault (S.state store.old) (S.state store.new) result }
+    ensures calls { (file : List ℕ) → HasFile (S.state store.old) name.now file
+        → Advances IsDeviceFault (reads_ahead source.old file)
+        (λ _. reads_ahead source.new file)
+        (S.state store.old) (S.state store.new) result }
 {
     let length = match source.next(alloc, store, name) {
         Ok(length) => length,
@@ -129,6 +135,9 @@ fn put_count<'a, S: Store>(
     ensures few { IfOk result (λ r. AllByRecursion IsFew r.0.now) }
     ensures refused { IfErr result IsPlain }
     ensures frame { ReadsOften IsDeviceFault (S.state store.old) (S.state store.new) result }
+    ensures calls { MakesAtMost IsDeviceFault (puts_of writer.old)
+        (S.state store.old) (S.state store.new) result }
+    ensures keeps { OnOk result (writer.new.is_writing ≡ writer.old.is_writing) }
 {
     out.clear();
     let (rest, many) = match lay_count(increments, count, out) {
@@ -152,6 +161,9 @@ fn put_rest<S: Store>(
         (Writes (S.state store.old) writer.old (S.state store.new) writer.new)) }
     ensures refused { IfErr result IsPlain }
     ensures frame { ReadsOften IsDeviceFault (S.state store.old) (S.state store.new) result }
+    ensures calls { MakesAtMost IsDeviceFault (puts_of writer.old)
+        (S.state store.old) (S.state store.new) result }
+    ensures keeps { OnOk result (writer.new.is_writing ≡ writer.old.is_writing) }
 {
     out.clear();
     let many = match lay_rest(increments, out) {
@@ -188,6 +200,11 @@ pub(crate) fn merge_counts<S: Store>(
         → HasFile (S.state store.old) name.now file → Refuses file fault
         (items_at (λ e. e.0) (count_at most) many None (left_of source.old file))) }
     ensures frame { ReadsOften IsDeviceFault (S.state store.old) (S.state store.new) result }
+    ensures calls { (file : List ℕ) → HasFile (S.state store.old) name.now file
+        → Advances IsDeviceFault (calls_ahead writer.old source.old file + puts_of writer.old)
+        (λ _. calls_ahead writer.old source.new file)
+        (S.state store.old) (S.state store.new) result }
+    ensures keeps { OnOk result (writer.new.is_writing ≡ writer.old.is_writing) }
 {
     let mut out = Vec::new(alloc);
     let mut last = None;

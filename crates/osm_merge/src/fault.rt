@@ -33,8 +33,8 @@ pub enum MergeFault {
     /// A line of the file has more than 256 MiB.
     #[error("LongLine")]
     LongLine,
-    /// The file has more bytes than 64 bits count, or the new one would have more objects than a save
-    /// text can have.
+    /// The file has more bytes than 64 bits count, or the new one would have more objects than a
+    /// save text can have.
     #[error("TooLarge")]
     TooLarge,
     /// The file changed between the two passes over it.

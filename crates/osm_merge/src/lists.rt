@@ -1,10 +1,13 @@
 //! The lists of a save text, with net changes laid over them.
 
-ghost use Rattle.std.specs.Prelude.{◌≡◌, ℕ, ◌++◌, ◌≤◌, ◌∷◌, List, [], length, None, Some, IfErr};
+ghost use Rattle.std.specs.Prelude.{◌≡◌, ℕ, ◌+◌, ◌*◌, ◌++◌, ◌≤◌, ◌∷◌, List, [], length, None, Some};
+ghost use Rattle.std.specs.Prelude.{IfErr};
 ghost use Rattle.std.specs.Prelude.{IfOk};
 ghost use Rattle.std.specs.Prelude.{OnOk, codes, decimal};
 ghost use Rattle.std.specs.List.{AllByRecursion};
 ghost use Rattle.osm_opl.specs.Written.{line_text};
+ghost use Rattle.osm_store.specs.Frames.{MakesAtMost};
+ghost use Rattle.osm_blocks.specs.Calls.{Advances, puts_of};
 ghost use Rattle.osm_blocks.specs.Frames.{ReadsOften};
 ghost use Rattle.osm_blocks.specs.Places.{HasFile, left_of};
 ghost use Rattle.osm_net.specs.Laid.{added, laid_over};
@@ -12,6 +15,7 @@ ghost use Rattle.osm_save.specs.Lines.{ended};
 ghost use Rattle.osm_save.specs.Reading.{counts_at, mirror_at, numbered_at, objects_at};
 ghost use Rattle.osm_save.specs.Save.{count_text, saved_with};
 ghost use Rattle.osm_model.specs.Limits.{max_sequence};
+ghost use Rattle.osm_merge.specs.Calls.{calls_ahead};
 ghost use Rattle.osm_merge.specs.Faults.{IsDeviceFault, IsPlain};
 ghost use Rattle.osm_merge.specs.Laying.{IsFew, MergesList, Writes};
 ghost use Rattle.osm_merge.specs.Mirrors.{MergesBoth, MergesMirror, both_at};
@@ -54,6 +58,9 @@ fn put_header<S: Store>(
         (ended ((word.now ++ decimal total) ∷ []))) }
     ensures refused { IfErr result IsPlain }
     ensures frame { ReadsOften IsDeviceFault (S.state store.old) (S.state store.new) result }
+    ensures calls { MakesAtMost IsDeviceFault (puts_of writer.old)
+        (S.state store.old) (S.state store.new) result }
+    ensures keeps { OnOk result (writer.new.is_writing ≡ writer.old.is_writing) }
 {
     let mut line = Vec::new(alloc);
     let Ok(()) = write_numbered(word, total, &mut line) else {
@@ -86,6 +93,11 @@ fn begin_list<S: Store>(
         (S.state store.new) writer.new
         (ended ((word.now ++ decimal total) ∷ []))) }
     ensures frame { ReadsOften IsDeviceFault (S.state store.old) (S.state store.new) result }
+    ensures calls { (file : List ℕ) → HasFile (S.state store.old) name.now file
+        → Advances IsDeviceFault (calls_ahead writer.old source.old file)
+        (λ _. calls_ahead writer.old source.new file)
+        (S.state store.old) (S.state store.new) result }
+    ensures keeps { OnOk result (writer.new.is_writing ≡ writer.old.is_writing) }
 {
     let many = match source.numbered(alloc, store, name, word, most) {
         Ok(many) => many,
@@ -121,6 +133,11 @@ pub(crate) fn merge_object_list<S: Store>(
         → HasFile (S.state store.old) name.now file → Refuses file fault
         (objects_at filter.now most (left_of source.old file))) }
     ensures frame { ReadsOften IsDeviceFault (S.state store.old) (S.state store.new) result }
+    ensures calls { (file : List ℕ) → HasFile (S.state store.old) name.now file
+        → Advances IsDeviceFault (calls_ahead writer.old source.old file + puts_of writer.old)
+        (λ _. calls_ahead writer.old source.new file)
+        (S.state store.old) (S.state store.new) result }
+    ensures keeps { OnOk result (writer.new.is_writing ≡ writer.old.is_writing) }
 {
     let many = match begin_list(alloc, store, name, source, writer, b"objects ", most, total) {
         Ok(many) => many,
@@ -158,6 +175,11 @@ pub(crate) fn merge_count_list<S: Store>(
         → HasFile (S.state store.old) name.now file → Refuses file fault
         (counts_at word.now most (left_of source.old file))) }
     ensures frame { ReadsOften IsDeviceFault (S.state store.old) (S.state store.new) result }
+    ensures calls { (file : List ℕ) → HasFile (S.state store.old) name.now file
+        → Advances IsDeviceFault (calls_ahead writer.old source.old file + puts_of writer.old)
+        (λ _. calls_ahead writer.old source.new file)
+        (S.state store.old) (S.state store.new) result }
+    ensures keeps { OnOk result (writer.new.is_writing ≡ writer.old.is_writing) }
 {
     let many = match begin_list(alloc, store, name, source, writer, word, most, total) {
         Ok(many) => many,
@@ -176,6 +198,8 @@ fn put_end<S: Store>(store: &mut S, writer: &mut BlockWriter) -> Result<(), Merg
         (codes "end" ++ 10 ∷ [])) }
     ensures refused { IfErr result IsPlain }
     ensures frame { ReadsOften IsDeviceFault (S.state store.old) (S.state store.new) result }
+    ensures calls { MakesAtMost IsDeviceFault (puts_of writer.old)
+        (S.state store.old) (S.state store.new) result }
 {
     match writer.put(store, b"end\n") {
         Ok(()) => Ok(()),
@@ -208,6 +232,10 @@ fn merge_both<S: Store>(
         → HasFile (S.state store.old) name.now file → Refuses file fault
         (both_at most (left_of source.old file))) }
     ensures frame { ReadsOften IsDeviceFault (S.state store.old) (S.state store.new) result }
+    ensures calls { (file : List ℕ) → HasFile (S.state store.old) name.now file
+        → Advances IsDeviceFault (calls_ahead writer.old source.old file + 2 * puts_of writer.old)
+        (λ _. 0)
+        (S.state store.old) (S.state store.new) result }
 {
     let total = totals.users;
     let many = match merge_count_list(
@@ -272,6 +300,10 @@ pub(crate) fn merge_lists<S: Store>(
         (mirror_at opening.now.version opening.now.head opening.now.filter
         (left_of source.old file))) }
     ensures frame { ReadsOften IsDeviceFault (S.state store.old) (S.state store.new) result }
+    ensures calls { (file : List ℕ) → HasFile (S.state store.old) name.now file
+        → Advances IsDeviceFault (calls_ahead writer.old source.old file + 3 * puts_of writer.old)
+        (λ _. 0)
+        (S.state store.old) (S.state store.new) result }
 {
     let most = objects_limit(opening.version, opening.head.number);
     let filter = &opening.filter;

@@ -1,10 +1,12 @@
 //! A save text merged with net changes.
 
 ghost use Rattle.std.specs.Prelude.{IsTrue, false, ◌≡◌, ℕ, ◌++◌, ◌≤◌, List, [], Some, IfErr, IfOk};
-ghost use Rattle.std.specs.Prelude.{OnErr, OnOk};
+ghost use Rattle.std.specs.Prelude.{◌+◌, length, OnErr, OnOk};
 ghost use Rattle.std.specs.List.{AllByRecursion};
 ghost use Rattle.osm_model.specs.Limits.{max_sequence};
-ghost use Rattle.osm_store.specs.Frames.{IsKnown};
+ghost use Rattle.osm_store.specs.Frames.{IsKnown, MakesAtMost};
+ghost use Rattle.osm_blocks.specs.Calls.{Advances, puts_of, reads_ahead};
+ghost use Rattle.osm_merge.specs.Calls.{bytes_in, check_calls, merge_calls};
 ghost use Rattle.osm_blocks.specs.Frames.{ReadsOften};
 ghost use Rattle.osm_blocks.specs.Places.{HasFile, left_of};
 ghost use Rattle.osm_save.specs.Head.{head_lines};
@@ -16,7 +18,7 @@ ghost use Rattle.osm_merge.specs.Faults.{IsDeviceFault, IsPlain};
 ghost use Rattle.osm_merge.specs.Laying.{IsFew, Writes};
 ghost use Rattle.osm_merge.specs.Checking.{CheckStops};
 ghost use Rattle.osm_merge.specs.Merging.{IsCounted, IsMerged, IsStaged, MergeStops, merged_text};
-ghost use Rattle.osm_store.specs.Files.{Puts};
+ghost use Rattle.osm_store.specs.Files.{Puts, Spends};
 ghost use Rattle.osm_merge.specs.Frames.{ReplacesOften};
 ghost use Rattle.osm_merge.specs.Mirrors.{MergesMirror};
 ghost use Rattle.osm_merge.specs.Reading.{Refuses};
@@ -40,6 +42,7 @@ fn begin<S: Store>(alloc: Global, store: &mut S, name: &str) -> Result<(), Merge
         → (S.state store.new).stage ≡ Some (name.now, [])) }
     ensures refused { IfErr result IsPlain }
     ensures frame { ReadsOften IsDeviceFault (S.state store.old) (S.state store.new) result }
+    ensures calls { MakesAtMost IsDeviceFault 1 (S.state store.old) (S.state store.new) result }
 {
     match store.begin(alloc, name) {
         Ok(()) => Ok(()),
@@ -60,6 +63,9 @@ fn put_head<S: Store>(
         (ended (head_lines Three head filter.now))) }
     ensures refused { IfErr result IsPlain }
     ensures frame { ReadsOften IsDeviceFault (S.state store.old) (S.state store.new) result }
+    ensures calls { MakesAtMost IsDeviceFault (puts_of writer.old)
+        (S.state store.old) (S.state store.new) result }
+    ensures keeps { OnOk result (writer.new.is_writing ≡ writer.old.is_writing) }
 {
     let mut lines = Vec::new(alloc);
     let Ok(()) = write_head(head, filter, &mut lines) else {
@@ -103,6 +109,10 @@ pub(crate) fn write_lists<S: Store>(
         (mirror_at opening.now.version opening.now.head opening.now.filter
         (left_of source.old file))) }
     ensures frame { ReadsOften IsDeviceFault (S.state store.old) (S.state store.new) result }
+    ensures calls { (file : List ℕ) → HasFile (S.state store.old) name.now file
+        → Advances IsDeviceFault
+        (reads_ahead source.old file + length (left_of source.old file) + 6) (λ _. 0)
+        (S.state store.old) (S.state store.new) result }
 {
     match begin(alloc, store, name) {
         Ok(()) => {}
@@ -152,6 +162,10 @@ fn count_pass<S: Store>(
     ensures refused { IfErr result (λ fault. IsKnown (S.state store.old)
         → CheckStops ((S.state store.old).files name.now) fault) }
     ensures frame { ReadsOften IsDeviceFault (S.state store.old) (S.state store.new) result }
+    ensures spends { OnOk result (Spends 1 (S.state store.old).left (S.state store.new).left) }
+    ensures calls { IsKnown (S.state store.old) → MakesAtMost IsDeviceFault
+        (check_calls (bytes_in ((S.state store.old).files name.now)))
+        (S.state store.old) (S.state store.new) result }
 {
     let (mut source, opening) = match open_save(alloc, store, name) {
         Ok(opened) => opened,
@@ -208,6 +222,10 @@ fn write_pass<S: Store>(
     ensures refused { IfErr result (λ fault. IsKnown (S.state store.old)
         → CheckStops ((S.state store.old).files name.now) fault) }
     ensures frame { ReadsOften IsDeviceFault (S.state store.old) (S.state store.new) result }
+    ensures calls { IsKnown (S.state store.old) → MakesAtMost IsDeviceFault
+        (check_calls (bytes_in ((S.state store.old).files name.now))
+        + bytes_in ((S.state store.old).files name.now) + 6)
+        (S.state store.old) (S.state store.new) result }
 {
     let (mut source, opening) = match open_save(alloc, store, name) {
         Ok(opened) => opened,
@@ -245,6 +263,7 @@ fn commit<S: Store>(store: &mut S) -> Result<(), MergeFault>
         → Puts (S.state store.old).files name (Some text) (S.state store.new).files) }
     ensures refused { IfErr result IsPlain }
     ensures frame { ReplacesOften IsDeviceFault (S.state store.old) (S.state store.new) result }
+    ensures calls { MakesAtMost IsDeviceFault 1 (S.state store.old) (S.state store.new) result }
 {
     match store.commit() {
         Ok(()) => Ok(()),
@@ -254,9 +273,9 @@ fn commit<S: Store>(store: &mut S) -> Result<(), MergeFault>
 
 /// Merges the save text of a file with net changes, in two passes: what is left of objects, keys
 /// rising, and the increments of users and of changesets, numbers rising. The new text has the head
-/// that is given and the filter of before. It has at most 999,999,999,999,999,999 objects, as a save
-/// text may have; else the answer is `TooLarge`. Until the commit, the last call, no file changes; after
-/// a fault a file may have been begun, which `abandon` drops.
+/// that is given and the filter of before. It has at most 999,999,999,999,999,999 objects, as a
+/// save text may have; else the answer is `TooLarge`. Until the commit, the last call, no file
+/// changes; after a fault a file may have been begun, which `abandon` drops.
 pub fn merge_save<S: Store>(
     alloc: Global,
     store: &mut S,
@@ -276,6 +295,10 @@ pub fn merge_save<S: Store>(
         (record { objects = entries.now; users = users.now; changesets = changesets.now })
         fault) }
     ensures frame { ReplacesOften IsDeviceFault (S.state store.old) (S.state store.new) result }
+    ensures spends { OnOk result (Spends 1 (S.state store.old).left (S.state store.new).left) }
+    ensures calls { IsKnown (S.state store.old) → MakesAtMost IsDeviceFault
+        (merge_calls (bytes_in ((S.state store.old).files name.now)))
+        (S.state store.old) (S.state store.new) result }
 {
     let totals = match count_pass(alloc, store, name, entries, users, changesets) {
         Ok(totals) => totals,

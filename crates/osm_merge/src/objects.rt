@@ -1,10 +1,12 @@
 //! The objects of a save text, with net changes laid over them.
 
 ghost use Rattle.std.specs.Prelude.{◌≡◌, ℕ, ◌+◌, ◌++◌, ◌≤◌, ◌<◌, ◌∷◌, List, [], MatchOption};
-ghost use Rattle.std.specs.Prelude.{length, map, None, Some, IfErr, IfOk};
+ghost use Rattle.std.specs.Prelude.{length, map, None, Some, IfErr, IfOk, OnOk};
 ghost use Rattle.osm_model.specs.Change.{ChangeValue};
 ghost use Rattle.osm_opl.specs.Written.{line_text};
-ghost use Rattle.osm_store.specs.Frames.{IsKnown};
+ghost use Rattle.osm_store.specs.Frames.{IsKnown, MakesAtMost};
+ghost use Rattle.osm_blocks.specs.Calls.{Advances, puts_of, reads_ahead};
+ghost use Rattle.osm_merge.specs.Calls.{calls_ahead};
 ghost use Rattle.osm_blocks.specs.Frames.{ReadsOften};
 ghost use Rattle.osm_blocks.specs.Places.{HasFile, left_of};
 ghost use Rattle.osm_net.specs.Laid.{laid_over, put_before};
@@ -42,6 +44,10 @@ fn next_object<S: Store>(
         (next_at (object_at filter.now) last (left_of source.old file)) }
     ensures stage { (S.state store.new).stage ≡ (S.state store.old).stage }
     ensures frame { ReadsOften IsDeviceFault (S.state store.old) (S.state store.new) result }
+    ensures calls { (file : List ℕ) → HasFile (S.state store.old) name.now file
+        → Advances IsDeviceFault (reads_ahead source.old file)
+        (λ _. reads_ahead source.new file)
+        (S.state store.old) (S.state store.new) result }
 {
     let count = match source.next(alloc, store, name) {
         Ok(count) => count,
@@ -141,6 +147,9 @@ fn put_object<'a, S: Store>(
         (Writes (S.state store.old) writer.old (S.state store.new) writer.new)) }
     ensures refused { IfErr result IsPlain }
     ensures frame { ReadsOften IsDeviceFault (S.state store.old) (S.state store.new) result }
+    ensures calls { MakesAtMost IsDeviceFault (puts_of writer.old)
+        (S.state store.old) (S.state store.new) result }
+    ensures keeps { OnOk result (writer.new.is_writing ≡ writer.old.is_writing) }
 {
     out.clear();
     let (rest, many) = match lay_object(entries, object, out) {
@@ -164,6 +173,9 @@ fn put_rest<S: Store>(
         (Writes (S.state store.old) writer.old (S.state store.new) writer.new)) }
     ensures refused { IfErr result IsPlain }
     ensures frame { ReadsOften IsDeviceFault (S.state store.old) (S.state store.new) result }
+    ensures calls { MakesAtMost IsDeviceFault (puts_of writer.old)
+        (S.state store.old) (S.state store.new) result }
+    ensures keeps { OnOk result (writer.new.is_writing ≡ writer.old.is_writing) }
 {
     out.clear();
     let many = match lay_rest(entries, out) {
@@ -198,6 +210,11 @@ pub(crate) fn merge_objects<S: Store>(
         → HasFile (S.state store.old) name.now file → Refuses file fault
         (items_at (λ c. c.key) (object_at filter.now) many None (left_of source.old file))) }
     ensures frame { ReadsOften IsDeviceFault (S.state store.old) (S.state store.new) result }
+    ensures calls { (file : List ℕ) → HasFile (S.state store.old) name.now file
+        → Advances IsDeviceFault (calls_ahead writer.old source.old file + puts_of writer.old)
+        (λ _. calls_ahead writer.old source.new file)
+        (S.state store.old) (S.state store.new) result }
+    ensures keeps { OnOk result (writer.new.is_writing ≡ writer.old.is_writing) }
 {
     let mut spelled = Vec::new(alloc);
     let mut out = Vec::new(alloc);

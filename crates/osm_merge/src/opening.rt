@@ -1,8 +1,12 @@
 //! The head of a save text, read from its first block.
 
-ghost use Rattle.std.specs.Prelude.{◌≡◌, ◌≤◌, IfErr, IfOk};
+ghost use Rattle.std.specs.Prelude.{◌≡◌, ℕ, ◌+◌, ◌≤◌, List, length, IfErr, IfOk, OnOk};
 ghost use Rattle.osm_model.specs.Limits.{max_sequence};
-ghost use Rattle.osm_store.specs.Frames.{IsKnown};
+ghost use Rattle.osm_store.specs.Files.{Spends};
+ghost use Rattle.osm_store.specs.Frames.{IsKnown, MakesAtMost};
+ghost use Rattle.osm_blocks.specs.Calls.{reads_ahead};
+ghost use Rattle.osm_blocks.specs.Places.{HasFile};
+ghost use Rattle.osm_merge.specs.Calls.{AsksOnce, check_calls};
 ghost use Rattle.osm_blocks.specs.Frames.{ReadsOften};
 ghost use Rattle.osm_merge.specs.Checking.{BeginsWith, CheckStops};
 ghost use Rattle.osm_merge.specs.Faults.{IsDeviceFault};
@@ -39,6 +43,10 @@ pub fn read_beginning<S: Store>(
     ensures refused { IfErr result (λ fault. IsKnown (S.state store.old)
         → CheckStops ((S.state store.old).files name.now) fault) }
     ensures frame { ReadsOften IsDeviceFault (S.state store.old) (S.state store.new) result }
+    ensures spends { OnOk result (Spends 1 (S.state store.old).left (S.state store.new).left) }
+    ensures absent { IfErr result (λ fault.
+        AsksOnce fault (S.state store.old).left (S.state store.new).left) }
+    ensures calls { MakesAtMost IsDeviceFault 1 (S.state store.old) (S.state store.new) result }
 {
     match open_save(alloc, store, name) {
         Ok((_source, opening)) => Ok(opening),
@@ -60,6 +68,12 @@ pub(crate) fn open_save<S: Store>(
         → OpeningStops ((S.state store.old).files name.now) fault) }
     ensures stage { (S.state store.new).stage ≡ (S.state store.old).stage }
     ensures frame { ReadsOften IsDeviceFault (S.state store.old) (S.state store.new) result }
+    ensures spends { OnOk result (Spends 1 (S.state store.old).left (S.state store.new).left) }
+    ensures absent { IfErr result (λ fault.
+        AsksOnce fault (S.state store.old).left (S.state store.new).left) }
+    ensures calls { MakesAtMost IsDeviceFault 1 (S.state store.old) (S.state store.new) result }
+    ensures ahead { IfOk result (λ r. (file : List ℕ) → HasFile (S.state store.old) name.now file
+        → reads_ahead r.0 file + 1 ≤ check_calls (length file)) }
 {
     let mut source = match Source::open(alloc, store, name) {
         Ok(source) => source,

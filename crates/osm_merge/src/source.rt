@@ -1,10 +1,14 @@
 //! The lines of a save text, read in blocks and counted.
 
 ghost use Rattle.std.specs.Prelude.{◌≡◌, ℕ, ◌+◌, ◌<◌, ◌≤◌, List, length, take, Some, IfErr, IfOk};
-ghost use Rattle.osm_store.specs.Frames.{IsKnown};
+ghost use Rattle.std.specs.Prelude.{OnOk};
+ghost use Rattle.osm_store.specs.Files.{Spends};
+ghost use Rattle.osm_store.specs.Frames.{IsKnown, MakesAtMost};
+ghost use Rattle.osm_blocks.specs.Calls.{Advances, reads_ahead};
 ghost use Rattle.osm_blocks.specs.Frames.{ReadsOften};
 ghost use Rattle.osm_blocks.specs.Places.{HasFile, IsLine, Opens, left_of, past};
 ghost use Rattle.osm_save.specs.Reading.{fixed_at, numbered_at};
+ghost use Rattle.osm_merge.specs.Calls.{AsksOnce};
 ghost use Rattle.osm_merge.specs.Faults.{IsBadLine, IsDeviceFault};
 ghost use Rattle.osm_merge.specs.Mirrors.{Closes, end_at};
 ghost use Rattle.osm_merge.specs.Reading.{Ends, FindsNext, Follows, OpenStops, Passes};
@@ -40,6 +44,10 @@ impl Source {
             → OpenStops ((S.state store.old).files name.now) fault) }
         ensures stage { (S.state store.new).stage ≡ (S.state store.old).stage }
         ensures frame { ReadsOften IsDeviceFault (S.state store.old) (S.state store.new) result }
+        ensures spends { OnOk result (Spends 1 (S.state store.old).left (S.state store.new).left) }
+        ensures absent { IfErr result (λ fault.
+            AsksOnce fault (S.state store.old).left (S.state store.new).left) }
+        ensures calls { MakesAtMost IsDeviceFault 1 (S.state store.old) (S.state store.new) result }
     {
         match LineReader::open(alloc, store, name) {
             Ok(Some(reader)) => Ok(Source { reader, line: 1 }),
@@ -111,6 +119,10 @@ impl Source {
             → FindsNext file self.old self.new result }
         ensures stage { (S.state store.new).stage ≡ (S.state store.old).stage }
         ensures frame { ReadsOften IsDeviceFault (S.state store.old) (S.state store.new) result }
+        ensures calls { (file : List ℕ) → HasFile (S.state store.old) name.now file
+            → Advances IsDeviceFault (reads_ahead self.old file)
+            (λ _. reads_ahead self.new file)
+            (S.state store.old) (S.state store.new) result }
     {
         match self.reader.find_line(alloc, store, name) {
             Ok(Some(count)) => Ok(count),
@@ -135,6 +147,10 @@ impl Source {
         ensures limit { IfOk result (λ n. n ≤ most) }
         ensures stage { (S.state store.new).stage ≡ (S.state store.old).stage }
         ensures frame { ReadsOften IsDeviceFault (S.state store.old) (S.state store.new) result }
+        ensures calls { (file : List ℕ) → HasFile (S.state store.old) name.now file
+            → Advances IsDeviceFault (reads_ahead self.old file)
+            (λ _. reads_ahead self.new file)
+            (S.state store.old) (S.state store.new) result }
     {
         let count = match self.next(alloc, store, name) {
             Ok(count) => count,
@@ -160,6 +176,10 @@ impl Source {
             → Passes file self.new result (fixed_at text.now (left_of self.old file)) }
         ensures stage { (S.state store.new).stage ≡ (S.state store.old).stage }
         ensures frame { ReadsOften IsDeviceFault (S.state store.old) (S.state store.new) result }
+        ensures calls { (file : List ℕ) → HasFile (S.state store.old) name.now file
+            → Advances IsDeviceFault (reads_ahead self.old file)
+            (λ _. reads_ahead self.new file)
+            (S.state store.old) (S.state store.new) result }
     {
         let count = match self.next(alloc, store, name) {
             Ok(count) => count,
@@ -183,6 +203,7 @@ impl Source {
             → Ends file self.old result }
         ensures stage { (S.state store.new).stage ≡ (S.state store.old).stage }
         ensures frame { ReadsOften IsDeviceFault (S.state store.old) (S.state store.new) result }
+        ensures calls { MakesAtMost IsDeviceFault 1 (S.state store.old) (S.state store.new) result }
     {
         match self.reader.is_ended(alloc, store, name) {
             Ok(is_ended) => Ok(is_ended),
@@ -201,6 +222,10 @@ impl Source {
             → Closes file result (end_at (left_of self.old file)) }
         ensures stage { (S.state store.new).stage ≡ (S.state store.old).stage }
         ensures frame { ReadsOften IsDeviceFault (S.state store.old) (S.state store.new) result }
+        ensures calls { (file : List ℕ) → HasFile (S.state store.old) name.now file
+            → Advances IsDeviceFault (reads_ahead self.old file)
+            (λ _. 0)
+            (S.state store.old) (S.state store.new) result }
     {
         match self.fixed(alloc, store, name, b"end") {
             Ok(()) => {}

@@ -139,7 +139,7 @@ const CASES: &[Case] = &[
         ])],
     },
     Case {
-        shows: "a block with each call failing is refused, and read right when it is asked for again",
+        shows: "a block with each call failing is refused, and read right when it is asked again",
         // Opening the file, going to the place, a read of bytes, and the read that finds the end.
         runs: &[Run::Failing(
             &[0, 1, 2, 3],

@@ -42,8 +42,8 @@ const TIDY_BELOW: Step = Step::Disk("dir/000/.save.osmrepl-7", Disk::Absent);
 const CASES: &[Case] = &[
     Case {
         shows: "parts with each call failing leave the old file or the new one",
-        // Two looks at what is there, opening the temporary file and a look at its mode; a write for
-        // each part; the sync and the rename; then opening the folder and its sync.
+        // Two looks at what is there, opening the temporary file and a look at its mode; a write
+        // for each part; the sync and the rename; then opening the folder and its sync.
         runs: &[
             Run::Failing(
                 &[0, 1, 2, 3, 4, 5, 6, 7],

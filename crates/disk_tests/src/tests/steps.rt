@@ -3,9 +3,10 @@
 
 use super::blocks::are_blocks;
 use osm_disk::disk_store::DiskStore;
-use osm_folder::follow::follow_run;
 use osm_folder::options::FollowOptions;
+use osm_folder::progress::Progress;
 use osm_model::filter::Filter;
+use osm_round::round::follow_round;
 use osm_store::store::{Store, StoreError};
 use std::alloc::Global;
 use std::fs::{self, Files};
@@ -280,8 +281,8 @@ fn is_followed<S: Files>(
     text: &[u8],
 ) -> bool {
     let options = FollowOptions::new(Filter::all(alloc));
-    match follow_run(alloc, store, folder, save, options) {
-        Ok(report) => report.text() == text,
-        Err(_) => false,
+    match follow_round(alloc, store, folder, save, &options) {
+        Ok(Progress::Whole(report)) => report.text() == text,
+        Ok(Progress::Before(_, _)) | Err(_) => false,
     }
 }

@@ -33,8 +33,8 @@ const NO_END: Step = Step::Disk("end", Disk::Remove);
 const CASES: &[Case] = &[
     Case {
         shows: "a write with each call failing leaves the old file or the new one",
-        // Two looks at what is there, opening the temporary file and a look at its mode, two writes,
-        // the sync and the rename; then opening the folder and its sync.
+        // Two looks at what is there, opening the temporary file and a look at its mode, two
+        // writes, the sync and the rename; then opening the folder and its sync.
         runs: &[
             Run::Failing(
                 &[0, 1, 2, 3, 4, 5, 6, 7],

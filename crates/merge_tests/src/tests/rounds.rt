@@ -1,9 +1,8 @@
-//! Runs of a follower over net changes, beside those of osm_folder: both print the same, refuse the
-//! same, and leave the same save.
+//! Runs of a follower over net changes: what they print, save and refuse.
 
 use osm_folder::fault::RunFault;
 use osm_folder::options::FollowOptions;
-use osm_folder::progress::{Progress, follow_progress};
+use osm_folder::progress::Progress;
 use osm_model::filter::Filter;
 use osm_round::round::follow_round;
 use osm_store::memory_store::MemoryStore;
@@ -28,11 +27,22 @@ const SAVE_1: &[u8] = b"osmrepl-save 2\nbase 0\nsequence 1\ntime 2024-01-01T00:0
     w2 v1 dV c7 t2024-01-01T00:00:00Z i5 uann T Nn1\n\
     users 1\n5 2\nchangesets 1\n7 2\nend\n";
 
+const SAVE_2: &[u8] = b"osmrepl-save 3\nbase 0\nkinds nwr\nkeys 0\n\
+    sequence 2\ntime 2024-01-01T00:01:00Z\nobjects 2\n\
+    n3 v1 dV c8 t2024-01-01T00:01:00Z i6 ubob T x1 y2\n\
+    w2 v1 dV c7 t2024-01-01T00:00:00Z i5 uann T Nn1\n\
+    users 2\n5 2\n6 2\nchangesets 2\n7 2\n8 2\nend\n";
+
 const SAVE_3: &[u8] = b"osmrepl-save 3\nbase 0\nkinds nwr\nkeys 0\n\
     sequence 3\ntime 2024-01-01T00:02:00Z\nobjects 2\n\
     n3 v1 dV c8 t2024-01-01T00:01:00Z i6 ubob T x1 y2\n\
     w2 v1 dV c7 t2024-01-01T00:00:00Z i5 uann T Nn1\n\
     users 2\n5 2\n6 2\nchangesets 2\n7 2\n8 2\nend\n";
+
+const CUT_SAVE: &[u8] = b"osmrepl-save 2\nbase 0\nsequence 0\ntime none\nobjects 0\nusers 0\n";
+
+const SAVE_OF_NODES: &[u8] = b"osmrepl-save 3\nbase 0\nkinds n\nkeys 0\nsequence 0\ntime none\n\
+    objects 0\nusers 0\nchangesets 0\nend\n";
 
 // A folder of three sequences, the last of them empty.
 const FOLDER: &[(&str, &[u8])] = &[
@@ -45,11 +55,12 @@ const FOLDER: &[(&str, &[u8])] = &[
     ("dir/000/000/003.opl", b""),
 ];
 
-// What differs of the folder, or lies beside it, and what is printed.
+// What differs of the folder, or lies beside it, what is printed, and what is saved.
 struct Case {
     files: &'static [(&'static str, &'static [u8])],
     lost: &'static str,
     text: &'static str,
+    save: Option<&'static [u8]>,
 }
 
 const CASES: [Case; 5] = [
@@ -57,26 +68,31 @@ const CASES: [Case; 5] = [
         files: &[],
         lost: "",
         text: "applied 1..1\napplied 2..2\napplied 3..3\nnumber 3\n",
+        save: Some(SAVE_3),
     },
     Case {
         files: &[("save", SAVE_1)],
         lost: "",
         text: "applied 2..2\napplied 3..3\nnumber 3\n",
+        save: Some(SAVE_3),
     },
     Case {
         files: &[("save", SAVE_3)],
         lost: "",
         text: "number 3\n",
+        save: Some(SAVE_3),
     },
     Case {
         files: &[("save", SAVE_1)],
         lost: "dir/000/000/003.state.txt",
         text: "applied 2..2\nmissing 3\nnumber 2\n",
+        save: Some(SAVE_2),
     },
     Case {
         files: &[("save", SAVE_1), ("dir/000/000/003.opl", b"x\n")],
         lost: "",
         text: "applied 2..2\nnumber 2\n",
+        save: Some(SAVE_2),
     },
 ];
 
@@ -106,17 +122,16 @@ fn prints(answer: &Result<Progress, RunFault>, text: &str) -> bool {
     }
 }
 
-fn follows_as_before(alloc: Global, case: &Case) -> bool {
-    let (mut old, mut new) = (store_of(alloc, case), store_of(alloc, case));
-    let before = follow_progress(alloc, &mut old, "dir", "save", options(alloc));
-    let now = follow_round(alloc, &mut new, "dir", "save", &options(alloc));
-    prints(&before, case.text) && prints(&now, case.text) && old.get("save") == new.get("save")
+fn follows(alloc: Global, case: &Case) -> bool {
+    let mut store = store_of(alloc, case);
+    let answer = follow_round(alloc, &mut store, "dir", "save", &options(alloc));
+    prints(&answer, case.text) && store.get("save") == case.save
 }
 
 #[test]
-fn a_run_prints_and_saves_as_before(rt: HostRuntime) {
+fn a_run_prints_and_saves_what_it_took(rt: HostRuntime) {
     for case in &CASES {
-        assert!(rt; follows_as_before(rt.alloc(), case), "{}", case.text);
+        assert!(rt; follows(rt.alloc(), case), "{}", case.text);
     }
 }
 
@@ -124,37 +139,31 @@ fn a_run_prints_and_saves_as_before(rt: HostRuntime) {
 const REFUSED: [Case; 4] = [
     // a save that ends too early
     Case {
-        files: &[(
-            "save",
-            b"osmrepl-save 2\nbase 0\nsequence 0\ntime none\nobjects 0\nusers 0\n",
-        )],
+        files: &[("save", CUT_SAVE)],
         lost: "",
         text: "save: line 7",
+        save: Some(CUT_SAVE),
     },
     // the same, and the newest state isn't there
     Case {
-        files: &[(
-            "save",
-            b"osmrepl-save 2\nbase 0\nsequence 0\ntime none\nobjects 0\nusers 0\n",
-        )],
+        files: &[("save", CUT_SAVE)],
         lost: "dir/state.txt",
         text: "save: line 7",
+        save: Some(CUT_SAVE),
     },
     // the next number is faulty
     Case {
         files: &[("dir/000/000/001.opl", b"x\n")],
         lost: "",
         text: "000/000/001.opl: at 1: BadKind",
+        save: None,
     },
     // the save is of other kinds
     Case {
-        files: &[(
-            "save",
-            b"osmrepl-save 3\nbase 0\nkinds n\nkeys 0\nsequence 0\ntime none\n\
-                objects 0\nusers 0\nchangesets 0\nend\n",
-        )],
+        files: &[("save", SAVE_OF_NODES)],
         lost: "",
         text: "save: other filter",
+        save: Some(SAVE_OF_NODES),
     },
 ];
 
@@ -169,19 +178,16 @@ fn says(alloc: Global, answer: &Result<Progress, RunFault>, text: &str) -> bool 
     }
 }
 
-fn is_refused_as_before(alloc: Global, case: &Case) -> bool {
-    let (mut old, mut new) = (store_of(alloc, case), store_of(alloc, case));
-    let before = follow_progress(alloc, &mut old, "dir", "save", options(alloc));
-    let now = follow_round(alloc, &mut new, "dir", "save", &options(alloc));
-    says(alloc, &before, case.text)
-        && says(alloc, &now, case.text)
-        && new.get("save") == store_of(alloc, case).get("save")
+fn is_refused(alloc: Global, case: &Case) -> bool {
+    let mut store = store_of(alloc, case);
+    let answer = follow_round(alloc, &mut store, "dir", "save", &options(alloc));
+    says(alloc, &answer, case.text) && store.get("save") == case.save
 }
 
 #[test]
-fn a_run_is_refused_as_before(rt: HostRuntime) {
+fn a_run_that_is_refused_changes_nothing(rt: HostRuntime) {
     for case in &REFUSED {
-        assert!(rt; is_refused_as_before(rt.alloc(), case), "{}", case.text);
+        assert!(rt; is_refused(rt.alloc(), case), "{}", case.text);
     }
 }
 

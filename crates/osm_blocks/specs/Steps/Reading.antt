@@ -1,11 +1,13 @@
 -- How blocks are read.
-use Rattle.std.specs.Prelude.{◌≡◌, ℕ, ◌<◌, ◌≤◌, List, [], ◌++◌, Bool, true, false, length, take, drop}
-use Rattle.std.specs.Prelude.{Option, Some, None, Result, Ok, Err, Vec}
+use Rattle.std.specs.Prelude.{◌≡◌, ℕ, ◌<◌, ◌≤◌, List, [], ◌++◌, Bool, true, false, length, take}
+use Rattle.std.specs.Prelude.{drop}
+use Rattle.std.specs.Prelude.{Option, Result, Ok, Err, Vec}
 use Rattle.osm_reading.specs.Pieces.{Lacks}
 use Rattle.osm_store.specs.Files.{Tells, block_of}
 use Rattle.osm_blocks.specs.Places.{IsHuge, Place, left_of, max_block}
 use Rattle.osm_blocks.specs.declared.fault.BlockFault.{BlockFault}
-use Rattle.osm_blocks.specs.declared.fault.BlockFault.TheVariants.{Device, LongLine, TooLarge, WantOfMemory}
+use Rattle.osm_blocks.specs.declared.fault.BlockFault.TheVariants.{Device, LongLine, TooLarge}
+use Rattle.osm_blocks.specs.declared.fault.BlockFault.TheVariants.{WantOfMemory}
 
 -- the answer is the block at that place
 abbrev pub IsBlock : {Z : Type 0} → ℕ → Option (List ℕ) → Option (Vec ℕ Z) → Type 0

@@ -7,6 +7,9 @@ use Rattle.osm_save.specs.Reading.{count_at}
 use Rattle.osm_merge.specs.Faults.{IsDeviceFault}
 use Rattle.osm_merge.proofs.FrameLemmas.{has_still, lays_after, often_fails}
 use Rattle.osm_merge.proofs.ItemLemmas.{merging_begun, merging_done, merging_more, merging_stops}
+use Rattle.osm_merge.proofs.CallLemmas.{item_more, item_unput, item_unread, next_shorter, rest_put, rest_unput, spent_none}
+use Rattle.osm_blocks.specs.Calls.{reads_ahead}
+use Rattle.osm_merge.specs.Calls.{calls_ahead}
 use Rattle.osm_merge.proofs.counts.merge_counts.Goals as goal
 
 pub loop-init : goal.loop-init
@@ -15,6 +18,7 @@ loop-init g c = record {
       (HasFile (g.S.Store.state c.args.store.now) c.args.name.now) (left_of c.args.source.now) (g.S.Store.state c.args.store.now) c.args.writer.now
       (often_none IsDeviceFault (g.S.Store.state c.args.store.now) tt);
   few = c.requires.few;
+  calls = spent_none (HasFile (g.S.Store.state c.args.store.now) c.args.name.now) c.args.writer.now c.args.source.now (g.S.Store.state c.args.store.now);
 }
 
 pub returns-in-Err-clause-refused : goal.returns-in-Err-clause-refused
@@ -51,6 +55,19 @@ loop-preserved g c =
           (often_then {V = Unit {0}} IsDeviceFault (g.S.Store.state c.loop.store) (g.S.Store.state c.next_count.new.store) (g.S.Store.state c.put_count.new.store) c.in-Ok.count c.in-Ok-put_count.laid tt
           c.in-Ok.ensures.frame c.in-Ok-put_count.ensures.frame);
       few = c.in-Ok-put_count.ensures.few;
+      calls = item_more IsDeviceFault (HasFile (g.S.Store.state c.args.store.now) c.args.name.now) c.args.writer.now c.loop.writer c.args.source.now
+          c.loop.source (g.S.Store.state c.args.store.now) (g.S.Store.state c.loop.store) c.loop.invariant.calls c.put_count.new.writer c.next_count.new.source
+          (g.S.Store.state c.next_count.new.store) (g.S.Store.state c.put_count.new.store) c.in-Ok.count c.in-Ok-put_count.laid
+          (λ file has.
+          let has_l = has_still (g.S.Store.state c.args.store.now) (g.S.Store.state c.loop.store) tt c.args.name.now file c.loop.invariant.merging.frame has
+          in (
+            (has_still (g.S.Store.state c.loop.store) (g.S.Store.state c.next_count.new.store) c.in-Ok.count c.args.name.now file c.in-Ok.ensures.frame
+                has_l).known,
+            next_shorter (count_at c.args.most) c.loop.last (left_of c.loop.source file) (left_of c.next_count.new.source file) c.in-Ok.count
+                (c.in-Ok.ensures.read file has_l),
+            c.in-Ok.ensures.calls file has_l,
+          ))
+          c.in-Ok-put_count.ensures.calls c.in-Ok-put_count.ensures.keeps;
     }
 
 pub returns-in-Ok-put_rest-clause-merges : goal.returns-in-Ok-put_rest-clause-merges
@@ -68,3 +85,38 @@ returns-in-Ok-put_rest-clause-frame g c = often_then {T = Unit {0}} IsDeviceFaul
 pub returns-clause-frame : goal.returns-clause-frame
 returns-clause-frame g c = often_fails {T = Unit {0}} IsDeviceFault (g.S.Store.state c.args.store.now) (g.S.Store.state c.loop.store) (g.S.Store.state c.put_rest.new.store)
     tt c.in-Err-put_rest.fault c.loop.invariant.merging.frame c.in-Err-put_rest.ensures.frame
+
+pub returns-in-Err-clause-calls : goal.returns-in-Err-clause-calls
+returns-in-Err-clause-calls g c = λ file has.
+    item_unread IsDeviceFault (HasFile (g.S.Store.state c.args.store.now) c.args.name.now) c.args.writer.now c.loop.writer c.args.source.now c.loop.source
+    (g.S.Store.state c.args.store.now) (g.S.Store.state c.loop.store) c.loop.invariant.calls
+    (λ x. calls_ahead c.args.writer.now c.next_count.new.source file) (g.S.Store.state c.next_count.new.store) c.in-Err.fault
+    (λ x. reads_ahead c.next_count.new.source file) file has (c.in-Err.ensures.calls file
+    (has_still (g.S.Store.state c.args.store.now) (g.S.Store.state c.loop.store) tt c.args.name.now file c.loop.invariant.merging.frame has))
+
+pub returns-in-Err-put_count-clause-calls : goal.returns-in-Err-put_count-clause-calls
+returns-in-Err-put_count-clause-calls g c = λ file has.
+    let has_l = has_still (g.S.Store.state c.args.store.now) (g.S.Store.state c.loop.store) tt c.args.name.now file c.loop.invariant.merging.frame has in
+    let has_n = has_still (g.S.Store.state c.loop.store) (g.S.Store.state c.next_count.new.store) c.in-Ok.count c.args.name.now file c.in-Ok.ensures.frame
+    has_l in
+    item_unput IsDeviceFault (HasFile (g.S.Store.state c.args.store.now) c.args.name.now) c.args.writer.now c.loop.writer c.args.source.now c.loop.source
+    (g.S.Store.state c.args.store.now) (g.S.Store.state c.loop.store) c.loop.invariant.calls
+    (λ x. calls_ahead c.args.writer.now c.next_count.new.source file) c.next_count.new.source (g.S.Store.state c.next_count.new.store)
+    (g.S.Store.state c.put_count.new.store) c.in-Ok.count c.in-Err-put_count.fault
+    file has has_n.known (c.in-Ok.ensures.calls file has_l) c.in-Err-put_count.ensures.calls
+
+pub returns-in-Ok-put_rest-clause-calls : goal.returns-in-Ok-put_rest-clause-calls
+returns-in-Ok-put_rest-clause-calls g c = λ file has.
+    rest_put IsDeviceFault (HasFile (g.S.Store.state c.args.store.now) c.args.name.now) c.args.writer.now c.loop.writer c.args.source.now c.loop.source
+    (g.S.Store.state c.args.store.now) (g.S.Store.state c.loop.store) c.loop.invariant.calls
+    (g.S.Store.state c.put_rest.new.store) c.in-Ok-put_rest.put (c.loop.total + c.in-Ok-put_rest.put) file has
+    (has_still (g.S.Store.state c.args.store.now) (g.S.Store.state c.loop.store) tt c.args.name.now file c.loop.invariant.merging.frame has).known
+    c.in-Ok-put_rest.ensures.calls
+
+pub returns-clause-calls : goal.returns-clause-calls
+returns-clause-calls g c = λ file has.
+    rest_unput IsDeviceFault (HasFile (g.S.Store.state c.args.store.now) c.args.name.now) c.args.writer.now c.loop.writer c.args.source.now c.loop.source
+    (g.S.Store.state c.args.store.now) (g.S.Store.state c.loop.store) c.loop.invariant.calls
+    (λ x. calls_ahead c.args.writer.now c.loop.source file) (g.S.Store.state c.put_rest.new.store) c.in-Err-put_rest.fault file has
+    (has_still (g.S.Store.state c.args.store.now) (g.S.Store.state c.loop.store) tt c.args.name.now file c.loop.invariant.merging.frame has).known
+    c.in-Err-put_rest.ensures.calls

@@ -4,6 +4,7 @@ use Rattle.osm_net.specs.Laid.{added}
 use Rattle.osm_save.specs.Reading.{count_at}
 use Rattle.osm_save.specs.Save.{count_text}
 use Rattle.osm_merge.specs.Laying.{IsFew}
+use Rattle.osm_merge.proofs.CallLemmas.{SpentSoFar}
 use Rattle.osm_merge.proofs.ItemLemmas.{Merging}
 use Rattle.osm_merge.proofs.counts.merge_counts.Given as goal
 
@@ -13,4 +14,6 @@ invariant-loop g l = record {
       (HasFile (g.S.Store.state l.fn.store) l.fn.name) (left_of l.fn.source) (left_of l.source)
       (g.S.Store.state l.fn.store) l.fn.writer (g.S.Store.state l.store) l.writer;
   few : AllByRecursion IsFew l.rest;
+  calls : SpentSoFar (HasFile (g.S.Store.state l.fn.store) l.fn.name) l.fn.writer l.writer l.fn.source l.source
+      (g.S.Store.state l.fn.store) (g.S.Store.state l.store);
 }

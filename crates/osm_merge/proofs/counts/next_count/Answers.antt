@@ -6,6 +6,7 @@ use Rattle.osm_merge.specs.Laying.{next_at}
 use Rattle.osm_merge.proofs.LineLemmas.{refused_by}
 use Rattle.osm_merge.proofs.CountLemmas.{count_long}
 use Rattle.osm_merge.proofs.ObjectLemmas.{bad_refuses, next_is, next_none}
+use Rattle.osm_merge.proofs.CallLemmas.{bad_blames}
 use Rattle.osm_merge.proofs.counts.next_count.Goals as goal
 
 pub returns-in-Err-clause-read : goal.returns-in-Err-clause-read
@@ -29,3 +30,12 @@ returns-clause-read g c = λ file has.
 
 pub returns-clause-limit : goal.returns-clause-limit
 returns-clause-limit g c = (count_takes c.args.most c.args.last c.line.result.now c.in-Some.count (sym c.in-Some.ensures)).few
+
+pub returns-in-Err-clause-calls : goal.returns-in-Err-clause-calls
+returns-in-Err-clause-calls g c = λ file has. record { spent = tt; lacks = (c.in-Err.ensures.calls file has).lacks }
+
+pub returns-in_default-clause-calls : goal.returns-in_default-clause-calls
+returns-in_default-clause-calls g c = λ file has. record { spent = tt; lacks = bad_blames c.wrong.result c.wrong.ensures }
+
+pub returns-clause-calls : goal.returns-clause-calls
+returns-clause-calls g c = λ file has. rw c.pass.ensures (record { spent = (c.in-Ok.ensures.calls file has).spent; lacks = tt })

@@ -11,6 +11,10 @@ use Rattle.osm_merge.specs.Mirrors.{both_at, both_text}
 use Rattle.osm_merge.proofs.CheckLemmas.{mirror_after, mirror_none, mirror_read}
 use Rattle.osm_merge.proofs.FrameLemmas.{has_still, writes_both}
 use Rattle.osm_merge.proofs.LineLemmas.{refuses_all}
+use Rattle.std.proofs.Common.{◌≡◌, ◌+◌, ◌*◌, arith}
+use Rattle.osm_blocks.specs.Calls.{puts_of}
+use Rattle.osm_merge.specs.Calls.{calls_ahead, puts_ahead}
+use Rattle.osm_merge.proofs.CallLemmas.{advances_fails, advances_first, advances_then, same_ahead, same_puts}
 use Rattle.osm_merge.proofs.lists.merge_lists.Goals as goal
 
 pub returns-in-Err-clause-refused : goal.returns-in-Err-clause-refused
@@ -48,3 +52,38 @@ returns-in-Err-merge_both-clause-refused g c = λ file has.
     (c.in-Err-merge_both.ensures.refused file has2)
     (mirror_after o.version o.head o.filter (left_of c.args.source.now file) (left_of c.merge_object_list.new.source file) m.values
     (rw c.objects_limit-most.ensures at (m.read file has)))
+
+pub returns-in-Err-clause-calls : goal.returns-in-Err-clause-calls
+returns-in-Err-clause-calls g c = λ file has.
+    advances_first (calls_ahead c.args.writer.now c.args.source.now file + 3 * puts_of c.args.writer.now) (λ x. 0)
+    (g.S.Store.state c.args.store.now) (g.S.Store.state c.merge_object_list.new.store) c.in-Err.fault (c.in-Err.ensures.calls file has) (omega arith)
+
+pub returns-in-Ok-merge_both-clause-calls : goal.returns-in-Ok-merge_both-clause-calls
+returns-in-Ok-merge_both-clause-calls g c = λ file has.
+    let a = g.S.Store.state c.args.store.now in
+    let b = g.S.Store.state c.merge_object_list.new.store in
+    let d = g.S.Store.state c.merge_both.new.store in
+    let w = c.args.writer.now in
+    let v = c.merge_object_list.new.writer in
+    let first = c.merge_object_list.new.source in
+    let has_b = has_still a b c.in-Ok.objects c.args.name.now file c.in-Ok.ensures.frame has in
+    let puts : puts_of v ≡ puts_of w = same_puts w v c.in-Ok.ensures.keeps in
+    let ahead : puts_ahead v first file ≡ puts_ahead w first file = same_ahead w v first file c.in-Ok.ensures.keeps in
+    advances_then (calls_ahead w c.args.source.now file + 3 * puts_of w) (λ x. 0) a b d c.in-Ok.objects
+    (c.in-Ok-merge_both.users, c.in-Ok-merge_both.changesets)
+    (record { objects = c.in-Ok.objects; users = c.in-Ok-merge_both.users; changesets = c.in-Ok-merge_both.changesets })
+    (c.in-Ok.ensures.calls file has) (c.in-Ok-merge_both.ensures.calls file has_b) (omega (arith, puts, ahead))
+
+pub returns-in-Err-merge_both-clause-calls : goal.returns-in-Err-merge_both-clause-calls
+returns-in-Err-merge_both-clause-calls g c = λ file has.
+    let a = g.S.Store.state c.args.store.now in
+    let b = g.S.Store.state c.merge_object_list.new.store in
+    let d = g.S.Store.state c.merge_both.new.store in
+    let w = c.args.writer.now in
+    let v = c.merge_object_list.new.writer in
+    let first = c.merge_object_list.new.source in
+    let has_b = has_still a b c.in-Ok.objects c.args.name.now file c.in-Ok.ensures.frame has in
+    let puts : puts_of v ≡ puts_of w = same_puts w v c.in-Ok.ensures.keeps in
+    let ahead : puts_ahead v first file ≡ puts_ahead w first file = same_ahead w v first file c.in-Ok.ensures.keeps in
+    advances_fails (calls_ahead w c.args.source.now file + 3 * puts_of w) (λ x. 0) a b d c.in-Ok.objects c.in-Err-merge_both.fault
+    (c.in-Ok.ensures.calls file has) (c.in-Err-merge_both.ensures.calls file has_b) (omega (arith, puts, ahead))

@@ -1,4 +1,4 @@
-use Rattle.std.proofs.Common.{◌≡◌, ℕ, ◌<◌, ◌≤◌, List, Some, inr, sym, subst, ap, ◌∙◌, arith}
+use Rattle.std.proofs.Common.{◌≡◌, ℕ, ◌+◌, ◌<◌, ◌≤◌, List, Some, inr, sym, subst, ap, ◌∙◌, arith}
 use Rattle.std.proofs.lemmas.Grind.{common_steps}
 use Rattle.std.specs.Prelude.{Err, Ok}
 use Rattle.osm_blocks.proofs.OftenLemmas.{often_both, often_then}
@@ -14,6 +14,8 @@ use Rattle.osm_merge.specs.Merging.{IsCounted, merged_text}
 use Rattle.osm_merge.specs.declared.lists.Totals.{Totals}
 use Rattle.osm_merge.proofs.CheckLemmas.{counted_once, merge_stops, merged_is, plain_stops}
 use Rattle.osm_merge.proofs.FrameLemmas.{changed_frame, known_still, reads_fail, then_replaces}
+use Rattle.osm_merge.specs.Calls.{bytes_in, check_calls, merge_calls}
+use Rattle.osm_merge.proofs.CallLemmas.{advances_fails, advances_first, advances_of, advances_then, at_most}
 use Rattle.osm_merge.proofs.merge.merge_save.Goals as goal
 
 pub returns-in-Err-clause-frame : goal.returns-in-Err-clause-frame
@@ -117,3 +119,57 @@ returns-in-Err-commit-clause-frame g c =
     let b = g.S.Store.state c.count_pass.new.store in
     let d = g.S.Store.state c.write_pass.new.store in
     then_replaces IsDeviceFault a d (g.S.Store.state c.commit.new.store) tt (Err c.in-Err-commit.fault) (often_then {V = Unit {0}} IsDeviceFault a b d c.in-Ok.totals c.in-Ok-write_pass.counted tt c.in-Ok.ensures.frame c.in-Ok-write_pass.ensures.frame) c.in-Err-commit.ensures.frame
+
+pub returns-in-Err-clause-calls : goal.returns-in-Err-clause-calls
+returns-in-Err-clause-calls g c = λ known.
+    let a = g.S.Store.state c.args.store.now in
+    let b = g.S.Store.state c.count_pass.new.store in
+    let n = bytes_in (a.files c.args.name.now) in
+    at_most (merge_calls n) a b (Err c.in-Err.fault) (advances_first {U = Unit {0}} (merge_calls n) (λ x. 0) a b c.in-Err.fault
+    (advances_of (check_calls n) a b (Err c.in-Err.fault) known (c.in-Err.ensures.calls known)) (omega arith)) (omega arith)
+
+pub returns-in-Err-write_pass-clause-calls : goal.returns-in-Err-write_pass-clause-calls
+returns-in-Err-write_pass-clause-calls g c = λ known.
+    let a = g.S.Store.state c.args.store.now in
+    let b = g.S.Store.state c.count_pass.new.store in
+    let n = bytes_in (a.files c.args.name.now) in
+    let known_b = known_still a b c.in-Ok.totals c.in-Ok.ensures.frame known in
+    let count = advances_of (check_calls n) a b (Ok c.in-Ok.totals) known (c.in-Ok.ensures.calls known) in
+    let d = g.S.Store.state c.write_pass.new.store in
+    let same : bytes_in (b.files c.args.name.now) ≡ n = ap (λ (f : Files). bytes_in (f c.args.name.now)) c.in-Ok.ensures.frame.files in
+    at_most (merge_calls n) a d (Err c.in-Err-write_pass.fault)
+    (advances_fails {V = Unit {0}} (merge_calls n) (λ x. 0) a b d c.in-Ok.totals c.in-Err-write_pass.fault count
+    (advances_of (check_calls n + n + 6) b d (Err c.in-Err-write_pass.fault) known_b (rw same at (c.in-Err-write_pass.ensures.calls known_b))) (omega arith))
+    (omega arith)
+
+pub returns-in-Ok-commit-clause-calls : goal.returns-in-Ok-commit-clause-calls
+returns-in-Ok-commit-clause-calls g c = λ known.
+    let a = g.S.Store.state c.args.store.now in
+    let b = g.S.Store.state c.count_pass.new.store in
+    let n = bytes_in (a.files c.args.name.now) in
+    let known_b = known_still a b c.in-Ok.totals c.in-Ok.ensures.frame known in
+    let count = advances_of (check_calls n) a b (Ok c.in-Ok.totals) known (c.in-Ok.ensures.calls known) in
+    let d = g.S.Store.state c.write_pass.new.store in
+    let same : bytes_in (b.files c.args.name.now) ≡ n = ap (λ (f : Files). bytes_in (f c.args.name.now)) c.in-Ok.ensures.frame.files in
+    let known_d = known_still b d c.in-Ok-write_pass.counted c.in-Ok-write_pass.ensures.frame known_b in
+    let e = g.S.Store.state c.commit.new.store in
+    let write = advances_of (check_calls n + n + 6) b d (Ok c.in-Ok-write_pass.counted) known_b (rw same at (c.in-Ok-write_pass.ensures.calls known_b)) in
+    let both = advances_then {V = Unit {0}} (merge_calls n) (λ x. 1) a b d c.in-Ok.totals c.in-Ok-write_pass.counted tt count write (omega arith) in
+    at_most (merge_calls n) a e (Ok tt) (advances_then {V = Unit {0}} (merge_calls n) (λ x. 0) a d e tt tt tt both
+    (advances_of 1 d e (Ok tt) known_d c.in-Ok-commit.ensures.calls) (omega arith)) (omega arith)
+
+pub returns-in-Err-commit-clause-calls : goal.returns-in-Err-commit-clause-calls
+returns-in-Err-commit-clause-calls g c = λ known.
+    let a = g.S.Store.state c.args.store.now in
+    let b = g.S.Store.state c.count_pass.new.store in
+    let n = bytes_in (a.files c.args.name.now) in
+    let known_b = known_still a b c.in-Ok.totals c.in-Ok.ensures.frame known in
+    let count = advances_of (check_calls n) a b (Ok c.in-Ok.totals) known (c.in-Ok.ensures.calls known) in
+    let d = g.S.Store.state c.write_pass.new.store in
+    let same : bytes_in (b.files c.args.name.now) ≡ n = ap (λ (f : Files). bytes_in (f c.args.name.now)) c.in-Ok.ensures.frame.files in
+    let known_d = known_still b d c.in-Ok-write_pass.counted c.in-Ok-write_pass.ensures.frame known_b in
+    let e = g.S.Store.state c.commit.new.store in
+    let write = advances_of (check_calls n + n + 6) b d (Ok c.in-Ok-write_pass.counted) known_b (rw same at (c.in-Ok-write_pass.ensures.calls known_b)) in
+    let both = advances_then {V = Unit {0}} (merge_calls n) (λ x. 1) a b d c.in-Ok.totals c.in-Ok-write_pass.counted tt count write (omega arith) in
+    at_most (merge_calls n) a e (Err c.in-Err-commit.fault) (advances_fails {V = Unit {0}} (merge_calls n) (λ x. 0) a d e tt c.in-Err-commit.fault both
+    (advances_of 1 d e (Err c.in-Err-commit.fault) known_d c.in-Err-commit.ensures.calls) (omega arith)) (omega arith)

@@ -7,16 +7,22 @@ use Rattle.osm_save.specs.Reading.{object_at}
 use Rattle.osm_merge.specs.Faults.{IsDeviceFault}
 use Rattle.osm_merge.proofs.FrameLemmas.{has_still, lays_after, often_fails}
 use Rattle.osm_merge.proofs.ItemLemmas.{merging_begun, merging_done, merging_more, merging_stops}
+use Rattle.osm_merge.proofs.CallLemmas.{item_more, item_unput, item_unread, next_shorter, rest_put, rest_unput, spent_none}
+use Rattle.osm_blocks.specs.Calls.{reads_ahead}
+use Rattle.osm_merge.specs.Calls.{calls_ahead}
 use Rattle.osm_merge.proofs.objects.merge_objects.Goals as goal
 
 pub loop-init : goal.loop-init
-loop-init g c = merging_begun laid_over line_text (λ o. o.key) (object_at c.args.filter.now) c.args.many c.args.entries.now
-    (HasFile (g.S.Store.state c.args.store.now) c.args.name.now) (left_of c.args.source.now) (g.S.Store.state c.args.store.now) c.args.writer.now
-    (often_none IsDeviceFault (g.S.Store.state c.args.store.now) tt)
+loop-init g c = record {
+  merging = merging_begun laid_over line_text (λ o. o.key) (object_at c.args.filter.now) c.args.many c.args.entries.now
+      (HasFile (g.S.Store.state c.args.store.now) c.args.name.now) (left_of c.args.source.now) (g.S.Store.state c.args.store.now) c.args.writer.now
+      (often_none IsDeviceFault (g.S.Store.state c.args.store.now) tt);
+  calls = spent_none (HasFile (g.S.Store.state c.args.store.now) c.args.name.now) c.args.writer.now c.args.source.now (g.S.Store.state c.args.store.now);
+}
 
 pub returns-in-Err-clause-refused : goal.returns-in-Err-clause-refused
 returns-in-Err-clause-refused g c = λ file has.
-    let h = c.loop.invariant in
+    let h = c.loop.invariant.merging in
     merging_stops laid_over line_text (λ o. o.key) (object_at c.args.filter.now) c.args.many c.args.entries.now c.loop.rest.now c.loop.counter c.loop.last c.loop.count
     (HasFile (g.S.Store.state c.args.store.now) c.args.name.now) (left_of c.args.source.now) (left_of c.loop.source)
     (g.S.Store.state c.args.store.now) (g.S.Store.state c.loop.store) c.args.writer.now c.loop.writer file c.in-Err.fault c.loop-test.true h has
@@ -24,32 +30,48 @@ returns-in-Err-clause-refused g c = λ file has.
 
 pub returns-in-Err-clause-frame : goal.returns-in-Err-clause-frame
 returns-in-Err-clause-frame g c = often_fails {T = Unit {0}} IsDeviceFault (g.S.Store.state c.args.store.now) (g.S.Store.state c.loop.store) (g.S.Store.state c.next_object.new.store)
-    tt c.in-Err.fault c.loop.invariant.frame c.in-Err.ensures.frame
+    tt c.in-Err.fault c.loop.invariant.merging.frame c.in-Err.ensures.frame
 
 pub returns-in-Err-put_object-clause-frame : goal.returns-in-Err-put_object-clause-frame
 returns-in-Err-put_object-clause-frame g c = often_fails {T = Unit {0}} IsDeviceFault (g.S.Store.state c.args.store.now) (g.S.Store.state c.next_object.new.store) (g.S.Store.state c.put_object.new.store)
     tt c.in-Err-put_object.fault
     (often_then {T = Unit {0}} {V = Unit {0}} IsDeviceFault (g.S.Store.state c.args.store.now) (g.S.Store.state c.loop.store) (g.S.Store.state c.next_object.new.store) tt c.in-Ok.object tt
-    c.loop.invariant.frame c.in-Ok.ensures.frame) c.in-Err-put_object.ensures.frame
+    c.loop.invariant.merging.frame c.in-Ok.ensures.frame) c.in-Err-put_object.ensures.frame
 
 pub loop-preserved : goal.loop-preserved
 loop-preserved g c =
-    let h = c.loop.invariant in
-    rw c.key.ensures.key (merging_more laid_over line_text (λ o. o.key) (object_at c.args.filter.now) c.args.many c.args.entries.now c.loop.rest.now c.in-Ok-put_object.laid.0.now
-    c.loop.counter c.loop.last c.loop.count c.in-Ok-put_object.laid.1 c.in-Ok.object
-    (HasFile (g.S.Store.state c.args.store.now) c.args.name.now) (left_of c.args.source.now) (left_of c.loop.source) (left_of c.next_object.new.source)
-    (g.S.Store.state c.args.store.now) (g.S.Store.state c.loop.store) (g.S.Store.state c.put_object.new.store) c.args.writer.now c.loop.writer c.put_object.new.writer
-    c.loop-test.true h
-    (lays_after laid_over line_text c.loop.rest.now c.in-Ok.object c.in-Ok-put_object.laid.0.now c.in-Ok-put_object.laid.1
-    (g.S.Store.state c.loop.store) (g.S.Store.state c.next_object.new.store) (g.S.Store.state c.put_object.new.store) c.loop.writer c.put_object.new.writer
-    c.in-Ok.object c.in-Ok.ensures.frame c.in-Ok.ensures.stage c.in-Ok-put_object.ensures.laid)
-    (λ file has. c.in-Ok.ensures.read file (has_still (g.S.Store.state c.args.store.now) (g.S.Store.state c.loop.store) tt c.args.name.now file h.frame has))
-    (often_then {V = Unit {0}} IsDeviceFault (g.S.Store.state c.loop.store) (g.S.Store.state c.next_object.new.store) (g.S.Store.state c.put_object.new.store) c.in-Ok.object c.in-Ok-put_object.laid tt
-    c.in-Ok.ensures.frame c.in-Ok-put_object.ensures.frame))
+    let h = c.loop.invariant.merging in
+    record {
+      merging = rw c.key.ensures.key (merging_more laid_over line_text (λ o. o.key) (object_at c.args.filter.now) c.args.many c.args.entries.now
+          c.loop.rest.now c.in-Ok-put_object.laid.0.now
+          c.loop.counter c.loop.last c.loop.count c.in-Ok-put_object.laid.1 c.in-Ok.object
+          (HasFile (g.S.Store.state c.args.store.now) c.args.name.now) (left_of c.args.source.now) (left_of c.loop.source) (left_of c.next_object.new.source)
+          (g.S.Store.state c.args.store.now) (g.S.Store.state c.loop.store) (g.S.Store.state c.put_object.new.store) c.args.writer.now c.loop.writer c.put_object.new.writer
+          c.loop-test.true h
+          (lays_after laid_over line_text c.loop.rest.now c.in-Ok.object c.in-Ok-put_object.laid.0.now c.in-Ok-put_object.laid.1
+          (g.S.Store.state c.loop.store) (g.S.Store.state c.next_object.new.store) (g.S.Store.state c.put_object.new.store) c.loop.writer c.put_object.new.writer
+          c.in-Ok.object c.in-Ok.ensures.frame c.in-Ok.ensures.stage c.in-Ok-put_object.ensures.laid)
+          (λ file has. c.in-Ok.ensures.read file (has_still (g.S.Store.state c.args.store.now) (g.S.Store.state c.loop.store) tt c.args.name.now file h.frame has))
+          (often_then {V = Unit {0}} IsDeviceFault (g.S.Store.state c.loop.store) (g.S.Store.state c.next_object.new.store) (g.S.Store.state c.put_object.new.store) c.in-Ok.object c.in-Ok-put_object.laid tt
+          c.in-Ok.ensures.frame c.in-Ok-put_object.ensures.frame));
+      calls = item_more IsDeviceFault (HasFile (g.S.Store.state c.args.store.now) c.args.name.now) c.args.writer.now c.loop.writer c.args.source.now
+          c.loop.source (g.S.Store.state c.args.store.now) (g.S.Store.state c.loop.store) c.loop.invariant.calls c.put_object.new.writer c.next_object.new.source
+          (g.S.Store.state c.next_object.new.store) (g.S.Store.state c.put_object.new.store) c.in-Ok.object c.in-Ok-put_object.laid
+          (λ file has.
+          let has_l = has_still (g.S.Store.state c.args.store.now) (g.S.Store.state c.loop.store) tt c.args.name.now file c.loop.invariant.merging.frame has
+          in (
+            (has_still (g.S.Store.state c.loop.store) (g.S.Store.state c.next_object.new.store) c.in-Ok.object c.args.name.now file c.in-Ok.ensures.frame
+                has_l).known,
+            next_shorter (object_at c.args.filter.now) c.loop.last (left_of c.loop.source file) (left_of c.next_object.new.source file) c.in-Ok.object
+                (c.in-Ok.ensures.read file has_l),
+            c.in-Ok.ensures.calls file has_l,
+          ))
+          c.in-Ok-put_object.ensures.calls c.in-Ok-put_object.ensures.keeps;
+    }
 
 pub returns-in-Ok-put_rest-clause-merges : goal.returns-in-Ok-put_rest-clause-merges
 returns-in-Ok-put_rest-clause-merges g c =
-    let h = c.loop.invariant in
+    let h = c.loop.invariant.merging in
     merging_done laid_over line_text (λ o. o.key) (object_at c.args.filter.now) c.args.many c.args.entries.now c.loop.rest.now c.loop.counter c.loop.last c.loop.count c.in-Ok-put_rest.put
     (HasFile (g.S.Store.state c.args.store.now) c.args.name.now) (left_of c.args.source.now) (left_of c.loop.source)
     (g.S.Store.state c.args.store.now) (g.S.Store.state c.loop.store) (g.S.Store.state c.put_rest.new.store) c.args.writer.now c.loop.writer c.put_rest.new.writer
@@ -57,8 +79,44 @@ returns-in-Ok-put_rest-clause-merges g c =
 
 pub returns-in-Ok-put_rest-clause-frame : goal.returns-in-Ok-put_rest-clause-frame
 returns-in-Ok-put_rest-clause-frame g c = often_then {T = Unit {0}} IsDeviceFault (g.S.Store.state c.args.store.now) (g.S.Store.state c.loop.store) (g.S.Store.state c.put_rest.new.store)
-    tt c.in-Ok-put_rest.put (c.loop.count + c.in-Ok-put_rest.put) c.loop.invariant.frame c.in-Ok-put_rest.ensures.frame
+    tt c.in-Ok-put_rest.put (c.loop.count + c.in-Ok-put_rest.put) c.loop.invariant.merging.frame c.in-Ok-put_rest.ensures.frame
 
 pub returns-clause-frame : goal.returns-clause-frame
 returns-clause-frame g c = often_fails {T = Unit {0}} IsDeviceFault (g.S.Store.state c.args.store.now) (g.S.Store.state c.loop.store) (g.S.Store.state c.put_rest.new.store)
-    tt c.in-Err-put_rest.fault c.loop.invariant.frame c.in-Err-put_rest.ensures.frame
+    tt c.in-Err-put_rest.fault c.loop.invariant.merging.frame c.in-Err-put_rest.ensures.frame
+
+pub returns-in-Err-clause-calls : goal.returns-in-Err-clause-calls
+returns-in-Err-clause-calls g c = λ file has.
+    item_unread IsDeviceFault (HasFile (g.S.Store.state c.args.store.now) c.args.name.now) c.args.writer.now c.loop.writer c.args.source.now c.loop.source
+    (g.S.Store.state c.args.store.now) (g.S.Store.state c.loop.store) c.loop.invariant.calls
+    (λ x. calls_ahead c.args.writer.now c.next_object.new.source file) (g.S.Store.state c.next_object.new.store) c.in-Err.fault
+    (λ x. reads_ahead c.next_object.new.source file) file has
+    (c.in-Err.ensures.calls file (has_still (g.S.Store.state c.args.store.now) (g.S.Store.state c.loop.store) tt c.args.name.now file
+    c.loop.invariant.merging.frame has))
+
+pub returns-in-Err-put_object-clause-calls : goal.returns-in-Err-put_object-clause-calls
+returns-in-Err-put_object-clause-calls g c = λ file has.
+    let has_l = has_still (g.S.Store.state c.args.store.now) (g.S.Store.state c.loop.store) tt c.args.name.now file c.loop.invariant.merging.frame has in
+    let has_n = has_still (g.S.Store.state c.loop.store) (g.S.Store.state c.next_object.new.store) c.in-Ok.object c.args.name.now file c.in-Ok.ensures.frame
+    has_l in
+    item_unput IsDeviceFault (HasFile (g.S.Store.state c.args.store.now) c.args.name.now) c.args.writer.now c.loop.writer c.args.source.now c.loop.source
+    (g.S.Store.state c.args.store.now) (g.S.Store.state c.loop.store) c.loop.invariant.calls
+    (λ x. calls_ahead c.args.writer.now c.next_object.new.source file) c.next_object.new.source (g.S.Store.state c.next_object.new.store)
+    (g.S.Store.state c.put_object.new.store) c.in-Ok.object c.in-Err-put_object.fault
+    file has has_n.known (c.in-Ok.ensures.calls file has_l) c.in-Err-put_object.ensures.calls
+
+pub returns-in-Ok-put_rest-clause-calls : goal.returns-in-Ok-put_rest-clause-calls
+returns-in-Ok-put_rest-clause-calls g c = λ file has.
+    rest_put IsDeviceFault (HasFile (g.S.Store.state c.args.store.now) c.args.name.now) c.args.writer.now c.loop.writer c.args.source.now c.loop.source
+    (g.S.Store.state c.args.store.now) (g.S.Store.state c.loop.store) c.loop.invariant.calls
+    (g.S.Store.state c.put_rest.new.store) c.in-Ok-put_rest.put (c.loop.count + c.in-Ok-put_rest.put) file has
+    (has_still (g.S.Store.state c.args.store.now) (g.S.Store.state c.loop.store) tt c.args.name.now file c.loop.invariant.merging.frame has).known
+    c.in-Ok-put_rest.ensures.calls
+
+pub returns-clause-calls : goal.returns-clause-calls
+returns-clause-calls g c = λ file has.
+    rest_unput IsDeviceFault (HasFile (g.S.Store.state c.args.store.now) c.args.name.now) c.args.writer.now c.loop.writer c.args.source.now c.loop.source
+    (g.S.Store.state c.args.store.now) (g.S.Store.state c.loop.store) c.loop.invariant.calls
+    (λ x. calls_ahead c.args.writer.now c.loop.source file) (g.S.Store.state c.put_rest.new.store) c.in-Err-put_rest.fault file has
+    (has_still (g.S.Store.state c.args.store.now) (g.S.Store.state c.loop.store) tt c.args.name.now file c.loop.invariant.merging.frame has).known
+    c.in-Err-put_rest.ensures.calls

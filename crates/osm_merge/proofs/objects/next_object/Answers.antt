@@ -4,6 +4,7 @@ use Rattle.osm_save.specs.Reading.{object_at}
 use Rattle.osm_merge.specs.Laying.{next_at}
 use Rattle.osm_merge.proofs.LineLemmas.{refused_by}
 use Rattle.osm_merge.proofs.ObjectLemmas.{bad_refuses, next_is, next_none, object_long}
+use Rattle.osm_merge.proofs.CallLemmas.{bad_blames}
 use Rattle.osm_merge.proofs.objects.next_object.Goals as goal
 
 pub returns-in-Err-clause-read : goal.returns-in-Err-clause-read
@@ -24,3 +25,12 @@ returns-in-Ok-None-clause-read g c = λ file has.
     bad_refuses file c.wrong.result (next_at (object_at c.args.filter.now) c.args.last (left_of c.args.source.now file)) c.wrong.ensures
     (next_is (object_at c.args.filter.now) c.args.last (left_of c.args.source.now file) (take c.in-Ok.count c.next.new.self.unread)
     (left_of (past (c.in-Ok.count + 1) c.next.new.self) file) None (c.in-Ok.ensures.found file has) (rw c.line.ensures at read))
+
+pub returns-in-Err-clause-calls : goal.returns-in-Err-clause-calls
+returns-in-Err-clause-calls g c = λ file has. record { spent = tt; lacks = (c.in-Err.ensures.calls file has).lacks }
+
+pub returns-in-Ok-None-clause-calls : goal.returns-in-Ok-None-clause-calls
+returns-in-Ok-None-clause-calls g c = λ file has. record { spent = tt; lacks = bad_blames c.wrong.result c.wrong.ensures }
+
+pub returns-in-Ok-Some-clause-calls : goal.returns-in-Ok-Some-clause-calls
+returns-in-Ok-Some-clause-calls g c = λ file has. rw c.pass.ensures (record { spent = (c.in-Ok.ensures.calls file has).spent; lacks = tt })

@@ -1,6 +1,4 @@
-use Rattle.std.proofs.Common.{◌≡◌, List, ℕ, Some, None, drop, subst, sym, ap, ◌∙◌}
 use Rattle.std.proofs.lemmas.List.{take_rest}
-use Rattle.osm_reading.specs.Pieces.{cut_at}
 use Rattle.osm_blocks.proofs.PlaceLemmas.{line_after, none_after}
 use Rattle.osm_blocks.proofs.line_reader.LineReader.find_after.Goals as goal
 

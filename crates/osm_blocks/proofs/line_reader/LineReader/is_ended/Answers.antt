@@ -1,4 +1,4 @@
-use Rattle.std.proofs.Common.{◌≡◌, ℕ, length, arith}
+use Rattle.std.proofs.Common.{◌≡◌, length, arith}
 use Rattle.std.proofs.lemmas.Bool.Decides.{nat_tests}
 use Rattle.osm_blocks.proofs.PlaceLemmas.{end_of}
 use Rattle.osm_blocks.proofs.line_reader.LineReader.is_ended.Goals as goal

@@ -1,8 +1,9 @@
-use Rattle.std.proofs.Common.{◌≡◌, ◌+◌, ◌<◌, List, ℕ, Some, None, Option, [], take, drop, length, subst, refl, ap, ◌∙◌, lit<, arith}
+use Rattle.std.proofs.Common.{◌≡◌, ◌+◌, ◌<◌, ℕ, Some, take, drop, length, subst, refl, ap, ◌∙◌, lit<, arith}
 use Rattle.std.proofs.lemmas.Option.{same_Some}
 use Rattle.std.proofs.lemmas.Bool.Decides.{nat_tests}
 use Rattle.osm_store.specs.Files.{block_of}
 use Rattle.osm_blocks.specs.Places.{Place, max_block}
+use Rattle.osm_blocks.proofs.CallLemmas.{block_read}
 use Rattle.osm_blocks.proofs.PlaceLemmas.{huge_file, left_more, no_length, nothing_left}
 use Rattle.osm_blocks.proofs.line_reader.LineReader.read_more.Goals as goal
 
@@ -33,3 +34,15 @@ returns-clause-more g c = λ file has.
     c.in_ok-take_block.ensures.from ∙ (rw (c.as_slice.ensures.value, from) at c.in-Some-after_block.ensures.after) in
     left_more c.args.self.now c.take_block.new.self file c.in-Some.block.items max_block c.in_ok-take_block.ensures.unread after
     (subst (λ (n : ℕ). take max_block (drop n file) ≡ c.in-Some.block.items) from taken)
+
+pub returns-clause-fewer : goal.returns-clause-fewer
+returns-clause-fewer g c = λ file has yes.
+    let read : block_of c.self.inside.from max_block (Some file) ≡ Some c.in-Some.block.items =
+    rw (c.in-Some.is, has.there) at (c.in_ok-block.ensures.read has.known) in
+    let taken : take max_block (drop c.self.inside.from file) ≡ c.in-Some.block.items = same_Some (take max_block (drop c.self.inside.from file)) c.in-Some.block.items read in
+    let from : c.self.inside.from ≡ c.args.self.now.from = ap (λ (p : Place). p.from) c.self.view_is in
+    let after : c.take_block.new.self.from ≡ c.args.self.now.from + length c.in-Some.block.items =
+    c.in_ok-take_block.ensures.from ∙ (rw (c.as_slice.ensures.value, from) at c.in-Some-after_block.ensures.after) in
+    let some : 0 < length c.in-Some.block.items = grind (arith, nat_tests) in
+    let fewer = block_read file c.in-Some.block.items c.args.self.now.from (subst (λ (n : ℕ). take max_block (drop n file) ≡ c.in-Some.block.items) from taken) some in
+    rw after (omega (arith, fewer))

@@ -8,7 +8,7 @@ pub returns-in-Err-clause-read : goal.returns-in-Err-clause-read
 returns-in-Err-clause-read g c = λ file has few.
     refused_by file c.args.self.now c.next.new.self c.in-Err.fault (fixed_at c.args.text.now (left_of c.args.self.now file)) (c.in-Err.ensures.found file has)
     (fixed_none c.args.text.now (left_of c.args.self.now file))
-    (λ long short. fixed_long c.args.text.now (left_of c.args.self.now file) few long)
+    (λ long. fixed_long c.args.text.now (left_of c.args.self.now file) few long)
 
 pub returns-in_default-clause-read : goal.returns-in_default-clause-read
 returns-in_default-clause-read g c = λ file has few.
@@ -25,3 +25,9 @@ returns-clause-read g c = λ file has few.
     let some : fixed_at c.args.text.now c.next.new.self.unread ≡ Some c.in-Ok-fixed_line._rest.now =
     rw c.unread.ensures at c.in-Ok-fixed_line.ensures in
     rw c.pass.ensures (same ∙ ap (λ (o : Option (List ℕ)). then_rest o (left_of (past (c.in-Ok.count + 1) c.next.new.self) file)) some)
+
+pub returns-in-Err-clause-calls : goal.returns-in-Err-clause-calls
+returns-in-Err-clause-calls g c = λ file has. record { spent = tt; lacks = (c.in-Err.ensures.calls file has).lacks }
+
+pub returns-clause-calls : goal.returns-clause-calls
+returns-clause-calls g c = λ file has. rw c.pass.ensures (record { spent = (c.in-Ok.ensures.calls file has).spent; lacks = tt })
