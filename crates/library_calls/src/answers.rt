@@ -1,115 +1,160 @@
-//! How answers are written, and what they give is kept.
+//! Where answers are written, and what they give is kept.
 
-use anyhow::{Result, bail};
 use osm_model::batch::Batch;
 use osm_model::change::Change;
 use osm_opl::lines::write_line;
-use std::fmt::Debug;
+use std::fmt::{Debug, Display};
 use std::io::Write;
 
-/// A line `done`, or the error.
-pub(crate) fn write_done<E: Debug + Drop>(answer: Result<(), E>, out: &mut Vec<u8>) -> Result<()> {
-    match answer {
-        Ok(()) => writeln!(out, "done")?,
-        Err(error) => writeln!(out, "{error:?}")?,
-    }
-    Ok(())
+/// The answers so far, and the fault of the input, if one was found.
+#[derive(Drop)]
+pub(crate) struct Answers {
+    /// Their bytes.
+    pub text: Vec<u8>,
+    /// What is wrong with a command.
+    pub fault: Option<&'static str>,
 }
 
-/// A line `done` after what came is put in its place, or the error.
-pub(crate) fn put_or<T: Drop, E: Debug + Drop>(
-    answer: Result<T, E>,
-    place: &mut T,
-    out: &mut Vec<u8>,
-) -> Result<()> {
-    match answer {
-        Ok(value) => {
-            *place = value;
-            write_done::<E>(Ok(()), out)
+impl Answers {
+    /// Says what is wrong with a command.
+    pub(crate) fn fail(&mut self, fault: &'static str) {
+        self.fault = Some(fault);
+    }
+
+    /// Fails unless something was written.
+    pub(crate) fn expect<E: Drop>(&mut self, written: Result<(), E>) {
+        if written.is_err() {
+            self.fail("not written");
         }
-        Err(error) => write_done(Err(error), out),
     }
-}
 
-/// Puts what is prepared for a call in its place.
-pub(crate) fn put<T: Drop, E: Drop>(prepared: Result<T, E>, place: &mut T) -> Result<()> {
-    match prepared {
-        Ok(value) => *place = value,
-        Err(_) => bail!("not prepared"),
+    /// Adds the bytes.
+    pub(crate) fn add(&mut self, bytes: &[u8]) {
+        let added = self.text.extend_from_slice(bytes);
+        self.expect(added);
     }
-    Ok(())
-}
 
-/// Puts what is prepared for a call in its place, which may be empty.
-pub(crate) fn put_some<T: Drop, E: Drop>(
-    prepared: Result<T, E>,
-    place: &mut Option<T>,
-) -> Result<()> {
-    match prepared {
-        Ok(value) => *place = Some(value),
-        Err(_) => bail!("not prepared"),
+    /// Adds the value.
+    pub(crate) fn show<D: Display + Drop>(&mut self, value: D) {
+        let written = write!(&mut self.text, "{value}");
+        self.expect(written);
     }
-    Ok(())
-}
 
-/// The bytes and a line feed, or the error.
-pub(crate) fn write_bytes_or<E: Debug + Drop>(
-    answer: Result<Vec<u8>, E>,
-    out: &mut Vec<u8>,
-) -> Result<()> {
-    match answer {
-        Ok(bytes) => {
-            out.extend_from_slice(bytes.as_slice())?;
-            writeln!(out)?;
+    /// Adds a line with the value.
+    pub(crate) fn line<D: Display + Drop>(&mut self, value: D) {
+        let written = writeln!(&mut self.text, "{value}");
+        self.expect(written);
+    }
+
+    /// Adds a line with the value as `Debug` writes it.
+    pub(crate) fn debug<D: Debug>(&mut self, value: &D) {
+        let written = writeln!(&mut self.text, "{value:?}");
+        self.expect(written);
+    }
+
+    /// Adds the value as `Debug` writes it.
+    pub(crate) fn debug_part<D: Debug>(&mut self, value: &D) {
+        let written = write!(&mut self.text, "{value:?}");
+        self.expect(written);
+    }
+
+    /// A line `done`, or the error.
+    pub(crate) fn done<E: Debug + Drop>(&mut self, answer: Result<(), E>) {
+        match answer {
+            Ok(()) => self.add(b"done\n"),
+            Err(error) => self.debug(&error),
         }
-        Err(error) => writeln!(out, "{error:?}")?,
     }
-    Ok(())
-}
 
-/// A line of OPL for the change, or the error.
-pub(crate) fn write_change_or<E: Debug + Drop>(
-    answer: Result<Change, E>,
-    out: &mut Vec<u8>,
-) -> Result<()> {
-    match answer {
-        Ok(change) => write_change(&change, out),
-        Err(error) => Ok(writeln!(out, "{error:?}")?),
+    /// The bytes and a line feed, or the error.
+    pub(crate) fn bytes<E: Debug + Drop>(&mut self, answer: Result<Vec<u8>, E>) {
+        match answer {
+            Ok(bytes) => {
+                self.add(bytes.as_slice());
+                self.add(b"\n");
+            }
+            Err(error) => self.debug(&error),
+        }
     }
-}
 
-/// A line of OPL for each change, or the error.
-pub(crate) fn write_batch_or<E: Debug + Drop>(
-    answer: Result<Batch, E>,
-    out: &mut Vec<u8>,
-) -> Result<()> {
-    match answer {
-        Ok(batch) => write_changes(batch.changes(), out),
-        Err(error) => Ok(writeln!(out, "{error:?}")?),
+    /// A line that shows it, or the error.
+    pub(crate) fn shown<D: Display + Drop, E: Debug + Drop>(&mut self, answer: Result<D, E>) {
+        match answer {
+            Ok(value) => self.line(value),
+            Err(error) => self.debug(&error),
+        }
     }
-}
 
-/// A line of OPL for each object, or the error.
-pub(crate) fn write_objects_or<E: Debug + Drop>(
-    answer: Result<Vec<Change>, E>,
-    out: &mut Vec<u8>,
-) -> Result<()> {
-    match answer {
-        Ok(objects) => write_changes(objects.as_slice(), out),
-        Err(error) => Ok(writeln!(out, "{error:?}")?),
+    /// A line with the list, or the error.
+    pub(crate) fn list<D: Debug + Drop, E: Debug + Drop>(&mut self, answer: Result<Vec<D>, E>) {
+        match answer {
+            Ok(list) => self.debug(&list.as_slice()),
+            Err(error) => self.debug(&error),
+        }
     }
-}
 
-/// A line of OPL for each change.
-pub(crate) fn write_changes(changes: &[Change], out: &mut Vec<u8>) -> Result<()> {
-    for change in changes {
-        write_change(change, out)?;
+    /// A line of OPL for each change of the batch, or the error.
+    pub(crate) fn batch<E: Debug + Drop>(&mut self, answer: Result<Batch, E>) {
+        match answer {
+            Ok(batch) => self.changes(batch.changes()),
+            Err(error) => self.debug(&error),
+        }
     }
-    Ok(())
-}
 
-/// A line of OPL.
-pub(crate) fn write_change(change: &Change, out: &mut Vec<u8>) -> Result<()> {
-    write_line(change, out)?;
-    Ok(writeln!(out)?)
+    /// A line of OPL for each object, or the error.
+    pub(crate) fn objects<E: Debug + Drop>(&mut self, answer: Result<Vec<Change>, E>) {
+        match answer {
+            Ok(objects) => self.changes(objects.as_slice()),
+            Err(error) => self.debug(&error),
+        }
+    }
+
+    /// A line of OPL, or the error.
+    pub(crate) fn change_or<E: Debug + Drop>(&mut self, answer: Result<Change, E>) {
+        match answer {
+            Ok(change) => self.change(&change),
+            Err(error) => self.debug(&error),
+        }
+    }
+
+    /// A line of OPL for each change.
+    pub(crate) fn changes(&mut self, changes: &[Change]) {
+        for change in changes {
+            self.change(change);
+        }
+    }
+
+    /// A line of OPL.
+    pub(crate) fn change(&mut self, change: &Change) {
+        let written = write_line(change, &mut self.text);
+        self.expect(written);
+        self.add(b"\n");
+    }
+
+    /// A line `done` after what came is put in its place, or the error.
+    pub(crate) fn put_or<T: Drop, E: Debug + Drop>(&mut self, answer: Result<T, E>, place: &mut T) {
+        match answer {
+            Ok(value) => {
+                *place = value;
+                self.add(b"done\n");
+            }
+            Err(error) => self.debug(&error),
+        }
+    }
+
+    /// Puts what is prepared for a call in its place.
+    pub(crate) fn put<T: Drop>(&mut self, prepared: Option<T>, place: &mut T) {
+        match prepared {
+            Some(value) => *place = value,
+            None => self.fail("not prepared"),
+        }
+    }
+
+    /// Puts what is prepared for a call in its place, which may be empty.
+    pub(crate) fn put_some<T: Drop>(&mut self, prepared: Option<T>, place: &mut Option<T>) {
+        match prepared {
+            Some(value) => *place = Some(value),
+            None => self.fail("not prepared"),
+        }
+    }
 }

@@ -1,12 +1,11 @@
 //! The commands of standard input.
 
-use anyhow::{Context, Result};
 use osm_reading::pieces::cut;
 use osm_reading::sequence::sequence_read;
 use std::alloc::Global;
 
 /// A command.
-#[derive(Clone, Copy, Debug)]
+#[derive(Clone, Copy)]
 pub(crate) struct Command<'a> {
     /// What it is: the name of a call, or of what is prepared for one.
     pub word: &'a [u8],
@@ -14,19 +13,19 @@ pub(crate) struct Command<'a> {
     pub given: &'a [u8],
 }
 
-/// The commands in those bytes.
-pub(crate) fn commands_of(alloc: Global, bytes: &[u8]) -> Result<Vec<Command<'_>>> {
+/// The commands in those bytes, if they are commands.
+pub(crate) fn commands_of(alloc: Global, bytes: &[u8]) -> Option<Vec<Command<'_>>> {
     let mut commands = Vec::new(alloc);
     let mut rest = bytes;
     for _ in 0..bytes.len() {
         if rest.is_empty() {
             break;
         }
-        let (command, after) = command_in(rest).context("no command")?;
-        commands.push(command)?;
+        let (command, after) = command_in(rest)?;
+        commands.push(command).ok()?;
         rest = after;
     }
-    Ok(commands)
+    Some(commands)
 }
 
 // The command that the bytes begin with, and what follows it.

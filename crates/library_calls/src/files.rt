@@ -1,10 +1,8 @@
 //! What the program's words do, over files in memory.
 
-use crate::answers::put_some;
-use crate::commands::Command;
+use crate::answers::Answers;
 use crate::filters::filter_of;
 use crate::subject::Subject;
-use anyhow::{Context, Result};
 use osm_folder::options::FollowOptions;
 use osm_model::filter::Filter;
 use osm_model::memory::WantOfMemory;
@@ -27,7 +25,137 @@ pub(crate) struct Files {
 }
 
 impl Files {
-    pub(crate) fn new(alloc: Global) -> Result<Files, WantOfMemory> {
+    // Adds a file: its name, a byte 0 and its bytes.
+    fn put(&mut self, alloc: Global, given: &[u8], out: &mut Answers) {
+        let (name, bytes) = cut(given, 0);
+        match (str::from_utf8(name), bytes) {
+            (Ok(name), Some(bytes)) => out.expect(self.store.put(alloc, name, bytes)),
+            _ => out.fail("no name and bytes"),
+        }
+    }
+
+    // Does what the order asks for, and adds what it wrote.
+    fn execute(&mut self, alloc: Global, order: Order<'_>, mut input: &[u8], out: &mut Answers) {
+        let filter = match self.filter.take() {
+            Some(filter) => filter,
+            None => Filter::all(alloc),
+        };
+        let options = FollowOptions::new(filter);
+        let (store, written) = (&mut self.store, &mut self.written);
+        let ended = execute(alloc, order, options, store, &mut input, written);
+        out.add(self.written.as_slice());
+        self.written.clear();
+        match ended {
+            Ok(status) => {
+                out.add(b"status ");
+                out.line(status);
+            }
+            Err(fault) => out.line(fault),
+        }
+    }
+
+    // The files with those names.
+    fn show(&self, names: &[u8], out: &mut Answers) {
+        match str::from_utf8(names) {
+            Ok(names) => self.show_each(names, out),
+            Err(_) => out.fail("no names"),
+        }
+    }
+
+    fn show_each(&self, names: &str, out: &mut Answers) {
+        for name in names.split('\n') {
+            if let Some(bytes) = self.store.get(name) {
+                out.add(b"file ");
+                out.line(name);
+                out.add(bytes);
+                out.add(b"\n");
+            }
+        }
+    }
+}
+
+// Orders over the files of a folder, a save, and changes and data in each form.
+const PUBLISH: Order<'static> = Order::Publish {
+    dir: "dir",
+    changes: "changes",
+    now: "2024-01-01T00:03:00Z",
+};
+
+const PUBLISH_AS: Order<'static> = Order::PublishAs {
+    dir: "dir",
+    changes: "changes",
+    now: "2024-01-01T00:03:00Z",
+    sequence: "1",
+};
+
+const BEGIN_OPL: Order<'static> = Order::Begin {
+    base: "a.opl",
+    state: "state",
+    save: "save",
+};
+
+const BEGIN_O5M: Order<'static> = Order::Begin {
+    base: "a.o5m",
+    state: "state",
+    save: "save",
+};
+
+const FOLLOW: Order<'static> = Order::Follow {
+    dir: "dir",
+    save: "save",
+};
+
+const LAG: Order<'static> = Order::Lag {
+    dir: "dir",
+    save: "save",
+};
+
+const EXPORT_OPL: Order<'static> = Order::Export {
+    save: "save",
+    output: "b.opl",
+};
+
+const EXPORT_O5M: Order<'static> = Order::Export {
+    save: "save",
+    output: "b.o5m",
+};
+
+const CONVERT: Order<'static> = Order::Convert {
+    input: "a.opl",
+    output: "b.o5c",
+};
+
+/// A call, or what is prepared for one.
+#[derive(Clone, Copy)]
+pub(crate) enum Call {
+    File,
+    Filter,
+    Show,
+    /// What the word of the program with that order does.
+    Execute(Order<'static>),
+}
+
+const CALLS: &[(&str, Call)] = &[
+    ("file", Call::File),
+    ("filter", Call::Filter),
+    ("show", Call::Show),
+    ("execute-replay", Call::Execute(Order::Replay)),
+    ("execute-publish", Call::Execute(PUBLISH)),
+    ("execute-publish-as", Call::Execute(PUBLISH_AS)),
+    ("execute-begin-opl", Call::Execute(BEGIN_OPL)),
+    ("execute-begin-o5m", Call::Execute(BEGIN_O5M)),
+    ("execute-follow", Call::Execute(FOLLOW)),
+    ("execute-lag", Call::Execute(LAG)),
+    ("execute-show", Call::Execute(Order::Show { save: "save" })),
+    ("execute-export-opl", Call::Execute(EXPORT_OPL)),
+    ("execute-export-o5m", Call::Execute(EXPORT_O5M)),
+    ("execute-convert", Call::Execute(CONVERT)),
+];
+
+impl Subject for Files {
+    type Call = Call;
+
+    fn begin(alloc: Global) -> Result<Files, WantOfMemory> {
         let written = Vec::with_capacity(alloc, ROOM)?;
         Ok(Files {
             store: MemoryStore::new(alloc),
@@ -36,105 +164,16 @@ impl Files {
         })
     }
 
-    // Adds a file: its name, a byte 0 and its bytes.
-    fn put(&mut self, alloc: Global, given: &[u8]) -> Result<()> {
-        let (name, bytes) = cut(given, 0);
-        let bytes = bytes.context("no bytes")?;
-        self.store.put(alloc, str::from_utf8(name)?, bytes)?;
-        Ok(())
+    fn calls() -> &'static [(&'static str, Call)] {
+        CALLS
     }
 
-    // Does what the order of that name asks for, and writes what it wrote.
-    fn run(&mut self, alloc: Global, word: &[u8], input: &[u8], out: &mut Vec<u8>) -> Result<()> {
-        let order = order_of(word).context("no such call")?;
-        self.execute(alloc, order, input)?;
-        self.answer(out)
-    }
-
-    fn execute(&mut self, alloc: Global, order: Order<'_>, mut input: &[u8]) -> Result<()> {
-        let filter = match self.filter.take() {
-            Some(filter) => filter,
-            None => Filter::all(alloc),
-        };
-        let (store, written) = (&mut self.store, &mut self.written);
-        let options = FollowOptions::new(filter);
-        match execute(alloc, order, options, store, &mut input, written) {
-            Ok(status) => writeln!(&mut self.written, "status {status}")?,
-            Err(fault) => writeln!(&mut self.written, "{fault}")?,
+    fn take(&mut self, alloc: Global, call: Call, given: &[u8], out: &mut Answers) {
+        match call {
+            Call::File => self.put(alloc, given, out),
+            Call::Filter => out.put_some(filter_of(alloc, given), &mut self.filter),
+            Call::Show => self.show(given, out),
+            Call::Execute(order) => self.execute(alloc, order, given, out),
         }
-        Ok(())
-    }
-
-    // What the runs wrote since it was shown.
-    fn answer(&mut self, out: &mut Vec<u8>) -> Result<()> {
-        out.extend_from_slice(self.written.as_slice())?;
-        self.written.clear();
-        Ok(())
-    }
-
-    // The files with those names.
-    fn show(&self, names: &[u8], out: &mut Vec<u8>) -> Result<()> {
-        let names = str::from_utf8(names)?;
-        for name in names.split('\n') {
-            if let Some(bytes) = self.store.get(name) {
-                writeln!(out, "file {name}")?;
-                out.extend_from_slice(bytes)?;
-                writeln!(out)?;
-            }
-        }
-        Ok(())
-    }
-}
-
-impl Subject for Files {
-    fn take(&mut self, alloc: Global, command: &Command<'_>, out: &mut Vec<u8>) -> Result<()> {
-        match command.word {
-            b"file" => self.put(alloc, command.given),
-            b"filter" => put_some(filter_of(alloc, command.given), &mut self.filter),
-            b"show" => self.show(command.given, out),
-            word => self.run(alloc, word, command.given, out),
-        }
-    }
-}
-
-// The order of that name, over the files of a folder, a save, and changes and data in each form.
-fn order_of(word: &[u8]) -> Option<Order<'static>> {
-    let (dir, save, changes, now) = ("dir", "save", "changes", "2024-01-01T00:03:00Z");
-    let state = "state";
-    match word {
-        b"execute-replay" => Some(Order::Replay),
-        b"execute-publish" => Some(Order::Publish { dir, changes, now }),
-        b"execute-publish-as" => Some(Order::PublishAs {
-            dir,
-            changes,
-            now,
-            sequence: "1",
-        }),
-        b"execute-begin-opl" => Some(Order::Begin {
-            base: "a.opl",
-            state,
-            save,
-        }),
-        b"execute-begin-o5m" => Some(Order::Begin {
-            base: "a.o5m",
-            state,
-            save,
-        }),
-        b"execute-follow" => Some(Order::Follow { dir, save }),
-        b"execute-lag" => Some(Order::Lag { dir, save }),
-        b"execute-show" => Some(Order::Show { save }),
-        b"execute-export-opl" => Some(Order::Export {
-            save,
-            output: "b.opl",
-        }),
-        b"execute-export-o5m" => Some(Order::Export {
-            save,
-            output: "b.o5m",
-        }),
-        b"execute-convert" => Some(Order::Convert {
-            input: "a.opl",
-            output: "b.o5c",
-        }),
-        _ => None,
     }
 }

@@ -1,11 +1,10 @@
 //! Calls that append lines with numbers, and the show text of a view.
 
-use crate::answers::{put, put_some, write_done};
-use crate::commands::Command;
+use crate::answers::Answers;
 use crate::subject::Subject;
-use anyhow::{Context, Result, bail};
 use osm_follow::follower::Follower;
 use osm_follow::view::View;
+use osm_model::memory::WantOfMemory;
 use osm_show::lines::{
     write_applied, write_bytes, write_count_lines, write_number, write_numbered,
     write_numbered_lines,
@@ -20,50 +19,95 @@ pub(crate) struct Lines {
     text: Vec<u8>,
 }
 
-impl Lines {
-    pub(crate) fn new(alloc: Global) -> Lines {
-        Lines {
+/// A call, or what is prepared for one.
+#[derive(Clone, Copy)]
+pub(crate) enum Call {
+    View,
+    Text,
+    Show,
+    WriteView,
+    /// Appends to the text.
+    Append(Line),
+}
+
+#[derive(Clone, Copy)]
+pub(crate) enum Line {
+    Numbered,
+    NumberedLines,
+    Applied,
+    CountLines,
+    Number,
+    Bytes,
+}
+
+const CALLS: &[(&str, Call)] = &[
+    ("view", Call::View),
+    ("text", Call::Text),
+    ("show", Call::Show),
+    ("write_view", Call::WriteView),
+    ("write_numbered", Call::Append(Line::Numbered)),
+    ("write_numbered_lines", Call::Append(Line::NumberedLines)),
+    ("write_applied", Call::Append(Line::Applied)),
+    ("write_count_lines", Call::Append(Line::CountLines)),
+    ("write_number", Call::Append(Line::Number)),
+    ("write_bytes", Call::Append(Line::Bytes)),
+];
+
+impl Subject for Lines {
+    type Call = Call;
+
+    fn begin(alloc: Global) -> Result<Lines, WantOfMemory> {
+        Ok(Lines {
             view: None,
             text: Vec::new(alloc),
+        })
+    }
+
+    fn calls() -> &'static [(&'static str, Call)] {
+        CALLS
+    }
+
+    fn take(&mut self, alloc: Global, call: Call, given: &[u8], out: &mut Answers) {
+        match call {
+            Call::View => out.put_some(view_of(alloc, given), &mut self.view),
+            Call::Text => out.put(Vec::from_slice(alloc, given).ok(), &mut self.text),
+            Call::Show => self.show(out),
+            Call::WriteView => self.write_view(out),
+            Call::Append(line) => out.done(append(line, &mut self.text)),
         }
     }
+}
 
-    fn show(&self, out: &mut Vec<u8>) -> Result<()> {
-        out.extend_from_slice(self.text.as_slice())?;
-        out.push(b'\n')?;
-        Ok(())
+impl Lines {
+    fn show(&self, out: &mut Answers) {
+        out.add(self.text.as_slice());
+        out.add(b"\n");
     }
 
-    fn write_view(&mut self, out: &mut Vec<u8>) -> Result<()> {
-        let view = self.view.as_ref().context("no view")?;
-        write_done(write_view(view, &mut self.text), out)
+    fn write_view(&mut self, out: &mut Answers) {
+        match &self.view {
+            Some(view) => out.done(write_view(view, &mut self.text)),
+            None => out.fail("no view"),
+        }
+    }
+}
+
+fn append(line: Line, text: &mut Vec<u8>) -> Result<(), WantOfMemory> {
+    match line {
+        Line::Numbered => write_numbered(b"number ", 12, text),
+        Line::NumberedLines => write_numbered_lines(b"missing ", &[2, 3, 5], text),
+        Line::Applied => write_applied(1, 3, text),
+        Line::CountLines => write_count_lines(&[(5, 1), (6, 22)], text),
+        Line::Number => write_number(u64::MAX, text),
+        Line::Bytes => write_bytes(b"some bytes", text),
     }
 }
 
 // The view of a follower that restarts from that save.
-fn view_of(alloc: Global, save: &[u8]) -> Result<View> {
-    let mut follower = Follower::new(alloc)?;
-    follower.restart(alloc, Some(save))?;
-    Ok(follower.view(alloc)?)
-}
-
-impl Subject for Lines {
-    fn take(&mut self, alloc: Global, command: &Command<'_>, out: &mut Vec<u8>) -> Result<()> {
-        let text = &mut self.text;
-        match command.word {
-            b"view" => put_some(view_of(alloc, command.given), &mut self.view),
-            b"text" => put(Vec::from_slice(alloc, command.given), text),
-            b"show" => self.show(out),
-            b"write_view" => self.write_view(out),
-            b"write_numbered" => write_done(write_numbered(b"number ", 12, text), out),
-            b"write_numbered_lines" => {
-                write_done(write_numbered_lines(b"missing ", &[2, 3, 5], text), out)
-            }
-            b"write_applied" => write_done(write_applied(1, 3, text), out),
-            b"write_count_lines" => write_done(write_count_lines(&[(5, 1), (6, 22)], text), out),
-            b"write_number" => write_done(write_number(u64::MAX, text), out),
-            b"write_bytes" => write_done(write_bytes(b"some bytes", text), out),
-            _ => bail!("no such call"),
-        }
+fn view_of(alloc: Global, save: &[u8]) -> Option<View> {
+    let mut follower = Follower::new(alloc).ok()?;
+    if follower.restart(alloc, Some(save)).is_err() {
+        return None;
     }
+    follower.view(alloc).ok()
 }

@@ -23,7 +23,7 @@ mod texts;
 mod values;
 mod worlds;
 
-use anyhow::{Result, bail};
+use answers::Answers;
 use commands::{Command, commands_of};
 use files::Files;
 use followers::Following;
@@ -33,7 +33,7 @@ use mirrors::Mirrors;
 use publishers::Publishing;
 use scripts::Scripts;
 use std::io::{Read, Write};
-use subject::take_each;
+use subject::{named, take_each};
 use texts::Texts;
 use values::Values;
 use worlds::Worlds;
@@ -41,34 +41,83 @@ use worlds::Worlds;
 // Room for all answers, so that writing one allocates nothing.
 const ROOM: usize = 1_048_576;
 
-fn main(rt: HostRuntime) -> Result<()> {
+fn main(rt: HostRuntime) -> Result<(), &'static str> {
     let alloc = rt.alloc();
     let mut input = Vec::new(alloc);
-    rt.stdin().read_to_end(&mut input)?;
-    let commands = commands_of(alloc, input.as_slice())?;
-    let mut out = Vec::with_capacity(alloc, ROOM)?;
-    take_all(&rt, commands.as_slice(), &mut out)?;
-    rt.stdout().write_all(out.as_slice())?;
-    Ok(())
+    if rt.stdin().read_to_end(&mut input).is_err() {
+        return Err("no input");
+    }
+    let Ok(text) = Vec::with_capacity(alloc, ROOM) else {
+        return Err("no room");
+    };
+    let mut out = Answers { text, fault: None };
+    take_input(&rt, input.as_slice(), &mut out);
+    if let Some(fault) = out.fault {
+        return Err(fault);
+    }
+    match rt.stdout().write_all(out.text.as_slice()) {
+        Ok(()) => Ok(()),
+        Err(_) => Err("not written"),
+    }
+}
+
+fn take_input(rt: &HostRuntime, input: &[u8], out: &mut Answers) {
+    match commands_of(rt.alloc(), input) {
+        Some(commands) => take_all(rt, commands.as_slice(), out),
+        None => out.fail("no commands"),
+    }
 }
 
 // The first command names what the calls are made on.
-fn take_all(rt: &HostRuntime, commands: &[Command<'_>], out: &mut Vec<u8>) -> Result<()> {
+fn take_all(rt: &HostRuntime, commands: &[Command<'_>], out: &mut Answers) {
     let Some((first, rest)) = commands.split_first() else {
-        bail!("no command");
+        return out.fail("no command");
     };
-    let alloc = rt.alloc();
-    match first.word {
-        b"texts" => take_each(rt, &mut Texts::new(), rest, out),
-        b"values" => take_each(rt, &mut Values::new(alloc), rest, out),
-        b"forms" => take_each(rt, &mut Forms::new(alloc), rest, out),
-        b"mirrors" => take_each(rt, &mut Mirrors::new(alloc), rest, out),
-        b"lines" => take_each(rt, &mut Lines::new(alloc), rest, out),
-        b"publisher" => take_each(rt, &mut Publishing::new(alloc), rest, out),
-        b"follower" => take_each(rt, &mut Following::new(alloc)?, rest, out),
-        b"world" => take_each(rt, &mut Worlds::new(alloc)?, rest, out),
-        b"scripts" => take_each(rt, &mut Scripts::new(alloc)?, rest, out),
-        b"files" => take_each(rt, &mut Files::new(alloc)?, rest, out),
-        _ => bail!("nothing has this name"),
+    match named(SUBJECTS, first.word) {
+        Some(on) => take_on(rt, on, rest, out),
+        None => out.fail("nothing has this name"),
+    }
+}
+
+// What calls are made on.
+#[derive(Clone, Copy)]
+enum On {
+    Texts,
+    Values,
+    Forms,
+    Mirrors,
+    Lines,
+    Publisher,
+    Follower,
+    World,
+    Scripts,
+    Files,
+}
+
+const SUBJECTS: &[(&str, On)] = &[
+    ("texts", On::Texts),
+    ("values", On::Values),
+    ("forms", On::Forms),
+    ("mirrors", On::Mirrors),
+    ("lines", On::Lines),
+    ("publisher", On::Publisher),
+    ("follower", On::Follower),
+    ("world", On::World),
+    ("scripts", On::Scripts),
+    ("files", On::Files),
+];
+
+fn take_on(rt: &HostRuntime, on: On, commands: &[Command<'_>], out: &mut Answers) {
+    match on {
+        On::Texts => take_each::<Texts>(rt, commands, out),
+        On::Values => take_each::<Values>(rt, commands, out),
+        On::Forms => take_each::<Forms>(rt, commands, out),
+        On::Mirrors => take_each::<Mirrors>(rt, commands, out),
+        On::Lines => take_each::<Lines>(rt, commands, out),
+        On::Publisher => take_each::<Publishing>(rt, commands, out),
+        On::Follower => take_each::<Following>(rt, commands, out),
+        On::World => take_each::<Worlds>(rt, commands, out),
+        On::Scripts => take_each::<Scripts>(rt, commands, out),
+        On::Files => take_each::<Files>(rt, commands, out),
     }
 }

@@ -1,11 +1,7 @@
 //! Calls of a mirror and of its parts, of a save text, and of a holding area.
 
-use crate::answers::{
-    put, put_or, put_some, write_bytes_or, write_change, write_changes, write_done,
-};
-use crate::commands::Command;
+use crate::answers::Answers;
 use crate::subject::Subject;
-use anyhow::{Context, Result, bail};
 use osm_holding::holding::{Held, HoldingArea};
 use osm_mirror::counts::Counts;
 use osm_mirror::mirror::Mirror;
@@ -20,8 +16,7 @@ use osm_opl::opl::Opl;
 use osm_save::head::{Head, head_read};
 use osm_save::save::{Saved, save_read, save_write};
 use std::alloc::Global;
-use std::fmt::Debug;
-use std::io::Write;
+use std::mem::replace;
 
 /// What a save text saves, objects and counts by themselves, a holding area, and changes for them.
 #[derive(Drop)]
@@ -34,71 +29,160 @@ pub(crate) struct Mirrors {
     change: Option<Change>,
 }
 
-impl Mirrors {
-    pub(crate) fn new(alloc: Global) -> Mirrors {
-        Mirrors {
+/// A call, or what is prepared for one.
+#[derive(Clone, Copy)]
+pub(crate) enum Call {
+    Changes,
+    Change,
+    Area,
+    Saved,
+    Show,
+    SaveRead,
+    HeadRead,
+    SaveWrite,
+    Apply,
+    Put,
+    AddOne,
+    NewArea,
+    Numbers,
+    /// A copy of one of the mirror's lists.
+    Copy(Copied),
+}
+
+#[derive(Clone, Copy)]
+pub(crate) enum Copied {
+    Objects,
+    Users,
+    Changesets,
+    ObjectsByKey,
+    UserCounts,
+}
+
+const CALLS: &[(&str, Call)] = &[
+    ("changes", Call::Changes),
+    ("change", Call::Change),
+    ("area", Call::Area),
+    ("saved", Call::Saved),
+    ("show", Call::Show),
+    ("save_read", Call::SaveRead),
+    ("head_read", Call::HeadRead),
+    ("save_write", Call::SaveWrite),
+    ("Mirror::apply", Call::Apply),
+    ("Objects::put", Call::Put),
+    ("Counts::add_one", Call::AddOne),
+    ("HoldingArea::new", Call::NewArea),
+    ("HoldingArea::numbers", Call::Numbers),
+    ("Mirror::objects", Call::Copy(Copied::Objects)),
+    ("Mirror::users", Call::Copy(Copied::Users)),
+    ("Mirror::changesets", Call::Copy(Copied::Changesets)),
+    ("Objects::to_vec", Call::Copy(Copied::ObjectsByKey)),
+    ("Counts::to_vec", Call::Copy(Copied::UserCounts)),
+];
+
+impl Subject for Mirrors {
+    type Call = Call;
+
+    fn begin(alloc: Global) -> Result<Mirrors, WantOfMemory> {
+        Ok(Mirrors {
             saved: saved_of(alloc, Mirror::new(alloc)),
             objects: Objects::new(alloc),
             counts: Counts::new(alloc),
             holding: None,
             changes: Batch::new(alloc),
             change: None,
+        })
+    }
+
+    fn calls() -> &'static [(&'static str, Call)] {
+        CALLS
+    }
+
+    fn take(&mut self, alloc: Global, call: Call, given: &[u8], out: &mut Answers) {
+        match call {
+            Call::Changes => out.put(Opl::read(alloc, given).ok(), &mut self.changes),
+            Call::Change => out.put_some(read_line(alloc, given).ok(), &mut self.change),
+            Call::Area => out.put_some(area_with_one(alloc).ok(), &mut self.holding),
+            Call::Saved => out.put(save_read(alloc, given).ok(), &mut self.saved),
+            Call::Show => self.show(alloc, out),
+            Call::SaveRead => out.put_or(save_read(alloc, given), &mut self.saved),
+            Call::HeadRead => write_number_of(alloc, given, out),
+            Call::SaveWrite => out.bytes(save_of(alloc, &self.saved)),
+            Call::Apply => self.apply(alloc, out),
+            Call::Put => self.put(alloc, out),
+            Call::AddOne => self.count(alloc, out),
+            Call::NewArea => self.new_area(alloc, out),
+            Call::Numbers => self.numbers(alloc, out),
+            Call::Copy(what) => copy(alloc, what, &self.saved.mirror, out),
         }
     }
+}
 
+impl Mirrors {
     // Applies the changes to a new mirror.
-    fn apply(&mut self, alloc: Global, out: &mut Vec<u8>) -> Result<()> {
-        let changes = std::mem::replace(&mut self.changes, Batch::new(alloc));
+    fn apply(&mut self, alloc: Global, out: &mut Answers) {
+        let changes = replace(&mut self.changes, Batch::new(alloc));
         let mut mirror = Mirror::new(alloc);
-        write_done(
-            mirror.apply(&Filter::all(alloc), changes.into_changes()),
-            out,
-        )?;
+        out.done(mirror.apply(&Filter::all(alloc), changes.into_changes()));
         self.saved = saved_of(alloc, mirror);
-        Ok(())
     }
 
-    fn put(&mut self, alloc: Global, out: &mut Vec<u8>) -> Result<()> {
-        let change = self.change.take().context("no change")?;
-        write_done(self.objects.put(&Filter::all(alloc), change), out)
+    fn put(&mut self, alloc: Global, out: &mut Answers) {
+        match self.change.take() {
+            Some(change) => out.done(self.objects.put(&Filter::all(alloc), change)),
+            None => out.fail("no change"),
+        }
     }
 
     // Counts one edit of a user without any.
-    fn count(&mut self, alloc: Global, out: &mut Vec<u8>) -> Result<()> {
+    fn count(&mut self, alloc: Global, out: &mut Answers) {
         let mut counts = Counts::new(alloc);
-        write_done(counts.add_one(5), out)?;
+        out.done(counts.add_one(5));
         self.counts = counts;
-        Ok(())
     }
 
-    fn numbers(&self, alloc: Global, out: &mut Vec<u8>) -> Result<()> {
-        let area = self.holding.as_ref().context("no area")?;
-        write_list_or(area.numbers(alloc), out)
+    fn new_area(&mut self, alloc: Global, out: &mut Answers) {
+        match HoldingArea::new(alloc, 7) {
+            Ok(area) => {
+                self.holding = Some(area);
+                out.add(b"done\n");
+            }
+            Err(error) => out.debug(&error),
+        }
+    }
+
+    fn numbers(&self, alloc: Global, out: &mut Answers) {
+        match &self.holding {
+            Some(area) => out.list(area.numbers(alloc)),
+            None => out.fail("no area"),
+        }
     }
 
     // The save text, the objects and the counts by themselves, and the numbers that are held.
-    fn show(&self, alloc: Global, out: &mut Vec<u8>) -> Result<()> {
-        out.extend_from_slice(save_of(alloc, &self.saved)?.as_slice())?;
+    fn show(&self, alloc: Global, out: &mut Answers) {
+        match save_of(alloc, &self.saved) {
+            Ok(text) => out.add(text.as_slice()),
+            Err(_) => out.fail("no save"),
+        }
         for change in self.objects.iter() {
-            write_change(change, out)?;
+            out.change(change);
         }
         for (number, count) in self.counts.iter() {
-            writeln!(out, "{number} {count}")?;
+            out.show(number);
+            out.add(b" ");
+            out.line(count);
         }
-        match &self.holding {
-            Some(area) => write_held(area, out),
-            None => Ok(()),
+        if let Some(area) = &self.holding {
+            write_held(area, out);
         }
     }
 }
 
 // The number that a save begins with, or why there is none.
-fn write_number_of(alloc: Global, save: &[u8], out: &mut Vec<u8>) -> Result<()> {
+fn write_number_of(alloc: Global, save: &[u8], out: &mut Answers) {
     match head_read(alloc, save) {
-        Ok(head) => writeln!(out, "{}", head.number)?,
-        Err(error) => writeln!(out, "{error:?}")?,
+        Ok(head) => out.line(head.number),
+        Err(error) => out.debug(&error),
     }
-    Ok(())
 }
 
 fn saved_of(alloc: Global, mirror: Mirror) -> Saved {
@@ -120,14 +204,15 @@ fn save_of(alloc: Global, saved: &Saved) -> Result<Vec<u8>, WantOfMemory> {
     save_write(alloc, head, &saved.filter, &saved.mirror)
 }
 
-fn write_held(area: &HoldingArea, out: &mut Vec<u8>) -> Result<()> {
-    write!(out, "held")?;
+fn write_held(area: &HoldingArea, out: &mut Answers) {
+    out.add(b"held");
     for number in 0..100u32 {
         if area.is_held(number) {
-            write!(out, " {number}")?;
+            out.add(b" ");
+            out.show(number);
         }
     }
-    Ok(writeln!(out)?)
+    out.add(b"\n");
 }
 
 // An area after number 0 that holds number 3.
@@ -138,58 +223,12 @@ fn area_with_one(alloc: Global) -> Result<HoldingArea, WantOfMemory> {
     Ok(area)
 }
 
-impl Subject for Mirrors {
-    fn take(&mut self, alloc: Global, command: &Command<'_>, out: &mut Vec<u8>) -> Result<()> {
-        let given = command.given;
-        match command.word {
-            b"changes" => put(Opl::read(alloc, given), &mut self.changes),
-            b"change" => put_some(read_line(alloc, given), &mut self.change),
-            b"area" => put_some(area_with_one(alloc), &mut self.holding),
-            b"saved" => put(save_read(alloc, given), &mut self.saved),
-            b"show" => self.show(alloc, out),
-            b"save_read" => put_or(save_read(alloc, given), &mut self.saved, out),
-            b"head_read" => write_number_of(alloc, given, out),
-            b"save_write" => write_bytes_or(save_of(alloc, &self.saved), out),
-            b"Mirror::apply" => self.apply(alloc, out),
-            b"Objects::put" => self.put(alloc, out),
-            b"Counts::add_one" => self.count(alloc, out),
-            b"HoldingArea::new" => put_or(
-                HoldingArea::new(alloc, 7).map(Some),
-                &mut self.holding,
-                out,
-            ),
-            b"HoldingArea::numbers" => self.numbers(alloc, out),
-            _ => write_copies(alloc, command.word, &self.saved.mirror, out),
-        }
+fn copy(alloc: Global, what: Copied, mirror: &Mirror, out: &mut Answers) {
+    match what {
+        Copied::Objects => out.objects(mirror.objects(alloc)),
+        Copied::Users => out.list(mirror.users(alloc)),
+        Copied::Changesets => out.list(mirror.changesets(alloc)),
+        Copied::ObjectsByKey => out.objects(mirror.objects_by_key().to_vec(alloc)),
+        Copied::UserCounts => out.list(mirror.user_counts().to_vec(alloc)),
     }
-}
-
-// The copies that the call makes of a mirror's lists.
-fn write_copies(alloc: Global, word: &[u8], mirror: &Mirror, out: &mut Vec<u8>) -> Result<()> {
-    match word {
-        b"Mirror::objects" => write_objects_or(mirror.objects(alloc), out),
-        b"Mirror::users" => write_list_or(mirror.users(alloc), out),
-        b"Mirror::changesets" => write_list_or(mirror.changesets(alloc), out),
-        b"Objects::to_vec" => write_objects_or(mirror.objects_by_key().to_vec(alloc), out),
-        b"Counts::to_vec" => write_list_or(mirror.user_counts().to_vec(alloc), out),
-        _ => bail!("no such call"),
-    }
-}
-
-fn write_objects_or(answer: Result<Vec<Change>, WantOfMemory>, out: &mut Vec<u8>) -> Result<()> {
-    match answer {
-        Ok(changes) => write_changes(changes.as_slice(), out),
-        Err(error) => Ok(writeln!(out, "{error:?}")?),
-    }
-}
-
-fn write_list_or<T: Debug + Drop>(
-    answer: Result<Vec<T>, WantOfMemory>,
-    out: &mut Vec<u8>,
-) -> Result<()> {
-    match answer {
-        Ok(list) => writeln!(out, "{:?}", list.as_slice())?,
-        Err(error) => writeln!(out, "{error:?}")?,
-    }
-    Ok(())
 }

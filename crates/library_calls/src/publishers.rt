@@ -1,16 +1,14 @@
 //! Calls of a publisher.
 
-use crate::answers::{put_some, write_change, write_changes};
-use crate::commands::Command;
+use crate::answers::Answers;
 use crate::subject::Subject;
-use anyhow::{Context, Result, bail};
 use osm_follow::published::Published;
 use osm_follow::publisher::{EditError, Publisher};
 use osm_model::change::Change;
+use osm_model::memory::WantOfMemory;
 use osm_model::time::time_read;
 use osm_opl::lines::read_line;
 use std::alloc::Global;
-use std::io::Write;
 
 /// A publisher, and an edit for it.
 #[derive(Drop)]
@@ -19,70 +17,93 @@ pub(crate) struct Publishing {
     change: Option<Change>,
 }
 
-impl Publishing {
-    pub(crate) fn new(alloc: Global) -> Publishing {
-        Publishing {
+/// A call, or what is prepared for one.
+#[derive(Clone, Copy)]
+pub(crate) enum Call {
+    Change,
+    Show,
+    Edit,
+    Close,
+}
+
+const CALLS: &[(&str, Call)] = &[
+    ("change", Call::Change),
+    ("show", Call::Show),
+    ("Publisher::edit", Call::Edit),
+    ("Publisher::close", Call::Close),
+];
+
+impl Subject for Publishing {
+    type Call = Call;
+
+    fn begin(alloc: Global) -> Result<Publishing, WantOfMemory> {
+        Ok(Publishing {
             publisher: Publisher::new(alloc),
             change: None,
-        }
+        })
     }
 
+    fn calls() -> &'static [(&'static str, Call)] {
+        CALLS
+    }
+
+    fn take(&mut self, alloc: Global, call: Call, given: &[u8], out: &mut Answers) {
+        match call {
+            Call::Change => out.put_some(read_line(alloc, given).ok(), &mut self.change),
+            Call::Show => self.show(out),
+            Call::Edit => self.edit(out),
+            Call::Close => self.close(alloc, given, out),
+        }
+    }
+}
+
+impl Publishing {
     // Adds the edit. One that is handed back is kept, for the next time.
-    fn edit(&mut self, out: &mut Vec<u8>) -> Result<()> {
+    fn edit(&mut self, out: &mut Answers) {
         let Some(change) = self.change.take() else {
-            return Ok(writeln!(out, "no change")?);
+            return out.add(b"no change\n");
         };
         match self.publisher.edit(change) {
-            Ok(()) => writeln!(out, "done")?,
+            Ok(()) => out.add(b"done\n"),
             Err(EditError::BatchFull(change)) => {
                 self.change = Some(change);
-                writeln!(out, "BatchFull")?;
+                out.add(b"BatchFull\n");
             }
             Err(EditError::WantOfMemory(change)) => {
                 self.change = Some(change);
-                writeln!(out, "WantOfMemory")?;
+                out.add(b"WantOfMemory\n");
             }
         }
-        Ok(())
     }
 
-    fn close(&mut self, alloc: Global, time: &[u8], out: &mut Vec<u8>) -> Result<()> {
-        let time = time_read(time).context("no time")?;
+    fn close(&mut self, alloc: Global, time: &[u8], out: &mut Answers) {
+        let Some(time) = time_read(time) else {
+            return out.fail("no time");
+        };
         match self.publisher.close(alloc, time) {
             Ok(published) => write_published(&published, out),
-            Err(error) => Ok(writeln!(out, "{error:?}")?),
+            Err(error) => out.debug(&error),
         }
     }
 
     // The number, what is pending, and the edit that isn't.
-    fn show(&self, out: &mut Vec<u8>) -> Result<()> {
-        writeln!(out, "number {}", self.publisher.number())?;
-        write_changes(self.publisher.pending().changes(), out)?;
+    fn show(&self, out: &mut Answers) {
+        out.add(b"number ");
+        out.line(self.publisher.number());
+        out.changes(self.publisher.pending().changes());
         if let Some(change) = &self.change {
-            write!(out, "and ")?;
-            write_change(change, out)?;
+            out.add(b"and ");
+            out.change(change);
         }
-        Ok(())
     }
 }
 
 /// The number and the texts of a sequence.
-pub(crate) fn write_published(published: &Published, out: &mut Vec<u8>) -> Result<()> {
-    writeln!(out, "published {}", published.number())?;
-    out.extend_from_slice(published.state())?;
-    out.extend_from_slice(published.opl())?;
-    out.extend_from_slice(published.o5c())?;
-    Ok(writeln!(out)?)
-}
-
-impl Subject for Publishing {
-    fn take(&mut self, alloc: Global, command: &Command<'_>, out: &mut Vec<u8>) -> Result<()> {
-        match command.word {
-            b"change" => put_some(read_line(alloc, command.given), &mut self.change),
-            b"show" => self.show(out),
-            b"Publisher::edit" => self.edit(out),
-            b"Publisher::close" => self.close(alloc, command.given, out),
-            _ => bail!("no such call"),
-        }
-    }
+pub(crate) fn write_published(published: &Published, out: &mut Answers) {
+    out.add(b"published ");
+    out.line(published.number());
+    out.add(published.state());
+    out.add(published.opl());
+    out.add(published.o5c());
+    out.add(b"\n");
 }

@@ -1,18 +1,14 @@
 //! Calls of scripts and of their replies.
 
-use crate::answers::{put, write_bytes_or, write_done};
-use crate::commands::Command;
+use crate::answers::Answers;
 use crate::subject::Subject;
-use anyhow::{Result, bail};
-use osm_folder::fault::RunFault;
 use osm_model::memory::WantOfMemory;
 use osm_repl::replay::replay_run;
 use osm_repl::replies::write_replies;
 use osm_repl::script::parse_script;
-use osm_world::event::{Event, Reply};
+use osm_world::event::Reply;
 use osm_world::world::World;
 use std::alloc::Global;
-use std::io::Write;
 
 // Room for what a replay writes.
 const ROOM: usize = 65_536;
@@ -24,8 +20,28 @@ pub(crate) struct Scripts {
     written: Vec<u8>,
 }
 
-impl Scripts {
-    pub(crate) fn new(alloc: Global) -> Result<Scripts, WantOfMemory> {
+/// A call, or what is prepared for one.
+#[derive(Clone, Copy)]
+pub(crate) enum Call {
+    Replies,
+    Show,
+    ParseScript,
+    WriteReplies,
+    ReplayRun,
+}
+
+const CALLS: &[(&str, Call)] = &[
+    ("replies", Call::Replies),
+    ("show", Call::Show),
+    ("parse_script", Call::ParseScript),
+    ("write_replies", Call::WriteReplies),
+    ("replay_run", Call::ReplayRun),
+];
+
+impl Subject for Scripts {
+    type Call = Call;
+
+    fn begin(alloc: Global) -> Result<Scripts, WantOfMemory> {
         let written = Vec::with_capacity(alloc, ROOM)?;
         Ok(Scripts {
             replies: Vec::new(alloc),
@@ -33,44 +49,50 @@ impl Scripts {
         })
     }
 
-    // What replays wrote since it was shown.
-    fn show(&mut self, out: &mut Vec<u8>) -> Result<()> {
-        out.extend_from_slice(self.written.as_slice())?;
-        self.written.clear();
-        Ok(())
+    fn calls() -> &'static [(&'static str, Call)] {
+        CALLS
+    }
+
+    fn take(&mut self, alloc: Global, call: Call, given: &[u8], out: &mut Answers) {
+        match call {
+            Call::Replies => out.put(replies_to(alloc, given), &mut self.replies),
+            Call::Show => self.show(out),
+            Call::ParseScript => write_events(alloc, given, out),
+            Call::WriteReplies => out.bytes(write_replies(alloc, self.replies.as_slice())),
+            Call::ReplayRun => self.replay(alloc, given, out),
+        }
     }
 }
 
-impl Subject for Scripts {
-    fn take(&mut self, alloc: Global, command: &Command<'_>, out: &mut Vec<u8>) -> Result<()> {
-        let mut given = command.given;
-        match command.word {
-            b"replies" => put(replies_to(alloc, given), &mut self.replies),
-            b"show" => self.show(out),
-            b"parse_script" => write_events_or(parse_script(alloc, given), out),
-            b"write_replies" => {
-                write_bytes_or(write_replies(alloc, self.replies.as_slice()), out)
-            }
-            b"replay_run" => write_done(replay_run(alloc, &mut given, &mut self.written), out),
-            _ => bail!("no such call"),
-        }
+impl Scripts {
+    fn replay(&mut self, alloc: Global, mut script: &[u8], out: &mut Answers) {
+        out.done(replay_run(alloc, &mut script, &mut self.written));
+    }
+
+    // What replays wrote since it was shown.
+    fn show(&mut self, out: &mut Answers) {
+        out.add(self.written.as_slice());
+        self.written.clear();
     }
 }
 
 // The replies of a new world to a script.
-fn replies_to(alloc: Global, script: &[u8]) -> Result<Vec<Reply>> {
-    let events = parse_script(alloc, script)?;
-    Ok(World::run(alloc, events)?.replies)
+fn replies_to(alloc: Global, script: &[u8]) -> Option<Vec<Reply>> {
+    let events = parse_script(alloc, script).ok()?;
+    match World::run(alloc, events) {
+        Ok(run) => Some(run.replies),
+        Err(_) => None,
+    }
 }
 
-fn write_events_or(answer: Result<Vec<Event>, RunFault>, out: &mut Vec<u8>) -> Result<()> {
-    match answer {
+// The events of a script, or its fault.
+fn write_events(alloc: Global, script: &[u8], out: &mut Answers) {
+    match parse_script(alloc, script) {
         Ok(events) => {
             for event in &events {
-                writeln!(out, "{event:?}")?;
+                out.debug(event);
             }
         }
-        Err(fault) => writeln!(out, "{fault:?}")?,
+        Err(fault) => out.debug(&fault),
     }
-    Ok(())
 }

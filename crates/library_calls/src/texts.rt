@@ -1,14 +1,11 @@
 //! Calls that make a value from what they are given: paths and state texts, texts of objects, and
 //! what the words of the command line ask for.
 
-use crate::answers::{put_some, write_bytes_or};
-use crate::commands::Command;
-use crate::filters::write_filter;
+use crate::answers::Answers;
 use crate::subject::Subject;
-use anyhow::{Context, Result, bail};
 use osm_folder::fault::{FileName, RunFault};
-use osm_model::filter::Filter;
 use osm_model::limits::MAX_SEQUENCE;
+use osm_model::memory::WantOfMemory;
 use osm_model::text::Text;
 use osm_reading::sequence::sequence_read;
 use osm_repl::causes::{Cause, cause_text, path_of};
@@ -21,7 +18,7 @@ use osm_state::state::State;
 use osm_state::state_text::state_write;
 use std::alloc::Global;
 use std::fmt::Debug;
-use std::io::{ErrorKind, Write};
+use std::io::ErrorKind;
 
 /// A text that may be copied, and words whose filter may be made.
 #[derive(Drop)]
@@ -30,86 +27,132 @@ pub(crate) struct Texts {
     asked: Option<Asked<'static>>,
 }
 
-impl Texts {
-    pub(crate) fn new() -> Texts {
-        Texts {
-            text: None,
-            asked: None,
-        }
-    }
-
-    fn text(&self) -> Result<&Text> {
-        Ok(self.text.as_ref().context("no text")?)
-    }
-
-    fn write_within_limits(&self, alloc: Global, out: &mut Vec<u8>) -> Result<()> {
-        let text = self.text()?;
-        write_text_or(Text::within_limits(alloc, text.as_str()), out)
-    }
-
-    fn write_copy(&self, alloc: Global, out: &mut Vec<u8>) -> Result<()> {
-        let text = self.text()?;
-        write_text_or(text.copy(alloc), out)
-    }
-
-    fn ask_for_ways(&mut self, alloc: Global) -> Result<()> {
-        self.asked = Some(asked_for_ways(alloc)?);
-        Ok(())
-    }
-
-    fn write_check(&self, alloc: Global, out: &mut Vec<u8>) -> Result<()> {
-        let asked = self.asked.as_ref().context("no words")?;
-        write_filter_or(check_words(alloc, asked).map(|options| options.filter), out)
-    }
+/// A call, or what is prepared for one.
+#[derive(Clone, Copy)]
+pub(crate) enum Call {
+    Text,
+    Follow,
+    Show,
+    New,
+    WithinLimits,
+    Copy,
+    Path,
+    StateWrite,
+    Asked,
+    CheckWords,
+    PathOf,
+    CauseText,
+    Echoes,
 }
+
+const CALLS: &[(&str, Call)] = &[
+    ("text", Call::Text),
+    ("follow", Call::Follow),
+    ("show", Call::Show),
+    ("Text::new", Call::New),
+    ("Text::within_limits", Call::WithinLimits),
+    ("Text::copy", Call::Copy),
+    ("path", Call::Path),
+    ("state_write", Call::StateWrite),
+    ("asked", Call::Asked),
+    ("check_words", Call::CheckWords),
+    ("path_of", Call::PathOf),
+    ("cause_text", Call::CauseText),
+    ("echoes", Call::Echoes),
+];
 
 impl Subject for Texts {
-    fn take(&mut self, alloc: Global, command: &Command<'_>, out: &mut Vec<u8>) -> Result<()> {
-        let given = str::from_utf8(command.given)?;
-        match command.word {
-            b"text" => put_some(Text::new(alloc, given), &mut self.text),
-            b"follow" => self.ask_for_ways(alloc),
-            b"show" => Ok(()),
-            b"Text::new" => write_text_or(Text::new(alloc, given), out),
-            b"Text::within_limits" => self.write_within_limits(alloc, out),
-            b"Text::copy" => self.write_copy(alloc, out),
-            b"path" => write_path(alloc, given, out),
-            b"state_write" => write_state(alloc, given, out),
-            b"asked" => write_asked(alloc, given, out),
-            b"check_words" => self.write_check(alloc, out),
-            b"path_of" => write_path_of_fault(alloc, given, out),
-            b"cause_text" => write_cause(alloc, given, out),
-            b"echoes" => write_echoes(alloc, given, out),
-            _ => bail!("no such call"),
+    type Call = Call;
+
+    fn begin(_: Global) -> Result<Texts, WantOfMemory> {
+        Ok(Texts {
+            text: None,
+            asked: None,
+        })
+    }
+
+    fn calls() -> &'static [(&'static str, Call)] {
+        CALLS
+    }
+
+    fn take(&mut self, alloc: Global, call: Call, given: &[u8], out: &mut Answers) {
+        match str::from_utf8(given) {
+            Ok(given) => self.call(alloc, call, given, out),
+            Err(_) => out.fail("no text"),
         }
     }
 }
 
-fn write_text_or<E: Debug + Drop>(answer: Result<Text, E>, out: &mut Vec<u8>) -> Result<()> {
-    match answer {
-        Ok(text) => writeln!(out, "{}", text.as_str())?,
-        Err(error) => writeln!(out, "{error:?}")?,
+impl Texts {
+    fn call(&mut self, alloc: Global, call: Call, given: &str, out: &mut Answers) {
+        match call {
+            Call::Text => out.put_some(Text::new(alloc, given).ok(), &mut self.text),
+            Call::Follow => out.put_some(asked_for_ways(alloc), &mut self.asked),
+            Call::Show => {}
+            Call::New => write_text(Text::new(alloc, given), out),
+            Call::WithinLimits => self.write_within_limits(alloc, out),
+            Call::Copy => self.write_copy(alloc, out),
+            Call::Path => write_path(alloc, given, out),
+            Call::StateWrite => write_state(alloc, given, out),
+            Call::Asked => write_asked(alloc, given, out),
+            Call::CheckWords => self.write_check(alloc, out),
+            Call::PathOf => write_path_of_fault(alloc, given, out),
+            Call::CauseText => write_cause(alloc, given, out),
+            Call::Echoes => write_echoes(alloc, given, out),
+        }
     }
-    Ok(())
+
+    fn write_within_limits(&self, alloc: Global, out: &mut Answers) {
+        match &self.text {
+            Some(text) => write_text(Text::within_limits(alloc, text.as_str()), out),
+            None => out.fail("no text"),
+        }
+    }
+
+    fn write_copy(&self, alloc: Global, out: &mut Answers) {
+        match &self.text {
+            Some(text) => write_text(text.copy(alloc), out),
+            None => out.fail("no text"),
+        }
+    }
+
+    // The filter that the words ask for.
+    fn write_check(&self, alloc: Global, out: &mut Answers) {
+        let Some(asked) = &self.asked else {
+            return out.fail("no words");
+        };
+        match check_words(alloc, asked) {
+            Ok(options) => out.filter(&options.filter),
+            Err(fault) => out.line(fault),
+        }
+    }
+}
+
+fn write_text<E: Debug + Drop>(answer: Result<Text, E>, out: &mut Answers) {
+    match answer {
+        Ok(text) => out.line(text.as_str()),
+        Err(error) => out.debug(&error),
+    }
 }
 
 // The path of the OPL file of a number.
-fn write_path(alloc: Global, given: &str, out: &mut Vec<u8>) -> Result<()> {
-    let number = sequence_read(given.as_bytes())
-        .context("no number")?
-        .min(MAX_SEQUENCE);
-    match path(alloc, number, Suffix::Opl) {
-        Ok(path) => writeln!(out, "{path}")?,
-        Err(error) => writeln!(out, "{error:?}")?,
+fn write_path(alloc: Global, given: &str, out: &mut Answers) {
+    match sequence_read(given.as_bytes()) {
+        Some(number) => out.shown(path(alloc, number.min(MAX_SEQUENCE), Suffix::Opl)),
+        None => out.fail("no number"),
     }
-    Ok(())
 }
 
 // The state text of a number at the first second.
-fn write_state(alloc: Global, given: &str, out: &mut Vec<u8>) -> Result<()> {
-    let number = sequence_read(given.as_bytes()).context("no number")?;
-    let state = State::new(number, 1).context("no state")?;
-    write_bytes_or(state_write(alloc, &state), out)
+fn write_state(alloc: Global, given: &str, out: &mut Answers) {
+    match first_state(given) {
+        Some(state) => out.bytes(state_write(alloc, &state)),
+        None => out.fail("no state"),
+    }
+}
+
+fn first_state(given: &str) -> Option<State> {
+    State::new(sequence_read(given.as_bytes())?, 1)
 }
 
 const MOST_WORDS: usize = 8;
@@ -127,24 +170,29 @@ fn words_of(text: &str) -> ([&str; MOST_WORDS], usize) {
     (words, count)
 }
 
-fn write_asked(alloc: Global, given: &str, out: &mut Vec<u8>) -> Result<()> {
+fn write_asked(alloc: Global, given: &str, out: &mut Answers) {
     let (words, count) = words_of(given);
-    let words = words.get(..count).context("too many words")?;
+    let Some(words) = words.get(..count) else {
+        return out.fail("too many words");
+    };
     match asked(alloc, words) {
-        Ok(found) => writeln!(out, "{:?} {:?}", found.order, found.extract)?,
-        Err(error) => writeln!(out, "{:?}", error.kind())?,
+        Ok(found) => {
+            out.debug_part(&found.order);
+            out.add(b" ");
+            out.debug(&found.extract);
+        }
+        Err(error) => out.debug(&error.kind()),
     }
-    Ok(())
 }
 
 // The words `follow dir save` with the kind of ways and two keys, one of them twice.
-fn asked_for_ways(alloc: Global) -> Result<Asked<'static>> {
+fn asked_for_ways(alloc: Global) -> Option<Asked<'static>> {
     let mut keys = Vec::new(alloc);
     for key in ["highway", "a-name-of-more-than-22-bytes", "highway"] {
-        keys.push(key)?;
+        keys.push(key).ok()?;
     }
     let (dir, save) = ("dir", "save");
-    Ok(Asked {
+    Some(Asked {
         order: Order::Follow { dir, save },
         options: Options {
             no_lock: false,
@@ -157,47 +205,33 @@ fn asked_for_ways(alloc: Global) -> Result<Asked<'static>> {
     })
 }
 
-fn write_filter_or(answer: Result<Filter, RunFault>, out: &mut Vec<u8>) -> Result<()> {
-    match answer {
-        Ok(filter) => write_filter(&filter, out),
-        Err(fault) => Ok(writeln!(out, "{fault}")?),
-    }
-}
-
 // The path of a save that isn't there.
-fn write_path_of_fault(alloc: Global, given: &str, out: &mut Vec<u8>) -> Result<()> {
+fn write_path_of_fault(alloc: Global, given: &str, out: &mut Answers) {
     let fault = RunFault::Absent(FileName::Save);
-    match path_of(alloc, Order::Show { save: given }, fault) {
-        Ok(path) => writeln!(out, "{path}")?,
-        Err(error) => writeln!(out, "{error:?}")?,
-    }
-    Ok(())
+    out.shown(path_of(alloc, Order::Show { save: given }, fault));
 }
 
 // A cause with that path, and all other parts.
-fn write_cause(alloc: Global, given: &str, out: &mut Vec<u8>) -> Result<()> {
+fn write_cause(alloc: Global, given: &str, out: &mut Answers) {
     let cause = Cause {
         path: given,
         said: Some(ErrorKind::NotFound.into()),
         hint: "a hint",
     };
-    match cause_text(alloc, cause) {
-        Ok(text) => writeln!(out, "{text}")?,
-        Err(error) => writeln!(out, "{error:?}")?,
-    }
-    Ok(())
+    out.shown(cause_text(alloc, cause));
 }
 
-fn write_echoes(alloc: Global, given: &str, out: &mut Vec<u8>) -> Result<()> {
+fn write_echoes(alloc: Global, given: &str, out: &mut Answers) {
     let (words, count) = words_of(given);
-    let words = words.get(..count).context("too many words")?;
+    let Some(words) = words.get(..count) else {
+        return out.fail("too many words");
+    };
     match echoes(alloc, words) {
         Ok(echoes) => {
             for echo in &echoes {
-                writeln!(out, "{echo}")?;
+                out.line(echo.as_str());
             }
         }
-        Err(error) => writeln!(out, "{error:?}")?,
+        Err(error) => out.debug(&error),
     }
-    Ok(())
 }

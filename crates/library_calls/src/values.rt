@@ -1,12 +1,8 @@
 //! Calls of a change, of its parts, of a batch, and of a filter.
 
-use crate::answers::{
-    put_some, write_batch_or, write_change, write_change_or, write_changes, write_done,
-};
-use crate::commands::Command;
-use crate::filters::{filter_of, write_filter};
+use crate::answers::Answers;
+use crate::filters::filter_of;
 use crate::subject::Subject;
-use anyhow::{Context, Result, bail};
 use osm_model::batch::{Batch, PushError};
 use osm_model::change::{Change, What};
 use osm_model::filter::Filter;
@@ -18,7 +14,6 @@ use osm_model::meta::Meta;
 use osm_model::text::Text;
 use osm_opl::lines::read_line;
 use std::alloc::Global;
-use std::io::Write;
 
 /// A batch, a list of references, a change for them, and a filter.
 #[derive(Drop)]
@@ -30,122 +25,166 @@ pub(crate) struct Values {
     filter: Option<Filter>,
 }
 
-impl Values {
-    pub(crate) fn new(alloc: Global) -> Values {
-        Values {
+/// A call, or what is prepared for one.
+#[derive(Clone, Copy)]
+pub(crate) enum Call {
+    Change,
+    Spare,
+    Filter,
+    Show,
+    Push,
+    CopyBatch,
+    PushPart,
+    WithinLimits,
+    CopyFilter,
+    /// A copy of the change, or of a part of it.
+    Copy(Copied),
+}
+
+#[derive(Clone, Copy)]
+pub(crate) enum Copied {
+    Change,
+    Meta,
+    Refs,
+    Tag,
+    Member,
+}
+
+const CALLS: &[(&str, Call)] = &[
+    ("change", Call::Change),
+    ("spare", Call::Spare),
+    ("filter", Call::Filter),
+    ("show", Call::Show),
+    ("Batch::push", Call::Push),
+    ("Batch::copy", Call::CopyBatch),
+    ("Parts::push", Call::PushPart),
+    ("Change::within_limits", Call::WithinLimits),
+    ("Filter::copy", Call::CopyFilter),
+    ("Change::copy", Call::Copy(Copied::Change)),
+    ("Meta::copy", Call::Copy(Copied::Meta)),
+    ("Parts::copy", Call::Copy(Copied::Refs)),
+    ("Tag::copy", Call::Copy(Copied::Tag)),
+    ("Member::copy", Call::Copy(Copied::Member)),
+];
+
+impl Subject for Values {
+    type Call = Call;
+
+    fn begin(alloc: Global) -> Result<Values, WantOfMemory> {
+        Ok(Values {
             change: None,
             batch: Batch::new(alloc),
             refs: Parts::new(alloc),
             spare: None,
             filter: None,
+        })
+    }
+
+    fn calls() -> &'static [(&'static str, Call)] {
+        CALLS
+    }
+
+    fn take(&mut self, alloc: Global, call: Call, given: &[u8], out: &mut Answers) {
+        match call {
+            Call::Change => out.put_some(read_line(alloc, given).ok(), &mut self.change),
+            Call::Spare => out.put_some(spare_tags(alloc), &mut self.spare),
+            Call::Filter => out.put_some(filter_of(alloc, given), &mut self.filter),
+            Call::Show => self.show(out),
+            Call::Push => self.push(out),
+            Call::CopyBatch => out.batch(self.batch.copy(alloc)),
+            Call::PushPart => out.done(self.refs.push(7)),
+            Call::WithinLimits => within_limits(alloc, &mut self.spare, out),
+            Call::CopyFilter => self.copy_filter(alloc, out),
+            Call::Copy(what) => self.copy_of_change(alloc, what, out),
+        }
+    }
+}
+
+impl Values {
+    // The kinds and the keys of a copy, or the error.
+    fn copy_filter(&self, alloc: Global, out: &mut Answers) {
+        let Some(filter) = &self.filter else {
+            return out.fail("no filter");
+        };
+        match filter.copy(alloc) {
+            Ok(filter) => out.filter(&filter),
+            Err(error) => out.debug(&error),
         }
     }
 
-    fn change(&self) -> Result<&Change> {
-        Ok(self.change.as_ref().context("no change")?)
-    }
-
-    fn copy_change(&self, alloc: Global, out: &mut Vec<u8>) -> Result<()> {
-        let change = self.change()?;
-        write_change_or(change.copy(alloc), out)
-    }
-
-    fn copy_meta(&self, alloc: Global, out: &mut Vec<u8>) -> Result<()> {
-        let change = self.change()?;
-        write_meta_or(change.meta().copy(alloc), out)
-    }
-
-    fn copy_filter(&self, alloc: Global, out: &mut Vec<u8>) -> Result<()> {
-        let filter = self.filter.as_ref().context("no filter")?;
-        write_filter_or(filter.copy(alloc), out)
-    }
-
-    // Copies a list of the change, or the first part of one.
-    fn copy_part(&self, alloc: Global, word: &[u8], out: &mut Vec<u8>) -> Result<()> {
-        let change = self.change()?;
-        match (word, change.what()) {
-            (b"Parts::copy", What::Way { refs, .. }) => write_refs_or(refs.copy(alloc), out),
-            (b"Tag::copy", What::Way { tags, .. }) => copy_tag(alloc, tags.as_slice(), out),
-            (b"Member::copy", What::Relation { members, .. }) => {
-                copy_member(alloc, members.as_slice(), out)
-            }
-            _ => bail!("no such call"),
+    // Copies the change, or a part of it.
+    fn copy_of_change(&self, alloc: Global, what: Copied, out: &mut Answers) {
+        match &self.change {
+            Some(change) => copy_of(alloc, what, change, out),
+            None => out.fail("no change"),
         }
     }
 
     // Adds the change to the batch. One that is handed back is kept, for the next time.
-    fn push(&mut self, out: &mut Vec<u8>) -> Result<()> {
+    fn push(&mut self, out: &mut Answers) {
         let Some(change) = self.change.take() else {
-            return Ok(writeln!(out, "no change")?);
+            return out.add(b"no change\n");
         };
         match self.batch.push(change) {
-            Ok(()) => writeln!(out, "done")?,
+            Ok(()) => out.add(b"done\n"),
             Err(PushError::Full(change)) => {
                 self.change = Some(change);
-                writeln!(out, "Full")?;
+                out.add(b"Full\n");
             }
             Err(PushError::WantOfMemory(change)) => {
                 self.change = Some(change);
-                writeln!(out, "WantOfMemory")?;
+                out.add(b"WantOfMemory\n");
             }
         }
-        Ok(())
     }
 
     // The references, the changes of the batch, and the change that isn't in it.
-    fn show(&self, out: &mut Vec<u8>) -> Result<()> {
-        writeln!(out, "{:?}", self.refs.as_slice())?;
-        write_changes(self.batch.changes(), out)?;
+    fn show(&self, out: &mut Answers) {
+        out.debug(&self.refs.as_slice());
+        out.changes(self.batch.changes());
         if let Some(change) = &self.change {
-            write!(out, "and ")?;
-            write_change(change, out)?;
-        }
-        Ok(())
-    }
-}
-
-impl Subject for Values {
-    fn take(&mut self, alloc: Global, command: &Command<'_>, out: &mut Vec<u8>) -> Result<()> {
-        match command.word {
-            b"change" => put_some(read_line(alloc, command.given), &mut self.change),
-            b"spare" => put_some(spare_tags(alloc), &mut self.spare),
-            b"filter" => put_some(filter_of(alloc, command.given), &mut self.filter),
-            b"show" => self.show(out),
-            b"Batch::push" => self.push(out),
-            b"Batch::copy" => write_batch_or(self.batch.copy(alloc), out),
-            b"Change::copy" => self.copy_change(alloc, out),
-            b"Change::within_limits" => within_limits(alloc, self.spare.take(), out),
-            b"Filter::copy" => self.copy_filter(alloc, out),
-            b"Meta::copy" => self.copy_meta(alloc, out),
-            b"Parts::push" => write_done(self.refs.push(7), out),
-            _ => self.copy_part(alloc, command.word, out),
+            out.add(b"and ");
+            out.change(change);
         }
     }
 }
 
-// The kinds and the keys of a filter, or the error.
-fn write_filter_or(answer: Result<Filter, WantOfMemory>, out: &mut Vec<u8>) -> Result<()> {
-    match answer {
-        Ok(filter) => write_filter(&filter, out),
-        Err(error) => Ok(writeln!(out, "{error:?}")?),
+// Copies the change, a list of it, or the first part of one.
+fn copy_of(alloc: Global, what: Copied, change: &Change, out: &mut Answers) {
+    match what {
+        Copied::Change => out.change_or(change.copy(alloc)),
+        Copied::Meta => copy_meta(alloc, change.meta(), out),
+        Copied::Refs => copy_refs(alloc, change.what(), out),
+        Copied::Tag => copy_tag(alloc, change.what(), out),
+        Copied::Member => copy_member(alloc, change.what(), out),
     }
 }
 
 // A tag, with room for a hundred.
-fn spare_tags(alloc: Global) -> Result<Tags> {
-    let mut tags = Vec::with_capacity(alloc, 100)?;
-    let (key, value) = (Text::new(alloc, "a")?, Text::new(alloc, "b")?);
-    tags.push(Tag { key, value })?;
-    Ok(Parts::from_vec(tags))
+fn spare_tags(alloc: Global) -> Option<Tags> {
+    let (key, value) = (Text::new(alloc, "a").ok()?, Text::new(alloc, "b").ok()?);
+    let mut tags = Vec::with_capacity(alloc, 100).ok()?;
+    tags.push(Tag { key, value }).ok()?;
+    Some(Parts::from_vec(tags))
 }
 
 // Makes a node with a list of tags that has room for many more.
-fn within_limits(alloc: Global, spare: Option<Tags>, out: &mut Vec<u8>) -> Result<()> {
-    let tags = spare.context("no tags")?;
-    if tags.as_slice().len() > MAX_TAGS {
-        bail!("too many tags");
+fn within_limits(alloc: Global, spare: &mut Option<Tags>, out: &mut Answers) {
+    match (spare.take(), nobody(alloc)) {
+        (Some(tags), Some(meta)) => write_node(tags, meta, out),
+        _ => out.fail("no tags"),
     }
-    let meta = Meta::new(1, 1, 1, 1, Text::new(alloc, "")?)?;
+}
+
+// Version 1 of nobody.
+fn nobody(alloc: Global) -> Option<Meta> {
+    Meta::new(1, 1, 1, 1, Text::new(alloc, "").ok()?).ok()
+}
+
+fn write_node(tags: Tags, meta: Meta, out: &mut Answers) {
+    if tags.as_slice().len() > MAX_TAGS {
+        return out.fail("too many tags");
+    }
     let key = Key {
         kind: Kind::Node,
         id: 1,
@@ -155,40 +194,64 @@ fn within_limits(alloc: Global, spare: Option<Tags>, out: &mut Vec<u8>) -> Resul
         lat: 0,
         tags,
     };
-    let node = Change::within_limits(key, meta, what);
-    write_change(&node, out)
+    out.change(&Change::within_limits(key, meta, what));
 }
 
-fn write_meta_or(answer: Result<Meta, WantOfMemory>, out: &mut Vec<u8>) -> Result<()> {
-    match answer {
-        Ok(meta) => writeln!(out, "{}", meta.user().as_str())?,
-        Err(error) => writeln!(out, "{error:?}")?,
+fn copy_meta(alloc: Global, meta: &Meta, out: &mut Answers) {
+    match meta.copy(alloc) {
+        Ok(meta) => out.line(meta.user().as_str()),
+        Err(error) => out.debug(&error),
     }
-    Ok(())
 }
 
-fn write_refs_or(answer: Result<Refs, WantOfMemory>, out: &mut Vec<u8>) -> Result<()> {
-    match answer {
-        Ok(refs) => writeln!(out, "{:?}", refs.as_slice())?,
-        Err(error) => writeln!(out, "{error:?}")?,
+fn copy_refs(alloc: Global, what: &What, out: &mut Answers) {
+    let What::Way { refs, .. } = what else {
+        return out.fail("no references");
+    };
+    match refs.copy(alloc) {
+        Ok(refs) => out.debug(&refs.as_slice()),
+        Err(error) => out.debug(&error),
     }
-    Ok(())
 }
 
-fn copy_tag(alloc: Global, tags: &[Tag], out: &mut Vec<u8>) -> Result<()> {
-    let tag = tags.first().context("no tag")?;
+fn copy_tag(alloc: Global, what: &What, out: &mut Answers) {
+    let Some(tag) = first_tag(what) else {
+        return out.fail("no tag");
+    };
     match tag.copy(alloc) {
-        Ok(tag) => writeln!(out, "{}={}", tag.key.as_str(), tag.value.as_str())?,
-        Err(error) => writeln!(out, "{error:?}")?,
+        Ok(tag) => {
+            out.show(tag.key.as_str());
+            out.add(b"=");
+            out.line(tag.value.as_str());
+        }
+        Err(error) => out.debug(&error),
     }
-    Ok(())
 }
 
-fn copy_member(alloc: Global, members: &[Member], out: &mut Vec<u8>) -> Result<()> {
-    let member = members.first().context("no member")?;
-    match member.copy(alloc) {
-        Ok(member) => writeln!(out, "{}@{}", member.key.id, member.role.as_str())?,
-        Err(error) => writeln!(out, "{error:?}")?,
+fn first_tag(what: &What) -> Option<&Tag> {
+    match what {
+        What::Way { tags, .. } => tags.as_slice().first(),
+        _ => None,
     }
-    Ok(())
+}
+
+fn copy_member(alloc: Global, what: &What, out: &mut Answers) {
+    let Some(member) = first_member(what) else {
+        return out.fail("no member");
+    };
+    match member.copy(alloc) {
+        Ok(member) => {
+            out.show(member.key.id);
+            out.add(b"@");
+            out.line(member.role.as_str());
+        }
+        Err(error) => out.debug(&error),
+    }
+}
+
+fn first_member(what: &What) -> Option<&Member> {
+    match what {
+        What::Relation { members, .. } => members.as_slice().first(),
+        _ => None,
+    }
 }

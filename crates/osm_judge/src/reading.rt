@@ -43,26 +43,75 @@ impl From<LineError> for NotAReply {
     }
 }
 
+// A reply whose line is always the same.
+#[derive(Clone, Copy)]
+enum Plain {
+    Edited,
+    BatchFull,
+    WantOfMemory,
+    SequenceFull,
+    TimeBack,
+    TooLarge,
+    NotPublished,
+    Broken,
+    Old,
+    Again,
+    TooEarly,
+    Held,
+    Broke,
+}
+
+// The lines of these replies. A search is much cheaper to prove than a match over words.
+const PLAIN: &[(&str, Plain)] = &[
+    ("edited", Plain::Edited),
+    ("batch full", Plain::BatchFull),
+    ("no memory", Plain::WantOfMemory),
+    ("sequence full", Plain::SequenceFull),
+    ("time back", Plain::TimeBack),
+    ("too large", Plain::TooLarge),
+    ("not published", Plain::NotPublished),
+    ("broken", Plain::Broken),
+    ("old", Plain::Old),
+    ("again", Plain::Again),
+    ("too early", Plain::TooEarly),
+    ("held", Plain::Held),
+    ("broke", Plain::Broke),
+];
+
 /// Reads a reply, and gives the text after it.
 pub fn read_reply(alloc: Global, text: &[u8]) -> Result<(Reply, &[u8]), NotAReply> {
     let (line, rest) = next_line(text)?;
-    let reply = match line {
-        b"edited" => Reply::Edited,
-        b"batch full" => Reply::BatchFull,
-        b"no memory" => Reply::WantOfMemory,
-        b"sequence full" => Reply::SequenceFull,
-        b"time back" => Reply::TimeBack,
-        b"too large" => Reply::TooLarge,
-        b"not published" => Reply::NotPublished,
-        b"broken" => Reply::Broken,
-        b"old" => Reply::Old,
-        b"again" => Reply::Again,
-        b"too early" => Reply::TooEarly,
-        b"held" => Reply::Held,
-        b"broke" => Reply::Broke,
-        _ => return read_longer(alloc, text),
-    };
-    Ok((reply, rest))
+    match plain_in(line) {
+        Some(plain) => Ok((reply_of(plain), rest)),
+        None => read_longer(alloc, text),
+    }
+}
+
+fn plain_in(line: &[u8]) -> Option<Plain> {
+    for (name, plain) in PLAIN {
+        if name.as_bytes() == line {
+            return Some(*plain);
+        }
+    }
+    None
+}
+
+fn reply_of(plain: Plain) -> Reply {
+    match plain {
+        Plain::Edited => Reply::Edited,
+        Plain::BatchFull => Reply::BatchFull,
+        Plain::WantOfMemory => Reply::WantOfMemory,
+        Plain::SequenceFull => Reply::SequenceFull,
+        Plain::TimeBack => Reply::TimeBack,
+        Plain::TooLarge => Reply::TooLarge,
+        Plain::NotPublished => Reply::NotPublished,
+        Plain::Broken => Reply::Broken,
+        Plain::Old => Reply::Old,
+        Plain::Again => Reply::Again,
+        Plain::TooEarly => Reply::TooEarly,
+        Plain::Held => Reply::Held,
+        Plain::Broke => Reply::Broke,
+    }
 }
 
 fn read_longer(alloc: Global, text: &[u8]) -> Result<(Reply, &[u8]), NotAReply> {
