@@ -1,5 +1,6 @@
 -- Lines of JSON: what each key has, and the text (RFC 8259). An object's keys are sorted.
-use Rattle.std.specs.Prelude.{ℕ, ◌-◌, nat_lt, List, [], ◌∷◌, ◌++◌, Option, Some, None, codes, map, if◌then◌else◌}
+use Rattle.std.specs.Prelude.{ℕ, ◌-◌, nat_lt, List, [], ◌∷◌, ◌++◌, Option, Some, None, codes, map}
+use Rattle.std.specs.Prelude.{if◌then◌else◌}
 use Rattle.osm_model.specs.CivilTime.{time_text}
 use Rattle.serde_json.specs.Data.{Data, array, item, member, no_items, no_members, null, number}
 use Rattle.serde_json.specs.Data.{object, string, unsigned}

@@ -6,7 +6,8 @@ ghost use Rattle.serde_json.specs.Data.{null, string};
 ghost use Rattle.serde_json.specs.View.{view};
 ghost use Rattle.serde_json.specs.Written.{has_float};
 ghost use Rattle.osm_json.specs.Line.{fault_data, follow_data, json_line, lag_data, maybe_number};
-ghost use Rattle.osm_json.specs.Line.{maybe_text, maybe_time, numbers_data, range_data, ranges_data};
+ghost use Rattle.osm_json.specs.Line.{maybe_text, maybe_time, numbers_data, range_data};
+ghost use Rattle.osm_json.specs.Line.{ranges_data};
 ghost use Rattle.osm_json.specs.Line.{run_data, seconds_of};
 
 use crate::line::Standing;

@@ -3,7 +3,8 @@
 ghost use Rattle.std.specs.Prelude.{List, Contains};
 ghost use Rattle.osm_model.specs.Change.{ChangeValue};
 ghost use Rattle.osm_model.specs.Filter.{FilterValue};
-ghost use Rattle.osm_mirror.specs.Mirror.{IsKnownEdit, IsKnownRemoval, KeepsWhatIsLeft, MirrorValue};
+ghost use Rattle.osm_mirror.specs.Mirror.{IsKnownEdit, IsKnownRemoval, KeepsWhatIsLeft};
+ghost use Rattle.osm_mirror.specs.Mirror.{MirrorValue};
 ghost use Rattle.osm_mirror.specs.Mirror.{NeedsMemory, StaysKept};
 
 /// Changes by users and in changesets that already have edits need no memory if all of them remove

@@ -15,7 +15,8 @@ use osm_model::memory::WantOfMemory;
 use std::alloc::Global;
 use std::marker::Model;
 
-/// The objects that aren't deleted, or those of them that a filter keeps, by their keys, and the edits counted by user and by changeset.
+/// The objects that aren't deleted, or those of them that a filter keeps, by their keys, and the
+/// edits counted by user and by changeset.
 #[derive(Debug, Drop)]
 pub struct Mirror {
     objects: Objects,

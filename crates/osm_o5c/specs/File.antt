@@ -1,5 +1,5 @@
--- Files of datasets, and the places of their faults (OSM wiki, O5m: the file). A change file has the
--- changes of a batch, a data file the objects of a mirror.
+-- Files of datasets, and the places of their faults (OSM wiki, O5m: the file). A change file has
+-- the changes of a batch, a data file the objects of a mirror.
 use Rattle.std.specs.Prelude.{◌≡◌, ℕ, ◌+◌, ◌<◌, ◌≤◌, List, [], ◌∷◌, ◌++◌, length, Option, Some}
 use Rattle.std.specs.Prelude.{None}
 use Rattle.osm_model.specs.Batch.{IsBatch}

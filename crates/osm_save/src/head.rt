@@ -1,5 +1,5 @@
-//! The head of a save text: the lines before its objects, each read and written by a function of its
-//! own.
+//! The head of a save text: the lines before its objects, each read and written by a function of
+//! its own.
 
 ghost use Rattle.std.specs.Prelude.{◌≡◌, ℕ, List, ◌∷◌, [], ◌++◌, ◌≤◌, codes, decimal, take};
 ghost use Rattle.std.specs.Prelude.{◌<◌, length, IfErr, IfOk, OnOk};

@@ -118,8 +118,8 @@ pub trait Store {
         ensures refused { IfErr result NeverTooLarge }
         ensures frame { ReplacesBetween IsDevice 1 1 (state self.old) (state self.new) result };
 
-    /// Drops the file that was begun, if there is one. It is no call of the device, and is done also
-    /// by a store that refuses every call.
+    /// Drops the file that was begun, if there is one. It is no call of the device, and is done
+    /// also by a store that refuses every call.
     fn abandon(&mut self)
         ensures { Abandons (state self.old) (state self.new) };
 }

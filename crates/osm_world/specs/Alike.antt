@@ -1,5 +1,5 @@
--- Histories that say the same of their followers, followers that can't be told apart, and views that
--- differ by a filter alone.
+-- Histories that say the same of their followers, followers that can't be told apart, and views
+-- that differ by a filter alone.
 use Rattle.std.specs.Prelude.{◌≡◌, ℕ, false}
 use Rattle.osm_follow.specs.Follower.{FollowerValue, held_at}
 use Rattle.osm_follow.specs.View.{ViewValue}
@@ -34,7 +34,8 @@ pub record IsExtract (filter : FilterValue) (v w : ViewValue) : Type 0 where
   pub number : w.number ≡ v.number
   pub base : w.base ≡ v.base
   pub time : w.time ≡ v.time
-  pub objects : (k : Key) → object_at w.mirror.objects k ≡ kept filter (object_at v.mirror.objects) k
+  pub objects :
+      (k : Key) → object_at w.mirror.objects k ≡ kept filter (object_at v.mirror.objects) k
   pub users : w.mirror.users ≡ v.mirror.users
   pub changesets : w.mirror.changesets ≡ v.mirror.changesets
   pub held : w.held ≡ v.held

@@ -142,8 +142,8 @@ RestartStep a WantOfMemory b =
     × (b ≡ record a { follower = b.follower })
 RestartStep a r b = ⊥
 
--- a new follower with that filter was given the archived OPL files of sequences 1 to k in order, and
--- applied each by itself
+-- a new follower with that filter was given the archived OPL files of sequences 1 to k in order,
+-- and applied each by itself
 abbrev pub IsFed : FilterValue → List PublishedTexts → ℕ → FollowerValue → Type 0
 IsFed filter archive zero f = f ≡ new_follower_of filter
 IsFed filter archive (suc k) f =

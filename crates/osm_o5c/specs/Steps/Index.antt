@@ -125,8 +125,8 @@ abbrev pub AreBelow : List (List ℕ) → List ℕ → ℕ → Type 0
 AreBelow strings text at = (j : ℕ) → j < length strings → IsRecent strings j
     → string_at strings j ≡ text → j < at
 
--- no chain leads to a string that equals the text and can be named, so that it has a later number in
--- `latest`, if there is such a string
+-- no chain leads to a string that equals the text and can be named, so that it has a later number
+-- in `latest`, if there is such a string
 abbrev pub IsLeftOut : Chained → List ℕ → Type 0
 IsLeftOut chained text = (latest : List ℕ → ℕ) → AreLed chained latest
     → AreBelow chained.strings text (latest text)
