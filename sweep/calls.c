@@ -1,8 +1,10 @@
 /* Kills the program that it is loaded into after CALLS calls of its store, at the beginning of the next one; or, with
-   FAILING, this call and all later ones fail with EIO.
+   FAILING, this call and all later ones fail with EIO, or, if that is `once`, this call alone.
    A call reads a file, and begins with opening it, whether it is there or not; or it replaces a file, and begins
    with opening a temporary file for writing, which is opened once more if its folders had to be made; or it asks
-   whether a file is there, by `statx`, as `follow` does of the files of sequences, which it never writes. Folders
+   whether a file is there, by `statx`, as `follow` does of the files of sequences, which it never writes. Of a file that
+   stays open each further block is a call too, which begins with a seek, or with a read after one that came to the end;
+   and while such a file is open, each write of a temporary file and its sync are calls of their own. Folders
    that are opened, or are asked for and aren't there, locks, and names that begin with a slash are no files of the
    store. Standard error says which call it was. */
 #define _GNU_SOURCE
@@ -44,9 +46,10 @@ static int follows(void) {
 /* Counts a call of the store, and says whether it fails. It doesn't come back if the program is killed. */
 static int fails(const char *path, int reads) {
     static long calls;
-    const char *most = getenv("CALLS");
+    const char *most = getenv("CALLS"), *failing = getenv("FAILING");
     if (!most || path[0] == '/' || calls++ < atol(most)) return 0;
-    if (!getenv("FAILING")) {
+    if (failing && strcmp(failing, "once") == 0 && calls - 1 > atol(most)) return 0;
+    if (!failing) {
         dprintf(2, "%s: %s\n", path, reads ? "read" : "write");
         kill(getpid(), SIGKILL);
     }
@@ -67,12 +70,38 @@ static int is_look(const char *path) {
     return faulty && strcmp(path, faulty) == 0 && times++ > 0;
 }
 
+/* Whether a file of the store is opened. */
+static int is_file(const char *path, int flags) {
+    return getenv("CALLS") && path[0] != '/' && !is_lock(path) && !(flags & O_DIRECTORY) && !is_folder(path);
+}
+
 /* Whether a file is opened by a call that fails. */
 static int stops(const char *path, int flags) {
     int reads = (flags & O_ACCMODE) == O_RDONLY;
-    if (!getenv("CALLS") || path[0] == '/' || is_lock(path) || (flags & O_DIRECTORY)) return 0;
-    if (reads && is_look(path)) return 0;
-    return (reads ? !is_folder(path) : is_new(path)) && fails(path, reads);
+    if (!is_file(path, flags) || (reads && is_look(path))) return 0;
+    return (reads || is_new(path)) && fails(path, reads);
+}
+
+/* The files of the store that are open, by their descriptors. */
+enum { MOST = 64 };
+static struct {
+    char path[4096];
+    enum { CLOSED, READ, AT_END, WRITTEN, WRITTEN_IN_PARTS } state;
+} files[MOST];
+
+static int is_in(int file, int state) {
+    return file >= 0 && file < MOST && files[file].state == state;
+}
+
+/* Keeps what was opened. A file is written in parts while another one is open to be read. */
+static int opened(int file, const char *path, int flags) {
+    if (file < 0 || file >= MOST) return file;
+    int reads = (flags & O_ACCMODE) == O_RDONLY, state = reads ? READ : WRITTEN;
+    for (int other = 0; !reads && other < MOST; other++)
+        if (is_in(other, READ) || is_in(other, AT_END)) state = WRITTEN_IN_PARTS;
+    files[file].state = is_file(path, flags) ? state : CLOSED;
+    snprintf(files[file].path, sizeof files[file].path, "%s", path);
+    return file;
 }
 
 /* A mode is passed only if a file may be made; otherwise this reads a value that no one uses. */
@@ -87,14 +116,15 @@ static int stops(const char *path, int flags) {
     int name(const char *path, int flags, ...) { \
         MODE(mode); \
         if (stops(path, flags)) return -1; \
-        return ((int (*)(const char *, int, ...))dlsym(RTLD_NEXT, real))(path, flags, mode); \
+        return opened(((int (*)(const char *, int, ...))dlsym(RTLD_NEXT, real))(path, flags, mode), path, flags); \
     }
 
 #define OPEN_AT(name) \
     int name(int folder, const char *path, int flags, ...) { \
         MODE(mode); \
         if (stops(path, flags)) return -1; \
-        return ((int (*)(int, const char *, int, ...))dlsym(RTLD_NEXT, #name))(folder, path, flags, mode); \
+        return opened(((int (*)(int, const char *, int, ...))dlsym(RTLD_NEXT, #name))(folder, path, flags, mode), path, \
+                      flags); \
     }
 
 int statx(int folder, const char *restrict path, int flags, unsigned mask, struct statx *restrict found) {
@@ -109,3 +139,36 @@ OPEN(__open, "open")
 OPEN(__open64, "open64")
 OPEN_AT(openat)
 OPEN_AT(openat64)
+
+ssize_t read(int file, void *bytes, size_t most) {
+    if (is_in(file, AT_END)) {
+        if (fails(files[file].path, 1)) return -1;
+        files[file].state = READ;
+    }
+    ssize_t count = ((ssize_t (*)(int, void *, size_t))dlsym(RTLD_NEXT, "read"))(file, bytes, most);
+    if (count == 0 && is_in(file, READ)) files[file].state = AT_END;
+    return count;
+}
+
+off_t lseek(int file, off_t place, int from) {
+    if (is_in(file, READ) || is_in(file, AT_END)) {
+        if (fails(files[file].path, 1)) return -1;
+        files[file].state = READ;
+    }
+    return ((off_t (*)(int, off_t, int))dlsym(RTLD_NEXT, "lseek"))(file, place, from);
+}
+
+ssize_t write(int file, const void *bytes, size_t count) {
+    if (is_in(file, WRITTEN_IN_PARTS) && fails(files[file].path, 0)) return -1;
+    return ((ssize_t (*)(int, const void *, size_t))dlsym(RTLD_NEXT, "write"))(file, bytes, count);
+}
+
+int fsync(int file) {
+    if (is_in(file, WRITTEN_IN_PARTS) && fails(files[file].path, 0)) return -1;
+    return ((int (*)(int))dlsym(RTLD_NEXT, "fsync"))(file);
+}
+
+int close(int file) {
+    if (file >= 0 && file < MOST) files[file].state = CLOSED;
+    return ((int (*)(int))dlsym(RTLD_NEXT, "close"))(file);
+}

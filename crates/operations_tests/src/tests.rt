@@ -75,8 +75,8 @@ fn operations(alloc: Global) -> Result<Vec<Operation>, Fail> {
         killed_publish(alloc, 3, 5),
         Operation::Follow,
         killed_publish(alloc, 3, 6),
-        Operation::KilledFollow { calls: 5 },
-        Operation::KilledFollow { calls: 3 },
+        Operation::KilledFollow { calls: 11 },
+        Operation::KilledFollow { calls: 4 },
         publish(alloc, 0),
     ] {
         list.push(operation)?;
@@ -337,7 +337,7 @@ fn follow_spoiled(number: u32, suffix: Suffix) -> Operation {
 }
 
 // Spoiled files of a later number, of the next one, of one that was followed, of none, and one that
-// isn't read; a run that comes to the number before makes eleven calls here.
+// isn't read; a run that comes to the number before makes thirteen calls.
 fn spoiled(alloc: Global) -> Result<Vec<Operation>, Fail> {
     let mut list = Vec::new(alloc);
     for operation in [
@@ -349,12 +349,12 @@ fn spoiled(alloc: Global) -> Result<Vec<Operation>, Fail> {
         Operation::KilledFollowSpoiled {
             number: 3,
             suffix: Suffix::O5c,
-            calls: 10,
+            calls: 12,
         },
         Operation::KilledFollowSpoiled {
             number: 3,
             suffix: Suffix::O5c,
-            calls: 11,
+            calls: 13,
         },
         follow_spoiled(3, STATE),
         follow_spoiled(3, Suffix::Opl),

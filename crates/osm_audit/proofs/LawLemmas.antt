@@ -10,8 +10,7 @@ use Rattle.osm_state.specs.declared.paths.Suffix.TheVariants.{O5c, Opl, State}
 use Rattle.osm_follow.specs.Published.{PublishedValue, sequence_at}
 use Rattle.osm_store.specs.Files.{Files, IsOver}
 use Rattle.osm_folder.specs.Folder.{IsAbsentOr, IsFile, IsFolderOf, IsStateFile, IsThere, max_state}
-use Rattle.osm_folder.specs.Following.{AreChanges, BeyondStops, FollowStops, IsReadable, IsSaved, NumberStops, SaveStops, StartStops, StopsAt}
-use Rattle.osm_folder.specs.Following.{is_lost, last_number}
+use Rattle.osm_folder.specs.Following.{AreChanges, IsReadable, IsSaved, MissingStops, NumberStops, is_lost, last_number}
 use Rattle.osm_folder.specs.Names.{file_name_of, top_name_of}
 use Rattle.osm_folder.specs.Numbered.{AreFilesOf}
 use Rattle.osm_folder.specs.Publication.{CutsOff, HasTop, IsBadState, IsBig, IsReadWith, NotReady, PublishStops}
@@ -21,6 +20,7 @@ use Rattle.osm_folder.specs.declared.fault.RunFault.{RunFault}
 use Rattle.osm_folder.specs.declared.fault.RunFault.TheVariants.{WantOfMemory, ReadFault, TooLarge, Absent, BadState, Mismatch, BadChange}
 use Rattle.osm_folder.specs.declared.form.Form.TheVariants as forms
 use Rattle.osm_folder.specs.declared.options.FollowOptions.{FollowOptions}
+use Rattle.osm_round.specs.Rounds.{RoundStops, StartStops, StopsAt}
 use Rattle.osm_audit.specs.Audit.{IsLast}
 use Rattle.osm_audit.specs.Laws.{IsFolderFile, IsOfFolder}
 use Rattle.osm_audit.specs.Whole.{IsWhole}
@@ -92,38 +92,29 @@ top_there apart files dir to (TooLarge file) last f = over_state (files (top_nam
 top_there apart files dir to (BadState file cause) last f = bad_state apart (files (top_name_of dir)) to last.0 cause f last.1
 top_there apart files dir to fault last f = f
 
-start_stops : NoFaultBesideState → (known : Type 0) (given : FilterValue) (dir save : List ℕ) (files : Files) (to : ℕ) (fault : RunFault)
-    → known → IsLast None dir files to → StartStops known given dir save files fault → IsOfFolder fault → ⊥
-start_stops apart known given dir save files to (Absent Top) sure last s f = top_there apart files dir to (Absent Top) last (s sure).1
-start_stops apart known given dir save files to (TooLarge Top) sure last s f = top_there apart files dir to (TooLarge Top) last (s sure).1
-start_stops apart known given dir save files to (BadState Top cause) sure last s f =
+start_stops : NoFaultBesideState → (known : Type 0) (options : FollowOptions) (dir save : List ℕ) (files : Files) (to : ℕ) (fault : RunFault)
+    → known → IsLast None dir files to → StartStops known options dir save files fault → IsOfFolder fault → ⊥
+start_stops apart known options dir save files to (Absent Top) sure last s f = top_there apart files dir to (Absent Top) last (s sure).1
+start_stops apart known options dir save files to (TooLarge Top) sure last s f = top_there apart files dir to (TooLarge Top) last (s sure).1
+start_stops apart known options dir save files to (BadState Top cause) sure last s f =
     top_there apart files dir to (BadState Top cause) last (s sure).1
-start_stops apart known given dir save files to (TooLarge Save) sure last s f = f
-start_stops apart known given dir save files to (Absent file) sure last s f = s
-start_stops apart known given dir save files to (TooLarge file) sure last s f = s
-start_stops apart known given dir save files to (BadState file cause) sure last s f = s
-start_stops apart known given dir save files to (Mismatch n) sure last s f = s
-start_stops apart known given dir save files to (BadChange file place why) sure last s f = s
-start_stops apart known given dir save files to fault sure last s f = f
+start_stops apart known options dir save files to (Absent Save) sure last s f = f
+start_stops apart known options dir save files to (TooLarge Save) sure last s f = f
+start_stops apart known options dir save files to (Absent file) sure last s f = s
+start_stops apart known options dir save files to (TooLarge file) sure last s f = s
+start_stops apart known options dir save files to (BadState file cause) sure last s f = s
+start_stops apart known options dir save files to (Mismatch n) sure last s f = s
+start_stops apart known options dir save files to (BadChange file place why) sure last s f = s
+start_stops apart known options dir save files to fault sure last s f = f
 
-beyond_stops : (known : Type 0) (options : FollowOptions) (dir save : List ℕ) (files : Files) (fault : RunFault)
-    → BeyondStops known options dir save files fault → IsOfFolder fault → ⊥
-beyond_stops known options dir save files (Absent file) s f = s
-beyond_stops known options dir save files (TooLarge file) s f = s
-beyond_stops known options dir save files (BadState file cause) s f = s
-beyond_stops known options dir save files (Mismatch n) s f = s
-beyond_stops known options dir save files (BadChange file place why) s f = s
-beyond_stops known options dir save files fault s f = f
-
-save_stops : (known : Type 0) (options : FollowOptions) (dir save : List ℕ) (files : Files) (fault : RunFault)
-    → SaveStops known options dir save files fault → IsOfFolder fault → ⊥
-save_stops known options dir save files (TooLarge Save) s f = f
-save_stops known options dir save files (Absent file) s f = s
-save_stops known options dir save files (TooLarge file) s f = s
-save_stops known options dir save files (BadState file cause) s f = s
-save_stops known options dir save files (Mismatch n) s f = s
-save_stops known options dir save files (BadChange file place why) s f = s
-save_stops known options dir save files fault s f = f
+missing_stops : (known : Type 0) (dir : List ℕ) (files : Files) (reached last : ℕ) (fault : RunFault)
+    → MissingStops known dir files reached last fault → IsOfFolder fault → ⊥
+missing_stops known dir files reached last (Absent file) s f = s
+missing_stops known dir files reached last (TooLarge file) s f = s
+missing_stops known dir files reached last (BadState file cause) s f = s
+missing_stops known dir files reached last (Mismatch n) s f = s
+missing_stops known dir files reached last (BadChange file place why) s f = s
+missing_stops known dir files reached last fault s f = f
 
 end_below : (limit : Option ℕ) (number top : ℕ) → last_number limit number top ≤ top
 end_below None number top = omega arith
@@ -146,15 +137,13 @@ way_stops apart known options dir save files from to fault sure above w last hig
 pub whole_is_followed : NoFaultBesideState → (is_known : Bool) (options : FollowOptions) (dir save : List ℕ) (files : Files) (from to : ℕ)
     (fault : RunFault) → IsTrue is_known → 0 < from → IsWhole files dir from to → IsLast None dir files to
     → ((v : Saved) → IsSaved options.filter (files save) v → from ≤ v.number + 1)
-    → FollowStops (IsTrue is_known) options dir save files fault → IsOfFolder fault → ⊥
+    → RoundStops (IsTrue is_known) options dir save files fault → IsOfFolder fault → ⊥
 whole_is_followed apart known options dir save files from to fault sure above w last high (inl s) f =
-    start_stops apart (IsTrue known) options.filter dir save files to fault sure last s f
+    start_stops apart (IsTrue known) options dir save files to fault sure last s f
 whole_is_followed apart known options dir save files from to fault sure above w last high (inr (inl s)) f =
     way_stops apart (IsTrue known) options dir save files from to fault sure above w last high s f
-whole_is_followed apart known options dir save files from to fault sure above w last high (inr (inr (inl s))) f =
-    beyond_stops (IsTrue known) options dir save files fault s f
-whole_is_followed apart known options dir save files from to fault sure above w last high (inr (inr (inr s))) f =
-    save_stops (IsTrue known) options dir save files fault s f
+whole_is_followed apart known options dir save files from to fault sure above w last high (inr (inr s)) f =
+    missing_stops (IsTrue known) dir files s.reached s.last fault s.stops f
 
 -- ---- a publication
 

@@ -5,7 +5,7 @@ use Rattle.osm_save.specs.declared.save.Saved.{Saved}
 use Rattle.osm_state.specs.declared.paths.Suffix.{Suffix}
 use Rattle.osm_store.specs.Files.{Files}
 use Rattle.osm_folder.specs.Folder.{IsFolderOf}
-use Rattle.osm_folder.specs.Following.{FollowStops, IsReadable, IsSaved, is_lost}
+use Rattle.osm_folder.specs.Following.{IsReadable, IsSaved, is_lost}
 use Rattle.osm_folder.specs.Publication.{PublishStops}
 use Rattle.osm_folder.specs.declared.fault.FileName.{FileName}
 use Rattle.osm_folder.specs.declared.fault.FileName.TheVariants.{Top, Sequence}
@@ -13,6 +13,7 @@ use Rattle.osm_folder.specs.declared.fault.RunFault.{RunFault}
 use Rattle.osm_folder.specs.declared.fault.RunFault.TheVariants.{TooLarge, Absent, BadState}
 use Rattle.osm_folder.specs.declared.fault.RunFault.TheVariants.{Mismatch, BadChange}
 use Rattle.osm_folder.specs.declared.options.FollowOptions.{FollowOptions}
+use Rattle.osm_round.specs.Rounds.{RoundStops}
 use Rattle.osm_audit.specs.Audit.{IsLast}
 use Rattle.osm_audit.specs.Findings.{AreFindings, IsFound, IsOfNumber, IsOfTop, IsOtherTop, IsWrong}
 use Rattle.osm_audit.specs.Whole.{IsWhole}
@@ -47,7 +48,7 @@ WholeIsFollowed = (is_known : Bool) (options : FollowOptions) (dir save : List �
     (from to : ℕ) (fault : RunFault) → IsTrue is_known → 0 < from → IsWhole files dir from to
     → IsLast None dir files to
     → ((v : Saved) → IsSaved options.filter (files save) v → from ≤ v.number + 1)
-    → FollowStops (IsTrue is_known) options dir save files fault → IsOfFolder fault → ⊥
+    → RoundStops (IsTrue is_known) options dir save files fault → IsOfFolder fault → ⊥
 
 -- no file of a folder that has a newest state is why a publication stops
 abbrev pub WholeIsPublishedIn : Type 0

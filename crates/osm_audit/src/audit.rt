@@ -71,9 +71,9 @@ impl Audit {
 /// Looks through the files of a folder, from a first number, 1 if none is given, to a last one,
 /// that of the newest state if none is given. Each file that is wrong is found once: a state that
 /// isn't there, can't be read, names another number or has a time below that of the number before;
-/// changes that are there in neither form, for which the o5c file is named; a change file that can't
-/// be read; an OPL file that has other changes than the o5c file; and a newest state that is the
-/// last number's, but at another time than its own state. It writes nothing.
+/// changes that are there in neither form, for which the o5c file is named; a change file that
+/// can't be read; an OPL file that has other changes than the o5c file; and a newest state that is
+/// the last number's, but at another time than its own state. It writes nothing.
 ///
 /// A range that begins at 0, or after its last number, is refused as `BadRange`, except that a
 /// folder whose newest state is that of 0 has the range 1 to 0. If no last number is given, the

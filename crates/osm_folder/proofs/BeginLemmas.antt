@@ -141,7 +141,7 @@ uncounted given cs counted objects rising content none = rw none (record {
 
 begun_saved : (given : FilterValue) (base state save : List ℕ) (old new : Files) (report : ReportValue) (b : IsBegunFrom given base state save old new report)
     → IsSaved given (new save) (begun_save given b.s b.beginning.objects)
-begun_saved given base state save old new report b = rw b.put.there (b.small, b.beginning.spelled)
+begun_saved given base state save old new report b = rw b.put.there b.beginning.spelled
 
 same_begun : (given : FilterValue) (s t : StateValue) (xs ys : List ChangeValue) → s ≡ t → xs ≡ ys → begun_save given s xs ≡ begun_save given t ys
 same_begun given s t xs ys p q = ap (λ (u : StateValue). begun_save given u xs) p ∙ ap (λ (zs : List ChangeValue). begun_save given t zs) q
@@ -192,7 +192,7 @@ pub handed : (own given : FilterValue) (save out state again : List ℕ) (before
 handed own given save out state again before after files new v time report saved time_is e at named b =
     let t : StateValue = record { sequence = v.number; time = time } in
     let held = e.made.held in
-    let here : IsSaved own (before save) held.saved = rw held.there (held.small, held.spelled) in
+    let here : IsSaved own (before save) held.saved = rw held.there held.spelled in
     let same : held.saved ≡ v = one_saved own (before save) held.saved v here saved in
     let start : b.s ≡ t = same_start (files state) b.s t b.beginning.start.there named in
     let objects : b.beginning.objects ≡ v.mirror.objects =
@@ -212,7 +212,7 @@ handed own given save out state again before after files new v time report saved
 pub hands_all : (own : FilterValue) (told : Option (List ℕ)) (v : Saved) → IsSaved own told v
     → (handed_on v.filter v).mirror.objects ≡ v.mirror.objects
 hands_all own None v saved = rw saved refl
-hands_all own (Some bytes) v saved = keeps_all v.filter v.mirror.objects saved.1.savable.kept
+hands_all own (Some bytes) v saved = keeps_all v.filter v.mirror.objects saved.savable.kept
 
 -- what is kept is kept again
 kept_again : (f : FilterValue) (o : Option ChangeValue) → kept_object f (kept_object f o) ≡ kept_object f o

@@ -107,7 +107,7 @@ pub export_of : (given : FilterValue) (ps : List PublishedValue) (base number : 
     → IsSaveOf ps given base number (old save) → IsExported save output old new → IsExportOf ps given number output (new output)
 export_of given ps base number save output old new saved done =
     let held = done.made.held in
-    let here : IsSaved given (old save) held.saved = rw held.there (held.small, held.spelled) in
+    let here : IsSaved given (old save) held.saved = rw held.there held.spelled in
     let same : held.saved ≡ saved.value = one_saved given (old save) held.saved saved.value here saved.saved in
     let mirror : IsMirrorOf given (changes_up_to ps number) (changes_after ps saved.value.base number) held.saved.mirror =
     rw (same, ← saved.number_is) saved.in_step.mirror in

@@ -1,22 +1,18 @@
 -- Reading the files of a number.
-use Rattle.std.proofs.Common.{◌≡◌, ℕ, ◌≤◌, List, length, Some, sym, refl, ap, subst, ◌∙◌}
+use Rattle.std.proofs.Common.{◌≡◌, ℕ, ◌≤◌, List, length, Some, sym, refl, subst}
 use Rattle.osm_model.specs.Change.{ChangeValue}
 use Rattle.osm_model.specs.Limits.{max_file}
-use Rattle.osm_state.proofs.StateLemmas.{one_state}
 use Rattle.osm_state.specs.State.{StateValue}
 use Rattle.osm_state.specs.StateText.{StateOf}
 use Rattle.osm_state.specs.declared.paths.Suffix.TheVariants.{O5c, Opl, State}
 use Rattle.osm_follow.specs.Delivery.{sequence_of}
-use Rattle.osm_follow.specs.Follower.{FollowerValue}
 use Rattle.osm_follow.specs.Published.{PublishedValue}
-use Rattle.osm_follow.specs.declared.delivery.Delivered.{Delivered}
-use Rattle.osm_follow.specs.declared.delivery.Delivered.TheVariants.{Old, Again, Held, Applied}
 use Rattle.osm_store.specs.Files.{Files}
 use Rattle.osm_folder.specs.Folder.{IsStateFile, max_state}
 use Rattle.osm_folder.specs.Following.{AreChanges, HasFiles, HasState, NumberStops}
 use Rattle.osm_folder.specs.Forms.{place_of, spells_of}
 use Rattle.osm_folder.specs.Names.{file_name_of}
-use Rattle.osm_folder.specs.Steps.Following.{DeliverStops, IsDelivered, IsFetched, IsFileOf, IsTaken, StateTextStops, suffix_of}
+use Rattle.osm_folder.specs.Steps.Following.{DeliverStops, IsFetched, IsFileOf, StateTextStops, suffix_of}
 use Rattle.osm_folder.specs.declared.fault.FileName.TheVariants.{Sequence}
 use Rattle.osm_folder.specs.declared.fault.RunFault.{RunFault}
 use Rattle.osm_folder.specs.declared.fault.RunFault.TheVariants.{WantOfMemory, BadState, BadChange, Mismatch}
@@ -87,17 +83,3 @@ has_files known dir files number state form bytes s changes has names same spell
       changes = subst (λ n. AreChanges (files (file_name_of dir n O5c)) (files (file_name_of dir n Opl)) (sequence_of s changes)) (sym same)
           (has_changes files dir number form bytes (sequence_of s changes) has.small spelled (has.changes_are sure));
     }
-
--- bytes that are delivered
-pub delivered_taken : (known : Type 0) (dir : List ℕ) (files : Files) (number : ℕ) (f g : FollowerValue)
-    (state : List ℕ) (form : Form) (bytes : List ℕ) (answer : Delivered)
-    → IsFetched known files dir number state form bytes → IsDelivered (spells_of form) (place_of form) f state bytes
-    answer g → IsTaken known files dir number f (Some answer) g
-delivered_taken known dir files number f g state form bytes Old has d = d
-delivered_taken known dir files number f g state form bytes Again has d = d
-delivered_taken known dir files number f g state form bytes Held has d =
-    let same : d.0.sequence ≡ number = ap (λ (s : StateValue). s.sequence) (one_state state d.0 _ d.2.names has.names.names) in
-    (sequence_of d.0 d.1, same, has_files known dir files number state form bytes d.0 d.1 has d.2.names same d.5, rw same at d.3, d.6)
-delivered_taken known dir files number f g state form bytes (Applied low high) has d =
-    let same : d.0.sequence ≡ number = ap (λ (s : StateValue). s.sequence) (one_state state d.0 _ d.2.names has.names.names) in
-    (sequence_of d.0 d.1, same, has_files known dir files number state form bytes d.0 d.1 has d.2.names same d.5, sym same ∙ d.3, d.6 ∙ same, d.7)

@@ -26,4 +26,4 @@ begins_more most bytes head b = record {
 
 pub head_is : (given : FilterValue) (told : Option (List ℕ)) (head : Head) (v : Saved) → IsHead told head → IsSaved given told v → head ≡ head_of v
 head_is given None head v h s = h ∙ ap head_of (sym s)
-head_is given (Some bytes) head v h s = one_head bytes head (head_of v) h (save_has_head bytes v s.1)
+head_is given (Some bytes) head v h s = one_head bytes head (head_of v) h (save_has_head bytes v s)

@@ -20,12 +20,16 @@ use Rattle.osm_follow.proofs.PublishedLemmas.{after_next, changes_next, time_nex
 use Rattle.osm_follow.specs.Published.{AreSequences, PublishedValue, changes_after, changes_at, changes_up_to, sequence_at, time_at}
 use Rattle.osm_store.specs.Files.{Files, IsOver}
 use Rattle.osm_folder.specs.Folder.{IsAbsentOr, IsFile, IsFolderOf, IsStateFile, IsThere, IsTop}
-use Rattle.osm_folder.specs.Following.{Adds, AddsAll, AreChanges, IsFollowed, IsFollowing, IsInStep, IsInStepAfter}
-use Rattle.osm_folder.specs.Following.{IsSaveOf, IsSaved, NamesOther, end_of, is_lost, last_number, limit_of, lost_numbers, ranges, standing_at, standing_of}
+use Rattle.osm_folder.specs.Following.{Adds, AddsAll, AreChanges, IsFollowing, IsInStep}
+use Rattle.osm_folder.specs.Following.{IsSaveOf, IsSaved, NamesOther, NumberStops, end_of, is_lost, last_number, limit_of, lost_numbers, ranges, standing_at, standing_of}
 use Rattle.osm_folder.specs.Forms.{IsFaulty}
 use Rattle.osm_folder.specs.Names.{top_name_of}
+use Rattle.osm_folder.specs.Progress.{IsOfContent}
 use Rattle.osm_folder.specs.Publication.{IsBadState}
 use Rattle.osm_folder.specs.Reports.{Outcome, ReportValue, report_of}
+use Rattle.osm_folder.specs.declared.fault.FileName.TheVariants.{Sequence}
+use Rattle.osm_folder.specs.declared.fault.RunFault.{RunFault}
+use Rattle.osm_folder.specs.declared.fault.RunFault.TheVariants.{BadChange, BadState, Mismatch, TooLarge}
 use Rattle.osm_folder.specs.declared.form.Form.TheVariants as forms
 use Rattle.osm_json.specs.declared.line.Standing.{Standing}
 use Rattle.osm_folder.specs.declared.options.FollowOptions.{FollowOptions}
@@ -34,7 +38,7 @@ use Rattle.osm_folder.proofs.TakingLemmas.{adds_number}
 -- a save saves one thing
 pub one_saved : (given : FilterValue) (told : Option (List ℕ)) (a b : Saved) → IsSaved given told a → IsSaved given told b → a ≡ b
 one_saved given None a b p q = p ∙ sym q
-one_saved given (Some bytes) a b p q = one_save bytes a b p.1 q.1
+one_saved given (Some bytes) a b p q = one_save bytes a b p q
 
 -- the top state names the last published sequence
 pub top_number : (ps : List PublishedValue) (told : Option (List ℕ)) (top : StateValue) → AreSequences ps
@@ -174,25 +178,6 @@ reached_of options ps base number dir save files text report folder saved run =
           (end_of options run.start run.top) (last_number options.limit number (length ps)) start_is value_is time_is base_is top_is top_at end_is);
     }
 
-pub in_step_after : (options : FollowOptions) (ps : List PublishedValue) (base number : ℕ) (dir save : List ℕ) (old new : Files) (report : ReportValue)
-    → IsFolderOf ps old dir → IsSaveOf ps options.filter base number (old save) → IsFollowed options dir save old new report
-    → IsInStepAfter ps options base number dir save old new report
-in_step_after options ps base number dir save old new report folder saved run =
-    let r = reached_of options ps base number dir save old run.text report folder saved run.following in
-    record {
-      count = r.count;
-      saved = record {
-        value = r.value;
-        saved = rw run.put.there (run.small, r.spelled);
-        base_is = r.base_is;
-        number_is = r.value_is;
-        in_step = r.in_step;
-      };
-      far = r.far;
-      report_is = r.report_is;
-      others = run.put.others;
-    }
-
 -- a right file is no reason to stop
 pub not_faulty : (p : PublishedValue) (told : Option (List ℕ)) (place : ℕ) → IsAbsentOr told (IsFile O5c p)
     → IsThere told (λ bytes. IsFaulty forms.O5c bytes place) → ⊥
@@ -230,3 +215,15 @@ not_bad law p (Some bytes) cause a b = law bytes _ cause a.names (rw (same_Some 
 pub not_other : (p : PublishedValue) (told : Option (List ℕ)) (number : ℕ) → p.number ≡ number → IsAbsentOr told (IsFile State p) → NamesOther told number → ⊥
 not_other p None number is a o = o.3
 not_other p (Some bytes) number is a o = o.2 (ap (λ (s : StateValue). s.sequence) (one_state bytes _ _ o.3.names a.names) ∙ is)
+
+-- the number for which a file is no reason to go on
+-- the number that a fault names
+pub stops_number : (known : Type 0) (dir : List ℕ) (files : Files) (n number : ℕ) (fault : RunFault)
+    → NumberStops known dir files n fault → IsOfContent fault number → n ≡ number
+stops_number known dir files n number (TooLarge (Sequence j suffix)) h c = sym h.0 ∙ c
+stops_number known dir files n number (BadState (Sequence j State) cause) h c = sym h.0 ∙ c
+stops_number known dir files n number (Mismatch j) h c = sym h.0 ∙ c
+stops_number known dir files n number (BadChange (Sequence j O5c) place why) h c = sym h.0 ∙ c
+stops_number known dir files n number (BadChange (Sequence j Opl) place why) h c = sym h.0 ∙ c
+stops_number known dir files n number (BadChange (Sequence j State) place why) h c = absurd h
+stops_number known dir files n number fault h c = absurd c

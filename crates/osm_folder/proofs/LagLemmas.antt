@@ -24,8 +24,7 @@ use Rattle.osm_save.proofs.HeadLemmas.{begins_first, save_has_head}
 use Rattle.osm_folder.proofs.HeadLemmas.{begins_more, head_is}
 use Rattle.osm_folder.specs.declared.options.Layout.{Layout}
 use Rattle.osm_folder.proofs.InStepLemmas.{top_number, top_time}
-use Rattle.osm_folder.proofs.RefusalLemmas.{good_top, small_top}
-use Rattle.osm_folder.proofs.StopLemmas.{none_published}
+use Rattle.osm_folder.proofs.RefusalLemmas.{good_top, none_published, small_top}
 
 -- ---- the head of a save, from its first bytes
 
@@ -131,7 +130,7 @@ lag_of layout given ps base number dir save files report folder saved lag =
 
 no_bad_head : (given : FilterValue) (told : Option (List ℕ)) (v : Saved) → IsSaved given told v → IsBadHead told → ⊥
 no_bad_head given None v s b = (let e = b.there in cc)
-no_bad_head given (Some bytes) v s b = b.nothing (head_of v) (rw (← same_Some bytes b.bytes b.there) (save_has_head bytes v s.1))
+no_bad_head given (Some bytes) v s b = b.nothing (head_of v) (rw (← same_Some bytes b.bytes b.there) (save_has_head bytes v s))
 
 pub lag_refuses : (given : FilterValue) (ps : List PublishedValue) (base number : ℕ) (dir save : List ℕ) (files : Files) (known : Type 0)
     (fault : RunFault) → NoFaultBesideState → known → IsFolderOf ps files dir → IsSaveOf ps given base number (files save)

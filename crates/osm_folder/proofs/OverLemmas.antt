@@ -4,14 +4,10 @@ use Rattle.std.specs.Prelude.{Result, Ok, Err, IfErr, IfOk, OnErr}
 use Rattle.osm_follow.specs.Published.{PublishedValue}
 use Rattle.osm_store.specs.Files.{Files}
 use Rattle.osm_folder.specs.Folder.{IsFolderOf}
-use Rattle.osm_folder.specs.Following.{FollowRefuses, FollowsOver, IsInStepAfter, IsSaveOf, follow_calls}
-use Rattle.osm_store.specs.Frames.{IsKnown, StoreState}
 use Rattle.osm_folder.specs.Numbered.{IsAddedAs, NumberedRefuses, PublishesAsOver}
 use Rattle.osm_folder.specs.Publication.{FolderRefuses, IsAdded, PublishesOver}
 use Rattle.osm_folder.specs.Reports.{ReportValue}
-use Rattle.osm_folder.specs.Runs.{LacksCalls}
 use Rattle.osm_folder.specs.declared.fault.RunFault.{RunFault}
-use Rattle.osm_folder.specs.declared.options.FollowOptions.{FollowOptions}
 
 -- ---- a publication
 
@@ -54,29 +50,3 @@ pub number_keeps : (known : Type 0) (dir changes now sequence : List ℕ) (old n
     → OnErr r (known → (p : List PublishedValue) → IsFolderOf p old dir → IsFolderOf p new dir)
 number_keeps known dir changes now sequence old new (Ok report) over = tt
 number_keeps known dir changes now sequence old new (Err fault) over = λ sure p is. (over sure p is).keeps
-
--- ---- a run of the follower
-
-pub follow_in_step : (options : FollowOptions) (dir save : List ℕ) (old new : StoreState) (r : Result ReportValue RunFault)
-    → (IsKnown old → (p : List PublishedValue) (b n : ℕ) → IsFolderOf p old.files dir → IsSaveOf p options.filter b n (old.files save)
-    → FollowsOver p options b n dir save old new r)
-    → IfOk r (λ report. IsKnown old → (p : List PublishedValue) (b n : ℕ) → IsFolderOf p old.files dir
-    → IsSaveOf p options.filter b n (old.files save) → IsInStepAfter p options b n dir save old.files new.files report)
-follow_in_step options dir save old new (Ok report) over = λ sure p b n is s. (over sure p b n is s).in_step
-follow_in_step options dir save old new (Err fault) over = tt
-
-pub follow_over_refuses : (options : FollowOptions) (dir save : List ℕ) (old new : StoreState) (r : Result ReportValue RunFault)
-    → (IsKnown old → (p : List PublishedValue) (b n : ℕ) → IsFolderOf p old.files dir → IsSaveOf p options.filter b n (old.files save)
-    → FollowsOver p options b n dir save old new r)
-    → IfErr r (λ fault. IsKnown old → (p : List PublishedValue) (b n : ℕ) → IsFolderOf p old.files dir
-    → IsSaveOf p options.filter b n (old.files save) → FollowRefuses p options.filter (old.files save) fault)
-follow_over_refuses options dir save old new (Ok report) over = tt
-follow_over_refuses options dir save old new (Err fault) over = λ sure p b n is s. (over sure p b n is s).refuses
-
-pub follow_lacks : (options : FollowOptions) (dir save : List ℕ) (old new : StoreState) (r : Result ReportValue RunFault)
-    → (IsKnown old → (p : List PublishedValue) (b n : ℕ) → IsFolderOf p old.files dir → IsSaveOf p options.filter b n (old.files save)
-    → FollowsOver p options b n dir save old new r)
-    → IfErr r (λ fault. IsKnown old → (p : List PublishedValue) (b n : ℕ) → IsFolderOf p old.files dir
-    → IsSaveOf p options.filter b n (old.files save) → LacksCalls (follow_calls p n) old.left fault)
-follow_lacks options dir save old new (Ok report) over = tt
-follow_lacks options dir save old new (Err fault) over = λ sure p b n is s. (over sure p b n is s).calls.lacks sure

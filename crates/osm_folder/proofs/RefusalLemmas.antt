@@ -1,5 +1,5 @@
 -- What the folder of published sequences refuses.
-use Rattle.std.proofs.Common.{ℕ, ◌<◌, List, length, Option, Some, None, inl, inr, arith, sym, ap, ◌∙◌}
+use Rattle.std.proofs.Common.{◌≡◌, ℕ, ◌<◌, List, length, Option, Some, None, inl, inr, arith, sym, ap, ◌∙◌}
 use Rattle.std.proofs.lemmas.Option.{same_Some}
 use Rattle.osm_model.specs.Time.{TimeText}
 use Rattle.osm_follow.specs.Published.{PublishedValue}
@@ -67,3 +67,8 @@ pub cut_off : (p : List PublishedValue) (now : List ℕ) (number count : ℕ) (f
 cut_off p now number count WantOfMemory h = tt
 cut_off p now number count (WriteFault file) h = tt
 cut_off p now number count fault h = absurd h
+
+pub none_published : (ps : List PublishedValue) (told : Option (List ℕ)) → IsTop ps told → told ≡ None → length ps ≡ 0
+none_published ps None (inl a) e = a.0
+none_published ps None (inr a) e = absurd a.1
+none_published ps (Some bytes) t e = (let bad : Some bytes ≡ None = e in cc)

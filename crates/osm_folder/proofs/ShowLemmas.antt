@@ -6,15 +6,15 @@ use Rattle.osm_follow.specs.Published.{PublishedValue, time_at}
 use Rattle.osm_folder.specs.Following.{IsSaveOf, IsSaved, max_save}
 use Rattle.osm_folder.specs.Reports.{ReportValue}
 use Rattle.osm_folder.specs.Showing.{IsShown, IsShownOf, ShowStops, view_of_saved}
-use Rattle.osm_folder.specs.Steps.Following.{FollowerStops, RestartStops, SavedStops}
+use Rattle.osm_folder.specs.Steps.Following.{SavedStops}
 use Rattle.osm_folder.specs.declared.fault.RunFault.{RunFault}
-use Rattle.osm_folder.specs.declared.fault.RunFault.TheVariants.{WantOfMemory, BadSave, OtherFilter}
+use Rattle.osm_folder.specs.declared.fault.RunFault.TheVariants.{WantOfMemory, BadSave}
 use Rattle.osm_folder.proofs.InStepLemmas.{one_saved}
 
 pub shown_of : (given : FilterValue) (ps : List PublishedValue) (base number : ℕ) (told : Option (List ℕ)) (report : ReportValue)
     → IsSaveOf ps given base number told → IsShown told report → IsShownOf ps given base number report
 shown_of given ps base number told report saved shown =
-    let here : IsSaved given told shown.saved = rw shown.there (shown.small, shown.spelled) in
+    let here : IsSaved given told shown.saved = rw shown.there shown.spelled in
     let same : shown.saved ≡ saved.value = one_saved given told shown.saved saved.value here saved.saved in
     let step = saved.in_step in
     record {
@@ -33,18 +33,3 @@ pub saved_stops : (known : Type 0) (told : Option (List ℕ)) (bytes : List ℕ)
 saved_stops known told bytes WantOfMemory there small h = tt
 saved_stops known told bytes (BadSave line) there small h = λ sure. record { bytes = bytes; there = there sure; small = small; nothing = h }
 saved_stops known told bytes fault there small h = absurd h
-
--- such a text stops what goes on from it as well, and one of another filter does
-pub follower_stops : (given : FilterValue) (known : Type 0) (told : Option (List ℕ)) (bytes : List ℕ) (fault : RunFault)
-    → (known → told ≡ Some bytes) → length bytes ≤ max_save → RestartStops given bytes fault → FollowerStops known given told fault
-follower_stops given known told bytes WantOfMemory there small h = tt
-follower_stops given known told bytes (BadSave line) there small h = λ sure. record { bytes = bytes; there = there sure; small = small; nothing = h }
-follower_stops given known told bytes OtherFilter there small h = λ sure. record {
-  bytes = bytes;
-  value = h.0;
-  there = there sure;
-  small = small;
-  spelled = h.1;
-  other = h.2;
-}
-follower_stops given known told bytes fault there small h = absurd h

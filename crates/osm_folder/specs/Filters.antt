@@ -1,5 +1,5 @@
--- The filter that words of the command line ask for: a word of letters for its kinds, and a word for
--- each of its keys (our choice: `osmium tags-filter` takes both from one word, as `w/highway`).
+-- The filter that words of the command line ask for: a word of letters for its kinds, and a word
+-- for each of its keys (our choice: `osmium tags-filter` takes both from one word, as `w/highway`).
 use Rattle.std.specs.Prelude.{◌≡◌, ℕ, ◌<◌, ◌⊎◌, ◌↔◌, Bool, true, List, length, Contains}
 use Rattle.osm_model.specs.Filter.{AreRising, FilterValue, has_kind}
 use Rattle.osm_model.specs.Limits.{max_keys}

@@ -1,9 +1,9 @@
 -- A follower that goes on from its save over a folder. `known` says that it is known what the files
 -- hold, `given` is the filter that the run was given, and `options` are the filter, the limit and
 -- the layout of a run.
-use Rattle.std.specs.Prelude.{◌≡◌, ◌≢◌, ℕ, zero, suc, ◌+◌, ◌-◌, ◌*◌, ◌<◌, ◌≤◌, ◌⊎◌, ◌↔◌, List}
+use Rattle.std.specs.Prelude.{◌≡◌, ◌≢◌, ℕ, zero, suc, ◌+◌, ◌-◌, ◌<◌, ◌≤◌, ◌⊎◌, ◌↔◌, List}
 use Rattle.std.specs.Prelude.{[], length, map, filter, min, Bool, true, false, ◌||◌, ◌&&◌, Option}
-use Rattle.std.specs.Prelude.{Some, None, is_none, Result, IfErr, IfOk}
+use Rattle.std.specs.Prelude.{Some, None, is_none}
 use Rattle.osm_model.specs.Batch.{IsBatch}
 use Rattle.osm_model.specs.Change.{ChangeValue}
 use Rattle.osm_model.specs.Filter.{FilterValue}
@@ -17,20 +17,17 @@ use Rattle.osm_state.specs.declared.paths.Suffix.TheVariants.{O5c, Opl, State}
 use Rattle.osm_follow.specs.Published.{PublishedValue, changes_after, changes_up_to, sequence_at}
 use Rattle.osm_follow.specs.Published.{time_at}
 use Rattle.osm_follow.specs.Reach.{numbers}
-use Rattle.osm_store.specs.Files.{Files, IsOver, Puts}
+use Rattle.osm_store.specs.Files.{Files, IsOver}
 use Rattle.osm_folder.specs.Folder.{IsFile, IsStateFile, IsThere, max_state}
 use Rattle.osm_folder.specs.Forms.{IsFaulty}
-use Rattle.osm_store.specs.Frames.{StoreState}
 use Rattle.osm_folder.specs.Names.{file_name_of, top_name_of}
 use Rattle.osm_folder.specs.Publication.{IsBadState}
 use Rattle.osm_folder.specs.Reports.{ReportValue, report_of}
-use Rattle.osm_folder.specs.Runs.{CallsUpTo}
-use Rattle.osm_folder.specs.declared.fault.FileName.TheVariants.{Top, Sequence, Save}
+use Rattle.osm_folder.specs.declared.fault.FileName.TheVariants.{Top, Sequence}
 use Rattle.osm_folder.specs.declared.fault.RunFault.{RunFault}
 use Rattle.osm_folder.specs.declared.fault.RunFault.TheVariants.{WantOfMemory, ReadFault}
-use Rattle.osm_folder.specs.declared.fault.RunFault.TheVariants.{WriteFault, TooLarge, Absent}
+use Rattle.osm_folder.specs.declared.fault.RunFault.TheVariants.{TooLarge, Absent}
 use Rattle.osm_folder.specs.declared.fault.RunFault.TheVariants.{BadState, Mismatch, BadChange}
-use Rattle.osm_folder.specs.declared.fault.RunFault.TheVariants.{BadSave, OtherFilter, TopBehind}
 use Rattle.osm_folder.specs.declared.form.Form.TheVariants as forms
 use Rattle.osm_folder.specs.declared.options.FollowOptions.{FollowOptions}
 use Rattle.osm_folder.specs.declared.options.Layout.{Layout}
@@ -78,7 +75,7 @@ no_save given = record { number = 0; base = 0; time = None; filter = given; mirr
 -- what a save holds, under whatever filter; no save is the start under the given one
 abbrev pub IsSaved : FilterValue → Option (List ℕ) → Saved → Type 0
 IsSaved given None v = v ≡ no_save given
-IsSaved given (Some bytes) v = (length bytes ≤ max_save) × SpellsSave bytes v
+IsSaved given (Some bytes) v = SpellsSave bytes v
 
 -- a number is lost if its state isn't there, or its changes in neither form
 abbrev pub is_lost : Files → List ℕ → ℕ → Bool
@@ -177,14 +174,6 @@ pub record IsFollowing (options : FollowOptions) (dir save : List ℕ) (files : 
     missing = lost_numbers files dir reached.number (end_of options start top);
   })
 
--- the save holds what was reached, and no other name changes
-pub record IsFollowed (options : FollowOptions) (dir save : List ℕ) (old new : Files)
-    (report : ReportValue) : Type 0 where
-  pub text : List ℕ
-  pub following : IsFollowing options dir save old text report
-  pub small : length text ≤ max_save
-  pub put : Puts old save (Some text) new
-
 -- a report of a follower, with the text of its fault, whatever is known of the files: a number is
 -- missing exactly if the one that was reached is below the last one, which the top isn't
 pub record IsFollowReport (layout : Layout) (fault : Option (List ℕ)) (report : ReportValue) :
@@ -222,15 +211,6 @@ pub record IsBadSave (told : Option (List ℕ)) : Type 0 where
   pub small : length bytes ≤ max_save
   pub nothing : (v : Saved) → SpellsSave bytes v → ⊥
 
--- the save was saved under another filter than the given one
-pub record IsOtherSave (given : FilterValue) (told : Option (List ℕ)) : Type 0 where
-  pub bytes : List ℕ
-  pub value : Saved
-  pub there : told ≡ Some bytes
-  pub small : length bytes ≤ max_save
-  pub spelled : SpellsSave bytes value
-  pub other : value.filter ≢ given
-
 -- the top state is below the save
 pub record IsTopBehind (given : FilterValue) (dir save : List ℕ) (files : Files) : Type 0 where
   pub start : Saved
@@ -247,22 +227,10 @@ TopStateStops known told (TooLarge file) = (file ≡ Top) × (known → IsOver m
 TopStateStops known told (BadState file cause) = (file ≡ Top) × (known → IsBadState told cause)
 TopStateStops known told fault = ⊥
 
--- why a run can't start from the save and the top state: the save is read before the top state
-abbrev pub StartStops : Type 0 → FilterValue → List ℕ → List ℕ → Files → RunFault → Type 0
-StartStops known given dir save files WantOfMemory = Unit {0}
-StartStops known given dir save files (ReadFault Save) = Unit {0}
-StartStops known given dir save files (TooLarge Save) = known → IsOver max_save (files save)
-StartStops known given dir save files (BadSave line) = known → IsBadSave (files save)
-StartStops known given dir save files OtherFilter = known → IsOtherSave given (files save)
-StartStops known given dir save files (ReadFault Top) = known → HasSave given save files
-StartStops known given dir save files (Absent Top) =
-    known → HasSave given save files × (files (top_name_of dir) ≡ None)
-StartStops known given dir save files (TooLarge Top) =
-    known → HasSave given save files × IsOver max_state (files (top_name_of dir))
-StartStops known given dir save files (BadState Top cause) =
-    known → HasSave given save files × IsBadState (files (top_name_of dir)) cause
-StartStops known given dir save files TopBehind = known → IsTopBehind given dir save files
-StartStops known given dir save files fault = ⊥
+-- why one that may be absent isn't read
+abbrev pub FindTopStops : Type 0 → Option (List ℕ) → RunFault → Type 0
+FindTopStops known told (Absent file) = ⊥
+FindTopStops known told fault = TopStateStops known told fault
 
 -- a number is read: it is after the save's and at most the last one, and those between are right,
 -- so none of them is lost
@@ -319,27 +287,6 @@ NumberStops known dir files number (BadChange (Sequence k Opl) place why) =
     × IsThere (files (file_name_of dir number Opl)) (λ bytes. IsFaulty forms.Opl bytes place))
 NumberStops known dir files number fault = ⊥
 
--- a number that is read isn't taken
-pub record StopsAt (known : Type 0) (options : FollowOptions) (dir save : List ℕ) (files : Files)
-    (fault : RunFault) : Type 0 where
-  pub number : ℕ
-  pub comes : known → ComesTo options dir save files number
-  pub stops : NumberStops known dir files number fault
-
--- a number beyond the first lost one is looked for: up to the last one, and to 64 after the number
--- that was reached
-pub record LooksFor (options : FollowOptions) (dir save : List ℕ) (files : Files) (number : ℕ) :
-    Type 0 where
-  pub start : Saved
-  pub top : StateValue
-  pub started : IsStarted options.filter dir save files start top
-  pub count : ℕ
-  pub reached : Saved
-  pub goes_on : GoesOn files dir start (end_of options start top) count reached
-  pub beyond : reached.number + 1 < number
-  pub within : number ≤ reached.number + 64
-  pub until : number ≤ end_of options start top
-
 -- when a file of a number is looked for: a change file only if the state is there, and the OPL file
 -- only if there is no o5c file
 abbrev pub IsLookedFor : Files → List ℕ → ℕ → Suffix → Type 0
@@ -361,35 +308,6 @@ MissingStops known dir files reached top WantOfMemory = Unit {0}
 MissingStops known dir files reached top (ReadFault (Sequence number suffix)) =
     IsBeyond reached top number × (known → IsLookedFor files dir number suffix)
 MissingStops known dir files reached top fault = ⊥
-
--- why the lost numbers beyond the first aren't named: never for what a file there holds
-abbrev pub BeyondStops : Type 0 → FollowOptions → List ℕ → List ℕ → Files → RunFault → Type 0
-BeyondStops known options dir save files WantOfMemory = Unit {0}
-BeyondStops known options dir save files (ReadFault (Sequence number suffix)) =
-    known → LooksFor options dir save files number × IsLookedFor files dir number suffix
-BeyondStops known options dir save files fault = ⊥
-
--- everything was read, and this holds of the text to save
-abbrev pub HasText : FollowOptions → List ℕ → List ℕ → Files → (List ℕ → Type 0) → Type 0
-HasText options dir save files holds =
-    (text : List ℕ) × (report : ReportValue) × IsFollowing options dir save files text report
-    × holds text
-
--- why what was reached isn't saved
-abbrev pub SaveStops : Type 0 → FollowOptions → List ℕ → List ℕ → Files → RunFault → Type 0
-SaveStops known options dir save files WantOfMemory = Unit {0}
-SaveStops known options dir save files (TooLarge Save) =
-    known → HasText options dir save files (λ text. max_save < length text)
-SaveStops known options dir save files (WriteFault Save) =
-    known → HasText options dir save files (λ text. length text ≤ max_save)
-SaveStops known options dir save files fault = ⊥
-
--- why a run of the follower stops: at the save or the top state, at a number up to the first lost
--- one, beyond it, or at what it saves
-abbrev pub FollowStops : Type 0 → FollowOptions → List ℕ → List ℕ → Files → RunFault → Type 0
-FollowStops known options dir save files fault =
-    StartStops known options.filter dir save files fault ⊎ StopsAt known options dir save files fault
-    ⊎ BeyondStops known options dir save files fault ⊎ SaveStops known options dir save files fault
 
 -- exactly what the filter keeps of the mirror of published sequences 1 to the number, its time, and
 -- the counts of all edits of those after the base
@@ -414,8 +332,9 @@ pub record IsSaveOf (published : List PublishedValue) (given : FilterValue) (bas
 
 -- a follower in step with what was published went on from that number: it saved as many more
 -- numbers as it reports, with its base, and stopped at the last one or before a lost one
-pub record IsInStepAfter (published : List PublishedValue) (options : FollowOptions) (base number : ℕ)
-    (dir save : List ℕ) (old new : Files) (report : ReportValue) : Type 0 where
+pub record IsInStepAfter (published : List PublishedValue) (options : FollowOptions)
+    (base number : ℕ) (dir save : List ℕ) (old new : Files) (report : ReportValue)
+    : Type 0 where
   pub count : ℕ
   pub saved : IsSaveOf published options.filter base (number + count) (new save)
   pub far : (number + count ≡ last_number options.limit number (length published))
@@ -427,40 +346,3 @@ pub record IsInStepAfter (published : List PublishedValue) (options : FollowOpti
         (last_number options.limit number (length published));
   })
   pub others : (name : List ℕ) → (name ≡ save → ⊥) → new name ≡ old name
-
--- the most calls of a run from that number: its save, the top state, at most three files of each
--- number after it, and the save that it writes
-abbrev pub follow_calls : List PublishedValue → ℕ → ℕ
-follow_calls published number = 3 + 3 * (length published - number)
-
--- a save of the published sequences passes 1 GiB: the one that is there, or the one that is to be
--- written
-abbrev pub HasBigSave : List PublishedValue → FilterValue → Option (List ℕ) → Type 0
-HasBigSave published given told =
-    IsOver max_save told
-    ⊎ ((v : Saved) × (text : List ℕ) × IsInStep published given v × SpellsSave text v
-    × (max_save < length text))
-
--- why a run can't start from the folder of published sequences and a save in step with them:
--- besides memory, the device and a save above 1 GiB, only that nothing was published yet
-abbrev pub StartRefuses : List PublishedValue → Option (List ℕ) → RunFault → Type 0
-StartRefuses published told WantOfMemory = Unit {0}
-StartRefuses published told (ReadFault file) = Unit {0}
-StartRefuses published told (Absent file) = (file ≡ Top) × (length published ≡ 0)
-StartRefuses published told (TooLarge file) = (file ≡ Save) × IsOver max_save told
-StartRefuses published told fault = ⊥
-
--- why a run of the follower over them is refused: never for a fault in one of their files
-abbrev pub FollowRefuses : List PublishedValue → FilterValue → Option (List ℕ) → RunFault → Type 0
-FollowRefuses published given told (WriteFault file) = file ≡ Save
-FollowRefuses published given told (TooLarge file) =
-    (file ≡ Save) × HasBigSave published given told
-FollowRefuses published given told fault = StartRefuses published told fault
-
--- what a run of the follower does over them: it goes on in step, within its calls, or is refused
-pub record FollowsOver (published : List PublishedValue) (options : FollowOptions) (base number : ℕ)
-    (dir save : List ℕ) (old new : StoreState) (result : Result ReportValue RunFault) : Type 0 where
-  pub in_step :
-      IfOk result (IsInStepAfter published options base number dir save old.files new.files)
-  pub refuses : IfErr result (FollowRefuses published options.filter (old.files save))
-  pub calls : CallsUpTo (follow_calls published number) old new result

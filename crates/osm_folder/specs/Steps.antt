@@ -5,6 +5,5 @@ pub mod Filtering
 pub mod Following
 pub mod Lagging
 pub mod Numbering
-pub mod Progressing
 pub mod Reading
 pub mod Publishing

@@ -1,11 +1,12 @@
 //! Beginning a save with a data file.
 
-ghost use Rattle.std.specs.Prelude.{◌≡◌, ◌<◌, ◌≤◌, ℕ, List, Some, IfErr, IfOk, length};
+ghost use Rattle.std.specs.Prelude.{◌≡◌, ◌<◌, ◌≤◌, ℕ, List, Some, false, IfErr, IfOk, length};
 ghost use Rattle.osm_model.specs.Data.{IsData};
 ghost use Rattle.osm_model.specs.Limits.{max_file};
 ghost use Rattle.osm_save.specs.Save.{SpellsSave};
 ghost use Rattle.osm_follow.specs.Begin.{begun_of};
 ghost use Rattle.osm_follow.specs.Published.{PublishedValue};
+ghost use Rattle.osm_follow.specs.Restart.{saved_of};
 ghost use Rattle.osm_folder.specs.Beginning.{BeginStops, IsBaseOf, IsBegunFrom, IsStart};
 ghost use Rattle.osm_folder.specs.Beginning.{begun_save};
 ghost use Rattle.osm_folder.specs.Folder.{max_state};
@@ -16,14 +17,15 @@ ghost use Rattle.osm_folder.specs.Runs.{Reads, Replaces};
 ghost use Rattle.osm_folder.specs.Steps.Beginning.{BaseStops, BaseTextStops, BegunStops};
 ghost use Rattle.osm_folder.specs.Steps.Beginning.{IsBaseRead, IsObjectsOf, StartStops};
 ghost use Rattle.osm_folder.specs.Steps.Beginning.{StartTextStops};
+ghost use Rattle.osm_folder.specs.Steps.Following.{MadeStops};
 
 use crate::data_form::{DataForm, data_form_of, read_data};
 use crate::fault::{FileName, RunFault};
-use crate::files::{MAX_STATE, read_present, write_file};
-use crate::follow::save as save_text;
+use crate::files::{MAX_SAVE, MAX_STATE, read_present, write_file};
 use crate::report::{Report, begin_report};
 use osm_follow::begin::BeginError;
 use osm_follow::follower::Follower;
+use osm_follow::view::ViewError;
 use osm_model::change::Change;
 use osm_model::filter::Filter;
 use osm_model::form::FormError;
@@ -35,8 +37,8 @@ use std::alloc::Global;
 
 /// Writes a save that begins with those objects of a data file that the filter keeps, at the
 /// sequence and the time of the state that belongs to it, whatever the save held before. Its counts
-/// are those of the sequences after that one. A name that ends in `.opl` or `.o5m` tells the form of
-/// the data file; any other is refused as `UnknownForm`. A state of sequence 0 is refused as
+/// are those of the sequences after that one. A name that ends in `.opl` or `.o5m` tells the form
+/// of the data file; any other is refused as `UnknownForm`. A state of sequence 0 is refused as
 /// `ZeroBase`. A refusal leaves all files as they were.
 pub fn begin_run<S: Store>(
     alloc: Global,
@@ -167,5 +169,20 @@ fn begun(
         Err(BeginError::WantOfMemory) => Err(RunFault::WantOfMemory),
         Err(BeginError::BadSequence) => unreachable!(),
         Err(BeginError::NotData { index: _ }) => unreachable!(),
+    }
+}
+
+// What a follower saves.
+fn save_text(alloc: Global, follower: &Follower) -> Result<Vec<u8>, RunFault>
+    requires { follower.now.is_broken ≡ false }
+    ensures spelled { IfOk result (λ text. SpellsSave text.items (saved_of follower.now)) }
+    ensures small { IfOk result (λ text. length text.items ≤ max_save) }
+    ensures stops { IfErr result (MadeStops follower.now) }
+{
+    match follower.save(alloc) {
+        Ok(text) if text.len() as u64 <= MAX_SAVE => Ok(text),
+        Ok(_) => Err(RunFault::TooLarge(FileName::Save)),
+        Err(ViewError::WantOfMemory) => Err(RunFault::WantOfMemory),
+        Err(ViewError::Broken) => unreachable!(),
     }
 }

@@ -18,9 +18,8 @@ ghost use Rattle.osm_folder.specs.Steps.Following.{SavedStops};
 
 use crate::data_form::{DataForm, data_form_of, write_data};
 use crate::fault::{FileName, RunFault};
-use crate::files::{read_present, write_file};
+use crate::files::{MAX_SAVE, read_present, write_file};
 use crate::report::{Report, convert_report};
-use crate::start::MAX_SAVE;
 use osm_model::change::Change;
 use osm_model::data::DataError;
 use osm_save::save::{SaveError, Saved, save_read};

@@ -126,8 +126,8 @@ pub enum RunFault {
     /// The number isn't 1 to 9 digits.
     #[error("bad sequence")]
     BadSequence,
-    /// The kinds aren't some of `n`, `w` and `r` in this order, a key isn't a text, or there are more
-    /// than 100 different keys.
+    /// The kinds aren't some of `n`, `w` and `r` in this order, a key isn't a text, or there are
+    /// more than 100 different keys.
     #[error("bad filter")]
     BadFilter,
     /// The limit isn't a number from 1 to 999,999,999.

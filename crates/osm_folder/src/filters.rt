@@ -1,6 +1,7 @@
 //! The filter that the words of a run ask for.
 
-ghost use Rattle.std.specs.Prelude.{◌≡◌, ◌++◌, ◌∷◌, [], IfErr, IfNone, IfOk, IfSome, OnOk, map, true};
+ghost use Rattle.std.specs.Prelude.{◌≡◌, ◌++◌, ◌∷◌, [], IfErr, IfNone, IfOk, IfSome, OnOk, map};
+ghost use Rattle.std.specs.Prelude.{true};
 ghost use Rattle.osm_model.specs.Filter.{has_kind};
 ghost use Rattle.osm_save.specs.Filters.{kinds_text};
 ghost use Rattle.osm_folder.specs.Filters.{AreNoKinds, FilterStops, IsAsked};

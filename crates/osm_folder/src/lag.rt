@@ -16,7 +16,7 @@ use crate::fault::{FileName, RunFault};
 use crate::files::read_prefix;
 use crate::options::Layout;
 use crate::report::{Report, lag_in};
-use crate::start::read_top;
+use crate::top::read_top;
 use osm_follow::lag::{LagError, lag_from};
 use osm_json::line::Standing;
 use osm_save::head::{Head, HeadError, head_read};
@@ -30,8 +30,8 @@ use std::alloc::Global;
 const HEAD: u64 = 409_600;
 
 /// How many numbers and seconds a save, or the start if there is none, is behind the folder's
-/// newest state, in that layout, whatever the filter of the save. Changes no file. Of the save only the head is
-/// read, so a fault after it isn't found.
+/// newest state, in that layout, whatever the filter of the save. Changes no file. Of the save only
+/// the head is read, so a fault after it isn't found.
 pub fn lag_run<S: Store>(
     alloc: Global,
     store: &mut S,

@@ -15,9 +15,9 @@ ghost use Rattle.osm_folder.specs.Reports.{ReportValue};
 /// filter, with a state text of the save's number and time: a save with those of the objects that
 /// the filter keeps, and with the same number and time, whose base is that number, and no counts.
 /// Under the filter of the save that was exported these are all of its objects, and a save in step
-/// with what was published stays so. An export of what published sequences 1 to a number leave, with
-/// that number's state, is the base of that number, from which a save of any filter can begin. Does
-/// nothing at run time.
+/// with what was published stays so. An export of what published sequences 1 to a number leave,
+/// with that number's state, is the base of that number, from which a save of any filter can begin.
+/// Does nothing at run time.
 pub fn laws_of_bases()
     ensures handed_on { (own given : FilterValue) (save out state again : List ℕ)
         (before after files new : Files) (v : Saved) (time : ℕ) (report : ReportValue)

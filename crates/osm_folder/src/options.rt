@@ -1,15 +1,13 @@
 //! What a run of the follower is asked for.
 
-ghost use Rattle.std.specs.Prelude.{◌≡◌, ℕ, ◌<◌, ◌⊎◌, IfErr, IfOk};
+ghost use Rattle.std.specs.Prelude.{◌≡◌, ℕ, ◌<◌, IfErr, IfOk};
 ghost use Rattle.osm_reading.specs.Sequence.{SpellsSequence};
-ghost use Rattle.osm_folder.specs.Following.{plainly};
+ghost use Rattle.osm_folder.specs.Following.{last_number, plainly};
 ghost use Rattle.osm_folder.specs.declared.fault.RunFault.TheVariants.{BadLimit};
 
 use crate::fault::RunFault;
 use osm_model::filter::Filter;
-use osm_model::memory::WantOfMemory;
 use osm_reading::sequence::sequence_read;
-use std::alloc::Global;
 
 /// What a report looks like.
 #[derive(Clone, Copy, Debug, PartialEq, Eq)]
@@ -42,15 +40,15 @@ impl FollowOptions {
             layout: Layout::Lines,
         }
     }
+}
 
-    pub(crate) fn copy(&self, alloc: Global) -> Result<FollowOptions, WantOfMemory>
-        ensures { IfOk result (λ copied. copied ≡ self.now) }
-    {
-        Ok(FollowOptions {
-            filter: self.filter.copy(alloc)?,
-            limit: self.limit,
-            layout: self.layout,
-        })
+/// The last number that a run from that number goes to.
+pub fn last_number(limit: Option<u32>, number: u32, top: u32) -> u32
+    ensures { result ≡ last_number limit number top }
+{
+    match limit {
+        None => top,
+        Some(limit) => top.min(number.saturating_add(limit)),
     }
 }
 

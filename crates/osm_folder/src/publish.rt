@@ -1,10 +1,10 @@
 //! Publishing one more sequence in a folder.
 
-ghost use Rattle.std.specs.Prelude.{◌≡◌, ℕ, ◌+◌, ◌≤◌, ◌++◌, [], ◌∷◌, List, IfErr, IfOk};
-ghost use Rattle.std.specs.Prelude.{OnOk, OnErr, length};
+ghost use Rattle.std.specs.Prelude.{◌≡◌, ℕ, ◌≤◌, [], List, IfErr, IfOk};
+ghost use Rattle.std.specs.Prelude.{OnOk, length};
 ghost use Rattle.osm_follow.specs.Published.{PublishedValue, written_of};
 ghost use Rattle.osm_follow.specs.Publisher.{CanClose, IsSmall, closing};
-ghost use Rattle.osm_model.specs.Limits.{max_file, max_sequence};
+ghost use Rattle.osm_model.specs.Limits.{max_sequence};
 ghost use Rattle.osm_opl.specs.File.{SpellsOpl};
 ghost use Rattle.osm_folder.specs.Folder.{IsApart, IsFolderOf, IsStateFile, max_state};
 ghost use Rattle.osm_store.specs.Frames.{IsKnown};
@@ -23,7 +23,7 @@ use crate::fault::{FileName, RunFault};
 use crate::files::{MAX_STATE, read_file, read_present, write_file};
 use crate::names::{file_name, top_name};
 use crate::report::{Report, publish_report};
-use crate::start::top_state;
+use crate::top::top_state;
 use osm_follow::published::Published;
 use osm_follow::publisher::{CloseError, EditError, Publisher};
 use osm_model::batch::Batch;

@@ -14,9 +14,8 @@ ghost use Rattle.osm_folder.specs.Showing.{IsShown, IsShownOf, ShowStops, view_o
 ghost use Rattle.osm_folder.specs.Steps.Following.{IsFresh, SavedStops};
 
 use crate::fault::{FileName, RunFault};
-use crate::files::read_present;
+use crate::files::{MAX_SAVE, read_present};
 use crate::report::{Report, show_report};
-use crate::start::MAX_SAVE;
 use osm_follow::follower::Follower;
 use osm_follow::restart::RestartError;
 use osm_follow::view::{View, ViewError};

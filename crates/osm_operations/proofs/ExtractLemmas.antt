@@ -61,20 +61,12 @@ use Rattle.osm_operations.proofs.AgreeLemmas.{Agrees, few, folder_same}
 
 pub saved_head : (given : FilterValue) (told : Option (List ℕ)) (v : Saved) → IsSaved given told v → IsHead told (head_of v)
 saved_head given None v s = ap head_of s
-saved_head given (Some bytes) v s = save_has_head bytes v s.1
+saved_head given (Some bytes) v s = save_has_head bytes v s
 
--- a save of the follower's number isn't over 1 GiB
-pub saved_small : (given : FilterValue) (told : Option (List ℕ)) (v : Saved) → IsSaved given told v → IsOver max_save told → ⊥
-saved_small given None v s over = (let e = over.there in cc)
-saved_small given (Some bytes) v s over =
-    let long = ap length (same_Some _ _ over.there) in
-    let most = over.over in
-    omega (arith, long, most, s.0)
-
--- nor is it a bad one
+-- a save of the follower's number isn't a bad one
 pub saved_right : (given : FilterValue) (told : Option (List ℕ)) (v : Saved) (bytes : List ℕ) → IsSaved given told v → told ≡ Some bytes → SpellsSave bytes v
 saved_right given None v bytes s there = absurd (let bad : None ≡ Some bytes = there in cc)
-saved_right given (Some text) v bytes s there = subst (λ (t : List ℕ). SpellsSave t v) (same_Some text bytes there) s.1
+saved_right given (Some text) v bytes s there = subst (λ (t : List ℕ). SpellsSave t v) (same_Some text bytes there) s
 
 -- a save is there exactly if something was saved
 is_there_not : (b : Bool) (told : Option (List ℕ)) (bytes : List ℕ) → is_none told ≡ not b → told ≡ Some bytes → b ≡ true
@@ -106,7 +98,7 @@ pub has_export : (given : FilterValue) (h : hist.History) (extract : List ℕ) (
     (held : Holds told) → IsSaveOf (hist.published_of h) given (hist.base_of h) (hist.number_of h) told → is_none told ≡ not (hist.is_saved h)
     → holds (data_text_of named.form held.saved.mirror.objects) → HasExport given h extract holds
 has_export given h extract told holds named held save there fits =
-    let here : IsSaved given told held.saved = rw held.there (held.small, held.spelled) in
+    let here : IsSaved given told held.saved = rw held.there held.spelled in
     let same : held.saved ≡ save.value = one_saved given told held.saved save.value here save.saved in
     let mirror : IsMirrorOf given (changes_up_to (hist.published_of h) save.value.number)
     (changes_after (hist.published_of h) save.value.base save.value.number) held.saved.mirror = rw same save.in_step.mirror in
@@ -163,7 +155,17 @@ export_row given h extract save calls f UnknownForm lacks s there r = r
 export_row given h extract save calls f WantOfMemory lacks s there r = tt
 export_row given h extract save calls f (ReadFault Save) lacks s there r = (refl, r, lacks tt)
 export_row given h extract save calls f (Absent Save) lacks s there r = (refl, r.0, is_absent_not (hist.is_saved h) (f save) there (r.1 refl))
-export_row given h extract save calls f (TooLarge Save) lacks s there r = absurd (saved_small given (f save) s.value s.saved (r.1 refl))
+export_row given h extract save calls f (TooLarge Save) lacks s there r =
+    let big = r.1 refl in (
+      r.0,
+      record {
+        value = s.value;
+        text = big.bytes;
+        in_step = s.in_step;
+        spelled = saved_right given (f save) s.value big.bytes s.saved big.there;
+        over = big.over;
+      },
+    )
 export_row given h extract save calls f (BadSave line) lacks s there r =
     absurd (let bad = r.1 refl in bad.nothing s.value (saved_right given (f save) s.value bad.bytes s.saved bad.there))
 export_row given h extract save calls f (TooLarge Output) lacks s there r =
@@ -314,7 +316,7 @@ begun_in_step p given number extract state save f g report of done =
     let step = begun_step p given number extract state f of done.s done.text done.beginning in (
       record {
         value = begun_save given done.s done.beginning.objects;
-        saved = rw done.put.there (done.small, done.beginning.spelled);
+        saved = rw done.put.there done.beginning.spelled;
         base_is = step.0;
         number_is = step.0;
         in_step = step.1;

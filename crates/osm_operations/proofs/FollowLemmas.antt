@@ -4,30 +4,31 @@ use Rattle.std.proofs.Common.{Some, None, inl, inr, arith, refl, sym, ap, subst,
 use Rattle.std.specs.Prelude.{◌⊎◌, ◌||◌, ◌&&◌, filter, is_none, min}
 use Rattle.std.proofs.lemmas.Bool.{cases_lt}
 use Rattle.std.proofs.lemmas.List.Elements.{filter-append}
-use Rattle.std.proofs.lemmas.Option.{same_Some}
 use Rattle.osm_model.specs.Filter.{FilterValue}
 use Rattle.osm_save.specs.declared.save.Saved.{Saved}
 use Rattle.osm_state.specs.declared.paths.Suffix.{Suffix}
 use Rattle.osm_state.specs.declared.paths.Suffix.TheVariants.{O5c, Opl, State}
 use Rattle.osm_follow.specs.Published.{PublishedValue, sequence_at}
 use Rattle.osm_follow.specs.Reach.{numbers}
-use Rattle.osm_store.specs.Files.{Files, IsOver}
+use Rattle.osm_store.specs.Files.{Files}
 use Rattle.osm_folder.specs.Folder.{IsFile, IsThere}
-use Rattle.osm_folder.specs.Following.{AddsAll, AreChanges, FollowRefuses, HasFiles, IsFollowed, IsInStepAfter, IsSaved}
-use Rattle.osm_folder.specs.Following.{IsSaveOf, follow_calls, is_lost, lost_numbers, max_save, ranges}
+use Rattle.osm_folder.specs.Following.{AddsAll, AreChanges, HasFiles, IsInStepAfter, IsSaved}
+use Rattle.osm_folder.specs.Following.{IsSaveOf, is_lost, lost_numbers, plainly, ranges}
 use Rattle.osm_folder.specs.Names.{file_name_of, top_name_of}
 use Rattle.osm_folder.specs.Reports.{ReportValue, follow_report_of}
 use Rattle.osm_folder.specs.Runs.{LacksCalls}
 use Rattle.osm_folder.specs.declared.fault.RunFault.{RunFault}
 use Rattle.osm_folder.specs.declared.fault.RunFault.TheVariants.{WantOfMemory, ReadFault, WriteFault, TooLarge, Absent}
-use Rattle.osm_folder.proofs.InStepLemmas.{in_step_after, one_saved}
+use Rattle.osm_folder.proofs.InStepLemmas.{one_saved}
 use Rattle.osm_folder.proofs.TakingLemmas.{adds_number}
+use Rattle.osm_round.specs.Over.{FollowRefuses, follow_calls}
+use Rattle.osm_round.specs.Rounds.{IsFollowed}
+use Rattle.osm_round.proofs.OverLemmas.{in_step_after}
 use Rattle.osm_operations.specs.Allowed.{FollowingRefused, KilledFollowingRefused}
 use Rattle.osm_operations.specs.Correct.{AreApart, IsExtractOf}
 use Rattle.osm_operations.specs.History.{Standing, count_from, text_of, unless_lost}
 use Rattle.osm_operations.specs.Steps.Stepping.{IsNoDevice}
 use Rattle.osm_operations.proofs.AgreeLemmas.{Agrees, few, folder_same}
-use Rattle.osm_folder.specs.Following.{plainly}
 
 -- a number is lost, by its files
 abbrev pub number_lost : (ℕ → Suffix → Bool) → ℕ → Bool
@@ -130,7 +131,7 @@ followed p lost m given dir save changes extract start f g l n report apart s ru
     -- the save that was written says how many were taken
     same_count : run.following.count ≡ count
     same_count =
-        let told : IsSaved given (g save) run.following.reached = rw run.put.there (run.small, run.following.spelled) in
+        let told : IsSaved given (g save) run.following.reached = rw run.put.there run.following.spelled in
         let same = ap (λ (v : Saved). v.number) (one_saved given (g save) after.saved.value run.following.reached after.saved.saved told) in
         let at = run.following.goes_on.number in
         let is = after.saved.number_is in
@@ -192,26 +193,21 @@ followed p lost m given dir save changes extract start f g l n report apart s ru
 
 -- a run that stopped
 pub stopped_follow : (p : List PublishedValue) (given : FilterValue) (base m calls : ℕ) (told : Option (List ℕ)) (fault : RunFault)
-    → LacksCalls (follow_calls p m) (Some calls) fault → IsSaveOf p given base m told → FollowRefuses p given told fault
+    → LacksCalls (follow_calls p m told) (Some calls) fault → IsSaveOf p given base m told → FollowRefuses p given told fault
     → KilledFollowingRefused p given m calls fault
 stopped_follow p given base m calls told WantOfMemory lacks s r = tt
-stopped_follow p given base m calls told (ReadFault file) lacks s r = lacks tt
-stopped_follow p given base m calls told (WriteFault file) lacks s r = (r, lacks tt)
+stopped_follow p given base m calls told (ReadFault file) lacks s r =
+    record { base = base; told = told; saved = s; few = lacks tt }
+stopped_follow p given base m calls told (WriteFault file) lacks s r =
+    (r, record { base = base; told = told; saved = s; few = lacks tt })
 stopped_follow p given base m calls told (Absent file) lacks s r = r
 stopped_follow p given base m calls told (TooLarge file) lacks s r = (
   r.0,
   elim r.1 [
-    | inl over ↦ absurd (not_over told s.value s.saved over)
-    | inr big ↦ record { value = big.0; text = big.1; in_step = big.2; spelled = big.3; over = big.4 }
+    | inl huge ↦ inl (record { base = base; number = m; told = told; saved = s; huge = huge })
+    | inr many ↦ inr many
   ],
 )
-  where
-    not_over : (o : Option (List ℕ)) (v : Saved) → IsSaved given o v → IsOver max_save o → ⊥
-    not_over None v a b = (let e = b.there in cc)
-    not_over (Some bytes) v a b =
-        let long = ap length (same_Some _ _ b.there) in
-        let over = b.over in
-        omega (arith, long, over, a.0)
 stopped_follow p given base m calls told fault lacks s r = absurd r
 
 pub not_killed_follow : (p : List PublishedValue) (given : FilterValue) (m calls : ℕ) (fault : RunFault) → IsNoDevice fault

@@ -1,23 +1,24 @@
 -- A run of the follower under another filter than the save's: it is refused, and never for what a file holds.
 use Rattle.std.proofs.Common.{◌≡◌, ℕ, List, Option, Some, None, true, false, inl, inr, refl, sym, ap, ◌∙◌}
-use Rattle.std.specs.Prelude.{◌≢◌, IsTrue, is_none}
+use Rattle.std.specs.Prelude.{◌≢◌, ◌⊎◌, IsTrue, is_none}
 use Rattle.osm_model.specs.Filter.{FilterValue}
 use Rattle.osm_save.specs.declared.save.Saved.{Saved}
 use Rattle.osm_state.specs.State.{StateValue}
 use Rattle.osm_follow.specs.Published.{PublishedValue}
 use Rattle.osm_store.specs.Files.{Files}
-use Rattle.osm_folder.specs.Following.{BeyondStops, FollowStops, HasSave, IsFollowed, IsSaveOf, IsSaved, IsStarted, SaveStops, StartStops}
-use Rattle.osm_folder.specs.Progress.{BeforeStops, IsFollowedBefore, ProgressStops}
+use Rattle.osm_folder.specs.Following.{HasSave, IsSaveOf, IsSaved, IsStarted, plainly}
 use Rattle.osm_folder.specs.Reports.{ReportValue}
 use Rattle.osm_folder.specs.declared.fault.FileName.TheVariants.{Top, Save}
 use Rattle.osm_folder.specs.declared.fault.RunFault.{RunFault}
 use Rattle.osm_folder.specs.declared.fault.RunFault.TheVariants.{WantOfMemory, ReadFault, WriteFault, TooLarge, Absent}
-use Rattle.osm_folder.specs.declared.fault.RunFault.TheVariants.{BadState, BadSave, OtherFilter, TopBehind}
+use Rattle.osm_folder.specs.declared.fault.RunFault.TheVariants.{BadState, BadSave, Changed, OtherFilter, TopBehind}
 use Rattle.osm_folder.proofs.InStepLemmas.{one_saved}
+use Rattle.osm_round.specs.Rounds.{HasManyObjects, IsFollowed, IsFollowedBefore, RoundStops, StartStops}
+use Rattle.osm_round.specs.Starting.{IsTooLarge}
+use Rattle.osm_round.proofs.OverLemmas.{no_bad_save}
 use Rattle.osm_operations.specs.Allowed.{OtherRefused}
 use Rattle.osm_operations.specs.Steps.Stepping.{IsNoDevice}
-use Rattle.osm_operations.proofs.ExtractLemmas.{saved_right, saved_small}
-use Rattle.osm_folder.specs.Following.{plainly}
+use Rattle.osm_operations.proofs.ExtractLemmas.{saved_right}
 
 -- a save that is there saves the same under any filter
 same_saved : (given other : FilterValue) (told : Option (List ℕ)) (v : Saved) → is_none told ≡ false → IsSaved other told v → IsSaved given told v
@@ -44,12 +45,23 @@ module _ (given other : FilterValue) (p : List PublishedValue) (base number : �
   pub not_before : (g : Files) (fault : RunFault) (report : ReportValue) → IsFollowedBefore (IsTrue true) (plainly other) dir save f g fault report → ⊥
   not_before g fault report run = not_started run.before.start run.before.top run.before.started
 
-  start_other : (fault : RunFault) → IsNoDevice fault → StartStops (IsTrue true) other dir save f fault → OtherRefused fault
+  many_other : HasManyObjects (plainly other) dir save f → ⊥
+  many_other m = not_started m.start m.top m.started
+
+  start_other : (fault : RunFault) → IsNoDevice fault → StartStops (IsTrue true) (plainly other) dir save f fault → OtherRefused p given fault
   start_other WantOfMemory none h = tt
   start_other (ReadFault file) none h = absurd none
-  start_other (TooLarge Save) none h = absurd (saved_small given (f save) s.value s.saved (h refl))
+  start_other (WriteFault file) none h = absurd none
+  start_other (Changed Save) none h = absurd (h refl)
+  start_other (Absent Save) none h = absurd (h refl)
+  start_other (TooLarge Save) none h = by_reason (h refl)
+    where
+      by_reason : IsTooLarge (f save) ⊎ HasManyObjects (plainly other) dir save f → OtherRefused p given (TooLarge Save)
+      by_reason (inl (inl huge)) = (refl, record { base = base; number = number; told = f save; saved = s; huge = huge })
+      by_reason (inl (inr bad)) = absurd (no_bad_save given (f save) s.value s.saved bad)
+      by_reason (inr many) = absurd (many_other many)
   start_other (BadSave line) none h =
-      absurd (let bad = h refl in bad.nothing s.value (saved_right given (f save) s.value bad.bytes s.saved bad.there))
+      absurd (let bad = h refl in bad.none s.value (saved_right given (f save) s.value bad.file s.saved bad.there))
   start_other OtherFilter none h = tt
   start_other (Absent Top) none h = absurd (not_held (h refl).0)
   start_other (TooLarge Top) none h = absurd (not_held (h refl).0)
@@ -57,29 +69,8 @@ module _ (given other : FilterValue) (p : List PublishedValue) (base number : �
   start_other TopBehind none h = absurd (let b = h refl in not_started b.start b.top b.started)
   start_other fault none h = absurd h
 
-  beyond_other : (fault : RunFault) → IsNoDevice fault → BeyondStops (IsTrue true) (plainly other) dir save f fault → OtherRefused fault
-  beyond_other WantOfMemory none h = tt
-  beyond_other (ReadFault file) none h = absurd none
-  beyond_other fault none h = absurd h
-
-  save_other : (fault : RunFault) → IsNoDevice fault → SaveStops (IsTrue true) (plainly other) dir save f fault → OtherRefused fault
-  save_other WantOfMemory none h = tt
-  save_other (TooLarge Save) none h = absurd (let run = (h refl).2 in not_started run.start run.top run.started)
-  save_other (WriteFault file) none h = absurd none
-  save_other fault none h = absurd h
-
-  before_other : (fault : RunFault) → IsNoDevice fault → BeforeStops (IsTrue true) (plainly other) dir save f fault → OtherRefused fault
-  before_other (TooLarge Save) none h = absurd (let c = (h refl).3 in not_started c.start c.top c.started)
-  before_other (WriteFault file) none h = absurd none
-  before_other fault none h = absurd h
-
-  follow_other : (fault : RunFault) → IsNoDevice fault → FollowStops (IsTrue true) (plainly other) dir save f fault → OtherRefused fault
-  follow_other fault none (inl h) = start_other fault none h
-  follow_other fault none (inr (inl h)) = absurd (let c = h.comes refl in not_started c.start c.top c.started)
-  follow_other fault none (inr (inr (inl h))) = beyond_other fault none h
-  follow_other fault none (inr (inr (inr h))) = save_other fault none h
-
   -- for the filter, or for want of memory
-  pub other_refused : (fault : RunFault) → IsNoDevice fault → ProgressStops (IsTrue true) (plainly other) dir save f fault → OtherRefused fault
-  other_refused fault none (inl h) = follow_other fault none h.stops
-  other_refused fault none (inr h) = before_other fault none h
+  pub other_refused : (fault : RunFault) → IsNoDevice fault → RoundStops (IsTrue true) (plainly other) dir save f fault → OtherRefused p given fault
+  other_refused fault none (inl h) = start_other fault none h
+  other_refused fault none (inr (inl h)) = absurd (let c = h.comes refl in not_started c.start c.top c.started)
+  other_refused fault none (inr (inr h)) = absurd (let c = h.comes refl in not_started c.start c.top c.started)

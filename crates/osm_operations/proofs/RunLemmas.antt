@@ -13,9 +13,11 @@ use Rattle.osm_folder.specs.Beginning.{BeginStops, IsBegunFrom}
 use Rattle.osm_folder.specs.Exporting.{ExportStops, IsExportOf, IsExported}
 use Rattle.osm_store.specs.Files.{Files, Spends}
 use Rattle.osm_folder.specs.Folder.{IsApart, IsFolderOf}
-use Rattle.osm_folder.specs.Following.{FollowRefuses, FollowsOver, IsFollowed, IsSaveOf, follow_calls}
+use Rattle.osm_folder.specs.Following.{IsSaveOf, plainly}
 use Rattle.osm_store.specs.Frames.{IsKnown, StoreState}
-use Rattle.osm_folder.specs.Progress.{IsOfContent, IsProgress, IsProgressReport, IsWhole}
+use Rattle.osm_folder.specs.Progress.{IsOfContent, IsProgressReport, IsWhole}
+use Rattle.osm_round.specs.Over.{FollowRefuses, FollowsOver, follow_calls}
+use Rattle.osm_round.specs.Rounds.{IsFollowed, IsProgress}
 use Rattle.osm_folder.specs.Runs.{LacksCalls, Replaces}
 use Rattle.osm_folder.specs.declared.progress.Progress.{Progress}
 use Rattle.osm_folder.specs.declared.progress.Progress.TheVariants.{Whole, Before}
@@ -33,7 +35,6 @@ use Rattle.osm_operations.specs.Steps.Stepping.{PublishAsTo, PublishStep, Return
 use Rattle.osm_operations.specs.Steps.Stepping.{stopped_reply}
 use Rattle.osm_operations.specs.declared.operation.Reply.{Reply}
 use Rattle.osm_operations.specs.declared.world.World.{World}
-use Rattle.osm_folder.specs.Following.{plainly}
 use Rattle.osm_folder.specs.declared.options.Layout.TheVariants.{Lines}
 
 -- what the contract of a run says of its answer
@@ -217,10 +218,17 @@ pub progress_lacks : (given : FilterValue) (dir save : List ℕ) (a b : StoreSta
     → IsReportOf w r → (IsKnown a → (p : List PublishedValue) (base n : ℕ) → IsFolderOf p a.files dir
     → IsSaveOf p given base n (a.files save) → IsWhole w (FollowsOver p (plainly given) base n dir save a b))
     → IfErr r (λ fault. IsKnown a → (p : List PublishedValue) (base n : ℕ) → IsFolderOf p a.files dir
-    → IsSaveOf p given base n (a.files save) → LacksCalls (follow_calls p n) a.left fault)
+    → IsSaveOf p given base n (a.files save) → LacksCalls (follow_calls p n (a.files save)) a.left fault)
 progress_lacks given dir save a b (Ok (Whole report)) r is over = rw is tt
 progress_lacks given dir save a b (Ok (Before report fault)) r is over = rw is (λ sure p base n folder saved. absurd (over sure p base n folder saved))
 progress_lacks given dir save a b (Err fault) r is over = rw is (λ sure p base n folder saved. (over sure p base n folder saved).calls.lacks sure)
+
+-- the same calls left, of a run over the same files
+pub lacks_at : (p : List PublishedValue) (n : ℕ) (save : List ℕ) (f g : Files) (calls left : ℕ) (fault : RunFault) → f ≡ g → calls ≡ left
+    → LacksCalls (follow_calls p n (f save)) (Some calls) fault → LacksCalls (follow_calls p n (g save)) (Some left) fault
+lacks_at p n save f g calls left fault same is lacks =
+    subst (λ k. LacksCalls (follow_calls p n (g save)) (Some k) fault) is
+    (subst (λ (h : Files). LacksCalls (follow_calls p n (h save)) (Some calls) fault) same lacks)
 
 -- only the store is blamed for a device
 content_no_device : (fault : RunFault) (k : ℕ) → IsOfContent fault k → IsNoDevice fault

@@ -17,24 +17,26 @@ use Rattle.osm_follow.specs.Published.{PublishedValue, sequence_at}
 use Rattle.osm_follow.specs.Reach.{numbers}
 use Rattle.osm_store.specs.Files.{Files, IsOver}
 use Rattle.osm_folder.specs.Folder.{IsAbsentOr, IsApart, IsFile, IsFolderOf, IsStateFile, IsThere}
-use Rattle.osm_folder.specs.Following.{AddsAll, BeyondStops, FollowRefuses, HasState, IsFollowing}
-use Rattle.osm_folder.specs.Following.{IsInStep, IsReached, IsSaveOf, IsStarted, NamesOther, NumberStops, SaveStops, StartStops}
-use Rattle.osm_folder.specs.Following.{is_lost, limit_of, ranges}
+use Rattle.osm_folder.specs.Following.{AddsAll, HasState, IsFollowing, IsInStep, IsReached, IsSaveOf, IsStarted, MissingStops}
+use Rattle.osm_folder.specs.Following.{NamesOther, NumberStops, is_lost, limit_of, plainly, ranges}
 use Rattle.osm_folder.specs.Names.{file_name_of, top_name_of}
-use Rattle.osm_folder.specs.Progress.{BeforeStops, ComesBefore, IsNextAfter, IsOfContent, ProgressStops}
+use Rattle.osm_folder.specs.Progress.{IsNextAfter, IsOfContent}
 use Rattle.osm_folder.specs.Reports.{ReportValue, follow_report_of}
 use Rattle.osm_folder.specs.declared.fault.FileName.TheVariants.{Top, Sequence, Save}
 use Rattle.osm_folder.specs.declared.fault.RunFault.{RunFault}
 use Rattle.osm_folder.specs.declared.fault.RunFault.TheVariants.{WantOfMemory, ReadFault, WriteFault, TooLarge, Absent}
-use Rattle.osm_folder.specs.declared.fault.RunFault.TheVariants.{BadState, Mismatch, BadChange, BadSave, OtherFilter, TopBehind}
-use Rattle.osm_folder.proofs.InStepLemmas.{all_in_step, not_bad, not_faulty, not_faulty_opl, not_other, not_over, one_saved, reached_of, top_number}
+use Rattle.osm_folder.specs.declared.fault.RunFault.TheVariants.{BadState, Changed, Mismatch, BadChange, BadSave, OtherFilter, TopBehind}
+use Rattle.osm_folder.proofs.InStepLemmas.{all_in_step, not_bad, not_faulty, not_faulty_opl, not_other, not_over, one_saved, stops_number, top_number}
 use Rattle.osm_folder.proofs.NameLemmas.{top_is_no_file}
-use Rattle.osm_folder.proofs.StopLemmas.{follow_refuses}
 use Rattle.osm_folder.proofs.TakingLemmas.{adds_has, adds_number, has_not_lost}
+use Rattle.osm_merge.specs.Checking.{IsHugeFile}
+use Rattle.osm_round.specs.Over.{FollowRefuses, HasMany}
+use Rattle.osm_round.specs.Rounds.{ComesBefore, HasManyObjects, RoundStops, StartStops}
+use Rattle.osm_round.specs.Starting.{IsTooLarge}
+use Rattle.osm_round.proofs.OverLemmas.{no_bad_save, start_refuses}
 use Rattle.osm_operations.specs.Spoiling.{IsSpoiledFault, spoiled}
 use Rattle.osm_operations.proofs.SpoiledLemmas.{IsSpoiled, lost_alike, no_state, other_number, other_suffix, suffix_cases, there_same}
 use Rattle.osm_operations.proofs.SpoiledLemmas.{unread_among, unspoiled_all}
-use Rattle.osm_folder.specs.Following.{plainly}
 
 -- when a file of number k is read, if its turn comes: a change file only if the state is there, and the OPL file only if
 -- there is no o5c file
@@ -66,16 +68,17 @@ there_some (Some bytes) holds h = refl
 pub record IsSpoiledBefore (given : FilterValue) (ps : List PublishedValue) (base number : ℕ) (dir : List ℕ) (k : ℕ) (s : Suffix) (old : Files)
     (fault : RunFault) (text : List ℕ) (report : ReportValue) : Type 0 where
   pub count : ℕ
+  pub some : 0 < count
   pub value : Saved
   pub spelled : SpellsSave text value
   pub base_is : value.base ≡ base
-  pub value_is : value.number ≡ number + suc count
-  pub next_is : k ≡ number + suc count + 1
+  pub value_is : value.number ≡ number + count
+  pub next_is : k ≡ number + count + 1
   pub in_step : IsInStep ps given value
   pub each : (j : ℕ) → number < j → j < k → is_lost old dir j ≡ false
   pub fault_is : IsSpoiledFault k s fault
   pub read : IsReadAt old dir k s
-  pub report_is : report ≡ follow_report_of (ranges number (suc count)) [] (number + suc count)
+  pub report_is : report ≡ follow_report_of (ranges number count) [] (number + count)
 
 -- a number that was taken isn't lost
 taken_right : (files : Files) (dir : List ℕ) (count : ℕ) (a b : Saved) → AddsAll files dir count a b → (j : ℕ) → a.number < j
@@ -277,72 +280,86 @@ module _ (given : FilterValue) (ps : List PublishedValue) (base number : ℕ) (d
       let most = few_over o in
       let top = top_is c.start c.top c.started in
       let from = number_is c.start c.top c.started in
-      let sum = adds_number new dir (suc c.count) c.start c.reached c.added in
+      let sum = adds_number new dir c.count c.start c.reached c.added in
       let below = c.below in
       let faulty = content_stops law known sure (c.reached.number + 1) (omega arith) (omega (arith, below, top)) fault c.stops
       (c.reached.number + 1) c.content in
       let at : c.reached.number + 1 ≡ k = faulty.0 in
-      let added = unspoiled_all dir k s old new (suc c.count) c.start c.reached o.is (omega (arith, sum, below, top, most)) c.added in
-      let value_is : c.reached.number ≡ number + suc c.count = omega (arith, sum, from) in
+      let added = unspoiled_all dir k s old new c.count c.start c.reached o.is (omega (arith, sum, below, top, most)) c.added in
+      let value_is : c.reached.number ≡ number + c.count = omega (arith, sum, from) in
       record {
         count = c.count;
+        some = c.some;
         value = c.reached;
         spelled = c.spelled;
-        base_is = all_base old dir (suc c.count) c.start c.reached added ∙ base_is c.start c.top c.started;
+        base_is = all_base old dir c.count c.start c.reached added ∙ base_is c.start c.top c.started;
         value_is = value_is;
         next_is = omega (arith, at, value_is);
-        in_step = all_in_step given ps old dir (suc c.count) c.start c.reached o.folder (omega (arith, sum, below, top)) added
+        in_step = all_in_step given ps old dir c.count c.start c.reached o.folder (omega (arith, sum, below, top)) added
             (step_is c.start c.top c.started);
         each = λ j past under.
-            taken_right old dir (suc c.count) c.start c.reached added j (omega (arith, from, past)) (omega (arith, from, under, at, value_is));
+            taken_right old dir c.count c.start c.reached added j (omega (arith, from, past)) (omega (arith, from, under, at, value_is));
         fault_is = faulty.1;
         read = faulty.2;
-        report_is = c.report_is ∙ (ap (λ (n : ℕ). follow_report_of (ranges n (suc c.count)) [] c.reached.number) from
-            ∙ ap (λ (n : ℕ). follow_report_of (ranges number (suc c.count)) [] n) value_is);
+        report_is = c.report_is ∙ (ap (λ (n : ℕ). follow_report_of (ranges n c.count) [] c.reached.number) from
+            ∙ ap (λ (n : ℕ). follow_report_of (ranges number c.count) [] n) value_is);
       }
 
   -- ---- why the word stops
 
-  start_over : (known : Type 0) (fault : RunFault) → StartStops known given dir save new fault → StartStops known given dir save old fault
-  start_over known WantOfMemory h = tt
-  start_over known (ReadFault Save) h = tt
-  start_over known (TooLarge Save) h = λ yes. rw (← save_same) (h yes)
-  start_over known (BadSave line) h = λ yes. rw (← save_same) (h yes)
-  start_over known OtherFilter h = λ yes. rw (← save_same) (h yes)
-  start_over known (ReadFault Top) h = λ yes. ((h yes).0, rw (← save_same) (h yes).1, (h yes).2)
-  start_over known (Absent Top) h = λ yes. (((h yes).0.0, rw (← save_same) (h yes).0.1, (h yes).0.2), rw (← top_same) (h yes).1)
-  start_over known (TooLarge Top) h = λ yes. (((h yes).0.0, rw (← save_same) (h yes).0.1, (h yes).0.2), rw (← top_same) (h yes).1)
-  start_over known (BadState Top cause) h = λ yes. (((h yes).0.0, rw (← save_same) (h yes).0.1, (h yes).0.2), rw (← top_same) (h yes).1)
-  start_over known TopBehind h = λ yes. (let b = h yes in record {
+  -- over the right folder
+  over_old : NoFaultBesideState → (known : Type 0) → known → (fault : RunFault) → StartStops known (plainly given) dir save old fault
+      → FollowRefuses ps given (old save) fault
+  over_old law known sure fault h = start_refuses law (plainly given) ps base number dir save old o.folder o.saved known fault sure h
+
+  many_over : HasManyObjects (plainly given) dir save new → HasMany ps given
+  many_over m =
+      let most = few_over o in
+      let top = top_is m.start m.top m.started in
+      let until = m.until in
+      let sum = adds_number new dir m.count m.start m.reached m.added in
+      record {
+        value = m.reached;
+        in_step = all_in_step given ps old dir m.count m.start m.reached o.folder (omega (arith, sum, until, top))
+            (unspoiled_all dir k s old new m.count m.start m.reached o.is (omega (arith, sum, until, top, most)) m.added)
+            (step_is m.start m.top m.started);
+        many = m.many;
+      }
+
+  start_over : NoFaultBesideState → (known : Type 0) → known → (fault : RunFault) → StartStops known (plainly given) dir save new fault
+      → FollowRefuses ps given (old save) fault
+  start_over law known sure WantOfMemory h = tt
+  start_over law known sure (ReadFault file) h = tt
+  start_over law known sure (WriteFault Save) h = refl
+  start_over law known sure (Changed Save) h = h sure
+  start_over law known sure (Absent Save) h = absurd (h sure)
+  start_over law known sure (TooLarge Save) h = (refl, by_reason (h sure))
+    where
+      by_reason : IsTooLarge (new save) ⊎ HasManyObjects (plainly given) dir save new → IsHugeFile (old save) ⊎ HasMany ps given
+      by_reason (inl (inl huge)) = inl (rw (← save_same) huge)
+      by_reason (inl (inr none)) = absurd (no_bad_save given (old save) o.saved.value o.saved.saved (rw (← save_same) none))
+      by_reason (inr many) = inr (many_over many)
+  start_over law known sure (BadSave line) h = over_old law known sure (BadSave line) (λ yes. rw (← save_same) (h yes))
+  start_over law known sure OtherFilter h = over_old law known sure OtherFilter (λ yes. rw (← save_same) (h yes))
+  start_over law known sure (Absent Top) h = over_old law known sure (Absent Top)
+      (λ yes. (((h yes).0.0, rw (← save_same) (h yes).0.1, (h yes).0.2), rw (← top_same) (h yes).1))
+  start_over law known sure (TooLarge Top) h = over_old law known sure (TooLarge Top)
+      (λ yes. (((h yes).0.0, rw (← save_same) (h yes).0.1, (h yes).0.2), rw (← top_same) (h yes).1))
+  start_over law known sure (BadState Top cause) h = over_old law known sure (BadState Top cause)
+      (λ yes. (((h yes).0.0, rw (← save_same) (h yes).0.1, (h yes).0.2), rw (← top_same) (h yes).1))
+  start_over law known sure TopBehind h = over_old law known sure TopBehind (λ yes. (let b = h yes in record {
     start = b.start;
     top = b.top;
     started = start_same b.start b.top b.started;
     below = b.below;
-  })
-  start_over known fault h = absurd h
+  }))
+  start_over law known sure fault h = absurd h
 
-  save_refuses : (known : Type 0) → known → (fault : RunFault) → SaveStops known (plainly given) dir save new fault → FollowRefuses ps given (old save) fault
-  save_refuses known sure WantOfMemory h = tt
-  save_refuses known sure (TooLarge Save) h =
-      let t = h sure in
-      let r = reached_of (plainly given) ps base number dir save old t.0 t.1 o.folder o.saved (same_run t.0 t.1 t.2) in
-      (refl, inr (r.value, t.0, r.in_step, r.spelled, t.3))
-  save_refuses known sure (WriteFault Save) h = refl
-  save_refuses known sure fault h = absurd h
-
-  before_refuses : NoFaultBesideState → (known : Type 0) → known → (fault : RunFault) → BeforeStops known (plainly given) dir save new fault
+  missing_refuses : (known : Type 0) (reached last : ℕ) (fault : RunFault) → MissingStops known dir new reached last fault
       → FollowRefuses ps given (old save) fault
-  before_refuses law known sure (TooLarge Save) h =
-      let t = h sure in
-      let b = before law known sure t.0 t.1 t.2 t.3 in
-      (refl, inr (b.value, t.1, b.in_step, b.spelled, t.4))
-  before_refuses law known sure (WriteFault Save) h = refl
-  before_refuses law known sure fault h = absurd h
-
-  beyond_refuses : (known : Type 0) (fault : RunFault) → BeyondStops known (plainly given) dir save new fault → FollowRefuses ps given (old save) fault
-  beyond_refuses known WantOfMemory h = tt
-  beyond_refuses known (ReadFault (Sequence j t)) h = tt
-  beyond_refuses known fault h = absurd h
+  missing_refuses known reached last WantOfMemory h = tt
+  missing_refuses known reached last (ReadFault (Sequence j t)) h = tt
+  missing_refuses known reached last fault h = absurd h
 
   -- a file that is no reason to stop a run, or is the spoiled one of the next number
   abbrev IsNextSpoiled : RunFault → Type 0
@@ -374,17 +391,19 @@ module _ (given : FilterValue) (ps : List PublishedValue) (base number : ℕ) (d
   number_refuses law known sure j above until fault h next = absurd h
 
   -- for what stops a run over the folder, or for the spoiled file of the next number
-  pub progress_stops : NoFaultBesideState → (known : Type 0) → known → (fault : RunFault) → ProgressStops known (plainly given) dir save new fault
+  pub progress_stops : NoFaultBesideState → (known : Type 0) → known → (fault : RunFault) → RoundStops known (plainly given) dir save new fault
       → FollowRefuses ps given (old save) fault ⊎ ((k ≡ number + 1) × IsSpoiledFault k s fault × IsReadAt old dir k s)
-  progress_stops law known sure fault (inr b) = inl (before_refuses law known sure fault b)
-  progress_stops law known sure fault (inl f) = elim f.stops [
-    | inl a ↦ inl (follow_refuses (plainly given) law known ps base number dir save old fault sure o.folder o.saved (inl (start_over known fault a)))
-    | inr (inl at) ↦ (
-        let c = at.comes sure in
-        let above = c.above in
-        let until = c.until in
-        let top = top_is c.start c.top c.started in
-        number_refuses law known sure at.number (omega (arith, above)) (omega (arith, until, top)) fault at.stops (f.next sure))
-    | inr (inr (inl b)) ↦ inl (beyond_refuses known fault b)
-    | inr (inr (inr w)) ↦ inl (save_refuses known sure fault w)
-  ]
+  progress_stops law known sure fault (inl h) = inl (start_over law known sure fault h)
+  progress_stops law known sure fault (inr (inl at)) =
+      let c = at.comes sure in
+      let above = c.above in
+      let until = c.until in
+      let top = top_is c.start c.top c.started in
+      number_refuses law known sure at.number (omega (arith, above)) (omega (arith, until, top)) fault at.stops
+      (λ m content. (
+        c.start,
+        c.started.saved,
+        (let same : at.number ≡ m = stops_number known dir new at.number m fault at.stops content in
+            sym same ∙ at.next sure (subst (IsOfContent fault) (sym same) content)),
+      ))
+  progress_stops law known sure fault (inr (inr b)) = inl (missing_refuses known b.reached b.last fault b.stops)

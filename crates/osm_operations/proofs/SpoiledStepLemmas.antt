@@ -12,14 +12,14 @@ use Rattle.osm_state.specs.declared.paths.Suffix.{Suffix}
 use Rattle.osm_state.specs.declared.paths.Suffix.TheVariants.{O5c, Opl, State}
 use Rattle.osm_follow.specs.Published.{PublishedValue, sequence_at}
 use Rattle.osm_store.specs.Files.{Files, Puts}
-use Rattle.osm_folder.specs.Following.{IsFollowed, IsSaveOf, IsSaved, ranges}
+use Rattle.osm_folder.specs.Following.{IsSaveOf, IsSaved, ranges}
 use Rattle.osm_folder.specs.Names.{file_name_of, top_name_of}
-use Rattle.osm_folder.specs.Progress.{IsFollowedBefore}
 use Rattle.osm_folder.specs.Reports.{ReportValue, follow_report_of}
 use Rattle.osm_folder.specs.declared.fault.FileName.TheVariants.{Sequence}
 use Rattle.osm_folder.specs.declared.fault.RunFault.{RunFault}
 use Rattle.osm_folder.specs.declared.fault.RunFault.TheVariants.{BadState, BadChange}
 use Rattle.osm_folder.proofs.InStepLemmas.{one_saved}
+use Rattle.osm_round.specs.Rounds.{IsFollowed, IsFollowedBefore}
 use Rattle.osm_operations.specs.Allowed.{IsReadIn}
 use Rattle.osm_operations.specs.Correct.{AreApart, IsExtractOf}
 use Rattle.osm_operations.specs.History as hist
@@ -106,7 +106,6 @@ module _ (p : List PublishedValue) (lost : ℕ → Suffix → Bool) (m : Standin
   spoiled_followed k t during after g report o run is = record {
     text = run.text;
     following = same_run given p m.base m.number dir save k t f during o run.text report run.following;
-    small = run.small;
     put = record { there = is.save_is ∙ run.put.there; others = is.others };
   }
 
@@ -117,7 +116,7 @@ module _ (p : List PublishedValue) (lost : ℕ → Suffix → Bool) (m : Standin
       → (t ≡ Opl) × (lost k O5c ≡ false)
   not_read k t during after g report count o run is saved above until =
       let from = number_is given p m.base m.number dir save k t f during o run.following.start run.following.top run.following.started in
-      let told : IsSaved given (g save) run.following.reached = rw (is.save_is ∙ run.put.there) (run.small, run.following.spelled) in
+      let told : IsSaved given (g save) run.following.reached = rw (is.save_is ∙ run.put.there) run.following.spelled in
       let same = ap (λ (v : Saved). v.number) (one_saved given (g save) saved.value run.following.reached saved.saved told) in
       let at = run.following.goes_on.number in
       let number = saved.number_is in
@@ -157,10 +156,11 @@ module _ (p : List PublishedValue) (lost : ℕ → Suffix → Bool) (m : Standin
       let b = before given p m.base m.number dir save k t f during o law (IsTrue true) refl fault run.text report run.before in
       let next = b.next_is in
       let within = o.within in
-      let count : suc b.count ≡ k - 1 - m.number = omega (arith, next) in
-      let last : m.number + suc b.count ≡ k - 1 = omega (arith, next) in
+      let some = b.some in
+      let count : b.count ≡ k - 1 - m.number = omega (arith, next) in
+      let last : m.number + b.count ≡ k - 1 = omega (arith, next) in
       let number = number_of_fault k t fault b.fault_is in
-      let least = count_least (number_lost lost) m.number (length p - m.number) (suc b.count) (omega (arith, next, within))
+      let least = count_least (number_lost lost) m.number (length p - m.number) b.count (omega (arith, next, within))
       (λ j above until. sym (lost_same p lost m given dir save changes extract start f l n j s (omega (arith, above)) (omega (arith, until, next, within)))
       ∙ b.each j above (omega (arith, until, next))) in
       record {
@@ -175,7 +175,7 @@ module _ (p : List PublishedValue) (lost : ℕ → Suffix → Bool) (m : Standin
           saved = record {
             save_is = record {
               value = b.value;
-              saved = rw (is.save_is ∙ run.put.there) (run.small, b.spelled);
+              saved = rw (is.save_is ∙ run.put.there) b.spelled;
               base_is = b.base_is;
               number_is = b.value_is ∙ (last ∙ sym number);
               in_step = b.in_step;
@@ -188,9 +188,9 @@ module _ (p : List PublishedValue) (lost : ℕ → Suffix → Bool) (m : Standin
           number = s.number;
         };
         number = number;
-        from = omega (arith, next);
+        from = omega (arith, next, some);
         turn = omega (arith, least, next);
-        report_is = b.report_is ∙ (ap (λ j. follow_report_of (ranges m.number j) [] (m.number + suc b.count)) count
+        report_is = b.report_is ∙ (ap (λ j. follow_report_of (ranges m.number j) [] (m.number + b.count)) count
             ∙ ap (λ j. follow_report_of (ranges m.number (k - 1 - m.number)) [] j) last);
         fault_is = b.fault_is;
         read = b.read;

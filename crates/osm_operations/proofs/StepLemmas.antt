@@ -17,7 +17,8 @@ use Rattle.osm_follow.specs.Reach.{numbers}
 use Rattle.osm_folder.specs.Beginning.{BeginStops, IsBegunFrom}
 use Rattle.osm_store.specs.Files.{Files}
 use Rattle.osm_folder.specs.Folder.{IsStateFile}
-use Rattle.osm_folder.specs.Following.{FollowRefuses, IsSaveOf, follow_calls, no_save, ranges}
+use Rattle.osm_folder.specs.Following.{IsSaveOf, no_save, ranges}
+use Rattle.osm_round.specs.Over.{FollowRefuses, follow_calls}
 use Rattle.osm_folder.specs.Names.{file_name_of}
 use Rattle.osm_folder.specs.Numbered.{numbered_calls}
 use Rattle.osm_folder.specs.Reports.{ReportValue, begin_report_of, convert_report_of, follow_report_of, publish_report_of}
@@ -191,7 +192,7 @@ follow_more h given dir save changes extract start a b report apart s step =
     )
 
 follow_stopped : (p : List PublishedValue) (lost : ℕ → Suffix → Bool) (m : hist.Standing) (given : FilterValue) (dir save changes extract : List ℕ)
-    (start : Files) (a b : World) (calls : ℕ) (fault : RunFault) → LacksCalls (follow_calls p m.number) (Some calls) fault
+    (start : Files) (a b : World) (calls : ℕ) (fault : RunFault) → LacksCalls (follow_calls p m.number (files_of a.store save)) (Some calls) fault
     → AgreesIn p lost m given dir save changes extract start a → FollowTo given dir save (Refused fault) a b
     → AgreesIn (p ++ []) lost m given dir save changes extract start b × KilledFollowingRefused p given m.number calls fault
 follow_stopped p lost m given dir save changes extract start a b calls fault lacks s step = (
@@ -825,7 +826,7 @@ step_holds h Follow (Followed report) given dir save changes extract start a b a
     }
 step_holds h Follow (Refused fault) given dir save changes extract start a b apart s t x =
     let done = follow_stopped (hist.published_of h) (hist.is_file_lost h) (hist.standing_of h) given dir save changes extract start a b
-    0 fault (no_device_lacks (follow_calls (hist.published_of h) (hist.number_of h)) (Some 0) fault t.1) s.agrees
+    0 fault (no_device_lacks (follow_calls (hist.published_of h) (hist.number_of h) (files_of a.store save)) (Some 0) fault t.1) s.agrees
     t.0 in
     record {
       agrees = done.0;

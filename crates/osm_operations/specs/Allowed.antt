@@ -2,7 +2,7 @@
 -- memory may be refused instead, that a run may be killed, and that of a lost number the state may
 -- be read or not.
 use Rattle.std.specs.Prelude.{◌≡◌, ◌≢◌, ℕ, ◌+◌, ◌-◌, ◌<◌, ◌≤◌, ◌⊎◌, length, List, [], ◌∷◌}
-use Rattle.std.specs.Prelude.{true, false}
+use Rattle.std.specs.Prelude.{true, false, Option}
 use Rattle.osm_model.specs.Change.{ChangeValue}
 use Rattle.osm_model.specs.Content.{content_of}
 use Rattle.osm_model.specs.Data.{IsData}
@@ -18,7 +18,7 @@ use Rattle.osm_follow.specs.Published.{PublishedValue, changes_up_to, sequence_a
 use Rattle.osm_follow.specs.Publisher.{IsTooLarge}
 use Rattle.osm_folder.specs.DataForms.{HasNoDataForm, data_text_of}
 use Rattle.osm_folder.specs.Exporting.{HasDataForm}
-use Rattle.osm_folder.specs.Following.{IsInStep, follow_calls, max_save, ranges}
+use Rattle.osm_folder.specs.Following.{IsInStep, IsSaveOf, max_save, ranges}
 use Rattle.osm_folder.specs.Numbered.{calls_before, file_read_after, numbered_calls}
 use Rattle.osm_folder.specs.Publication.{file_after}
 use Rattle.osm_folder.specs.Reports.{ReportValue, begin_report_of, convert_report_of}
@@ -31,6 +31,8 @@ use Rattle.osm_folder.specs.declared.fault.RunFault.TheVariants.{WriteFault, Too
 use Rattle.osm_folder.specs.declared.fault.RunFault.TheVariants.{TimeBack, SequenceFull, BadNow}
 use Rattle.osm_folder.specs.declared.fault.RunFault.TheVariants.{BadSequence, Differs, TopAt}
 use Rattle.osm_folder.specs.declared.fault.RunFault.TheVariants.{UnknownForm, OtherFilter}
+use Rattle.osm_merge.specs.Checking.{IsHugeFile}
+use Rattle.osm_round.specs.Over.{HasMany, follow_calls}
 use Rattle.osm_operations.specs.History.{History, published_of, is_file_lost, number_of}
 use Rattle.osm_operations.specs.History.{is_number_lost, count_after, lost_after, is_saved}
 use Rattle.osm_operations.specs.History.{beginning_of}
@@ -120,13 +122,30 @@ pub record HasBigSave (published : List PublishedValue) (given : FilterValue) : 
   pub spelled : SpellsSave text value
   pub over : max_save < length text
 
+-- a save of the published sequences under the filter has more bytes than 64 bits count
+pub record HasHugeSave (published : List PublishedValue) (given : FilterValue) : Type 0 where
+  pub base : ℕ
+  pub number : ℕ
+  pub told : Option (List ℕ)
+  pub saved : IsSaveOf published given base number told
+  pub huge : IsHugeFile told
+
 -- why a run of the follower that isn't killed isn't done: never for a file of the folder, nor for
 -- its save
 abbrev pub FollowingRefused : List PublishedValue → FilterValue → RunFault → Type 0
 FollowingRefused published given WantOfMemory = Unit {0}
 FollowingRefused published given (Absent file) = (file ≡ Top) × (length published ≡ 0)
-FollowingRefused published given (TooLarge file) = (file ≡ Save) × HasBigSave published given
+FollowingRefused published given (TooLarge file) =
+    (file ≡ Save) × (HasHugeSave published given ⊎ HasMany published given)
 FollowingRefused published given fault = ⊥
+
+-- fewer calls than a run of the follower from that number may make
+pub record HasFewCalls (published : List PublishedValue) (given : FilterValue) (number calls : ℕ) :
+    Type 0 where
+  pub base : ℕ
+  pub told : Option (List ℕ)
+  pub saved : IsSaveOf published given base number told
+  pub few : calls < follow_calls published number told
 
 -- why a run of the follower from that number that is killed after that many calls isn't done: for a
 -- call after the last one, if there were fewer than such a run may make; else only for what refuses
@@ -134,9 +153,9 @@ FollowingRefused published given fault = ⊥
 abbrev pub KilledFollowingRefused :
     List PublishedValue → FilterValue → ℕ → ℕ → RunFault → Type 0
 KilledFollowingRefused published given number calls (ReadFault file) =
-    calls < follow_calls published number
+    HasFewCalls published given number calls
 KilledFollowingRefused published given number calls (WriteFault file) =
-    (file ≡ Save) × (calls < follow_calls published number)
+    (file ≡ Save) × HasFewCalls published given number calls
 KilledFollowingRefused published given number calls fault =
     FollowingRefused published given fault
 
@@ -153,13 +172,15 @@ pub record HasExport (given : FilterValue) (h : History) (extract : List ℕ)
       ≡ kept given (content_of (changes_up_to (published_of h) (number_of h))) k
   pub fits : holds (data_text_of named.form objects)
 
--- why an export that isn't killed isn't done: for its name, since nothing was saved, or if what it
--- exports passes 64 MiB; never for what the save says
+-- why an export that isn't killed isn't done: for its name, since nothing was saved, or if the save
+-- passes 1 GiB or what it exports 64 MiB; never for what the save says
 abbrev pub ExportRefused : FilterValue → History → List ℕ → RunFault → Type 0
 ExportRefused given h extract WantOfMemory = Unit {0}
 ExportRefused given h extract UnknownForm = HasNoDataForm extract
 ExportRefused given h extract (Absent file) =
     (file ≡ Save) × HasDataForm extract × (is_saved h ≡ false)
+ExportRefused given h extract (TooLarge Save) =
+    HasDataForm extract × HasBigSave (published_of h) given
 ExportRefused given h extract (TooLarge file) =
     (file ≡ Output) × HasExport given h extract (λ text. max_file < length text)
 ExportRefused given h extract fault = ⊥
@@ -306,16 +327,17 @@ AllowedKilledFollow given h calls (Refused fault) =
 AllowedKilledFollow given h calls r = ⊥
 
 -- why a run of the follower under another filter than the save's isn't done
-abbrev pub OtherRefused : RunFault → Type 0
-OtherRefused WantOfMemory = Unit {0}
-OtherRefused OtherFilter = Unit {0}
-OtherRefused fault = ⊥
+abbrev pub OtherRefused : List PublishedValue → FilterValue → RunFault → Type 0
+OtherRefused published given WantOfMemory = Unit {0}
+OtherRefused published given OtherFilter = Unit {0}
+OtherRefused published given (TooLarge file) = (file ≡ Save) × HasHugeSave published given
+OtherRefused published given fault = ⊥
 
 -- a run of the follower under another filter is refused; none is made if nothing was saved, or if
 -- the filter is no other
 abbrev pub AllowedFollowOther : FilterValue → History → FilterValue → Reply → Type 0
 AllowedFollowOther given h other (Refused fault) =
-    (is_saved h ≡ true) × (other ≢ given) × OtherRefused fault
+    (is_saved h ≡ true) × (other ≢ given) × OtherRefused (published_of h) given fault
 AllowedFollowOther given h other NotThere = (is_saved h ≡ false) ⊎ (other ≡ given)
 AllowedFollowOther given h other r = ⊥
 

@@ -24,7 +24,7 @@ use osm_folder::export::export_run;
 use osm_folder::fault::{FileName, RunFault};
 use osm_folder::names::file_name;
 use osm_folder::options::FollowOptions;
-use osm_folder::progress::{Progress, follow_progress};
+use osm_folder::progress::Progress;
 use osm_folder::publish::publish_run;
 use osm_folder::publish_as::publish_as_run;
 use osm_folder::report::Report;
@@ -35,6 +35,7 @@ use osm_model::limits::MAX_SEQUENCE;
 use osm_model::memory::WantOfMemory;
 use osm_model::time::time_write;
 use osm_opl::opl::Opl;
+use osm_round::round::follow_round;
 use osm_save::head::{HeadError, head_read, laws_of_heads};
 use osm_state::laws::laws_of_state;
 use osm_state::paths::Suffix;
@@ -151,8 +152,8 @@ pub(crate) fn follow(
         (files_of store.old) (files_of store.new) }
     ensures device { IfErr result IsNoDevice }
 {
-    let filter = filter.copy(alloc)?;
-    report_of(follow_progress(alloc, store, dir, save, FollowOptions::new(filter)))
+    let options = FollowOptions::new(filter.copy(alloc)?);
+    report_of(follow_round(alloc, store, dir, save, &options))
 }
 
 // The same, by a run that is killed after that many calls.
@@ -170,9 +171,9 @@ pub(crate) fn follow_killed(
     ensures lacks { IfErr result
         (LacksFollowCalls filter.now dir.now save.now calls (files_of store.old)) }
 {
-    let filter = filter.copy(alloc)?;
+    let options = FollowOptions::new(filter.copy(alloc)?);
     let mut stopping = stopping_over(alloc, store, calls);
-    let progress = follow_progress(alloc, &mut stopping, dir, save, FollowOptions::new(filter));
+    let progress = follow_round(alloc, &mut stopping, dir, save, &options);
     *store = stopping.into_inner();
     report_of(progress)
 }
@@ -193,7 +194,8 @@ pub(crate) fn follow_other(
     if store.get(save).is_none() || other == *filter {
         return None;
     }
-    Some(follow_progress(alloc, store, dir, save, FollowOptions::new(other)))
+    let options = FollowOptions::new(other);
+    Some(follow_round(alloc, store, dir, save, &options))
 }
 
 // The file of a sequence that is spoiled for a while, and the bytes that it held.
@@ -253,11 +255,12 @@ pub(crate) fn follow_spoiled(
     let Ok(filter) = filter.copy(alloc) else {
         return Some(Err(RunFault::WantOfMemory));
     };
+    let options = FollowOptions::new(filter);
     match spoil(alloc, store, dir, number, suffix) {
         Err(WantOfMemory) => Some(Err(RunFault::WantOfMemory)),
         Ok(None) => None,
         Ok(Some(spoiled)) => {
-            let progress = follow_progress(alloc, store, dir, save, FollowOptions::new(filter));
+            let progress = follow_round(alloc, store, dir, save, &options);
             mend(store, spoiled);
             Some(progress)
         }
@@ -284,18 +287,13 @@ pub(crate) fn follow_spoiled_killed(
     let Ok(filter) = filter.copy(alloc) else {
         return Some(Err(RunFault::WantOfMemory));
     };
+    let options = FollowOptions::new(filter);
     match spoil(alloc, store, dir, number, suffix) {
         Err(WantOfMemory) => Some(Err(RunFault::WantOfMemory)),
         Ok(None) => None,
         Ok(Some(spoiled)) => {
             let mut stopping = stopping_over(alloc, store, calls);
-            let progress = follow_progress(
-                alloc,
-                &mut stopping,
-                dir,
-                save,
-                FollowOptions::new(filter),
-            );
+            let progress = follow_round(alloc, &mut stopping, dir, save, &options);
             *store = stopping.into_inner();
             mend(store, spoiled);
             Some(progress)

@@ -12,7 +12,7 @@ use std::alloc::Global;
 
 /// Is told of the calls of a store. Nothing that it does changes what the store does.
 pub trait Watch {
-    /// A file was read whole, and has these bytes.
+    /// A file was read, and has these bytes, or begins with them if a prefix was asked for.
     fn was_read(&mut self, name: &str, bytes: &[u8]);
 
     /// A file is about to be replaced.
@@ -65,7 +65,11 @@ impl<S: Store, W: Watch> Store for WatchedStore<S, W> {
         name: &str,
         most: u64,
     ) -> Result<Option<Vec<u8>>, StoreError> {
-        self.inner.read_prefix(alloc, name, most)
+        let told = self.inner.read_prefix(alloc, name, most)?;
+        if let Some(bytes) = &told {
+            self.watch.was_read(name, bytes.as_slice());
+        }
+        Ok(told)
     }
 
     fn is_there(&mut self, name: &str) -> Result<bool, StoreError> {

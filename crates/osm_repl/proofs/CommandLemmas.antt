@@ -25,7 +25,8 @@ use Rattle.clap.specs.Walk.{all_of, first_of, rows_after}
 use Rattle.std.specs.Option.{option_map_or}
 use Rattle.std.specs.Borrow.{Bor}
 use Rattle.clap.specs.declared.error.kind.ErrorKind.TheVariants.{InvalidValue}
-use Rattle.osm_repl.specs.CommandLine.{flag_rule, is_raised, keys_in, keys_rule, kinds_rule, limit_rule, osmrepl_app, sequence_rule, time_rule, word_rule}
+use Rattle.osm_repl.specs.CommandLine.{first_rule, flag_rule, is_raised, keys_in, keys_rule, kinds_rule, last_rule, limit_rule, osmrepl_app}
+use Rattle.osm_repl.specs.CommandLine.{sequence_rule, time_rule, word_rule}
 use Rattle.osm_repl.specs.Steps.Commands.{HasValue, HasWord, HasWords, IsCommand, IsCommandOf}
 use Rattle.osm_repl.proofs.WordLemmas.{Each, HasValueIn, IsGoodRule, IsGoodValue, MayBeEmpty, Passes, first_passes, level_passes}
 use Rattle.osm_repl.proofs.WordLemmas.{second_passes, words_have_values}
@@ -188,7 +189,7 @@ two_ways word fine h =
 
 -- ---- the words of the commands
 
--- the rules of a word, of the time, of the number, of the limit, of keys, of kinds, of a flag and of help, as they are built
+-- the rules of a word, of the time, of the number, of the limit, of a range, of keys, of kinds, of a flag and of help, as they are built
 abbrev built_word : Text → ℕ → Rule
 built_word id i = with_index i (filled (word_rule id))
 
@@ -200,6 +201,12 @@ built_sequence i = with_index i (filled sequence_rule)
 
 abbrev built_limit : ℕ → Rule
 built_limit i = with_index i (filled limit_rule)
+
+abbrev built_first : ℕ → Rule
+built_first i = with_index i (filled first_rule)
+
+abbrev built_last : ℕ → Rule
+built_last i = with_index i (filled last_rule)
 
 abbrev built_keys : ℕ → Rule
 built_keys i = with_index i (filled keys_rule)
@@ -248,6 +255,26 @@ good_sequence i = record {
 
 good_limit : (i : ℕ) → IsGoodRule (built_limit i)
 good_limit i = record {
+  use_is = inr (inl (record {
+    sets = inl refl;
+    some = λ h. let bad : ◌≡◌ {A = Kinds} (InvalidValue ∷ []) [] = h in absurd cc;
+    empty = λ h. let bad : ◌≡◌ {A = Kinds} (InvalidValue ∷ []) [] = h in absurd cc;
+  }));
+  default_is = inl refl;
+}
+
+good_first : (i : ℕ) → IsGoodRule (built_first i)
+good_first i = record {
+  use_is = inr (inl (record {
+    sets = inl refl;
+    some = λ h. let bad : ◌≡◌ {A = Kinds} (InvalidValue ∷ []) [] = h in absurd cc;
+    empty = λ h. let bad : ◌≡◌ {A = Kinds} (InvalidValue ∷ []) [] = h in absurd cc;
+  }));
+  default_is = inl refl;
+}
+
+good_last : (i : ℕ) → IsGoodRule (built_last i)
+good_last i = record {
   use_is = inr (inl (record {
     sets = inl refl;
     some = λ h. let bad : ◌≡◌ {A = Kinds} (InvalidValue ∷ []) [] = h in absurd cc;
@@ -402,9 +429,19 @@ is_command p f fine (inr (inr (inr (inr (inr (inr (inl h))))))) =
     named (codes "export") f has.0 (inr (inr (inr (inr (inr (inr (inl refl)))))), has.1, tt)
 is_command p f fine (inr (inr (inr (inr (inr (inr (inr (inl h)))))))) =
     let has = pair_with p.0 p.1 f _ (codes "IN") (codes "OUT") refl (refl, refl) (refl, refl) h in
-    named (codes "convert") f has.0 (inr (inr (inr (inr (inr (inr (inr refl)))))), has.1, tt)
-is_command p f fine (inr (inr (inr (inr (inr (inr (inr (inr (inl h))))))))) = absurd (two_ways p.0 fine h.1)
-is_command p f fine (inr (inr (inr (inr (inr (inr (inr (inr (inr h))))))))) = absurd h
+    named (codes "convert") f has.0 (inr (inr (inr (inr (inr (inr (inr (inl refl))))))), has.1, tt)
+is_command p f fine (inr (inr (inr (inr (inr (inr (inr (inr (inl h))))))))) =
+    let flags : List Rule = built_flag (codes "json") 2 ∷ built_flag (codes "quiet") 2 ∷ built_help 2 ∷ [] in
+    let rules : List Rule = built_word (codes "DIR") 1 ∷ built_first 2 ∷ built_last 2 ∷ flags in
+    let good : Each IsGoodRule flags = (good_flag (codes "json") 2, (good_flag (codes "quiet") 2, (good_help 2, tt))) in
+    let has = entered_with p.0 p.1 f _ rules refl (good_word (codes "DIR") 1, (good_first 2, (good_last 2, good))) h in
+    named (codes "audit") f has.0 (
+      inr (inr (inr (inr (inr (inr (inr (inr refl))))))),
+      (has_word f.1 (codes "DIR") (refl, refl) (has.1.0 refl), tt),
+      tt,
+    )
+is_command p f fine (inr (inr (inr (inr (inr (inr (inr (inr (inr (inl h)))))))))) = absurd (two_ways p.0 fine h.1)
+is_command p f fine (inr (inr (inr (inr (inr (inr (inr (inr (inr (inr h)))))))))) = absurd h
 
 entered_command : (o : Option (Text × List Text)) → IsNoHelp o → is_some (entered (built osmrepl_app) o) ≡ true → entered_fault (built osmrepl_app) o ≡ []
     → IsCommand (entered (built osmrepl_app) o)

@@ -1,10 +1,12 @@
 -- What is written of the line of a fault.
-use Rattle.std.proofs.Common.{◌≡◌, ◌∙◌, ℕ, List, [], ◌∷◌, Option, ap, length, refl, subst, sym}
+use Rattle.std.proofs.Common.{◌≡◌, ℕ, List, [], ◌∷◌, Option, ap, length, refl, subst, sym}
 use Rattle.std.specs.Prelude.{Result, Ok, Err, IfErr, OnOk, take}
 use Rattle.std.specs.Io.KnownBytes.{Appends}
 use Rattle.osm_json.specs.Line.{fault_data, json_line}
+use Rattle.osm_audit.specs.Reports.{fault_data as audit_fault_data}
 use Rattle.osm_folder.specs.declared.fault.RunFault.{RunFault}
 use Rattle.osm_folder.specs.declared.fault.RunFault.TheVariants.{WriteFault}
+use Rattle.osm_repl.specs.Auditing.{IsAuditFaultLine}
 use Rattle.osm_repl.specs.Execution.{IsFaultLine}
 use Rattle.osm_repl.specs.Steps.Replaying.{WritingFault}
 
@@ -12,20 +14,25 @@ take_all : (xs : List ℕ) → take (length xs) xs ≡ xs
 take_all [] = refl
 take_all (x ∷ xs) = ap (λ ys. x ∷ ys) (take_all xs)
 
-some_of_it : (old new : Option (List ℕ)) (text said : List ℕ) (fault : RunFault) → text ≡ json_line (fault_data said)
-    → WritingFault old new text fault → IsFaultLine old new
-some_of_it old new text said (WriteFault file) is some = record {
-  said = said;
-  count = some.1.0;
-  line = subst (λ t. Appends old new (take some.1.0 t)) is some.1.1;
-}
-some_of_it old new text said fault is some = absurd some
+some_of_it : (old new : Option (List ℕ)) (text : List ℕ) (fault : RunFault) → WritingFault old new text fault
+    → (count : ℕ) × Appends old new (take count text)
+some_of_it old new text (WriteFault file) some = some.1
+some_of_it old new text fault some = absurd some
+
+-- a text, or a prefix of it if it wasn't taken whole
+a_part : {T : Type 0} (old new : Option (List ℕ)) (text : List ℕ) (r : Result T RunFault)
+    → OnOk r (Appends old new text) → IfErr r (WritingFault old new text) → (count : ℕ) × Appends old new (take count text)
+a_part old new text (Ok done) all some = (length text, subst (λ t. Appends old new t) (sym (take_all text)) all)
+a_part old new text (Err fault) all some = some_of_it old new text fault some
 
 pub fault_line : {T : Type 0} (old new : Option (List ℕ)) (text said : List ℕ) (r : Result T RunFault) → text ≡ json_line (fault_data said)
     → OnOk r (Appends old new text) → IfErr r (WritingFault old new text) → IsFaultLine old new
-fault_line old new text said (Ok done) is all some = record {
-  said = said;
-  count = length text;
-  line = subst (λ t. Appends old new t) (sym (take_all text) ∙ ap (take (length text)) is) all;
-}
-fault_line old new text said (Err fault) is all some = some_of_it old new text said fault is some
+fault_line old new text said r is all some =
+    let part : (count : ℕ) × Appends old new (take count text) = a_part old new text r all some in
+    record { said = said; count = part.0; line = subst (λ t. Appends old new (take part.0 t)) is part.1 }
+
+pub audit_fault_line : {T : Type 0} (old new : Option (List ℕ)) (text said : List ℕ) (r : Result T RunFault) → text ≡ json_line (audit_fault_data said)
+    → OnOk r (Appends old new text) → IfErr r (WritingFault old new text) → IsAuditFaultLine old new
+audit_fault_line old new text said r is all some =
+    let part : (count : ℕ) × Appends old new (take count text) = a_part old new text r all some in
+    record { said = said; count = part.0; line = subst (λ t. Appends old new (take part.0 t)) is part.1 }

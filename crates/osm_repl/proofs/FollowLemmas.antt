@@ -5,15 +5,17 @@ use Rattle.std.specs.Borrow.{Bor}
 use Rattle.osm_model.specs.Filter.{FilterValue}
 use Rattle.osm_follow.specs.Published.{PublishedValue}
 use Rattle.osm_folder.specs.Folder.{IsFolderOf}
-use Rattle.osm_folder.specs.Following.{FollowsOver, IsSaveOf}
+use Rattle.osm_folder.specs.Following.{IsSaveOf}
 use Rattle.osm_store.specs.Frames.{IsKnown, StoreState}
 use Rattle.osm_folder.specs.Lagging.{LagsOver}
-use Rattle.osm_folder.specs.Progress.{IsProgress, IsProgressReport, IsWhole}
+use Rattle.osm_folder.specs.Progress.{IsProgressReport, IsWhole}
 use Rattle.osm_folder.specs.Reports.{ReportValue}
 use Rattle.osm_folder.specs.declared.fault.RunFault.{RunFault}
 use Rattle.osm_folder.specs.declared.options.FollowOptions.{FollowOptions}
 use Rattle.osm_folder.specs.declared.progress.Progress.{Progress}
 use Rattle.osm_folder.specs.declared.progress.Progress.TheVariants.{Whole, Before}
+use Rattle.osm_round.specs.Over.{FollowsOver}
+use Rattle.osm_round.specs.Rounds.{IsProgress}
 use Rattle.osm_repl.specs.Execution.{DoesOver, HasFollowed, StopsOver}
 use Rattle.osm_repl.specs.declared.orders.Order.TheVariants.{Follow, Lag}
 

@@ -6,3 +6,4 @@ pub mod WordLemmas
 pub mod CommandLemmas
 pub mod FaultLineLemmas
 pub mod FollowLemmas
+pub mod AuditLemmas

@@ -19,6 +19,7 @@ use Rattle.osm_repl.specs.declared.orders.Extract.{Extract}
 use Rattle.osm_repl.specs.declared.orders.Options.{Options}
 use Rattle.osm_repl.specs.declared.orders.Order.{Order}
 use Rattle.osm_repl.specs.declared.orders.Order.TheVariants.{Publish, PublishAs, Begin, Follow}
+use Rattle.osm_repl.specs.declared.orders.Order.TheVariants.{Audit}
 
 -- the text is that of no time
 abbrev pub HasNoTime : List ℕ → Type 0
@@ -65,6 +66,26 @@ RefusesLimit None fault = ⊥
 RefusesLimit (Some word) fault =
     (fault ≡ BadLimit) × ((limit : ℕ) → SpellsSequence word.now limit → limit ≡ 0)
 
+-- the number that a word says, if there is one
+abbrev pub IsNumber : Option (Bor (List ℕ)) → Option ℕ → Type 0
+IsNumber None number = number ≡ None
+IsNumber (Some word) None = ⊥
+IsNumber (Some word) (Some number) = SpellsSequence word.now number
+
+-- there is no word, or it says a number
+abbrev pub HasNumberOrNone : Option (Bor (List ℕ)) → Type 0
+HasNumberOrNone word = (number : Option ℕ) × IsNumber word number
+
+-- a word that says no number
+abbrev pub RefusesNumber : Option (Bor (List ℕ)) → RunFault → Type 0
+RefusesNumber None fault = ⊥
+RefusesNumber (Some word) fault = (fault ≡ BadSequence) × HasNoNumber word.now
+
+-- which word of a range says no number: the first number is looked at before the last one
+abbrev pub RefusesRange : Option (Bor (List ℕ)) → Option (Bor (List ℕ)) → RunFault → Type 0
+RefusesRange from to fault =
+    RefusesNumber from fault ⊎ (HasNumberOrNone from × RefusesNumber to fault)
+
 -- the layout that the options ask for
 abbrev pub layout_for : Options → Layout
 layout_for options = if options.json then Json else Lines
@@ -74,6 +95,7 @@ abbrev pub AreGoodWords : Order → Type 0
 AreGoodWords (Publish dir changes now) = HasTime now.now
 AreGoodWords (PublishAs dir changes now sequence) = HasTime now.now × HasNumber sequence.now
 AreGoodWords (Begin base state save) = HasDataForm base.now
+AreGoodWords (Audit dir from to) = HasNumberOrNone from × HasNumberOrNone to
 AreGoodWords order = Unit {0}
 
 -- which word of a publication as a number is wrong: the time is looked at before the number
@@ -88,6 +110,7 @@ RefusesOrder (Publish dir changes now) fault = (fault ≡ BadNow) × HasNoTime n
 RefusesOrder (PublishAs dir changes now sequence) fault =
     RefusesNumbered now.now sequence.now fault
 RefusesOrder (Begin base state save) fault = (fault ≡ UnknownForm) × HasNoDataForm base.now
+RefusesOrder (Audit dir from to) fault = RefusesRange from to fault
 RefusesOrder order fault = ⊥
 
 -- the words make a filter, and the limit or another one is wrong: the limit is looked at first

@@ -13,7 +13,8 @@ use Rattle.osm_repl.specs.declared.orders.Extract.{Extract}
 use Rattle.osm_repl.specs.declared.orders.Options.{Options}
 use Rattle.osm_repl.specs.declared.orders.Order.{Order}
 use Rattle.osm_repl.specs.declared.orders.Order.TheVariants.{Replay, Publish, Follow, Lag, Show}
-use Rattle.osm_repl.specs.declared.orders.Order.TheVariants.{Begin, Convert, Export, PublishAs}
+use Rattle.osm_repl.specs.declared.orders.Order.TheVariants.{Audit, Begin, Convert, Export}
+use Rattle.osm_repl.specs.declared.orders.Order.TheVariants.{PublishAs}
 
 -- a word that isn't empty
 abbrev pub filled_rule : Text → Rule
@@ -34,6 +35,13 @@ sequence_rule = record (filled_rule (codes "N")) { long = Some (codes "sequence"
 -- `--limit LIMIT`, which may be left out, but isn't empty
 abbrev pub limit_rule : Rule
 limit_rule = record (filled_rule (codes "LIMIT")) { long = Some (codes "limit") }
+
+-- `--from N` and `--to M`, which may be left out, but aren't empty
+abbrev pub first_rule : Rule
+first_rule = record (filled_rule (codes "N")) { long = Some (codes "from") }
+
+abbrev pub last_rule : Rule
+last_rule = record (filled_rule (codes "M")) { long = Some (codes "to") }
 
 -- the letters of all kinds
 abbrev pub all_kinds : Text
@@ -137,6 +145,15 @@ export_app = with_word (with_word (new_app (codes "export")) (codes "SAVE")) (co
 abbrev pub convert_app : App
 convert_app = with_word (with_word (new_app (codes "convert")) (codes "IN")) (codes "OUT")
 
+-- `audit DIR`, and perhaps `--from N` and `--to M`
+abbrev pub audit_range_app : App
+audit_range_app =
+    with_rule (with_rule (with_word (new_app (codes "audit")) (codes "DIR")) first_rule) last_rule
+
+-- the same, and perhaps `--json` and `--quiet`
+abbrev pub audit_app : App
+audit_app = with_flag (with_flag audit_range_app (codes "json")) (codes "quiet")
+
 -- the program needs a command, and can print its version
 abbrev pub program_app : App
 program_app =
@@ -147,8 +164,9 @@ program_app =
 abbrev pub osmrepl_app : App
 osmrepl_app =
     with_subcommand (with_subcommand (with_subcommand (with_subcommand (with_subcommand
-    (with_subcommand (with_subcommand (with_subcommand program_app replay_app.top) publish_app.top)
-    begin_app.top) follow_app.top) lag_app.top) show_app.top) export_app.top) convert_app.top
+    (with_subcommand (with_subcommand (with_subcommand (with_subcommand program_app replay_app.top)
+    publish_app.top) begin_app.top) follow_app.top) lag_app.top) show_app.top) export_app.top)
+    convert_app.top) audit_app.top
 
 -- those are the values of those words
 abbrev pub AreValues : List Row → List (Text × Text) → Type 0
@@ -166,6 +184,11 @@ pub record IsFound (found : Option (Text × List Row)) (command : Text)
 abbrev pub IsLeftOut : Option (Text × List Row) → Text → Type 0
 IsLeftOut None name = ⊥
 IsLeftOut (Some found) name = first_of name found.1 ≡ None
+
+-- the word has that value, or it isn't among those that were found
+abbrev pub IsOptional : Option (Text × List Row) → Text → Option (Bor Text) → Type 0
+IsOptional None name word = ⊥
+IsOptional (Some found) name word = option_map (λ w. w.now) word ≡ first_of name found.1
 
 -- the order is the one for the command that was found
 abbrev pub IsOrderIn : Option (Text × List Row) → Order → Type 0
@@ -187,6 +210,8 @@ IsOrderIn found (Export save output) =
     IsFound found (codes "export") ((codes "SAVE", save.now) ∷ (codes "OUT", output.now) ∷ [])
 IsOrderIn found (Convert input output) =
     IsFound found (codes "convert") ((codes "IN", input.now) ∷ (codes "OUT", output.now) ∷ [])
+IsOrderIn found (Audit dir from to) = IsFound found (codes "audit") ((codes "DIR", dir.now) ∷ [])
+    × IsOptional found (codes "N") from × IsOptional found (codes "M") to
 
 -- the order is the one for the words, as clap reads them
 abbrev pub IsOrderOf : List Text → Order → Type 0
@@ -240,8 +265,8 @@ IsLimitIn (Some found) limit =
 abbrev pub IsLimitOf : List Text → Option (Bor Text) → Type 0
 IsLimitOf words = IsLimitIn (subcommand_of osmrepl_app words)
 
--- no word of the order is empty, except a time; the number of a sequence, a limit and a key aren't
--- either, by their rules
+-- no word of the order is empty, except a time; the number of a sequence or of a range, a limit and
+-- a key aren't either, by their rules
 abbrev pub HasNoEmptyWord : Order → Type 0
 HasNoEmptyWord Replay = Unit {0}
 HasNoEmptyWord (Publish dir changes now) = (dir.now ≡ [] → ⊥) × (changes.now ≡ [] → ⊥)
@@ -254,3 +279,4 @@ HasNoEmptyWord (Lag dir save) = (dir.now ≡ [] → ⊥) × (save.now ≡ [] →
 HasNoEmptyWord (Show save) = save.now ≡ [] → ⊥
 HasNoEmptyWord (Export save output) = (save.now ≡ [] → ⊥) × (output.now ≡ [] → ⊥)
 HasNoEmptyWord (Convert input output) = (input.now ≡ [] → ⊥) × (output.now ≡ [] → ⊥)
+HasNoEmptyWord (Audit dir from to) = dir.now ≡ [] → ⊥

@@ -13,7 +13,7 @@ use Rattle.osm_repl.specs.declared.ending.Message.TheVariants.{ByClap, Fault, No
 use Rattle.osm_repl.specs.declared.ending.Message.TheVariants as messages
 use Rattle.osm_repl.specs.declared.ending.Stream.TheVariants.{Output, Error}
 use Rattle.osm_repl.specs.declared.refusal.Refusal.{Refusal}
-use Rattle.osm_repl.specs.declared.refusal.Refusal.TheVariants.{FolderInUse, SaveInUse}
+use Rattle.osm_repl.specs.declared.refusal.Refusal.TheVariants.{BadRange, FolderInUse, SaveInUse}
 use Rattle.osm_folder.specs.Faults.{status_of}
 use Rattle.osm_folder.specs.declared.fault.RunFault.{RunFault}
 use Rattle.osm_folder.specs.declared.fault.RunFault.TheVariants.{WantOfMemory}
@@ -26,8 +26,9 @@ refused_words message = record { message = message; stream = Error; status = 2 }
 abbrev pub ending_of_fault : RunFault → Ending
 ending_of_fault fault = record { message = Fault fault; stream = Error; status = status_of fault }
 
--- 4 if another run is at work there, 3 for any other refusal
+-- 2 for a range that is none, 4 if another run is at work there, 3 for any other refusal
 abbrev pub status_of_refusal : Refusal → ℕ
+status_of_refusal BadRange = 2
 status_of_refusal FolderInUse = 4
 status_of_refusal SaveInUse = 4
 status_of_refusal refusal = 3

@@ -1,7 +1,7 @@
 -- What the program does for an order: it replays standard input, or it runs over the files and
--- prints a report. `known` says that it is known what the files hold; `options` has the filter of
--- the saves that `follow` and `begin` write, the limit of `follow`, and the layout of what `follow`
--- and `lag` print.
+-- prints a report, or it audits a folder (Auditing). `known` says that it is known what the files
+-- hold; `options` has the filter of the saves that `follow` and `begin` write, the limit of
+-- `follow`, and the layout of what `follow`, `lag` and `audit` print.
 use Rattle.std.specs.Prelude.{◌≡◌, ℕ, ◌<◌, ◌⊎◌, List, None, Option, take}
 use Rattle.std.specs.Io.KnownBytes.{Appends}
 use Rattle.osm_json.specs.Line.{fault_data, json_line}
@@ -14,11 +14,10 @@ use Rattle.osm_folder.specs.Conversion.{ConvertStops, IsConverted}
 use Rattle.osm_folder.specs.Exporting.{ExportStops, IsExported, IsExportOf}
 use Rattle.osm_store.specs.Files.{Files}
 use Rattle.osm_folder.specs.Folder.{IsApart, IsFolderOf}
-use Rattle.osm_folder.specs.Following.{FollowRefuses, IsFollowReport, IsFollowed}
-use Rattle.osm_folder.specs.Following.{IsInStepAfter, IsSaveOf}
+use Rattle.osm_folder.specs.Following.{IsFollowReport, IsInStepAfter, IsSaveOf}
 use Rattle.osm_folder.specs.Lagging.{IsLag, IsLagOf, IsLagReport, LagRefuses, LagStops}
 use Rattle.osm_folder.specs.Numbered.{IsAddedAs, IsPublishedAs, NumberedRefuses, NumberedStops}
-use Rattle.osm_folder.specs.Progress.{IsFollowedBefore, IsProgressReport, ProgressStops}
+use Rattle.osm_folder.specs.Progress.{IsProgressReport}
 use Rattle.osm_folder.specs.Publication.{FolderRefuses, IsAdded, IsPublished, PublishStops}
 use Rattle.osm_folder.specs.Reports.{ReportValue, begin_report_of, convert_report_of}
 use Rattle.osm_folder.specs.Reports.{publish_report_of, show_report_of}
@@ -32,24 +31,41 @@ use Rattle.osm_folder.specs.declared.options.Layout.{Layout}
 use Rattle.osm_folder.specs.declared.options.Layout.TheVariants.{Json, Lines}
 use Rattle.osm_folder.specs.declared.progress.Progress.{Progress}
 use Rattle.osm_folder.specs.declared.progress.Progress.TheVariants.{Whole, Before}
+use Rattle.osm_round.specs.Over.{FollowRefuses}
+use Rattle.osm_round.specs.Rounds.{IsFollowed, IsFollowedBefore, RoundStops}
 use Rattle.osm_repl.specs.Replay.{ReplayFault, ReplayLeaves, Replays}
 use Rattle.osm_repl.specs.declared.orders.Order.{Order}
 use Rattle.osm_repl.specs.declared.orders.Order.TheVariants.{Replay, Publish, Follow, Lag, Show}
-use Rattle.osm_repl.specs.declared.orders.Order.TheVariants.{Begin, Convert, Export, PublishAs}
+use Rattle.osm_repl.specs.declared.orders.Order.TheVariants.{Audit, Begin, Convert, Export}
+use Rattle.osm_repl.specs.declared.orders.Order.TheVariants.{PublishAs}
+use Rattle.osm_repl.specs.declared.order_fault.OrderFault.{OrderFault}
+use Rattle.osm_repl.specs.declared.order_fault.OrderFault.TheVariants.{BadRange, Run}
 
 -- the order is a run over the files: each is, except a replay
 abbrev pub IsOverFiles : Order → Type 0
 IsOverFiles Replay = ⊥
 IsOverFiles order = Unit {0}
 
+-- such a run gives a report: each does, except an audit
+abbrev pub GivesReport : Order → Type 0
+GivesReport Replay = ⊥
+GivesReport (Audit dir from to) = ⊥
+GivesReport order = Unit {0}
+
+-- the fault is that of a run
+abbrev pub IsRunFault : (RunFault → Type 0) → OrderFault → Type 0
+IsRunFault P BadRange = ⊥
+IsRunFault P (Run fault) = P fault
+
 -- the order is the word `follow`, which may be done up to a faulty number
 abbrev pub IsFollow : Order → Type 0
 IsFollow (Follow dir save) = Unit {0}
 IsFollow order = ⊥
 
--- the order is one of the other runs over the files
+-- the order is one of the other runs that give a report
 abbrev pub IsOtherRun : Order → Type 0
 IsOtherRun Replay = ⊥
+IsOtherRun (Audit dir from to) = ⊥
 IsOtherRun (Follow dir save) = ⊥
 IsOtherRun order = Unit {0}
 
@@ -63,6 +79,7 @@ calls_of (Lag dir save) = 2
 calls_of (Show save) = 1
 calls_of (Export save output) = 2
 calls_of (Convert input output) = 2
+calls_of (Audit dir from to) = 0
 calls_of Replay = 0
 
 -- what the run of the order does with files that are known, and its report
@@ -78,6 +95,7 @@ Does options (Lag dir save) old new report = IsLag options.layout dir.now save.n
 Does options (Show save) old new report = IsShown (old save.now) report
 Does options (Export save output) old new report = IsExported save.now output.now old new
 Does options (Convert input output) old new report = IsConverted input.now output.now old new
+Does options (Audit dir from to) old new report = ⊥
 Does options Replay old new report = ⊥
 
 -- the same, if the folder is that of published sequences, and the save or the data file is one of
@@ -124,6 +142,7 @@ IsReportOf options (Lag dir save) report = IsLagReport options.layout report
 IsReportOf options (Show save) report = (view : ViewValue) × (report ≡ show_report_of view)
 IsReportOf options (Export save output) report = report ≡ convert_report_of
 IsReportOf options (Convert input output) report = report ≡ convert_report_of
+IsReportOf options (Audit dir from to) report = ⊥
 IsReportOf options Replay report = ⊥
 
 -- why the run of the order stops
@@ -135,13 +154,14 @@ RunStops known options (PublishAs dir changes now sequence) old new fault =
 RunStops known options (Begin base state save) old new fault =
     BeginStops known options.filter base.now state.now old fault
 RunStops known options (Follow dir save) old new fault =
-    ProgressStops known options dir.now save.now old fault
+    RoundStops known options dir.now save.now old fault
 RunStops known options (Lag dir save) old new fault = LagStops known dir.now save.now old fault
 RunStops known options (Show save) old new fault = ShowStops known (old save.now) fault
 RunStops known options (Export save output) old new fault =
     ExportStops known save.now output.now old fault
 RunStops known options (Convert input output) old new fault =
     ConvertStops known input.now output.now old fault
+RunStops known options (Audit dir from to) old new fault = ⊥
 RunStops known options Replay old new fault = ⊥
 
 -- the same, if the folder is that of published sequences, and the save is one of theirs
@@ -182,6 +202,7 @@ IsUntouched (Begin base state save) name = name ≡ save.now → ⊥
 IsUntouched (Follow dir save) name = name ≡ save.now → ⊥
 IsUntouched (Lag dir save) name = Unit {0}
 IsUntouched (Show save) name = Unit {0}
+IsUntouched (Audit dir from to) name = Unit {0}
 IsUntouched (Export save output) name = name ≡ output.now → ⊥
 IsUntouched (Convert input output) name = name ≡ output.now → ⊥
 
@@ -200,7 +221,7 @@ pub record IsDone (known : Type 0) (options : FollowOptions) (order : Order) (ol
   pub all : Appends printed after report.text
   pub status_is : status ≡ report.status
 
--- what the order prints is in that layout: it is always in lines, except for `follow` and `lag`
+-- the report of the order is in that layout: it is always in lines, except for `follow` and `lag`
 abbrev pub layout_of : FollowOptions → Order → Layout
 layout_of options (Follow dir save) = options.layout
 layout_of options (Lag dir save) = options.layout

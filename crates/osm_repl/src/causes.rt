@@ -7,6 +7,7 @@ ghost use Rattle.std.specs.Str.{chars};
 ghost use Rattle.osm_repl.specs.Echo.{shown_char};
 
 use crate::echo::push_shown;
+use crate::numbers::number_of;
 use crate::orders::Order;
 use osm_folder::fault::{FileName, RunFault};
 use osm_folder::form::form_of;
@@ -136,12 +137,21 @@ fn word_of<'a>(order: Order<'a>, fault: RunFault) -> &'a str {
     match (fault, order) {
         (RunFault::BadNow, _) => order.now(),
         (RunFault::BadSequence, Order::PublishAs { sequence, .. }) => sequence,
+        (RunFault::BadSequence, Order::Audit { from, to, .. }) => word_of_range(from, to),
         (RunFault::UnknownForm, Order::Convert { input, output }) => match form_of(input) {
             None => input,
             Some(_) => output,
         },
         (RunFault::UnknownForm, Order::Export { output, .. }) => output,
         (RunFault::UnknownForm, Order::Begin { base, .. }) => base,
+        _ => "",
+    }
+}
+
+// The word of a range that says no number.
+fn word_of_range<'a>(from: Option<&'a str>, to: Option<&'a str>) -> &'a str {
+    match (number_of(from), from, to) {
+        (Err(_), Some(word), _) | (Ok(_), _, Some(word)) => word,
         _ => "",
     }
 }

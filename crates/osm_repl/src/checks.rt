@@ -7,10 +7,12 @@ ghost use Rattle.osm_folder.specs.Filters.{FilterStops, IsAsked};
 ghost use Rattle.osm_folder.specs.Publication.{HasTime};
 ghost use Rattle.osm_folder.specs.declared.fault.RunFault.{RunFault};
 ghost use Rattle.osm_repl.specs.Checks.{AreGoodWords, HasNoNumber, HasNoTime, HasNumber};
+ghost use Rattle.osm_repl.specs.Checks.{HasNumberOrNone, RefusesRange};
 ghost use Rattle.osm_repl.specs.Checks.{IsAhead, IsFilterOf, IsLimit, IsPast, RefusesExtract};
 ghost use Rattle.osm_repl.specs.Checks.{RefusesLimit, RefusesNumbered, RefusesOrder, RefusesWords};
 ghost use Rattle.osm_repl.specs.Checks.{layout_for};
 
+use crate::numbers::number_of;
 use crate::orders::{Asked, Extract, Options, Order};
 use osm_folder::data_form::data_form_of;
 use osm_folder::fault::RunFault;
@@ -90,8 +92,18 @@ fn check_order(order: Order<'_>) -> Result<(), RunFault>
         Order::Publish { now, .. } => check_time(now),
         Order::PublishAs { now, sequence, .. } => check_numbered(now, sequence),
         Order::Begin { base, .. } => check_base(base),
+        Order::Audit { from, to, .. } => check_range(from, to),
         _ => Ok(()),
     }
+}
+
+fn check_range(from: Option<&str>, to: Option<&str>) -> Result<(), RunFault>
+    ensures good { OnOk result (HasNumberOrNone from.entry × HasNumberOrNone to.entry) }
+    ensures refused { IfErr result (RefusesRange from.entry to.entry) }
+{
+    number_of(from)?;
+    number_of(to)?;
+    Ok(())
 }
 
 fn check_numbered(now: &str, sequence: &str) -> Result<(), RunFault>

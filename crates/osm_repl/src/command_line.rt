@@ -11,10 +11,10 @@ ghost use Rattle.osm_repl.specs.CommandLine.{IsLimitIn, IsLimitOf, lag_words_app
 ghost use Rattle.osm_repl.specs.CommandLine.{begin_words_app, follow_extract_app, follow_flags_app};
 ghost use Rattle.osm_repl.specs.CommandLine.{follow_words_app};
 ghost use Rattle.osm_repl.specs.CommandLine.{keys_in, keys_rule, kinds_in, kinds_rule};
-ghost use Rattle.osm_repl.specs.CommandLine.{convert_app};
+ghost use Rattle.osm_repl.specs.CommandLine.{audit_app, audit_range_app, convert_app, first_rule};
 ghost use Rattle.osm_repl.specs.CommandLine.{export_app, filled_rule, flag_rule, follow_app};
 ghost use Rattle.osm_repl.specs.CommandLine.{is_raised, lag_app, options_in, options_of};
-ghost use Rattle.osm_repl.specs.CommandLine.{osmrepl_app, program_app, publish_app};
+ghost use Rattle.osm_repl.specs.CommandLine.{last_rule, osmrepl_app, program_app, publish_app};
 ghost use Rattle.osm_repl.specs.CommandLine.{publish_next_app, publish_number_app};
 ghost use Rattle.osm_repl.specs.CommandLine.{replay_app, sequence_rule, show_app, time_rule};
 ghost use Rattle.osm_repl.specs.CommandLine.{word_rule};
@@ -136,6 +136,7 @@ fn order_of<'a>(matches: &ArgMatches<'a>) -> Order<'a>
         "show" => show_of(given),
         "export" => export_of(given),
         "convert" => convert_of(given),
+        "audit" => audit_of(given),
         _ => unreachable!(),
     }
 }
@@ -225,6 +226,18 @@ fn convert_of<'a>(given: &ArgMatches<'a>) -> Order<'a>
     }
 }
 
+fn audit_of<'a>(given: &ArgMatches<'a>) -> Order<'a>
+    requires { HasWords (rows_of (found_of given.now)) (words_of (codes "audit")) }
+    ensures order { IsOrderIn (Some (codes "audit", rows_of (found_of given.now))) result }
+    ensures not_empty { HasNoEmptyWord result }
+{
+    Order::Audit {
+        dir: nonempty(given, "DIR"),
+        from: optional(given, "N"),
+        to: optional(given, "M"),
+    }
+}
+
 // The value of a word that has one that isn't empty.
 fn nonempty<'a>(given: &ArgMatches<'a>, name: &str) -> &'a str
     requires { HasWord (rows_of (found_of given.now)) name.now }
@@ -284,7 +297,8 @@ fn command<'a>(alloc: Global) -> Result<Command<'a>, AllocError>
         .subcommand(lag(alloc)?)?
         .subcommand(show(alloc)?)?
         .subcommand(export(alloc)?)?
-        .subcommand(convert(alloc)?)
+        .subcommand(convert(alloc)?)?
+        .subcommand(audit(alloc)?)
 }
 
 fn program<'a>(alloc: Global) -> Command<'a>
@@ -469,6 +483,26 @@ fn convert<'a>(alloc: Global) -> Result<Command<'a>, AllocError>
         .arg(word(alloc, "OUT", "The file that is written"))
 }
 
+fn audit<'a>(alloc: Global) -> Result<Command<'a>, AllocError>
+    ensures app { IfOk result (λ c. app_of c ≡ audit_app) }
+    ensures local { IfOk result (λ c. (fields_of c).has_globals ≡ false) }
+{
+    audit_range(alloc)?.arg(json(alloc))?.arg(quiet(alloc))
+}
+
+// `audit` with its words, and without its flags.
+fn audit_range<'a>(alloc: Global) -> Result<Command<'a>, AllocError>
+    ensures app { IfOk result (λ c. app_of c ≡ audit_range_app) }
+    ensures local { IfOk result (λ c. (fields_of c).has_globals ≡ false) }
+{
+    Command::new(alloc, "audit")
+        .about(help::AUDIT)
+        .after_help(help::AUDITING)
+        .arg(word(alloc, "DIR", "The folder"))?
+        .arg(first(alloc))?
+        .arg(last(alloc))
+}
+
 // A word that has to be there, and isn't empty.
 fn word<'a>(alloc: Global, name: &'a str, says: &'a str) -> Arg<'a>
     ensures rule { rule_of result ≡ word_rule name.now }
@@ -516,6 +550,27 @@ fn limit<'a>(alloc: Global) -> Arg<'a>
 {
     let says = "Takes at most so many numbers in this run";
     filled(alloc, "LIMIT", says).long("limit")
+}
+
+// `--from N`, which may be left out.
+fn first<'a>(alloc: Global) -> Arg<'a>
+    ensures rule { rule_of result ≡ first_rule }
+    ensures local { result.global ≡ false }
+{
+    filled(alloc, "N", "The first number; 1 if it is left out").long("from")
+}
+
+// `--to M`, which may be left out.
+fn last<'a>(alloc: Global) -> Arg<'a>
+    ensures rule { rule_of result ≡ last_rule }
+    ensures local { result.global ≡ false }
+{
+    filled(
+        alloc,
+        "M",
+        "The last number; the folder's newest if it is left out",
+    )
+    .long("to")
 }
 
 // `KEY..`, any number of words that aren't empty.

@@ -1,17 +1,22 @@
 //! Carrying out what the words of the command line ask for.
 
-ghost use Rattle.std.specs.Prelude.{◌≡◌, ℕ, ◌≤◌, ◌⊎◌, List, IfOk, IfErr, OnOk, OnErr};
+ghost use Rattle.std.specs.Prelude.{◌≡◌, ℕ, ◌≤◌, ◌⊎◌, List, Option, IfOk, IfErr, OnOk, OnErr};
+ghost use Rattle.std.specs.Borrow.{Bor};
 ghost use Rattle.std.specs.Io.KnownBytes.{Appends};
 ghost use Rattle.osm_store.specs.Files.{Spends};
 ghost use Rattle.osm_store.specs.Frames.{IsKnown};
 ghost use Rattle.osm_folder.specs.Runs.{Blames};
+ghost use Rattle.osm_repl.specs.Auditing.{IsAudited, IsNotAudited, audit_fault_of};
 ghost use Rattle.osm_repl.specs.Execution.{Does, DoesOver, IsDone, IsNotDone, IsNotReplayed};
+ghost use Rattle.osm_repl.specs.Execution.{GivesReport, IsRunFault};
 ghost use Rattle.osm_repl.specs.Execution.{HasFollowed, IsFollow, IsOtherRun, IsOverFiles};
 ghost use Rattle.osm_repl.specs.Execution.{IsReplayed, IsReportOf, IsUntouched};
 ghost use Rattle.osm_repl.specs.Execution.{IsFaultLine, Leaves, RunStops, StopsOver, TellsFault};
 ghost use Rattle.osm_repl.specs.Execution.{calls_of, layout_of};
 ghost use Rattle.osm_repl.specs.Steps.Replaying.{WritingFault};
 
+use crate::auditing::audit_and_print;
+use crate::order_fault::OrderFault;
 use crate::orders::Order;
 use crate::replay::replay_run;
 use crate::writing::write_text;
@@ -21,25 +26,26 @@ use osm_folder::export::export_run;
 use osm_folder::fault::RunFault;
 use osm_folder::lag::lag_run;
 use osm_folder::options::{FollowOptions, Layout};
-use osm_folder::progress::{Progress, follow_progress};
+use osm_folder::progress::Progress;
 use osm_folder::publish::publish_run;
 use osm_folder::publish_as::publish_as_run;
 use osm_folder::report::{Report, fault_report};
 use osm_folder::show::show_run;
+use osm_round::round::follow_round;
 use osm_store::store::Store;
 use std::alloc::Global;
 use std::io::{Read, Write};
 
 /// Does what an order asks for, and answers the exit status. The words `follow` and `begin` write
-/// their save under the filter of the options; `follow` goes by their limit, and `follow` and `lag`
-/// by their layout. A replay reads from `reader` and writes its replies to `writer`; every other
-/// order runs over the files of the store, and then writes its report to `writer`.
+/// their save under the filter of the options; `follow` goes by their limit, and `follow`, `lag`
+/// and `audit` by their layout. A replay reads from `reader` and writes its replies to `writer`;
+/// every other order runs over the files of the store, and then writes its report to `writer`.
 ///
-/// On a fault nothing was written to `writer`, with three exceptions. On `WriteFault(Output)` a
-/// prefix of the report was, and the files that a run wrote stay. The word `follow` may end with
-/// the fault of a faulty number, after it saved and reported the numbers before. In JSON the line
-/// of `fault_report` is written, as far as `writer` takes it, unless memory was wanted for the run
-/// or for the line.
+/// Only an audit has the fault `BadRange`. On a fault nothing was written to `writer`, with three
+/// exceptions. On `WriteFault(Output)` a prefix of the report was, and the files that a run wrote
+/// stay. The word `follow` may end with the fault of a faulty number, after it saved and reported
+/// the numbers before. In JSON the line of `fault_report` is written, as far as `writer` takes it,
+/// unless memory was wanted for the run or for the line.
 pub fn execute<S: Store, R: Read, W: Write>(
     alloc: Global,
     order: Order<'_>,
@@ -47,21 +53,32 @@ pub fn execute<S: Store, R: Read, W: Write>(
     store: &mut S,
     reader: &mut R,
     writer: &mut W,
-) -> Result<u8, RunFault>
-    ensures done { IsOverFiles order.entry
+) -> Result<u8, OrderFault>
+    ensures done { GivesReport order.entry
         → IfOk result (IsDone (IsKnown (S.state store.old)) options order.entry
         (S.state store.old).files (S.state store.new).files (W.contents writer.old)
         (W.contents writer.new)) }
-    ensures not_done { IsOverFiles order.entry
-        → IfErr result (IsNotDone (IsKnown (S.state store.old)) options order.entry
+    ensures not_done { GivesReport order.entry → IfErr result
+        (IsRunFault (IsNotDone (IsKnown (S.state store.old)) options order.entry
         (S.state store.old).files (S.state store.new).files (S.state store.old).failures
-        (S.state store.new).failures (W.contents writer.old) (W.contents writer.new)) }
+        (S.state store.new).failures (W.contents writer.old) (W.contents writer.new))) }
+    ensures audited { (dir : Bor (List ℕ)) → (from to : Option (Bor (List ℕ)))
+        → order.entry ≡ Order.Audit dir from to → IfOk result (IsAudited (S.state store.old)
+        (S.state store.new) options.layout dir.now from to (W.contents writer.old)
+        (W.contents writer.new)) }
+    ensures not_audited { (dir : Bor (List ℕ)) → (from to : Option (Bor (List ℕ)))
+        → order.entry ≡ Order.Audit dir from to → IfErr result (λ fault. IsNotAudited
+        (S.state store.old) (S.state store.new) options.layout dir.now from to
+        (W.contents writer.old) (W.contents writer.new) (audit_fault_of fault)) }
+    ensures unchanged { (dir : Bor (List ℕ)) → (from to : Option (Bor (List ℕ)))
+        → order.entry ≡ Order.Audit dir from to
+        → (S.state store.new).files ≡ (S.state store.old).files }
     ensures silent { IsOverFiles order.entry → reader.new ≡ reader.old }
     ensures replayed { order.entry ≡ Order.Replay → IfOk result (IsReplayed (R.remaining reader.old)
         (W.contents writer.old) (W.contents writer.new)) }
     ensures not_replayed { order.entry ≡ Order.Replay → IfErr result
-        (IsNotReplayed (R.remaining reader.old) (R.remaining reader.new)
-        (W.contents writer.old) (W.contents writer.new)) }
+        (IsRunFault (IsNotReplayed (R.remaining reader.old) (R.remaining reader.new)
+        (W.contents writer.old) (W.contents writer.new))) }
     ensures idle { order.entry ≡ Order.Replay → store.new ≡ store.old }
     ensures untouched { IsKnown (S.state store.old) → (name : List ℕ) → IsUntouched order.entry name
         → (S.state store.new).files name ≡ (S.state store.old).files name }
@@ -72,9 +89,13 @@ pub fn execute<S: Store, R: Read, W: Write>(
     ensures kept { (S.state store.old).failures ≤ (S.state store.new).failures }
 {
     match order {
-        Order::Replay => replay(alloc, reader, writer),
-        Order::Follow { .. } => follow_and_print(alloc, order, options, store, writer),
-        _ => run_and_print(alloc, order, options, store, writer),
+        Order::Replay => Ok(replay(alloc, reader, writer)?),
+        Order::Follow { .. } => Ok(follow_and_print(alloc, order, options, store, writer)?),
+        Order::Audit { dir, from, to } => {
+            let layout = options.layout;
+            Ok(audit_and_print(alloc, dir, from, to, layout, store, writer)?)
+        }
+        _ => Ok(run_and_print(alloc, order, options, store, writer)?),
     }
 }
 
@@ -184,7 +205,7 @@ fn print_fault<W: Write>(alloc: Global, fault: RunFault, writer: &mut W)
     }
 }
 
-// The layout of what the order prints.
+// The layout of the order's report.
 fn layout_of(options: &FollowOptions, order: Order<'_>) -> Layout
     ensures { result ≡ layout_of options.now order.entry }
 {
@@ -243,7 +264,7 @@ fn run<S: Store>(
         Order::Show { save } => show_run(alloc, store, save),
         Order::Export { save, output } => export_run(alloc, store, save, output),
         Order::Convert { input, output } => convert_run(alloc, store, input, output),
-        Order::Follow { .. } | Order::Replay => unreachable!(),
+        Order::Follow { .. } | Order::Audit { .. } | Order::Replay => unreachable!(),
     }
 }
 
@@ -274,7 +295,7 @@ fn follow<S: Store>(
     ensures kept { (S.state store.old).failures ≤ (S.state store.new).failures }
 {
     match order {
-        Order::Follow { dir, save } => follow_progress(alloc, store, dir, save, options),
+        Order::Follow { dir, save } => follow_round(alloc, store, dir, save, &options),
         _ => unreachable!(),
     }
 }

@@ -11,11 +11,12 @@ pub(crate) const EXAMPLES: &str = "Examples:
   osmrepl show follower.save
   osmrepl export follower.save objects.o5m
   osmrepl convert changes.opl changes.o5c
+  osmrepl audit folder
   osmrepl replay <script.txt >replies.txt
 
 Exit statuses:
   0  done
-  1  done, but numbers are missing, which follow printed
+  1  done, but numbers are missing, or files are wrong, which follow or audit printed
   2  the words of the command line are refused
   3  any other fault, out of memory included; one line on standard error says which
   4  another run is at work in the folder or on the save; nothing was done";
@@ -192,3 +193,37 @@ A name that ends in .opl is that of an OPL file, and one that ends in .o5c that 
 Nothing is printed.
 
 A fault names IN as input, and OUT as output.";
+
+pub(crate) const AUDIT: &str = "Looks whether a folder is whole, and prints what is wrong";
+
+pub(crate) const AUDITING: &str = "As in
+  osmrepl audit folder
+  osmrepl audit folder --from 1001 --to 2000
+  osmrepl audit folder --json
+
+Each number from N to M, each of 1 to 9 digits, has to have its files in the folder:
+  its state, which is that of its number, at a time not before that of the number before it
+  its .o5c file, its .opl file, or both; each that is there can be read, and both have the same
+    changes, in their order
+The folder's state.txt has to have the time of number M, if it is at M.
+
+'ok N..M' is printed if nothing is wrong. Otherwise each file that is wrong is printed, rising by
+number, and the status is 1:
+  FILE: CAUSE  as 000/000/007.opl: differs, or 000/000/009.o5c: not there
+The state of the number before N isn't read, so the time of N is compared with none. No file is
+written, and no lock taken.
+
+If --to is left out, state.txt has to be there, and M is its number. A folder at number 0 is
+'ok 1..0'. If --to is given, state.txt needn't be there, nor be at M. N has to be at least 1, and at
+most M: 'bad range'.
+
+With --json one line is printed instead, an object of JSON, also after a fault:
+  fault     null, or the fault
+  findings  [{\"cause\":..,\"file\":..,\"number\":..},..]; number is M for state.txt
+  from      N
+  to        M
+After a fault all but the fault are null. No line is printed if --from or --to has no number or if
+memory runs out.
+
+A run that takes more than half a second shows on a terminal how many numbers are done, unless
+--quiet or --json is given.";

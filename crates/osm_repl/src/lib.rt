@@ -2,6 +2,7 @@
 #![tactic(auto)]
 
 mod asks;
+mod auditing;
 pub mod causes;
 pub mod checks;
 pub mod command_line;
@@ -11,6 +12,8 @@ pub mod execution;
 pub mod fields;
 mod help;
 pub mod locks;
+mod numbers;
+pub mod order_fault;
 pub mod orders;
 pub mod refusal;
 pub mod replay;

@@ -80,6 +80,12 @@ pub enum Order<'a> {
         input: &'a str,
         output: &'a str,
     },
+    /// Looks whether a folder is whole, from the number `from` to the number `to`.
+    Audit {
+        dir: &'a str,
+        from: Option<&'a str>,
+        to: Option<&'a str>,
+    },
 }
 
 impl<'a> Order<'a> {
@@ -87,7 +93,7 @@ impl<'a> Order<'a> {
     pub fn dir(self) -> &'a str {
         match self {
             Order::Publish { dir, .. } | Order::PublishAs { dir, .. } => dir,
-            Order::Follow { dir, .. } | Order::Lag { dir, .. } => dir,
+            Order::Follow { dir, .. } | Order::Lag { dir, .. } | Order::Audit { dir, .. } => dir,
             _ => "",
         }
     }

@@ -6,7 +6,7 @@ ghost use Rattle.osm_repl.specs.Ending.{status_of_refusal};
 use thiserror::Error;
 
 /// Why a run isn't begun. Nothing was read or written then, except that the lock's file and its
-/// folders may have been made.
+/// folders may have been made, and that the newest state may have been read for a range.
 #[derive(Clone, Copy, Debug, PartialEq, Eq, Error)]
 pub enum Refusal {
     /// The time of a publication is more than a day past the clock's.
@@ -24,14 +24,19 @@ pub enum Refusal {
     /// The file of the save's lock can't be made or locked.
     #[error("save: lock failed")]
     SaveLockFailed,
+    /// The range of an audit begins at 0, or after its last number.
+    #[error("bad range")]
+    BadRange,
 }
 
 impl Refusal {
-    /// The exit status of the program: 4 if another run is at work there, else 3.
+    /// The exit status of the program: 2 if the words are wrong, 4 if another run is at work there,
+    /// else 3.
     pub fn status(self) -> u8
         ensures { result ≡ status_of_refusal self }
     {
         match self {
+            Refusal::BadRange => 2,
             Refusal::FolderInUse | Refusal::SaveInUse => 4,
             _ => 3,
         }

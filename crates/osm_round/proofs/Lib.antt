@@ -4,3 +4,5 @@ pub mod ListLemmas
 pub mod TakenLemmas
 pub mod PutLemmas
 pub mod RoundLemmas
+pub mod OverLemmas
+pub mod CallLemmas

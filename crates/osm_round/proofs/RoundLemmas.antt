@@ -14,21 +14,22 @@ use Rattle.osm_store.specs.Files.{Files, Puts}
 use Rattle.osm_merge.specs.Merging.{HasTooMany}
 use Rattle.osm_folder.specs.Folder.{IsStateFile, IsThere}
 use Rattle.osm_model.specs.Limits.{max_sequence}
-use Rattle.osm_folder.specs.Following.{AddsAll, IsReached, MissingStops, TopStateStops, last_number, no_save}
+use Rattle.osm_folder.specs.Following.{AddsAll, HasSave, IsReached, IsSaved, IsStarted, MissingStops, FindTopStops, last_number, no_save}
 use Rattle.osm_folder.specs.Names.{top_name_of}
 use Rattle.osm_folder.specs.Progress.{IsProgressReport}
 use Rattle.osm_folder.specs.Reports.{report_of}
 use Rattle.osm_folder.specs.declared.fault.RunFault.{RunFault}
 use Rattle.osm_folder.specs.declared.fault.RunFault.TheVariants.{Absent, BadSave, BadState, Changed}
 use Rattle.osm_folder.specs.declared.fault.RunFault.TheVariants.{OtherFilter, ReadFault, TooLarge, WantOfMemory, WriteFault}
+use Rattle.osm_folder.specs.declared.fault.FileName.TheVariants.{Save}
 use Rattle.osm_folder.specs.declared.options.FollowOptions.{FollowOptions}
 use Rattle.osm_folder.specs.declared.progress.Progress.{Progress}
 use Rattle.osm_folder.specs.declared.progress.Progress.TheVariants.{Before, Whole}
 use Rattle.osm_folder.proofs.InStepLemmas.{last_within}
 use Rattle.osm_round.specs.Putting.{PutsTaken, saved_after}
-use Rattle.osm_round.specs.Rounds.{BeforeStops, IsPrepared, IsProgress, IsReport, IsStarted, IsWhole, PrepareStops}
-use Rattle.osm_round.specs.Rounds.{HasManyObjects, HasSave, RoundStops, StartStops, StopsLooking, StopsTaking, outcome_of, progress_of}
-use Rattle.osm_round.specs.Starting.{BeginStops, BeginsOther, IsBegun, IsBegunAt, IsOtherSave, IsTooLarge, PutStops, Saves, WholeStops}
+use Rattle.osm_round.specs.Rounds.{BeforeStops, IsFirst, IsPrepared, IsProgress, IsReport, IsUnpublished, IsWhole, PrepareStops, UpToStops}
+use Rattle.osm_round.specs.Rounds.{HasManyObjects, RoundStops, StartStops, StopsLooking, StopsTaking, outcome_of, progress_of}
+use Rattle.osm_round.specs.Starting.{BeginStops, BeginsOther, IsBegun, IsBegunAt, IsOtherSave, IsTooLarge, PutStops, WholeStops}
 use Rattle.osm_round.specs.Taking.{AdvancesAll, HasTaken, StopsOnTheWay, TakesUp}
 use Rattle.osm_round.specs.declared.round.Prepared.{Prepared}
 use Rattle.osm_round.specs.declared.start.Start.{Start}
@@ -37,14 +38,14 @@ use Rattle.osm_round.specs.declared.taken.Taken.{Taken}
 use Rattle.osm_round.proofs.PutLemmas.{orderly_nothing}
 use Rattle.osm_round.proofs.TakenLemmas.{adds_all}
 
-pub saves_orderly : (given : FilterValue) (told : Option (List ℕ)) (v : Saved) → Saves given told v → IsOrderly v.mirror
+pub saves_orderly : (given : FilterValue) (told : Option (List ℕ)) (v : Saved) → IsSaved given told v → IsOrderly v.mirror
 saves_orderly given None v s = subst (λ (x : Saved). IsOrderly x.mirror) (sym s) orderly_nothing
 saves_orderly given (Some bytes) v s = s.savable.mirror.orderly
 
 -- ---- what is done
 
 module _ (known : Type 0) (options : FollowOptions) (dir save : List ℕ) (old new : Files) where
-  done_by : (v : Saved) (p : Prepared) → known → Saves options.filter (old save) v → v.filter ≡ options.filter → (text : List ℕ)
+  done_by : (v : Saved) (p : Prepared) → known → IsSaved options.filter (old save) v → v.filter ≡ options.filter → (text : List ℕ)
       → SpellsSave text (saved_after v p.taken) → Puts old save (Some text) new
       → IsPrepared known options dir old (head_of v) p → IsProgress known options dir save old new (progress_of p.report p.fault)
   done_by v p sure saved filter_is text spelled put is = by_fault p.fault is.report
@@ -159,7 +160,7 @@ whole_stops known options dir save files fault h = absurd h
 
 -- what a whole save saves, if a run began at it
 pub whole_saves : (given : FilterValue) (told : Option (List ℕ)) (start : Start) → IsBegun given told start → IsWhole told
-    → (v : Saved) × Saves given told v × (head_of v ≡ start.head) × (v.filter ≡ given)
+    → (v : Saved) × IsSaved given told v × (head_of v ≡ start.head) × (v.filter ≡ given)
 whole_saves given None start b w = (no_save given, refl, sym (ap (λ (s : Start). s.head) b), refl)
 whole_saves given (Some file) start b (inl none) = absurd (let bad : Some file ≡ None = none in cc)
 whole_saves given (Some file) start b (inr is) =
@@ -182,16 +183,41 @@ begin_stops known options dir save files (Changed file) h whole = inl (rw h.0 h.
 begin_stops known options dir save files OtherFilter h whole = inl (λ sure. other_save options.filter (files save) (h sure) (whole sure))
 begin_stops known options dir save files fault h whole = absurd h
 
+-- no check of the save comes before these
+pub begin_first : (known : Type 0) (options : FollowOptions) (dir save : List ℕ) (files : Files) (fault : RunFault)
+    → BeginStops known options.filter (files save) fault → IsFirst fault → RoundStops known options dir save files fault
+begin_first known options dir save files WantOfMemory h first = inl tt
+begin_first known options dir save files (ReadFault Save) h first = inl tt
+begin_first known options dir save files (TooLarge Save) h first = inl (λ sure. inl (h.1 sure))
+begin_first known options dir save files (BadSave line) h first = inl h
+begin_first known options dir save files fault h first = absurd first
+
+pub prepare_first : (known : Type 0) (options : FollowOptions) (dir save : List ℕ) (files : Files) (start : Head) (fault : RunFault)
+    → PrepareStops known options dir files start fault → IsFirst fault → RoundStops known options dir save files fault
+prepare_first known options dir save files start WantOfMemory h first = inl tt
+prepare_first known options dir save files start (ReadFault Save) h first = inl tt
+prepare_first known options dir save files start (TooLarge Save) (inl h) first = absurd (let bad = h.0 in cc)
+prepare_first known options dir save files start (TooLarge Save) (inr (inl h)) first = absurd (let bad : TooLarge Save ≡ WantOfMemory = h in cc)
+prepare_first known options dir save files start (TooLarge Save) (inr (inr (inl h))) first = absurd (let bad = h.0 in cc)
+prepare_first known options dir save files start (TooLarge Save) (inr (inr (inr (inl h)))) first = absurd h.stops
+prepare_first known options dir save files start (TooLarge Save) (inr (inr (inr (inr h)))) first = absurd h.stops
+prepare_first known options dir save files start (BadSave line) (inl h) first = absurd h
+prepare_first known options dir save files start (BadSave line) (inr (inl h)) first = absurd (let bad : BadSave line ≡ WantOfMemory = h in cc)
+prepare_first known options dir save files start (BadSave line) (inr (inr (inl h))) first = absurd (let bad = h.0 in cc)
+prepare_first known options dir save files start (BadSave line) (inr (inr (inr (inl h)))) first = absurd h.stops
+prepare_first known options dir save files start (BadSave line) (inr (inr (inr (inr h)))) first = absurd h.stops
+prepare_first known options dir save files start fault h first = absurd first
+
 module _ (known : Type 0) (options : FollowOptions) (dir save : List ℕ) (files : Files) (start : Start)
     (begun : known → IsBegun options.filter (files save) start) where
   has_save : (known → IsWhole (files save)) → known → HasSave options.filter save files
   has_save whole sure = let w = whole_saves options.filter (files save) start (begun sure) (whole sure) in (w.0, w.1, w.3)
 
-  top_stops : (fault : RunFault) → TopStateStops known (files (top_name_of dir)) fault → (known → IsWhole (files save))
+  top_stops : (fault : RunFault) → FindTopStops known (files (top_name_of dir)) fault → (known → IsWhole (files save))
       → StartStops known options dir save files fault
   top_stops WantOfMemory h whole = tt
   top_stops (ReadFault file) h whole = rw h (has_save whole)
-  top_stops (Absent file) h whole = rw h.0 (λ sure. (has_save whole sure, h.1 sure))
+  top_stops (Absent file) h whole = absurd h
   top_stops (TooLarge file) h whole = rw h.0 (λ sure. (has_save whole sure, h.1 sure))
   top_stops (BadState file cause) h whole = rw h.0 (λ sure. (has_save whole sure, h.1 sure))
   top_stops fault h whole = absurd h
@@ -244,7 +270,8 @@ module _ (known : Type 0) (options : FollowOptions) (dir save : List ℕ) (files
   pub prepare_stops : (fault : RunFault) → PrepareStops known options dir files start.head fault → (known → IsWhole (files save))
       → RoundStops known options dir save files fault
   prepare_stops fault (inl h) whole = inl (top_stops fault h whole)
-  prepare_stops fault (inr (inl h)) whole = rw h.0 (inl (λ sure. (let w = whole_saves options.filter (files save) start (begun sure) (whole sure) in
+  prepare_stops fault (inr (inl h)) whole = rw h (inl tt)
+  prepare_stops fault (inr (inr (inl h))) whole = rw h.0 (inl (λ sure. (let w = whole_saves options.filter (files save) start (begun sure) (whole sure) in
       let b = h.1 sure in
       let same : w.0.number ≡ start.head.number = ap (λ (h : Head). h.number) w.2 in
       record {
@@ -253,8 +280,8 @@ module _ (known : Type 0) (options : FollowOptions) (dir save : List ℕ) (files
         started = record { saved = w.1; filter_is = w.3; top_is = b.top_is };
         below = rw same b.below;
       })))
-  prepare_stops fault (inr (inr (inl h))) whole = taking_stops fault h whole
-  prepare_stops fault (inr (inr (inr h))) whole = looking_stops fault h whole
+  prepare_stops fault (inr (inr (inr (inl h)))) whole = taking_stops fault h whole
+  prepare_stops fault (inr (inr (inr (inr h)))) whole = looking_stops fault h whole
 
   too_many : (p : Prepared) → known → IsPrepared known options dir files start.head p → HasTooMany (files save) p.taken.net
       → HasManyObjects options dir save files
@@ -280,6 +307,25 @@ module _ (known : Type 0) (options : FollowOptions) (dir save : List ℕ) (files
         until = rw same is.until;
         many = many.many;
       }
+
+  pub put_first : (p : Prepared) (fault : RunFault) → IsPrepared known options dir files start.head p
+      → PutStops known (files save) p.taken.net fault → IsFirst fault → RoundStops known options dir save files fault
+  put_first p WantOfMemory is h first = inl tt
+  put_first p (ReadFault Save) is h first = inl tt
+  put_first p (TooLarge Save) is h first = inl (λ sure. by_reason sure (h.1 sure))
+    where
+      by_reason : known → IsTooLarge (files save) ⊎ HasTooMany (files save) p.taken.net
+          → IsTooLarge (files save) ⊎ HasManyObjects options dir save files
+      by_reason sure (inl large) = inl large
+      by_reason sure (inr many) = inr (too_many p sure is many)
+  put_first p (BadSave line) is h first = inl h
+  put_first p fault is h first = absurd first
+
+  pub unpublished : (new : Files) → new ≡ files → (known → files (top_name_of dir) ≡ None) → IsUnpublished known options dir save files new
+  unpublished new same none = record {
+    files = same;
+    stops = λ whole. inl (λ sure. (has_save whole sure, none sure));
+  }
 
   pub put_stops : (p : Prepared) (fault : RunFault) → IsPrepared known options dir files start.head p
       → PutStops known (files save) p.taken.net fault → (known → IsWhole (files save)) → RoundStops known options dir save files fault
@@ -335,7 +381,7 @@ module _ (known : Type 0) (options : FollowOptions) (dir : List ℕ) (files : Fi
   prepared_before fault p takes is some above report = prepared_by (Some fault) p takes.taken_are takes.until is some
       (λ count number. (let r = report count number in (r.0, omega (arith, above, number), takes.ends.0, takes.ends.1, takes.ends.2, r.1)))
 
-  pub taking_prepare : (fault : RunFault) → StopsOnTheWay known files dir options.filter last start fault → PrepareStops known options dir files start fault
+  pub taking_prepare : (fault : RunFault) → StopsOnTheWay known files dir options.filter last start fault → UpToStops known options dir files start fault
   taking_prepare fault s = inr (inr (inl (record {
     top = top;
     top_is = top_is;
@@ -348,7 +394,7 @@ module _ (known : Type 0) (options : FollowOptions) (dir : List ℕ) (files : Fi
   })))
 
   pub looking_prepare : (fault : RunFault) → TakesUp known files dir options.filter last start taken Reached
-      → MissingStops known dir files taken.head.number last fault → PrepareStops known options dir files start fault
+      → MissingStops known dir files taken.head.number last fault → UpToStops known options dir files start fault
   looking_prepare fault takes stops = inr (inr (inr (record {
     top = top;
     top_is = top_is;
@@ -360,8 +406,8 @@ module _ (known : Type 0) (options : FollowOptions) (dir : List ℕ) (files : Fi
   })))
 
   pub before_prepare : (fault refused : RunFault) → TakesUp known files dir options.filter last start taken (Faulty fault)
-      → BeforeStops start taken.head fault refused → PrepareStops known options dir files start refused
-  before_prepare fault refused takes (inl memory) = rw memory (inl tt)
+      → BeforeStops start taken.head fault refused → UpToStops known options dir files start refused
+  before_prepare fault refused takes (inl memory) = inl memory
   before_prepare fault refused takes (inr same) =
       let below = takes.ends.0 in
       let at = same.1 in

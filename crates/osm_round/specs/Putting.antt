@@ -9,7 +9,7 @@ use Rattle.osm_save.specs.declared.head.Head.{Head}
 use Rattle.osm_save.specs.declared.save.Saved.{Saved}
 use Rattle.osm_save.specs.declared.version.Version.TheVariants.{Three}
 use Rattle.osm_store.specs.Files.{Files, Puts}
-use Rattle.osm_round.specs.Starting.{Saves}
+use Rattle.osm_folder.specs.Following.{IsSaved}
 use Rattle.osm_round.specs.declared.taken.Taken.{Taken}
 
 -- what a save holds after what was taken
@@ -28,7 +28,7 @@ pub record IsSaveText (told : Option (List ℕ)) : Type 0 where
 pub record PutsTaken (given : FilterValue) (save : List ℕ) (start : Head) (taken : Taken)
     (old new : Files) : Type 0 where
   pub before : Saved
-  pub saved : Saves given (old save) before
+  pub saved : IsSaved given (old save) before
   pub head : head_of before ≡ start
   pub filter : before.filter ≡ given
   pub text : List ℕ
@@ -42,7 +42,8 @@ pub record IsSavableAlone (f : FilterValue) (taken : Taken) : Type 0 where
   pub kept : AreKept f (laid_on taken.net no_mirror).objects
 
 -- the file is the save text of that, and no other file changed
-pub record IsMadeOf (f : FilterValue) (taken : Taken) (save : List ℕ) (old new : Files) : Type 0 where
+pub record IsMadeOf (f : FilterValue) (taken : Taken) (save : List ℕ) (old new : Files)
+    : Type 0 where
   pub text : List ℕ
   pub spelled : SpellsSave text (saved_with taken.head f (laid_on taken.net no_mirror))
   pub put : Puts old save (Some text) new

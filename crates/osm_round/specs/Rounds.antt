@@ -1,8 +1,8 @@
--- What a run of the follower over a folder does, whatever the size of its save. `known` says that it
--- is known what the files hold, and `options` are the filter, the limit and the layout of the run.
+-- What a run of the follower over a folder does, whatever the size of its save. `known` says that
+-- it is known what the files hold, and `options` are the filter, the limit and the layout of the
+-- run.
 use Rattle.std.specs.Prelude.{◌≡◌, ℕ, ◌+◌, ◌<◌, ◌≤◌, ◌⊎◌, ◌↔◌, List, [], length, Option}
 use Rattle.std.specs.Prelude.{Some, None}
-use Rattle.osm_model.specs.Filter.{FilterValue}
 use Rattle.osm_model.specs.Limits.{max_sequence}
 use Rattle.osm_save.specs.Save.{SpellsSave}
 use Rattle.osm_save.specs.declared.head.Head.{Head}
@@ -11,8 +11,10 @@ use Rattle.osm_state.specs.State.{StateValue}
 use Rattle.osm_store.specs.Files.{Files, IsOver, Puts}
 use Rattle.osm_merge.specs.Checking.{IsNoSave}
 use Rattle.osm_folder.specs.Folder.{IsStateFile, IsThere, max_state}
-use Rattle.osm_folder.specs.Following.{AddsAll, GoesOn, IsReached, IsReadable}
-use Rattle.osm_folder.specs.Following.{MissingStops, NumberStops, TopStateStops, end_of, last_number}
+use Rattle.osm_folder.specs.Following.{AddsAll, ComesTo, GoesOn, HasSave, IsFollowing, IsReached}
+use Rattle.osm_folder.specs.Following.{IsReadable, IsStarted, IsTopBehind, MissingStops}
+use Rattle.osm_folder.specs.Following.{NumberStops}
+use Rattle.osm_folder.specs.Following.{FindTopStops, end_of, last_number}
 use Rattle.osm_folder.specs.Following.{lost_numbers, ranges, standing_of}
 use Rattle.osm_folder.specs.Lagging.{standing_from}
 use Rattle.osm_folder.specs.Names.{top_name_of}
@@ -23,45 +25,23 @@ use Rattle.osm_folder.specs.declared.fault.FileName.TheVariants.{Save, Top}
 use Rattle.osm_folder.specs.declared.fault.RunFault.{RunFault}
 use Rattle.osm_folder.specs.declared.fault.RunFault.TheVariants.{Absent, BadSave, BadState, Changed}
 use Rattle.osm_folder.specs.declared.fault.RunFault.TheVariants.{OtherFilter, ReadFault, TooLarge}
-use Rattle.osm_folder.specs.declared.fault.RunFault.TheVariants.{TopBehind, WantOfMemory, WriteFault}
+use Rattle.osm_folder.specs.declared.fault.RunFault.TheVariants.{TopBehind, WantOfMemory}
+use Rattle.osm_folder.specs.declared.fault.RunFault.TheVariants.{WriteFault}
 use Rattle.osm_folder.specs.declared.options.FollowOptions.{FollowOptions}
 use Rattle.osm_folder.specs.declared.options.Layout.{Layout}
 use Rattle.osm_folder.specs.declared.progress.Progress.{Progress}
 use Rattle.osm_folder.specs.declared.progress.Progress.TheVariants.{Before, Whole}
 use Rattle.osm_round.specs.Putting.{IsSaveText}
-use Rattle.osm_round.specs.Starting.{IsOtherSave, IsTooLarge, Saves}
+use Rattle.osm_round.specs.Starting.{IsOtherSave, IsTooLarge}
 use Rattle.osm_round.specs.Taking.{HasTaken}
 use Rattle.osm_round.specs.declared.taken.Taken.{Taken}
 use Rattle.osm_round.specs.declared.round.Prepared.{Prepared}
 
 -- ---- what it saves and prints
 
--- the save, which is one under the given filter, and the top state were read
-pub record IsStarted (given : FilterValue) (dir save : List ℕ) (files : Files) (start : Saved)
-    (top : StateValue) : Type 0 where
-  pub saved : Saves given (files save) start
-  pub filter_is : start.filter ≡ given
-  pub top_is : IsThere (files (top_name_of dir)) (IsStateFile top.sequence top.time)
-
--- what a run saves and prints that comes to the last number, or to one before a lost one
-pub record IsFollowing (options : FollowOptions) (dir save : List ℕ) (files : Files) (text : List ℕ)
-    (report : ReportValue) : Type 0 where
-  pub start : Saved
-  pub top : StateValue
-  pub started : IsStarted options.filter dir save files start top
-  pub count : ℕ
-  pub reached : Saved
-  pub goes_on : GoesOn files dir start (end_of options start top) count reached
-  pub spelled : SpellsSave text reached
-  pub report_is : report ≡ report_of options.layout None (record {
-    standing = standing_of reached top;
-    applied = ranges start.number count;
-    missing = lost_numbers files dir reached.number (end_of options start top);
-  })
-
 -- what one saves and prints that comes to the number before a faulty one, and takes some
-pub record ComesBefore (known : Type 0) (options : FollowOptions) (dir save : List ℕ) (files : Files)
-    (fault : RunFault) (text : List ℕ) (report : ReportValue) : Type 0 where
+pub record ComesBefore (known : Type 0) (options : FollowOptions) (dir save : List ℕ)
+    (files : Files) (fault : RunFault) (text : List ℕ) (report : ReportValue) : Type 0 where
   pub start : Saved
   pub top : StateValue
   pub started : IsStarted options.filter dir save files start top
@@ -103,10 +83,6 @@ IsProgress known options dir save old new (Before report fault) =
 
 -- ---- why it is refused
 
--- a save under the given filter can be read
-abbrev pub HasSave : FilterValue → List ℕ → Files → Type 0
-HasSave given save files = (v : Saved) × Saves given (files save) v × (v.filter ≡ given)
-
 -- after what was taken up to some number there are more objects than a save can have
 pub record HasManyObjects (options : FollowOptions) (dir save : List ℕ) (files : Files) : Type 0
   where
@@ -119,14 +95,8 @@ pub record HasManyObjects (options : FollowOptions) (dir save : List ℕ) (files
     pub until : reached.number ≤ end_of options start top
     pub many : 999999999999999999 < length reached.mirror.objects
 
--- the top state is below the save
-pub record IsTopBehind (given : FilterValue) (dir save : List ℕ) (files : Files) : Type 0 where
-  pub start : Saved
-  pub top : StateValue
-  pub started : IsStarted given dir save files start top
-  pub below : top.sequence < start.number
-
--- for the save, or for the top state: the fault of a save that can't be read comes before all others
+-- for the save, or for the top state: the fault of a save that can't be read comes before all
+-- others
 abbrev pub StartStops : Type 0 → FollowOptions → List ℕ → List ℕ → Files → RunFault → Type 0
 StartStops known options dir save files WantOfMemory = Unit {0}
 StartStops known options dir save files (ReadFault Save) = Unit {0}
@@ -137,7 +107,8 @@ StartStops known options dir save files (Absent Save) = known → ⊥
 StartStops known options dir save files (TooLarge Save) =
     known → IsTooLarge (files save) ⊎ HasManyObjects options dir save files
 StartStops known options dir save files (BadSave line) = known → IsNoSave (files save)
-StartStops known options dir save files OtherFilter = known → IsOtherSave options.filter (files save)
+StartStops known options dir save files OtherFilter =
+    known → IsOtherSave options.filter (files save)
 StartStops known options dir save files (ReadFault Top) = known → HasSave options.filter save files
 StartStops known options dir save files (Absent Top) =
     known → HasSave options.filter save files × (files (top_name_of dir) ≡ None)
@@ -145,21 +116,12 @@ StartStops known options dir save files (TooLarge Top) =
     known → HasSave options.filter save files × IsOver max_state (files (top_name_of dir))
 StartStops known options dir save files (BadState Top cause) =
     known → HasSave options.filter save files × IsBadState (files (top_name_of dir)) cause
-StartStops known options dir save files TopBehind = known → IsTopBehind options.filter dir save files
+StartStops known options dir save files TopBehind =
+    known → IsTopBehind options.filter dir save files
 StartStops known options dir save files fault = ⊥
 
--- a number is read: it is after the save's and at most the last one, and those between are right,
--- so none of them is lost
-pub record ComesTo (options : FollowOptions) (dir save : List ℕ) (files : Files) (number : ℕ) :
-    Type 0 where
-  pub start : Saved
-  pub top : StateValue
-  pub started : IsStarted options.filter dir save files start top
-  pub above : start.number < number
-  pub until : number ≤ end_of options start top
-  pub each : (k : ℕ) → start.number < k → k < number → IsReadable files dir k
-
--- a number that is read isn't taken; if for what its files hold, it is the next one after the save's
+-- a number that is read isn't taken; if for what its files hold, it is the next one after the
+-- save's
 pub record StopsAt (known : Type 0) (options : FollowOptions) (dir save : List ℕ) (files : Files)
     (fault : RunFault) : Type 0 where
   pub number : ℕ
@@ -180,8 +142,8 @@ pub record ComesBeyond (options : FollowOptions) (dir save : List ℕ) (files : 
   pub last_is : last ≡ end_of options start top
 
 -- a number beyond the first lost one isn't looked for
-pub record StopsBeyond (known : Type 0) (options : FollowOptions) (dir save : List ℕ) (files : Files)
-    (fault : RunFault) : Type 0 where
+pub record StopsBeyond (known : Type 0) (options : FollowOptions) (dir save : List ℕ)
+    (files : Files) (fault : RunFault) : Type 0 where
   pub last : ℕ
   pub reached : ℕ
   pub comes : known → ComesBeyond options dir save files reached last
@@ -197,6 +159,20 @@ RoundStops known options dir save files fault =
 -- there is no save, or it is a save text
 abbrev pub IsWhole : Option (List ℕ) → Type 0
 IsWhole told = (told ≡ None) ⊎ IsSaveText told
+
+-- no fault comes before one of memory, or of the save itself
+abbrev pub IsFirst : RunFault → Type 0
+IsFirst WantOfMemory = Unit {0}
+IsFirst (ReadFault Save) = Unit {0}
+IsFirst (TooLarge Save) = Unit {0}
+IsFirst (BadSave line) = Unit {0}
+IsFirst fault = ⊥
+
+-- nothing was published, which refuses a run if its save is whole; no file has changed
+pub record IsUnpublished (known : Type 0) (options : FollowOptions) (dir save : List ℕ)
+    (old new : Files) : Type 0 where
+  pub files : new ≡ old
+  pub stops : (known → IsWhole (old save)) → RoundStops known options dir save old (Absent Top)
 
 -- ---- before its save is put
 
@@ -230,7 +206,8 @@ pub record IsPrepared (known : Type 0) (options : FollowOptions) (dir : List ℕ
   pub taken : HasTaken known files dir options.filter start p.taken
   pub until : p.taken.head.number ≤ last_number options.limit start.number top.sequence
   pub report : IsReport known options.layout files dir start top
-      (last_number options.limit start.number top.sequence) taken.count p.taken.head p.fault p.report
+      (last_number options.limit start.number top.sequence) taken.count p.taken.head p.fault
+      p.report
 
 -- the top state is below the head
 pub record IsBelow (dir : List ℕ) (files : Files) (start : Head) : Type 0 where
@@ -263,14 +240,21 @@ pub record StopsLooking (known : Type 0) (options : FollowOptions) (dir : List �
   pub stops : MissingStops known dir files taken.head.number
       (last_number options.limit start.number top.sequence) fault
 
--- why nothing is saved after a head
-abbrev pub PrepareStops :
+-- why nothing is saved after a head, with a newest state
+abbrev pub UpToStops :
     Type 0 → FollowOptions → List ℕ → Files → Head → RunFault → Type 0
-PrepareStops known options dir files start fault =
-    TopStateStops known (files (top_name_of dir)) fault
+UpToStops known options dir files start fault =
+    (fault ≡ WantOfMemory)
     ⊎ ((fault ≡ TopBehind) × (known → IsBelow dir files start))
     ⊎ StopsTaking known options dir files start fault
     ⊎ StopsLooking known options dir files start fault
+
+-- the same, or for the newest state
+abbrev pub PrepareStops :
+    Type 0 → FollowOptions → List ℕ → Files → Head → RunFault → Type 0
+PrepareStops known options dir files start fault =
+    FindTopStops known (files (top_name_of dir)) fault
+    ⊎ UpToStops known options dir files start fault
 
 -- why no report is made of what comes before a faulty number: for memory, or nothing does
 abbrev pub BeforeStops : Head → Head → RunFault → RunFault → Type 0

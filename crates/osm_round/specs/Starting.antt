@@ -7,23 +7,17 @@ use Rattle.osm_save.specs.Save.{SpellsSave}
 use Rattle.osm_save.specs.declared.save.Saved.{Saved}
 use Rattle.osm_net.specs.Net.{NetValue}
 use Rattle.osm_merge.specs.Checking.{IsHugeFile, IsNoSave}
-use Rattle.osm_merge.specs.Faults.{AreLinesShort}
 use Rattle.osm_merge.specs.Merging.{HasTooMany}
 use Rattle.osm_merge.specs.declared.fault.MergeFault.{MergeFault}
 use Rattle.osm_merge.specs.declared.fault.MergeFault.TheVariants as merges
-use Rattle.osm_folder.specs.Following.{no_save}
 use Rattle.osm_folder.specs.Lagging.{no_head}
 use Rattle.osm_folder.specs.declared.fault.FileName.TheVariants.{Save}
 use Rattle.osm_folder.specs.declared.fault.RunFault.{RunFault}
-use Rattle.osm_folder.specs.declared.fault.RunFault.TheVariants.{Absent, BadSave, Changed, OtherFilter}
+use Rattle.osm_folder.specs.declared.fault.RunFault.TheVariants.{Absent, BadSave, Changed}
+use Rattle.osm_folder.specs.declared.fault.RunFault.TheVariants.{OtherFilter}
 use Rattle.osm_folder.specs.declared.fault.RunFault.TheVariants.{ReadFault, TooLarge, WantOfMemory}
 use Rattle.osm_folder.specs.declared.fault.RunFault.TheVariants.{WriteFault}
 use Rattle.osm_round.specs.declared.start.Start.{Start}
-
--- what a save saves, under whatever filter; no save is the start under the given one
-abbrev pub Saves : FilterValue → Option (List ℕ) → Saved → Type 0
-Saves given None v = v ≡ no_save given
-Saves given (Some bytes) v = SpellsSave bytes v
 
 -- the head of a save was read; if the save is a save text, that is the head of what it saves, under
 -- the given filter
@@ -51,9 +45,9 @@ pub record BeginsOther (given : FilterValue) (told : Option (List ℕ)) : Type 0
   pub there : told ≡ Some bytes
   pub other : (v : Saved) → SpellsSave bytes v → v.filter ≢ given
 
--- the save has more bytes than 64 bits count, or a line of more than 256 MiB, which no object has
+-- the save has more bytes than 64 bits count, or a line of more than 256 MiB, as no save text has
 abbrev pub IsTooLarge : Option (List ℕ) → Type 0
-IsTooLarge told = IsHugeFile told ⊎ (AreLinesShort → IsNoSave told)
+IsTooLarge told = IsHugeFile told ⊎ IsNoSave told
 
 -- the fault of a save text as one of a run that reads it
 abbrev pub read_fault_of : MergeFault → RunFault

@@ -12,7 +12,8 @@ use Rattle.osm_save.specs.Head.{IsTimeOf}
 use Rattle.osm_save.specs.declared.head.Head.{Head}
 use Rattle.osm_follow.specs.Published.{PublishedValue}
 use Rattle.osm_store.specs.Files.{Files}
-use Rattle.osm_folder.specs.Following.{HasFiles, IsNumber, IsReached, IsReadable, NumberStops, is_lost}
+use Rattle.osm_folder.specs.Following.{HasFiles, IsNumber, IsReached, IsReadable, NumberStops}
+use Rattle.osm_folder.specs.Following.{is_lost}
 use Rattle.osm_folder.specs.Progress.{IsOfContent}
 use Rattle.osm_folder.specs.declared.fault.RunFault.{RunFault}
 use Rattle.osm_round.specs.declared.taken.End.{End}
@@ -25,7 +26,8 @@ head_after head number time = record { number = number; base = head.base; time =
 
 -- the next number's files are there, and the new net changes are the old ones with its changes
 -- after them
-pub record Advances (files : Files) (dir : List ℕ) (f : FilterValue) (old new : Taken) : Type 0 where
+pub record Advances (files : Files) (dir : List ℕ) (f : FilterValue) (old new : Taken)
+    : Type 0 where
   pub next : PublishedValue
   pub number_is : next.number ≡ old.head.number + 1
   pub there : HasFiles files dir next
@@ -78,7 +80,8 @@ TakesNumber known files dir number f old new false =
 abbrev pub EndsAt : Type 0 → Files → List ℕ → ℕ → ℕ → End → Type 0
 EndsAt known files dir last number Reached = known → IsReached files dir number last
 EndsAt known files dir last number (Faulty fault) =
-    (number < last) × IsOfContent fault (number + 1) × NumberStops known dir files (number + 1) fault
+    (number < last) × IsOfContent fault (number + 1)
+    × NumberStops known dir files (number + 1) fault
 
 -- the numbers after that head were taken, up to the last one or to an earlier end
 pub record TakesUp (known : Type 0) (files : Files) (dir : List ℕ) (f : FilterValue) (last : ℕ)
@@ -89,8 +92,8 @@ pub record TakesUp (known : Type 0) (files : Files) (dir : List ℕ) (f : Filter
 
 -- a number after that head isn't taken, for no fault of what its files hold: it is at most the last
 -- one, and those between are right
-pub record StopsOnTheWay (known : Type 0) (files : Files) (dir : List ℕ) (f : FilterValue) (last : ℕ)
-    (start : Head) (fault : RunFault) : Type 0 where
+pub record StopsOnTheWay (known : Type 0) (files : Files) (dir : List ℕ) (f : FilterValue)
+    (last : ℕ) (start : Head) (fault : RunFault) : Type 0 where
   pub number : ℕ
   pub above : start.number < number
   pub until : number ≤ last

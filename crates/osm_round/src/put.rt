@@ -6,8 +6,10 @@ ghost use Rattle.osm_model.specs.Content.{object_after};
 ghost use Rattle.osm_model.specs.Limits.{max_sequence};
 ghost use Rattle.osm_mirror.specs.Mirror.{AreRising, no_mirror};
 ghost use Rattle.osm_net.specs.Laid.{laid_on, laid_over, put_before};
-ghost use Rattle.osm_store.specs.Frames.{IsKnown};
+ghost use Rattle.osm_store.specs.Files.{Spends};
+ghost use Rattle.osm_store.specs.Frames.{IsKnown, MakesAtMost};
 ghost use Rattle.osm_blocks.specs.Frames.{ReadsOften};
+ghost use Rattle.osm_merge.specs.Calls.{bytes_in, check_calls, merge_calls};
 ghost use Rattle.osm_merge.specs.Frames.{ReplacesOften};
 ghost use Rattle.osm_merge.specs.Laying.{IsFew};
 ghost use Rattle.osm_merge.specs.Merging.{IsMerged};
@@ -46,11 +48,16 @@ pub(crate) fn put<S: Store>(
     requires base { start.head.base ≤ start.head.number }
     requires begun { IsKnown (S.state store.old)
         → IsBegun filter.now ((S.state store.old).files save.now) start }
-    ensures put { OnOk result (IsKnown (S.state store.old) → PutsTaken filter.now save.now start.head
-        taken (S.state store.old).files (S.state store.new).files) }
+    ensures put { OnOk result (IsKnown (S.state store.old)
+        → PutsTaken filter.now save.now start.head taken (S.state store.old).files
+        (S.state store.new).files) }
     ensures stops { IfErr result (PutStops (IsKnown (S.state store.old))
         ((S.state store.old).files save.now) taken.net) }
     ensures frame { ReplacesOften IsDeviceFault (S.state store.old) (S.state store.new) result }
+    ensures spends { OnOk result (Spends 1 (S.state store.old).left (S.state store.new).left) }
+    ensures calls { IsKnown (S.state store.old) → MakesAtMost IsDeviceFault
+        (merge_calls (bytes_in ((S.state store.old).files save.now)))
+        (S.state store.old) (S.state store.new) result }
 {
     taken.net.limits();
     filter.limits();
@@ -70,6 +77,10 @@ fn check<S: Store>(alloc: Global, store: &mut S, save: &str) -> Result<(), RunFa
     ensures stops { IfErr result (ReadStops (IsKnown (S.state store.old))
         ((S.state store.old).files save.now)) }
     ensures frame { ReadsOften IsDeviceFault (S.state store.old) (S.state store.new) result }
+    ensures spends { OnOk result (Spends 1 (S.state store.old).left (S.state store.new).left) }
+    ensures calls { IsKnown (S.state store.old) → MakesAtMost IsDeviceFault
+        (check_calls (bytes_in ((S.state store.old).files save.now)))
+        (S.state store.old) (S.state store.new) result }
 {
     match check_save(alloc, store, save) {
         Ok(_checked) => Ok(()),
@@ -81,11 +92,16 @@ fn check<S: Store>(alloc: Global, store: &mut S, save: &str) -> Result<(), RunFa
 fn merge<S: Store>(alloc: Global, store: &mut S, save: &str, taken: Taken) -> Result<(), RunFault>
     requires users { AllByRecursion IsFew taken.net.users }
     requires changesets { AllByRecursion IsFew taken.net.changesets }
-    ensures merged { OnOk result (IsKnown (S.state store.old) → IsMerged taken.head taken.net save.now
-        (S.state store.old).files (S.state store.new).files) }
+    ensures merged { OnOk result (IsKnown (S.state store.old)
+        → IsMerged taken.head taken.net save.now (S.state store.old).files
+        (S.state store.new).files) }
     ensures stops { IfErr result (MergeStops (IsKnown (S.state store.old))
         ((S.state store.old).files save.now) taken.net) }
     ensures frame { ReplacesOften IsDeviceFault (S.state store.old) (S.state store.new) result }
+    ensures spends { OnOk result (Spends 1 (S.state store.old).left (S.state store.new).left) }
+    ensures calls { IsKnown (S.state store.old) → MakesAtMost IsDeviceFault
+        (merge_calls (bytes_in ((S.state store.old).files save.now)))
+        (S.state store.old) (S.state store.new) result }
 {
     let head = taken.head;
     let (objects, users, changesets) = taken.net.into_parts();
@@ -122,6 +138,8 @@ fn make<S: Store>(
     ensures stops { IfErr result (PutStops (IsKnown (S.state store.old))
         ((S.state store.old).files save.now) taken.net) }
     ensures frame { ReplacesOften IsDeviceFault (S.state store.old) (S.state store.new) result }
+    ensures spends { OnOk result (Spends 1 (S.state store.old).left (S.state store.new).left) }
+    ensures calls { MakesAtMost IsDeviceFault 1 (S.state store.old) (S.state store.new) result }
 {
     let head = taken.head;
     let mirror = mirror_of(alloc, taken.net)?;

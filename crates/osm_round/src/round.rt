@@ -1,34 +1,47 @@
 //! A run of the follower over a folder, from its save. In memory are what is new, the files of one
 //! number, and a block of the save.
 
-ghost use Rattle.std.specs.Prelude.{◌≡◌, ℕ, ◌+◌, ◌-◌, ◌*◌, ◌<◌, ◌≤◌, List, [], None, Some, IfErr, IfOk, OnOk};
+ghost use Rattle.std.specs.Prelude.{◌≡◌, ℕ, ◌+◌, ◌-◌, ◌*◌, ◌<◌, ◌≤◌, ◌↔◌, List, [], length};
+ghost use Rattle.std.specs.Prelude.{None};
+ghost use Rattle.std.specs.Prelude.{Some, IfErr, IfOk, IfSome, IsTrue, OnOk};
 ghost use Rattle.osm_model.specs.Limits.{max_sequence};
-ghost use Rattle.osm_store.specs.Frames.{IsKnown};
+ghost use Rattle.osm_store.specs.Files.{HasFewer, Spends, SpendsAtMost};
+ghost use Rattle.osm_store.specs.Frames.{IsKnown, MakesAtMost};
 ghost use Rattle.osm_blocks.specs.Frames.{ReadsOften};
+ghost use Rattle.osm_merge.specs.Calls.{bytes_in, check_calls};
 ghost use Rattle.osm_merge.specs.Frames.{ReplacesOften};
-ghost use Rattle.osm_folder.specs.Following.{IsReached, MissingStops, ranges};
+ghost use Rattle.osm_follow.specs.Published.{PublishedValue};
+ghost use Rattle.osm_folder.specs.Folder.{IsFolderOf, IsStateFile, IsThere};
+ghost use Rattle.osm_folder.specs.Following.{IsReached, IsSaveOf, MissingStops, ranges};
 ghost use Rattle.osm_folder.specs.Lagging.{standing_from};
+ghost use Rattle.osm_folder.specs.Names.{top_name_of};
+ghost use Rattle.osm_folder.specs.Progress as progress;
 ghost use Rattle.osm_folder.specs.Progress.{IsProgressReport};
 ghost use Rattle.osm_folder.specs.Runs.{IsDeviceFault, ReadsUpTo};
 ghost use Rattle.osm_folder.specs.Reports.{report_of};
-ghost use Rattle.osm_round.specs.Rounds.{BeforeStops, IsPrepared, IsProgress, IsReport, IsWhole, PrepareStops};
+ghost use Rattle.osm_folder.specs.declared.fault.FileName.TheVariants.{Top};
+ghost use Rattle.osm_folder.specs.declared.fault.RunFault.TheVariants.{Absent};
+ghost use Rattle.osm_round.specs.Over.{FollowsOver, follow_calls};
+ghost use Rattle.osm_round.specs.Rounds.{BeforeStops, IsFirst, IsPrepared, IsProgress, IsReport};
+ghost use Rattle.osm_round.specs.Rounds.{IsUnpublished, IsWhole, PrepareStops, UpToStops};
 ghost use Rattle.osm_round.specs.Rounds.{RoundStops, outcome_of, progress_of};
 ghost use Rattle.osm_round.specs.Starting.{WholeStops};
 
 use crate::put::put;
 use crate::start::{read_fault, read_start};
 use crate::taken::{End, Taken, take_numbers};
-use osm_folder::fault::RunFault;
-use osm_folder::follow::{last_number, missing};
-use osm_folder::options::{FollowOptions, Layout};
+use osm_folder::fault::{FileName, RunFault};
+use osm_folder::missing::missing;
+use osm_folder::options::{FollowOptions, Layout, last_number};
 use osm_folder::progress::Progress;
 use osm_folder::report::{Report, fault_text, follow_in};
-use osm_folder::start::read_top;
+use osm_folder::top::find_top;
 use osm_json::line::Standing;
 use osm_merge::check::check_save;
 use osm_merge::fault::MergeFault;
 use osm_model::memory::WantOfMemory;
 use osm_save::head::Head;
+use osm_state::laws::laws_of_state;
 use osm_state::state::State;
 use osm_store::store::Store;
 use std::alloc::Global;
@@ -43,8 +56,12 @@ struct Prepared {
 
 /// Follows a folder from a save, or from the start if there is none, up to the folder's newest
 /// state, the limit, the first lost number or the number before a faulty one, and writes the save.
-/// It prints and refuses as `follow_progress` does, but a save of any size is taken, and what is in
-/// memory doesn't grow with it.
+/// Of the objects it keeps those that the filter keeps; the edits of all others are counted too. A
+/// save of another filter is refused as `OtherFilter`. A number is lost if its state isn't there,
+/// or its changes in neither form. The lost numbers are named, up to 64 after the one that was
+/// reached: of those beyond the first it is asked only which files are there, so a faulty file
+/// there is no fault of the run. A save of any size is taken, and what is in memory doesn't grow
+/// with it. A refusal leaves all files as they were.
 pub fn follow_round<S: Store>(
     alloc: Global,
     store: &mut S,
@@ -57,19 +74,20 @@ pub fn follow_round<S: Store>(
     ensures report { IfOk result (IsProgressReport options.now.layout) }
     ensures stops { IfErr result (RoundStops (IsKnown (S.state store.old)) options.now
         dir.now save.now (S.state store.old).files) }
+    ensures over { IsKnown (S.state store.old) → (published : List PublishedValue) (base number : ℕ)
+        → IsFolderOf published (S.state store.old).files dir.now
+        → IsSaveOf published options.now.filter base number ((S.state store.old).files save.now)
+        → progress.IsWhole result (FollowsOver published options.now base number dir.now save.now
+        (S.state store.old) (S.state store.new)) }
+    ensures spends { OnOk result (Spends 3 (S.state store.old).left (S.state store.new).left) }
     ensures frame { ReplacesOften IsDeviceFault (S.state store.old) (S.state store.new) result }
 {
-    match follow(alloc, store, dir, save, options) {
-        Ok(progress) => Ok(progress),
-        Err(fault) => match check_whole(alloc, store, save) {
-            Ok(()) => Err(fault),
-            Err(found) => Err(found),
-        },
-    }
+    laws_of_state();
+    follow_whole(alloc, store, dir, save, options)
 }
 
-// Follows, and finds a fault after the head of the save only when that is merged.
-fn follow<S: Store>(
+// The same over any files: a fault of a save that is no save text comes before all others.
+fn follow_whole<S: Store>(
     alloc: Global,
     store: &mut S,
     dir: &str,
@@ -79,12 +97,85 @@ fn follow<S: Store>(
     ensures done { IfOk result (IsProgress (IsKnown (S.state store.old)) options.now
         dir.now save.now (S.state store.old).files (S.state store.new).files) }
     ensures report { IfOk result (IsProgressReport options.now.layout) }
+    ensures stops { IfErr result (RoundStops (IsKnown (S.state store.old)) options.now
+        dir.now save.now (S.state store.old).files) }
+    ensures spends { OnOk result (Spends 3 (S.state store.old).left (S.state store.new).left) }
+    ensures calls { IsKnown (S.state store.old)
+        → (published : List PublishedValue) (base number : ℕ)
+        → IsFolderOf published (S.state store.old).files dir.now
+        → IsSaveOf published options.now.filter base number ((S.state store.old).files save.now)
+        → MakesAtMost IsDeviceFault
+        (follow_calls published number ((S.state store.old).files save.now))
+        (S.state store.old) (S.state store.new) result }
+    ensures frame { ReplacesOften IsDeviceFault (S.state store.old) (S.state store.new) result }
+{
+    laws_of_state();
+    match follow(alloc, store, dir, save, options) {
+        Ok(Some(progress)) => Ok(progress),
+        Ok(None) => match check_whole(alloc, store, save) {
+            Ok(()) => Err(RunFault::Absent(FileName::Top)),
+            Err(found) => Err(found),
+        },
+        Err(fault) => {
+            if is_first(&fault) {
+                return Err(fault);
+            }
+            match check_whole(alloc, store, save) {
+                Ok(()) => Err(fault),
+                Err(found) => Err(found),
+            }
+        }
+    }
+}
+
+// Whether a fault is one of memory or of the save itself, before which none comes.
+fn is_first(fault: &RunFault) -> bool
+    ensures { IsTrue result ↔ IsFirst fault.now }
+{
+    match fault {
+        RunFault::WantOfMemory | RunFault::BadSave(_) => true,
+        RunFault::ReadFault(FileName::Save) | RunFault::TooLarge(FileName::Save) => true,
+        _ => false,
+    }
+}
+
+// Follows, and finds a fault after the head of the save only when that is merged. None if nothing
+// was published.
+fn follow<S: Store>(
+    alloc: Global,
+    store: &mut S,
+    dir: &str,
+    save: &str,
+    options: &FollowOptions,
+) -> Result<Option<Progress>, RunFault>
+    ensures done { IfOk result (λ o. IfSome o (IsProgress (IsKnown (S.state store.old)) options.now
+        dir.now save.now (S.state store.old).files (S.state store.new).files)) }
+    ensures report { IfOk result (λ o. IfSome o (IsProgressReport options.now.layout)) }
+    ensures none { IfOk result (λ o. o ≡ None
+        → IsUnpublished (IsKnown (S.state store.old)) options.now dir.now save.now
+        (S.state store.old).files (S.state store.new).files) }
     ensures stops { IfErr result (λ fault.
         (IsKnown (S.state store.old) → IsWhole ((S.state store.old).files save.now))
         → RoundStops (IsKnown (S.state store.old)) options.now
         dir.now save.now (S.state store.old).files fault) }
+    ensures first { IfErr result (λ fault. IsFirst fault
+        → RoundStops (IsKnown (S.state store.old)) options.now
+        dir.now save.now (S.state store.old).files fault) }
+    ensures top { IfErr result (λ fault. fault ≡ Absent Top → ⊥) }
     ensures frame { ReplacesOften IsDeviceFault (S.state store.old) (S.state store.new) result }
+    ensures spends { IfOk result (λ o. IfSome o (λ progress.
+        Spends 3 (S.state store.old).left (S.state store.new).left)) }
+    ensures few { IfOk result (λ o. o ≡ None
+        → SpendsAtMost 2 (S.state store.old).left (S.state store.new).left) }
+    ensures calls { IsKnown (S.state store.old)
+        → (published : List PublishedValue) (base number : ℕ)
+        → IsFolderOf published (S.state store.old).files dir.now
+        → IsSaveOf published options.now.filter base number ((S.state store.old).files save.now)
+        → MakesAtMost IsDeviceFault
+        (follow_calls published number ((S.state store.old).files save.now))
+        (S.state store.old) (S.state store.new) result }
 {
+    laws_of_state();
     let start = match read_start(alloc, store, save, &options.filter) {
         Ok(start) => start,
         Err(fault) => return Err(fault),
@@ -94,11 +185,12 @@ fn follow<S: Store>(
         report,
         fault,
     } = match prepare(alloc, store, dir, start.head, options) {
-        Ok(prepared) => prepared,
+        Ok(Some(prepared)) => prepared,
+        Ok(None) => return Ok(None),
         Err(fault) => return Err(fault),
     };
     match put(alloc, store, save, &options.filter, start, taken) {
-        Ok(()) => Ok(progress_of(report, fault)),
+        Ok(()) => Ok(Some(progress_of(report, fault))),
         Err(fault) => Err(fault),
     }
 }
@@ -119,6 +211,9 @@ fn check_whole<S: Store>(alloc: Global, store: &mut S, save: &str) -> Result<(),
     ensures stops { IfErr result (WholeStops (IsKnown (S.state store.old))
         ((S.state store.old).files save.now)) }
     ensures frame { ReadsOften IsDeviceFault (S.state store.old) (S.state store.new) result }
+    ensures calls { IsKnown (S.state store.old) → IfErr result (λ fault. IsDeviceFault fault
+        → HasFewer (check_calls (bytes_in ((S.state store.old).files save.now)))
+        (S.state store.old).left) }
 {
     match check_save(alloc, store, save) {
         Ok(_) | Err(MergeFault::NoSave) => Ok(()),
@@ -126,30 +221,69 @@ fn check_whole<S: Store>(alloc: Global, store: &mut S, save: &str) -> Result<(),
     }
 }
 
-// Takes what there is to take, and makes the report.
+// Takes what there is to take, and makes the report. None if nothing was published.
 fn prepare<S: Store>(
     alloc: Global,
     store: &mut S,
     dir: &str,
     start: Head,
     options: &FollowOptions,
-) -> Result<Prepared, RunFault>
+) -> Result<Option<Prepared>, RunFault>
     requires number { start.number ≤ max_sequence }
-    ensures prepared { IfOk result (IsPrepared (IsKnown (S.state store.old)) options.now dir.now
-        (S.state store.old).files start) }
+    ensures prepared { IfOk result (λ o. IfSome o (IsPrepared (IsKnown (S.state store.old))
+        options.now dir.now (S.state store.old).files start)) }
+    ensures none { IfOk result (λ o. o ≡ None → IsKnown (S.state store.old)
+        → (S.state store.old).files (top_name_of dir.now) ≡ None) }
+    ensures spends { OnOk result (Spends 1 (S.state store.old).left (S.state store.new).left) }
+    ensures few { IfOk result (λ o. o ≡ None
+        → SpendsAtMost 1 (S.state store.old).left (S.state store.new).left) }
+    ensures calls { IsKnown (S.state store.old) → (published : List PublishedValue)
+        → IsFolderOf published (S.state store.old).files dir.now
+        → MakesAtMost IsDeviceFault (1 + 3 * (length published - start.number))
+        (S.state store.old) (S.state store.new) result }
     ensures stops { IfErr result (PrepareStops (IsKnown (S.state store.old)) options.now dir.now
         (S.state store.old).files start) }
     ensures frame { ReadsOften IsDeviceFault (S.state store.old) (S.state store.new) result }
 {
-    let top = read_top(alloc, store, dir)?;
+    let Some(top) = find_top(alloc, store, dir)? else {
+        return Ok(None);
+    };
+    let prepared = prepare_up_to(alloc, store, dir, start, options, &top)?;
+    Ok(Some(prepared))
+}
+
+// The same, up to the newest state or the limit.
+fn prepare_up_to<S: Store>(
+    alloc: Global,
+    store: &mut S,
+    dir: &str,
+    start: Head,
+    options: &FollowOptions,
+    top: &State,
+) -> Result<Prepared, RunFault>
+    requires number { start.number ≤ max_sequence }
+    requires top { IsKnown (S.state store.old)
+        → IsThere ((S.state store.old).files (top_name_of dir.now))
+        (IsStateFile top.now.sequence top.now.time) }
+    ensures prepared { IfOk result (IsPrepared (IsKnown (S.state store.old)) options.now dir.now
+        (S.state store.old).files start) }
+    ensures stops { IfErr result (UpToStops (IsKnown (S.state store.old)) options.now dir.now
+        (S.state store.old).files start) }
+    ensures frame { ReadsOften IsDeviceFault (S.state store.old) (S.state store.new) result }
+    ensures calls { IsKnown (S.state store.old) → (published : List PublishedValue)
+        → IsFolderOf published (S.state store.old).files dir.now
+        → MakesAtMost IsDeviceFault (3 * (length published - start.number))
+        (S.state store.old) (S.state store.new) result }
+{
+    laws_of_state();
     if top.sequence() < start.number {
         return Err(RunFault::TopBehind);
     }
     let last = last_number(options.limit, start.number, top.sequence());
     let mut taken = Taken::after(alloc, start);
     match take_numbers(alloc, store, dir, last, &options.filter, &mut taken)? {
-        End::Reached => reached(alloc, store, dir, last, start, options.layout, &top, taken),
-        End::Faulty(fault) => before(alloc, start, options.layout, &top, taken, fault),
+        End::Reached => reached(alloc, store, dir, last, start, options.layout, top, taken),
+        End::Faulty(fault) => before(alloc, start, options.layout, top, taken, fault),
     }
 }
 
@@ -173,8 +307,8 @@ fn reached<S: Store>(
     ensures taken { IfOk result (λ p. p.taken ≡ taken) }
     ensures whole { IfOk result (λ p. p.fault ≡ None) }
     ensures report { IfOk result (λ p. (count : ℕ) → taken.head.number ≡ start.number + count
-        → IsReport (IsKnown (S.state store.old)) layout (S.state store.old).files dir.now start top.now
-        last count taken.head None p.report) }
+        → IsReport (IsKnown (S.state store.old)) layout (S.state store.old).files dir.now start
+        top.now last count taken.head None p.report) }
     ensures stops { IfErr result (MissingStops (IsKnown (S.state store.old)) dir.now
         (S.state store.old).files taken.head.number last) }
     ensures frame { ReadsUpTo (3 * (last - (taken.head.number + 1)))

@@ -1,8 +1,9 @@
 //! What a run starts from: the head of its save.
 
-ghost use Rattle.std.specs.Prelude.{◌≡◌, ◌≢◌, ◌≤◌, ◌↔◌, true, IfErr, IfOk, IsTrue};
+ghost use Rattle.std.specs.Prelude.{◌≡◌, ◌≢◌, ◌≤◌, ◌↔◌, true, IfErr, IfOk, IsTrue, OnOk};
 ghost use Rattle.osm_model.specs.Limits.{max_sequence};
-ghost use Rattle.osm_store.specs.Frames.{IsKnown};
+ghost use Rattle.osm_store.specs.Files.{Spends};
+ghost use Rattle.osm_store.specs.Frames.{IsKnown, MakesAtMost};
 ghost use Rattle.osm_blocks.specs.Frames.{ReadsOften};
 ghost use Rattle.osm_folder.specs.Runs.{IsDeviceFault};
 ghost use Rattle.osm_folder.specs.declared.fault.RunFault.TheVariants.{OtherFilter};
@@ -47,6 +48,8 @@ pub(crate) fn read_start<S: Store>(
     ensures stops { IfErr result (BeginStops (IsKnown (S.state store.old)) filter.now
         ((S.state store.old).files save.now)) }
     ensures frame { ReadsOften IsDeviceFault (S.state store.old) (S.state store.new) result }
+    ensures spends { OnOk result (Spends 1 (S.state store.old).left (S.state store.new).left) }
+    ensures calls { MakesAtMost IsDeviceFault 1 (S.state store.old) (S.state store.new) result }
 {
     match read_beginning(alloc, store, save) {
         Ok(opening) => start_at(opening, filter),

@@ -1,7 +1,8 @@
 //! What a run takes of a folder: the numbers after a head, as net changes.
 
-ghost use Rattle.std.specs.Prelude.{◌≡◌, ℕ, ◌≤◌, IfErr, IfOk};
+ghost use Rattle.std.specs.Prelude.{◌≡◌, ℕ, ◌+◌, ◌-◌, ◌*◌, ◌≤◌, IfErr, IfOk, min};
 ghost use Rattle.osm_model.specs.Limits.{max_changes, max_sequence};
+ghost use Rattle.osm_store.specs.Files.{HasFewer, SpendsAtMost};
 ghost use Rattle.osm_store.specs.Frames.{IsKnown};
 ghost use Rattle.osm_net.specs.Net.{HasRoomFor, no_net};
 ghost use Rattle.osm_folder.specs.Following.{NumberStops};
@@ -9,6 +10,7 @@ ghost use Rattle.osm_folder.specs.Progress.{IsOfContent};
 ghost use Rattle.osm_blocks.specs.Frames.{ReadsOften};
 ghost use Rattle.osm_folder.specs.Runs.{IsDeviceFault, ReadsUpTo};
 ghost use Rattle.osm_round.specs.Taking.{HasTaken, TakesNumber, TakesUp, StopsOnTheWay};
+ghost use Rattle.osm_round.specs.declared.taken.End.TheVariants.{Reached};
 
 use osm_folder::fault::RunFault;
 use osm_folder::number::read_number;
@@ -62,9 +64,14 @@ pub(crate) fn take_numbers<S: Store>(
     requires none { taken.old.net ≡ no_net }
     ensures taken { IfOk result (TakesUp (IsKnown (S.state store.old)) (S.state store.old).files
         dir.now filter.now last taken.old.head taken.new) }
-    ensures stops { IfErr result (StopsOnTheWay (IsKnown (S.state store.old)) (S.state store.old).files
-        dir.now filter.now last taken.old.head) }
+    ensures stops { IfErr result (StopsOnTheWay (IsKnown (S.state store.old))
+        (S.state store.old).files dir.now filter.now last taken.old.head) }
     ensures frame { ReadsOften IsDeviceFault (S.state store.old) (S.state store.new) result }
+    ensures spent { IfOk result (λ end. end ≡ Reached → SpendsAtMost
+        (3 * (min last (taken.new.head.number + 1) - taken.old.head.number))
+        (S.state store.old).left (S.state store.new).left) }
+    ensures lacks { IfErr result (λ fault. IsKnown (S.state store.old) → IsDeviceFault fault
+        → HasFewer (3 * (last - taken.old.head.number)) (S.state store.old).left) }
 {
     for before in taken.head.number..last {
         match take_number(alloc, store, dir, before + 1, filter, taken) {

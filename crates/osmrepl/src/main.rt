@@ -7,16 +7,18 @@ mod watching;
 
 use crate::locking::{locked, seconds};
 use crate::saying::{end, explain, refuse, report, report_of_run};
-use crate::watching::Screen;
+use crate::watching::{Screen, Shown};
 use osm_disk::disk_store::DiskStore;
 use osm_folder::fault::RunFault;
 use osm_folder::options::FollowOptions;
 use osm_progress::watched_store::WatchedStore;
+use osm_reading::sequence::sequence_read;
 use osm_repl::checks::{check_words, is_ahead};
 use osm_repl::command_line::asked;
 use osm_repl::ending::ending_of_unread;
 use osm_repl::execution::execute;
 use osm_repl::locks::lock_of;
+use osm_repl::order_fault::OrderFault;
 use osm_repl::orders::{Asked, Order};
 use osm_repl::refusal::Refusal;
 use std::process::ExitCode;
@@ -74,7 +76,7 @@ fn done(rt: &HostRuntime, asked: &Asked<'_>, options: FollowOptions, is_alone: b
     if is_alone {
         disk.set_alone();
     }
-    let mut store = WatchedStore::new(disk, Screen::new(rt, shown_dir(asked)));
+    let mut store = WatchedStore::new(disk, Screen::new(rt, shown(asked)));
     let result = execute(
         rt.alloc(),
         asked.order,
@@ -87,14 +89,25 @@ fn done(rt: &HostRuntime, asked: &Asked<'_>, options: FollowOptions, is_alone: b
     screen.clear();
     match result {
         Ok(status) => status,
-        Err(fault) => report_of_run(rt, asked.order, fault, disk.said()),
+        Err(OrderFault::Run(fault)) => report_of_run(rt, asked.order, fault, disk.said()),
+        Err(OrderFault::BadRange) => {
+            let hint = "--from is at least 1, and at most --to or the folder's newest number";
+            refuse(rt, Refusal::BadRange, "", None, hint)
+        }
     }
 }
 
-// The folder of a run whose progress may be shown.
-fn shown_dir<'a>(asked: &Asked<'a>) -> Option<&'a str> {
+// The run, if its progress may be shown.
+fn shown<'a>(asked: &Asked<'a>) -> Option<Shown<'a>> {
+    if asked.options.quiet || asked.options.json {
+        return None;
+    }
     match asked.order {
-        Order::Follow { dir, .. } if !asked.options.quiet && !asked.options.json => Some(dir),
+        Order::Follow { dir, .. } => Some(Shown { dir, last: None }),
+        Order::Audit { dir, to, .. } => Some(Shown {
+            dir,
+            last: sequence_read(to.unwrap_or("").as_bytes()),
+        }),
         _ => None,
     }
 }

@@ -120,8 +120,8 @@ fn look(rt: &HostRuntime, path: &str) -> &'static str {
     }
 }
 
-// Prints the line of JSON of a run that isn't begun, as far as standard output takes it, if there is
-// memory for it.
+// Prints the line of JSON of a run that isn't begun, as far as standard output takes it, if there
+// is memory for it.
 pub(crate) fn tell(rt: &HostRuntime, refusal: Refusal) {
     if let Ok(line) = refusal_line(rt.alloc(), refusal) {
         let _ = rt.stdout().write_all(line.as_slice());

@@ -14,12 +14,21 @@ const EACH_MILLIS: u32 = 100;
 // Goes back to the start of the line, and clears it.
 const CLEAR: &str = "\r\x1b[K";
 
+/// A run whose progress is shown.
+#[derive(Clone, Copy)]
+pub(crate) struct Shown<'a> {
+    /// The folder.
+    pub(crate) dir: &'a str,
+    /// The last number of the run; none is the folder's newest.
+    pub(crate) last: Option<u32>,
+}
+
 /// Shows on standard error how far a run over a folder is, once it takes a while. The line is gone
 /// before a file is written, and at the end.
 #[derive(Drop)]
 pub(crate) struct Screen<'a> {
     rt: &'a HostRuntime,
-    dir: Option<&'a str>,
+    run: Option<Shown<'a>>,
     course: Course,
     start: Option<Instant>,
     shown_at: Option<u32>,
@@ -29,24 +38,37 @@ pub(crate) struct Screen<'a> {
 }
 
 impl<'a> Screen<'a> {
-    /// Shows runs over the folder; none if there is no folder, or no terminal.
-    pub(crate) fn new(rt: &'a HostRuntime, dir: Option<&'a str>) -> Screen<'a> {
-        Screen {
+    /// Shows the run; nothing if there is none to show, or no terminal.
+    pub(crate) fn new(rt: &'a HostRuntime, run: Option<Shown<'a>>) -> Screen<'a> {
+        let mut screen = Screen {
             rt,
-            dir: dir.filter(|_| rt.stderr().is_terminal()),
+            run: run.filter(|_| rt.stderr().is_terminal()),
             course: Course::new(),
             start: None,
             shown_at: None,
             most: 0,
+        };
+        if let Some(
+            Shown {
+                last: Some(last),
+                ..
+            },
+        ) = screen.run
+        {
+            screen.begin(last);
         }
+        screen
     }
 
-    fn note(&mut self, said: Said) {
+    // The run begins, and goes to that number.
+    fn begin(&mut self, last: u32) {
+        self.course.note_top(last);
+        self.start = Instant::now(self.rt).ok();
+    }
+
+    fn note(&mut self, said: Said, last: Option<u32>) {
         match said {
-            Said::Top(number) => {
-                self.course.note_top(number);
-                self.start = Instant::now(self.rt).ok();
-            }
+            Said::Top(number) => self.begin(last.unwrap_or(number)),
             Said::Number(number) => {
                 if let Some((done, all)) = self.course.note_number(number) {
                     self.show(done, all);
@@ -91,8 +113,8 @@ impl<'a> Screen<'a> {
 
 impl Watch for Screen<'_> {
     fn was_read(&mut self, name: &str, bytes: &[u8]) {
-        if let Some(dir) = self.dir {
-            self.note(said_by(dir, name, bytes));
+        if let Some(Shown { dir, last }) = self.run {
+            self.note(said_by(dir, name, bytes), last);
         }
     }
 

@@ -38,7 +38,8 @@ const STATE_3_LATE: &[u8] = b"sequenceNumber=3\ntimestamp=2024-01-01T00\\:02\\:0
 
 const STATE_0: &[u8] = b"sequenceNumber=0\ntimestamp=2024-01-01T00\\:00\\:00Z\n";
 
-/// A folder of three numbers: with both forms, with the o5c file alone, and with the OPL file alone.
+/// A folder of three numbers: with both forms, with the o5c file alone, and with the OPL file
+/// alone.
 pub const WHOLE: [File<'static>; 8] = [
     ("dir/000/000/001.state.txt", STATE_1),
     ("dir/000/000/001.o5c", NODE_O5C),

@@ -5,14 +5,15 @@ use osm_folder::convert::convert_run;
 use osm_folder::export::export_run;
 use osm_folder::fault::RunFault;
 use osm_folder::filters::filter_of;
-use osm_folder::follow::follow_run;
 use osm_folder::lag::lag_run;
 use osm_folder::options::{FollowOptions, Layout};
+use osm_folder::progress::Progress;
 use osm_folder::publish::publish_run;
 use osm_folder::report::Report;
 use osm_folder::show::show_run;
 use osm_model::filter::Filter;
 use osm_model::memory::WantOfMemory;
+use osm_round::round::follow_round;
 use osm_store::memory_store::MemoryStore;
 use osm_store::store::Store;
 use std::alloc::Global;
@@ -91,16 +92,10 @@ pub fn outcome<S: Store>(alloc: Global, store: &mut S, run: Run) -> Result<Repor
             let filter = filter_of(alloc, "w", &["highway"])?;
             begin_run(alloc, store, base, "state", "save", filter)
         }
-        Run::Follow => follow_run(
-            alloc,
-            store,
-            "dir",
-            "save",
-            FollowOptions::new(Filter::all(alloc)),
-        ),
+        Run::Follow => follow(alloc, store, &FollowOptions::new(Filter::all(alloc))),
         Run::FollowExtract => {
             let filter = filter_of(alloc, "w", &["highway"])?;
-            follow_run(alloc, store, "dir", "save", FollowOptions::new(filter))
+            follow(alloc, store, &FollowOptions::new(filter))
         }
         Run::FollowSome(limit) => follow_all(alloc, store, Some(limit), Layout::Lines),
         Run::FollowJson => follow_all(alloc, store, None, Layout::Json),
@@ -124,7 +119,20 @@ fn follow_all<S: Store>(
         limit,
         layout,
     };
-    follow_run(alloc, store, "dir", "save", options)
+    follow(alloc, store, &options)
+}
+
+// Follows the folder, as the word `follow` answers: what came before a faulty number is saved, and
+// its fault answered.
+fn follow<S: Store>(
+    alloc: Global,
+    store: &mut S,
+    options: &FollowOptions,
+) -> Result<Report, RunFault> {
+    match follow_round(alloc, store, "dir", "save", options) {
+        Ok(Progress::Whole(report)) => Ok(report),
+        Ok(Progress::Before(_, fault)) | Err(fault) => Err(fault),
+    }
 }
 
 /// Whether the run prints that text and has that status.

@@ -4,9 +4,10 @@ use super::files::{Run, are_files, is_file, refusal, reports, store_with};
 use osm_folder::fault::{FileName, RunFault};
 use osm_folder::filters::filter_of;
 use osm_folder::options::FollowOptions;
-use osm_folder::progress::{Progress, follow_progress};
+use osm_folder::progress::Progress;
 use osm_model::filter::Filter;
 use osm_model::text::Text;
+use osm_round::round::follow_round;
 use osm_store::memory_store::MemoryStore;
 use std::alloc::Global;
 
@@ -183,7 +184,7 @@ fn is_before(progress: &Result<Progress, RunFault>) -> bool {
     }
 }
 
-// Whether the numbers before a faulty one are kept under the filter, by the second run as well.
+// Whether the numbers before a faulty one are kept under the filter.
 fn is_kept(alloc: Global) -> bool {
     let Ok(mut store) = store_with(alloc, FIRST) else {
         return false;
@@ -193,7 +194,8 @@ fn is_kept(alloc: Global) -> bool {
     let Ok(filter) = filter_of(alloc, "w", &["highway"]) else {
         return false;
     };
-    let progress = follow_progress(alloc, &mut store, "dir", "save", FollowOptions::new(filter));
+    let options = FollowOptions::new(filter);
+    let progress = follow_round(alloc, &mut store, "dir", "save", &options);
     is_there && is_before(&progress) && is_file(&store, "save", SAVE_1)
 }
 

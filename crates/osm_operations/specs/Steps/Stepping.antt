@@ -18,17 +18,18 @@ use Rattle.osm_folder.specs.Beginning.{BeginStops, IsBegunFrom}
 use Rattle.osm_folder.specs.Exporting.{ExportStops, IsExportOf, IsExported}
 use Rattle.osm_store.specs.Files.{Files, Puts}
 use Rattle.osm_folder.specs.Folder.{IsApart, IsFolderOf}
-use Rattle.osm_folder.specs.Following.{FollowRefuses, IsFollowed, IsSaveOf, follow_calls}
+use Rattle.osm_folder.specs.Following.{IsSaveOf, plainly}
 use Rattle.osm_folder.specs.Lagging.{IsHead}
 use Rattle.osm_folder.specs.Numbered.{IsAddedAs, IsPublishedAs, NumberedOut, NumberedRefuses}
 use Rattle.osm_folder.specs.Numbered.{NumberedStops, numbered_calls}
-use Rattle.osm_folder.specs.Progress.{IsProgress, ProgressStops}
 use Rattle.osm_folder.specs.Publication.{FolderRefuses, GoesOnFrom, IsPublished, PublishOut}
 use Rattle.osm_folder.specs.Publication.{PublishStops}
 use Rattle.osm_folder.specs.Names.{file_name_of, top_name_of}
 use Rattle.osm_folder.specs.Reports.{ReportValue, convert_report_of}
 use Rattle.osm_folder.specs.Runs.{LacksCalls}
 use Rattle.osm_store.specs.Stores.{files_of}
+use Rattle.osm_round.specs.Over.{FollowRefuses, follow_calls}
+use Rattle.osm_round.specs.Rounds.{IsFollowed, IsProgress, RoundStops}
 use Rattle.osm_folder.specs.declared.fault.FileName.TheVariants.{Changes}
 use Rattle.osm_folder.specs.declared.fault.RunFault.{RunFault}
 use Rattle.osm_folder.specs.declared.progress.Progress.{Progress}
@@ -55,7 +56,6 @@ use Rattle.osm_operations.specs.declared.operation.Reply.TheVariants.{Refused, C
 use Rattle.osm_operations.specs.declared.operation.Reply.TheVariants.{NotThere}
 use Rattle.osm_operations.specs.declared.runs.Spoiled.{Spoiled}
 use Rattle.osm_operations.specs.declared.world.World.{World}
-use Rattle.osm_folder.specs.Following.{plainly}
 
 -- the file holds the batch in OPL
 pub record AreChangesPut (name : List ℕ) (batch : List ChangeValue) (old new : Files) :
@@ -172,7 +172,7 @@ pub record IsOtherRun (given other : FilterValue) (dir save : List ℕ)
   pub there : is_none (old save) ≡ false
   pub differs : other ≢ given
   pub done : IfOk w (IsProgress (IsTrue true) (plainly other) dir save old new)
-  pub stops : IfErr w (ProgressStops (IsTrue true) (plainly other) dir save old)
+  pub stops : IfErr w (RoundStops (IsTrue true) (plainly other) dir save old)
   pub kept : OnErr w (new ≡ old)
   pub device : IfErr w IsNoDevice
 
@@ -362,7 +362,7 @@ pub record IsSpoiledRun (given : FilterValue) (dir save name : List ℕ)
   pub put : Puts old name (Some spoiled) during
   pub after : Files
   pub done : IfOk w (IsProgress (IsTrue true) (plainly given) dir save during after)
-  pub stops : IfErr w (ProgressStops (IsTrue true) (plainly given) dir save during)
+  pub stops : IfErr w (RoundStops (IsTrue true) (plainly given) dir save during)
   pub kept : OnErr w (after ≡ during)
   pub back : is_some (after name) ≡ true → Puts after name (Some bytes) new
   pub law : NoFaultBesideState
@@ -468,7 +468,7 @@ abbrev pub LacksFollowCalls :
 LacksFollowCalls given dir save calls files fault =
     (published : List PublishedValue) (base number : ℕ) → IsFolderOf published files dir
     → IsSaveOf published given base number (files save)
-    → LacksCalls (follow_calls published number) (Some calls) fault
+    → LacksCalls (follow_calls published number (files save)) (Some calls) fault
 
 -- what a reply says about the calls that a killed run of the follower had
 abbrev pub HasFollowCalls : FilterValue → List ℕ → List ℕ → ℕ → Reply → Files → Type 0

@@ -29,7 +29,7 @@ abbrev pub IsName : Text → Type 0
 IsName name =
     (name ≡ codes "replay") ⊎ (name ≡ codes "publish") ⊎ (name ≡ codes "begin")
     ⊎ (name ≡ codes "follow") ⊎ (name ≡ codes "lag") ⊎ (name ≡ codes "show")
-    ⊎ (name ≡ codes "export") ⊎ (name ≡ codes "convert")
+    ⊎ (name ≡ codes "export") ⊎ (name ≡ codes "convert") ⊎ (name ≡ codes "audit")
 
 -- the words of a command that may not be empty
 abbrev pub words_of : Text → List Text
@@ -40,7 +40,8 @@ words_of name =
     else (if bytes_eq name (codes "lag") then codes "DIR" ∷ codes "SAVE" ∷ []
     else (if bytes_eq name (codes "show") then codes "SAVE" ∷ []
     else (if bytes_eq name (codes "export") then codes "SAVE" ∷ codes "OUT" ∷ []
-    else (if bytes_eq name (codes "convert") then codes "IN" ∷ codes "OUT" ∷ [] else []))))))
+    else (if bytes_eq name (codes "convert") then codes "IN" ∷ codes "OUT" ∷ []
+    else (if bytes_eq name (codes "audit") then codes "DIR" ∷ [] else [])))))))
 
 -- those that may be empty
 abbrev pub times_of : Text → List Text

@@ -1,7 +1,7 @@
 use Rattle.std.proofs.Common.{◌≡◌, ap, ap₂, ◌∙◌}
 use Rattle.std.proofs.lemmas.Result.{IfOk-weaker}
 use Rattle.clap.specs.Words.{App, app_of, with_subcommand}
-use Rattle.osm_repl.specs.CommandLine.{begin_app, export_app, follow_app, lag_app, program_app, publish_app, replay_app}
+use Rattle.osm_repl.specs.CommandLine.{begin_app, convert_app, export_app, follow_app, lag_app, program_app, publish_app, replay_app}
 use Rattle.osm_repl.specs.CommandLine.{show_app}
 use Rattle.osm_repl.proofs.command_line.command.Goals as goal
 
@@ -31,5 +31,10 @@ returns c =
     publish_app.top) begin_app.top) follow_app.top) lag_app.top) show_app.top) export_app.top =
     c.in_ok-subcommand-7.ensures.shape c.in_ok-export.ensures.local
     ∙ ap₂ with_subcommand with_show (ap (λ (a : App). a.top) c.in_ok-export.ensures.app) in
-    IfOk-weaker c.subcommand-8.result _ _ (λ r h. h.shape c.in_ok-convert.ensures.local
-    ∙ ap₂ with_subcommand with_export (ap (λ (a : App). a.top) c.in_ok-convert.ensures.app)) c.subcommand-8.ensures
+    let with_convert : app_of c.in_ok-subcommand-8.field-0 ≡ with_subcommand
+    (with_subcommand (with_subcommand (with_subcommand (with_subcommand (with_subcommand (with_subcommand (with_subcommand program_app
+    replay_app.top) publish_app.top) begin_app.top) follow_app.top) lag_app.top) show_app.top) export_app.top) convert_app.top =
+    c.in_ok-subcommand-8.ensures.shape c.in_ok-convert.ensures.local
+    ∙ ap₂ with_subcommand with_export (ap (λ (a : App). a.top) c.in_ok-convert.ensures.app) in
+    IfOk-weaker c.subcommand-9.result _ _ (λ r h. h.shape c.in_ok-audit.ensures.local
+    ∙ ap₂ with_subcommand with_convert (ap (λ (a : App). a.top) c.in_ok-audit.ensures.app)) c.subcommand-9.ensures

@@ -1,7 +1,11 @@
-use Rattle.std.proofs.Common.{◌+◌, ◌<◌, arith, refl, subst}
+use Rattle.std.proofs.Common.{◌≡◌, ◌+◌, ◌-◌, ◌*◌, ◌<◌, ap, arith, refl, subst, sym}
+use Rattle.std.specs.Prelude.{Bool, IsTrue, min}
 use Rattle.std.proofs.lemmas.Grind.{common_steps}
 use Rattle.osm_blocks.proofs.OftenLemmas.{often_both, often_none, often_then}
 use Rattle.osm_store.specs.Frames.{IsKnown}
+use Rattle.osm_store.proofs.FrameLemmas.{fewer_after, most_both, most_more, reads_none}
+use Rattle.osm_folder.proofs.ResultLemmas.{err_map}
+use Rattle.osm_round.specs.declared.taken.Taken.{Taken}
 use Rattle.osm_folder.specs.Runs.{IsDeviceFault}
 use Rattle.osm_round.specs.Taking.{TakesNumber}
 use Rattle.osm_round.proofs.FrameLemmas.{often_of, often_told}
@@ -14,6 +18,7 @@ loop-before-init g c = record {
   from = omega arith;
   until = c.requires.from;
   frame = often_none IsDeviceFault (g.S.Store.state c.args.store.now) _;
+  most = (reads_none IsDeviceFault (3 * (c.args.taken.now.head.number - c.args.taken.now.head.number)) (g.S.Store.state c.args.store.now) _).at_most;
   taken = takes_nothing (IsKnown (g.S.Store.state c.args.store.now)) (g.S.Store.state c.args.store.now).files c.args.dir.now c.args.filter.now
       c.args.taken.now c.requires.none;
 }
@@ -70,5 +75,43 @@ loop-before-preserved g c =
       from = omega (arith, from);
       until = grind (arith, common_steps);
       frame = often_then IsDeviceFault a b d _ _ _ i.frame (often_of IsDeviceFault 0 3 b d _ c.in-Ok-true.ensures.frame);
+      most = record {
+        spent = most_both (3 * (c.loop-before.before - c.args.taken.now.head.number)) 3 (3 * (c.loop-before.before + 1 - c.args.taken.now.head.number))
+            a.left b.left d.left (omega (arith, from)) i.most.spent c.in-Ok-true.ensures.frame.at_most.spent;
+        lacks = tt;
+      };
       taken = more.1;
     }
+
+pub returns-in-Ok-false-clause-spent : goal.returns-in-Ok-false-clause-spent
+returns-in-Ok-false-clause-spent g c = λ end.
+    let i = c.loop-before.invariant in
+    let at = i.at in
+    let from = i.from in
+    let below : c.loop-before.before < c.args.last = grind (arith, common_steps) in
+    let a = g.S.Store.state c.args.store.now in
+    let took = subst (λ t. TakesNumber (IsKnown a) a.files c.args.dir.now (c.loop-before.before + 1) c.args.filter.now c.loop-before.taken
+    c.take_number.new.taken t) c.in-Ok-false.field-0-test (rw (i.frame.known, i.frame.files) at c.in-Ok-false.ensures.taken) in
+    let same : c.take_number.new.taken.head.number ≡ c.loop-before.taken.head.number = ap (λ (t : Taken). t.head.number) took.1 in
+    most_both (3 * (c.loop-before.before - c.args.taken.now.head.number)) 3
+    (3 * (min c.args.last (c.take_number.new.taken.head.number + 1) - c.args.taken.now.head.number)) _ _ _ (omega (arith, below, from, at, same))
+    i.most.spent c.in-Ok-false.ensures.frame.at_most.spent
+
+pub returns-in-Err-clause-lacks : goal.returns-in-Err-clause-lacks
+returns-in-Err-clause-lacks g c =
+    let i = c.loop-before.invariant in
+    let from = i.from in
+    let below : c.loop-before.before < c.args.last = grind (arith, common_steps) in
+    err_map _ _ c.end_at.result c.end_at.ensures.other (λ refused same yes blame.
+    fewer_after (3 * (c.loop-before.before - c.args.taken.now.head.number)) 3 (3 * (c.args.last - c.args.taken.now.head.number)) _ _
+    (omega (arith, below, from)) i.most.spent
+    (c.in-Err.ensures.frame.at_most.lacks (subst (λ (t : Bool). IsTrue t) (sym i.frame.known) yes) (subst IsDeviceFault same blame)))
+
+pub returns-clause-spent : goal.returns-clause-spent
+returns-clause-spent g c = λ end.
+    let i = c.loop-before.invariant in
+    let at = i.at in
+    let until = i.until in
+    let past = c.loop-before-test.false in
+    most_more (3 * (c.loop-before.before - c.args.taken.now.head.number))
+    (3 * (min c.args.last (c.loop-before.taken.head.number + 1) - c.args.taken.now.head.number)) _ _ (omega (arith, at, until, past)) i.most.spent

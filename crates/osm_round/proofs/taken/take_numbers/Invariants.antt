@@ -1,5 +1,5 @@
-use Rattle.std.proofs.Common.{◌≡◌, ◌≤◌, Ok}
-use Rattle.osm_store.specs.Frames.{IsKnown}
+use Rattle.std.proofs.Common.{◌≡◌, ◌≤◌, ◌-◌, ◌*◌, Ok}
+use Rattle.osm_store.specs.Frames.{IsKnown, MakesAtMost}
 use Rattle.osm_blocks.specs.Frames.{ReadsOften}
 use Rattle.osm_folder.specs.Runs.{IsDeviceFault}
 use Rattle.osm_round.specs.Taking.{HasTaken}
@@ -11,5 +11,6 @@ invariant-loop-before g l = record {
   from : l.fn.taken.head.number ≤ l.before;
   until : l.before ≤ l.fn.last;
   frame : ReadsOften IsDeviceFault (g.S.Store.state l.fn.store) (g.S.Store.state l.store) (Ok l.before);
+  most : MakesAtMost IsDeviceFault (3 * (l.before - l.fn.taken.head.number)) (g.S.Store.state l.fn.store) (g.S.Store.state l.store) (Ok l.before);
   taken : HasTaken (IsKnown (g.S.Store.state l.fn.store)) (g.S.Store.state l.fn.store).files l.fn.dir l.fn.filter l.fn.taken.head l.taken;
 }

@@ -1,0 +1,43 @@
+//! Why an order isn't done.
+
+ghost use Rattle.std.specs.Prelude.{◌≡◌};
+
+use osm_audit::fault::AuditFault;
+use osm_folder::fault::RunFault;
+use thiserror::Error;
+
+/// Why an order isn't done.
+#[derive(Clone, Copy, Debug, PartialEq, Eq, Error)]
+pub enum OrderFault {
+    /// The range of an audit begins at 0, or after its last number.
+    #[error("bad range")]
+    BadRange,
+    /// The run stopped, or what it printed wasn't taken.
+    #[error("{0}")]
+    Run(RunFault),
+}
+
+impl From<RunFault> for OrderFault {
+    ghost use Rattle.std.specs.Prelude.{◌≡◌};
+    ghost use Rattle.osm_repl.specs.declared.order_fault.OrderFault.TheVariants.{Run};
+
+    ghost from_gives = { λ given fault. fault ≡ Run given };
+
+    fn from(fault: RunFault) -> OrderFault {
+        OrderFault::Run(fault)
+    }
+}
+
+impl From<AuditFault> for OrderFault {
+    ghost use Rattle.std.specs.Prelude.{◌≡◌};
+    ghost use Rattle.osm_repl.specs.Auditing.{fault_of_audit};
+
+    ghost from_gives = { λ given fault. fault ≡ fault_of_audit given };
+
+    fn from(fault: AuditFault) -> OrderFault {
+        match fault {
+            AuditFault::BadRange => OrderFault::BadRange,
+            AuditFault::Stops(fault) => OrderFault::Run(fault),
+        }
+    }
+}

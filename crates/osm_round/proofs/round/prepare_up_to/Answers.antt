@@ -1,0 +1,99 @@
+use Rattle.std.proofs.Common.{◌≡◌, ◌+◌, ◌-◌, ◌*◌, arith, length}
+use Rattle.std.specs.Prelude.{min}
+use Rattle.osm_store.specs.Frames.{IsKnown, MakesAtMost}
+use Rattle.osm_store.proofs.FrameLemmas.{at_most_both, fewer_more}
+use Rattle.osm_folder.specs.Runs.{IsDeviceFault}
+use Rattle.osm_folder.specs.Following.{last_number}
+use Rattle.osm_folder.proofs.ResultLemmas.{same_err, same_result}
+use Rattle.osm_round.proofs.CallLemmas.{never_faulty, way_is}
+use Rattle.osm_round.specs.Taking.{StopsOnTheWay, TakesUp}
+use Rattle.osm_round.specs.declared.taken.End.TheVariants.{Faulty, Reached}
+use Rattle.osm_round.proofs.FrameLemmas.{ok_four, ok_three}
+use Rattle.osm_round.proofs.RoundLemmas.{prepared_before, prepared_whole, taking_prepare}
+use Rattle.osm_round.proofs.round.prepare_up_to.Goals as goal
+
+pub returns-in_err-take_numbers-clause-stops : goal.returns-in_err-take_numbers-clause-stops
+returns-in_err-take_numbers-clause-stops g c =
+    let known = IsKnown (g.S.Store.state c.args.store.now) in
+    let files = (g.S.Store.state c.args.store.now).files in
+    let last_is : c.last_number-last.result ≡ last_number c.args.options.now.limit c.args.start.number c.args.top.now.sequence =
+    rw (c.sequence-2.ensures.sequence) at c.last_number-last.ensures in
+    let stops : StopsOnTheWay known files c.args.dir.now c.args.options.now.filter c.last_number-last.result c.args.start c.in_err-take_numbers.field-0.0 =
+    rw (c.after-taken.ensures) at c.in_err-take_numbers.ensures.stops in
+    same_err _ c.from_residual.result _ c.from_residual.ensures.1
+    (taking_prepare known c.args.options.now c.args.dir.now files c.args.start c.args.top.now c.requires.top
+    c.sequence.ensures.limits.sequence c.last_number-last.result last_is c.take_numbers.new.taken _ stops)
+
+pub returns-in-Reached-clause-prepared : goal.returns-in-Reached-clause-prepared
+returns-in-Reached-clause-prepared g c =
+    let known = IsKnown (g.S.Store.state c.args.store.now) in
+    let files = (g.S.Store.state c.args.store.now).files in
+    let last_is : c.last_number-last.result ≡ last_number c.args.options.now.limit c.args.start.number c.args.top.now.sequence =
+    rw (c.sequence-2.ensures.sequence) at c.last_number-last.ensures in
+    let takes : TakesUp known files c.args.dir.now c.args.options.now.filter c.last_number-last.result c.args.start c.take_numbers.new.taken Reached =
+    rw (c.after-taken.ensures, c.in-Reached.is) at c.in_ok-take_numbers.ensures.taken in
+    ok_three _ _ _ _ c.reached.result c.reached.ensures.taken c.reached.ensures.whole
+    (rw (c.take_numbers.ensures.frame.known, c.take_numbers.ensures.frame.files)
+    at c.reached.ensures.report)
+    (λ p taken whole report. prepared_whole known c.args.options.now c.args.dir.now files c.args.start c.args.top.now c.requires.top
+    c.sequence.ensures.limits.sequence c.last_number-last.result last_is c.take_numbers.new.taken p takes taken whole report)
+
+pub returns-in-Faulty-clause-prepared : goal.returns-in-Faulty-clause-prepared
+returns-in-Faulty-clause-prepared g c =
+    let known = IsKnown (g.S.Store.state c.args.store.now) in
+    let files = (g.S.Store.state c.args.store.now).files in
+    let last_is : c.last_number-last.result ≡ last_number c.args.options.now.limit c.args.start.number c.args.top.now.sequence =
+    rw (c.sequence-2.ensures.sequence) at c.last_number-last.ensures in
+    let takes : TakesUp known files c.args.dir.now c.args.options.now.filter c.last_number-last.result c.args.start c.take_numbers.new.taken
+    (Faulty c.in-Faulty.fault) =
+    rw (c.after-taken.ensures, c.in-Faulty.is) at c.in_ok-take_numbers.ensures.taken in
+    ok_four _ _ _ _ _ c.before-in-Faulty.result c.before-in-Faulty.ensures.taken c.before-in-Faulty.ensures.fault c.before-in-Faulty.ensures.some
+    c.before-in-Faulty.ensures.report
+    (λ p taken fault some report. prepared_before known c.args.options.now c.args.dir.now files c.args.start c.args.top.now c.requires.top
+    c.sequence.ensures.limits.sequence c.last_number-last.result last_is c.take_numbers.new.taken c.in-Faulty.fault p takes taken fault some report)
+
+pub returns-in_err-take_numbers-clause-calls : goal.returns-in_err-take_numbers-clause-calls
+returns-in_err-take_numbers-clause-calls g c = λ yes p folder.
+    let a = g.S.Store.state c.args.store.now in
+    let last_is : c.last_number-last.result ≡ last_number c.args.options.now.limit c.args.start.number c.args.top.now.sequence =
+    rw (c.sequence-2.ensures.sequence) at c.last_number-last.ensures in
+    let within = way_is p c.args.dir.now a.files c.args.top.now c.args.options.now.limit c.args.start.number c.last_number-last.result folder
+    (c.requires.top yes) last_is in
+    let lacks = rw (c.after-taken.ensures) at c.in_err-take_numbers.ensures.lacks in
+    same_result (MakesAtMost IsDeviceFault (3 * (length p - c.args.start.number)) a (g.S.Store.state c.take_numbers.new.store))
+    c.from_residual.result _ c.from_residual.ensures.1 (record {
+      spent = tt;
+      lacks = λ sure blame. fewer_more (3 * (c.last_number-last.result - c.args.start.number)) (3 * (length p - c.args.start.number)) a.left
+          (omega (arith, within)) (lacks sure blame);
+    })
+
+pub returns-in-Reached-clause-calls : goal.returns-in-Reached-clause-calls
+returns-in-Reached-clause-calls g c = λ yes p folder.
+    let a = g.S.Store.state c.args.store.now in
+    let last_is : c.last_number-last.result ≡ last_number c.args.options.now.limit c.args.start.number c.args.top.now.sequence =
+    rw (c.sequence-2.ensures.sequence) at c.last_number-last.ensures in
+    let within = way_is p c.args.dir.now a.files c.args.top.now c.args.options.now.limit c.args.start.number c.last_number-last.result folder
+    (c.requires.top yes) last_is in
+    let takes : TakesUp (IsKnown a) a.files c.args.dir.now c.args.options.now.filter c.last_number-last.result c.args.start c.take_numbers.new.taken Reached =
+    rw (c.after-taken.ensures, c.in-Reached.is) at c.in_ok-take_numbers.ensures.taken in
+    let number = takes.taken_are.is.number in
+    let until = takes.until in
+    let spent = (rw (c.after-taken.ensures) at c.in_ok-take_numbers.ensures.spent) c.in-Reached.is in
+    at_most_both IsDeviceFault (3 * (min c.last_number-last.result (c.take_numbers.new.taken.head.number + 1) - c.args.start.number))
+    (3 * (c.last_number-last.result - (c.take_numbers.new.taken.head.number + 1))) (3 * (length p - c.args.start.number)) a
+    (g.S.Store.state c.take_numbers.new.store) (g.S.Store.state c.reached.new.store) Reached c.reached.result (omega (arith, within, number, until))
+    c.take_numbers.ensures.frame.known (record { spent = spent; lacks = tt }) c.reached.ensures.frame.at_most
+
+pub returns-in-Faulty-clause-calls : goal.returns-in-Faulty-clause-calls
+returns-in-Faulty-clause-calls g c = λ yes p folder.
+    let a = g.S.Store.state c.args.store.now in
+    let last_is : c.last_number-last.result ≡ last_number c.args.options.now.limit c.args.start.number c.args.top.now.sequence =
+    rw (c.sequence-2.ensures.sequence) at c.last_number-last.ensures in
+    let within = way_is p c.args.dir.now a.files c.args.top.now c.args.options.now.limit c.args.start.number c.last_number-last.result folder
+    (c.requires.top yes) last_is in
+    let takes : TakesUp (IsKnown a) a.files c.args.dir.now c.args.options.now.filter c.last_number-last.result c.args.start c.take_numbers.new.taken
+    (Faulty c.in-Faulty.fault) = rw (c.after-taken.ensures, c.in-Faulty.is) at c.in_ok-take_numbers.ensures.taken in
+    let below = takes.ends.0 in
+    never_faulty c.laws_of_state.ensures.no_fault_beside_state p c.args.dir.now a.files (IsKnown a) (c.take_numbers.new.taken.head.number + 1)
+    c.in-Faulty.fault (3 * (length p - c.args.start.number)) a (g.S.Store.state c.take_numbers.new.store) c.before-in-Faulty.result folder yes
+    (omega arith) (omega (arith, below, within)) takes.ends.2 takes.ends.1
