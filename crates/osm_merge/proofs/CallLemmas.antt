@@ -17,7 +17,7 @@ use Rattle.osm_reading.proofs.PieceLemmas.{cut_takes}
 use Rattle.osm_save.specs.Reading.{fixed_at, numbered_at}
 use Rattle.osm_save.proofs.LineLemmas.{TakesNumbered, numbered_takes}
 use Rattle.osm_merge.specs.Calls.{bytes_in, calls_ahead, check_calls, puts_ahead}
-use Rattle.osm_merge.specs.Faults.{IsBadLine, IsCausedBy, IsDeviceFault}
+use Rattle.osm_merge.specs.Faults.{IsBadLine, IsCausedBy, IsDeviceFault, IsOfText}
 use Rattle.osm_merge.specs.Laying.{next_at}
 use Rattle.osm_merge.specs.Mirrors.{end_at}
 use Rattle.osm_merge.specs.Opening.{ReadsOpening}
@@ -83,6 +83,17 @@ bad_blames Changed bad blame = absurd bad
 bad_blames ReadFault bad blame = absurd bad
 bad_blames WriteFault bad blame = absurd bad
 bad_blames WantOfMemory bad blame = absurd bad
+
+-- a text blames no device
+pub text_blames : {P : Type 0} (fault : MergeFault) → IsOfText fault → IsDeviceFault fault → P
+text_blames (BadSave line) of_text blame = absurd blame
+text_blames LongLine of_text blame = absurd blame
+text_blames TooLarge of_text blame = absurd of_text
+text_blames NoSave of_text blame = absurd of_text
+text_blames Changed of_text blame = absurd of_text
+text_blames ReadFault of_text blame = absurd of_text
+text_blames WriteFault of_text blame = absurd of_text
+text_blames WantOfMemory of_text blame = absurd of_text
 
 -- ---- a line that was passed pays for an append
 
@@ -245,6 +256,25 @@ module _ {T E : Type 0} {blames : E → Type 0} (told : Option (List ℕ)) (file
       at_most (check_calls (bytes_in told)) a c (Err fault) (advances_fails {V = V} (check_calls (length file)) (λ _. 0) a b c x fault
       (advances_of 1 a b (Ok x) known first) rest
       (omega (arith, ahead, none.0, none.1))) (omega (arith, told_calls))
+
+-- a count: the file was opened, and its lists were counted
+module _ {T E : Type 0} {blames : E → Type 0} (told : Option (List ℕ)) (file : List ℕ) (place : Place) (a b c : StoreState) (x : T)
+    (there : told ≡ Some file) (known : IsKnown a)
+    (first : MakesAtMost {T = T} {E = E} blames 1 a b (Ok x)) (ahead : reads_ahead place file + 1 ≤ check_calls (length file)) where
+  told_as : check_calls (bytes_in told) ≡ check_calls (length file)
+  told_as = ap (λ (o : Option (List ℕ)). check_calls (bytes_in o)) there
+
+  pub count_done : {U V : Type 0} (y : U) (z : V) → Advances blames (reads_ahead place file) (λ _. 0) b c (Ok y)
+      → MakesAtMost blames (check_calls (bytes_in told)) a c (Ok z)
+  count_done {U} {V} y z rest =
+      at_most (check_calls (bytes_in told)) a c (Ok z) (advances_then {V = V} (check_calls (length file)) (λ _. 0) a b c x y z
+      (advances_of 1 a b (Ok x) known first) rest (omega (arith, ahead))) (omega (arith, told_as))
+
+  pub count_fails : {U V : Type 0} (fault : E) → Advances {T = U} blames (reads_ahead place file) (λ _. 0) b c (Err fault)
+      → MakesAtMost {T = V} blames (check_calls (bytes_in told)) a c (Err fault)
+  count_fails {U} {V} fault rest =
+      at_most (check_calls (bytes_in told)) a c (Err fault) (advances_fails {V = V} (check_calls (length file)) (λ _. 0) a b c x fault
+      (advances_of 1 a b (Ok x) known first) rest (omega (arith, ahead))) (omega (arith, told_as))
 
 -- the file isn't opened
 pub unopened : {T U E : Type 0} {blames : E → Type 0} (most : ℕ) (a b : StoreState) (fault : E) → MakesAtMost {T = T} blames 1 a b (Err fault) → 1 ≤ most

@@ -22,9 +22,10 @@ use Rattle.osm_save.proofs.SaveLemmas.{no_save, save_found, save_takes}
 use Rattle.osm_save.proofs.TextLemmas.{ended_before, mirror_text, save_text_is}
 use Rattle.osm_save.specs.declared.version.Version.TheVariants.{Three}
 use Rattle.std.proofs.lemmas.Option.{same_Some}
-use Rattle.osm_merge.specs.Faults.{IsPlain}
-use Rattle.osm_merge.specs.Checking.{BeginsWith, CheckStops, IsChecked}
-use Rattle.osm_merge.specs.Merging.{IsCounted, IsStaged, MergeStops, merged_text}
+use Rattle.osm_merge.specs.Counting.{CountsAs}
+use Rattle.osm_merge.specs.Faults.{IsOfText, IsPlain}
+use Rattle.osm_merge.specs.Checking.{BeginsWith, CheckStops, IsChecked, IsNoSave}
+use Rattle.osm_merge.specs.Merging.{IsStaged, MergeStops, merged_text}
 use Rattle.osm_merge.specs.Mirrors.{both_at, end_at, totals_of}
 use Rattle.osm_merge.specs.Opening.{IsOpened, OpeningStops}
 use Rattle.osm_merge.specs.Reading.{Refuses}
@@ -95,6 +96,15 @@ pub mirror_read : (version : Version) (head : Head) (f : FilterValue) (bytes aft
     → mirror_at version head f bytes ≡ Some (saved head f os c.0 c.1)
 mirror_read version head f bytes after os c e both = mirror_tail version head f bytes after os e
     ∙ ap (λ (o : Option (List Counted × List Counted)). and_then {A = List Counted × List Counted} {B = Saved} o (λ d. Some (saved head f os d.0 d.1))) both
+
+-- what follows the objects can't be read, so the lists can't be
+pub after_objects : (version : Version) (head : Head) (f : FilterValue) (bytes after : List ℕ) (r : Option (List ChangeValue × List ℕ))
+    → objects_at f (most_objects version head.number) bytes ≡ r
+    → ((p : List ChangeValue × List ℕ) → objects_at f (most_objects version head.number) bytes ≡ Some p → p.1 ≡ after)
+    → both_at (most_counted head) after ≡ None → mirror_at version head f bytes ≡ None
+after_objects version head f bytes after None e ends none = mirror_none version head f bytes e
+after_objects version head f bytes after (Some r) e ends none =
+    mirror_after version head f bytes r.1 r.0 e (ap (both_at (most_counted head)) (ends r e) ∙ none)
 
 -- ---- the whole file
 
@@ -181,16 +191,34 @@ opening_stop told ReadFault h = tt
 opening_stop told WriteFault h = tt
 opening_stop told WantOfMemory h = tt
 
-pub is_counted : (told : Option (List ℕ)) (place : Place) (o : Opening) (n : NetValue) (totals : Totals) → (opened : IsOpened told place o)
-    → (m : MirrorValue) → mirror_at o.version o.head o.filter (left_of place opened.file) ≡ Some (saved_with o.head o.filter m)
-    → totals ≡ totals_of (laid_on n m) → IsCounted told n totals
-is_counted told place o n totals opened m read counted = record {
-  file = opened.file;
-  there = opened.there;
-  saved = saved_with o.head o.filter m;
-  is = save_is opened.file (left_of place opened.file) o opened.head ∙ read;
-  totals_are = counted;
-}
+-- what was counted of an opened file
+pub counts_as : (told : Option (List ℕ)) (place : Place) (o : Opening) (n : NetValue) (totals : Totals) → (opened : IsOpened told place o)
+    → ((v : Saved) → mirror_at o.version o.head o.filter (left_of place opened.file) ≡ Some v → totals ≡ totals_of (laid_on n v.mirror))
+    → CountsAs told n totals
+counts_as told place o n totals opened counted = λ file v there is.
+    let same : file ≡ opened.file = same_Some file opened.file (sym there ∙ opened.there) in
+    counted v (sym (save_is opened.file (left_of place opened.file) o opened.head) ∙ (ap save_at (sym same) ∙ is))
+
+-- a fault of the text says that there is no save, and so does another one
+pub no_text : (told : Option (List ℕ)) (fault : MergeFault) → IsOfText fault → CheckStops told fault → IsNoSave told
+no_text told (BadSave line) of_text h = h
+no_text told LongLine of_text h = h
+no_text told TooLarge of_text h = absurd of_text
+no_text told NoSave of_text h = absurd of_text
+no_text told Changed of_text h = absurd of_text
+no_text told ReadFault of_text h = absurd of_text
+no_text told WriteFault of_text h = absurd of_text
+no_text told WantOfMemory of_text h = absurd of_text
+
+pub text_stops : (told : Option (List ℕ)) (fault : MergeFault) → IsOfText fault → IsNoSave told → CheckStops told fault
+text_stops told (BadSave line) of_text none = none
+text_stops told LongLine of_text none = none
+text_stops told TooLarge of_text none = absurd of_text
+text_stops told NoSave of_text none = absurd of_text
+text_stops told Changed of_text none = absurd of_text
+text_stops told ReadFault of_text none = absurd of_text
+text_stops told WriteFault of_text none = absurd of_text
+text_stops told WantOfMemory of_text none = absurd of_text
 
 pub is_staged : (told : Option (List ℕ)) (place : Place) (o : Opening) (n : NetValue) (totals : Totals) (Says : Saved → Type 0) → (opened : IsOpened told place o)
     → (m : MirrorValue) → mirror_at o.version o.head o.filter (left_of place opened.file) ≡ Some (saved_with o.head o.filter m)
@@ -225,13 +253,6 @@ merge_stops told n NoSave h = h
 merge_stops told n ReadFault h = h
 merge_stops told n WriteFault h = h
 merge_stops told n WantOfMemory h = h
-
--- one file saves one thing, whose lists have the same numbers each time
-pub counted_once : (told : Option (List ℕ)) (n : NetValue) (a b : Totals) → IsCounted told n a → IsCounted told n b → a ≡ b
-counted_once told n a b p q =
-    let file : p.file ≡ q.file = same_Some p.file q.file (sym p.there ∙ q.there) in
-    let saved : p.saved ≡ q.saved = same_Some p.saved q.saved (sym p.is ∙ (ap save_at file ∙ q.is)) in
-    p.totals_are ∙ (ap (λ (v : Saved). totals_of (laid_on n v.mirror)) saved ∙ sym q.totals_are)
 
 -- the text under the right numbers is the save text
 pub merged_is : (head : Head) (n : NetValue) (v : Saved) (t : Totals) → t ≡ totals_of (laid_on n v.mirror)

@@ -10,8 +10,6 @@ use Rattle.osm_blocks.specs.Writing.{IsWritten, Waiting}
 use Rattle.osm_blocks.proofs.OftenLemmas.{often_both}
 use Rattle.osm_save.specs.Lines.{ended}
 use Rattle.osm_merge.specs.Frames.{ReplacesOften}
-use Rattle.osm_merge.specs.Faults.{IsDeviceFault}
-use Rattle.osm_merge.specs.declared.fault.MergeFault.TheVariants.{Changed}
 use Rattle.osm_merge.specs.Laying.{Lays, Writes}
 
 -- what is known stays so
@@ -56,6 +54,17 @@ lays_after lay text es y rest many a b c v w x frame same h = record {
   few = h.few;
 }
 
+-- the same calls, in one that gives something else
+pub often_as : {T U E : Type 0} (blames : E → Type 0) (a b : StoreState) (x : T) (y : U) → ReadsOften blames a b (Ok x) → ReadsOften blames a b (Ok y)
+often_as blames a b x y n = record {
+  files = n.files;
+  known = n.known;
+  left = n.left;
+  failures = n.failures;
+  failed = tt;
+  stops = tt;
+}
+
 -- a call that fails after others, in a longer call that fails
 pub often_fails : {T U V E : Type 0} (blames : E → Type 0) (a b c : StoreState) (x : T) (fault : E) → ReadsOften blames a b (Ok x)
     → ReadsOften {T = U} blames b c (Err fault) → ReadsOften {T = V} blames a c (Err fault)
@@ -67,6 +76,31 @@ often_fails {T} {U} {V} blames a b c x fault m n = often_both {U = V} blames a b
   failed = n.failed;
   stops = n.stops;
 })
+
+-- calls of which one failed, and then others, in one that fails for another reason than the device
+pub both_blameless : {T U V E : Type 0} (blames : E → Type 0) (a b c : StoreState) (first fault : E) (r : Result U E) → ReadsOften {T = T} blames a b (Err first)
+    → ReadsOften blames b c r → (blames fault → ⊥) → ReadsOften {T = V} blames a c (Err fault)
+both_blameless {T} {U} {V} blames a b c first fault r m n never = record {
+  files = both.files;
+  known = both.known;
+  left = both.left;
+  failures = both.failures;
+  failed = λ blame. absurd (never blame);
+  stops = λ known blame. absurd (never blame);
+}
+  where
+    past : ReadsOften {T = Unit {0}} blames a b (Ok tt)
+    past = record {
+      files = m.files;
+      known = m.known;
+      left = m.left;
+      failures = m.failures;
+      failed = tt;
+      stops = tt;
+    }
+
+    both : ReadsOften blames a c r
+    both = often_both blames a b c tt r past n
 
 -- three parts, with a call that writes nothing before the last
 pub writes_three : {T U V E : Type 0} {blames : E → Type 0} (a b c d e : StoreState) (w v u t : Waiting) (x : T) (y : U) (z : V) (first second third : List ℕ)
@@ -108,13 +142,14 @@ then_replaces {T} {U} blames a b c x (Err f) m n =
     let both = often_both {U = U} blames a b c x (Err f) m (record { files = n.files; known = n.known; left = n.left; failures = n.failures; failed = n.failed; stops = n.stops }) in
     reads_fail blames a c f both
 
--- calls that change no file, in a call that finds that the file changed
-pub changed_frame : {T : Type 0} (a b : StoreState) → ReadsOften {T = Unit {0}} IsDeviceFault a b (Ok tt) → ReplacesOften {T = T} IsDeviceFault a b (Err Changed)
-changed_frame a b n = record {
+-- calls that change no file, in a call that fails for another reason than the device
+pub blameless_frame : {T E : Type 0} (blames : E → Type 0) (a b : StoreState) (fault : E) → ReadsOften {T = Unit {0}} blames a b (Ok tt) → (blames fault → ⊥)
+    → ReplacesOften {T = T} blames a b (Err fault)
+blameless_frame blames a b fault n never = record {
   files = n.files;
   known = n.known;
   left = n.left;
   failures = n.failures;
-  failed = λ bad. absurd bad;
-  stops = λ known bad. absurd bad;
+  failed = λ blame. absurd (never blame);
+  stops = λ known blame. absurd (never blame);
 }

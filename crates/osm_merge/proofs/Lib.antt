@@ -6,6 +6,7 @@ pub mod FrameLemmas
 pub mod LayLemmas
 pub mod ItemLemmas
 pub mod ObjectLemmas
+pub mod CountingLemmas
 pub mod CountLemmas
 pub mod ListLemmas
 pub mod CheckLemmas

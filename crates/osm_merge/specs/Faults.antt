@@ -25,6 +25,12 @@ abbrev pub IsBadLine : MergeFault → Type 0
 IsBadLine (BadSave line) = Unit {0}
 IsBadLine fault = ⊥
 
+-- the text is the reason: a line is bad, or too long
+abbrev pub IsOfText : MergeFault → Type 0
+IsOfText (BadSave line) = Unit {0}
+IsOfText LongLine = Unit {0}
+IsOfText fault = ⊥
+
 -- the device or memory is the reason
 abbrev pub IsPlain : MergeFault → Type 0
 IsPlain ReadFault = Unit {0}

@@ -1,8 +1,9 @@
 //! Why a save text isn't checked or merged.
 
-ghost use Rattle.std.specs.Prelude.{◌↔◌};
+ghost use Rattle.std.specs.Prelude.{◌≡◌, ◌↔◌};
 ghost use Rattle.osm_blocks.specs.Frames as blocks;
 ghost use Rattle.osm_merge.specs.Faults.{IsDeviceFault, IsPlain};
+ghost use Rattle.osm_merge.specs.declared.fault.MergeFault.TheVariants.{WriteFault};
 ghost use Rattle.osm_store.specs.Files.{NeverTooLarge};
 ghost use Rattle.osm_store.specs.Frames.{IsDevice};
 
@@ -71,6 +72,7 @@ impl From<WantOfMemory> for MergeFault {
 /// The fault of a writer, which never calls a line or a file too long.
 pub(crate) fn unwritten(fault: BlockFault) -> MergeFault
     ensures device { blocks.IsDeviceFault fault ↔ IsDeviceFault result }
+    ensures write { blocks.IsDeviceFault fault → result ≡ WriteFault }
     ensures other { blocks.IsPlain fault → IsPlain result }
 {
     match fault {
@@ -84,6 +86,7 @@ pub(crate) fn unwritten(fault: BlockFault) -> MergeFault
 /// The fault of a store that began a file, or put it into its place, and never calls it too large.
 pub(crate) fn fault_of(error: StoreError) -> MergeFault
     ensures device { IsDevice error ↔ IsDeviceFault result }
+    ensures write { IsDevice error → result ≡ WriteFault }
     ensures other { NeverTooLarge error → IsPlain result }
 {
     match error {

@@ -2,6 +2,7 @@
 #![tactic(auto)]
 
 pub mod check;
+mod counting;
 mod counts;
 pub mod fault;
 pub mod lists;

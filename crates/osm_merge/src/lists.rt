@@ -207,9 +207,9 @@ fn put_end<S: Store>(store: &mut S, writer: &mut BlockWriter) -> Result<(), Merg
     }
 }
 
-// Passes both lists of counts, each count at most `most`, and `end`, and writes the lists with the
-// increments added to them, and `end`. Gives the numbers of users and of changesets.
-fn merge_both<S: Store>(
+/// Passes both lists of counts, each count at most `most`, and `end`, and writes the lists with the
+/// increments added to them, and `end`. Gives the numbers of users and of changesets.
+pub(crate) fn merge_both<S: Store>(
     alloc: Global,
     store: &mut S,
     name: &str,

@@ -14,15 +14,18 @@ ghost use Rattle.osm_save.specs.Lines.{ended};
 ghost use Rattle.osm_save.specs.Reading.{mirror_at};
 ghost use Rattle.osm_save.specs.Save.{saved_with};
 ghost use Rattle.osm_save.specs.declared.version.Version.TheVariants.{Three};
-ghost use Rattle.osm_merge.specs.Faults.{IsDeviceFault, IsPlain};
+ghost use Rattle.osm_merge.specs.Counting.{CountsAs};
+ghost use Rattle.osm_merge.specs.Faults.{IsDeviceFault, IsOfText, IsPlain};
 ghost use Rattle.osm_merge.specs.Laying.{IsFew, Writes};
 ghost use Rattle.osm_merge.specs.Checking.{CheckStops};
-ghost use Rattle.osm_merge.specs.Merging.{IsCounted, IsMerged, IsStaged, MergeStops, merged_text};
+ghost use Rattle.osm_merge.specs.Merging.{IsMerged, IsStaged, MergeStops, merged_text};
 ghost use Rattle.osm_store.specs.Files.{Puts, Spends};
 ghost use Rattle.osm_merge.specs.Frames.{ReplacesOften};
 ghost use Rattle.osm_merge.specs.Mirrors.{MergesMirror};
 ghost use Rattle.osm_merge.specs.Reading.{Refuses};
 
+use crate::check::{Checked, check_save};
+use crate::counting::count_lists;
 use crate::fault::{MergeFault, fault_of, unwritten};
 use crate::lists::{Totals, merge_lists};
 use crate::opening::{Opening, open_save};
@@ -144,8 +147,9 @@ pub(crate) fn write_lists<S: Store>(
     }
 }
 
-// The first pass: checks the file, and gives the numbers that its lists have after net changes.
-fn count_pass<S: Store>(
+// Gives the numbers that the lists of a save text have after net changes. They may be wrong if it
+// is none, and so may the line of a fault.
+fn count_save<S: Store>(
     alloc: Global,
     store: &mut S,
     name: &str,
@@ -156,7 +160,7 @@ fn count_pass<S: Store>(
     requires users { AllByRecursion IsFew users.now }
     requires changesets { AllByRecursion IsFew changesets.now }
     ensures counted { IfOk result (λ totals. IsKnown (S.state store.old)
-        → IsCounted ((S.state store.old).files name.now)
+        → CountsAs ((S.state store.old).files name.now)
         (record { objects = entries.now; users = users.now; changesets = changesets.now })
         totals) }
     ensures refused { IfErr result (λ fault. IsKnown (S.state store.old)
@@ -171,20 +175,12 @@ fn count_pass<S: Store>(
         Ok(opened) => opened,
         Err(fault) => return Err(fault),
     };
-    let mut writer = BlockWriter::dropping(alloc);
-    let none = Totals {
-        objects: 0,
-        users: 0,
-        changesets: 0,
-    };
-    match merge_lists(
+    match count_lists(
         alloc,
         store,
         name,
         &mut source,
-        &mut writer,
         &opening,
-        none,
         entries,
         users,
         changesets,
@@ -194,7 +190,64 @@ fn count_pass<S: Store>(
     }
 }
 
-// The second pass: checks the file again, and writes what it gives with the new head and after net
+// Whether the text is the reason.
+fn is_of_text(fault: MergeFault) -> bool
+    ensures of_text { IsTrue result → IsOfText fault }
+{
+    matches!(
+        fault,
+        MergeFault::BadSave { line: _ } | MergeFault::LongLine
+    )
+}
+
+// The fault of a file that is no save text: that which a check finds, whose line is the first bad
+// one, or the one of before, if the check ends for another reason.
+fn fault_of_text(fault: MergeFault, checked: Result<Checked, MergeFault>) -> MergeFault
+    requires { IsOfText fault }
+    ensures { IsOfText result }
+{
+    match checked {
+        Err(first) if is_of_text(first) => first,
+        _ => fault,
+    }
+}
+
+// The first pass: gives the numbers that the lists of a save text have after net changes. They may
+// be wrong if it is none, which the second pass finds.
+fn count_pass<S: Store>(
+    alloc: Global,
+    store: &mut S,
+    name: &str,
+    entries: &[(Key, Option<Change>)],
+    users: &[(u32, u64)],
+    changesets: &[(u32, u64)],
+) -> Result<Totals, MergeFault>
+    requires users { AllByRecursion IsFew users.now }
+    requires changesets { AllByRecursion IsFew changesets.now }
+    ensures counted { IfOk result (λ totals. IsKnown (S.state store.old)
+        → CountsAs ((S.state store.old).files name.now)
+        (record { objects = entries.now; users = users.now; changesets = changesets.now })
+        totals) }
+    ensures refused { IfErr result (λ fault. IsKnown (S.state store.old)
+        → CheckStops ((S.state store.old).files name.now) fault) }
+    ensures frame { ReadsOften IsDeviceFault (S.state store.old) (S.state store.new) result }
+    ensures spends { OnOk result (Spends 1 (S.state store.old).left (S.state store.new).left) }
+    ensures calls { IsKnown (S.state store.old) → MakesAtMost IsDeviceFault
+        (check_calls (bytes_in ((S.state store.old).files name.now)))
+        (S.state store.old) (S.state store.new) result }
+{
+    let fault = match count_save(alloc, store, name, entries, users, changesets) {
+        Ok(totals) => return Ok(totals),
+        Err(fault) => fault,
+    };
+    if !is_of_text(fault) {
+        return Err(fault);
+    }
+    let checked = check_save(alloc, store, name);
+    Err(fault_of_text(fault, checked))
+}
+
+// The second pass: checks the file, and writes what it gives with the new head and after net
 // changes.
 fn write_pass<S: Store>(
     alloc: Global,
@@ -304,15 +357,15 @@ pub fn merge_save<S: Store>(
         Ok(totals) => totals,
         Err(fault) => return Err(fault),
     };
-    if totals.objects > MOST_OBJECTS {
-        return Err(MergeFault::TooLarge);
-    }
     let counted = match write_pass(alloc, store, name, head, totals, entries, users, changesets) {
         Ok(counted) => counted,
         Err(fault) => return Err(fault),
     };
     if !are_same(totals, counted) {
         return Err(MergeFault::Changed);
+    }
+    if counted.objects > MOST_OBJECTS {
+        return Err(MergeFault::TooLarge);
     }
     match commit(store) {
         Ok(()) => Ok(()),

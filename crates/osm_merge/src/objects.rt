@@ -28,8 +28,8 @@ use osm_store::store::Store;
 use std::alloc::Global;
 use std::cmp::Ordering;
 
-/// Passes the next line, which has to be that of an object that the filter keeps, with a key after
-/// the last one, and gives the object.
+// Passes the next line, which has to be that of an object that the filter keeps, with a key after
+// the last one, and gives the object. Its line is in `spelled` then.
 fn next_object<S: Store>(
     alloc: Global,
     store: &mut S,
@@ -42,6 +42,7 @@ fn next_object<S: Store>(
     ensures read { (file : List ℕ) → HasFile (S.state store.old) name.now file
         → Follows (λ c. c) file source.new result
         (next_at (object_at filter.now) last (left_of source.old file)) }
+    ensures spelled { IfOk result (λ c. spelled.new.items ≡ line_text c) }
     ensures stage { (S.state store.new).stage ≡ (S.state store.old).stage }
     ensures frame { ReadsOften IsDeviceFault (S.state store.old) (S.state store.new) result }
     ensures calls { (file : List ℕ) → HasFile (S.state store.old) name.now file
@@ -78,8 +79,8 @@ fn put_left(left: &Option<Change>, out: &mut Vec<u8>) -> Result<u64, WantOfMemor
     }
 }
 
-// The first entry's key, what is left of its object, and the entries after it.
-fn first_entry(
+/// The first entry's key, what is left of its object, and the entries after it.
+pub(crate) fn first_entry(
     entries: &[(Key, Option<Change>)],
 ) -> Option<(Key, &Option<Change>, &[(Key, Option<Change>)])>
     ensures { MatchOption result (entries.now ≡ [])
@@ -89,13 +90,24 @@ fn first_entry(
     Some((entry.0, &entry.1, after))
 }
 
-// Appends the lines of what the entries leave up to the object's key, and that of the object if no
-// entry has its key. Gives the entries after that, and the number of lines.
+// Appends a line.
+fn put_line(line: &[u8], out: &mut Vec<u8>) -> Result<(), WantOfMemory>
+    ensures { OnOk result (out.new.items ≡ out.old.items ++ ended (line.now ∷ [])) }
+{
+    out.extend_from_slice(line)?;
+    out.push(b'\n')?;
+    Ok(())
+}
+
+// Appends the lines of what the entries leave up to the object's key, and that of the object, which
+// is `line`, if no entry has its key. Gives the entries after that, and the number of lines.
 fn lay_object<'a>(
     entries: &'a [(Key, Option<Change>)],
     object: &Change,
+    line: &[u8],
     out: &mut Vec<u8>,
 ) -> Result<(&'a [(Key, Option<Change>)], u64), WantOfMemory>
+    requires { line.now ≡ line_text object.now }
     ensures { IfOk result (λ r. Lays laid_over line_text entries.now object.now r.0.now r.1
         (Appends out.old.items out.new.items)) }
 {
@@ -112,12 +124,12 @@ fn lay_object<'a>(
                 return Ok((after, many));
             }
             Ordering::Greater => {
-                write_object(object, out)?;
+                put_line(line, out)?;
                 return Ok((rest, many + 1));
             }
         }
     }
-    write_object(object, out)?;
+    put_line(line, out)?;
     Ok((rest, many + 1))
 }
 
@@ -141,8 +153,10 @@ fn put_object<'a, S: Store>(
     writer: &mut BlockWriter,
     entries: &'a [(Key, Option<Change>)],
     object: &Change,
+    line: &[u8],
     out: &mut Vec<u8>,
 ) -> Result<(&'a [(Key, Option<Change>)], u64), MergeFault>
+    requires { line.now ≡ line_text object.now }
     ensures laid { IfOk result (λ r. Lays laid_over line_text entries.now object.now r.0.now r.1
         (Writes (S.state store.old) writer.old (S.state store.new) writer.new)) }
     ensures refused { IfErr result IsPlain }
@@ -152,7 +166,7 @@ fn put_object<'a, S: Store>(
     ensures keeps { OnOk result (writer.new.is_writing ≡ writer.old.is_writing) }
 {
     out.clear();
-    let (rest, many) = match lay_object(entries, object, out) {
+    let (rest, many) = match lay_object(entries, object, line, out) {
         Ok(laid) => laid,
         Err(WantOfMemory) => return Err(MergeFault::WantOfMemory),
     };
@@ -226,7 +240,8 @@ pub(crate) fn merge_objects<S: Store>(
             Ok(object) => object,
             Err(fault) => return Err(fault),
         };
-        let (after, put) = match put_object(store, writer, rest, &object, &mut out) {
+        let line = spelled.as_slice();
+        let (after, put) = match put_object(store, writer, rest, &object, line, &mut out) {
             Ok(laid) => laid,
             Err(fault) => return Err(fault),
         };

@@ -93,13 +93,28 @@ line_of : (line : List ℕ) (kind : Kind) (id : ℤ) (meta : MetaValue) (what : 
 unfolding line_at
 line_of line kind id meta what head fields first v cut k h w = rw (cut, k, h, w) refl
 
+-- the fields after the key
+abbrev fields_after : (line : List ℕ) (c : ChangeValue) → SpellsLine line c → List (List ℕ)
+fields_after line c s =
+    (118 ∷ s.version_text) ∷ (100 ∷ visible_text (is_standing c.what)) ∷ (99 ∷ s.changeset_text) ∷ (116 ∷ s.time_text)
+    ∷ (105 ∷ s.uid_text) ∷ (117 ∷ s.user_text) ∷ s.fields
+
+line_cut : (line : List ℕ) (c : ChangeValue) (s : SpellsLine line c)
+    → pieces 32 line ≡ (letter_of c.key.kind ∷ s.id_text) ∷ fields_after line c s
+line_cut line c s =
+    ap (pieces 32) (line_parts line c s)
+    ∙ pieces-joined 32 (letter_of c.key.kind ∷ s.id_text) (fields_after line c s) (fields_lack 32 space line c s)
+
+-- the key that the first field has is that of the change
+pub first_key : (line : List ℕ) (c : ChangeValue) (s : SpellsLine line c) → key_at (pieces 32 line) ≡ Some (c.key, fields_after line c s)
+first_key line c s =
+    ap key_at (line_cut line c s) ∙ key_again c.key.kind c.key.id s.id_text (fields_after line c s) s.id s.limits.id
+
 pub line_again : (line : List ℕ) (c : ChangeValue) → SpellsLine line c → line_at line ≡ Some c
 unfolding line_at
 line_again line c s =
-    let head : List (List ℕ) = (118 ∷ s.version_text) ∷ (100 ∷ visible_text (is_standing c.what)) ∷
-    (99 ∷ s.changeset_text) ∷ (116 ∷ s.time_text) ∷ (105 ∷ s.uid_text) ∷ (117 ∷ s.user_text) ∷ s.fields in
-    let cut : pieces 32 line ≡ (letter_of c.key.kind ∷ s.id_text) ∷ head = ap (pieces 32) (line_parts line c s)
-    ∙ pieces-joined 32 (letter_of c.key.kind ∷ s.id_text) head (fields_lack 32 space line c s) in
+    let head : List (List ℕ) = fields_after line c s in
+    let cut : pieces 32 line ≡ (letter_of c.key.kind ∷ s.id_text) ∷ head = line_cut line c s in
     let spelled : SpellsHead head (is_standing c.what) c.meta s.fields = record {
       version_text = s.version_text;
       changeset_text = s.changeset_text;

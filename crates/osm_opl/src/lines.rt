@@ -78,6 +78,17 @@ fn read_change(alloc: Global, line: &[u8]) -> Result<Change, LineError>
     Ok(Change::within_limits(key, head.meta, what))
 }
 
+/// The key of the change that a line spells, by the line's first field alone. A line that spells no
+/// change may have one too.
+pub fn line_key(line: &[u8]) -> Option<Key>
+    ensures { (change : ChangeValue) → SpellsLine line.now change → result ≡ Some change.key }
+{
+    match read_key(line) {
+        Ok(found) => Some(found.0),
+        Err(_) => None,
+    }
+}
+
 // Reads the kind and the id, and gives the fields that follow them.
 fn read_key(line: &[u8]) -> Result<(Key, Option<&[u8]>), Why>
     ensures value { Finds (λ r. (r.0, pieces_after 32 r.1)) result (key_at (pieces 32 line.now)) }

@@ -1,7 +1,7 @@
 //! The objects of a save text, one a line, as `write_line` of OPL writes it.
 
 ghost use Rattle.std.specs.Prelude.{◌≡◌, ◌++◌, ◌∷◌, ◌&&◌, [], None, codes};
-ghost use Rattle.std.specs.Prelude.{IfOk, OnOk};
+ghost use Rattle.std.specs.Prelude.{IfOk, IfSome, OnOk};
 ghost use Rattle.std.specs.Str.{bytes_eq};
 ghost use Rattle.osm_model.specs.Change.{ChangeValue};
 ghost use Rattle.osm_model.specs.Filter.{keeps};
@@ -138,7 +138,8 @@ fn read_object_lines<'a>(
 }
 
 /// The object that is written as this line, if the filter keeps it and its key comes after the last
-/// one. `written` is a buffer that all lines share; its contents are overwritten.
+/// one. `written` is a buffer that all lines share; its contents are overwritten, with the line if it
+/// is an object's.
 #[tactic(auto, unfolding(crate::specs::Reading::object_at))]
 pub fn read_object(
     alloc: Global,
@@ -147,7 +148,8 @@ pub fn read_object(
     line: &[u8],
     written: &mut Vec<u8>,
 ) -> Result<Option<Change>, WantOfMemory>
-    ensures { IfOk result (λ r. r ≡ object_at filter.now last line.now) }
+    ensures read { IfOk result (λ r. r ≡ object_at filter.now last line.now) }
+    ensures written { IfOk result (λ r. IfSome r (λ c. written.new.items ≡ line_text c)) }
 {
     let Some(change) = change_of(alloc, line)? else {
         return Ok(None);
@@ -179,8 +181,9 @@ fn is_next(
     line: &[u8],
     written: &mut Vec<u8>,
 ) -> Result<bool, WantOfMemory>
-    ensures { IfOk result (λ r. r ≡ (bytes_eq (line_text change.now) line.now
+    ensures next { IfOk result (λ r. r ≡ (bytes_eq (line_text change.now) line.now
         && keeps filter.now change.now && is_above key_cmp last change.now.key)) }
+    ensures written { OnOk result (written.new.items ≡ line_text change.now) }
 {
     written.clear();
     write_line(change, written)?;

@@ -1,58 +1,21 @@
-use Rattle.osm_net.specs.Net.{NetValue}
-use Rattle.osm_merge.proofs.CheckLemmas.{is_counted, lists_stop, opening_stop}
-use Rattle.osm_merge.proofs.FrameLemmas.{has_still}
-use Rattle.std.proofs.Common.{arith}
-use Rattle.osm_blocks.specs.Places.{HasFile}
-use Rattle.osm_merge.specs.Calls.{bytes_in, check_calls}
-use Rattle.osm_merge.proofs.CallLemmas.{check_done, check_fails, unopened}
+use Rattle.osm_merge.specs.Faults.{IsDeviceFault, IsOfText}
+use Rattle.osm_merge.specs.declared.lists.Totals.{Totals}
+use Rattle.osm_merge.proofs.CallLemmas.{text_blames}
+use Rattle.osm_merge.proofs.CheckLemmas.{no_text, text_stops}
+use Rattle.osm_merge.proofs.FrameLemmas.{both_blameless}
 use Rattle.osm_merge.proofs.merge.count_pass.Goals as goal
-
-pub returns-in-Err-clause-refused : goal.returns-in-Err-clause-refused
-returns-in-Err-clause-refused g c = λ known.
-    opening_stop ((g.S.Store.state c.args.store.now).files c.args.name.now) c.in-Err.fault (c.in-Err.ensures.refused known)
 
 pub returns-clause-refused : goal.returns-clause-refused
 returns-clause-refused g c = λ known.
-    let opened = c.in-Ok.ensures.opened known in
-    let has = has_still (g.S.Store.state c.args.store.now) (g.S.Store.state c.open_save.new.store) c.in-Ok.opened c.args.name.now opened.file c.in-Ok.ensures.frame
-    (record { known = known; there = opened.there }) in
-    lists_stop ((g.S.Store.state c.args.store.now).files c.args.name.now) c.in-Ok.opened.0 c.in-Ok.opened.1 c.in-Err-merge_lists.fault opened
-    (c.in-Err-merge_lists.ensures.refused opened.file has)
+    let told = (g.S.Store.state c.args.store.now).files c.args.name.now in
+    let of_text : IsOfText c.in-Err.fault = c.is_of_text.ensures.of_text c.if-not-is_of_text.false in
+    text_stops told c.fault_of_text.result c.fault_of_text.ensures (no_text told c.in-Err.fault of_text (c.in-Err.ensures.refused known))
 
-pub returns-in-Ok-merge_lists-clause-counted : goal.returns-in-Ok-merge_lists-clause-counted
-returns-in-Ok-merge_lists-clause-counted g c = λ known.
-    let opened = c.in-Ok.ensures.opened known in
-    let m = c.in-Ok-merge_lists.ensures.merges in
-    let n : NetValue = record { objects = c.args.entries.now; users = c.args.users.now; changesets = c.args.changesets.now } in
-    let has = has_still (g.S.Store.state c.args.store.now) (g.S.Store.state c.open_save.new.store) c.in-Ok.opened c.args.name.now opened.file c.in-Ok.ensures.frame
-    (record { known = known; there = opened.there }) in
-    is_counted ((g.S.Store.state c.args.store.now).files c.args.name.now) c.in-Ok.opened.0 c.in-Ok.opened.1 n c.in-Ok-merge_lists.totals opened
-    m.mirror (m.read opened.file has) m.counted_are
-
-pub returns-in-Err-clause-calls : goal.returns-in-Err-clause-calls
-returns-in-Err-clause-calls g c = λ known.
-    let a = g.S.Store.state c.args.store.now in
-    unopened (check_calls (bytes_in (a.files c.args.name.now))) a (g.S.Store.state c.open_save.new.store) c.in-Err.fault c.in-Err.ensures.calls (omega arith)
-
-pub returns-in-Ok-merge_lists-clause-calls : goal.returns-in-Ok-merge_lists-clause-calls
-returns-in-Ok-merge_lists-clause-calls g c = λ known.
-    let a = g.S.Store.state c.args.store.now in
-    let b = g.S.Store.state c.open_save.new.store in
-    let opened = c.in-Ok.ensures.opened known in
-    let has : HasFile a c.args.name.now opened.file = record { known = known; there = opened.there } in
-    let has_b = has_still a b c.in-Ok.opened c.args.name.now opened.file c.in-Ok.ensures.frame has in
-    check_done (a.files c.args.name.now) opened.file c.dropping-writer.result c.in-Ok.opened.0 a b (g.S.Store.state c.merge_lists.new.store) c.in-Ok.opened
-    opened.there known c.in-Ok.ensures.calls (c.in-Ok.ensures.ahead opened.file has) c.dropping-writer.ensures c.in-Ok-merge_lists.totals
-    c.in-Ok-merge_lists.totals
-    (c.in-Ok-merge_lists.ensures.calls opened.file has_b)
+pub returns-clause-frame : goal.returns-clause-frame
+returns-clause-frame g c =
+    both_blameless {V = Totals} IsDeviceFault (g.S.Store.state c.args.store.now) (g.S.Store.state c.count_save.new.store) (g.S.Store.state c.check_save-checked.new.store)
+    c.in-Err.fault c.fault_of_text.result c.check_save-checked.result c.in-Err.ensures.frame c.check_save-checked.ensures.frame
+    (text_blames c.fault_of_text.result c.fault_of_text.ensures)
 
 pub returns-clause-calls : goal.returns-clause-calls
-returns-clause-calls g c = λ known.
-    let a = g.S.Store.state c.args.store.now in
-    let b = g.S.Store.state c.open_save.new.store in
-    let opened = c.in-Ok.ensures.opened known in
-    let has : HasFile a c.args.name.now opened.file = record { known = known; there = opened.there } in
-    let has_b = has_still a b c.in-Ok.opened c.args.name.now opened.file c.in-Ok.ensures.frame has in
-    check_fails (a.files c.args.name.now) opened.file c.dropping-writer.result c.in-Ok.opened.0 a b (g.S.Store.state c.merge_lists.new.store) c.in-Ok.opened
-    opened.there known c.in-Ok.ensures.calls (c.in-Ok.ensures.ahead opened.file has) c.dropping-writer.ensures c.in-Err-merge_lists.fault
-    (c.in-Err-merge_lists.ensures.calls opened.file has_b)
+returns-clause-calls g c = λ known. record { spent = tt; lacks = λ again. text_blames c.fault_of_text.result c.fault_of_text.ensures }

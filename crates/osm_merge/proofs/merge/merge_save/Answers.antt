@@ -10,10 +10,11 @@ use Rattle.osm_save.proofs.SaveLemmas.{save_takes}
 use Rattle.osm_store.specs.Files.{Files, Puts}
 use Rattle.osm_merge.specs.Checking.{CheckStops}
 use Rattle.osm_merge.specs.Faults.{IsDeviceFault}
-use Rattle.osm_merge.specs.Merging.{IsCounted, merged_text}
+use Rattle.osm_merge.specs.Merging.{merged_text}
+use Rattle.osm_merge.specs.declared.fault.MergeFault.TheVariants.{Changed, TooLarge}
 use Rattle.osm_merge.specs.declared.lists.Totals.{Totals}
-use Rattle.osm_merge.proofs.CheckLemmas.{counted_once, merge_stops, merged_is, plain_stops}
-use Rattle.osm_merge.proofs.FrameLemmas.{changed_frame, known_still, reads_fail, then_replaces}
+use Rattle.osm_merge.proofs.CheckLemmas.{merge_stops, merged_is, plain_stops}
+use Rattle.osm_merge.proofs.FrameLemmas.{blameless_frame, known_still, reads_fail, then_replaces}
 use Rattle.osm_merge.specs.Calls.{bytes_in, check_calls, merge_calls}
 use Rattle.osm_merge.proofs.CallLemmas.{advances_fails, advances_first, advances_of, advances_then, at_most}
 use Rattle.osm_merge.proofs.merge.merge_save.Goals as goal
@@ -46,32 +47,40 @@ pub returns-then-not-are_same-clause-refused : goal.returns-then-not-are_same-cl
 returns-then-not-are_same-clause-refused g c = λ known.
     let a = g.S.Store.state c.args.store.now in
     let b = g.S.Store.state c.count_pass.new.store in
-    let n : NetValue = record { objects = c.args.entries.now; users = c.args.users.now; changesets = c.args.changesets.now } in
-    let known_b = known_still a b c.in-Ok.totals c.in-Ok.ensures.frame known in
-    let second = (c.in-Ok-write_pass.ensures.staged known_b).count in
-    let again : IsCounted (a.files c.args.name.now) n c.in-Ok-write_pass.counted =
-    subst (λ (f : Files). IsCounted (f c.args.name.now) n c.in-Ok-write_pass.counted) c.in-Ok.ensures.frame.files second in
-    c.are_same.ensures.other c.if-not-are_same.true (counted_once (a.files c.args.name.now) n c.in-Ok.totals c.in-Ok-write_pass.counted (c.in-Ok.ensures.counted known) again)
+    let second = (c.in-Ok-write_pass.ensures.staged (known_still a b c.in-Ok.totals c.in-Ok.ensures.frame known)).count in
+    let there : a.files c.args.name.now ≡ Some second.file = ap (λ (f : Files). f c.args.name.now) (sym c.in-Ok.ensures.frame.files) ∙ second.there in
+    c.are_same.ensures.other c.if-not-are_same.true (c.in-Ok.ensures.counted known second.file second.saved there second.is ∙ sym second.totals_are)
 
 pub returns-then-not-are_same-clause-frame : goal.returns-then-not-are_same-clause-frame
 returns-then-not-are_same-clause-frame g c =
     let a = g.S.Store.state c.args.store.now in
     let b = g.S.Store.state c.count_pass.new.store in
     let d = g.S.Store.state c.write_pass.new.store in
-    changed_frame a d (often_then {V = Unit {0}} IsDeviceFault a b d c.in-Ok.totals c.in-Ok-write_pass.counted tt c.in-Ok.ensures.frame c.in-Ok-write_pass.ensures.frame)
+    blameless_frame IsDeviceFault a d Changed (often_then {V = Unit {0}} IsDeviceFault a b d c.in-Ok.totals c.in-Ok-write_pass.counted tt c.in-Ok.ensures.frame c.in-Ok-write_pass.ensures.frame)
+    (λ bad. bad)
 
-pub returns-then-totals-gt-MOST_OBJECTS-clause-refused : goal.returns-then-totals-gt-MOST_OBJECTS-clause-refused
-returns-then-totals-gt-MOST_OBJECTS-clause-refused g c = λ known.
-    let counted = c.in-Ok.ensures.counted known in
-    let above : 999999999999999999 < c.in-Ok.totals.objects = grind (arith, common_steps) in
-    let is = ap (λ (t : Totals). t.objects) counted.totals_are in
+pub returns-then-counted-gt-MOST_OBJECTS-clause-refused : goal.returns-then-counted-gt-MOST_OBJECTS-clause-refused
+returns-then-counted-gt-MOST_OBJECTS-clause-refused g c = λ known.
+    let a = g.S.Store.state c.args.store.now in
+    let b = g.S.Store.state c.count_pass.new.store in
+    let second = (c.in-Ok-write_pass.ensures.staged (known_still a b c.in-Ok.totals c.in-Ok.ensures.frame known)).count in
+    let above : 999999999999999999 < c.in-Ok-write_pass.counted.objects = grind (arith, common_steps) in
+    let is = ap (λ (t : Totals). t.objects) second.totals_are in
     inr (record {
-      file = counted.file;
-      there = counted.there;
-      saved = counted.saved;
-      spells = save_takes counted.file counted.saved counted.is;
+      file = second.file;
+      there = ap (λ (f : Files). f c.args.name.now) (sym c.in-Ok.ensures.frame.files) ∙ second.there;
+      saved = second.saved;
+      spells = save_takes second.file second.saved second.is;
       many = omega (arith, above, is);
     })
+
+pub returns-then-counted-gt-MOST_OBJECTS-clause-frame : goal.returns-then-counted-gt-MOST_OBJECTS-clause-frame
+returns-then-counted-gt-MOST_OBJECTS-clause-frame g c =
+    let a = g.S.Store.state c.args.store.now in
+    let b = g.S.Store.state c.count_pass.new.store in
+    let d = g.S.Store.state c.write_pass.new.store in
+    blameless_frame IsDeviceFault a d TooLarge (often_then {V = Unit {0}} IsDeviceFault a b d c.in-Ok.totals c.in-Ok-write_pass.counted tt c.in-Ok.ensures.frame c.in-Ok-write_pass.ensures.frame)
+    (λ bad. bad)
 
 pub returns-in-Ok-commit-clause-merged : goal.returns-in-Ok-commit-clause-merged
 returns-in-Ok-commit-clause-merged g c = λ known.
@@ -93,8 +102,8 @@ returns-in-Ok-commit-clause-merged g c = λ known.
       there = ap (λ (f : Files). f c.args.name.now) (sym c.in-Ok.ensures.frame.files) ∙ s.count.there;
       saved = v;
       spells = save_takes s.count.file v s.count.is;
-      few = (let low : c.in-Ok.totals.objects ≤ 999999999999999999 = grind (arith, common_steps) in
-          let many = ap (λ (t : Totals). t.objects) (same ∙ s.count.totals_are) in
+      few = (let low : c.in-Ok-write_pass.counted.objects ≤ 999999999999999999 = grind (arith, common_steps) in
+          let many = ap (λ (t : Totals). t.objects) s.count.totals_are in
           omega (arith, low, many));
       put = subst (λ (l : List ℕ). Puts a.files c.args.name.now (Some l) e.files) is
           (subst (λ (f : Files). Puts f c.args.name.now (Some text) e.files) (c.in-Ok-write_pass.ensures.frame.files ∙ c.in-Ok.ensures.frame.files) put);

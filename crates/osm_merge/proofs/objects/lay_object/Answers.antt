@@ -34,17 +34,17 @@ pub returns-in-Greater : goal.returns-in-Greater
 returns-in-Greater c =
     let greater : key_cmp c.in-Some.key c.args.object.now.key ≡ Greater = search rules in
     below_last laid_over line_text c.args.entries.now c.loop-key.rest.now c.loop-key.rest.now c.args.object.now c.loop-key.many 1
-    c.args.out.now.items c.loop-key.out.items c.write_object.new.out.items (c.args.object.now ∷ []) c.loop-key.invariant
+    c.args.out.now.items c.loop-key.out.items c.put_line.new.out.items (c.args.object.now ∷ []) c.loop-key.invariant
     (λ xs. ap (λ (l : List NetEntry). laid_over l (c.args.object.now ∷ xs)) c.in-Some.ensures
     ∙ over_above (c.in-Some.key, c.in-Some.left.now) c.in-Some.after.now c.args.object.now greater xs
     ∙ ap (λ (l : List NetEntry). c.args.object.now ∷ laid_over l xs) (sym c.in-Some.ensures))
-    c.in_ok-write_object-in-Greater.ensures refl (omega arith)
+    (rw (← c.requires) c.in_ok-put_line-in-Greater.ensures) refl (omega arith)
 
 pub returns : goal.returns
 returns c =
     below_last laid_over line_text c.args.entries.now c.loop-key.rest.now c.loop-key.rest.now c.args.object.now c.loop-key.many 1
-    c.args.out.now.items c.loop-key.out.items c.write_object-2.new.out.items (c.args.object.now ∷ []) c.loop-key.invariant
+    c.args.out.now.items c.loop-key.out.items c.put_line-2.new.out.items (c.args.object.now ∷ []) c.loop-key.invariant
     (λ xs. ap (λ (l : List NetEntry). laid_over l (c.args.object.now ∷ xs)) c.in_default.ensures
     ∙ over_none c.args.object.now xs
     ∙ ap (λ (l : List NetEntry). c.args.object.now ∷ laid_over l xs) (sym c.in_default.ensures))
-    c.in_ok-write_object.ensures refl (omega arith)
+    (rw (← c.requires) c.in_ok-put_line.ensures) refl (omega arith)

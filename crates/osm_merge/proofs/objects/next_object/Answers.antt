@@ -15,13 +15,13 @@ returns-in-Err-clause-read g c = λ file has.
 
 pub returns-in-Ok-Some-clause-read : goal.returns-in-Ok-Some-clause-read
 returns-in-Ok-Some-clause-read g c = λ file has.
-    let read : Some c.in-Ok-Some.object ≡ object_at c.args.filter.now c.args.last c.line.result.now = sym c.in-Ok-Some.field-0-is ∙ c.in-Ok-Some.ensures in
+    let read : Some c.in-Ok-Some.object ≡ object_at c.args.filter.now c.args.last c.line.result.now = sym c.in-Ok-Some.field-0-is ∙ c.in-Ok-Some.ensures.read in
     rw c.pass.ensures (next_is (object_at c.args.filter.now) c.args.last (left_of c.args.source.now file) (take c.in-Ok.count c.next.new.self.unread)
     (left_of (past (c.in-Ok.count + 1) c.next.new.self) file) (Some c.in-Ok-Some.object) (c.in-Ok.ensures.found file has) (rw c.line.ensures at read))
 
 pub returns-in-Ok-None-clause-read : goal.returns-in-Ok-None-clause-read
 returns-in-Ok-None-clause-read g c = λ file has.
-    let read : None ≡ object_at c.args.filter.now c.args.last c.line.result.now = sym c.in-Ok-None.field-0-is ∙ c.in-Ok-None.ensures in
+    let read : None ≡ object_at c.args.filter.now c.args.last c.line.result.now = sym c.in-Ok-None.field-0-is ∙ c.in-Ok-None.ensures.read in
     bad_refuses file c.wrong.result (next_at (object_at c.args.filter.now) c.args.last (left_of c.args.source.now file)) c.wrong.ensures
     (next_is (object_at c.args.filter.now) c.args.last (left_of c.args.source.now file) (take c.in-Ok.count c.next.new.self.unread)
     (left_of (past (c.in-Ok.count + 1) c.next.new.self) file) None (c.in-Ok.ensures.found file has) (rw c.line.ensures at read))

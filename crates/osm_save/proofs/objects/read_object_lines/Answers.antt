@@ -19,26 +19,26 @@ pub returns-in-Ok-None : goal.returns-in-Ok-None
 returns-in-Ok-None c =
     items_wrong (λ d. d.key) (object_at c.args.filter.now) c.args.many c.args.rest.now c.loop.counter c.loop.objects c.loop.last
     c.loop.rest.now c.in-Ok.cut.0.now c.in-Ok.cut.1.now c.loop-test.true c.loop.invariant.items c.in-Ok.ensures
-    (sym (sym c.in-Ok-None.field-0-is ∙ c.in-Ok-None.ensures))
+    (sym (sym c.in-Ok-None.field-0-is ∙ c.in-Ok-None.ensures.read))
 
 pub push-requires-clause-rising : goal.push-requires-clause-rising
 push-requires-clause-rising c =
     let taken : TakesObject c.args.filter.now c.loop.last c.in-Ok.cut.0.now c.in-Ok-Some.object =
     object_takes c.args.filter.now c.loop.last c.in-Ok.cut.0.now c.in-Ok-Some.object
-    (sym (sym c.in-Ok-Some.field-0-is ∙ c.in-Ok-Some.ensures)) in
+    (sym (sym c.in-Ok-Some.field-0-is ∙ c.in-Ok-Some.ensures.read)) in
     rw (map-append) (c.loop.invariant.below c.in-Ok-Some.object.key taken.above)
 
 pub push-requires-clause-is_left : goal.push-requires-clause-is_left
 push-requires-clause-is_left c =
     let taken : TakesObject c.args.filter.now c.loop.last c.in-Ok.cut.0.now c.in-Ok-Some.object =
     object_takes c.args.filter.now c.loop.last c.in-Ok.cut.0.now c.in-Ok-Some.object
-    (sym (sym c.in-Ok-Some.field-0-is ∙ c.in-Ok-Some.ensures)) in
+    (sym (sym c.in-Ok-Some.field-0-is ∙ c.in-Ok-Some.ensures.read)) in
     taken.good.object.is_left
 
 pub loop-preserved : goal.loop-preserved
 loop-preserved c =
     let read : object_at c.args.filter.now c.loop.last c.in-Ok.cut.0.now ≡ Some c.in-Ok-Some.object =
-    sym (sym c.in-Ok-Some.field-0-is ∙ c.in-Ok-Some.ensures) in
+    sym (sym c.in-Ok-Some.field-0-is ∙ c.in-Ok-Some.ensures.read) in
     let taken : TakesObject c.args.filter.now c.loop.last c.in-Ok.cut.0.now c.in-Ok-Some.object =
     object_takes c.args.filter.now c.loop.last c.in-Ok.cut.0.now c.in-Ok-Some.object read in
     rw (c.in_ok-push.ensures.pushed, c.key.ensures.key) (record {
