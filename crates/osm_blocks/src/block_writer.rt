@@ -1,9 +1,11 @@
 //! A file that is written in blocks.
 
-ghost use Rattle.std.specs.Prelude.{◌≡◌, ℕ, ◌++◌, [], List, false, true, IfErr, OnOk};
+ghost use Rattle.std.specs.Prelude.{◌≡◌, ◌<◌, ℕ, ◌++◌, [], List, false, true, IfErr, IsTrue, OnOk};
+ghost use Rattle.std.specs.Prelude.{length};
 ghost use Rattle.osm_store.specs.Frames.{IsKnown, MakesAtMost};
 ghost use Rattle.osm_blocks.specs.Calls.{puts_of};
 ghost use Rattle.osm_blocks.specs.Frames.{IsDeviceFault, IsPlain, ReadsOften};
+ghost use Rattle.osm_blocks.specs.Places.{max_block};
 ghost use Rattle.osm_blocks.specs.Writing.{IsWritten};
 
 use crate::fault::{BlockFault, fault_of};
@@ -50,7 +52,7 @@ impl BlockWriter {
         }
     }
 
-    /// Adds bytes at the end of the file that was begun.
+    /// Adds bytes at the end of the file that was begun. Less than a block waits then.
     pub fn put<S: Store>(&mut self, store: &mut S, bytes: &[u8]) -> Result<(), BlockFault>
         ensures put { OnOk result (IsKnown (S.state store.old) → (name text : List ℕ)
             → IsWritten (S.state store.old).stage self.old name text
@@ -59,6 +61,8 @@ impl BlockWriter {
         ensures frame { ReadsOften IsDeviceFault (S.state store.old) (S.state store.new) result }
         ensures calls { MakesAtMost IsDeviceFault (puts_of self.old)
             (S.state store.old) (S.state store.new) result }
+        ensures waits { OnOk result (IsTrue self.new.is_writing
+            → length self.new.bytes < max_block) }
         ensures keeps { self.new.is_writing ≡ self.old.is_writing }
     {
         if !self.is_writing {

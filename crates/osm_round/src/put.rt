@@ -1,6 +1,7 @@
 //! Saving what a run took: laid over its save, or as a save of its own.
 
 ghost use Rattle.std.specs.Prelude.{◌≡◌, ℕ, ◌≤◌, [], ◌∷◌, ◌++◌, Some, IfErr, IfOk, IfSome, OnOk};
+ghost use Rattle.std.specs.Prelude.{IsTrue};
 ghost use Rattle.std.specs.List.{AllByRecursion};
 ghost use Rattle.osm_model.specs.Content.{object_after};
 ghost use Rattle.osm_model.specs.Limits.{max_sequence};
@@ -34,7 +35,7 @@ use osm_save::save::save_write;
 use osm_store::store::{Store, StoreError};
 use std::alloc::Global;
 
-/// Saves what was taken. If nothing was, the save is only checked.
+/// Saves what was taken. If nothing was, a save that is there is only checked.
 pub(crate) fn put<S: Store>(
     alloc: Global,
     store: &mut S,
@@ -51,6 +52,8 @@ pub(crate) fn put<S: Store>(
     ensures put { OnOk result (IsKnown (S.state store.old)
         → PutsTaken filter.now save.now start.head taken (S.state store.old).files
         (S.state store.new).files) }
+    ensures still { IsTrue start.has_save → taken.head.number ≡ start.head.number
+        → (S.state store.new).files ≡ (S.state store.old).files }
     ensures stops { IfErr result (PutStops (IsKnown (S.state store.old))
         ((S.state store.old).files save.now) taken.net) }
     ensures frame { ReplacesOften IsDeviceFault (S.state store.old) (S.state store.new) result }

@@ -55,13 +55,13 @@ struct Prepared {
 }
 
 /// Follows a folder from a save, or from the start if there is none, up to the folder's newest
-/// state, the limit, the first lost number or the number before a faulty one, and writes the save.
-/// Of the objects it keeps those that the filter keeps; the edits of all others are counted too. A
-/// save of another filter is refused as `OtherFilter`. A number is lost if its state isn't there,
-/// or its changes in neither form. The lost numbers are named, up to 64 after the one that was
-/// reached: of those beyond the first it is asked only which files are there, so a faulty file
-/// there is no fault of the run. A save of any size is taken, and what is in memory doesn't grow
-/// with it. A refusal leaves all files as they were.
+/// number, the limit, or the number before a lost or a faulty one, and writes the save if something
+/// is new or there was none. Of the objects it keeps those that the filter keeps; the edits of all
+/// others are counted too. A save of another filter is refused as `OtherFilter`. A number is lost
+/// if its state isn't there, or its changes in neither form. The lost numbers are named, up to 64
+/// after the one that was reached: of those beyond the first it is asked only which files are
+/// there, so a faulty file there is no fault of the run. A save of any size is taken, and what is
+/// in memory doesn't grow with it. A refusal leaves all files as they were.
 pub fn follow_round<S: Store>(
     alloc: Global,
     store: &mut S,

@@ -34,7 +34,7 @@ const NOTHING: Start = Start {
     has_save: false,
 };
 
-/// Reads the head of a save, which has to have that filter. What follows the head isn't read.
+/// Reads the head of a save, which has to have that filter. What follows the head isn't looked at.
 pub(crate) fn read_start<S: Store>(
     alloc: Global,
     store: &mut S,
