@@ -1,4 +1,4 @@
-//! Tests of saves in blocks: osm_merge.
+//! Tests of saves in blocks: osm_merge, osm_round.
 #![tactic(auto)]
 
 #[cfg(test)]

@@ -34,7 +34,7 @@ use Rattle.osm_folder.specs.declared.options.Layout.{Layout}
 use Rattle.osm_folder.specs.declared.options.Layout.TheVariants.{Lines}
 use Rattle.osm_json.specs.declared.line.Standing.{Standing}
 
--- the most bytes of a save: 1 GiB
+-- the most bytes of a save that is read whole or begun: 1 GiB
 abbrev pub max_save : ℕ
 max_save = 1073741824
 

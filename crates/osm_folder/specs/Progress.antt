@@ -1,5 +1,5 @@
--- What the word `follow` keeps: the numbers before a faulty one. `known` says that it is known what
--- the files hold, and `options` is what the run is asked for.
+-- What a run of the follower came to: all that it was asked for, or the numbers before a faulty
+-- one.
 use Rattle.std.specs.Prelude.{◌≡◌, ℕ, ◌+◌, List, None, Some, Result}
 use Rattle.std.specs.Prelude.{Ok, Err}
 use Rattle.osm_model.specs.Filter.{FilterValue}
@@ -25,7 +25,8 @@ IsOfContent (Mismatch k) number = k ≡ number
 IsOfContent (BadChange (Sequence k suffix) place why) number = k ≡ number
 IsOfContent fault number = ⊥
 
--- its report, whatever is known of the files: that of a faulty number has a text of the fault
+-- the report of what a run came to, whatever is known of the files: that of a faulty number has a
+-- text of the fault
 abbrev pub IsProgressReport : Layout → Progress → Type 0
 IsProgressReport layout (Whole report) = IsFollowReport layout None report
 IsProgressReport layout (Before report fault) =

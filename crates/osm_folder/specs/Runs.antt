@@ -1,5 +1,5 @@
 -- What all runs over a store have in common.
-use Rattle.std.specs.Prelude.{◌≡◌, ℕ, Option, Result, OnErr}
+use Rattle.std.specs.Prelude.{◌≡◌, ℕ, Option, Result}
 use Rattle.osm_store.specs.Files.{HasFailed, HasFewer}
 use Rattle.osm_store.specs.Frames.{CallsBetween, Makes, MakesAtMost, ReadsBetween, StoreState}
 use Rattle.osm_store.specs.Frames.{ReplacesBetween}
@@ -49,9 +49,3 @@ pub record ReadsAtLeast {T : Type 0} (least : ℕ) (old new : StoreState)
 -- that many calls, and no file changes unless all is done
 abbrev pub Replaces : {T : Type 0} → ℕ → StoreState → StoreState → Result T RunFault → Type 0
 Replaces calls old new result = ReplacesBetween IsDeviceFault calls calls old new result
-
--- at least that many calls, and no file changes unless all is done
-pub record ReplacesAtLeast {T : Type 0} (least : ℕ) (old new : StoreState)
-    (result : Result T RunFault) : Type 0 where
-  pub files : OnErr result (new.files ≡ old.files)
-  pub makes : Makes IsDeviceFault least old new result

@@ -27,7 +27,7 @@ pub enum FileName {
     Changes,
     /// The input of a conversion or a replay.
     Input,
-    /// The output of a conversion or a replay.
+    /// The output of a conversion or an export, or standard output.
     Output,
 }
 

@@ -1,4 +1,4 @@
-//! Files behind a trait, and the runs of the program over them.
+//! The runs of the program over a store, but for following and audits.
 #![tactic(auto)]
 
 pub mod begin;

@@ -7,10 +7,11 @@ use crate::fault::{FileName, RunFault};
 use crate::report::Report;
 use osm_state::paths::Suffix;
 
-/// What the word `follow` did.
+/// What a run of the follower did.
 #[derive(Debug, Drop)]
 pub enum Progress {
-    /// It followed up to the folder's newest state, or to the first lost number.
+    /// It followed up to the newest number, to its limit, or to the number before the first lost
+    /// one.
     Whole(Report),
     /// It followed up to the number before a faulty one, whose fault this is.
     Before(Report, RunFault),

@@ -48,12 +48,6 @@ impl Report {
     {
         self.text.as_slice()
     }
-
-    pub fn into_text(self) -> Vec<u8>
-        ensures { result.items ≡ self.text }
-    {
-        self.text
-    }
 }
 
 /// The report of a conversion, which prints nothing. It takes no memory.

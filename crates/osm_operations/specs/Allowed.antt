@@ -130,8 +130,8 @@ pub record HasHugeSave (published : List PublishedValue) (given : FilterValue) :
   pub saved : IsSaveOf published given base number told
   pub huge : IsHugeFile told
 
--- why a run of the follower that isn't killed isn't done: never for a file of the folder, nor for
--- its save
+-- why a run of the follower that isn't killed isn't done: never for a file of the folder or for
+-- what its save says, but perhaps for its size
 abbrev pub FollowingRefused : List PublishedValue → FilterValue → RunFault → Type 0
 FollowingRefused published given WantOfMemory = Unit {0}
 FollowingRefused published given (Absent file) = (file ≡ Top) × (length published ≡ 0)

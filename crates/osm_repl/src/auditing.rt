@@ -19,8 +19,8 @@ use osm_store::store::Store;
 use std::alloc::Global;
 use std::io::Write;
 
-// Looks whether a folder is whole, prints what it found, and gives the status. The range is that of
-// the words.
+// Checks whether a folder is whole, prints what it found, and gives the status. The range is that
+// of the words.
 pub(crate) fn audit_and_print<S: Store, W: Write>(
     alloc: Global,
     dir: &str,

@@ -28,8 +28,8 @@ const MOST_SECONDS_AHEAD: u64 = 86_400;
 
 /// What the words ask for besides their order. The filter is that of `begin` and `follow`, and that
 /// of all objects for any other word. Refuses kinds and keys that make no filter, then a limit that
-/// is no number above 0, and then the words of a run with a lock that the run itself would refuse
-/// before it reads a file.
+/// is no number above 0, and then a time, a number, a range or the name of a data file that the run
+/// itself would refuse before it reads a file.
 pub fn check_words(alloc: Global, asked: &Asked<'_>) -> Result<FollowOptions, RunFault>
     ensures extract { IfOk result
         (λ options. IsFilterOf asked.now.order asked.now.extract options.filter) }

@@ -44,8 +44,8 @@ use std::io::{Read, Write};
 /// Only an audit has the fault `BadRange`. On a fault nothing was written to `writer`, with three
 /// exceptions. On `WriteFault(Output)` a prefix of the report was, and the files that a run wrote
 /// stay. The word `follow` may end with the fault of a faulty number, after it saved and reported
-/// the numbers before. In JSON the line of `fault_report` is written, as far as `writer` takes it,
-/// unless memory was wanted for the run or for the line.
+/// the numbers before. In JSON the line of `fault_report`, or for an audit of `audit_fault_line`,
+/// is written, as far as `writer` takes it, unless memory was wanted for the run or for the line.
 pub fn execute<S: Store, R: Read, W: Write>(
     alloc: Global,
     order: Order<'_>,

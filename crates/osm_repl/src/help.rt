@@ -88,9 +88,9 @@ Kinds or keys that make no filter are refused: 'bad filter'.
 A run locks SAVE by the file SAVE.lock, which stays there. If another run is at work on SAVE:
 'save: in use', and the status is 4.
 
-A name that ends in .opl is that of an OPL file, one that ends in .o5m that of an o5m file. It has
-at most 64 MiB. Its objects come by rising keys: nodes, ways and relations, each by their ids. Each
-has its metadata, and none is deleted. A state of number 0 is refused, so what export writes of a
+A name that ends in .opl is that of an OPL file, one that ends in .o5m that of an o5m file. The file
+has at most 64 MiB. Its objects come by rising keys: nodes, ways and relations, each by their ids.
+Each has its metadata, and none is deleted. A state of number 0 is refused, so what export writes of a
 save at number 0 is nothing to begin with.
 
 A fault names BASE as base, STATE as state, and SAVE as save.";
@@ -106,7 +106,7 @@ pub(crate) const FOLLOWING: &str = "As in
 Each number after the save's is taken from its .o5c file, or if there is none, from its .opl file.
 A number is missing if it has no state file, or neither change file: SAVE goes up to the number
 before the first missing one. After that one it is only asked which files are there.
-After SAVE is written, this is printed:
+At the end, after SAVE is written if anything is new, this is printed:
   applied LOW..HIGH  for each step
   missing K          for each missing number, up to N + 64; the status is then 1
   number N           the number that SAVE is at
@@ -177,8 +177,8 @@ pub(crate) const EXPORTING: &str = "As in
   osmrepl export follower.save objects.o5m
 
 The objects are written by rising keys: nodes, ways and relations, each by their ids. A name that
-ends in .opl is that of an OPL file, and one that ends in .o5m that of an o5m file. It has at most
-64 MiB. The number, the time and the counts of edits aren't written. Nothing is printed.
+ends in .opl is that of an OPL file, and one that ends in .o5m that of an o5m file. The file
+has at most 64 MiB. The number, the time and the counts of edits aren't written. Nothing is printed.
 
 With the state file of the save's number, OUT is what begin takes.
 
@@ -194,14 +194,14 @@ Nothing is printed.
 
 A fault names IN as input, and OUT as output.";
 
-pub(crate) const AUDIT: &str = "Looks whether a folder is whole, and prints what is wrong";
+pub(crate) const AUDIT: &str = "Checks whether a folder is whole, and prints what is wrong";
 
 pub(crate) const AUDITING: &str = "As in
   osmrepl audit folder
   osmrepl audit folder --from 1001 --to 2000
   osmrepl audit folder --json
 
-Each number from N to M, each of 1 to 9 digits, has to have its files in the folder:
+Each number from N to M has to have its files in the folder (N and M have 1 to 9 digits):
   its state, which is that of its number, at a time not before that of the number before it
   its .o5c file, its .opl file, or both; each that is there can be read, and both have the same
     changes, in their order
@@ -222,7 +222,7 @@ With --json one line is printed instead, an object of JSON, also after a fault:
   findings  [{\"cause\":..,\"file\":..,\"number\":..},..]; number is M for state.txt
   from      N
   to        M
-After a fault all but the fault are null. No line is printed if --from or --to has no number or if
+After a fault all but the fault are null. No line is printed if --from or --to isn't a number or if
 memory runs out.
 
 A run that takes more than half a second shows on a terminal how many numbers are done, unless

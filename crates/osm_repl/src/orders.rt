@@ -80,7 +80,7 @@ pub enum Order<'a> {
         input: &'a str,
         output: &'a str,
     },
-    /// Looks whether a folder is whole, from the number `from` to the number `to`.
+    /// Checks whether a folder is whole, from the number `from` to the number `to`.
     Audit {
         dir: &'a str,
         from: Option<&'a str>,

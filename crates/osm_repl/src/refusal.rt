@@ -1,4 +1,4 @@
-//! Why a run isn't begun, though its words are right.
+//! Why a run isn't begun.
 
 ghost use Rattle.std.specs.Prelude.{◌≡◌};
 ghost use Rattle.osm_repl.specs.Ending.{status_of_refusal};

@@ -24,7 +24,7 @@ pub(crate) struct Shown<'a> {
 }
 
 /// Shows on standard error how far a run over a folder is, once it takes a while. The line is gone
-/// before a file is written, and at the end.
+/// before a file is replaced, and at the end.
 #[derive(Drop)]
 pub(crate) struct Screen<'a> {
     rt: &'a HostRuntime,
@@ -32,8 +32,7 @@ pub(crate) struct Screen<'a> {
     course: Course,
     start: Option<Instant>,
     shown_at: Option<u32>,
-    // How many numbers are done at most. A run up to a faulty number begins anew, and its line
-    // doesn't go back.
+    // How many numbers are done at most: the line never goes back.
     most: u32,
 }
 

@@ -1,5 +1,5 @@
--- Steps of a run of the follower. `known` says that it is known what the files hold, and `given` is
--- the filter that the run was given.
+-- Reading the files of a number, and making a save. `known` says that it is known what the files
+-- hold.
 use Rattle.std.specs.Prelude.{◌≡◌, ℕ, ◌+◌, ◌<◌, ◌≤◌, List, length}
 use Rattle.std.specs.Prelude.{suc, filter, Option, Some, None, Vec}
 use Rattle.osm_model.specs.ChangeForm.{SpellsNothing}
