@@ -1,6 +1,7 @@
 //! A save text merged with net changes.
 
-ghost use Rattle.std.specs.Prelude.{IsTrue, false, ◌≡◌, ℕ, ◌++◌, ◌≤◌, List, [], Some, IfErr, IfOk};
+ghost use Rattle.std.specs.Prelude.{IsTrue, false, ◌≡◌, ◌↔◌, ℕ, ◌++◌, ◌≤◌, List, [], Some, Err};
+ghost use Rattle.std.specs.Prelude.{IfErr, IfOk};
 ghost use Rattle.std.specs.Prelude.{◌+◌, length, OnErr, OnOk};
 ghost use Rattle.std.specs.List.{AllByRecursion};
 ghost use Rattle.osm_model.specs.Limits.{max_sequence};
@@ -16,6 +17,7 @@ ghost use Rattle.osm_save.specs.Save.{saved_with};
 ghost use Rattle.osm_save.specs.declared.version.Version.TheVariants.{Three};
 ghost use Rattle.osm_merge.specs.Counting.{CountsAs};
 ghost use Rattle.osm_merge.specs.Faults.{IsDeviceFault, IsOfText, IsPlain};
+ghost use Rattle.osm_merge.specs.declared.fault.MergeFault.{MergeFault};
 ghost use Rattle.osm_merge.specs.Laying.{IsFew, Writes};
 ghost use Rattle.osm_merge.specs.Checking.{CheckStops};
 ghost use Rattle.osm_merge.specs.Merging.{IsMerged, IsStaged, MergeStops, merged_text};
@@ -192,7 +194,7 @@ fn count_save<S: Store>(
 
 // Whether the text is the reason.
 fn is_of_text(fault: MergeFault) -> bool
-    ensures of_text { IsTrue result → IsOfText fault }
+    ensures { IsTrue result ↔ IsOfText fault }
 {
     matches!(
         fault,
@@ -204,7 +206,8 @@ fn is_of_text(fault: MergeFault) -> bool
 // one, or the one of before, if the check ends for another reason.
 fn fault_of_text(fault: MergeFault, checked: Result<Checked, MergeFault>) -> MergeFault
     requires { IsOfText fault }
-    ensures { IsOfText result }
+    ensures of_text { IsOfText result }
+    ensures first { (first : MergeFault) → checked ≡ Err first → IsOfText first → result ≡ first }
 {
     match checked {
         Err(first) if is_of_text(first) => first,
