@@ -20,7 +20,7 @@ TAKE_NO_MEMORY = set("""
     Tag::limits Member::limits i64::limits i64::copy Parts::new Parts::from_vec Parts::into_vec Parts::as_slice
     Meta::new Meta::limits Meta::version Meta::time Meta::changeset Meta::uid Meta::user
     Text::as_str Text::limits time_read time_write
-    split_line is_skipped_line cut sequence_read
+    split_line is_skipped_line cut sequence_read line_key
     path_number State::new State::sequence State::time state_read
     HoldingArea::reached HoldingArea::is_held HoldingArea::hold HoldingArea::take_next HoldingArea::advance
     HoldingArea::reset

@@ -2,7 +2,8 @@
 
 use super::shown::is_shown;
 use osm_model::form::Why;
-use osm_opl::lines::{LineError, read_line, write_line};
+use osm_model::kind::{Key, Kind};
+use osm_opl::lines::{LineError, line_key, read_line, write_line};
 use osm_reading::lines::{is_skipped_line, split_line};
 use osm_reading::sequence::sequence_read;
 use std::alloc::Global;
@@ -36,6 +37,19 @@ fn refusal(alloc: Global, line: &[u8]) -> Option<LineError> {
 fn a_line_is_not_empty(rt: HostRuntime) {
     let refused = refusal(rt.alloc(), b"");
     assert!(rt; refused == Some(LineError::Fault(Why::BadKind)));
+}
+
+#[test]
+fn the_key_of_a_line_is_its_first_field(rt: HostRuntime) {
+    assert!(rt; line_key(NODE) == key_of(Kind::Node, 1));
+    assert!(rt; line_key(b"w123456789012 v") == key_of(Kind::Way, 123_456_789_012));
+    assert!(rt; line_key(b"r-7") == key_of(Kind::Relation, -7));
+    assert!(rt; line_key(b"x1 v1").is_none());
+    assert!(rt; line_key(b"").is_none());
+}
+
+fn key_of(kind: Kind, id: i64) -> Option<Key> {
+    Some(Key { kind, id })
 }
 
 #[test]
