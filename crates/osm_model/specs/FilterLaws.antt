@@ -35,8 +35,8 @@ ExtractsAreKeptUp = (f : FilterValue) (objects : Key → Option ChangeValue)
     (changes : List ChangeValue) (k : Key)
     → over (left_by f) (kept f objects) changes k ≡ kept f (over object_after objects changes) k
 
--- nothing that was not kept is needed later: what is kept of the objects with changes made over them
--- is the same if the changes are made over what was kept
+-- nothing that was not kept is needed later: what is kept of the objects with changes made over
+-- them is the same if the changes are made over what was kept
 abbrev pub ExtractsAreEnough : Type 0
 ExtractsAreEnough = (f : FilterValue) (objects : Key → Option ChangeValue)
     (changes : List ChangeValue) (k : Key)

@@ -1,12 +1,13 @@
-//! Filters: which objects of a mirror an extract keeps, by kind and by the keys of tags, such as the
-//! ways with a tag `highway` (Osmium manual, osmium-tags-filter).
+//! Filters: which objects of a mirror an extract keeps, by kind and by the keys of tags, such as
+//! the ways with a tag `highway` (Osmium manual, osmium-tags-filter).
 
 ghost use Rattle.std.specs.Prelude.{◌≡◌, ◌<◌, ◌≤◌, ◌↔◌, true, false, length};
 ghost use Rattle.std.specs.Prelude.{IfOk, IsErrOf, IsTrue, OnErr};
 ghost use Rattle.std.specs.List.{list_any};
 ghost use Rattle.osm_model.specs.Filter.{AreRising, IsFilter, everything, has_kind};
 ghost use Rattle.osm_model.specs.Filter.{is_among, keeps, keeps_tags};
-ghost use Rattle.osm_model.specs.FilterLaws.{DeletionsAreDropped, EverythingIsKept, EverythingIsLeft};
+ghost use Rattle.osm_model.specs.FilterLaws.{DeletionsAreDropped, EverythingIsKept};
+ghost use Rattle.osm_model.specs.FilterLaws.{EverythingIsLeft};
 ghost use Rattle.osm_model.specs.FilterLaws.{ExtractsAreEnough, ExtractsAreKeptUp, FiltersAreTold};
 ghost use Rattle.osm_model.specs.FilterLaws.{KeptAreObjects};
 ghost use Rattle.osm_model.specs.Limits.{max_keys};

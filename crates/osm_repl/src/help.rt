@@ -90,8 +90,8 @@ A run locks SAVE by the file SAVE.lock, which stays there. If another run is at 
 
 A name that ends in .opl is that of an OPL file, one that ends in .o5m that of an o5m file. The file
 has at most 64 MiB. Its objects come by rising keys: nodes, ways and relations, each by their ids.
-Each has its metadata, and none is deleted. A state of number 0 is refused, so what export writes of a
-save at number 0 is nothing to begin with.
+Each has its metadata, and none is deleted. A state of number 0 is refused, so what export writes
+of a save at number 0 is nothing to begin with.
 
 A fault names BASE as base, STATE as state, and SAVE as save.";
 

@@ -137,9 +137,9 @@ fn read_object_lines<'a>(
     Ok((objects, rest))
 }
 
-/// The object that is written as this line, if the filter keeps it and its key comes after the last
-/// one. `written` is a buffer that all lines share; its contents are overwritten, with the line if it
-/// is an object's.
+/// The object that is written as this line, if the filter keeps it and its key comes after the
+/// last one. `written` is a buffer that all lines share; its contents are overwritten, with the
+/// line if it is an object's.
 #[tactic(auto, unfolding(crate::specs::Reading::object_at))]
 pub fn read_object(
     alloc: Global,
