@@ -109,10 +109,7 @@ impl<'a> Reader<'a> {
     }
 
     /// Reads one dataset, adds its change to the others if it has one, and returns what follows it.
-    #[tactic(auto, unfolding(
-        crate::specs::Steps::FileReading::dataset_at,
-        crate::specs::Steps::FileReading::step
-    ))]
+    #[tactic(auto, unfolding(crate::specs::Steps::FileReading::dataset_at, crate::specs::Steps::FileReading::step))]
     pub fn next<F: FileLimits>(
         &mut self,
         alloc: Global,
