@@ -9,7 +9,7 @@ use Rattle.osm_net.specs.Laid.{laid_on}
 use Rattle.osm_net.specs.Net.{NetValue, no_net}
 use Rattle.osm_net.proofs.AddedLemmas.{added-no_increment}
 use Rattle.osm_net.proofs.LaidLemmas.{laid_over-no_entry}
-use Rattle.osm_reading.specs.Steps.Answers.{and_then}
+use Rattle.osm_reading.specs.Answers.{and_then}
 use Rattle.osm_reading.proofs.StepLemmas.{some_then}
 use Rattle.osm_save.specs.Head.{head_lines, head_of, most_counted}
 use Rattle.osm_save.specs.Reading.{counts_at, fixed_at, head_at, mirror_at, objects_at, save_at}

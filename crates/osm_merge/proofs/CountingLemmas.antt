@@ -11,11 +11,11 @@ use Rattle.osm_model.specs.declared.kind.Key.{Key}
 use Rattle.osm_net.specs.Laid.{laid_over, put_before}
 use Rattle.osm_net.specs.Net.{NetEntry}
 use Rattle.osm_opl.specs.Line.{SpellsLine}
-use Rattle.osm_opl.specs.Steps.Reading.{line_at}
+use Rattle.osm_opl.specs.Reading.{line_at}
 use Rattle.osm_opl.specs.Written.{line_text}
 use Rattle.osm_opl.proofs.LineLaws.{line_takes}
 use Rattle.osm_reading.specs.Pieces.{cut_at}
-use Rattle.osm_reading.specs.Steps.Answers.{and_then}
+use Rattle.osm_reading.specs.Answers.{and_then}
 use Rattle.osm_reading.proofs.StepLemmas.{guard_some, some_then}
 use Rattle.osm_save.specs.Reading.{is_above, items_at, object_at}
 use Rattle.osm_merge.specs.Counting.{CountsBelow, CountsOne}

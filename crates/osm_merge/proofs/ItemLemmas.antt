@@ -8,7 +8,7 @@ use Rattle.osm_blocks.specs.Frames.{ReadsOften}
 use Rattle.osm_blocks.specs.Writing.{Waiting}
 use Rattle.osm_blocks.proofs.OftenLemmas.{often_then}
 use Rattle.osm_reading.specs.Pieces.{cut_at}
-use Rattle.osm_reading.specs.Steps.Answers.{and_then}
+use Rattle.osm_reading.specs.Answers.{and_then}
 use Rattle.osm_save.specs.Lines.{ended}
 use Rattle.osm_save.specs.Reading.{items_at}
 use Rattle.osm_save.proofs.ItemLemmas.{Items, items_begun, items_cut, items_done, items_more, items_wrong}

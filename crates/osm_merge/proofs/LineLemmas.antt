@@ -5,7 +5,7 @@ use Rattle.std.specs.Str.{bytes_eq}
 use Rattle.std.proofs.lemmas.Fmt.{length-decimal-le}
 use Rattle.osm_blocks.specs.Places.{IsLong, Place, left_of, max_line}
 use Rattle.osm_reading.specs.Pieces.{Lacks, cut_at}
-use Rattle.osm_reading.specs.Steps.Answers.{and_then}
+use Rattle.osm_reading.specs.Answers.{and_then}
 use Rattle.osm_save.specs.Answers.{Fails}
 use Rattle.osm_save.specs.declared.stop.Stop.{Stop}
 use Rattle.osm_save.specs.declared.stop.Stop.TheVariants as stops

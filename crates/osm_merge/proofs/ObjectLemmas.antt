@@ -10,7 +10,7 @@ use Rattle.osm_net.specs.Laid.{laid_over, put_before}
 use Rattle.osm_net.specs.Net.{NetEntry}
 use Rattle.osm_net.proofs.LaidLemmas.{laid_over-above, laid_over-at, laid_over-below, laid_over-no_entry, laid_over-no_object}
 use Rattle.osm_reading.specs.Pieces.{cut_at}
-use Rattle.osm_reading.specs.Steps.Answers.{and_then}
+use Rattle.osm_reading.specs.Answers.{and_then}
 use Rattle.osm_reading.proofs.PieceLemmas.{cut_takes}
 use Rattle.osm_save.specs.Reading.{object_at}
 use Rattle.osm_save.proofs.ObjectLemmas.{TakesObject, object_takes}

@@ -4,7 +4,7 @@ use Rattle.std.specs.Prelude.{Some}
 use Rattle.osm_blocks.specs.Writing.{IsWritten, Waiting}
 use Rattle.osm_mirror.specs.Mirror.{Counted}
 use Rattle.osm_reading.specs.Pieces.{cut_at}
-use Rattle.osm_reading.specs.Steps.Answers.{and_then}
+use Rattle.osm_reading.specs.Answers.{and_then}
 use Rattle.osm_save.specs.Lines.{ended}
 use Rattle.osm_store.specs.Frames.{IsKnown, StoreState}
 

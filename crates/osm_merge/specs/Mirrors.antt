@@ -8,7 +8,7 @@ use Rattle.osm_opl.specs.Written.{line_text}
 use Rattle.osm_save.specs.Lines.{ended}
 use Rattle.osm_save.specs.Save.{count_text}
 use Rattle.osm_merge.specs.declared.lists.Totals.{Totals}
-use Rattle.osm_reading.specs.Steps.Answers.{and_then}
+use Rattle.osm_reading.specs.Answers.{and_then}
 use Rattle.osm_save.specs.Reading.{counts_at, fixed_at}
 use Rattle.osm_merge.specs.Reading.{Refuses}
 use Rattle.osm_merge.specs.declared.fault.MergeFault.{MergeFault}

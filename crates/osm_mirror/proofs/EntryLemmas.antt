@@ -16,7 +16,7 @@ use Rattle.osm_model.specs.KeyOrder.{key_cmp, kind_rank}
 use Rattle.osm_model.specs.Limits.{IsPositive}
 use Rattle.osm_model.specs.declared.kind.Key.{Key}
 use Rattle.osm_model.proofs.ContentLemmas.{one_key}
-use Rattle.osm_mirror.specs.Steps.Entries.{AreCounts, AreObjects, HaveOwnKeys, objects_of}
+use Rattle.osm_mirror.specs.Entries.{AreCounts, AreObjects, HaveOwnKeys, objects_of}
 use Rattle.osm_mirror.specs.Mirror.{AreRising, Counted, HasNumber, IsAboveZero, IsObject, object_at}
 
 pub object_at-objects_of : (es : List (Key × ChangeValue)) (k : Key) → HaveOwnKeys es → object_at (objects_of es) k ≡ lookup (is_at (key_cmp k)) es

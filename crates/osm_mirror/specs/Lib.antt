@@ -1,3 +1,3 @@
 pub mod Mirror
 pub mod Room
-pub mod Steps
+pub mod Entries

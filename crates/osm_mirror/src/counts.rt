@@ -25,7 +25,7 @@ pub struct Counts {
 impl Model for Counts {
     ghost use Rattle.std.specs.Prelude.{List};
     ghost use Rattle.osm_mirror.specs.Mirror.{Counted};
-    ghost use Rattle.osm_mirror.specs.Steps.Entries.{AreCounts};
+    ghost use Rattle.osm_mirror.specs.Entries.{AreCounts};
 
     ghost Value = { List Counted };
 

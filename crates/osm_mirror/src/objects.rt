@@ -10,7 +10,7 @@ ghost use Rattle.osm_model.specs.Content.{object_after};
 ghost use Rattle.osm_model.specs.Filter.{left_by};
 ghost use Rattle.osm_model.specs.KeyOrder.{key_cmp, same_key};
 ghost use Rattle.osm_model.specs.declared.kind.Key.{Key};
-ghost use Rattle.osm_mirror.specs.Steps.Entries.{AreObjects, objects_of};
+ghost use Rattle.osm_mirror.specs.Entries.{AreObjects, objects_of};
 ghost use Rattle.osm_mirror.specs.Mirror.{AreRising, IsObject, object_at};
 
 use osm_model::change::Change;
@@ -34,7 +34,7 @@ impl Model for Objects {
 
     ghost Value = { List ChangeValue };
 
-    ghost use Rattle.osm_mirror.specs.Steps.Entries.{AreObjects, objects_of};
+    ghost use Rattle.osm_mirror.specs.Entries.{AreObjects, objects_of};
 
     ghost view = { λ a. objects_of a.objects.entries };
 

@@ -9,7 +9,7 @@ use Rattle.jiff_core.specs.declared.civil.date.Date.{Date}
 use Rattle.jiff_core.proofs.SignedLemmas.{signed_arith}
 use Rattle.jiff_core.proofs.CalendarLemmas.{days_in_month_bounds, day_count-lt_year, day_count-lt_month, day_count-day}
 use Rattle.jiff_core.proofs.CalendarLemmas.{day_count-epoch, days_from_civil-day_count}
-use Rattle.osm_model.specs.Steps.Clock.{loose_moment, HasDigits}
+use Rattle.osm_model.specs.Clock.{loose_moment, HasDigits}
 use Rattle.osm_model.specs.Time.{Moment, IsMoment, Shows, moment_text, seconds_of}
 
 four_back : (y : ℕ) → y < 10000 → 100 * (10 * min (48 + y / 1000 % 10 - 48) 9 + min (48 + y / 100 % 10 - 48) 9)

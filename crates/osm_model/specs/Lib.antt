@@ -14,4 +14,5 @@ pub mod ChangeForm
 pub mod Data
 pub mod Filter
 pub mod FilterLaws
+pub mod Clock
 pub mod Steps

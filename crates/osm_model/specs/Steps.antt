@@ -1,4 +1,3 @@
 -- No clause of a public function cites anything here.
-pub mod Clock
 pub mod Stored
 pub mod Parts

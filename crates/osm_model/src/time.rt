@@ -7,7 +7,7 @@ ghost use Rattle.std.specs.Prelude.{◌≤ℤ◌};
 ghost use Rattle.jiff_core.specs.Calendar.{IsCivilDate};
 ghost use Rattle.jiff_core.specs.Date.{epoch_day};
 ghost use Rattle.osm_model.specs.CivilTime.{time_text};
-ghost use Rattle.osm_model.specs.Steps.Clock.{moment_of, HasDigits, loose_moment};
+ghost use Rattle.osm_model.specs.Clock.{moment_of, HasDigits, loose_moment};
 ghost use Rattle.osm_model.specs.Limits.{IsPositive};
 ghost use Rattle.osm_model.specs.Time.{Moment, IsMoment, Shows, TimeText, moment_text, seconds_of};
 

@@ -21,7 +21,7 @@ use Rattle.osm_model.specs.declared.kind.Key.{Key}
 use Rattle.osm_model.proofs.ContentLemmas.{one_key}
 use Rattle.osm_model.proofs.DataLemmas.{keys_total}
 use Rattle.osm_mirror.specs.Mirror.{AreCountsAboveZero, AreRising, Counted, IsAboveZero, count_at, object_at}
-use Rattle.osm_mirror.specs.Steps.Entries.{objects_of}
+use Rattle.osm_mirror.specs.Entries.{objects_of}
 
 module _ {K X : Type 0} (cmp : K → K → Ordering) (total : IsTotalOrder cmp) where
   abbrev find : List (K × X) → K → Option X

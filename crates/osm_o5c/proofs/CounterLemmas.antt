@@ -8,7 +8,7 @@ use Rattle.osm_o5c.specs.Number.{SpellsSigned}
 use Rattle.osm_o5c.specs.Context.{total, SpellsSum, SpellsWrapped}
 use Rattle.osm_o5c.specs.Steps.NumberReading.{wrapped_of, signed_at, id_at, positive_sum_at, longitude_at, latitude_at}
 use Rattle.osm_o5c.specs.Steps.NumberReading.{is_id, is_positive, is_longitude, is_latitude, natural}
-use Rattle.osm_reading.specs.Steps.Answers.{when}
+use Rattle.osm_reading.specs.Answers.{when}
 use Rattle.osm_reading.proofs.StepLemmas.{some_then, some_when}
 use Rattle.osm_o5c.proofs.TakenLemmas.{TakenTo}
 use Rattle.osm_o5c.proofs.NumberLemmas.{signed_takes, signed_again, is_positive_is, is_positive_again, number_some}

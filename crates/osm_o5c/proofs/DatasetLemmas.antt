@@ -11,7 +11,7 @@ use Rattle.osm_o5c.specs.File.{kind_byte, Dataset, object, skipped, lone, reset,
 use Rattle.osm_o5c.specs.Steps.ObjectReading.{object_at}
 use Rattle.osm_o5c.specs.Steps.FileReading.{new_reader, kind_of_byte, object_dataset_at, other_dataset_at, dataset_of}
 use Rattle.osm_o5c.specs.Steps.FileReading.{dataset_at, Position, position, with_found, step}
-use Rattle.osm_reading.specs.Steps.Answers.{and_then}
+use Rattle.osm_reading.specs.Answers.{and_then}
 use Rattle.osm_o5c.specs.declared.reader.Reader.{Reader}
 use Rattle.osm_reading.proofs.StepLemmas.{some_then, chosen}
 use Rattle.osm_o5c.proofs.NumberLemmas.{part_takes, part_again}

@@ -13,7 +13,7 @@ use Rattle.osm_o5c.specs.File.{beginning, kind_byte, Dataset, object, skipped, l
 use Rattle.osm_o5c.specs.File.{SpellsFile, SpellsO5c, Longest}
 use Rattle.osm_o5c.specs.Steps.FileReading.{new_reader, Position, position, dataset_at, with_found, step, Stops}
 use Rattle.osm_o5c.specs.Steps.Files.{AreLimits}
-use Rattle.osm_reading.specs.Steps.Answers.{and_then}
+use Rattle.osm_reading.specs.Answers.{and_then}
 use Rattle.osm_reading.proofs.StepLemmas.{some_then}
 use Rattle.osm_o5c.specs.declared.reader.Reader.{Reader}
 use Rattle.osm_o5c.proofs.FieldLemmas.{reader_of}

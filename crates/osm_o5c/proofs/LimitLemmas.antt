@@ -18,7 +18,7 @@ use Rattle.osm_o5c.specs.Steps.NumberReading.{wrapped_of, signed_at, part_at, id
 use Rattle.osm_o5c.specs.Steps.StringReading.{pair_at, single_at, text_of, tag_at}
 use Rattle.osm_o5c.specs.Steps.ObjectReading.{many_at, ref_at, kind_of_digit, role_of, member_at, tags_at, refs_at}
 use Rattle.osm_o5c.specs.Steps.ObjectReading.{members_at, node_at, way_at, relation_at, what_at}
-use Rattle.osm_reading.specs.Steps.Answers.{and_then, when}
+use Rattle.osm_reading.specs.Answers.{and_then, when}
 use Rattle.osm_o5c.specs.declared.reader.Reader.{Reader}
 use Rattle.osm_o5c.specs.declared.strings.Entry.{Entry}
 use Rattle.osm_reading.proofs.StepLemmas.{some_then, some_when}

@@ -18,7 +18,7 @@ use Rattle.osm_reading.proofs.StepLemmas.{chosen, some_then}
 use Rattle.osm_o5c.specs.Number.{SpellsNumber}
 use Rattle.osm_o5c.specs.Steps.NumberReading.{part_at, unsigned_at}
 use Rattle.osm_o5c.specs.Steps.ObjectReading.{object_at}
-use Rattle.osm_reading.specs.Steps.Answers.{and_then}
+use Rattle.osm_reading.specs.Answers.{and_then}
 use Rattle.osm_o5c.specs.declared.reader.Reader.{Reader}
 
 part_shrinks : (bytes : List ℕ) (x : List ℕ × List ℕ) → part_at bytes ≡ Some x → length x.1 ≤ length bytes

@@ -5,7 +5,7 @@ use Rattle.std.proofs.lemmas.Option.{same_Some}
 use Rattle.std.proofs.lemmas.List.{length-append, append-nil}
 use Rattle.osm_o5c.specs.Many.{SpellsMany, none, more}
 use Rattle.osm_o5c.specs.Steps.ObjectReading.{many_at}
-use Rattle.osm_reading.specs.Steps.Answers.{and_then, Fails}
+use Rattle.osm_reading.specs.Answers.{and_then, Fails}
 use Rattle.osm_reading.specs.declared.refusal.Refusal.{Refusal}
 use Rattle.osm_reading.specs.declared.refusal.Refusal.TheVariants.{WantOfMemory, Fault}
 use Rattle.osm_reading.proofs.StepLemmas.{some_then}

@@ -21,7 +21,7 @@ use Rattle.osm_o5c.specs.Steps.NumberReading.{part_at, id_at, longitude_at, lati
 use Rattle.osm_o5c.specs.Steps.StringReading.{tag_at}
 use Rattle.osm_o5c.specs.Steps.ObjectReading.{ref_at, member_at, tags_at, refs_at, members_at, meta_at, node_at, way_at}
 use Rattle.osm_o5c.specs.Steps.ObjectReading.{relation_at, shape_at, what_at, object_at}
-use Rattle.osm_reading.specs.Steps.Answers.{and_then}
+use Rattle.osm_reading.specs.Answers.{and_then}
 use Rattle.osm_o5c.specs.declared.reader.Reader.{Reader}
 use Rattle.osm_o5c.specs.declared.strings.Entry.{Entry}
 use Rattle.osm_reading.proofs.StepLemmas.{some_then}

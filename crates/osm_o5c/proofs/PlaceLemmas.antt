@@ -24,7 +24,7 @@ use Rattle.osm_o5c.specs.Steps.FileReading.{other_dataset_at, dataset_of, with_f
 use Rattle.osm_o5c.specs.Steps.Files.{AreLimits}
 use Rattle.osm_o5c.specs.Steps.NumberReading.{part_at}
 use Rattle.osm_o5c.specs.Steps.ObjectReading.{object_at}
-use Rattle.osm_reading.specs.Steps.Answers.{and_then}
+use Rattle.osm_reading.specs.Answers.{and_then}
 use Rattle.osm_o5c.specs.declared.reader.Reader.{Reader}
 use Rattle.osm_reading.proofs.StepLemmas.{some_then}
 use Rattle.osm_o5c.proofs.DatasetLemmas.{TakesStep}

@@ -14,7 +14,7 @@ use Rattle.osm_o5c.specs.Entries.{SpellsPair, in_line, reference, SpellsSingle, 
 use Rattle.osm_o5c.specs.Steps.NumberReading.{unsigned_at}
 use Rattle.osm_o5c.specs.Steps.StringReading.{until_nul_at, latest, entered, pair_of, single_of, pair_at, single_at, has_nul, is_text, text_of}
 use Rattle.osm_reading.specs.Pieces.{cut_at, with_before}
-use Rattle.osm_reading.specs.Steps.Answers.{and_then}
+use Rattle.osm_reading.specs.Answers.{and_then}
 use Rattle.osm_o5c.specs.declared.strings.Entry.{Entry}
 use Rattle.osm_o5c.specs.declared.strings.Entry.TheVariants.{Pair, Single}
 use Rattle.osm_reading.proofs.StepLemmas.{some_then, some_when, chosen, both_held}

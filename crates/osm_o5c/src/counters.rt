@@ -5,7 +5,7 @@ ghost use Rattle.osm_model.specs.Limits.{IsId};
 ghost use Rattle.osm_o5c.specs.Written.{no_counters, member_counter, with_member_counter};
 ghost use Rattle.osm_o5c.specs.Steps.NumberReading.{wrapped_of, positive_sum_at, id_at};
 ghost use Rattle.osm_o5c.specs.Steps.NumberReading.{longitude_at, latitude_at};
-ghost use Rattle.osm_reading.specs.Steps.Answers.{Finds};
+ghost use Rattle.osm_reading.specs.Answers.{Finds};
 
 use crate::numbers::signed;
 use osm_model::form::Why;

@@ -8,7 +8,7 @@ ghost use Rattle.osm_o5c.specs.Steps.FileReading.{ChangeRefused, ObjectRefused, 
 ghost use Rattle.osm_o5c.specs.Written.{is_other, reset_text, state_before, dataset_text};
 ghost use Rattle.osm_o5c.specs.Written.{after_object, change_text, after_change};
 ghost use Rattle.osm_o5c.specs.File.{kind_byte};
-ghost use Rattle.osm_reading.specs.Steps.Answers.{Finds, and_then};
+ghost use Rattle.osm_reading.specs.Answers.{Finds, and_then};
 
 use crate::files::FileLimits;
 use crate::numbers::{part, write_unsigned};

@@ -3,7 +3,7 @@
 ghost use Rattle.std.specs.Prelude.{◌≡◌, ◌≤◌, ◌++◌, OnOk, IfOk};
 ghost use Rattle.osm_model.specs.Meta.{IsMeta};
 ghost use Rattle.osm_o5c.specs.Steps.ObjectReading.{meta_at};
-ghost use Rattle.osm_reading.specs.Steps.Answers.{Gives, Finds};
+ghost use Rattle.osm_reading.specs.Answers.{Gives, Finds};
 ghost use Rattle.osm_o5c.specs.Steps.StringReading.{uid_of, user_at};
 ghost use Rattle.osm_o5c.specs.Written.{number_text, pair_in_line, pair_text, after_pair};
 ghost use Rattle.osm_o5c.specs.Written.{meta_text};

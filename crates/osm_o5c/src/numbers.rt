@@ -5,7 +5,7 @@ ghost use Rattle.std.specs.Prelude.{None};
 ghost use Rattle.osm_o5c.specs.Number.{zigzag};
 ghost use Rattle.osm_o5c.specs.Steps.NumberReading.{varint_at, unsigned_at, signed_at, part_at};
 ghost use Rattle.osm_o5c.specs.Steps.NumberReading.{positive_at, EndsVarint};
-ghost use Rattle.osm_reading.specs.Steps.Answers.{Finds};
+ghost use Rattle.osm_reading.specs.Answers.{Finds};
 ghost use Rattle.osm_o5c.specs.Written.{varint_text, number_text, difference_text};
 
 use osm_model::form::Why;

@@ -3,7 +3,7 @@
 ghost use Rattle.std.specs.Prelude.{◌≡◌, ◌++◌, OnOk};
 ghost use Rattle.osm_o5c.specs.Steps.ObjectReading.{node_at, way_at, relation_at, what_at};
 ghost use Rattle.osm_o5c.specs.Steps.ObjectReading.{object_at};
-ghost use Rattle.osm_reading.specs.Steps.Answers.{Gives};
+ghost use Rattle.osm_reading.specs.Answers.{Gives};
 ghost use Rattle.osm_o5c.specs.Written.{part_text, what_text, after_what};
 ghost use Rattle.osm_o5c.specs.Written.{object_text, after_object};
 

@@ -6,7 +6,7 @@ ghost use Rattle.osm_o5c.specs.Context.{kind_digit};
 ghost use Rattle.osm_o5c.specs.Steps.ObjectReading.{refs_at, ref_at, role_of, member_at};
 ghost use Rattle.osm_o5c.specs.Steps.ObjectReading.{members_at};
 ghost use Rattle.osm_o5c.specs.Steps.NumberReading.{is_id};
-ghost use Rattle.osm_reading.specs.Steps.Answers.{Gives, Finds};
+ghost use Rattle.osm_reading.specs.Answers.{Gives, Finds};
 ghost use Rattle.osm_o5c.specs.Written.{difference_text, refs_text, last_ref, member_text};
 ghost use Rattle.osm_o5c.specs.Written.{after_member, members_text, after_members};
 

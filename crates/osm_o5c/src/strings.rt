@@ -4,7 +4,7 @@ ghost use Rattle.std.specs.Prelude.{◌≡◌, ◌≤◌, [], ◌∷◌, ◌++�
 ghost use Rattle.std.specs.Prelude.{Contains, IfOk};
 ghost use Rattle.std.specs.Prelude.{option_copied};
 ghost use Rattle.circular_buffer.specs.Buffer.{keep_last};
-ghost use Rattle.osm_reading.specs.Steps.Answers.{Gives, Finds};
+ghost use Rattle.osm_reading.specs.Answers.{Gives, Finds};
 ghost use Rattle.osm_o5c.specs.Steps.StringReading.{entered, latest, until_nul_at, pair_at};
 ghost use Rattle.osm_o5c.specs.Steps.StringReading.{single_at};
 ghost use Rattle.osm_o5c.specs.Written.{pair_in_line, single_in_line, reference_of, by_reference};

@@ -2,7 +2,7 @@
 
 ghost use Rattle.std.specs.Prelude.{◌≡◌, ◌≤◌, [], ◌++◌, IfOk, OnOk, vec_capacity};
 ghost use Rattle.osm_o5c.specs.Steps.ObjectReading.{tags_at};
-ghost use Rattle.osm_reading.specs.Steps.Answers.{Gives};
+ghost use Rattle.osm_reading.specs.Answers.{Gives};
 ghost use Rattle.osm_o5c.specs.Steps.StringReading.{tag_at};
 ghost use Rattle.osm_o5c.specs.Written.{tags_text, after_tags};
 

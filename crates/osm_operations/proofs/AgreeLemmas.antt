@@ -12,7 +12,7 @@ use Rattle.osm_model.specs.Change.{ChangeValue}
 use Rattle.osm_model.specs.Content.{content_of}
 use Rattle.osm_model.specs.Filter.{FilterValue, kept_object}
 use Rattle.osm_model.specs.Limits.{max_sequence}
-use Rattle.osm_model.specs.Steps.Clock.{loose_moment}
+use Rattle.osm_model.specs.Clock.{loose_moment}
 use Rattle.osm_model.specs.Time.{Shows}
 use Rattle.osm_opl.proofs.FileLaws as opl_laws
 use Rattle.osm_opl.proofs.RoundTrip as opl_trip

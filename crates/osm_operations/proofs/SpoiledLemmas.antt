@@ -8,7 +8,7 @@ use Rattle.osm_model.specs.Batch.{IsBatch}
 use Rattle.osm_model.specs.Change.{ChangeValue}
 use Rattle.osm_model.specs.Limits.{max_sequence}
 use Rattle.osm_opl.specs.File as opl
-use Rattle.osm_opl.specs.Steps.Reading.{key_at, line_at}
+use Rattle.osm_opl.specs.Reading.{key_at, line_at}
 use Rattle.osm_opl.proofs.FileLaws.{first_line}
 use Rattle.osm_opl.proofs.LineLaws.{line_again}
 use Rattle.osm_o5c.specs.File.{SpellsO5c, beginning}

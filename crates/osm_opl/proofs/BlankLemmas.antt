@@ -16,7 +16,7 @@ use Rattle.osm_opl.specs.Line.{SpellsLine, SpellsWhat, node, way, relation, dele
 use Rattle.osm_opl.specs.Lists.{SpellsList, SpellsTag, SpellsRef, SpellsMember, letter_of}
 use Rattle.osm_opl.specs.Number.{SpellsNumber}
 use Rattle.osm_opl.specs.Written.{visible_text}
-use Rattle.osm_opl.specs.Steps.Reading.{member_at, ref_at, tag_at}
+use Rattle.osm_opl.specs.Reading.{member_at, ref_at, tag_at}
 use Rattle.osm_reading.specs.Pieces.{Lacks}
 use Rattle.osm_opl.proofs.NumberLaws.{id_lacks, digits_lack}
 use Rattle.osm_opl.proofs.EscapeLaws.{text_lacks}

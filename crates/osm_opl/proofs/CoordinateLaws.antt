@@ -5,7 +5,7 @@ use Rattle.std.proofs.lemmas.Option.{same_Some}
 use Rattle.osm_model.specs.Limits.{IsLongitude, IsLatitude}
 use Rattle.osm_opl.specs.Coordinate.{SpellsCoordinate, SpellsUnits}
 use Rattle.osm_opl.specs.Line.{MayBeCoordinate, absent, given}
-use Rattle.osm_opl.specs.Steps.Reading.{coordinate_at, maybe_coordinate_at}
+use Rattle.osm_opl.specs.Reading.{coordinate_at, maybe_coordinate_at}
 use Rattle.osm_reading.proofs.StepLemmas.{some_then}
 use Rattle.osm_reading.specs.Pieces.{Lacks}
 use Rattle.osm_opl.proofs.NumberLaws.{TakesSigned, coordinate_takes, coordinate_again, coordinate_lacks}

@@ -5,15 +5,15 @@ use Rattle.std.proofs.lemmas.Bool.Decides.{nat_tests}
 use Rattle.std.proofs.lemmas.Option.{same_Some}
 use Rattle.std.specs.Str.{bytes_eq}
 use Rattle.std.proofs.lemmas.Slice.Eq.{bytes_eq-Decides}
-use Rattle.osm_model.specs.Steps.Clock.{loose_moment}
+use Rattle.osm_model.specs.Clock.{loose_moment}
 use Rattle.osm_model.specs.Time.{Shows, TimeText, seconds_of}
 use Rattle.osm_model.proofs.TimeLemmas.{loose_moment-moment_text, has_digits, one_text}
 use Rattle.osm_model.specs.CivilTime.{time_text}
 use Rattle.osm_model.proofs.CivilTimeLemmas.{time_text_shows}
-use Rattle.osm_opl.specs.Steps.Reading.{time_at}
+use Rattle.osm_opl.specs.Reading.{time_at}
 use Rattle.osm_model.specs.declared.form.Why.{Why}
 use Rattle.std.specs.Option.{ok_or}
-use Rattle.osm_reading.specs.Steps.Answers.{Finds}
+use Rattle.osm_reading.specs.Answers.{Finds}
 use Rattle.osm_reading.proofs.StepLemmas.{both_held, guard_some}
 
 shows_at : (bytes : List ℕ) (t : ℕ) → t < 2 ^ 32 → bytes ≡ time_text t → Shows bytes t

@@ -13,9 +13,9 @@ use lib.Utf8.{scalar, scalars, encodes}
 use Rattle.osm_model.specs.Text.{IsText}
 use Rattle.osm_opl.specs.Escape.{is_reserved, IsBare, NamesChar, SpellsText, TextRefused, end, bare, escape}
 use Rattle.osm_reading.specs.Pieces.{joined, pieces}
-use Rattle.osm_opl.specs.Steps.Reading.{escape_at, is_free, run_at, runs_at, text_at}
+use Rattle.osm_opl.specs.Reading.{escape_at, is_free, run_at, runs_at, text_at}
 use Rattle.osm_reading.specs.Refusal.{IsWant}
-use Rattle.osm_reading.specs.Steps.Answers.{Gives, and_then}
+use Rattle.osm_reading.specs.Answers.{Gives, and_then}
 use Rattle.osm_reading.specs.declared.refusal.Refusal.{Refusal}
 use Rattle.osm_reading.specs.declared.refusal.Refusal.TheVariants.{WantOfMemory, Fault}
 use Rattle.osm_reading.proofs.StepLemmas.{both_held, some_then, guard_some}

@@ -19,8 +19,8 @@ use Rattle.osm_model.specs.Text.{IsText}
 use Rattle.std.specs.Prelude.{◌==◌}
 use Rattle.std.proofs.Common.{lit<}
 use lib.Utf8.{scalar}
-use Rattle.osm_opl.specs.Steps.Reading.{digits_at, escape_at, is_bare_run, is_free, run_at, runs_at, text_at}
-use Rattle.osm_reading.specs.Steps.Answers.{and_then}
+use Rattle.osm_opl.specs.Reading.{digits_at, escape_at, is_bare_run, is_free, run_at, runs_at, text_at}
+use Rattle.osm_reading.specs.Answers.{and_then}
 
 pub is_text_run : (run : List ℕ) → IsUtf8 run → list_all is_free run ≡ true → run_at run ≡ Some run
 is_text_run run u free = rw (free, is_utf8-from_IsUtf8 run u) refl

@@ -9,9 +9,9 @@ use Rattle.osm_model.specs.declared.kind.Key.{Key}
 use Rattle.osm_model.specs.declared.kind.Kind.{Kind}
 use Rattle.osm_opl.specs.Lists.{letter_of}
 use Rattle.osm_opl.specs.Number.{SpellsId}
-use Rattle.osm_opl.specs.Steps.Reading.{alone, field_at, id_at, key_at, kind_at, last_field_at}
+use Rattle.osm_opl.specs.Reading.{alone, field_at, id_at, key_at, kind_at, last_field_at}
 use Rattle.osm_reading.specs.Pieces.{pieces}
-use Rattle.osm_reading.specs.Steps.Answers.{and_then}
+use Rattle.osm_reading.specs.Answers.{and_then}
 use Rattle.osm_reading.proofs.PieceLemmas.{pieces_some}
 use Rattle.osm_reading.proofs.StepLemmas.{some_then, guard_some}
 use Rattle.osm_opl.proofs.NumberLaws.{TakesId, id_takes, id_again}

@@ -14,7 +14,7 @@ use Rattle.osm_opl.specs.Steps.Adding as answers
 use Rattle.osm_opl.specs.File.{FaultIn, SpellsFile, SpellsLines, SpellsOpl, none, skipped, change}
 use Rattle.osm_opl.specs.Line.{SpellsLine}
 use Rattle.osm_reading.specs.Lines.{is_skipped, lines_of}
-use Rattle.osm_opl.specs.Steps.Reading.{line_at}
+use Rattle.osm_opl.specs.Reading.{line_at}
 use Rattle.osm_opl.proofs.LineLaws.{line_again, line_takes, one_change}
 
 both_ways : (x : Bool) → x ≡ true → x ≡ false → ⊥

@@ -8,15 +8,15 @@ use Rattle.osm_model.specs.declared.change.What.{What}
 use Rattle.osm_model.specs.declared.kind.Key.{Key}
 use Rattle.osm_model.specs.declared.kind.Kind.{Kind}
 use Rattle.osm_reading.specs.Refusal.{IsWant}
-use Rattle.osm_reading.specs.Steps.Answers.{Gives}
+use Rattle.osm_reading.specs.Answers.{Gives}
 use Rattle.osm_reading.specs.declared.refusal.Refusal.{Refusal}
 use Rattle.osm_reading.specs.declared.refusal.Refusal.TheVariants.{WantOfMemory, Fault}
 use Rattle.osm_opl.specs.Line.{LineRefused, SpellsLine}
 use Rattle.osm_opl.specs.Lists.{letter_of}
 use Rattle.osm_reading.specs.Pieces.{joined, pieces}
 use Rattle.osm_opl.specs.Written.{visible_text}
-use Rattle.osm_opl.specs.Steps.Reading.{head_at, key_at, line_at, what_at}
-use Rattle.osm_reading.specs.Steps.Answers.{and_then}
+use Rattle.osm_opl.specs.Reading.{head_at, key_at, line_at, what_at}
+use Rattle.osm_reading.specs.Answers.{and_then}
 use Rattle.osm_reading.proofs.StepLemmas.{some_then}
 use Rattle.osm_reading.specs.Pieces.{Lacks}
 use Rattle.osm_reading.proofs.PieceLemmas.{joined-pieces, pieces-joined}

@@ -17,8 +17,8 @@ use Rattle.std.specs.Char.{digit_value}
 use Rattle.osm_opl.specs.Escape.{is_reserved}
 use Rattle.osm_opl.specs.Lists.{Each, none, item, SpellsList, empty, items, letter_of, SpellsTag, SpellsRef, SpellsMember}
 use Rattle.osm_reading.specs.Pieces.{joined, pieces}
-use Rattle.osm_opl.specs.Steps.Reading.{each_at, id_at, kind_at, list_at, list_pieces, member_after, member_at, ref_at, tag_at, text_at}
-use Rattle.osm_reading.specs.Steps.Answers.{and_then}
+use Rattle.osm_opl.specs.Reading.{each_at, id_at, kind_at, list_at, list_pieces, member_after, member_at, ref_at, tag_at, text_at}
+use Rattle.osm_reading.specs.Answers.{and_then}
 use Rattle.osm_reading.specs.Pieces.{cut_at}
 use Rattle.osm_reading.proofs.StepLemmas.{some_then, guard_some, chosen}
 use Rattle.osm_reading.specs.Pieces.{Lacks}

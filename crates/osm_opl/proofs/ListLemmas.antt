@@ -6,9 +6,9 @@ use Rattle.std.proofs.lemmas.List.{append-nil, length-append}
 use Rattle.std.proofs.lemmas.Option.{same_Some, some_pair_parts}
 use Rattle.std.specs.Char.{encode_utf8}
 use Rattle.osm_reading.specs.Pieces.{pieces}
-use Rattle.osm_opl.specs.Steps.Reading.{PassesLimit, text_at, each_at, escape_at, list_at, list_pieces, run_at, runs_at}
-use Rattle.osm_reading.specs.Steps.Answers.{and_then}
-use Rattle.osm_reading.specs.Steps.Answers.{Fails}
+use Rattle.osm_opl.specs.Reading.{PassesLimit, text_at, each_at, escape_at, list_at, list_pieces, run_at, runs_at}
+use Rattle.osm_reading.specs.Answers.{and_then}
+use Rattle.osm_reading.specs.Answers.{Fails}
 use Rattle.osm_reading.specs.declared.refusal.Refusal.{Refusal}
 use Rattle.osm_reading.specs.declared.refusal.Refusal.TheVariants.{WantOfMemory, Fault}
 use Rattle.osm_opl.specs.Steps.Plain.{first_at}

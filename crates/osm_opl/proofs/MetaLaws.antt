@@ -9,9 +9,9 @@ use Rattle.osm_model.specs.Time.{TimeText}
 use Rattle.osm_opl.specs.Escape.{SpellsText}
 use Rattle.osm_opl.specs.Number.{SpellsNumber}
 use Rattle.osm_opl.specs.Written.{visible_text}
-use Rattle.osm_opl.specs.Steps.Reading.{field_at, head_at, positive_at, positive_field_at, status_at, status_field_at}
-use Rattle.osm_opl.specs.Steps.Reading.{text_at, time_at, time_field_at, user_field_at}
-use Rattle.osm_reading.specs.Steps.Answers.{and_then}
+use Rattle.osm_opl.specs.Reading.{field_at, head_at, positive_at, positive_field_at, status_at, status_field_at}
+use Rattle.osm_opl.specs.Reading.{text_at, time_at, time_field_at, user_field_at}
+use Rattle.osm_reading.specs.Answers.{and_then}
 use Rattle.osm_reading.proofs.StepLemmas.{some_then, guard_some, chosen}
 use Rattle.osm_opl.proofs.NumberLaws.{TakesPositive, positive_takes, positive_again}
 use Rattle.osm_opl.proofs.EscapeLemmas.{text_is}

@@ -11,8 +11,8 @@ use Rattle.std.proofs.lemmas.Option.{same_Some}
 use Rattle.osm_model.specs.Limits.{IsPositive, IsId}
 use Rattle.osm_opl.specs.Number.{SpellsNumber, Signed, plain, minus, SpellsId}
 use Rattle.osm_opl.specs.Coordinate.{SpellsUnits, whole, point, SpellsCoordinate}
-use Rattle.osm_opl.specs.Steps.Reading.{digits_at, number_at, positive_at, signed_at, id_at, within, parts_at, units_at, coordinate_at}
-use Rattle.osm_reading.specs.Steps.Answers.{and_then}
+use Rattle.osm_opl.specs.Reading.{digits_at, number_at, positive_at, signed_at, id_at, within, parts_at, units_at, coordinate_at}
+use Rattle.osm_reading.specs.Answers.{and_then}
 use Rattle.osm_reading.specs.Pieces.{cut_at}
 use Rattle.osm_reading.proofs.StepLemmas.{some_then, guard_some, chosen}
 use Rattle.osm_reading.specs.Pieces.{Lacks}

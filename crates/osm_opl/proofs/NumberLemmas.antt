@@ -13,8 +13,8 @@ use Rattle.std.proofs.lemmas.Str.Parse.{digit_from_value, digits_value_short, nu
 use Rattle.std.proofs.lemmas.Bool.{cases_lt}
 use Rattle.osm_reading.proofs.StepLemmas.{both_held, guard_some}
 use Rattle.osm_model.specs.declared.form.Why.{Why}
-use Rattle.osm_reading.specs.Steps.Answers.{Finds}
-use Rattle.osm_opl.specs.Steps.Reading.{all_digits, is_numeral, digits_at, number_at, positive_at}
+use Rattle.osm_reading.specs.Answers.{Finds}
+use Rattle.osm_opl.specs.Reading.{all_digits, is_numeral, digits_at, number_at, positive_at}
 
 -- the digits before an index, and their value, capped at `most`
 pub record Digits (radix : ℕ) (bytes : List ℕ) (most : ℕ) (i : ℕ) (so_far : ℕ) : Type 0 where

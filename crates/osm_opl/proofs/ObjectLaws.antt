@@ -15,9 +15,9 @@ use Rattle.osm_model.specs.declared.lists.Tag.{Tag}
 use Rattle.osm_opl.specs.Line.{SpellsWhat, node, way, relation, deleted_node, deleted_way, deleted_relation, status_text}
 use Rattle.osm_opl.specs.Lists.{SpellsList, SpellsTag, SpellsRef, SpellsMember}
 use Rattle.osm_opl.specs.Written.{visible_text}
-use Rattle.osm_opl.specs.Steps.Reading.{field_at, last_field_at, list_at, member_at, node_at, node_of}
-use Rattle.osm_opl.specs.Steps.Reading.{maybe_coordinate_at, ref_at, relation_at, tag_at, way_at, what_at}
-use Rattle.osm_reading.specs.Steps.Answers.{and_then}
+use Rattle.osm_opl.specs.Reading.{field_at, last_field_at, list_at, member_at, node_at, node_of}
+use Rattle.osm_opl.specs.Reading.{maybe_coordinate_at, ref_at, relation_at, tag_at, way_at, what_at}
+use Rattle.osm_reading.specs.Answers.{and_then}
 use Rattle.osm_reading.proofs.StepLemmas.{some_then}
 use Rattle.osm_opl.proofs.ListLaws.{IsMember, TakesList, list_takes, list_again, members_split, members_join, members_read, refs_read, tags_read}
 use Rattle.osm_opl.proofs.FieldLaws.{field_takes, field_again, last_field_takes, last_field_again}

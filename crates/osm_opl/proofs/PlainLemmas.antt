@@ -9,7 +9,7 @@ use Rattle.std.proofs.lemmas.Bool.Decides.{nat_tests}
 use Rattle.std.proofs.lemmas.List.{drop_more, length-take, take-append-drop, take_all}
 use Rattle.osm_model.specs.declared.kind.Kind.{Kind}
 use Rattle.osm_opl.specs.Steps.Plain.{IdFirst, NumberFirst, first_at}
-use Rattle.osm_opl.specs.Steps.Reading.{all_digits, digits_at, field_at, id_at, key_at, kind_at, number_at, positive_at, positive_field_at, ref_at}
+use Rattle.osm_opl.specs.Reading.{all_digits, digits_at, field_at, id_at, key_at, kind_at, number_at, positive_at, positive_field_at, ref_at}
 use Rattle.osm_reading.specs.Pieces.{Lacks, pieces, pieces_after}
 use Rattle.osm_reading.proofs.PieceLemmas.{pieces-more, pieces-one}
 use Rattle.osm_opl.proofs.NumberLemmas.{Digits, IsNumeralOf, digits_again, digits_take, each_digit, few_digits}

@@ -5,7 +5,7 @@ use Rattle.std.specs.Prelude.{codes, filter, not, pos, negsuc}
 use Rattle.std.specs.Fmt.{digits}
 use Rattle.std.specs.Str.{chars}
 use Rattle.osm_opl.specs.Escape.{is_reserved}
-use Rattle.osm_opl.specs.Steps.Reading.{digits_at, escape_at}
+use Rattle.osm_opl.specs.Reading.{digits_at, escape_at}
 use Rattle.osm_opl.specs.Written.{char_text, coordinate_text, decimals, escaped_text, hex_digits, is_written_bare}
 
 -- that many numbers, from the first on

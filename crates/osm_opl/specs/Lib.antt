@@ -6,4 +6,5 @@ pub mod Line
 pub mod File
 pub mod Written
 pub mod Room
+pub mod Reading
 pub mod Steps

@@ -1,5 +1,4 @@
 -- How lines are read and written, step by step: no public clause cites these definitions.
-pub mod Reading
 pub mod Plain
 pub mod Adding
 pub mod Writing

@@ -7,10 +7,10 @@ ghost use Rattle.std.specs.Prelude.{IfOk, OnOk, OnErr};
 ghost use Rattle.std.specs.Fmt.{decimal};
 ghost use Rattle.std.specs.Io.{StartsWith};
 ghost use Rattle.osm_opl.specs.Room.{LacksRoom};
-ghost use Rattle.osm_opl.specs.Steps.Reading.{coordinate_at, digits_at};
-ghost use Rattle.osm_opl.specs.Steps.Reading.{maybe_coordinate_at, units_at};
+ghost use Rattle.osm_opl.specs.Reading.{coordinate_at, digits_at};
+ghost use Rattle.osm_opl.specs.Reading.{maybe_coordinate_at, units_at};
 ghost use Rattle.osm_opl.specs.Written.{coordinate_field, decimals, fraction_text};
-ghost use Rattle.osm_reading.specs.Steps.Answers.{Finds};
+ghost use Rattle.osm_reading.specs.Answers.{Finds};
 
 use crate::numbers::read_digits;
 use crate::prepend::{ROOM, prepend};
@@ -23,7 +23,7 @@ use osm_reading::pieces::cut;
 const UNITS: u32 = 10_000_000;
 
 /// Reads a coordinate in degrees, such as `-0.1`; gives None if the field is empty.
-#[tactic(auto, unfolding(crate::specs::Steps::Reading::maybe_coordinate_at))]
+#[tactic(auto, unfolding(crate::specs::Reading::maybe_coordinate_at))]
 pub(crate) fn read_maybe_coordinate(bytes: &[u8], most: i32) -> Result<Option<i32>, Why>
     requires { pos 0 ≤ℤ most }
     ensures { Finds (λ z. z) result (maybe_coordinate_at (unsigned_abs most) bytes.now) }
@@ -34,7 +34,7 @@ pub(crate) fn read_maybe_coordinate(bytes: &[u8], most: i32) -> Result<Option<i3
     Ok(Some(read_coordinate(bytes, most)?))
 }
 
-#[tactic(auto, unfolding(crate::specs::Steps::Reading::coordinate_at))]
+#[tactic(auto, unfolding(crate::specs::Reading::coordinate_at))]
 fn read_coordinate(bytes: &[u8], most: i32) -> Result<i32, Why>
     requires { pos 0 ≤ℤ most }
     ensures { Finds (λ z. z) result (coordinate_at (unsigned_abs most) bytes.now) }
@@ -51,7 +51,7 @@ fn read_coordinate(bytes: &[u8], most: i32) -> Result<i32, Why>
 }
 
 // Reads degrees without a sign, such as `0.1`.
-#[tactic(auto, unfolding(crate::specs::Steps::Reading::units_at))]
+#[tactic(auto, unfolding(crate::specs::Reading::units_at))]
 fn read_units(bytes: &[u8], most: u64) -> Result<u64, Why>
     ensures value { Finds (λ n. n) result (units_at most bytes.now) }
     ensures limit { IfOk result (λ n. n ≤ most) }

@@ -10,12 +10,12 @@ ghost use Rattle.std.specs.Io.{StartsWith};
 ghost use Rattle.std.specs.List.{list_all};
 ghost use Rattle.osm_opl.specs.Escape.{is_reserved};
 ghost use Rattle.osm_opl.specs.Room.{LacksRoom, WantsOnlyIf};
-ghost use Rattle.osm_opl.specs.Steps.Reading.{PassesLimit, digits_at, escape_at, is_bare_run};
-ghost use Rattle.osm_opl.specs.Steps.Reading.{is_free, run_at, runs_at, text_at};
+ghost use Rattle.osm_opl.specs.Reading.{PassesLimit, digits_at, escape_at, is_bare_run};
+ghost use Rattle.osm_opl.specs.Reading.{is_free, run_at, runs_at, text_at};
 ghost use Rattle.osm_opl.specs.Written.{char_text, escaped_text, hex_count, hex_digits};
 ghost use Rattle.osm_opl.specs.Written.{is_written_bare};
 ghost use Rattle.osm_reading.specs.Pieces.{pieces};
-ghost use Rattle.osm_reading.specs.Steps.Answers.{Finds, Gives};
+ghost use Rattle.osm_reading.specs.Answers.{Finds, Gives};
 
 use osm_model::form::Why;
 use osm_model::limits::MAX_TEXT;
@@ -37,7 +37,7 @@ static BARE: [u8; 256] = *b"\
     ,,,,,,,,,,,,,,,,,,,,,,,,,,,,,,,,";
 
 /// Reads a text of at most 1,020 bytes and resolves its escapes.
-#[tactic(auto, unfolding(crate::specs::Steps::Reading::text_at))]
+#[tactic(auto, unfolding(crate::specs::Reading::text_at))]
 pub(crate) fn read_text(alloc: Global, bytes: &[u8]) -> Result<Text, Refusal>
     ensures value { Gives (λ t. t) result (text_at bytes.now) }
     ensures wants { WantsOnlyIf (0 < length bytes.now) result }
@@ -157,7 +157,7 @@ fn is_reserved(byte: u8) -> bool
 }
 
 // The character whose code is one to eight hexadecimal digits. U+0000 is refused.
-#[tactic(auto, unfolding(crate::specs::Steps::Reading::escape_at))]
+#[tactic(auto, unfolding(crate::specs::Reading::escape_at))]
 fn read_escape(digits: &[u8]) -> Result<char, Why>
     ensures { Finds (λ c. c) result (escape_at digits.now) }
 {

@@ -8,11 +8,11 @@ ghost use Rattle.osm_model.specs.Change.{ChangeValue};
 ghost use Rattle.osm_model.specs.Limits.{IsId};
 ghost use Rattle.osm_opl.specs.Line.{LineRefused, SpellsLine};
 ghost use Rattle.osm_opl.specs.Room.{LacksRoom};
-ghost use Rattle.osm_opl.specs.Steps.Reading.{key_at, line_at};
+ghost use Rattle.osm_opl.specs.Reading.{key_at, line_at};
 ghost use Rattle.osm_opl.specs.Written.{line_text};
 ghost use Rattle.osm_reading.specs.Pieces.{pieces, pieces_after};
 ghost use Rattle.osm_reading.specs.Refusal.{IsWant};
-ghost use Rattle.osm_reading.specs.Steps.Answers.{Finds, Gives};
+ghost use Rattle.osm_reading.specs.Answers.{Finds, Gives};
 
 use crate::lists::read_kind;
 use crate::metadata::{read_head, write_key_and_head};
@@ -68,7 +68,7 @@ pub fn read_line(alloc: Global, line: &[u8]) -> Result<Change, LineError>
     read_change(alloc, line)
 }
 
-#[tactic(auto, unfolding(crate::specs::Steps::Reading::line_at))]
+#[tactic(auto, unfolding(crate::specs::Reading::line_at))]
 fn read_change(alloc: Global, line: &[u8]) -> Result<Change, LineError>
     ensures { Gives (λ c. c) result (line_at line.now) }
 {
@@ -116,7 +116,7 @@ fn plain_key(line: &[u8]) -> Option<(Key, Option<&[u8]>)>
     Some((Key { kind, id }, rest))
 }
 
-#[tactic(auto, unfolding(crate::specs::Steps::Reading::key_at))]
+#[tactic(auto, unfolding(crate::specs::Reading::key_at))]
 fn cut_key(line: &[u8]) -> Result<(Key, Option<&[u8]>), Why>
     ensures value { Finds (λ r. (r.0, pieces_after 32 r.1)) result (key_at (pieces 32 line.now)) }
     ensures limit { IfOk result (λ r. IsId r.0.id) }

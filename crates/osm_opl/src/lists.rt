@@ -6,11 +6,11 @@ ghost use Rattle.std.specs.Io.{StartsWith};
 ghost use Rattle.osm_opl.specs.Lists.{letter_of};
 ghost use Rattle.osm_opl.specs.Room.{LacksRoom, WantsOnlyIf};
 ghost use Rattle.osm_opl.specs.Steps.Plain.{first_at};
-ghost use Rattle.osm_opl.specs.Steps.Reading.{kind_at, list_at, list_pieces, member_at};
-ghost use Rattle.osm_opl.specs.Steps.Reading.{ref_at, tag_at};
+ghost use Rattle.osm_opl.specs.Reading.{kind_at, list_at, list_pieces, member_at};
+ghost use Rattle.osm_opl.specs.Reading.{ref_at, tag_at};
 ghost use Rattle.osm_opl.specs.Written.{items_text, member_text, ref_text, tag_text};
 ghost use Rattle.osm_reading.specs.Pieces.{pieces, pieces_after};
-ghost use Rattle.osm_reading.specs.Steps.Answers.{Finds, Gives};
+ghost use Rattle.osm_reading.specs.Answers.{Finds, Gives};
 
 use crate::escapes::{read_text, write_text};
 use crate::numbers::read_id;
@@ -77,7 +77,7 @@ pub(crate) fn read_tags(alloc: Global, bytes: &[u8]) -> Result<Tags, Refusal>
 }
 
 // `KEY=VALUE`
-#[tactic(auto, unfolding(crate::specs::Steps::Reading::tag_at))]
+#[tactic(auto, unfolding(crate::specs::Reading::tag_at))]
 fn read_tag(alloc: Global, bytes: &[u8]) -> Result<Tag, Refusal>
     ensures value { Gives (λ t. t) result (tag_at bytes.now) }
     ensures wants { WantsOnlyIf (0 < length bytes.now) result }
@@ -149,7 +149,7 @@ fn cut_ref(items: &[u8]) -> Result<(i64, Option<&[u8]>), Why>
 }
 
 // `nID`
-#[tactic(auto, unfolding(crate::specs::Steps::Reading::ref_at))]
+#[tactic(auto, unfolding(crate::specs::Reading::ref_at))]
 fn read_ref(bytes: &[u8]) -> Result<i64, Why>
     ensures { Finds (λ z. z) result (ref_at bytes.now) }
 {
@@ -180,7 +180,7 @@ pub(crate) fn read_members(alloc: Global, bytes: &[u8]) -> Result<Members, Refus
 }
 
 // `nID@ROLE`, `wID@ROLE` or `rID@ROLE`
-#[tactic(auto, unfolding(crate::specs::Steps::Reading::member_at))]
+#[tactic(auto, unfolding(crate::specs::Reading::member_at))]
 fn read_member(alloc: Global, bytes: &[u8]) -> Result<Member, Refusal>
     ensures value { Gives (λ m. m) result (member_at bytes.now) }
     ensures wants { WantsOnlyIf (0 < length bytes.now) result }

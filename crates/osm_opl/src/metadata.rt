@@ -5,13 +5,13 @@ ghost use Rattle.std.specs.Prelude.{◌≡◌, ◌≢◌, ◌<◌, ◌++◌, IfO
 ghost use Rattle.std.specs.Prelude.{◌+◌, ◌≤◌, drop, OnOk, OnErr};
 ghost use Rattle.std.specs.Io.{StartsWith};
 ghost use Rattle.osm_opl.specs.Room.{LacksRoom};
-ghost use Rattle.osm_opl.specs.Steps.Reading.{head_at, positive_field_at, status_at};
-ghost use Rattle.osm_opl.specs.Steps.Reading.{status_field_at, time_at, time_field_at};
-ghost use Rattle.osm_opl.specs.Steps.Reading.{user_field_at};
+ghost use Rattle.osm_opl.specs.Reading.{head_at, positive_field_at, status_at};
+ghost use Rattle.osm_opl.specs.Reading.{status_field_at, time_at, time_field_at};
+ghost use Rattle.osm_opl.specs.Reading.{user_field_at};
 ghost use Rattle.osm_opl.specs.Steps.Writing.{user_start};
 ghost use Rattle.osm_opl.specs.Written.{key_text, meta_text, version_fields, visible_text};
 ghost use Rattle.osm_reading.specs.Pieces.{pieces_after};
-ghost use Rattle.osm_reading.specs.Steps.Answers.{Finds, Gives};
+ghost use Rattle.osm_reading.specs.Answers.{Finds, Gives};
 
 use crate::escapes::{read_text, write_text};
 use crate::fields::next_field;
@@ -35,7 +35,7 @@ pub(crate) struct Head {
 }
 
 /// Reads the fields `vVERSION dV cCHANGESET tTIME iUID uUSER`, and gives what follows them.
-#[tactic(auto, unfolding(crate::specs::Steps::Reading::head_at))]
+#[tactic(auto, unfolding(crate::specs::Reading::head_at))]
 pub(crate) fn read_head<'a>(
     alloc: Global,
     rest: Option<&'a [u8]>,
@@ -91,7 +91,7 @@ fn plain_field<'a>(rest: Option<&'a [u8]>, letter: u8) -> Option<(u32, Option<&'
     Some((number as u32, rest))
 }
 
-#[tactic(auto, unfolding(crate::specs::Steps::Reading::positive_field_at))]
+#[tactic(auto, unfolding(crate::specs::Reading::positive_field_at))]
 fn cut_field<'a>(rest: Option<&'a [u8]>, letter: u8) -> Result<(u32, Option<&'a [u8]>), Why>
     ensures value { Finds (λ r. (r.0, pieces_after 32 r.1)) result
         (positive_field_at letter (pieces_after 32 rest.entry)) }
@@ -102,7 +102,7 @@ fn cut_field<'a>(rest: Option<&'a [u8]>, letter: u8) -> Result<(u32, Option<&'a 
 }
 
 // `dV` or `dD`
-#[tactic(auto, unfolding(crate::specs::Steps::Reading::status_field_at))]
+#[tactic(auto, unfolding(crate::specs::Reading::status_field_at))]
 fn status_field<'a>(rest: Option<&'a [u8]>) -> Result<(bool, Option<&'a [u8]>), Why>
     ensures { Finds (λ r. (r.0, pieces_after 32 r.1)) result
         (status_field_at (pieces_after 32 rest.entry)) }
@@ -112,7 +112,7 @@ fn status_field<'a>(rest: Option<&'a [u8]>) -> Result<(bool, Option<&'a [u8]>), 
 }
 
 // `tTIME`
-#[tactic(auto, unfolding(crate::specs::Steps::Reading::time_field_at))]
+#[tactic(auto, unfolding(crate::specs::Reading::time_field_at))]
 fn time_field<'a>(rest: Option<&'a [u8]>) -> Result<(u32, Option<&'a [u8]>), Why>
     ensures value { Finds (λ r. (r.0, pieces_after 32 r.1)) result
         (time_field_at (pieces_after 32 rest.entry)) }
@@ -123,7 +123,7 @@ fn time_field<'a>(rest: Option<&'a [u8]>) -> Result<(u32, Option<&'a [u8]>), Why
 }
 
 // `uUSER`
-#[tactic(auto, unfolding(crate::specs::Steps::Reading::user_field_at))]
+#[tactic(auto, unfolding(crate::specs::Reading::user_field_at))]
 fn user_field<'a>(
     alloc: Global,
     rest: Option<&'a [u8]>,
@@ -136,7 +136,7 @@ fn user_field<'a>(
 }
 
 // `V` or `D`
-#[tactic(auto, unfolding(crate::specs::Steps::Reading::status_at))]
+#[tactic(auto, unfolding(crate::specs::Reading::status_at))]
 fn read_status(bytes: &[u8]) -> Result<bool, Why>
     ensures { Finds (λ b. b) result (status_at bytes.now) }
 {

@@ -3,8 +3,8 @@
 ghost use Rattle.std.specs.Prelude.{◌≡◌, ◌<◌, ◌≤◌, ◌-◌, ◌^◌, min, option_map};
 ghost use Rattle.std.specs.Prelude.{length, IfOk};
 ghost use Rattle.osm_model.specs.Limits.{IsId};
-ghost use Rattle.osm_reading.specs.Steps.Answers.{Finds};
-ghost use Rattle.osm_opl.specs.Steps.Reading.{digits_at, id_at, number_at, positive_at};
+ghost use Rattle.osm_reading.specs.Answers.{Finds};
+ghost use Rattle.osm_opl.specs.Reading.{digits_at, id_at, number_at, positive_at};
 
 use osm_model::form::Why;
 use osm_model::limits::MAX_ID;
@@ -62,7 +62,7 @@ fn read_many_digits(bytes: &[u8]) -> Result<u64, Why>
     Ok(number)
 }
 
-#[tactic(auto, unfolding(crate::specs::Steps::Reading::number_at))]
+#[tactic(auto, unfolding(crate::specs::Reading::number_at))]
 fn read_number(bytes: &[u8], most: u64) -> Result<u64, Why>
     requires { most < 2 ^ 64 - 1 }
     ensures value { Finds (λ n. n) result (number_at most bytes.now) }
@@ -76,7 +76,7 @@ fn read_number(bytes: &[u8], most: u64) -> Result<u64, Why>
 }
 
 /// A version, a changeset or a user id: 1 to 4,294,967,295.
-#[tactic(auto, unfolding(crate::specs::Steps::Reading::positive_at))]
+#[tactic(auto, unfolding(crate::specs::Reading::positive_at))]
 pub(crate) fn read_positive(bytes: &[u8]) -> Result<u32, Why>
     ensures value { Finds (λ n. n) result (positive_at bytes.now) }
     ensures limit { IfOk result (λ n. 0 < n) }
@@ -92,7 +92,7 @@ pub(crate) fn read_positive(bytes: &[u8]) -> Result<u32, Why>
 }
 
 /// An id or a reference, with a leading `-` if it is negative.
-#[tactic(auto, unfolding(crate::specs::Steps::Reading::id_at))]
+#[tactic(auto, unfolding(crate::specs::Reading::id_at))]
 pub(crate) fn read_id(bytes: &[u8]) -> Result<i64, Why>
     ensures value { Finds (λ z. z) result (id_at bytes.now) }
     ensures limit { IfOk result (λ z. IsId z) }

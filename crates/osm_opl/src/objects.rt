@@ -5,11 +5,11 @@ ghost use Rattle.std.specs.Prelude.{◌≡◌, ◌++◌, IfOk, OnOk, OnErr};
 ghost use Rattle.std.specs.Io.{StartsWith};
 ghost use Rattle.osm_model.specs.Change.{IsWhat};
 ghost use Rattle.osm_opl.specs.Room.{LacksRoom};
-ghost use Rattle.osm_opl.specs.Steps.Reading.{node_at, node_of, relation_at, way_at, what_at};
+ghost use Rattle.osm_opl.specs.Reading.{node_at, node_of, relation_at, way_at, what_at};
 ghost use Rattle.osm_opl.specs.Written.{coordinate_field, members_field, refs_field};
 ghost use Rattle.osm_opl.specs.Written.{tags_field, what_text};
 ghost use Rattle.osm_reading.specs.Pieces.{pieces_after};
-ghost use Rattle.osm_reading.specs.Steps.Answers.{Finds, Gives};
+ghost use Rattle.osm_reading.specs.Answers.{Finds, Gives};
 
 use crate::coordinates::{read_maybe_coordinate, write_coordinate};
 use crate::fields::{last_field, next_field};
@@ -41,7 +41,7 @@ pub(crate) fn read_what(
 }
 
 // `T.. x.. y..`
-#[tactic(auto, unfolding(crate::specs::Steps::Reading::node_at))]
+#[tactic(auto, unfolding(crate::specs::Reading::node_at))]
 fn read_node(alloc: Global, is_visible: bool, rest: Option<&[u8]>) -> Result<What, Refusal>
     ensures { Gives (λ w. w) result (node_at is_visible (pieces_after 32 rest.entry)) }
 {
@@ -68,7 +68,7 @@ fn node_of(is_visible: bool, lon: Option<i32>, lat: Option<i32>, tags: Tags) -> 
 }
 
 // `T.. N..`
-#[tactic(auto, unfolding(crate::specs::Steps::Reading::way_at))]
+#[tactic(auto, unfolding(crate::specs::Reading::way_at))]
 fn read_way(alloc: Global, is_visible: bool, rest: Option<&[u8]>) -> Result<What, Refusal>
     ensures { Gives (λ w. w) result (way_at is_visible (pieces_after 32 rest.entry)) }
 {
@@ -84,7 +84,7 @@ fn read_way(alloc: Global, is_visible: bool, rest: Option<&[u8]>) -> Result<What
 }
 
 // `T.. M..`
-#[tactic(auto, unfolding(crate::specs::Steps::Reading::relation_at))]
+#[tactic(auto, unfolding(crate::specs::Reading::relation_at))]
 fn read_relation(alloc: Global, is_visible: bool, rest: Option<&[u8]>) -> Result<What, Refusal>
     ensures { Gives (λ w. w) result (relation_at is_visible (pieces_after 32 rest.entry)) }
 {

@@ -6,7 +6,7 @@ ghost use Rattle.std.specs.Char.{digit_value};
 ghost use Rattle.std.specs.Str.Parse.{digits_value};
 ghost use Rattle.osm_model.specs.Limits.{IsId};
 ghost use Rattle.osm_opl.specs.Steps.Plain.{IdFirst, NumberFirst};
-ghost use Rattle.osm_opl.specs.Steps.Reading.{all_digits};
+ghost use Rattle.osm_opl.specs.Reading.{all_digits};
 ghost use Rattle.osm_reading.specs.Pieces.{pieces_after};
 
 use osm_model::limits::MAX_ID;

@@ -1,6 +1,6 @@
 -- Steps of a reading that didn't fail.
 use Rattle.std.proofs.Common.{◌≡◌, ◌&&◌, Bool, true, false, cond, Option, Some, None, refl}
-use Rattle.osm_reading.specs.Steps.Answers.{and_then, when}
+use Rattle.osm_reading.specs.Answers.{and_then, when}
 
 -- the step before it gave something
 pub some_then : {A B : Type 0} (r : Option A) (f : A → Option B) (y : B) → and_then r f ≡ Some y → (x : A) × (r ≡ Some x) × (f x ≡ Some y)

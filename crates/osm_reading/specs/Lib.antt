@@ -2,4 +2,4 @@ pub mod Pieces
 pub mod Lines
 pub mod Sequence
 pub mod Refusal
-pub mod Steps
+pub mod Answers

@@ -13,14 +13,14 @@ use Rattle.osm_model.specs.Filter.{AreRising, FilterValue, IsFilter, everything,
 use Rattle.osm_model.specs.Limits.{max_keys}
 use Rattle.osm_model.specs.Text.{IsText, bytes_cmp}
 use Rattle.osm_opl.specs.Escape.{SpellsText}
-use Rattle.osm_opl.specs.Steps.Reading.{text_at}
+use Rattle.osm_opl.specs.Reading.{text_at}
 use Rattle.osm_opl.specs.Written.{escaped_text}
 use Rattle.osm_opl.proofs.EscapeLaws.{text_again, text_lacks, text_takes}
 use Rattle.osm_opl.proofs.EscapeLemmas.{text_is}
 use Rattle.osm_opl.proofs.ListLaws.{line_feed}
 use Rattle.osm_opl.proofs.WrittenTexts.{text_is_spelled}
 use Rattle.osm_reading.specs.Pieces.{Lacks, cut_at}
-use Rattle.osm_reading.specs.Steps.Answers.{and_then}
+use Rattle.osm_reading.specs.Answers.{and_then}
 use Rattle.osm_reading.proofs.PieceLemmas.{cut_again, cut_takes}
 use Rattle.osm_reading.proofs.StepLemmas.{both_held, guard_some, some_then}
 use Rattle.osm_save.specs.Filters.{TellsFilter, filter_lines, kinds_text, told_lines}

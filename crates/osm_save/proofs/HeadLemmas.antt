@@ -14,7 +14,7 @@ use Rattle.osm_model.specs.Filter.{FilterValue, IsFilter, everything, has_kind}
 use Rattle.osm_model.specs.Limits.{max_keys, max_sequence}
 use Rattle.osm_opl.specs.Written.{escaped_text}
 use Rattle.osm_reading.specs.Pieces.{cut_at}
-use Rattle.osm_reading.specs.Steps.Answers.{and_then}
+use Rattle.osm_reading.specs.Answers.{and_then}
 use Rattle.osm_reading.proofs.PieceLemmas.{cut_again, cut_takes}
 use Rattle.osm_reading.proofs.StepLemmas.{chosen, guard_some, some_then}
 use Rattle.osm_save.specs.Filters.{TellsFilter, kinds_text, told_lines}

@@ -8,7 +8,7 @@ use Rattle.std.specs.Ordering.{is_lt}
 use Rattle.std.specs.declared.cmp.Ordering.{Ordering}
 use Rattle.std.specs.declared.cmp.Ordering.TheVariants.{Less, Equal, Greater}
 use Rattle.osm_reading.specs.Pieces.{cut_at}
-use Rattle.osm_reading.specs.Steps.Answers.{and_then}
+use Rattle.osm_reading.specs.Answers.{and_then}
 use Rattle.std.specs.Prelude.{Err, Result}
 use Rattle.osm_save.specs.Answers.{Fails, Stops, WantedIf, WantsOnlyIf}
 use Rattle.osm_save.specs.Reading.{is_above, items_at}

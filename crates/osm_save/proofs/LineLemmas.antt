@@ -14,10 +14,10 @@ use Rattle.osm_model.specs.Limits.{IsPositive}
 use Rattle.osm_model.specs.Time.{Moment, Shows, TimeText, last_digit, moment_text}
 use Rattle.osm_model.proofs.CivilTimeLemmas.{time_text_shows}
 use Rattle.osm_model.proofs.TimeLemmas.{one_text}
-use Rattle.osm_opl.specs.Steps.Reading.{time_at}
+use Rattle.osm_opl.specs.Reading.{time_at}
 use Rattle.osm_opl.proofs.DateLemmas.{time_again, time_takes}
 use Rattle.osm_reading.specs.Pieces.{Lacks, cut_at}
-use Rattle.osm_reading.specs.Steps.Answers.{and_then}
+use Rattle.osm_reading.specs.Answers.{and_then}
 use Rattle.osm_reading.proofs.PieceLemmas.{cut_again, cut_takes, lacks_append}
 use Rattle.osm_reading.proofs.StepLemmas.{both_held, chosen, guard_some, some_then}
 use Rattle.std.proofs.lemmas.Bool.{eq-eqb}

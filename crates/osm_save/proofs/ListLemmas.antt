@@ -10,7 +10,7 @@ use Rattle.std.specs.declared.cmp.Ordering.TheVariants.{Less, Equal, Greater}
 use Rattle.std.proofs.lemmas.List.{append_assoc}
 use Rattle.std.proofs.lemmas.Option.{same_Some}
 use Rattle.osm_reading.specs.Pieces.{Lacks, cut_at}
-use Rattle.osm_reading.specs.Steps.Answers.{and_then}
+use Rattle.osm_reading.specs.Answers.{and_then}
 use Rattle.osm_reading.proofs.PieceLemmas.{cut_again, cut_takes}
 use Rattle.osm_reading.proofs.StepLemmas.{some_then}
 use Rattle.osm_save.specs.Lines.{ended, list_lines}

@@ -7,7 +7,7 @@ use Rattle.std.proofs.lemmas.Bool.Decides.{nat_tests}
 use Rattle.std.proofs.lemmas.Fmt.{decimal_is_IsNumeral, length-decimal-le}
 use Rattle.std.proofs.lemmas.Option.{same_Some}
 use Rattle.std.proofs.lemmas.Slice.Eq.{bytes_eq-Decides}
-use Rattle.osm_opl.specs.Steps.Reading.{digits_at}
+use Rattle.osm_opl.specs.Reading.{digits_at}
 use Rattle.osm_opl.proofs.NumberLemmas.{all_from_each, digits_again, digits_take, few_digits}
 use Rattle.osm_opl.proofs.NumberLaws.{digits_lack}
 use Rattle.osm_reading.proofs.StepLemmas.{guard_some, some_then}

@@ -13,7 +13,7 @@ use Rattle.osm_model.specs.declared.change.What.TheVariants.{Deleted, Node, Rela
 use Rattle.osm_model.specs.declared.kind.Key.{Key}
 use Rattle.osm_mirror.specs.Mirror.{IsObject}
 use Rattle.osm_opl.specs.Line.{SpellsLine}
-use Rattle.osm_opl.specs.Steps.Reading.{line_at}
+use Rattle.osm_opl.specs.Reading.{line_at}
 use Rattle.osm_opl.specs.Written.{line_text}
 use Rattle.osm_opl.proofs.LineLaws.{line_again, line_takes}
 use Rattle.osm_opl.proofs.RoundTrip.{line_spells}

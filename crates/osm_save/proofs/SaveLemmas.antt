@@ -8,7 +8,7 @@ use Rattle.osm_model.specs.Filter.{AreKept, FilterValue, IsFilter}
 use Rattle.osm_model.specs.Limits.{max_sequence}
 use Rattle.osm_mirror.specs.Mirror.{Counted, IsMirror, IsWithin}
 use Rattle.osm_reading.specs.Pieces.{Lacks}
-use Rattle.osm_reading.specs.Steps.Answers.{and_then}
+use Rattle.osm_reading.specs.Answers.{and_then}
 use Rattle.osm_reading.proofs.StepLemmas.{guard_some, some_then}
 use Rattle.osm_save.specs.Filters.{TellsFilter}
 use Rattle.osm_save.specs.Head.{IsHeadIn, head_lines, head_of, most_counted}

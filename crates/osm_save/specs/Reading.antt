@@ -13,10 +13,10 @@ use Rattle.osm_model.specs.Limits.{max_keys, max_sequence}
 use Rattle.osm_model.specs.Text.{bytes_cmp}
 use Rattle.osm_model.specs.declared.kind.Key.{Key}
 use Rattle.osm_mirror.specs.Mirror.{Counted}
-use Rattle.osm_opl.specs.Steps.Reading.{digits_at, line_at, text_at, time_at}
+use Rattle.osm_opl.specs.Reading.{digits_at, line_at, text_at, time_at}
 use Rattle.osm_opl.specs.Written.{escaped_text, line_text}
 use Rattle.osm_reading.specs.Pieces.{cut_at}
-use Rattle.osm_reading.specs.Steps.Answers.{and_then}
+use Rattle.osm_reading.specs.Answers.{and_then}
 use Rattle.osm_save.specs.Filters.{kinds_text}
 use Rattle.osm_save.specs.Head.{most_counted}
 use Rattle.osm_save.specs.Save.{most_objects, saved_with}

@@ -14,7 +14,7 @@ ghost use Rattle.std.specs.Prelude.{◌≡◌, ◌<◌, ◌∷◌, [], ◌++◌,
 ghost use Rattle.std.specs.Str.{bytes_eq};
 ghost use Rattle.osm_model.specs.Filter.{IsFilter};
 ghost use Rattle.osm_model.specs.Text.{bytes_cmp};
-ghost use Rattle.osm_opl.specs.Steps.Reading.{text_at};
+ghost use Rattle.osm_opl.specs.Reading.{text_at};
 ghost use Rattle.osm_opl.specs.Written.{escaped_text};
 ghost use Rattle.osm_save.specs.Filters.{filter_lines, kinds_text};
 ghost use Rattle.osm_save.specs.Lines.{ended, list_lines};

@@ -4,7 +4,7 @@
 ghost use Rattle.std.specs.Prelude.{◌≡◌, ℕ, List, ◌∷◌, [], ◌++◌, ◌≤◌, codes, decimal, take};
 ghost use Rattle.std.specs.Prelude.{◌<◌, length, IfErr, IfOk, OnOk};
 ghost use Rattle.osm_model.specs.Limits.{max_sequence};
-ghost use Rattle.osm_opl.specs.Steps.Reading.{time_at};
+ghost use Rattle.osm_opl.specs.Reading.{time_at};
 ghost use Rattle.osm_save.specs.Head.{BeginsSave, HasKeys, head_lines, head_of, max_head};
 ghost use Rattle.osm_save.specs.Head.{maybe_time_text};
 ghost use Rattle.osm_save.specs.Lines.{ended};

@@ -1,7 +1,7 @@
 //! Numbers in plain decimal: no sign, and no leading zeros.
 
 ghost use Rattle.std.specs.Prelude.{◌≡◌, ◌<◌, ◌^◌, ◌++◌, decimal, IfSome, OnOk};
-ghost use Rattle.osm_opl.specs.Steps.Reading.{digits_at};
+ghost use Rattle.osm_opl.specs.Reading.{digits_at};
 ghost use Rattle.osm_save.specs.Reading.{number_at};
 
 use itoa::Buffer;

@@ -6,7 +6,7 @@ ghost use Rattle.std.specs.Str.{bytes_eq};
 ghost use Rattle.osm_model.specs.Change.{ChangeValue};
 ghost use Rattle.osm_model.specs.Filter.{keeps};
 ghost use Rattle.osm_model.specs.KeyOrder.{key_cmp};
-ghost use Rattle.osm_opl.specs.Steps.Reading.{line_at};
+ghost use Rattle.osm_opl.specs.Reading.{line_at};
 ghost use Rattle.osm_opl.specs.Written.{line_text};
 ghost use Rattle.osm_save.specs.Lines.{ended, list_lines};
 ghost use Rattle.osm_save.specs.Answers.{Fails, Gives, Stops};

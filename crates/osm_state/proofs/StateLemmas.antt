@@ -5,7 +5,7 @@ use Rattle.std.specs.Option.{ok_or}
 use Rattle.std.proofs.lemmas.Option.{same_Some}
 use Rattle.std.proofs.lemmas.List.{take_all, length-take}
 use Rattle.std.proofs.lemmas.Int.{ints}
-use Rattle.osm_model.specs.Steps.Clock.{loose_moment}
+use Rattle.osm_model.specs.Clock.{loose_moment}
 use Rattle.osm_model.proofs.TimeLemmas.{shown_by_digits}
 use Rattle.osm_model.specs.Time.{TimeText}
 use Rattle.osm_state.specs.Steps.Values.{IsPlainPrefix}

@@ -2,7 +2,7 @@
 use Rattle.std.specs.Prelude.{ℕ, zero, suc, ◌+◌, ◌*◌, ◌/◌, ◌%◌, ◌^◌, ◌==◌, ◌&&◌, List, [], ◌∷◌}
 use Rattle.std.specs.Prelude.{length, take, drop, Option, Some, None, Bool, if◌then◌else◌, nat_lt}
 use Rattle.std.specs.Prelude.{◌<◌, ◌≤◌, get_or, nat_le, int_le, ℤ, pos, negsuc, neg_ℤ, ◌+ℤ◌, ◌-ℤ◌}
-use Rattle.osm_reading.specs.Steps.Answers.{and_then, when}
+use Rattle.osm_reading.specs.Answers.{and_then, when}
 use Rattle.std.specs.Int.{int_rem_euclid}
 
 -- a varint of at most this many bytes, of a number below 2^64

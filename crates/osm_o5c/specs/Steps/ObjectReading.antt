@@ -10,7 +10,7 @@ use Rattle.osm_model.specs.declared.change.What.{What}
 use Rattle.osm_model.specs.declared.change.What.TheVariants.{Node, Way, Relation, Deleted}
 use Rattle.osm_model.specs.declared.lists.Member.{Member}
 use Rattle.osm_model.specs.declared.lists.Tag.{Tag}
-use Rattle.osm_reading.specs.Steps.Answers.{and_then, when}
+use Rattle.osm_reading.specs.Answers.{and_then, when}
 use Rattle.osm_o5c.specs.Written.{member_counter, with_member_counter}
 use Rattle.osm_o5c.specs.Steps.NumberReading.{signed_at, positive_at, positive_sum_at, id_at}
 use Rattle.osm_o5c.specs.Steps.NumberReading.{longitude_at, latitude_at, part_at, is_id}

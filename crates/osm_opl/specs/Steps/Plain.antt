@@ -1,8 +1,8 @@
 -- Numbers that are read in one pass. Only clauses of private functions cite these definitions.
 use Rattle.std.specs.Prelude.{◌≡◌, ℕ, List, [], ◌∷◌, Option, None, Some, ℤ}
-use Rattle.osm_opl.specs.Steps.Reading.{digits_at, id_at}
+use Rattle.osm_opl.specs.Reading.{digits_at, id_at}
 use Rattle.osm_reading.specs.Pieces.{pieces}
-use Rattle.osm_reading.specs.Steps.Answers.{and_then}
+use Rattle.osm_reading.specs.Answers.{and_then}
 
 -- the first piece is the digits of the number, and the other pieces follow
 pub record NumberFirst (separator : ℕ) (bytes : List ℕ) (n : ℕ) (more : List (List ℕ))

@@ -5,7 +5,7 @@ use Rattle.std.specs.Map.{lookup}
 use Rattle.osm_model.specs.Change.{ChangeValue}
 use Rattle.osm_model.specs.KeyOrder.{key_cmp, same_key}
 use Rattle.osm_model.specs.declared.kind.Key.{Key}
-use Rattle.osm_mirror.specs.Steps.Entries.{AreObjects}
+use Rattle.osm_mirror.specs.Entries.{AreObjects}
 use Rattle.osm_mirror.proofs.EntryLemmas.{object_at-objects_of, objects-insert_entry}
 use Rattle.osm_mirror.proofs.objects.enter.Goals as goal
 

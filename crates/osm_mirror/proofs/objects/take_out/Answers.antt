@@ -2,7 +2,7 @@ use Rattle.std.proofs.Common.{ap, sym, ◌∙◌, None, Option}
 use Rattle.std.specs.Prelude.{if◌then◌else◌}
 use Rattle.osm_model.specs.Change.{ChangeValue}
 use Rattle.osm_model.specs.KeyOrder.{same_key}
-use Rattle.osm_mirror.specs.Steps.Entries.{AreObjects}
+use Rattle.osm_mirror.specs.Entries.{AreObjects}
 use Rattle.osm_mirror.proofs.EntryLemmas.{object_at-objects_of, objects-remove_entry}
 use Rattle.osm_mirror.proofs.objects.take_out.Goals as goal
 

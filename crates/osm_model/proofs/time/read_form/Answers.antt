@@ -1,5 +1,5 @@
 use Rattle.std.proofs.Common.{rules}
-use Rattle.osm_model.specs.Steps.Clock.{moment_of}
+use Rattle.osm_model.specs.Clock.{moment_of}
 use Rattle.osm_model.proofs.TimeLemmas.{shown_by_digits}
 use Rattle.osm_model.proofs.time.read_form.Goals as goal
 

@@ -2,7 +2,7 @@ use Rattle.std.proofs.Common.{◌≡◌, rules, arith, pos, w64, w32, w16, w8, F
 use Rattle.std.proofs.lemmas.Int.{to_z-of_z, ints}
 use Rattle.jiff_core.specs.Calendar.{IsDate, IsCivilDate}
 use Rattle.jiff_core.specs.Date.{IsYmd, epoch_day}
-use Rattle.osm_model.specs.Steps.Clock.{moment_of}
+use Rattle.osm_model.specs.Clock.{moment_of}
 use Rattle.osm_model.specs.Time.{seconds_of}
 use Rattle.osm_model.proofs.TimeLemmas.{sum_of, civil}
 use Rattle.osm_model.proofs.time.seconds_since.Goals as goal

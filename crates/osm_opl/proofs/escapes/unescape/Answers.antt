@@ -2,8 +2,8 @@ use Rattle.std.proofs.Common.{◌≡◌, [], ◌∷◌, ◌++◌, None, refl, ru
 use Rattle.std.specs.Char.{encode_utf8}
 use Rattle.std.specs.Prelude.{string_bytes}
 use Rattle.osm_reading.specs.Pieces.{pieces}
-use Rattle.osm_reading.specs.Steps.Answers.{Fails}
-use Rattle.osm_opl.specs.Steps.Reading.{runs_at, text_at}
+use Rattle.osm_reading.specs.Answers.{Fails}
+use Rattle.osm_opl.specs.Reading.{runs_at, text_at}
 use Rattle.osm_opl.proofs.ListLemmas.{char_long, escape_none, escape_open, put_before-nothing, run_long, run_none, run_read, text_whole}
 use Rattle.osm_opl.proofs.escapes.unescape.Goals as goal
 

@@ -1,7 +1,7 @@
 use Rattle.std.proofs.Common.{◌≡◌, length}
 use Rattle.std.specs.Prelude.{string_bytes}
 use Rattle.osm_reading.specs.Pieces.{pieces}
-use Rattle.osm_opl.specs.Steps.Reading.{runs_at}
+use Rattle.osm_opl.specs.Reading.{runs_at}
 use Rattle.osm_opl.proofs.ListLemmas.{put_before}
 use Rattle.osm_opl.proofs.escapes.unescape.Given as goal
 

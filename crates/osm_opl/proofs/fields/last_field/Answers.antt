@@ -1,5 +1,5 @@
 use Rattle.std.proofs.Common.{arith}
-use Rattle.osm_opl.specs.Steps.Reading.{last_field_at}
+use Rattle.osm_opl.specs.Reading.{last_field_at}
 use Rattle.osm_opl.proofs.FieldLaws.{not_alone}
 use Rattle.osm_opl.proofs.fields.last_field.Goals as goal
 

@@ -1,6 +1,6 @@
 use Rattle.std.proofs.Common.{◌≡◌, List, ℕ, Some, None, Option, sym, ap, ◌∙◌}
 use Rattle.osm_model.specs.declared.kind.Key.{Key}
-use Rattle.osm_reading.specs.Steps.Answers.{and_then}
+use Rattle.osm_reading.specs.Answers.{and_then}
 use Rattle.osm_opl.proofs.LineLaws.{first_key}
 use Rattle.osm_opl.proofs.lines.line_key.Goals as goal
 

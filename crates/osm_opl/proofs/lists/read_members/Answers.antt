@@ -1,5 +1,5 @@
 use Rattle.std.proofs.Common.{◌≤◌, length, arith}
-use Rattle.osm_opl.specs.Steps.Reading.{member_at}
+use Rattle.osm_opl.specs.Reading.{member_at}
 use Rattle.osm_reading.specs.Pieces.{pieces_after}
 use Rattle.osm_opl.proofs.ListLemmas.{item_too_many, item_fails, list_read}
 use Rattle.osm_reading.proofs.PieceLemmas.{some_pieces}

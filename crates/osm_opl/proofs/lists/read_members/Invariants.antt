@@ -1,5 +1,5 @@
 use Rattle.std.proofs.Common.{◌≤◌, length}
-use Rattle.osm_opl.specs.Steps.Reading.{list_pieces, member_at}
+use Rattle.osm_opl.specs.Reading.{list_pieces, member_at}
 use Rattle.osm_reading.specs.Pieces.{pieces_after}
 use Rattle.osm_opl.proofs.ListLemmas.{ListRead}
 use Rattle.osm_reading.proofs.PieceLemmas.{bytes_left}

@@ -1,5 +1,5 @@
 use Rattle.std.proofs.Common.{◌≤◌, length, arith}
-use Rattle.osm_opl.specs.Steps.Reading.{ref_at}
+use Rattle.osm_opl.specs.Reading.{ref_at}
 use Rattle.osm_reading.specs.Pieces.{pieces_after}
 use Rattle.osm_opl.proofs.ListLemmas.{first_unread, item_too_many, list_read}
 use Rattle.osm_reading.proofs.PieceLemmas.{some_pieces}

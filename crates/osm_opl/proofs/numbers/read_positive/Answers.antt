@@ -1,5 +1,5 @@
 use Rattle.std.proofs.Common.{arith}
-use Rattle.osm_opl.specs.Steps.Reading.{positive_at}
+use Rattle.osm_opl.specs.Reading.{positive_at}
 use Rattle.osm_opl.proofs.NumberLemmas.{not_positive}
 use Rattle.osm_opl.proofs.numbers.read_positive.Goals as goal
 

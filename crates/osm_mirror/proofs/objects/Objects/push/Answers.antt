@@ -1,6 +1,6 @@
 use Rattle.std.proofs.Common.{◌++◌, ◌∷◌, []}
 use Rattle.osm_mirror.specs.Mirror.{AreRising}
-use Rattle.osm_mirror.specs.Steps.Entries.{objects_of}
+use Rattle.osm_mirror.specs.Entries.{objects_of}
 use Rattle.osm_mirror.proofs.EntryLemmas.{object_last}
 use Rattle.osm_mirror.proofs.objects.Objects.push.Goals as goal
 

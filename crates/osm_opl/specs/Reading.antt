@@ -1,5 +1,5 @@
--- How a line is read: the value that bytes spell, if they spell one. Only clauses of private
--- functions cite these definitions; the lemmas that tie them to the grammar are in proofs/.
+-- How a line is read: the value that bytes spell, if they spell one. No public clause
+-- cites these definitions; the lemmas that tie them to the grammar are in proofs/.
 use Rattle.std.specs.Prelude.{ℕ, ◌+◌, ◌-◌, ◌*◌, ◌^◌, ◌<◌, ◌==◌, ◌&&◌, nat_lt, nat_le, not}
 use Rattle.std.specs.Prelude.{Bool, true, false, List, [], ◌∷◌, ◌++◌, length, Option, None, Some}
 use Rattle.std.specs.Prelude.{ℤ, pos, neg_ℤ, if◌then◌else◌, unsigned_abs}
@@ -9,7 +9,7 @@ use Rattle.std.specs.Str.{is_utf8, bytes_eq}
 use Rattle.std.specs.Str.Parse.{digits_value}
 use lib.Utf8.{scalar}
 use Rattle.osm_model.specs.Change.{ChangeValue}
-use Rattle.osm_model.specs.Steps.Clock.{loose_moment}
+use Rattle.osm_model.specs.Clock.{loose_moment}
 use Rattle.osm_model.specs.Meta.{MetaValue}
 use Rattle.osm_model.specs.Time.{seconds_of}
 use Rattle.osm_model.specs.declared.change.What.{What}
@@ -22,7 +22,7 @@ use Rattle.osm_model.specs.declared.lists.Tag.{Tag}
 use Rattle.osm_model.specs.CivilTime.{time_text}
 use Rattle.osm_opl.specs.Escape.{is_reserved}
 use Rattle.osm_reading.specs.Pieces.{cut_at, pieces}
-use Rattle.osm_reading.specs.Steps.Answers.{and_then}
+use Rattle.osm_reading.specs.Answers.{and_then}
 use Rattle.osm_reading.specs.declared.refusal.Refusal.{Refusal}
 use Rattle.osm_reading.specs.declared.refusal.Refusal.TheVariants.{WantOfMemory, Fault}
 

@@ -1,5 +1,5 @@
 -- Readings that may fail, one step after another, and what an answer of the code says about them.
--- Only clauses of private functions cite these definitions.
+-- No public clause of a format cites these definitions: they are the words of its readers.
 use Rattle.std.specs.Prelude.{◌≡◌, Bool, true, false, Option, Some, None, Result, Ok, Err}
 use Rattle.osm_model.specs.declared.form.Why.{Why}
 use Rattle.osm_reading.specs.declared.refusal.Refusal.{Refusal}

@@ -1,2 +1,0 @@
--- Steps of the proofs: the view and clauses of private functions cite them, no public clause does.
-pub mod Entries

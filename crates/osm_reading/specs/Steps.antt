@@ -1,2 +1,0 @@
--- Steps of readers: no public clause of a format cites them.
-pub mod Answers
