@@ -133,13 +133,17 @@ by_what k l m n (whats.Relation members tags) (whats.Relation members' tags') =
     (both (members ≡ members') (tags ≡ tags') _ _ _ (members_same members members') (tags_same tags tags') (λ p q. cc) (λ r. cc) (λ r. cc))
 by_what k l m n whats.Deleted whats.Deleted = with_what k l m n whats.Deleted whats.Deleted true (λ yes. refl, λ same. refl)
 by_what k l m n (whats.Node x y tags) (whats.Way refs tags') = with_what k l m n (whats.Node x y tags) (whats.Way refs tags') false (no_test _ _ (λ e. cc))
-by_what k l m n (whats.Node x y tags) (whats.Relation members tags') = with_what k l m n (whats.Node x y tags) (whats.Relation members tags') false (no_test _ _ (λ e. cc))
+by_what k l m n (whats.Node x y tags) (whats.Relation members tags') =
+    with_what k l m n (whats.Node x y tags) (whats.Relation members tags') false (no_test _ _ (λ e. cc))
 by_what k l m n (whats.Node x y tags) whats.Deleted = with_what k l m n (whats.Node x y tags) whats.Deleted false (no_test _ _ (λ e. cc))
 by_what k l m n (whats.Way refs tags) (whats.Node x y tags') = with_what k l m n (whats.Way refs tags) (whats.Node x y tags') false (no_test _ _ (λ e. cc))
-by_what k l m n (whats.Way refs tags) (whats.Relation members tags') = with_what k l m n (whats.Way refs tags) (whats.Relation members tags') false (no_test _ _ (λ e. cc))
+by_what k l m n (whats.Way refs tags) (whats.Relation members tags') =
+    with_what k l m n (whats.Way refs tags) (whats.Relation members tags') false (no_test _ _ (λ e. cc))
 by_what k l m n (whats.Way refs tags) whats.Deleted = with_what k l m n (whats.Way refs tags) whats.Deleted false (no_test _ _ (λ e. cc))
-by_what k l m n (whats.Relation members tags) (whats.Node x y tags') = with_what k l m n (whats.Relation members tags) (whats.Node x y tags') false (no_test _ _ (λ e. cc))
-by_what k l m n (whats.Relation members tags) (whats.Way refs tags') = with_what k l m n (whats.Relation members tags) (whats.Way refs tags') false (no_test _ _ (λ e. cc))
+by_what k l m n (whats.Relation members tags) (whats.Node x y tags') =
+    with_what k l m n (whats.Relation members tags) (whats.Node x y tags') false (no_test _ _ (λ e. cc))
+by_what k l m n (whats.Relation members tags) (whats.Way refs tags') =
+    with_what k l m n (whats.Relation members tags) (whats.Way refs tags') false (no_test _ _ (λ e. cc))
 by_what k l m n (whats.Relation members tags) whats.Deleted = with_what k l m n (whats.Relation members tags) whats.Deleted false (no_test _ _ (λ e. cc))
 by_what k l m n whats.Deleted (whats.Node x y tags') = with_what k l m n whats.Deleted (whats.Node x y tags') false (no_test _ _ (λ e. cc))
 by_what k l m n whats.Deleted (whats.Way refs tags') = with_what k l m n whats.Deleted (whats.Way refs tags') false (no_test _ _ (λ e. cc))

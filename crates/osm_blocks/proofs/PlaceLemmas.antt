@@ -1,5 +1,7 @@
 -- What is left of a file while it is read.
-use Rattle.std.proofs.Common.{◌≡◌, ℕ, zero, suc, ◌+◌, ◌<◌, ◌≤◌, Bool, true, false, cond, List, [], ◌∷◌, ◌++◌, length, take, drop, Option, Some, None, refl, sym, ap, subst, ◌∙◌, arith, append_assoc, length-append}
+use Rattle.std.proofs.Common.{◌≡◌, ℕ, zero, suc, ◌+◌, ◌<◌, ◌≤◌, Bool, true, false, cond, List, []}
+use Rattle.std.proofs.Common.{◌∷◌, ◌++◌, length, take, drop, Option, Some, None, refl, sym, ap}
+use Rattle.std.proofs.Common.{subst, ◌∙◌, arith, append_assoc, length-append}
 use Rattle.std.specs.Prelude.{◌≢◌, ◌==◌}
 use Rattle.std.proofs.lemmas.Bool.Decides.{nat_tests}
 use Rattle.std.proofs.lemmas.List.{append-nil, take-append-drop, drop-drop}
@@ -44,7 +46,8 @@ pub line_after : (place : Place) (searched : ℕ) (piece after : List ℕ) → L
 line_after place searched piece after lacks e =
     let xs : List ℕ = place.unread in
     let front : List ℕ = take searched xs ++ piece in
-    let parts : xs ≡ front ++ 10 ∷ after = sym (take-append-drop searched xs) ∙ ap (λ (l : List ℕ). take searched xs ++ l) (cut_takes 10 (drop searched xs) piece after e)
+    let parts : xs ≡ front ++ 10 ∷ after = sym (take-append-drop searched xs)
+        ∙ ap (λ (l : List ℕ). take searched xs ++ l) (cut_takes 10 (drop searched xs) piece after e)
     ∙ sym (append_assoc (take searched xs) piece (10 ∷ after)) in
     let few = lacks.within in
     let long : length (take searched xs) ≡ searched = first_length searched xs few in
@@ -70,7 +73,8 @@ line_after place searched piece after lacks e =
 pub none_after : (bytes : List ℕ) (searched : ℕ) → LacksFirst searched bytes → cut_at 10 (drop searched bytes) ≡ None → cut_at 10 bytes ≡ None
 none_after bytes searched lacks e =
     subst (λ (l : List ℕ). cut_at 10 l ≡ None) (take-append-drop searched bytes)
-    (uncut_again 10 (take searched bytes ++ drop searched bytes) (lacks_append 10 (take searched bytes) (drop searched bytes) lacks.lacks (uncut_lacks 10 (drop searched bytes) e)))
+    (uncut_again 10 (take searched bytes ++ drop searched bytes)
+        (lacks_append 10 (take searched bytes) (drop searched bytes) lacks.lacks (uncut_lacks 10 (drop searched bytes) e)))
 
 pub nothing_lacks : (bytes : List ℕ) → LacksFirst 0 bytes
 nothing_lacks bytes = record { within = omega arith; lacks = tt }
@@ -127,7 +131,8 @@ huge_file most file block from e some high =
 pub left_more : (old new : Place) (file block : List ℕ) (most : ℕ) → new.unread ≡ old.unread ++ block → new.from ≡ old.from + length block
     → take most (drop old.from file) ≡ block → left_of new file ≡ left_of old file
 left_more old new file block most unread from e =
-    rw (unread, from) (append_assoc old.unread block (drop (old.from + length block) file) ∙ ap (λ (l : List ℕ). old.unread ++ l) (sym (next_block most file block old.from e)))
+    rw (unread, from) (append_assoc old.unread block (drop (old.from + length block) file)
+        ∙ ap (λ (l : List ℕ). old.unread ++ l) (sym (next_block most file block old.from e)))
 
 pub left_line : (place : Place) (file : List ℕ) (count : ℕ) → IsLine place count
     → cut_at 10 (left_of place file) ≡ Some (take count place.unread, left_of (past (count + 1) place) file)

@@ -21,7 +21,9 @@ use Rattle.osm_follow.specs.Published.{AreSequences, PublishedValue, changes_aft
 use Rattle.osm_store.specs.Files.{Files, IsOver}
 use Rattle.osm_folder.specs.Folder.{IsAbsentOr, IsFile, IsFolderOf, IsStateFile, IsThere, IsTop}
 use Rattle.osm_folder.specs.Following.{Adds, AddsAll, AreChanges, IsFollowing, IsInStep}
-use Rattle.osm_folder.specs.Following.{IsSaveOf, IsSaved, NamesOther, NumberStops, end_of, is_lost, last_number, limit_of, lost_numbers, ranges, standing_at, standing_of}
+use Rattle.osm_folder.specs.Following.{IsSaveOf, IsSaved, NamesOther, NumberStops, end_of, is_lost}
+use Rattle.osm_folder.specs.Following.{last_number, limit_of, lost_numbers, ranges, standing_at}
+use Rattle.osm_folder.specs.Following.{standing_of}
 use Rattle.osm_folder.specs.Forms.{IsFaulty}
 use Rattle.osm_folder.specs.Names.{top_name_of}
 use Rattle.osm_folder.specs.Progress.{IsOfContent}
@@ -130,7 +132,8 @@ outcome_is : (ps : List PublishedValue) (base number : ℕ) (dir : List ℕ) (fi
 outcome_is ps base number dir files count start reached top end last s n t b q w e = rw (s, n, t, b, q, w, e) refl
 
 -- what a run reaches over the folder of published sequences, from a save in step with them
-pub record Reached (options : FollowOptions) (ps : List PublishedValue) (dir save : List ℕ) (files : Files) (base number : ℕ) (text : List ℕ) (report : ReportValue) : Type 0 where
+pub record Reached (options : FollowOptions) (ps : List PublishedValue) (dir save : List ℕ) (files : Files) (base number : ℕ) (text : List ℕ)
+    (report : ReportValue) : Type 0 where
   pub count : ℕ
   pub value : Saved
   pub spelled : SpellsSave text value

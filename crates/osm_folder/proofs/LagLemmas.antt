@@ -101,7 +101,8 @@ told_lags known dir save files start top fault begun h = absurd h
 
 -- ---- over the folder of what was published
 
-start_time : (given : FilterValue) (ps : List PublishedValue) (base number : ℕ) (told : Option (List ℕ)) (saved : IsSaveOf ps given base number told) → saved.value.time ≡ time_at ps number
+start_time : (given : FilterValue) (ps : List PublishedValue) (base number : ℕ) (told : Option (List ℕ)) (saved : IsSaveOf ps given base number told)
+    → saved.value.time ≡ time_at ps number
 start_time given ps base number told saved = saved.in_step.time ∙ ap (time_at ps) saved.number_is
 
 standing_is : (ps : List PublishedValue) (base number : ℕ) (head : Head) (top : StateValue) → head.number ≡ number → head.time ≡ time_at ps number

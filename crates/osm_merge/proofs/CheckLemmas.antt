@@ -47,20 +47,24 @@ unfolding both_at end_at
 tail_is head f os most bytes = by_users (counts_at (codes "users ") most bytes)
   where
     by_test : (us ss : List Counted) (t : Bool) → (if t then Some (saved head f os us ss) else None)
-        ≡ and_then {A = List Counted × List Counted} {B = Saved} (and_then {A = Unit {0}} {B = List Counted × List Counted} (if t then Some tt else None) (λ e. Some (us, ss))) (λ c. Some (saved head f os c.0 c.1))
+        ≡ and_then {A = List Counted × List Counted} {B = Saved}
+            (and_then {A = Unit {0}} {B = List Counted × List Counted} (if t then Some tt else None) (λ e. Some (us, ss))) (λ c. Some (saved head f os c.0 c.1))
     by_test us ss true = refl
     by_test us ss false = refl
 
-    by_end : (us ss : List Counted) (o : Option (List ℕ)) → and_then {A = List ℕ} {B = Saved} o (λ rest. if length rest == 0 then Some (saved head f os us ss) else None)
+    by_end : (us ss : List Counted) (o : Option (List ℕ))
+        → and_then {A = List ℕ} {B = Saved} o (λ rest. if length rest == 0 then Some (saved head f os us ss) else None)
         ≡ and_then {A = List Counted × List Counted} {B = Saved} (and_then {A = Unit {0}} {B = List Counted × List Counted}
-        (and_then {A = List ℕ} {B = Unit {0}} o (λ rest. if length rest == 0 then Some tt else None)) (λ e. Some (us, ss))) (λ c. Some (saved head f os c.0 c.1))
+        (and_then {A = List ℕ} {B = Unit {0}} o (λ rest. if length rest == 0 then Some tt else None)) (λ e. Some (us, ss)))
+            (λ c. Some (saved head f os c.0 c.1))
     by_end us ss None = refl
     by_end us ss (Some rest) = by_test us ss (length rest == 0)
 
     by_changesets : (us : List Counted) (o : Option (List Counted × List ℕ)) → and_then {A = List Counted × List ℕ} {B = Saved} o (λ s.
         and_then {A = List ℕ} {B = Saved} (fixed_at (codes "end") s.1) (λ rest. if length rest == 0 then Some (saved head f os us s.0) else None))
         ≡ and_then {A = List Counted × List Counted} {B = Saved} (and_then {A = List Counted × List ℕ} {B = List Counted × List Counted} o (λ s.
-        and_then {A = Unit {0}} {B = List Counted × List Counted} (and_then {A = List ℕ} {B = Unit {0}} (fixed_at (codes "end") s.1) (λ rest. if length rest == 0 then Some tt else None)) (λ e. Some (us, s.0))))
+        and_then {A = Unit {0}} {B = List Counted × List Counted}
+            (and_then {A = List ℕ} {B = Unit {0}} (fixed_at (codes "end") s.1) (λ rest. if length rest == 0 then Some tt else None)) (λ e. Some (us, s.0))))
         (λ c. Some (saved head f os c.0 c.1))
     by_changesets us None = refl
     by_changesets us (Some s) = by_end us s.0 (fixed_at (codes "end") s.1)
@@ -70,7 +74,8 @@ tail_is head f os most bytes = by_users (counts_at (codes "users ") most bytes)
         and_then {A = List ℕ} {B = Saved} (fixed_at (codes "end") s.1) (λ rest. if length rest == 0 then Some (saved head f os u.0 s.0) else None)))
         ≡ and_then {A = List Counted × List Counted} {B = Saved} (and_then {A = List Counted × List ℕ} {B = List Counted × List Counted} o (λ u.
         and_then {A = List Counted × List ℕ} {B = List Counted × List Counted} (counts_at (codes "changesets ") most u.1) (λ s.
-        and_then {A = Unit {0}} {B = List Counted × List Counted} (and_then {A = List ℕ} {B = Unit {0}} (fixed_at (codes "end") s.1) (λ rest. if length rest == 0 then Some tt else None)) (λ e. Some (u.0, s.0)))))
+        and_then {A = Unit {0}} {B = List Counted × List Counted}
+            (and_then {A = List ℕ} {B = Unit {0}} (fixed_at (codes "end") s.1) (λ rest. if length rest == 0 then Some tt else None)) (λ e. Some (u.0, s.0)))))
         (λ c. Some (saved head f os c.0 c.1))
     by_users None = refl
     by_users (Some u) = by_changesets u.0 (counts_at (codes "changesets ") most u.1)
@@ -82,12 +87,14 @@ mirror_none version head f bytes e = rw e refl
 
 pub mirror_tail : (version : Version) (head : Head) (f : FilterValue) (bytes after : List ℕ) (os : List ChangeValue)
     → objects_at f (most_objects version head.number) bytes ≡ Some (os, after)
-    → mirror_at version head f bytes ≡ and_then {A = List Counted × List Counted} {B = Saved} (both_at (most_counted head) after) (λ c. Some (saved head f os c.0 c.1))
+    → mirror_at version head f bytes ≡ and_then {A = List Counted × List Counted} {B = Saved} (both_at (most_counted head) after)
+        (λ c. Some (saved head f os c.0 c.1))
 unfolding mirror_at
 mirror_tail version head f bytes after os e = rw e (tail_is head f os (most_counted head) after)
 
 pub mirror_after : (version : Version) (head : Head) (f : FilterValue) (bytes after : List ℕ) (os : List ChangeValue)
-    → objects_at f (most_objects version head.number) bytes ≡ Some (os, after) → both_at (most_counted head) after ≡ None → mirror_at version head f bytes ≡ None
+    → objects_at f (most_objects version head.number) bytes ≡ Some (os, after) → both_at (most_counted head) after ≡ None
+        → mirror_at version head f bytes ≡ None
 mirror_after version head f bytes after os e none = mirror_tail version head f bytes after os e
     ∙ ap (λ (o : Option (List Counted × List Counted)). and_then {A = List Counted × List Counted} {B = Saved} o (λ c. Some (saved head f os c.0 c.1))) none
 
@@ -220,7 +227,8 @@ text_stops told ReadFault of_text none = absurd of_text
 text_stops told WriteFault of_text none = absurd of_text
 text_stops told WantOfMemory of_text none = absurd of_text
 
-pub is_staged : (told : Option (List ℕ)) (place : Place) (o : Opening) (n : NetValue) (totals : Totals) (Says : Saved → Type 0) → (opened : IsOpened told place o)
+pub is_staged : (told : Option (List ℕ)) (place : Place) (o : Opening) (n : NetValue) (totals : Totals) (Says : Saved → Type 0)
+    → (opened : IsOpened told place o)
     → (m : MirrorValue) → mirror_at o.version o.head o.filter (left_of place opened.file) ≡ Some (saved_with o.head o.filter m)
     → totals ≡ totals_of (laid_on n m) → Says (saved_with o.head o.filter m) → IsStaged told n totals Says
 is_staged told place o n totals Says opened m read counted says = record {

@@ -17,7 +17,8 @@ pub known_still : {T E : Type 0} {blames : E → Type 0} (a b : StoreState) (x :
 known_still a b x frame known = subst (λ (t : Bool). IsTrue t) (sym frame.known) known
 
 -- a file stays known, and has the same bytes
-pub has_still : {T E : Type 0} {blames : E → Type 0} (a b : StoreState) (x : T) (name file : List ℕ) → ReadsOften blames a b (Ok x) → HasFile a name file → HasFile b name file
+pub has_still : {T E : Type 0} {blames : E → Type 0} (a b : StoreState) (x : T) (name file : List ℕ) → ReadsOften blames a b (Ok x) → HasFile a name file
+    → HasFile b name file
 has_still a b x name file frame has = record {
   known = subst (λ (t : Bool). IsTrue t) (sym frame.known) has.known;
   there = subst (λ (f : Files). f name ≡ Some file) (sym frame.files) has.there;
@@ -39,7 +40,8 @@ writes_both a b c u v w x bytes more frame first second = λ known name text is.
     (second (known_still a b x frame known) name (text ++ bytes) (first known name text is))
 
 -- a call that changes nothing in the file that was begun may come first
-pub writes_after : {T E : Type 0} {blames : E → Type 0} (a b c : StoreState) (v w : Waiting) (x : T) (bytes : List ℕ) → ReadsOften blames a b (Ok x) → b.stage ≡ a.stage
+pub writes_after : {T E : Type 0} {blames : E → Type 0} (a b c : StoreState) (v w : Waiting) (x : T) (bytes : List ℕ) → ReadsOften blames a b (Ok x)
+    → b.stage ≡ a.stage
     → Writes b v c w bytes → Writes a v c w bytes
 writes_after a b c v w x bytes frame same writes = λ known name text is. writes (known_still a b x frame known) name text (rw same is)
 
@@ -78,7 +80,8 @@ often_fails {T} {U} {V} blames a b c x fault m n = often_both {U = V} blames a b
 })
 
 -- calls of which one failed, and then others, in one that fails for another reason than the device
-pub both_blameless : {T U V E : Type 0} (blames : E → Type 0) (a b c : StoreState) (first fault : E) (r : Result U E) → ReadsOften {T = T} blames a b (Err first)
+pub both_blameless : {T U V E : Type 0} (blames : E → Type 0) (a b c : StoreState) (first fault : E) (r : Result U E)
+    → ReadsOften {T = T} blames a b (Err first)
     → ReadsOften blames b c r → (blames fault → ⊥) → ReadsOften {T = V} blames a c (Err fault)
 both_blameless {T} {U} {V} blames a b c first fault r m n never = record {
   files = both.files;
@@ -116,7 +119,8 @@ staged_all a w name text is empty =
     is.staged ∙ ap (λ (l : List ℕ). Some (name, l)) (sym whole)
 
 -- calls that change no file, in a call that fails
-pub reads_fail : {T U E : Type 0} (blames : E → Type 0) (a b : StoreState) (fault : E) → ReadsOften {T = T} blames a b (Err fault) → ReplacesOften {T = U} blames a b (Err fault)
+pub reads_fail : {T U E : Type 0} (blames : E → Type 0) (a b : StoreState) (fault : E) → ReadsOften {T = T} blames a b (Err fault)
+    → ReplacesOften {T = U} blames a b (Err fault)
 reads_fail blames a b fault n = record {
   files = n.files;
   known = n.known;
@@ -139,7 +143,8 @@ then_replaces {T} {U} blames a b c x (Ok y) m n =
     reads_of : (b c : StoreState) (y : U) → ReplacesOften blames b c (Ok y) → ReadsOften blames b (same_files b c) (Ok y)
     reads_of b c y n = record { files = refl; known = n.known; left = n.left; failures = n.failures; failed = tt; stops = tt }
 then_replaces {T} {U} blames a b c x (Err f) m n =
-    let both = often_both {U = U} blames a b c x (Err f) m (record { files = n.files; known = n.known; left = n.left; failures = n.failures; failed = n.failed; stops = n.stops }) in
+    let both = often_both {U = U} blames a b c x (Err f) m
+        (record { files = n.files; known = n.known; left = n.left; failures = n.failures; failed = n.failed; stops = n.stops }) in
     reads_fail blames a c f both
 
 -- calls that change no file, in a call that fails for another reason than the device

@@ -1,5 +1,7 @@
 -- A list of a known file, read line by line while changes are laid over it.
-use Rattle.std.proofs.Common.{◌≡◌, ℕ, ◌+◌, ◌<◌, ◌≤◌, List, [], ◌∷◌, ◌++◌, length, map, refl, sym, ap, subst, ◌∙◌, Some, None, Option, arith, append_assoc, length-append}
+use Rattle.std.proofs.Common.{◌≡◌, ℕ, ◌+◌, ◌<◌, ◌≤◌, List, [], ◌∷◌, ◌++◌, length, map, refl, sym}
+use Rattle.std.proofs.Common.{ap, subst, ◌∙◌, Some, None, Option, arith, append_assoc}
+use Rattle.std.proofs.Common.{length-append}
 use Rattle.std.proofs.lemmas.Option.{same_Some}
 use Rattle.std.proofs.lemmas.List.{append-nil, map-append}
 use Rattle.std.specs.Prelude.{Ok}
@@ -49,7 +51,8 @@ next_parts {X} {K} item last bytes after x e = by_cut (cut_at 10 bytes) e
         let left : rest ≡ after = ap (λ (p : X × List ℕ). p.1) both in
         (line, rw left refl, rw (← value) is)
 
-    by_cut : (o : Option (List ℕ × List ℕ)) → and_then {A = List ℕ × List ℕ} {B = X × List ℕ} o (λ l. and_then {A = X} {B = X × List ℕ} (item last l.0) (λ y. Some (y, l.1))) ≡ Some (x, after)
+    by_cut : (o : Option (List ℕ × List ℕ)) → and_then {A = List ℕ × List ℕ} {B = X × List ℕ} o
+        (λ l. and_then {A = X} {B = X × List ℕ} (item last l.0) (λ y. Some (y, l.1))) ≡ Some (x, after)
         → (l : List ℕ) × (◌≡◌ {A = Option (List ℕ × List ℕ)} o (Some (l, after))) × (item last l ≡ Some x)
     by_cut None e = absurd cc
     by_cut (Some l) e = by_item l.0 l.1 (item last l.0) refl e
@@ -72,7 +75,8 @@ module _ {E X K : Type 0} (lay : List E → List X → List X) (text : X → Lis
     frame = frame;
   }
 
-  pub merging_more : (many : ℕ) (es rest after : List E) (i : ℕ) (last : Option K) (count k : ℕ) (x : X) (Has : List ℕ → Type 0) (begun now new : List ℕ → List ℕ)
+  pub merging_more : (many : ℕ) (es rest after : List E) (i : ℕ) (last : Option K) (count k : ℕ) (x : X) (Has : List ℕ → Type 0)
+      (begun now new : List ℕ → List ℕ)
       (a b c : StoreState) (w v u : Waiting) → i < many
       → Merging lay text key item many es i last rest count Has begun now a w b v
       → Lays lay text rest x after k (Writes b v c u)
@@ -103,7 +107,8 @@ module _ {E X K : Type 0} (lay : List E → List X → List X) (text : X → Lis
       by_item line after None cut is e = items_wrong key item many bytes i xs last rest line after lt h cut is
       by_item line after (Some y) cut is e = absurd cc
 
-      by_cut : (o : Option (List ℕ × List ℕ)) → cut_at 10 rest ≡ o → and_then {A = List ℕ × List ℕ} {B = X × List ℕ} o (λ l. and_then {A = X} {B = X × List ℕ} (item last l.0) (λ y. Some (y, l.1))) ≡ None
+      by_cut : (o : Option (List ℕ × List ℕ)) → cut_at 10 rest ≡ o
+          → and_then {A = List ℕ × List ℕ} {B = X × List ℕ} o (λ l. and_then {A = X} {B = X × List ℕ} (item last l.0) (λ y. Some (y, l.1))) ≡ None
           → items_at key item many None bytes ≡ None
       by_cut None cut e = items_cut key item many bytes i xs last rest lt h cut
       by_cut (Some l) cut e = by_item l.0 l.1 (item last l.0) cut refl e
@@ -121,7 +126,8 @@ module _ {E X K : Type 0} (lay : List E → List X → List X) (text : X → Lis
       (a b c : StoreState) (w v u : Waiting) → many ≤ i
       → Merging lay text key item many es i last rest count Has begun now a w b v
       → LaysRest lay text rest k (Writes b v c u)
-      → Merges lay text es (count + k) (λ values. (file : List ℕ) → Has file → items_at key item many None (begun file) ≡ Some (values, now file)) (Writes a w c u)
+      → Merges lay text es (count + k) (λ values. (file : List ℕ) → Has file → items_at key item many None (begun file) ≡ Some (values, now file))
+          (Writes a w c u)
   merging_done many es rest i last count k Has begun now a b c w v u le h end =
       let all : lay es h.values ≡ h.put ++ lay rest [] = ap (lay es) (sym (append-nil h.values)) ∙ h.laid [] in
       record {

@@ -71,8 +71,10 @@ numbered_same word most xs ys line a b p q = rw (p, q) (by_word (after_word word
     by_number None = refl
     by_number (Some n) = by_test n (nat_le n most)
 
-    by_word : (o : Option (List ℕ)) → and_then {A = List ℕ} {B = ℕ × List ℕ} o (λ d. and_then {A = ℕ} {B = ℕ × List ℕ} (number_at d) (λ n. if nat_le n most then Some (n, b) else None))
-        ≡ with_rest (and_then {A = List ℕ} {B = ℕ × List ℕ} o (λ d. and_then {A = ℕ} {B = ℕ × List ℕ} (number_at d) (λ n. if nat_le n most then Some (n, a) else None))) b
+    by_word : (o : Option (List ℕ)) → and_then {A = List ℕ} {B = ℕ × List ℕ} o
+        (λ d. and_then {A = ℕ} {B = ℕ × List ℕ} (number_at d) (λ n. if nat_le n most then Some (n, b) else None))
+        ≡ with_rest (and_then {A = List ℕ} {B = ℕ × List ℕ} o
+            (λ d. and_then {A = ℕ} {B = ℕ × List ℕ} (number_at d) (λ n. if nat_le n most then Some (n, a) else None))) b
     by_word None = refl
     by_word (Some d) = by_number (number_at d)
 
@@ -108,7 +110,8 @@ unfolding fixed_at
 fixed_none text bytes e = rw e refl
 
 -- what is refused is so whatever is read after it
-pub refuses_all : {A B : Type 0} (file : List ℕ) (fault : MergeFault) (r : Option A) (s : Option B) → Refuses file fault r → (r ≡ None → s ≡ None) → Refuses file fault s
+pub refuses_all : {A B : Type 0} (file : List ℕ) (fault : MergeFault) (r : Option A) (s : Option B) → Refuses file fault r → (r ≡ None → s ≡ None)
+    → Refuses file fault s
 refuses_all file (BadSave line) r s none f = f none
 refuses_all file LongLine r s none f = f none
 refuses_all file TooLarge r s none f = none

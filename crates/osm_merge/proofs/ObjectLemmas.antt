@@ -56,7 +56,8 @@ pub next_is : {X K : Type 0} (item : Option K → List ℕ → Option X) (last :
 unfolding next_at
 next_is item last bytes line after o cut is = rw (cut, is) refl
 
-pub next_none : {X K : Type 0} (item : Option K → List ℕ → Option X) (last : Option K) (bytes : List ℕ) → cut_at 10 bytes ≡ None → next_at item last bytes ≡ None
+pub next_none : {X K : Type 0} (item : Option K → List ℕ → Option X) (last : Option K) (bytes : List ℕ) → cut_at 10 bytes ≡ None
+    → next_at item last bytes ≡ None
 unfolding next_at
 next_none item last bytes cut = rw cut refl
 
@@ -65,14 +66,16 @@ pub next_long : {X K : Type 0} (item : Option K → List ℕ → Option X) (last
 unfolding next_at
 next_long {X} {K} item last bytes none = by_cut (cut_at 10 bytes) refl
   where
-    by_cut : (o : Option (List ℕ × List ℕ)) → cut_at 10 bytes ≡ o → and_then {A = List ℕ × List ℕ} {B = X × List ℕ} o (λ l. and_then {A = X} {B = X × List ℕ} (item last l.0) (λ y. Some (y, l.1))) ≡ None
+    by_cut : (o : Option (List ℕ × List ℕ)) → cut_at 10 bytes ≡ o
+        → and_then {A = List ℕ × List ℕ} {B = X × List ℕ} o (λ l. and_then {A = X} {B = X × List ℕ} (item last l.0) (λ y. Some (y, l.1))) ≡ None
     by_cut None cut = refl
     by_cut (Some l) cut = let nothing = none l.0 l.1 cut in rw nothing refl
 
 pub object_long : (f : FilterValue) (last : Option Key) (bytes : List ℕ) → IsLong bytes → next_at (object_at f) last bytes ≡ None
 object_long f last bytes long = next_long (object_at f) last bytes (λ line after cut. none_by (object_at f last line) (λ c e.
     let t : TakesObject f last line c = object_takes f last line c e in
-    not_long bytes (line_text c) after long (cut_takes 10 bytes line after cut ∙ ap (λ (l : List ℕ). l ++ 10 ∷ after) t.text) (lines_are_short c t.good.object)))
+    not_long bytes (line_text c) after long (cut_takes 10 bytes line after cut ∙ ap (λ (l : List ℕ). l ++ 10 ∷ after) t.text)
+        (lines_are_short c t.good.object)))
 
 pub bad_refuses : {A : Type 0} (file : List ℕ) (fault : MergeFault) (r : Option A) → IsBadLine fault → r ≡ None → Refuses file fault r
 bad_refuses file (BadSave line) r bad none = none

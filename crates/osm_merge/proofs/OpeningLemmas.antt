@@ -1,5 +1,6 @@
 -- The head of a known file, read from its first block.
-use Rattle.std.proofs.Common.{◌≡◌, ℕ, ◌+◌, ◌-◌, ◌≤◌, List, ◌++◌, length, take, drop, refl, ap, sym, ◌∙◌, Some, None, Option, arith, lit≤, length-append, append_assoc}
+use Rattle.std.proofs.Common.{◌≡◌, ℕ, ◌+◌, ◌-◌, ◌≤◌, List, ◌++◌, length, take, drop, refl, ap, sym}
+use Rattle.std.proofs.Common.{◌∙◌, Some, None, Option, arith, lit≤, length-append, append_assoc}
 use Rattle.std.proofs.Math.Seq.{drop-append_seam}
 use Rattle.osm_blocks.specs.Places.{Opens, Place, max_block}
 use Rattle.osm_model.specs.Filter.{FilterValue}
@@ -48,7 +49,8 @@ pub head_more : (bytes more : List ℕ) (r : Parts) → head_at bytes ≡ Some r
 head_more bytes more r e =
     let t : TakesHead bytes r.0 r.1 r.2 r.3 = head_takes bytes r e in
     let parts = parts_of bytes r e in
-    let joined : bytes ++ more ≡ ended (head_lines r.0 r.1 r.2) ++ (r.3 ++ more) = ap (λ (l : List ℕ). l ++ more) (t.text ∙ sym (ended_before (head_lines r.0 r.1 r.2) r.3))
+    let joined : bytes ++ more ≡ ended (head_lines r.0 r.1 r.2) ++ (r.3 ++ more) =
+        ap (λ (l : List ℕ). l ++ more) (t.text ∙ sym (ended_before (head_lines r.0 r.1 r.2) r.3))
     ∙ append_assoc (ended (head_lines r.0 r.1 r.2)) r.3 more in
     ap head_at (joined ∙ ended_before (head_lines r.0 r.1 r.2) (r.3 ++ more)) ∙ head_again r.0 r.1 r.2 (r.3 ++ more) t.limits t.is_filter t.tells
 
@@ -69,7 +71,8 @@ is_opened told old new o opens reads = record {
       ∙ rw reads.passed refl);
 }
 
-pub opening_stops : (told : Option (List ℕ)) (old : Place) (fault : MergeFault) → Opens (Some old) told → ReadingStops old.unread fault → OpeningStops told fault
+pub opening_stops : (told : Option (List ℕ)) (old : Place) (fault : MergeFault) → Opens (Some old) told → ReadingStops old.unread fault
+    → OpeningStops told fault
 opening_stops told old (BadSave line) opens none = record {
   file = opens.0;
   there = opens.1;

@@ -164,7 +164,8 @@ module _ (given : FilterValue) (ps : List PublishedValue) (base number : ℕ) (d
         lost_alike dir k (n + suc count) s old new o.is (omega (arith, most)),
       ) refl
 
-  pub same_run : (text : List ℕ) (report : ReportValue) → IsFollowing (plainly given) dir save new text report → IsFollowing (plainly given) dir save old text report
+  pub same_run : (text : List ℕ) (report : ReportValue) → IsFollowing (plainly given) dir save new text report
+      → IsFollowing (plainly given) dir save old text report
   same_run text report run =
       let most = few_over o in
       let top = top_is run.start run.top run.started in

@@ -163,7 +163,8 @@ step_allowed laws one filter h (Close m) (Closed n) a b s t = (
   t.3
       ∙ ap (λ (k : ℕ). k + 1) (published_is filter h a s),
 )
-step_allowed laws one filter h (Close m) SequenceFull a b s t = (let n : a.publisher.number ≡ length (hist.published_of h) = published_is filter h a s in rw n at t.0)
+step_allowed laws one filter h (Close m) SequenceFull a b s t =
+    (let n : a.publisher.number ≡ length (hist.published_of h) = published_is filter h a s in rw n at t.0)
 step_allowed laws one filter h (Close m) TimeBack a b s t = (
   (let n : a.publisher.number ≡ length (hist.published_of h) = published_is filter h a s in rw n at t.0),
   rw s.publisher at t.1,
@@ -172,7 +173,8 @@ step_allowed laws one filter h (Close m) TooLarge a b s t =
     (rw s.publisher at t.0, (let cs : a.publisher.pending ≡ hist.pending_of h = pending_is filter h a s in rw cs at t.1))
 step_allowed laws one filter h (Close m) WantOfMemory a b s t = rw s.publisher at t.0
 step_allowed laws one filter h (Close m) r a b s t = absurd t
-step_allowed laws one filter h (Deliver k form) NotPublished a b s t = (let n : a.publisher.number ≡ length (hist.published_of h) = published_is filter h a s in rw n at t.0)
+step_allowed laws one filter h (Deliver k form) NotPublished a b s t =
+    (let n : a.publisher.number ≡ length (hist.published_of h) = published_is filter h a s in rw n at t.0)
 step_allowed laws one filter h (Deliver k form) Broken a b s t = (
   t.above,
   (let n : a.publisher.number ≡ length (hist.published_of h) = published_is filter h a s in rw n at t.there),

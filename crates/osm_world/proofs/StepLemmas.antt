@@ -637,12 +637,15 @@ step_keeps laws one filter h (Deliver k form) (Applied low high) a b s t = appli
 step_keeps laws one filter h (Deliver k form) Broke a b s t = broke_keeps laws filter h k form a b s t
 step_keeps laws one filter h (Deliver k form) r a b s t = absurd t.replies
 step_keeps laws one filter h Show Broken a b s t = quiet_keeps filter h Show Broken a b (still h Show Broken refl refl refl refl refl refl refl refl) s t.1
-step_keeps laws one filter h Show (Shown v) a b s t = quiet_keeps filter h Show (Shown v) a b (still h Show (Shown v) refl refl refl refl refl refl refl refl) s t.3
-step_keeps laws one filter h Show WantOfMemory a b s t = quiet_keeps filter h Show WantOfMemory a b (still h Show WantOfMemory refl refl refl refl refl refl refl refl) s t.1
+step_keeps laws one filter h Show (Shown v) a b s t =
+    quiet_keeps filter h Show (Shown v) a b (still h Show (Shown v) refl refl refl refl refl refl refl refl) s t.3
+step_keeps laws one filter h Show WantOfMemory a b s t =
+    quiet_keeps filter h Show WantOfMemory a b (still h Show WantOfMemory refl refl refl refl refl refl refl refl) s t.1
 step_keeps laws one filter h Show r a b s t = absurd t
 step_keeps laws one filter h Save Broken a b s t = quiet_keeps filter h Save Broken a b (still h Save Broken refl refl refl refl refl refl refl refl) s t.1
 step_keeps laws one filter h Save (Saved n) a b s t = saved_keeps filter h n a b s t
-step_keeps laws one filter h Save WantOfMemory a b s t = quiet_keeps filter h Save WantOfMemory a b (still h Save WantOfMemory refl refl refl refl refl refl refl refl) s t.1
+step_keeps laws one filter h Save WantOfMemory a b s t =
+    quiet_keeps filter h Save WantOfMemory a b (still h Save WantOfMemory refl refl refl refl refl refl refl refl) s t.1
 step_keeps laws one filter h Save r a b s t = absurd t
 step_keeps laws one filter h Restart (Restarted n) a b s t = restarted_keeps one filter h n a b s t
 step_keeps laws one filter h Restart WantOfMemory a b s t = refused_keeps filter h a b s t

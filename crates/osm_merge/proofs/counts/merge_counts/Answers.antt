@@ -30,13 +30,16 @@ returns-in-Err-clause-refused g c = λ file has.
     (c.in-Err.ensures.read file (has_still (g.S.Store.state c.args.store.now) (g.S.Store.state c.loop.store) tt c.args.name.now file h.frame has))
 
 pub returns-in-Err-clause-frame : goal.returns-in-Err-clause-frame
-returns-in-Err-clause-frame g c = often_fails {T = Unit {0}} IsDeviceFault (g.S.Store.state c.args.store.now) (g.S.Store.state c.loop.store) (g.S.Store.state c.next_count.new.store)
+returns-in-Err-clause-frame g c = often_fails {T = Unit {0}} IsDeviceFault (g.S.Store.state c.args.store.now) (g.S.Store.state c.loop.store)
+    (g.S.Store.state c.next_count.new.store)
     tt c.in-Err.fault c.loop.invariant.merging.frame c.in-Err.ensures.frame
 
 pub returns-in-Err-put_count-clause-frame : goal.returns-in-Err-put_count-clause-frame
-returns-in-Err-put_count-clause-frame g c = often_fails {T = Unit {0}} IsDeviceFault (g.S.Store.state c.args.store.now) (g.S.Store.state c.next_count.new.store) (g.S.Store.state c.put_count.new.store)
+returns-in-Err-put_count-clause-frame g c = often_fails {T = Unit {0}} IsDeviceFault (g.S.Store.state c.args.store.now) (g.S.Store.state c.next_count.new.store)
+    (g.S.Store.state c.put_count.new.store)
     tt c.in-Err-put_count.fault
-    (often_then {T = Unit {0}} {V = Unit {0}} IsDeviceFault (g.S.Store.state c.args.store.now) (g.S.Store.state c.loop.store) (g.S.Store.state c.next_count.new.store) tt c.in-Ok.count tt
+    (often_then {T = Unit {0}} {V = Unit {0}} IsDeviceFault (g.S.Store.state c.args.store.now) (g.S.Store.state c.loop.store)
+        (g.S.Store.state c.next_count.new.store) tt c.in-Ok.count tt
     c.loop.invariant.merging.frame c.in-Ok.ensures.frame) c.in-Err-put_count.ensures.frame
 
 pub loop-preserved : goal.loop-preserved
@@ -46,13 +49,16 @@ loop-preserved g c =
       merging = merging_more added count_text (λ e. e.0) (count_at c.args.most) c.args.many c.args.increments.now c.loop.rest.now c.in-Ok-put_count.laid.0.now
           c.loop.counter c.loop.last c.loop.total c.in-Ok-put_count.laid.1 c.in-Ok.count
           (HasFile (g.S.Store.state c.args.store.now) c.args.name.now) (left_of c.args.source.now) (left_of c.loop.source) (left_of c.next_count.new.source)
-          (g.S.Store.state c.args.store.now) (g.S.Store.state c.loop.store) (g.S.Store.state c.put_count.new.store) c.args.writer.now c.loop.writer c.put_count.new.writer
+          (g.S.Store.state c.args.store.now) (g.S.Store.state c.loop.store)
+              (g.S.Store.state c.put_count.new.store) c.args.writer.now c.loop.writer c.put_count.new.writer
           c.loop-test.true h
           (lays_after added count_text c.loop.rest.now c.in-Ok.count c.in-Ok-put_count.laid.0.now c.in-Ok-put_count.laid.1
           (g.S.Store.state c.loop.store) (g.S.Store.state c.next_count.new.store) (g.S.Store.state c.put_count.new.store) c.loop.writer c.put_count.new.writer
           c.in-Ok.count c.in-Ok.ensures.frame c.in-Ok.ensures.stage c.in-Ok-put_count.ensures.laid)
-          (λ file has. c.in-Ok.ensures.read file (has_still (g.S.Store.state c.args.store.now) (g.S.Store.state c.loop.store) tt c.args.name.now file h.frame has))
-          (often_then {V = Unit {0}} IsDeviceFault (g.S.Store.state c.loop.store) (g.S.Store.state c.next_count.new.store) (g.S.Store.state c.put_count.new.store) c.in-Ok.count c.in-Ok-put_count.laid tt
+          (λ file has. c.in-Ok.ensures.read file
+              (has_still (g.S.Store.state c.args.store.now) (g.S.Store.state c.loop.store) tt c.args.name.now file h.frame has))
+          (often_then {V = Unit {0}} IsDeviceFault (g.S.Store.state c.loop.store) (g.S.Store.state c.next_count.new.store)
+              (g.S.Store.state c.put_count.new.store) c.in-Ok.count c.in-Ok-put_count.laid tt
           c.in-Ok.ensures.frame c.in-Ok-put_count.ensures.frame);
       few = c.in-Ok-put_count.ensures.few;
       calls = item_more IsDeviceFault (HasFile (g.S.Store.state c.args.store.now) c.args.name.now) c.args.writer.now c.loop.writer c.args.source.now
@@ -73,17 +79,21 @@ loop-preserved g c =
 pub returns-in-Ok-put_rest-clause-merges : goal.returns-in-Ok-put_rest-clause-merges
 returns-in-Ok-put_rest-clause-merges g c =
     let h = c.loop.invariant.merging in
-    merging_done added count_text (λ e. e.0) (count_at c.args.most) c.args.many c.args.increments.now c.loop.rest.now c.loop.counter c.loop.last c.loop.total c.in-Ok-put_rest.put
+    merging_done added count_text (λ e. e.0)
+        (count_at c.args.most) c.args.many c.args.increments.now c.loop.rest.now c.loop.counter c.loop.last c.loop.total c.in-Ok-put_rest.put
     (HasFile (g.S.Store.state c.args.store.now) c.args.name.now) (left_of c.args.source.now) (left_of c.loop.source)
-    (g.S.Store.state c.args.store.now) (g.S.Store.state c.loop.store) (g.S.Store.state c.put_rest.new.store) c.args.writer.now c.loop.writer c.put_rest.new.writer
+    (g.S.Store.state c.args.store.now) (g.S.Store.state c.loop.store)
+        (g.S.Store.state c.put_rest.new.store) c.args.writer.now c.loop.writer c.put_rest.new.writer
     c.loop-test.false h c.in-Ok-put_rest.ensures.laid
 
 pub returns-in-Ok-put_rest-clause-frame : goal.returns-in-Ok-put_rest-clause-frame
-returns-in-Ok-put_rest-clause-frame g c = often_then {T = Unit {0}} IsDeviceFault (g.S.Store.state c.args.store.now) (g.S.Store.state c.loop.store) (g.S.Store.state c.put_rest.new.store)
+returns-in-Ok-put_rest-clause-frame g c = often_then {T = Unit {0}} IsDeviceFault (g.S.Store.state c.args.store.now) (g.S.Store.state c.loop.store)
+    (g.S.Store.state c.put_rest.new.store)
     tt c.in-Ok-put_rest.put (c.loop.total + c.in-Ok-put_rest.put) c.loop.invariant.merging.frame c.in-Ok-put_rest.ensures.frame
 
 pub returns-clause-frame : goal.returns-clause-frame
-returns-clause-frame g c = often_fails {T = Unit {0}} IsDeviceFault (g.S.Store.state c.args.store.now) (g.S.Store.state c.loop.store) (g.S.Store.state c.put_rest.new.store)
+returns-clause-frame g c = often_fails {T = Unit {0}} IsDeviceFault (g.S.Store.state c.args.store.now) (g.S.Store.state c.loop.store)
+    (g.S.Store.state c.put_rest.new.store)
     tt c.in-Err-put_rest.fault c.loop.invariant.merging.frame c.in-Err-put_rest.ensures.frame
 
 pub returns-in-Err-clause-calls : goal.returns-in-Err-clause-calls

@@ -23,19 +23,23 @@ loop-init g c = record {
 pub returns-in-Err-clause-refused : goal.returns-in-Err-clause-refused
 returns-in-Err-clause-refused g c = λ file has.
     let h = c.loop.invariant.merging in
-    merging_stops laid_over line_text (λ o. o.key) (object_at c.args.filter.now) c.args.many c.args.entries.now c.loop.rest.now c.loop.counter c.loop.last c.loop.count
+    merging_stops laid_over line_text (λ o. o.key)
+        (object_at c.args.filter.now) c.args.many c.args.entries.now c.loop.rest.now c.loop.counter c.loop.last c.loop.count
     (HasFile (g.S.Store.state c.args.store.now) c.args.name.now) (left_of c.args.source.now) (left_of c.loop.source)
     (g.S.Store.state c.args.store.now) (g.S.Store.state c.loop.store) c.args.writer.now c.loop.writer file c.in-Err.fault c.loop-test.true h has
     (c.in-Err.ensures.read file (has_still (g.S.Store.state c.args.store.now) (g.S.Store.state c.loop.store) tt c.args.name.now file h.frame has))
 
 pub returns-in-Err-clause-frame : goal.returns-in-Err-clause-frame
-returns-in-Err-clause-frame g c = often_fails {T = Unit {0}} IsDeviceFault (g.S.Store.state c.args.store.now) (g.S.Store.state c.loop.store) (g.S.Store.state c.next_object.new.store)
+returns-in-Err-clause-frame g c = often_fails {T = Unit {0}} IsDeviceFault (g.S.Store.state c.args.store.now) (g.S.Store.state c.loop.store)
+    (g.S.Store.state c.next_object.new.store)
     tt c.in-Err.fault c.loop.invariant.merging.frame c.in-Err.ensures.frame
 
 pub returns-in-Err-put_object-clause-frame : goal.returns-in-Err-put_object-clause-frame
-returns-in-Err-put_object-clause-frame g c = often_fails {T = Unit {0}} IsDeviceFault (g.S.Store.state c.args.store.now) (g.S.Store.state c.next_object.new.store) (g.S.Store.state c.put_object.new.store)
+returns-in-Err-put_object-clause-frame g c = often_fails {T = Unit {0}} IsDeviceFault (g.S.Store.state c.args.store.now)
+    (g.S.Store.state c.next_object.new.store) (g.S.Store.state c.put_object.new.store)
     tt c.in-Err-put_object.fault
-    (often_then {T = Unit {0}} {V = Unit {0}} IsDeviceFault (g.S.Store.state c.args.store.now) (g.S.Store.state c.loop.store) (g.S.Store.state c.next_object.new.store) tt c.in-Ok.object tt
+    (often_then {T = Unit {0}} {V = Unit {0}} IsDeviceFault (g.S.Store.state c.args.store.now) (g.S.Store.state c.loop.store)
+        (g.S.Store.state c.next_object.new.store) tt c.in-Ok.object tt
     c.loop.invariant.merging.frame c.in-Ok.ensures.frame) c.in-Err-put_object.ensures.frame
 
 pub loop-preserved : goal.loop-preserved
@@ -46,16 +50,21 @@ loop-preserved g c =
           c.loop.rest.now c.in-Ok-put_object.laid.0.now
           c.loop.counter c.loop.last c.loop.count c.in-Ok-put_object.laid.1 c.in-Ok.object
           (HasFile (g.S.Store.state c.args.store.now) c.args.name.now) (left_of c.args.source.now) (left_of c.loop.source) (left_of c.next_object.new.source)
-          (g.S.Store.state c.args.store.now) (g.S.Store.state c.loop.store) (g.S.Store.state c.put_object.new.store) c.args.writer.now c.loop.writer c.put_object.new.writer
+          (g.S.Store.state c.args.store.now) (g.S.Store.state c.loop.store)
+              (g.S.Store.state c.put_object.new.store) c.args.writer.now c.loop.writer c.put_object.new.writer
           c.loop-test.true h
           (lays_after laid_over line_text c.loop.rest.now c.in-Ok.object c.in-Ok-put_object.laid.0.now c.in-Ok-put_object.laid.1
-          (g.S.Store.state c.loop.store) (g.S.Store.state c.next_object.new.store) (g.S.Store.state c.put_object.new.store) c.loop.writer c.put_object.new.writer
+          (g.S.Store.state c.loop.store) (g.S.Store.state c.next_object.new.store)
+              (g.S.Store.state c.put_object.new.store) c.loop.writer c.put_object.new.writer
           c.in-Ok.object c.in-Ok.ensures.frame c.in-Ok.ensures.stage c.in-Ok-put_object.ensures.laid)
-          (λ file has. c.in-Ok.ensures.read file (has_still (g.S.Store.state c.args.store.now) (g.S.Store.state c.loop.store) tt c.args.name.now file h.frame has))
-          (often_then {V = Unit {0}} IsDeviceFault (g.S.Store.state c.loop.store) (g.S.Store.state c.next_object.new.store) (g.S.Store.state c.put_object.new.store) c.in-Ok.object c.in-Ok-put_object.laid tt
+          (λ file has. c.in-Ok.ensures.read file
+              (has_still (g.S.Store.state c.args.store.now) (g.S.Store.state c.loop.store) tt c.args.name.now file h.frame has))
+          (often_then {V = Unit {0}} IsDeviceFault (g.S.Store.state c.loop.store) (g.S.Store.state c.next_object.new.store)
+              (g.S.Store.state c.put_object.new.store) c.in-Ok.object c.in-Ok-put_object.laid tt
           c.in-Ok.ensures.frame c.in-Ok-put_object.ensures.frame));
       calls = item_more IsDeviceFault (HasFile (g.S.Store.state c.args.store.now) c.args.name.now) c.args.writer.now c.loop.writer c.args.source.now
-          c.loop.source (g.S.Store.state c.args.store.now) (g.S.Store.state c.loop.store) c.loop.invariant.calls c.put_object.new.writer c.next_object.new.source
+          c.loop.source (g.S.Store.state c.args.store.now)
+              (g.S.Store.state c.loop.store) c.loop.invariant.calls c.put_object.new.writer c.next_object.new.source
           (g.S.Store.state c.next_object.new.store) (g.S.Store.state c.put_object.new.store) c.in-Ok.object c.in-Ok-put_object.laid
           (λ file has.
           let has_l = has_still (g.S.Store.state c.args.store.now) (g.S.Store.state c.loop.store) tt c.args.name.now file c.loop.invariant.merging.frame has
@@ -72,17 +81,21 @@ loop-preserved g c =
 pub returns-in-Ok-put_rest-clause-merges : goal.returns-in-Ok-put_rest-clause-merges
 returns-in-Ok-put_rest-clause-merges g c =
     let h = c.loop.invariant.merging in
-    merging_done laid_over line_text (λ o. o.key) (object_at c.args.filter.now) c.args.many c.args.entries.now c.loop.rest.now c.loop.counter c.loop.last c.loop.count c.in-Ok-put_rest.put
+    merging_done laid_over line_text (λ o. o.key)
+        (object_at c.args.filter.now) c.args.many c.args.entries.now c.loop.rest.now c.loop.counter c.loop.last c.loop.count c.in-Ok-put_rest.put
     (HasFile (g.S.Store.state c.args.store.now) c.args.name.now) (left_of c.args.source.now) (left_of c.loop.source)
-    (g.S.Store.state c.args.store.now) (g.S.Store.state c.loop.store) (g.S.Store.state c.put_rest.new.store) c.args.writer.now c.loop.writer c.put_rest.new.writer
+    (g.S.Store.state c.args.store.now) (g.S.Store.state c.loop.store)
+        (g.S.Store.state c.put_rest.new.store) c.args.writer.now c.loop.writer c.put_rest.new.writer
     c.loop-test.false h c.in-Ok-put_rest.ensures.laid
 
 pub returns-in-Ok-put_rest-clause-frame : goal.returns-in-Ok-put_rest-clause-frame
-returns-in-Ok-put_rest-clause-frame g c = often_then {T = Unit {0}} IsDeviceFault (g.S.Store.state c.args.store.now) (g.S.Store.state c.loop.store) (g.S.Store.state c.put_rest.new.store)
+returns-in-Ok-put_rest-clause-frame g c = often_then {T = Unit {0}} IsDeviceFault (g.S.Store.state c.args.store.now) (g.S.Store.state c.loop.store)
+    (g.S.Store.state c.put_rest.new.store)
     tt c.in-Ok-put_rest.put (c.loop.count + c.in-Ok-put_rest.put) c.loop.invariant.merging.frame c.in-Ok-put_rest.ensures.frame
 
 pub returns-clause-frame : goal.returns-clause-frame
-returns-clause-frame g c = often_fails {T = Unit {0}} IsDeviceFault (g.S.Store.state c.args.store.now) (g.S.Store.state c.loop.store) (g.S.Store.state c.put_rest.new.store)
+returns-clause-frame g c = often_fails {T = Unit {0}} IsDeviceFault (g.S.Store.state c.args.store.now) (g.S.Store.state c.loop.store)
+    (g.S.Store.state c.put_rest.new.store)
     tt c.in-Err-put_rest.fault c.loop.invariant.merging.frame c.in-Err-put_rest.ensures.frame
 
 pub returns-in-Err-clause-calls : goal.returns-in-Err-clause-calls

@@ -12,7 +12,8 @@ pub returns-in-Begin-clause-over : goal.returns-in-Begin-clause-over
 returns-in-Begin-clause-over g c = rw c.in-Begin.is c.begin_run.ensures.in_step
 
 pub returns-in-Lag-clause-over : goal.returns-in-Lag-clause-over
-returns-in-Lag-clause-over g c = rw c.in-Lag.is (lag_does c.args.options c.in-Lag.dir c.in-Lag.save (g.S.Store.state c.args.store.now) (g.S.Store.state c.lag_run.new.store)
+returns-in-Lag-clause-over g c = rw c.in-Lag.is
+    (lag_does c.args.options c.in-Lag.dir c.in-Lag.save (g.S.Store.state c.args.store.now) (g.S.Store.state c.lag_run.new.store)
     c.lag_run.result c.lag_run.ensures.over)
 
 pub returns-in-Show-clause-over : goal.returns-in-Show-clause-over

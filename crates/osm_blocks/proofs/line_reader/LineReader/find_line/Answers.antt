@@ -30,7 +30,8 @@ blocks-2-preserved g c =
     let grown : IsLonger c.blocks-2.self c.read_more.new.self = rw c.if-not-is_more.false at c.in-Ok.ensures.grown in
     let uncut : cut_at 10 c.blocks-2.self.unread ≡ None = c.in_default.ensures.lacks refl in
     record {
-      frame = often_then IsDeviceFault (g.S.Store.state c.args.store.now) (g.S.Store.state c.blocks-2.store) (g.S.Store.state c.read_more.new.store) tt c.in-Ok.is_more tt
+      frame = often_then IsDeviceFault (g.S.Store.state c.args.store.now) (g.S.Store.state c.blocks-2.store)
+          (g.S.Store.state c.read_more.new.store) tt c.in-Ok.is_more tt
           c.blocks-2.invariant.frame c.in-Ok.ensures.frame;
       stage = c.in-Ok.ensures.stage ∙ c.blocks-2.invariant.stage;
       same = λ file has.
@@ -43,7 +44,8 @@ blocks-2-preserved g c =
           let now = reads_ahead c.blocks-2.self file in
           let new = reads_ahead c.read_more.new.self file in
           let fewer : new + 1 ≤ now = c.in-Ok.ensures.fewer file known c.if-not-is_more.false in
-          down_then before now 1 0 before new (g.S.Store.state c.args.store.now).left (g.S.Store.state c.blocks-2.store).left (g.S.Store.state c.read_more.new.store).left
+          down_then before now 1 0 before new (g.S.Store.state c.args.store.now).left (g.S.Store.state c.blocks-2.store).left
+              (g.S.Store.state c.read_more.new.store).left
           (omega (arith, fewer)) (c.blocks-2.invariant.calls file has)
           (down_of 1 (g.S.Store.state c.blocks-2.store).left (g.S.Store.state c.read_more.new.store).left c.in-Ok.ensures.calls.spent);
     }
@@ -54,7 +56,8 @@ returns-in-Err-clause-calls g c = λ file has.
     let before = reads_ahead c.args.self.now file in
     record {
       spent = tt;
-      lacks = λ blame. down_lacks before (reads_ahead c.blocks-2.self file) 1 before (g.S.Store.state c.args.store.now).left (g.S.Store.state c.blocks-2.store).left
+      lacks = λ blame. down_lacks before (reads_ahead c.blocks-2.self file) 1 before (g.S.Store.state c.args.store.now).left
+          (g.S.Store.state c.blocks-2.store).left
           (omega arith) (c.blocks-2.invariant.calls file has) (c.in-Err.ensures.calls.lacks known.known blame);
     }
 
