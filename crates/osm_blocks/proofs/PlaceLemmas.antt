@@ -47,7 +47,7 @@ line_after place searched piece after lacks e =
     let xs : List ℕ = place.unread in
     let front : List ℕ = take searched xs ++ piece in
     let parts : xs ≡ front ++ 10 ∷ after = sym (take-append-drop searched xs)
-        ∙ ap (λ (l : List ℕ). take searched xs ++ l) (cut_takes 10 (drop searched xs) piece after e)
+    ∙ ap (λ (l : List ℕ). take searched xs ++ l) (cut_takes 10 (drop searched xs) piece after e)
     ∙ sym (append_assoc (take searched xs) piece (10 ∷ after)) in
     let few = lacks.within in
     let long : length (take searched xs) ≡ searched = first_length searched xs few in
@@ -74,7 +74,7 @@ pub none_after : (bytes : List ℕ) (searched : ℕ) → LacksFirst searched byt
 none_after bytes searched lacks e =
     subst (λ (l : List ℕ). cut_at 10 l ≡ None) (take-append-drop searched bytes)
     (uncut_again 10 (take searched bytes ++ drop searched bytes)
-        (lacks_append 10 (take searched bytes) (drop searched bytes) lacks.lacks (uncut_lacks 10 (drop searched bytes) e)))
+    (lacks_append 10 (take searched bytes) (drop searched bytes) lacks.lacks (uncut_lacks 10 (drop searched bytes) e)))
 
 pub nothing_lacks : (bytes : List ℕ) → LacksFirst 0 bytes
 nothing_lacks bytes = record { within = omega arith; lacks = tt }
@@ -132,7 +132,7 @@ pub left_more : (old new : Place) (file block : List ℕ) (most : ℕ) → new.u
     → take most (drop old.from file) ≡ block → left_of new file ≡ left_of old file
 left_more old new file block most unread from e =
     rw (unread, from) (append_assoc old.unread block (drop (old.from + length block) file)
-        ∙ ap (λ (l : List ℕ). old.unread ++ l) (sym (next_block most file block old.from e)))
+    ∙ ap (λ (l : List ℕ). old.unread ++ l) (sym (next_block most file block old.from e)))
 
 pub left_line : (place : Place) (file : List ℕ) (count : ℕ) → IsLine place count
     → cut_at 10 (left_of place file) ≡ Some (take count place.unread, left_of (past (count + 1) place) file)

@@ -1,14 +1,11 @@
 -- Reading the files of a number.
-use Rattle.std.proofs.Common.{◌≡◌, ℕ, ◌≤◌, List, length, Some, sym, refl, subst}
+use Rattle.std.proofs.Common.{◌≡◌, ℕ, ◌≤◌, List, length, Some, refl}
 use Rattle.osm_model.specs.Change.{ChangeValue}
 use Rattle.osm_model.specs.Limits.{max_file}
-use Rattle.osm_state.specs.State.{StateValue}
-use Rattle.osm_state.specs.StateText.{StateOf}
 use Rattle.osm_state.specs.declared.paths.Suffix.TheVariants.{O5c, Opl, State}
-use Rattle.osm_follow.specs.Delivery.{sequence_of}
 use Rattle.osm_follow.specs.Published.{PublishedValue}
 use Rattle.osm_store.specs.Files.{Files}
-use Rattle.osm_folder.specs.Folder.{IsStateFile, max_state}
+use Rattle.osm_folder.specs.Folder.{IsStateFile, IsThere, max_state}
 use Rattle.osm_folder.specs.Following.{AreChanges, HasFiles, HasState, NumberStops}
 use Rattle.osm_folder.specs.Forms.{place_of, spells_of}
 use Rattle.osm_folder.specs.Names.{file_name_of}
@@ -29,42 +26,34 @@ state_text_stops known dir files number text (Mismatch k) there small h = (h.0, 
 state_text_stops known dir files number text fault there small h = absurd h
 
 -- the state that was read
-pub has_state : (known : Type 0) (dir : List ℕ) (files : Files) (number : ℕ) (text : List ℕ)
-    → (known → files (file_name_of dir number State) ≡ Some text) × ((time : ℕ) × IsStateFile number time text) → known
+pub has_state : (known : Type 0) (dir : List ℕ) (files : Files) (number time : ℕ)
+    → (known → IsThere (files (file_name_of dir number State)) (IsStateFile number time)) → known
     → HasState files dir number
-has_state known dir files number text read sure = (read.1.0, rw (read.0 sure) read.1.1)
+has_state known dir files number time there sure = (time, there sure)
 
 -- bytes that aren't delivered
-pub deliver_stops : (known : Type 0) (dir : List ℕ) (files : Files) (number : ℕ) (state : List ℕ) (form : Form)
-    (changes : List ℕ) (fault : RunFault) → IsFetched known files dir number state form changes
+pub deliver_stops : (known : Type 0) (dir : List ℕ) (files : Files) (number time : ℕ) (form : Form)
+    (changes : List ℕ) (fault : RunFault) → IsFetched known files dir number time form changes
     → DeliverStops (spells_of form) (place_of form) changes (Sequence number (suffix_of form)) fault
     → NumberStops known dir files number fault
-deliver_stops known dir files number state form changes WantOfMemory has h = tt
-deliver_stops known dir files number state forms.O5c changes (BadChange file place why) has h =
+deliver_stops known dir files number time form changes WantOfMemory has h = tt
+deliver_stops known dir files number time forms.O5c changes (BadChange file place why) has h =
     rw h.0 (
       refl,
       λ yes. (
-        has_state known dir files number state (has.state_is, (has.time, has.names)) yes,
+        has_state known dir files number time has.state_is yes,
         rw (has.changes_are yes) (record { small = has.small; nothing = h.1; is_place = h.2 }),
       ),
     )
-deliver_stops known dir files number state forms.Opl changes (BadChange file place why) has h =
+deliver_stops known dir files number time forms.Opl changes (BadChange file place why) has h =
     rw h.0 (
       refl,
       λ yes. (
-        (
-          has_state known dir files number state (has.state_is, (has.time, has.names)) yes,
-          (has.changes_are yes).0,
-        ),
-        rw (has.changes_are yes).1 (record {
-          small = has.small;
-          nothing = h.1;
-          is_place =
-              h.2;
-        }),
+        (has_state known dir files number time has.state_is yes, (has.changes_are yes).0),
+        rw (has.changes_are yes).1 (record { small = has.small; nothing = h.1; is_place = h.2 }),
       ),
     )
-deliver_stops known dir files number state form changes fault has h = absurd h
+deliver_stops known dir files number time form changes fault has h = absurd h
 
 has_changes : (files : Files) (dir : List ℕ) (number : ℕ) (form : Form) (bytes : List ℕ) (p : PublishedValue)
     → length bytes ≤ max_file → spells_of form bytes p.changes → IsFileOf form (files (file_name_of dir number O5c))
@@ -73,13 +62,11 @@ has_changes : (files : Files) (dir : List ℕ) (number : ℕ) (form : Form) (byt
 has_changes files dir number forms.O5c bytes p small spelled is = rw is (small, spelled)
 has_changes files dir number forms.Opl bytes p small spelled is = rw (is.0, is.1) (small, spelled)
 
-pub has_files : (known : Type 0) (dir : List ℕ) (files : Files) (number : ℕ) (state : List ℕ) (form : Form) (bytes : List ℕ)
-    (s : StateValue) (changes : List ChangeValue) → IsFetched known files dir number state form bytes → StateOf state s
-    → s.sequence ≡ number → spells_of form bytes changes → known → HasFiles files dir (sequence_of s changes)
-has_files known dir files number state form bytes s changes has names same spelled sure =
-    let small = has.names.small in
-    record {
-      state = rw (same, has.state_is sure) (record { small = small; names = rw same at names });
-      changes = subst (λ n. AreChanges (files (file_name_of dir n O5c)) (files (file_name_of dir n Opl)) (sequence_of s changes)) (sym same)
-          (has_changes files dir number form bytes (sequence_of s changes) has.small spelled (has.changes_are sure));
-    }
+pub has_files : (known : Type 0) (dir : List ℕ) (files : Files) (number time : ℕ) (form : Form) (bytes : List ℕ)
+    (changes : List ChangeValue) → IsFetched known files dir number time form bytes → spells_of form bytes changes → known
+    → HasFiles files dir (record { number = number; changes = changes; time = time })
+has_files known dir files number time form bytes changes has spelled sure = record {
+  state = has.state_is sure;
+  changes = has_changes files dir number form bytes (record { number = number; changes = changes; time = time })
+      has.small spelled (has.changes_are sure);
+}

@@ -2,7 +2,7 @@
 
 ghost use Rattle.std.specs.Prelude.{◌≡◌, ℕ, ◌≤◌, true, IfErr, IfOk, IfNone, OnOk};
 ghost use Rattle.std.specs.Prelude.{MatchOption, is_some, length};
-ghost use Rattle.osm_model.specs.Limits.{max_sequence};
+ghost use Rattle.osm_model.specs.Limits.{IsPositive, max_sequence};
 ghost use Rattle.osm_store.specs.Files.{IsWithin, Tells};
 ghost use Rattle.osm_folder.specs.Folder.{IsStateFile, max_state};
 ghost use Rattle.osm_store.specs.Frames.{IsKnown};
@@ -19,15 +19,16 @@ use crate::files::{MAX_STATE, is_there, read_file};
 use crate::form::Form;
 use crate::names::file_name;
 use osm_model::limits::MAX_FILE;
+use osm_state::laws::laws_of_state;
 use osm_state::paths::Suffix;
 use osm_state::state_text::state_read;
 use osm_store::store::Store;
 use std::alloc::Global;
 
-// The state text of a sequence, and its changes in one of the two forms.
+// The time that the state of a sequence names, and its changes in one of the two forms.
 #[derive(Drop)]
 pub(crate) struct Fetched {
-    pub(crate) state: Vec<u8>,
+    pub(crate) time: u32,
     pub(crate) form: Form,
     pub(crate) changes: Vec<u8>,
 }
@@ -43,31 +44,32 @@ pub(crate) fn fetch<S: Store>(
     ensures fetched { IfOk result (λ o. MatchOption o
         (IsKnown (S.state store.old) → is_lost (S.state store.old).files dir.now number ≡ true)
         (λ a. IsFetched (IsKnown (S.state store.old)) (S.state store.old).files dir.now number
-        a.state.items a.form a.changes.items)) }
+        a.time a.form a.changes.items)) }
     ensures stops { IfErr result
         (NumberStops (IsKnown (S.state store.old)) dir.now (S.state store.old).files number) }
     ensures frame { ReadsUpTo 3 (S.state store.old) (S.state store.new) result }
 {
-    let Some(state) = read_state(alloc, store, dir, number)? else {
+    let Some(time) = read_state(alloc, store, dir, number)? else {
         return Ok(None);
     };
     let Some((form, changes)) = read_changes(alloc, store, dir, number)? else {
         return Ok(None);
     };
     Ok(Some(Fetched {
-        state,
+        time,
         form,
         changes,
     }))
 }
 
-// The state text of a number; None if it isn't there. A text that names another number is refused.
+// The time that the state of a number names; None if the state isn't there. A text that names
+// another number is refused.
 fn read_state<S: Store>(
     alloc: Global,
     store: &mut S,
     dir: &str,
     number: u32,
-) -> Result<Option<Vec<u8>>, RunFault>
+) -> Result<Option<u32>, RunFault>
     requires { number ≤ max_sequence }
     ensures read { IfOk result (IsStateRead (IsKnown (S.state store.old))
         ((S.state store.old).files (file_name_of dir.now number Suffix.State)) number) }
@@ -78,17 +80,20 @@ fn read_state<S: Store>(
     let Some(text) = read_numbered(alloc, store, dir, number, Suffix::State)? else {
         return Ok(None);
     };
-    check_state(text.as_slice(), number)?;
-    Ok(Some(text))
+    let time = time_in(text.as_slice(), number)?;
+    Ok(Some(time))
 }
 
-fn check_state(text: &[u8], number: u32) -> Result<(), RunFault>
+// The time in a text that is to be the state of a number.
+fn time_in(text: &[u8], number: u32) -> Result<u32, RunFault>
     requires { length text.now ≤ max_state }
-    ensures names { OnOk result ((time : ℕ) × IsStateFile number time text.now) }
+    ensures names { IfOk result (λ time. IsStateFile number time text.now) }
+    ensures positive { IfOk result IsPositive }
     ensures stops { IfErr result (StateTextStops text.now number) }
 {
+    laws_of_state();
     match state_read(text) {
-        Ok(state) if state.sequence() == number => Ok(()),
+        Ok(state) if state.sequence() == number => Ok(state.time()),
         Ok(_) => Err(RunFault::Mismatch(number)),
         Err(cause) => Err(RunFault::BadState(FileName::Sequence(number, Suffix::State), cause)),
     }

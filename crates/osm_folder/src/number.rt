@@ -2,9 +2,8 @@
 
 ghost use Rattle.std.specs.Prelude.{◌≡◌, ℕ, ◌≤◌, true, IfErr, IfOk, MatchOption, length};
 ghost use Rattle.osm_model.specs.Batch.{IsBatch};
-ghost use Rattle.osm_model.specs.Limits.{IsPositive, max_file, max_sequence};
+ghost use Rattle.osm_model.specs.Limits.{max_file, max_sequence};
 ghost use Rattle.osm_store.specs.Frames.{IsKnown};
-ghost use Rattle.osm_folder.specs.Folder.{IsStateFile};
 ghost use Rattle.osm_folder.specs.Following.{IsNumber, NumberStops, is_lost};
 ghost use Rattle.osm_folder.specs.Forms.{place_of, spells_of};
 ghost use Rattle.osm_folder.specs.Runs.{ReadsUpTo};
@@ -16,8 +15,6 @@ use crate::fetch::{Fetched, fetch};
 use crate::form::read_form;
 use osm_model::change::Change;
 use osm_model::form::FormError;
-use osm_state::laws::laws_of_state;
-use osm_state::state_text::state_read;
 use osm_store::store::Store;
 use std::alloc::Global;
 
@@ -50,22 +47,9 @@ pub fn read_number<S: Store>(
     let Some(fetched) = fetch(alloc, store, dir, number)? else {
         return Ok(None);
     };
-    let time = time_of(fetched.state.as_slice());
+    let time = fetched.time;
     let changes = changes_of(alloc, number, &fetched)?;
     Ok(Some(Numbered { time, changes }))
-}
-
-// The time that a state names.
-fn time_of(state: &[u8]) -> u32
-    requires { (number time : ℕ) × IsStateFile number time state.now }
-    ensures time { (number time : ℕ) → IsStateFile number time state.now → result ≡ time }
-    ensures positive { IsPositive result }
-{
-    laws_of_state();
-    match state_read(state) {
-        Ok(state) => state.time(),
-        Err(_) => unreachable!(),
-    }
 }
 
 // The changes of a file of a number.

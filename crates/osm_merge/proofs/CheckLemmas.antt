@@ -48,7 +48,7 @@ tail_is head f os most bytes = by_users (counts_at (codes "users ") most bytes)
   where
     by_test : (us ss : List Counted) (t : Bool) → (if t then Some (saved head f os us ss) else None)
         ≡ and_then {A = List Counted × List Counted} {B = Saved}
-            (and_then {A = Unit {0}} {B = List Counted × List Counted} (if t then Some tt else None) (λ e. Some (us, ss))) (λ c. Some (saved head f os c.0 c.1))
+        (and_then {A = Unit {0}} {B = List Counted × List Counted} (if t then Some tt else None) (λ e. Some (us, ss))) (λ c. Some (saved head f os c.0 c.1))
     by_test us ss true = refl
     by_test us ss false = refl
 
@@ -56,7 +56,7 @@ tail_is head f os most bytes = by_users (counts_at (codes "users ") most bytes)
         → and_then {A = List ℕ} {B = Saved} o (λ rest. if length rest == 0 then Some (saved head f os us ss) else None)
         ≡ and_then {A = List Counted × List Counted} {B = Saved} (and_then {A = Unit {0}} {B = List Counted × List Counted}
         (and_then {A = List ℕ} {B = Unit {0}} o (λ rest. if length rest == 0 then Some tt else None)) (λ e. Some (us, ss)))
-            (λ c. Some (saved head f os c.0 c.1))
+        (λ c. Some (saved head f os c.0 c.1))
     by_end us ss None = refl
     by_end us ss (Some rest) = by_test us ss (length rest == 0)
 
@@ -64,7 +64,7 @@ tail_is head f os most bytes = by_users (counts_at (codes "users ") most bytes)
         and_then {A = List ℕ} {B = Saved} (fixed_at (codes "end") s.1) (λ rest. if length rest == 0 then Some (saved head f os us s.0) else None))
         ≡ and_then {A = List Counted × List Counted} {B = Saved} (and_then {A = List Counted × List ℕ} {B = List Counted × List Counted} o (λ s.
         and_then {A = Unit {0}} {B = List Counted × List Counted}
-            (and_then {A = List ℕ} {B = Unit {0}} (fixed_at (codes "end") s.1) (λ rest. if length rest == 0 then Some tt else None)) (λ e. Some (us, s.0))))
+        (and_then {A = List ℕ} {B = Unit {0}} (fixed_at (codes "end") s.1) (λ rest. if length rest == 0 then Some tt else None)) (λ e. Some (us, s.0))))
         (λ c. Some (saved head f os c.0 c.1))
     by_changesets us None = refl
     by_changesets us (Some s) = by_end us s.0 (fixed_at (codes "end") s.1)
@@ -75,7 +75,7 @@ tail_is head f os most bytes = by_users (counts_at (codes "users ") most bytes)
         ≡ and_then {A = List Counted × List Counted} {B = Saved} (and_then {A = List Counted × List ℕ} {B = List Counted × List Counted} o (λ u.
         and_then {A = List Counted × List ℕ} {B = List Counted × List Counted} (counts_at (codes "changesets ") most u.1) (λ s.
         and_then {A = Unit {0}} {B = List Counted × List Counted}
-            (and_then {A = List ℕ} {B = Unit {0}} (fixed_at (codes "end") s.1) (λ rest. if length rest == 0 then Some tt else None)) (λ e. Some (u.0, s.0)))))
+        (and_then {A = List ℕ} {B = Unit {0}} (fixed_at (codes "end") s.1) (λ rest. if length rest == 0 then Some tt else None)) (λ e. Some (u.0, s.0)))))
         (λ c. Some (saved head f os c.0 c.1))
     by_users None = refl
     by_users (Some u) = by_changesets u.0 (counts_at (codes "changesets ") most u.1)
@@ -88,13 +88,13 @@ mirror_none version head f bytes e = rw e refl
 pub mirror_tail : (version : Version) (head : Head) (f : FilterValue) (bytes after : List ℕ) (os : List ChangeValue)
     → objects_at f (most_objects version head.number) bytes ≡ Some (os, after)
     → mirror_at version head f bytes ≡ and_then {A = List Counted × List Counted} {B = Saved} (both_at (most_counted head) after)
-        (λ c. Some (saved head f os c.0 c.1))
+    (λ c. Some (saved head f os c.0 c.1))
 unfolding mirror_at
 mirror_tail version head f bytes after os e = rw e (tail_is head f os (most_counted head) after)
 
 pub mirror_after : (version : Version) (head : Head) (f : FilterValue) (bytes after : List ℕ) (os : List ChangeValue)
     → objects_at f (most_objects version head.number) bytes ≡ Some (os, after) → both_at (most_counted head) after ≡ None
-        → mirror_at version head f bytes ≡ None
+    → mirror_at version head f bytes ≡ None
 mirror_after version head f bytes after os e none = mirror_tail version head f bytes after os e
     ∙ ap (λ (o : Option (List Counted × List Counted)). and_then {A = List Counted × List Counted} {B = Saved} o (λ c. Some (saved head f os c.0 c.1))) none
 

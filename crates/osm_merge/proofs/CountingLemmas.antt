@@ -120,7 +120,7 @@ one_none es rest key many h none = record {
   counted = λ c own cs.
       let one =
       ap {A = List ChangeValue} length
-          (ap (λ (l : List NetEntry). laid_over l (c ∷ cs)) none ∙ over_none c cs ∙ ap (λ (l : List NetEntry). c ∷ laid_over l cs) (sym none)) in
+      (ap (λ (l : List NetEntry). laid_over l (c ∷ cs)) none ∙ over_none c cs ∙ ap (λ (l : List NetEntry). c ∷ laid_over l cs) (sym none)) in
       let all = h.counted c own cs in
       omega (arith, one, all);
   few = (let f = h.few in omega (arith, f));
@@ -177,7 +177,7 @@ next_left f many i last now tail left lt e =
 pub counting_more : (many i : ℕ) (es rest after : List NetEntry) (count k : ℕ) (key : Key) (Has : List ℕ → Type 0) (begun now new : List ℕ → List ℕ) → i < many
     → Counting many i es rest count Has begun now → CountsOne rest key after k
     → ((file : List ℕ) → Has file → (f : FilterValue) (last : Option Key) (c : ChangeValue) (left : List ℕ)
-        → next_at (object_at f) last (now file) ≡ Some (c, left)
+    → next_at (object_at f) last (now file) ≡ Some (c, left)
     → (c.key ≡ key) × (left ≡ new file))
     → Counting many (i + 1) es after (count + k) Has begun new
 counting_more many i es rest after count k key Has begun now new lt h one passes = record {
@@ -200,7 +200,7 @@ counting_more many i es rest after count k key Has begun now new lt h one passes
 pub counting_stops : (many i : ℕ) (es rest : List NetEntry) (count : ℕ) (Has : List ℕ → Type 0) (begun now : List ℕ → List ℕ) (file : List ℕ)
     (fault : MergeFault) → i < many
     → Counting many i es rest count Has begun now → Has file
-        → ((f : FilterValue) (last : Option Key) → Refuses file fault (next_at (object_at f) last (now file)))
+    → ((f : FilterValue) (last : Option Key) → Refuses file fault (next_at (object_at f) last (now file)))
     → (f : FilterValue) → Refuses file fault (items_at (λ (c : ChangeValue). c.key) (object_at f) many None (begun file))
 counting_stops many i es rest count Has begun now file fault lt h has refused f = by_reading (items_at (λ c. c.key) (object_at f) many None (begun file)) refl
   where
@@ -225,5 +225,5 @@ counting_done many i es rest count k Has begun now file le h has last f objects 
     let both : ◌≡◌ {A = List ChangeValue × List ℕ} ([], now file) (p.tail, left) = same_Some ([], now file) (p.tail, left) end in
     let all = p.counted in
     let nothing : length (laid_over rest p.tail) ≡ length (laid_over rest []) =
-        ap (λ (q : List ChangeValue × List ℕ). length (laid_over rest q.0)) (sym both) in
+    ap (λ (q : List ChangeValue × List ℕ). length (laid_over rest q.0)) (sym both) in
     (omega (arith, all, nothing, last), sym (ap (λ (q : List ChangeValue × List ℕ). q.1) both))

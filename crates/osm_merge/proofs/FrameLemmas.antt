@@ -144,7 +144,7 @@ then_replaces {T} {U} blames a b c x (Ok y) m n =
     reads_of b c y n = record { files = refl; known = n.known; left = n.left; failures = n.failures; failed = tt; stops = tt }
 then_replaces {T} {U} blames a b c x (Err f) m n =
     let both = often_both {U = U} blames a b c x (Err f) m
-        (record { files = n.files; known = n.known; left = n.left; failures = n.failures; failed = n.failed; stops = n.stops }) in
+    (record { files = n.files; known = n.known; left = n.left; failures = n.failures; failed = n.failed; stops = n.stops }) in
     reads_fail blames a c f both
 
 -- calls that change no file, in a call that fails for another reason than the device

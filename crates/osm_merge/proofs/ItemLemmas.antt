@@ -127,7 +127,7 @@ module _ {E X K : Type 0} (lay : List E → List X → List X) (text : X → Lis
       → Merging lay text key item many es i last rest count Has begun now a w b v
       → LaysRest lay text rest k (Writes b v c u)
       → Merges lay text es (count + k) (λ values. (file : List ℕ) → Has file → items_at key item many None (begun file) ≡ Some (values, now file))
-          (Writes a w c u)
+      (Writes a w c u)
   merging_done many es rest i last count k Has begun now a b c w v u le h end =
       let all : lay es h.values ≡ h.put ++ lay rest [] = ap (lay es) (sym (append-nil h.values)) ∙ h.laid [] in
       record {

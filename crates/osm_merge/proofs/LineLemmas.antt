@@ -74,7 +74,7 @@ numbered_same word most xs ys line a b p q = rw (p, q) (by_word (after_word word
     by_word : (o : Option (List ℕ)) → and_then {A = List ℕ} {B = ℕ × List ℕ} o
         (λ d. and_then {A = ℕ} {B = ℕ × List ℕ} (number_at d) (λ n. if nat_le n most then Some (n, b) else None))
         ≡ with_rest (and_then {A = List ℕ} {B = ℕ × List ℕ} o
-            (λ d. and_then {A = ℕ} {B = ℕ × List ℕ} (number_at d) (λ n. if nat_le n most then Some (n, a) else None))) b
+        (λ d. and_then {A = ℕ} {B = ℕ × List ℕ} (number_at d) (λ n. if nat_le n most then Some (n, a) else None))) b
     by_word None = refl
     by_word (Some d) = by_number (number_at d)
 

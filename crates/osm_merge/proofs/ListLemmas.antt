@@ -38,13 +38,13 @@ pub header_then : {T E : Type 0} {blames : E → Type 0} (a b c : StoreState) (w
     → ReadsOften blames a b (Ok x) → Writes a w b v (ended (first ∷ [])) → Writes b v c u (ended lines) → Writes a w c u (ended (first ∷ lines))
 header_then a b c w v u x first lines frame one more =
     subst (λ (l : List ℕ). Writes a w c u l) (append_assoc first (10 ∷ []) (ended lines))
-        (writes_both a b c w v u x (ended (first ∷ [])) (ended lines) frame one more)
+    (writes_both a b c w v u x (ended (first ∷ [])) (ended lines) frame one more)
 
 -- a list, from its number and its lines
 pub list_merged : {E X T F : Type 0} {blames : F → Type 0} (lay : List E → List X → List X) (text : X → List ℕ) (word : List ℕ) (es : List E) (total count : ℕ)
     (Items Lists : List X → Type 0) (a b c : StoreState) (w v u : Waiting) (x : T) → ReadsOften blames a b (Ok x)
     → Writes a w b v (ended ((word ++ decimal total) ∷ [])) → Merges lay text es count Items (Writes b v c u)
-        → ((values : List X) → Items values → Lists values)
+    → ((values : List X) → Items values → Lists values)
     → MergesList lay text word es total count Lists (Writes a w c u)
 list_merged lay text word es total count Items Lists a b c w v u x frame header m reads = record {
   values = m.values;

@@ -75,7 +75,7 @@ pub object_long : (f : FilterValue) (last : Option Key) (bytes : List ℕ) → I
 object_long f last bytes long = next_long (object_at f) last bytes (λ line after cut. none_by (object_at f last line) (λ c e.
     let t : TakesObject f last line c = object_takes f last line c e in
     not_long bytes (line_text c) after long (cut_takes 10 bytes line after cut ∙ ap (λ (l : List ℕ). l ++ 10 ∷ after) t.text)
-        (lines_are_short c t.good.object)))
+    (lines_are_short c t.good.object)))
 
 pub bad_refuses : {A : Type 0} (file : List ℕ) (fault : MergeFault) (r : Option A) → IsBadLine fault → r ≡ None → Refuses file fault r
 bad_refuses file (BadSave line) r bad none = none

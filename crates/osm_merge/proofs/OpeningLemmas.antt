@@ -50,7 +50,7 @@ head_more bytes more r e =
     let t : TakesHead bytes r.0 r.1 r.2 r.3 = head_takes bytes r e in
     let parts = parts_of bytes r e in
     let joined : bytes ++ more ≡ ended (head_lines r.0 r.1 r.2) ++ (r.3 ++ more) =
-        ap (λ (l : List ℕ). l ++ more) (t.text ∙ sym (ended_before (head_lines r.0 r.1 r.2) r.3))
+    ap (λ (l : List ℕ). l ++ more) (t.text ∙ sym (ended_before (head_lines r.0 r.1 r.2) r.3))
     ∙ append_assoc (ended (head_lines r.0 r.1 r.2)) r.3 more in
     ap head_at (joined ∙ ended_before (head_lines r.0 r.1 r.2) (r.3 ++ more)) ∙ head_again r.0 r.1 r.2 (r.3 ++ more) t.limits t.is_filter t.tells
 

@@ -158,7 +158,7 @@ everything_is_left c = by_object (object_after c) refl
     by_object (Some d) e =
         let same : c ≡ d = left_as c d c.what e in
         let is : keeps everything d ≡ true = everything_is_kept d
-            (subst (λ x. object_after x ≡ Some x) same (e ∙ ap (λ (x : ChangeValue). Some x) (sym same))) in
+        (subst (λ x. object_after x ≡ Some x) same (e ∙ ap (λ (x : ChangeValue). Some x) (sym same))) in
         rw is refl
 
 pub extracts_are_kept_up : ExtractsAreKeptUp

@@ -30,7 +30,7 @@ pub joined_is : (by : FilterValue) (ps : List PublishedValue) (base start : ℕ)
 joined_is by ps base start acc f k high count s past is r =
     let reach : Reaches acc k high = reaches_accepted by ps base start acc f k high s past r in
     between_same (changes_held f) (changes_at ps) k count
-        (λ j above below. changes_is by ps base start acc f s j (omega arith) (reach.all j above (omega arith)))
+    (λ j above below. changes_is by ps base start acc f s j (omega arith) (reach.all j above (omega arith)))
 
 -- what is held is as `Follows.held` says
 held_as : (ps : List PublishedValue) (f : FollowerValue) (j : ℕ) → Follows ps f → IsSome (held_at f j) → (f.number + 1 < j) × (j ≤ f.number + 64)

@@ -3,7 +3,7 @@
 use Rattle.std.specs.Prelude.{◌≡◌, ℕ, ◌+◌, ◌<◌, ◌≤◌, List, length}
 use Rattle.std.specs.Prelude.{suc, filter, Option, Some, None, Vec}
 use Rattle.osm_model.specs.ChangeForm.{SpellsNothing}
-use Rattle.osm_model.specs.Limits.{max_file}
+use Rattle.osm_model.specs.Limits.{IsPositive, max_file}
 use Rattle.osm_save.specs.Save.{SpellsSave}
 use Rattle.osm_save.specs.declared.save.Saved.{Saved}
 use Rattle.osm_state.specs.StateFault.{FaultOf}
@@ -14,7 +14,7 @@ use Rattle.osm_follow.specs.Follower.{FollowerValue}
 use Rattle.osm_follow.specs.Reach.{numbers}
 use Rattle.osm_follow.specs.Restart.{follower_of, saved_of}
 use Rattle.osm_store.specs.Files.{Files}
-use Rattle.osm_folder.specs.Folder.{IsStateFile}
+use Rattle.osm_folder.specs.Folder.{IsStateFile, IsThere}
 use Rattle.osm_folder.specs.Following.{IsLookedFor}
 use Rattle.osm_folder.specs.Following.{IsReached, is_lost}
 use Rattle.osm_folder.specs.Following.{max_save}
@@ -51,11 +51,11 @@ StateTextStops text number (Mismatch k) =
     (k ≡ number) × ((other time : ℕ) × (other ≡ number → ⊥) × IsStateFile other time text)
 StateTextStops text number fault = ⊥
 
--- the state of a number was read
-abbrev pub IsStateRead : {Z : Type 0} → Type 0 → Option (List ℕ) → ℕ → Option (Vec ℕ Z) → Type 0
+-- the state of a number was read, and names that time
+abbrev pub IsStateRead : Type 0 → Option (List ℕ) → ℕ → Option ℕ → Type 0
 IsStateRead known told number None = known → told ≡ None
-IsStateRead known told number (Some text) =
-    (known → told ≡ Some text.items) × ((time : ℕ) × IsStateFile number time text.items)
+IsStateRead known told number (Some time) =
+    IsPositive time × (known → IsThere told (IsStateFile number time))
 
 -- the bytes are those of the change file that is read
 abbrev pub IsFileOf : Form → Option (List ℕ) → Option (List ℕ) → List ℕ → Type 0
@@ -69,13 +69,13 @@ AreChangesRead known o5c opl None = known → (o5c ≡ None) × (opl ≡ None)
 AreChangesRead known o5c opl (Some file) =
     (length file.1.items ≤ max_file) × (known → IsFileOf file.0 o5c opl file.1.items)
 
--- the bytes of a number's state and changes
-pub record IsFetched (known : Type 0) (files : Files) (dir : List ℕ) (number : ℕ)
-    (state : List ℕ) (form : Form) (changes : List ℕ) : Type 0 where
-  pub time : ℕ
-  pub names : IsStateFile number time state
+-- the time of a number's state, and the bytes of its changes
+pub record IsFetched (known : Type 0) (files : Files) (dir : List ℕ) (number time : ℕ)
+    (form : Form) (changes : List ℕ) : Type 0 where
+  pub positive : IsPositive time
   pub small : length changes ≤ max_file
-  pub state_is : known → files (file_name_of dir number suffixes.State) ≡ Some state
+  pub state_is : known
+      → IsThere (files (file_name_of dir number suffixes.State)) (IsStateFile number time)
   pub changes_are : known → IsFileOf form (files (file_name_of dir number suffixes.O5c))
       (files (file_name_of dir number suffixes.Opl)) changes
 

@@ -1,7 +1,4 @@
-use Rattle.std.proofs.Common.{◌≡◌, refl, subst, sym}
 use Rattle.osm_store.specs.Frames.{IsKnown}
-use Rattle.osm_folder.specs.Folder.{IsStateFile}
-use Rattle.osm_folder.specs.Following.{HasFiles}
 use Rattle.osm_folder.specs.Steps.Following.{IsFetched}
 use Rattle.osm_folder.proofs.FetchLemmas.{deliver_stops, has_files}
 use Rattle.osm_folder.proofs.ResultLemmas.{same_err}
@@ -11,26 +8,18 @@ pub returns-in_err-changes-clause-stops : goal.returns-in_err-changes-clause-sto
 returns-in_err-changes-clause-stops g c =
     same_err _ c.from_residual-in_err-changes.result _ c.from_residual-in_err-changes.ensures.1
     (deliver_stops (IsKnown (g.S.Store.state c.args.store.now)) c.args.dir.now (g.S.Store.state c.args.store.now).files
-    c.args.number c.in-Some.fetched.state.items c.in-Some.fetched.form c.in-Some.fetched.changes.items _
+    c.args.number c.in-Some.fetched.time c.in-Some.fetched.form c.in-Some.fetched.changes.items _
     (rw c.in-Some.is at c.in_ok-fetched.ensures.fetched) c.in_err-changes.ensures.stops)
 
 pub returns-clause-read : goal.returns-clause-read
 returns-clause-read g c =
     let fetched : IsFetched (IsKnown (g.S.Store.state c.args.store.now)) (g.S.Store.state c.args.store.now).files c.args.dir.now
-    c.args.number c.in-Some.fetched.state.items c.in-Some.fetched.form c.in-Some.fetched.changes.items =
+    c.args.number c.in-Some.fetched.time c.in-Some.fetched.form c.in-Some.fetched.changes.items =
     rw c.in-Some.is at c.in_ok-fetched.ensures.fetched in
-    let time : c.time_of-time.result ≡ fetched.time = c.time_of-time.ensures.time c.args.number fetched.time
-    (subst (λ xs. IsStateFile c.args.number fetched.time xs) (sym c.as_slice.ensures.value) fetched.names) in
     record {
       limits = c.in_ok-changes.ensures.limits;
-      positive = c.time_of-time.ensures.positive;
-      there = λ yes. subst (λ t. HasFiles (g.S.Store.state c.args.store.now).files c.args.dir.now (record {
-        number = c.args.number;
-        changes = c.in_ok-changes.changes.items;
-        time = t;
-      })) (sym time)
-          (has_files (IsKnown (g.S.Store.state c.args.store.now)) c.args.dir.now (g.S.Store.state c.args.store.now).files c.args.number
-          c.in-Some.fetched.state.items c.in-Some.fetched.form c.in-Some.fetched.changes.items
-          (record { sequence = c.args.number; time = fetched.time }) c.in_ok-changes.changes.items fetched fetched.names.names refl
-          c.in_ok-changes.ensures.spelled yes);
+      positive = fetched.positive;
+      there = has_files (IsKnown (g.S.Store.state c.args.store.now)) c.args.dir.now (g.S.Store.state c.args.store.now).files
+          c.args.number c.in-Some.fetched.time c.in-Some.fetched.form c.in-Some.fetched.changes.items
+          c.in_ok-changes.changes.items fetched c.in_ok-changes.ensures.spelled;
     }

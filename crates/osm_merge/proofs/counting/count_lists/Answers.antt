@@ -37,11 +37,11 @@ returns-in-Err-count_objects-clause-refused g c = λ file has.
     let after = left_of c.numbered.new.self file in
     let most = most_objects o.version o.head.number in
     let has2 = has_still (g.S.Store.state c.args.store.now)
-        (g.S.Store.state c.numbered.new.store) c.in-Ok.many c.args.name.now file c.in-Ok.ensures.frame has in
+    (g.S.Store.state c.numbered.new.store) c.in-Ok.many c.args.name.now file c.in-Ok.ensures.frame has in
     let head : numbered_at (codes "objects ") most bytes ≡ Some (c.in-Ok.many, after) =
-        rw c.objects_limit-most.ensures at (c.in-Ok.ensures.read file has (omega arith)) in
+    rw c.objects_limit-most.ensures at (c.in-Ok.ensures.read file has (omega arith)) in
     refuses_all file c.in-Err-count_objects.fault (items_at (λ (d : ChangeValue). d.key) (object_at o.filter) c.in-Ok.many None after)
-        (mirror_at o.version o.head o.filter bytes)
+    (mirror_at o.version o.head o.filter bytes)
     (c.in-Err-count_objects.ensures.refused file has2 o.filter)
     (λ none. mirror_none o.version o.head o.filter bytes (objects_read o.filter most bytes after c.in-Ok.many head ∙ none))
 
@@ -68,9 +68,9 @@ returns-in-Ok-merge_both-clause-counted g c = λ file has v e. by_objects file h
         let has_b = has_still a b c.in-Ok.many c.args.name.now file c.in-Ok.ensures.frame has in
         let has_d = has_still b d c.in-Ok-count_objects.objects c.args.name.now file c.in-Ok-count_objects.ensures.frame has_b in
         let head : numbered_at (codes "objects ") most bytes ≡ Some (c.in-Ok.many, after) =
-            rw c.objects_limit-most.ensures at (c.in-Ok.ensures.read file has (omega arith)) in
+        rw c.objects_limit-most.ensures at (c.in-Ok.ensures.read file has (omega arith)) in
         let items : items_at (λ (x : ChangeValue). x.key) (object_at o.filter) c.in-Ok.many None after ≡ Some r =
-            sym (objects_read o.filter most bytes after c.in-Ok.many head) ∙ read in
+        sym (objects_read o.filter most bytes after c.in-Ok.many head) ∙ read in
         let q = c.in-Ok-count_objects.ensures.counted file has_b o.filter r.0 r.1 items in
         let m = c.in-Ok-merge_both.ensures.merges in
         let both : both_at (most_counted o.head) r.1 ≡ Some m.parts = ap (both_at (most_counted o.head)) q.1 ∙ m.read file has_d in
@@ -86,7 +86,7 @@ returns-clause-refused g c = λ file has. by_objects file has
         → (r : Option (List ChangeValue × List ℕ))
         → objects_at c.args.opening.now.filter (most_objects c.args.opening.now.version c.args.opening.now.head.number) (left_of c.args.source.now file) ≡ r
         → Refuses file c.in-Err-merge_both.fault
-            (mirror_at c.args.opening.now.version c.args.opening.now.head c.args.opening.now.filter (left_of c.args.source.now file))
+        (mirror_at c.args.opening.now.version c.args.opening.now.head c.args.opening.now.filter (left_of c.args.source.now file))
     by_objects file has r read =
         let o = c.args.opening.now in
         let a = g.S.Store.state c.args.store.now in
@@ -98,13 +98,13 @@ returns-clause-refused g c = λ file has. by_objects file has
         let has_b = has_still a b c.in-Ok.many c.args.name.now file c.in-Ok.ensures.frame has in
         let has_d = has_still b d c.in-Ok-count_objects.objects c.args.name.now file c.in-Ok-count_objects.ensures.frame has_b in
         let head : numbered_at (codes "objects ") most bytes ≡ Some (c.in-Ok.many, after) =
-            rw c.objects_limit-most.ensures at (c.in-Ok.ensures.read file has (omega arith)) in
+        rw c.objects_limit-most.ensures at (c.in-Ok.ensures.read file has (omega arith)) in
         refuses_all file c.in-Err-merge_both.fault (both_at (most_counted o.head) (left_of c.count_objects.new.source file))
-            (mirror_at o.version o.head o.filter bytes)
+        (mirror_at o.version o.head o.filter bytes)
         (c.in-Err-merge_both.ensures.refused file has_d)
         (λ none. after_objects o.version o.head o.filter bytes (left_of c.count_objects.new.source file) r read
         (λ p is. (c.in-Ok-count_objects.ensures.counted file has_b o.filter p.0 p.1
-            (sym (objects_read o.filter most bytes after c.in-Ok.many head) ∙ is)).1) none)
+        (sym (objects_read o.filter most bytes after c.in-Ok.many head) ∙ is)).1) none)
 
 pub returns-in-Err-clause-calls : goal.returns-in-Err-clause-calls
 returns-in-Err-clause-calls g c = λ file has.
@@ -131,7 +131,7 @@ returns-in-Ok-merge_both-clause-calls g c = λ file has.
     let has_d = has_still b d c.in-Ok-count_objects.objects c.args.name.now file c.in-Ok-count_objects.ensures.frame has_b in
     let none = drops_nothing w place file c.dropping-writer.ensures in
     let first = advances_then {V = Unit {0}} (reads_ahead c.args.source.now file)
-        (λ x. reads_ahead place file) a b d c.in-Ok.many c.in-Ok-count_objects.objects tt
+    (λ x. reads_ahead place file) a b d c.in-Ok.many c.in-Ok-count_objects.objects tt
     (c.in-Ok.ensures.calls file has) (c.in-Ok-count_objects.ensures.calls file has_b) (omega arith) in
     advances_then (reads_ahead c.args.source.now file) (λ x. 0) a d e tt (c.in-Ok-merge_both.users, c.in-Ok-merge_both.changesets)
     (record { objects = c.in-Ok-count_objects.objects; users = c.in-Ok-merge_both.users; changesets = c.in-Ok-merge_both.changesets })
@@ -149,7 +149,7 @@ returns-clause-calls g c = λ file has.
     let has_d = has_still b d c.in-Ok-count_objects.objects c.args.name.now file c.in-Ok-count_objects.ensures.frame has_b in
     let none = drops_nothing w place file c.dropping-writer.ensures in
     let first = advances_then {V = Unit {0}} (reads_ahead c.args.source.now file)
-        (λ x. reads_ahead place file) a b d c.in-Ok.many c.in-Ok-count_objects.objects tt
+    (λ x. reads_ahead place file) a b d c.in-Ok.many c.in-Ok-count_objects.objects tt
     (c.in-Ok.ensures.calls file has) (c.in-Ok-count_objects.ensures.calls file has_b) (omega arith) in
     advances_fails (reads_ahead c.args.source.now file) (λ x. 0) a d e tt c.in-Err-merge_both.fault
     first (c.in-Err-merge_both.ensures.calls file has_d) (omega (arith, none.0, none.1))

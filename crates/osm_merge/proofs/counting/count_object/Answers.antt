@@ -12,7 +12,7 @@ pub loop-key-preserved : goal.loop-key-preserved
 loop-key-preserved c =
     let less : key_cmp c.in-Some.key c.args.object ≡ Less = search rules in
     below_more c.args.entries.now c.loop-key.rest.now c.in-Some.after.now c.args.object
-        (c.in-Some.key, c.in-Some.left.now) c.loop-key.many c.count_left-many.result
+    (c.in-Some.key, c.in-Some.left.now) c.loop-key.many c.count_left-many.result
     c.loop-key.invariant c.in-Some.ensures less c.count_left-many.ensures (omega (arith, put_before-few c.in-Some.left.now, c.count_left-many.ensures))
 
 pub returns-in-Equal : goal.returns-in-Equal

@@ -38,7 +38,7 @@ returns-in-Err-clause-calls g c = λ file has.
     let so_far : Advances {T = Unit {0}} IsDeviceFault (reads_ahead c.args.source.now file) (λ x. reads_ahead c.loop.source file) a b (Ok tt) =
     record { spent = c.loop.invariant.spent file has; lacks = tt } in
     advances_fails (reads_ahead c.args.source.now file) (λ x. reads_ahead c.next_key.new.source file) a b
-        (g.S.Store.state c.next_key.new.store) tt c.in-Err.fault
+    (g.S.Store.state c.next_key.new.store) tt c.in-Err.fault
     so_far (c.in-Err.ensures.calls file has_l) (omega arith)
 
 pub loop-preserved : goal.loop-preserved
@@ -50,7 +50,7 @@ loop-preserved g c =
       counting = counting_more c.args.many c.loop.counter c.args.entries.now c.loop.rest.now c.count_object-left.result.0.now c.loop.count
           c.count_object-left.result.1 c.in-Ok.key
           (HasFile a c.args.name.now) (left_of c.args.source.now) (left_of c.loop.source)
-              (left_of c.next_key.new.source) c.loop-test.true c.loop.invariant.counting c.count_object-left.ensures
+          (left_of c.next_key.new.source) c.loop-test.true c.loop.invariant.counting c.count_object-left.ensures
           (λ file has. c.in-Ok.ensures.passed file (has_still a b tt c.args.name.now file c.loop.invariant.frame has));
       frame = often_then {V = Unit {0}} IsDeviceFault a b d tt c.in-Ok.key tt c.loop.invariant.frame c.in-Ok.ensures.frame;
       spent = λ file has.

@@ -25,7 +25,7 @@ returns-in-Some-clause-passed g c = λ file has f last d after e.
     let rest = left_of (past (c.in-Ok.count + 1) c.next.new.self) file in
     let both : ◌≡◌ {A = List ℕ × List ℕ} (p.0, after) (line, rest) = same_Some (p.0, after) (line, rest) (sym p.1 ∙ c.in-Ok.ensures.found file has) in
     let spells : SpellsLine c.line.result.now d =
-        subst (λ (l : List ℕ). SpellsLine l d) (ap (λ (q : List ℕ × List ℕ). q.0) both ∙ sym c.line.ensures) (object_spells f last p.0 d p.2) in
+    subst (λ (l : List ℕ). SpellsLine l d) (ap (λ (q : List ℕ × List ℕ). q.0) both ∙ sym c.line.ensures) (object_spells f last p.0 d p.2) in
     (sym (same_Some c.in-Some.key d.key (c.in-Some.ensures d spells)), rw c.pass.ensures (ap (λ (q : List ℕ × List ℕ). q.1) both))
 
 pub returns-in-None-clause-passed : goal.returns-in-None-clause-passed
@@ -37,7 +37,7 @@ returns-in-None-clause-passed g c = λ file has f last.
     let rest = left_of (past (c.in-Ok.count + 1) c.next.new.self) file in
     let both : ◌≡◌ {A = List ℕ × List ℕ} (p.0, r.1) (line, rest) = same_Some (p.0, r.1) (line, rest) (sym p.1 ∙ c.in-Ok.ensures.found file has) in
     let spells : SpellsLine c.line.result.now r.0 =
-        subst (λ (l : List ℕ). SpellsLine l r.0) (ap (λ (q : List ℕ × List ℕ). q.0) both ∙ sym c.line.ensures) (object_spells f last p.0 r.0 p.2) in
+    subst (λ (l : List ℕ). SpellsLine l r.0) (ap (λ (q : List ℕ × List ℕ). q.0) both ∙ sym c.line.ensures) (object_spells f last p.0 r.0 p.2) in
     let bad : None ≡ Some r.0.key = c.in-None.ensures r.0 spells in absurd cc))
 
 pub returns-in-Err-clause-calls : goal.returns-in-Err-clause-calls

@@ -33,7 +33,7 @@ returns-in-Equal-clause-lays c =
     let long = ap {A = List Counted} length c.in-Some.ensures in
     below_last added count_text c.args.increments.now c.loop-number.rest.now c.in-Some.after.now c.args.count c.loop-number.many 1
     c.args.out.now.items c.loop-number.out.items c.write_count-in-Equal.new.out.items
-        ((c.args.count.0, c.in-Some.more + c.args.count.1) ∷ []) c.loop-number.invariant.below
+    ((c.args.count.0, c.in-Some.more + c.args.count.1) ∷ []) c.loop-number.invariant.below
     (λ xs. ap (λ (l : List Counted). added l (c.args.count ∷ xs)) c.in-Some.ensures
     ∙ plus_at (c.in-Some.number, c.in-Some.more) c.in-Some.after.now c.args.count equal xs)
     c.in_ok-write_count-in-Equal.ensures refl (omega (arith, long))

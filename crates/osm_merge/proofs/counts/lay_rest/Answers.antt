@@ -18,5 +18,5 @@ loop-number-preserved c =
 pub returns : goal.returns
 returns c =
     some_last added count_text c.args.increments.now c.loop-number.rest.now c.loop-number.many c.args.out.now.items c.loop-number.out.items
-        c.loop-number.invariant
+    c.loop-number.invariant
     (ap (λ (l : List Counted). added l []) c.in_default.ensures ∙ added-no_count [])

@@ -39,7 +39,7 @@ returns-in-Err-put_count-clause-frame g c = often_fails {T = Unit {0}} IsDeviceF
     (g.S.Store.state c.put_count.new.store)
     tt c.in-Err-put_count.fault
     (often_then {T = Unit {0}} {V = Unit {0}} IsDeviceFault (g.S.Store.state c.args.store.now) (g.S.Store.state c.loop.store)
-        (g.S.Store.state c.next_count.new.store) tt c.in-Ok.count tt
+    (g.S.Store.state c.next_count.new.store) tt c.in-Ok.count tt
     c.loop.invariant.merging.frame c.in-Ok.ensures.frame) c.in-Err-put_count.ensures.frame
 
 pub loop-preserved : goal.loop-preserved
@@ -50,15 +50,15 @@ loop-preserved g c =
           c.loop.counter c.loop.last c.loop.total c.in-Ok-put_count.laid.1 c.in-Ok.count
           (HasFile (g.S.Store.state c.args.store.now) c.args.name.now) (left_of c.args.source.now) (left_of c.loop.source) (left_of c.next_count.new.source)
           (g.S.Store.state c.args.store.now) (g.S.Store.state c.loop.store)
-              (g.S.Store.state c.put_count.new.store) c.args.writer.now c.loop.writer c.put_count.new.writer
+          (g.S.Store.state c.put_count.new.store) c.args.writer.now c.loop.writer c.put_count.new.writer
           c.loop-test.true h
           (lays_after added count_text c.loop.rest.now c.in-Ok.count c.in-Ok-put_count.laid.0.now c.in-Ok-put_count.laid.1
           (g.S.Store.state c.loop.store) (g.S.Store.state c.next_count.new.store) (g.S.Store.state c.put_count.new.store) c.loop.writer c.put_count.new.writer
           c.in-Ok.count c.in-Ok.ensures.frame c.in-Ok.ensures.stage c.in-Ok-put_count.ensures.laid)
           (λ file has. c.in-Ok.ensures.read file
-              (has_still (g.S.Store.state c.args.store.now) (g.S.Store.state c.loop.store) tt c.args.name.now file h.frame has))
+          (has_still (g.S.Store.state c.args.store.now) (g.S.Store.state c.loop.store) tt c.args.name.now file h.frame has))
           (often_then {V = Unit {0}} IsDeviceFault (g.S.Store.state c.loop.store) (g.S.Store.state c.next_count.new.store)
-              (g.S.Store.state c.put_count.new.store) c.in-Ok.count c.in-Ok-put_count.laid tt
+          (g.S.Store.state c.put_count.new.store) c.in-Ok.count c.in-Ok-put_count.laid tt
           c.in-Ok.ensures.frame c.in-Ok-put_count.ensures.frame);
       few = c.in-Ok-put_count.ensures.few;
       calls = item_more IsDeviceFault (HasFile (g.S.Store.state c.args.store.now) c.args.name.now) c.args.writer.now c.loop.writer c.args.source.now
@@ -80,10 +80,10 @@ pub returns-in-Ok-put_rest-clause-merges : goal.returns-in-Ok-put_rest-clause-me
 returns-in-Ok-put_rest-clause-merges g c =
     let h = c.loop.invariant.merging in
     merging_done added count_text (λ e. e.0)
-        (count_at c.args.most) c.args.many c.args.increments.now c.loop.rest.now c.loop.counter c.loop.last c.loop.total c.in-Ok-put_rest.put
+    (count_at c.args.most) c.args.many c.args.increments.now c.loop.rest.now c.loop.counter c.loop.last c.loop.total c.in-Ok-put_rest.put
     (HasFile (g.S.Store.state c.args.store.now) c.args.name.now) (left_of c.args.source.now) (left_of c.loop.source)
     (g.S.Store.state c.args.store.now) (g.S.Store.state c.loop.store)
-        (g.S.Store.state c.put_rest.new.store) c.args.writer.now c.loop.writer c.put_rest.new.writer
+    (g.S.Store.state c.put_rest.new.store) c.args.writer.now c.loop.writer c.put_rest.new.writer
     c.loop-test.false h c.in-Ok-put_rest.ensures.laid
 
 pub returns-in-Ok-put_rest-clause-frame : goal.returns-in-Ok-put_rest-clause-frame

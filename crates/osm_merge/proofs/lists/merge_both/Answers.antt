@@ -19,16 +19,16 @@ use Rattle.osm_merge.proofs.lists.merge_both.Goals as goal
 pub returns-in-Err-clause-refused : goal.returns-in-Err-clause-refused
 returns-in-Err-clause-refused g c = λ file has.
     refuses_all file c.in-Err.fault (counts_at (codes "users ") c.args.most (left_of c.args.source.now file))
-        (both_at c.args.most (left_of c.args.source.now file))
+    (both_at c.args.most (left_of c.args.source.now file))
     (c.in-Err.ensures.refused file has) (both_none c.args.most (left_of c.args.source.now file))
 
 pub returns-in-Err-merge_count_list-clause-refused : goal.returns-in-Err-merge_count_list-clause-refused
 returns-in-Err-merge_count_list-clause-refused g c = λ file has.
     let m = c.in-Ok.ensures.merges in
     let has2 = has_still (g.S.Store.state c.args.store.now)
-        (g.S.Store.state c.merge_count_list.new.store) c.in-Ok.many c.args.name.now file c.in-Ok.ensures.frame has in
+    (g.S.Store.state c.merge_count_list.new.store) c.in-Ok.many c.args.name.now file c.in-Ok.ensures.frame has in
     refuses_all file c.in-Err-merge_count_list.fault (counts_at (codes "changesets ") c.args.most (left_of c.merge_count_list.new.source file))
-        (both_at c.args.most (left_of c.args.source.now file))
+    (both_at c.args.most (left_of c.args.source.now file))
     (c.in-Err-merge_count_list.ensures.refused file has2)
     (both_after c.args.most (left_of c.args.source.now file) (left_of c.merge_count_list.new.source file) m.values (m.read file has))
 
@@ -45,7 +45,7 @@ returns-in-Ok-put_end-clause-merges g c =
           let has2 = has_still a b c.in-Ok.many c.args.name.now file c.in-Ok.ensures.frame has in
           let has3 = has_still b d c.in-Ok-merge_count_list.other c.args.name.now file c.in-Ok-merge_count_list.ensures.frame has2 in
           both_read c.args.most (left_of c.args.source.now file) (left_of c.merge_count_list.new.source file)
-              (left_of c.merge_count_list-2.new.source file) m.values n.values
+          (left_of c.merge_count_list-2.new.source file) m.values n.values
           (m.read file has) (n.read file has2) (c.in-Ok-end.ensures.read file has3);
       users_are = m.counted;
       changesets_are = n.counted;
@@ -63,14 +63,14 @@ returns-in-Err-end-clause-refused g c = λ file has.
     let m = c.in-Ok.ensures.merges in
     let n = c.in-Ok-merge_count_list.ensures.merges in
     let has2 = has_still (g.S.Store.state c.args.store.now)
-        (g.S.Store.state c.merge_count_list.new.store) c.in-Ok.many c.args.name.now file c.in-Ok.ensures.frame has in
+    (g.S.Store.state c.merge_count_list.new.store) c.in-Ok.many c.args.name.now file c.in-Ok.ensures.frame has in
     let has3 = has_still (g.S.Store.state c.merge_count_list.new.store)
-        (g.S.Store.state c.merge_count_list-2.new.store) c.in-Ok-merge_count_list.other c.args.name.now file
+    (g.S.Store.state c.merge_count_list-2.new.store) c.in-Ok-merge_count_list.other c.args.name.now file
     c.in-Ok-merge_count_list.ensures.frame has2 in
     refuses_all file c.in-Err-end.fault (end_at (left_of c.merge_count_list-2.new.source file)) (both_at c.args.most (left_of c.args.source.now file))
     (c.in-Err-end.ensures.read file has3)
     (both_unended c.args.most (left_of c.args.source.now file) (left_of c.merge_count_list.new.source file)
-        (left_of c.merge_count_list-2.new.source file) m.values n.values
+    (left_of c.merge_count_list-2.new.source file) m.values n.values
     (m.read file has) (n.read file has2))
 
 pub returns-in-Err-clause-calls : goal.returns-in-Err-clause-calls

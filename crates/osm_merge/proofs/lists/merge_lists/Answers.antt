@@ -47,7 +47,7 @@ returns-in-Err-merge_both-clause-refused g c = λ file has.
     let o = c.args.opening.now in
     let m = c.in-Ok.ensures.merges in
     let has2 = has_still (g.S.Store.state c.args.store.now)
-        (g.S.Store.state c.merge_object_list.new.store) c.in-Ok.objects c.args.name.now file c.in-Ok.ensures.frame has in
+    (g.S.Store.state c.merge_object_list.new.store) c.in-Ok.objects c.args.name.now file c.in-Ok.ensures.frame has in
     refuses_all file c.in-Err-merge_both.fault (both_at (most_counted o.head) (left_of c.merge_object_list.new.source file))
     (mirror_at o.version o.head o.filter (left_of c.args.source.now file))
     (c.in-Err-merge_both.ensures.refused file has2)

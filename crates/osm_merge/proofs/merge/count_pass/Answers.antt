@@ -14,7 +14,7 @@ returns-clause-refused g c = λ known.
 pub returns-clause-frame : goal.returns-clause-frame
 returns-clause-frame g c =
     both_blameless {V = Totals} IsDeviceFault (g.S.Store.state c.args.store.now) (g.S.Store.state c.count_save.new.store)
-        (g.S.Store.state c.check_save-checked.new.store)
+    (g.S.Store.state c.check_save-checked.new.store)
     c.in-Err.fault c.fault_of_text.result c.check_save-checked.result c.in-Err.ensures.frame c.check_save-checked.ensures.frame
     (text_blames c.fault_of_text.result c.fault_of_text.ensures.of_text)
 

@@ -15,7 +15,7 @@ pub returns-clause-refused : goal.returns-clause-refused
 returns-clause-refused g c = λ known.
     let opened = c.in-Ok.ensures.opened known in
     let has = has_still (g.S.Store.state c.args.store.now)
-        (g.S.Store.state c.open_save.new.store) c.in-Ok.opened c.args.name.now opened.file c.in-Ok.ensures.frame
+    (g.S.Store.state c.open_save.new.store) c.in-Ok.opened c.args.name.now opened.file c.in-Ok.ensures.frame
     (record { known = known; there = opened.there }) in
     lists_stop ((g.S.Store.state c.args.store.now).files c.args.name.now) c.in-Ok.opened.0 c.in-Ok.opened.1 c.in-Err-count_lists.fault opened
     (c.in-Err-count_lists.ensures.refused opened.file has)
@@ -25,7 +25,7 @@ returns-in-Ok-count_lists-clause-counted g c = λ known.
     let opened = c.in-Ok.ensures.opened known in
     let n : NetValue = record { objects = c.args.entries.now; users = c.args.users.now; changesets = c.args.changesets.now } in
     let has = has_still (g.S.Store.state c.args.store.now)
-        (g.S.Store.state c.open_save.new.store) c.in-Ok.opened c.args.name.now opened.file c.in-Ok.ensures.frame
+    (g.S.Store.state c.open_save.new.store) c.in-Ok.opened c.args.name.now opened.file c.in-Ok.ensures.frame
     (record { known = known; there = opened.there }) in
     counts_as ((g.S.Store.state c.args.store.now).files c.args.name.now) c.in-Ok.opened.0 c.in-Ok.opened.1 n c.in-Ok-count_lists.totals opened
     (c.in-Ok-count_lists.ensures.counted opened.file has)

@@ -43,7 +43,7 @@ returns-in-Err-write_pass-clause-frame g c =
     let b = g.S.Store.state c.count_pass.new.store in
     let d = g.S.Store.state c.write_pass.new.store in
     reads_fail {T = Totals} IsDeviceFault a d c.in-Err-write_pass.fault
-        (often_both {U = Totals} IsDeviceFault a b d c.in-Ok.totals (Err c.in-Err-write_pass.fault) c.in-Ok.ensures.frame c.in-Err-write_pass.ensures.frame)
+    (often_both {U = Totals} IsDeviceFault a b d c.in-Ok.totals (Err c.in-Err-write_pass.fault) c.in-Ok.ensures.frame c.in-Err-write_pass.ensures.frame)
 
 pub returns-then-not-are_same-clause-refused : goal.returns-then-not-are_same-clause-refused
 returns-then-not-are_same-clause-refused g c = λ known.
@@ -59,7 +59,7 @@ returns-then-not-are_same-clause-frame g c =
     let b = g.S.Store.state c.count_pass.new.store in
     let d = g.S.Store.state c.write_pass.new.store in
     blameless_frame IsDeviceFault a d Changed
-        (often_then {V = Unit {0}} IsDeviceFault a b d c.in-Ok.totals c.in-Ok-write_pass.counted tt c.in-Ok.ensures.frame c.in-Ok-write_pass.ensures.frame)
+    (often_then {V = Unit {0}} IsDeviceFault a b d c.in-Ok.totals c.in-Ok-write_pass.counted tt c.in-Ok.ensures.frame c.in-Ok-write_pass.ensures.frame)
     (λ bad. bad)
 
 pub returns-then-counted-gt-MOST_OBJECTS-clause-refused : goal.returns-then-counted-gt-MOST_OBJECTS-clause-refused
@@ -83,7 +83,7 @@ returns-then-counted-gt-MOST_OBJECTS-clause-frame g c =
     let b = g.S.Store.state c.count_pass.new.store in
     let d = g.S.Store.state c.write_pass.new.store in
     blameless_frame IsDeviceFault a d TooLarge
-        (often_then {V = Unit {0}} IsDeviceFault a b d c.in-Ok.totals c.in-Ok-write_pass.counted tt c.in-Ok.ensures.frame c.in-Ok-write_pass.ensures.frame)
+    (often_then {V = Unit {0}} IsDeviceFault a b d c.in-Ok.totals c.in-Ok-write_pass.counted tt c.in-Ok.ensures.frame c.in-Ok-write_pass.ensures.frame)
     (λ bad. bad)
 
 pub returns-in-Ok-commit-clause-merged : goal.returns-in-Ok-commit-clause-merged
@@ -100,7 +100,7 @@ returns-in-Ok-commit-clause-merged g c = λ known.
     let same : c.in-Ok.totals ≡ c.in-Ok-write_pass.counted = c.are_same.ensures.same c.if-not-are_same.false in
     let text = merged_text c.args.head c.in-Ok.totals n v in
     let is : text ≡ save_text Three (saved_with c.args.head v.filter (laid_on n v.mirror)) =
-        merged_is c.args.head n v c.in-Ok.totals (same ∙ s.count.totals_are) in
+    merged_is c.args.head n v c.in-Ok.totals (same ∙ s.count.totals_are) in
     let put : Puts d.files c.args.name.now (Some text) e.files = c.in-Ok-commit.ensures.put known_d c.args.name.now text s.says in
     record {
       file = s.count.file;
@@ -120,8 +120,8 @@ returns-in-Ok-commit-clause-frame g c =
     let b = g.S.Store.state c.count_pass.new.store in
     let d = g.S.Store.state c.write_pass.new.store in
     then_replaces IsDeviceFault a d (g.S.Store.state c.commit.new.store) tt (Ok tt)
-        (often_then {V = Unit {0}} IsDeviceFault a b d c.in-Ok.totals c.in-Ok-write_pass.counted tt c.in-Ok.ensures.frame c.in-Ok-write_pass.ensures.frame)
-            c.in-Ok-commit.ensures.frame
+    (often_then {V = Unit {0}} IsDeviceFault a b d c.in-Ok.totals c.in-Ok-write_pass.counted tt c.in-Ok.ensures.frame c.in-Ok-write_pass.ensures.frame)
+    c.in-Ok-commit.ensures.frame
 
 pub returns-in-Err-commit-clause-refused : goal.returns-in-Err-commit-clause-refused
 returns-in-Err-commit-clause-refused g c = λ known.
@@ -135,8 +135,8 @@ returns-in-Err-commit-clause-frame g c =
     let b = g.S.Store.state c.count_pass.new.store in
     let d = g.S.Store.state c.write_pass.new.store in
     then_replaces IsDeviceFault a d (g.S.Store.state c.commit.new.store) tt (Err c.in-Err-commit.fault)
-        (often_then {V = Unit {0}} IsDeviceFault a b d c.in-Ok.totals c.in-Ok-write_pass.counted tt c.in-Ok.ensures.frame c.in-Ok-write_pass.ensures.frame)
-            c.in-Err-commit.ensures.frame
+    (often_then {V = Unit {0}} IsDeviceFault a b d c.in-Ok.totals c.in-Ok-write_pass.counted tt c.in-Ok.ensures.frame c.in-Ok-write_pass.ensures.frame)
+    c.in-Err-commit.ensures.frame
 
 pub returns-in-Err-clause-calls : goal.returns-in-Err-clause-calls
 returns-in-Err-clause-calls g c = λ known.

@@ -24,7 +24,7 @@ returns-in-Ok-flush-clause-merges g c =
     let m = c.in-Ok-merge_lists.ensures.merges in
     let h : List ℕ = ended (head_lines Three c.args.head c.args.opening.now.filter) in
     let l : List ℕ = lists_text c.args.totals
-        (laid_on (record { objects = c.args.entries.now; users = c.args.users.now; changesets = c.args.changesets.now }) m.mirror) in
+    (laid_on (record { objects = c.args.entries.now; users = c.args.users.now; changesets = c.args.changesets.now }) m.mirror) in
     record {
       mirror = m.mirror;
       read = λ file has.
@@ -35,7 +35,7 @@ returns-in-Ok-flush-clause-merges g c =
           let known_d = known_still b d tt c.in-Ok-put_head.ensures.frame known_b in
           let known_e = known_still d e c.in-Ok-merge_lists.counted c.in-Ok-merge_lists.ensures.frame known_d in
           let begun : IsWritten b.stage c.new-writer.result c.args.name.now [] =
-              (rw c.new-writer.ensures (record { appended = []; staged = c.in-Ok.ensures.begun known; whole = refl; writes = refl })) in
+          (rw c.new-writer.ensures (record { appended = []; staged = c.in-Ok.ensures.begun known; whole = refl; writes = refl })) in
           let first : IsWritten d.stage c.put_head.new.writer c.args.name.now h = c.in-Ok-put_head.ensures.written known_b c.args.name.now [] begun in
           let second : IsWritten e.stage c.merge_lists.new.writer c.args.name.now (h ++ l) = m.out known_d c.args.name.now h first in
           staged_all (g.S.Store.state c.flush.new.store) c.flush.new.self c.args.name.now (h ++ l)

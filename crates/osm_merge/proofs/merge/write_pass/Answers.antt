@@ -21,7 +21,7 @@ pub returns-clause-refused : goal.returns-clause-refused
 returns-clause-refused g c = λ known.
     let opened = c.in-Ok.ensures.opened known in
     let has = has_still (g.S.Store.state c.args.store.now)
-        (g.S.Store.state c.open_save.new.store) c.in-Ok.opened c.args.name.now opened.file c.in-Ok.ensures.frame
+    (g.S.Store.state c.open_save.new.store) c.in-Ok.opened c.args.name.now opened.file c.in-Ok.ensures.frame
     (record { known = known; there = opened.there }) in
     lists_stop ((g.S.Store.state c.args.store.now).files c.args.name.now) c.in-Ok.opened.0 c.in-Ok.opened.1 c.in-Err-write_lists.fault opened
     (c.in-Err-write_lists.ensures.refused opened.file has)
@@ -32,7 +32,7 @@ returns-in-Ok-write_lists-clause-staged g c = λ known.
     let m = c.in-Ok-write_lists.ensures.merges in
     let n : NetValue = record { objects = c.args.entries.now; users = c.args.users.now; changesets = c.args.changesets.now } in
     let has = has_still (g.S.Store.state c.args.store.now)
-        (g.S.Store.state c.open_save.new.store) c.in-Ok.opened c.args.name.now opened.file c.in-Ok.ensures.frame
+    (g.S.Store.state c.open_save.new.store) c.in-Ok.opened c.args.name.now opened.file c.in-Ok.ensures.frame
     (record { known = known; there = opened.there }) in
     is_staged ((g.S.Store.state c.args.store.now).files c.args.name.now) c.in-Ok.opened.0 c.in-Ok.opened.1 n c.in-Ok-write_lists.counted
     (λ saved. (g.S.Store.state c.write_lists.new.store).stage ≡ Some (c.args.name.now, merged_text c.args.head c.args.totals n saved)) opened

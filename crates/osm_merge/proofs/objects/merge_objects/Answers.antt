@@ -24,7 +24,7 @@ pub returns-in-Err-clause-refused : goal.returns-in-Err-clause-refused
 returns-in-Err-clause-refused g c = λ file has.
     let h = c.loop.invariant.merging in
     merging_stops laid_over line_text (λ o. o.key)
-        (object_at c.args.filter.now) c.args.many c.args.entries.now c.loop.rest.now c.loop.counter c.loop.last c.loop.count
+    (object_at c.args.filter.now) c.args.many c.args.entries.now c.loop.rest.now c.loop.counter c.loop.last c.loop.count
     (HasFile (g.S.Store.state c.args.store.now) c.args.name.now) (left_of c.args.source.now) (left_of c.loop.source)
     (g.S.Store.state c.args.store.now) (g.S.Store.state c.loop.store) c.args.writer.now c.loop.writer file c.in-Err.fault c.loop-test.true h has
     (c.in-Err.ensures.read file (has_still (g.S.Store.state c.args.store.now) (g.S.Store.state c.loop.store) tt c.args.name.now file h.frame has))
@@ -39,7 +39,7 @@ returns-in-Err-put_object-clause-frame g c = often_fails {T = Unit {0}} IsDevice
     (g.S.Store.state c.next_object.new.store) (g.S.Store.state c.put_object.new.store)
     tt c.in-Err-put_object.fault
     (often_then {T = Unit {0}} {V = Unit {0}} IsDeviceFault (g.S.Store.state c.args.store.now) (g.S.Store.state c.loop.store)
-        (g.S.Store.state c.next_object.new.store) tt c.in-Ok.object tt
+    (g.S.Store.state c.next_object.new.store) tt c.in-Ok.object tt
     c.loop.invariant.merging.frame c.in-Ok.ensures.frame) c.in-Err-put_object.ensures.frame
 
 pub loop-preserved : goal.loop-preserved
@@ -51,20 +51,20 @@ loop-preserved g c =
           c.loop.counter c.loop.last c.loop.count c.in-Ok-put_object.laid.1 c.in-Ok.object
           (HasFile (g.S.Store.state c.args.store.now) c.args.name.now) (left_of c.args.source.now) (left_of c.loop.source) (left_of c.next_object.new.source)
           (g.S.Store.state c.args.store.now) (g.S.Store.state c.loop.store)
-              (g.S.Store.state c.put_object.new.store) c.args.writer.now c.loop.writer c.put_object.new.writer
+          (g.S.Store.state c.put_object.new.store) c.args.writer.now c.loop.writer c.put_object.new.writer
           c.loop-test.true h
           (lays_after laid_over line_text c.loop.rest.now c.in-Ok.object c.in-Ok-put_object.laid.0.now c.in-Ok-put_object.laid.1
           (g.S.Store.state c.loop.store) (g.S.Store.state c.next_object.new.store)
-              (g.S.Store.state c.put_object.new.store) c.loop.writer c.put_object.new.writer
+          (g.S.Store.state c.put_object.new.store) c.loop.writer c.put_object.new.writer
           c.in-Ok.object c.in-Ok.ensures.frame c.in-Ok.ensures.stage c.in-Ok-put_object.ensures.laid)
           (λ file has. c.in-Ok.ensures.read file
-              (has_still (g.S.Store.state c.args.store.now) (g.S.Store.state c.loop.store) tt c.args.name.now file h.frame has))
+          (has_still (g.S.Store.state c.args.store.now) (g.S.Store.state c.loop.store) tt c.args.name.now file h.frame has))
           (often_then {V = Unit {0}} IsDeviceFault (g.S.Store.state c.loop.store) (g.S.Store.state c.next_object.new.store)
-              (g.S.Store.state c.put_object.new.store) c.in-Ok.object c.in-Ok-put_object.laid tt
+          (g.S.Store.state c.put_object.new.store) c.in-Ok.object c.in-Ok-put_object.laid tt
           c.in-Ok.ensures.frame c.in-Ok-put_object.ensures.frame));
       calls = item_more IsDeviceFault (HasFile (g.S.Store.state c.args.store.now) c.args.name.now) c.args.writer.now c.loop.writer c.args.source.now
           c.loop.source (g.S.Store.state c.args.store.now)
-              (g.S.Store.state c.loop.store) c.loop.invariant.calls c.put_object.new.writer c.next_object.new.source
+          (g.S.Store.state c.loop.store) c.loop.invariant.calls c.put_object.new.writer c.next_object.new.source
           (g.S.Store.state c.next_object.new.store) (g.S.Store.state c.put_object.new.store) c.in-Ok.object c.in-Ok-put_object.laid
           (λ file has.
           let has_l = has_still (g.S.Store.state c.args.store.now) (g.S.Store.state c.loop.store) tt c.args.name.now file c.loop.invariant.merging.frame has
@@ -82,10 +82,10 @@ pub returns-in-Ok-put_rest-clause-merges : goal.returns-in-Ok-put_rest-clause-me
 returns-in-Ok-put_rest-clause-merges g c =
     let h = c.loop.invariant.merging in
     merging_done laid_over line_text (λ o. o.key)
-        (object_at c.args.filter.now) c.args.many c.args.entries.now c.loop.rest.now c.loop.counter c.loop.last c.loop.count c.in-Ok-put_rest.put
+    (object_at c.args.filter.now) c.args.many c.args.entries.now c.loop.rest.now c.loop.counter c.loop.last c.loop.count c.in-Ok-put_rest.put
     (HasFile (g.S.Store.state c.args.store.now) c.args.name.now) (left_of c.args.source.now) (left_of c.loop.source)
     (g.S.Store.state c.args.store.now) (g.S.Store.state c.loop.store)
-        (g.S.Store.state c.put_rest.new.store) c.args.writer.now c.loop.writer c.put_rest.new.writer
+    (g.S.Store.state c.put_rest.new.store) c.args.writer.now c.loop.writer c.put_rest.new.writer
     c.loop-test.false h c.in-Ok-put_rest.ensures.laid
 
 pub returns-in-Ok-put_rest-clause-frame : goal.returns-in-Ok-put_rest-clause-frame

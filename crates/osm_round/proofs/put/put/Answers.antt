@@ -12,9 +12,9 @@ returns-then-not-start-clause-put g c =
     on_ok_map c.make.result c.make.ensures.made (λ made yes.
     made_put c.args.filter.now c.args.save.now c.args.start c.args.taken (g.S.Store.state c.args.store.now).files (g.S.Store.state c.make.new.store).files
     (c.requires.begun yes) (false_by_not c.args.start.has_save c.if-not-start.true)
-        (made yes (savable_alone c.args.filter.now ((g.S.Store.state c.args.store.now).files c.args.save.now) c.args.start
+    (made yes (savable_alone c.args.filter.now ((g.S.Store.state c.args.store.now).files c.args.save.now) c.args.start
     c.requires.taken.0 c.args.taken c.requires.taken.1 c.requires.number c.requires.base (c.requires.begun yes)
-        (false_by_not c.args.start.has_save c.if-not-start.true))))
+    (false_by_not c.args.start.has_save c.if-not-start.true))))
 
 pub returns-then-taken-start-clause-put : goal.returns-then-taken-start-clause-put
 returns-then-taken-start-clause-put g c =

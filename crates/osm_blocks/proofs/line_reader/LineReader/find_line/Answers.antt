@@ -45,7 +45,7 @@ blocks-2-preserved g c =
           let new = reads_ahead c.read_more.new.self file in
           let fewer : new + 1 ≤ now = c.in-Ok.ensures.fewer file known c.if-not-is_more.false in
           down_then before now 1 0 before new (g.S.Store.state c.args.store.now).left (g.S.Store.state c.blocks-2.store).left
-              (g.S.Store.state c.read_more.new.store).left
+          (g.S.Store.state c.read_more.new.store).left
           (omega (arith, fewer)) (c.blocks-2.invariant.calls file has)
           (down_of 1 (g.S.Store.state c.blocks-2.store).left (g.S.Store.state c.read_more.new.store).left c.in-Ok.ensures.calls.spent);
     }

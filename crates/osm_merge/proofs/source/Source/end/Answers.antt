@@ -21,13 +21,13 @@ pub returns-in-Err-is_ended-clause-read : goal.returns-in-Err-is_ended-clause-re
 returns-in-Err-is_ended-clause-read g c = λ file has.
     ends_refused file c.fixed.new.self c.in-Err-is_ended.fault (end_at (left_of c.args.self.now file))
     (c.in-Err-is_ended.ensures.ended file
-        (has_still (g.S.Store.state c.args.store.now) (g.S.Store.state c.fixed.new.store) tt c.args.name.now file c.in-Ok.ensures.frame has))
+    (has_still (g.S.Store.state c.args.store.now) (g.S.Store.state c.fixed.new.store) tt c.args.name.now file c.in-Ok.ensures.frame has))
 
 pub returns-then-not-is_ended-clause-read : goal.returns-then-not-is_ended-clause-read
 returns-then-not-is_ended-clause-read g c = λ file has.
     let ended : (length (left_of c.fixed.new.self file) == 0) ≡ false =
     rw c.if-not-is_ended.true at (c.in-Ok-is_ended.ensures.ended file
-        (has_still (g.S.Store.state c.args.store.now) (g.S.Store.state c.fixed.new.store) tt c.args.name.now file c.in-Ok.ensures.frame has)) in
+    (has_still (g.S.Store.state c.args.store.now) (g.S.Store.state c.fixed.new.store) tt c.args.name.now file c.in-Ok.ensures.frame has)) in
     bad_refuses file c.wrong.result (end_at (left_of c.args.self.now file)) c.wrong.ensures
     (end_left (left_of c.args.self.now file) (left_of c.fixed.new.self file) (c.in-Ok.ensures.read file has (lit≤ tt)) ended)
 
@@ -35,7 +35,7 @@ pub returns-clause-read : goal.returns-clause-read
 returns-clause-read g c = λ file has.
     let ended : (length (left_of c.fixed.new.self file) == 0) ≡ true =
     rw c.if-not-is_ended.false at (c.in-Ok-is_ended.ensures.ended file
-        (has_still (g.S.Store.state c.args.store.now) (g.S.Store.state c.fixed.new.store) tt c.args.name.now file c.in-Ok.ensures.frame has)) in
+    (has_still (g.S.Store.state c.args.store.now) (g.S.Store.state c.fixed.new.store) tt c.args.name.now file c.in-Ok.ensures.frame has)) in
     end_done (left_of c.args.self.now file) (left_of c.fixed.new.self file) (c.in-Ok.ensures.read file has (lit≤ tt)) ended
 
 pub returns-in-Err-clause-calls : goal.returns-in-Err-clause-calls

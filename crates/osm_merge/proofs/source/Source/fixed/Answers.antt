@@ -14,7 +14,7 @@ pub returns-in_default-clause-read : goal.returns-in_default-clause-read
 returns-in_default-clause-read g c = λ file has few.
     let same = fixed_same c.args.text.now c.next.new.self.unread (left_of c.args.self.now file) (take c.in-Ok.count c.next.new.self.unread)
     (drop (c.in-Ok.count + 1) c.next.new.self.unread) (left_of (past (c.in-Ok.count + 1) c.next.new.self) file) c.in-Ok.ensures.line.cut
-        (c.in-Ok.ensures.found file has) in
+    (c.in-Ok.ensures.found file has) in
     let none : fixed_at c.args.text.now c.next.new.self.unread ≡ None =
     rw c.unread.ensures at (fails_none c.in_default.field-0 (fixed_at c.args.text.now c.unread.result.now) (c.in_default.ensures)) in
     same ∙ ap (λ (o : Option (List ℕ)). then_rest o (left_of (past (c.in-Ok.count + 1) c.next.new.self) file)) none
@@ -23,7 +23,7 @@ pub returns-clause-read : goal.returns-clause-read
 returns-clause-read g c = λ file has few.
     let same = fixed_same c.args.text.now c.next.new.self.unread (left_of c.args.self.now file) (take c.in-Ok.count c.next.new.self.unread)
     (drop (c.in-Ok.count + 1) c.next.new.self.unread) (left_of (past (c.in-Ok.count + 1) c.next.new.self) file) c.in-Ok.ensures.line.cut
-        (c.in-Ok.ensures.found file has) in
+    (c.in-Ok.ensures.found file has) in
     let some : fixed_at c.args.text.now c.next.new.self.unread ≡ Some c.in-Ok-fixed_line._rest.now =
     rw c.unread.ensures at c.in-Ok-fixed_line.ensures in
     rw c.pass.ensures (same ∙ ap (λ (o : Option (List ℕ)). then_rest o (left_of (past (c.in-Ok.count + 1) c.next.new.self) file)) some)

@@ -9,7 +9,7 @@ pub returns-clause-number : goal.returns-clause-number
 returns-clause-number c =
     let key : c.extend_from_slice.new.self.items ≡ c.args.text.now = search rules in
     let kept : c.or_insert-kept.result.now ≡ unwrap_or (place_in c.args.self.now.numbers.entries c.extend_from_slice.new.self.items) c.args.number =
-        search rules in
+    search rules in
     number_kept (place_in c.args.self.now.numbers.entries c.args.text.now) c.args.last c.args.number c.or_insert-kept.result.now _
     (kept ∙ ap (λ (k : List ℕ). unwrap_or (place_in c.args.self.now.numbers.entries k) c.args.number) key) (search rules)
 

@@ -5,6 +5,8 @@ use Rattle.osm_operations.proofs.world.World.follow_spoiled_killed.Goals as goal
 pub returns-clause-step : goal.returns-clause-step
 returns-clause-step c =
     rw c.progress_reply.ensures (spoiled_to c.args.filter.now c.args.dir.now c.args.save.now c.args.number c.args.suffix c.follow_spoiled_killed-answer.result
-    c.args.self.now (record c.args.self.now { store =
-        c.follow_spoiled_killed-answer.new.store }) c.is_number.result c.is_number.ensures c.if-not-is_number.false
+    c.args.self.now (record c.args.self.now {
+      store =
+          c.follow_spoiled_killed-answer.new.store;
+    }) c.is_number.result c.is_number.ensures c.if-not-is_number.false
     c.follow_spoiled_killed-answer.ensures.answer refl refl)
