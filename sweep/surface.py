@@ -4,7 +4,7 @@ import re
 
 # The libraries, lowest first.
 LIBRARIES = ("osm_model osm_reading osm_opl osm_o5c osm_state osm_holding osm_mirror osm_save osm_follow osm_world "
-             "osm_show osm_repl").split()
+             "osm_show osm_script osm_repl").split()
 MODULE = re.compile(r"^pub mod (\w+);", re.MULTILINE)
 BLOCK = re.compile(r"impl(?:<.*?>)? (?:(\w+)(?:<[^>]*>)? for )?(\w+)")
 FUNCTION = re.compile(r"( *)(pub )?(?:const |unsafe )*fn (\w+)")

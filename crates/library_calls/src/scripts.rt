@@ -3,9 +3,9 @@
 use crate::answers::Answers;
 use crate::subject::Subject;
 use osm_model::memory::WantOfMemory;
-use osm_repl::replay::replay_run;
-use osm_repl::replies::write_replies;
-use osm_repl::script::parse_script;
+use osm_script::replay::replay_run;
+use osm_script::replies::write_replies;
+use osm_script::script::parse_script;
 use osm_world::event::Reply;
 use osm_world::world::World;
 use std::alloc::Global;

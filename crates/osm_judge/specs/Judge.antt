@@ -4,8 +4,8 @@ use Rattle.osm_model.specs.Filter.{FilterValue}
 use Rattle.osm_world.specs.History.{history_of}
 use Rattle.osm_world.specs.Legal.{IsLegal}
 use Rattle.osm_judge.specs.Breaks.{AreBreaksNeeded}
-use Rattle.osm_repl.specs.Replies.{replies_text}
-use Rattle.osm_repl.specs.Script.{ScriptOf}
+use Rattle.osm_script.specs.Replies.{replies_text}
+use Rattle.osm_script.specs.Script.{ScriptOf}
 use Rattle.osm_world.specs.declared.event.Event.{Event}
 use Rattle.osm_world.specs.declared.event.Reply.{Reply}
 

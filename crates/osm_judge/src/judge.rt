@@ -13,8 +13,8 @@ use crate::reading::{NotAReply, read_reply};
 use osm_folder::fault::RunFault;
 use osm_model::filter::Filter;
 use osm_model::memory::WantOfMemory;
-use osm_repl::replies::write_replies;
-use osm_repl::script::parse_script;
+use osm_script::replies::write_replies;
+use osm_script::script::parse_script;
 use osm_world::event::{Event, Reply};
 use std::alloc::Global;
 

@@ -33,7 +33,7 @@ use Rattle.osm_folder.specs.declared.progress.Progress.{Progress}
 use Rattle.osm_folder.specs.declared.progress.Progress.TheVariants.{Whole, Before}
 use Rattle.osm_round.specs.Over.{FollowRefuses}
 use Rattle.osm_round.specs.Rounds.{IsFollowed, IsFollowedBefore, RoundStops}
-use Rattle.osm_repl.specs.Replay.{ReplayFault, ReplayLeaves, Replays}
+use Rattle.osm_script.specs.Replay.{ReplayFault, ReplayLeaves, Replays}
 use Rattle.osm_repl.specs.declared.orders.Order.{Order}
 use Rattle.osm_repl.specs.declared.orders.Order.TheVariants.{Replay, Publish, Follow, Lag, Show}
 use Rattle.osm_repl.specs.declared.orders.Order.TheVariants.{Audit, Begin, Convert, Export}

@@ -1,7 +1,4 @@
-pub mod Script
-pub mod Replies
 pub mod Locks
-pub mod Replay
 pub mod Checks
 pub mod CommandLine
 pub mod Ending

@@ -13,13 +13,11 @@ ghost use Rattle.osm_repl.specs.Execution.{HasFollowed, IsFollow, IsOtherRun, Is
 ghost use Rattle.osm_repl.specs.Execution.{IsReplayed, IsReportOf, IsUntouched};
 ghost use Rattle.osm_repl.specs.Execution.{IsFaultLine, Leaves, RunStops, StopsOver, TellsFault};
 ghost use Rattle.osm_repl.specs.Execution.{calls_of, layout_of};
-ghost use Rattle.osm_repl.specs.Steps.Replaying.{WritingFault};
+ghost use Rattle.osm_script.specs.Writing.{WritingFault};
 
 use crate::auditing::audit_and_print;
 use crate::order_fault::OrderFault;
 use crate::orders::Order;
-use crate::replay::replay_run;
-use crate::writing::write_text;
 use osm_folder::begin::begin_run;
 use osm_folder::convert::convert_run;
 use osm_folder::export::export_run;
@@ -32,6 +30,8 @@ use osm_folder::publish_as::publish_as_run;
 use osm_folder::report::{Report, fault_report};
 use osm_folder::show::show_run;
 use osm_round::round::follow_round;
+use osm_script::replay::replay_run;
+use osm_script::writing::write_text;
 use osm_store::store::Store;
 use std::alloc::Global;
 use std::io::{Read, Write};

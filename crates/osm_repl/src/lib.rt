@@ -1,7 +1,6 @@
-//! Scripts of events, their replays and reply texts, the command line, and what it asks for.
+//! The command line, what it asks for, and how a run ends.
 #![tactic(auto)]
 
-mod asks;
 mod auditing;
 pub mod causes;
 pub mod checks;
@@ -16,7 +15,3 @@ mod numbers;
 pub mod order_fault;
 pub mod orders;
 pub mod refusal;
-pub mod replay;
-pub mod replies;
-pub mod script;
-mod writing;

@@ -1,7 +1,7 @@
 //! Tests of replays: readers and writers that fail, and the flush at the end.
 
 use osm_folder::fault::{FileName, RunFault};
-use osm_repl::replay::replay_run;
+use osm_script::replay::replay_run;
 use std::alloc::Global;
 use std::io::{self, Read, Write};
 

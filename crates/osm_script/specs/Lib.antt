@@ -1,0 +1,5 @@
+pub mod Script
+pub mod Replies
+pub mod Writing
+pub mod Replay
+pub mod Steps

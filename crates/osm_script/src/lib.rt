@@ -1,0 +1,8 @@
+//! Scripts of events, their replays and reply texts.
+#![tactic(auto)]
+
+mod asks;
+pub mod replay;
+pub mod replies;
+pub mod script;
+pub mod writing;
