@@ -15,4 +15,5 @@ pub mod Publication
 pub mod Reports
 pub mod Runs
 pub mod Showing
+pub mod Writing
 pub mod Steps

@@ -23,3 +23,4 @@ pub mod publish_as;
 pub mod report;
 pub mod show;
 pub mod top;
+pub mod writing;

@@ -13,7 +13,7 @@ ghost use Rattle.osm_repl.specs.Execution.{HasFollowed, IsFollow, IsOtherRun, Is
 ghost use Rattle.osm_repl.specs.Execution.{IsReplayed, IsReportOf, IsUntouched};
 ghost use Rattle.osm_repl.specs.Execution.{IsFaultLine, Leaves, RunStops, StopsOver, TellsFault};
 ghost use Rattle.osm_repl.specs.Execution.{calls_of, layout_of};
-ghost use Rattle.osm_script.specs.Writing.{WritingFault};
+ghost use Rattle.osm_folder.specs.Writing.{WritingFault};
 
 use crate::auditing::audit_and_print;
 use crate::order_fault::OrderFault;
@@ -29,9 +29,9 @@ use osm_folder::publish::publish_run;
 use osm_folder::publish_as::publish_as_run;
 use osm_folder::report::{Report, fault_report};
 use osm_folder::show::show_run;
+use osm_folder::writing::write_text;
 use osm_round::round::follow_round;
 use osm_script::replay::replay_run;
-use osm_script::writing::write_text;
 use osm_store::store::Store;
 use std::alloc::Global;
 use std::io::{Read, Write};

@@ -5,4 +5,3 @@ mod asks;
 pub mod replay;
 pub mod replies;
 pub mod script;
-pub mod writing;

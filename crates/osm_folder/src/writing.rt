@@ -2,9 +2,9 @@
 
 ghost use Rattle.std.specs.Prelude.{OnOk, IfErr};
 ghost use Rattle.std.specs.Io.KnownBytes.{Appends};
-ghost use Rattle.osm_script.specs.Writing.{WritingFault};
+ghost use Rattle.osm_folder.specs.Writing.{WritingFault};
 
-use osm_folder::fault::{FileName, RunFault};
+use crate::fault::{FileName, RunFault};
 use std::io::Write;
 
 /// Writes the whole text, and flushes it. On a fault a prefix of it was written.
