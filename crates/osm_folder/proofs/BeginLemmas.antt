@@ -25,10 +25,8 @@ use Rattle.osm_state.proofs.StateLemmas.{one_state}
 use Rattle.osm_state.specs.State.{StateValue}
 use Rattle.osm_follow.proofs.BeginLemmas.{everything_left, keeps_all, kept_at}
 use Rattle.osm_follow.proofs.PublishedLemmas.{time_next}
-use Rattle.osm_follow.specs.Begin.{begun_of, kept_objects}
-use Rattle.osm_follow.specs.Follower.{FollowerValue}
+use Rattle.osm_follow.specs.Begin.{kept_objects}
 use Rattle.osm_follow.specs.Published.{PublishedValue, changes_after, changes_up_to, sequence_at}
-use Rattle.osm_follow.specs.Restart.{saved_of}
 use Rattle.osm_folder.specs.Beginning.{BeginStops, HasBegun, HasStart, IsBase, IsBaseOf, IsBeginning, IsBegunFrom, IsStart, begun_save, handed_on}
 use Rattle.osm_folder.specs.DataForms.{HasDataEnd, data_end_of, data_text_of, spells_data}
 use Rattle.osm_folder.specs.Exporting.{HasDataForm, IsExportOf, IsExported}
@@ -37,7 +35,6 @@ use Rattle.osm_folder.specs.Folder.{IsStateFile, IsThere}
 use Rattle.osm_folder.specs.Following.{IsInStep, IsSaveOf, IsSaved, max_save}
 use Rattle.osm_folder.specs.Reports.{ReportValue, begin_report_of}
 use Rattle.osm_folder.specs.Steps.Beginning.{BaseStops, BegunStops, IsBaseRead, StartStops}
-use Rattle.osm_folder.specs.Steps.Following.{MadeStops}
 use Rattle.osm_folder.specs.Steps.Reading.{PutStops}
 use Rattle.osm_folder.specs.declared.data_form.DataForm.{DataForm}
 use Rattle.osm_folder.specs.declared.data_form.DataForm.TheVariants.{Opl, O5m}
@@ -300,18 +297,6 @@ beginning_of given base state text files form s objects end start read spelled =
   };
   spelled = spelled;
 }
-
--- a follower that begins with objects saves those that its filter keeps
-pub saves_begun : (given : FilterValue) (f : FollowerValue) (s : StateValue) (objects : List ChangeValue) → f ≡ begun_of given s objects
-    → saved_of f ≡ begun_save given s objects
-saves_begun given f s objects is = ap saved_of is
-
-pub made_begun : (given : FilterValue) (f : FollowerValue) (s : StateValue) (objects : List ChangeValue) → f ≡ begun_of given s objects
-    → (fault : RunFault) → MadeStops f fault → BegunStops given s objects fault
-made_begun given f s objects is WantOfMemory h = tt
-made_begun given f s objects is (TooLarge file) h =
-    rw h.0 (h.1.text, subst (SpellsSave h.1.text) (saves_begun given f s objects is) h.1.spelled, h.1.over)
-made_begun given f s objects is fault h = absurd h
 
 pub text_stops : (given : FilterValue) (known : Type 0) (base state : List ℕ) (files : Files) (form : DataForm) (s : StateValue) (objects : List ChangeValue)
     → HasDataEnd base form → (known → IsStart (files state) s) → (known → IsBaseRead form (files base) objects) → (fault : RunFault)

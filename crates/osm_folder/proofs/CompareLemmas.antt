@@ -1,17 +1,14 @@
 -- Comparing changes and files of changes.
 use Rattle.std.proofs.Common.{◌≡◌, ℕ, zero, suc, ◌<◌, List, [], ◌∷◌, length, take, drop, get_or, Option, Some, None, arith, ap, subst}
-use Rattle.std.proofs.lemmas.Option.{same_Some}
-use Rattle.osm_model.specs.Limits.{max_file}
 use Rattle.osm_follow.specs.Published.{PublishedValue}
 use Rattle.osm_o5c.proofs.FrontLemmas as o5c_file
 use Rattle.osm_opl.proofs.FileLaws as opl_file
 use Rattle.osm_state.specs.declared.paths.Suffix.TheVariants.{O5c, Opl}
-use Rattle.osm_store.specs.Files.{Files, IsOver}
+use Rattle.osm_store.specs.Files.{Files}
 use Rattle.osm_folder.specs.Folder.{IsAbsentOr, IsFile}
 use Rattle.osm_folder.specs.Forms.{spells_of}
 use Rattle.osm_folder.specs.Names.{file_name_of}
-use Rattle.osm_folder.specs.Steps.Numbering.{BytesDiffer, CheckStops, FileDiffers, HoldsChanges, OverDiffers}
-use Rattle.osm_folder.specs.declared.fault.FileName.{FileName}
+use Rattle.osm_folder.specs.Steps.Numbering.{CheckStops, FileDiffers, HoldsChanges}
 use Rattle.osm_folder.specs.declared.fault.FileName.TheVariants.{Sequence}
 use Rattle.osm_folder.specs.declared.fault.RunFault.{RunFault}
 use Rattle.osm_folder.specs.declared.fault.RunFault.TheVariants.{WantOfMemory, ReadFault, Differs}
@@ -58,32 +55,6 @@ opl_stops known dir files p WantOfMemory h = tt
 opl_stops known dir files p (ReadFault file) h = (Opl, h)
 opl_stops known dir files p (Differs k) h = (h.0, λ yes are. h.1 yes (opl_of (files (file_name_of dir p.number Opl)) p are.opl))
 opl_stops known dir files p fault h = absurd h
-
--- a file over its limit holds no changes
-pub over_holds : (form : Form) (changes : List ChangeValue) (told : Option (List ℕ)) → IsOver max_file told → IsAbsentOr told (HoldsChanges form changes) → ⊥
-over_holds form changes None o h = (let e = o.there in cc)
-over_holds form changes (Some bytes) o h =
-    let long = ap length (same_Some bytes o.bytes o.there) in
-    let over = o.over in
-    let small = h.0 in
-    omega (arith, long, over, small)
-
-pub over_stops : (known : Type 0) (file : FileName) (number : ℕ) (form : Form) (changes : List ChangeValue)
-    (told : Option (List ℕ)) (fault : RunFault) → OverDiffers known file number max_file told fault
-    → FileDiffers known file number (IsAbsentOr told (HoldsChanges form changes)) fault
-over_stops known file number form changes told WantOfMemory h = tt
-over_stops known file number form changes told (ReadFault named) h = h
-over_stops known file number form changes told (Differs k) h = (h.0, λ yes. over_holds form changes told (h.1 yes))
-over_stops known file number form changes told fault h = absurd h
-
-pub bytes_stop : (known : Type 0) (file : FileName) (number : ℕ) (form : Form) (changes : List ChangeValue)
-    (told : Option (List ℕ)) (bytes : List ℕ) (fault : RunFault) → (known → told ≡ Some bytes)
-    → BytesDiffer number (HoldsChanges form changes bytes) fault
-    → FileDiffers known file number (IsAbsentOr told (HoldsChanges form changes)) fault
-bytes_stop known file number form changes told bytes WantOfMemory there h = tt
-bytes_stop known file number form changes told bytes (Differs k) there h =
-    (h.0, λ yes held. h.1 (subst (λ o. IsAbsentOr o (HoldsChanges form changes)) (there yes) held))
-bytes_stop known file number form changes told bytes fault there h = absurd h
 
 -- ---- lists
 

@@ -26,11 +26,11 @@ use Rattle.osm_store.specs.Files.{Files, Puts}
 use Rattle.osm_folder.specs.Folder.{IsAbsentOr, IsFile, IsFolderOf, IsThere, IsTop}
 use Rattle.osm_folder.specs.Following.{is_lost}
 use Rattle.osm_folder.specs.Names.{file_name_of, top_name_of}
-use Rattle.osm_folder.specs.Numbered.{AreWords, IsAddedAs, IsAsked, IsAskedWith, IsPublishedIn, IsRepeatOf, IsRepeated}
+use Rattle.osm_folder.specs.Numbered.{IsAddedAs, IsAsked, IsAskedWith, IsPublishedIn, IsRepeatOf, IsRepeated}
 use Rattle.osm_folder.specs.Numbered.{IsToWrite, NotNumbered, NumberedRefuses, PutsSequence}
 use Rattle.osm_folder.specs.Publication.{CutsOff, GoesOnFrom, Writes, writes_of}
 use Rattle.osm_folder.specs.Reports.{ReportValue, publish_report_of}
-use Rattle.osm_folder.specs.Steps.Numbering.{AreReadWords, PrepareStops}
+use Rattle.osm_folder.specs.Steps.Numbering.{PrepareStops}
 use Rattle.osm_folder.specs.Steps.Publishing.{AreNames, IsMadeOf, writes_to}
 use Rattle.osm_folder.specs.declared.publish.FolderNames.{FolderNames}
 use Rattle.osm_folder.specs.declared.publish.Publication.{Publication}
@@ -38,7 +38,6 @@ use Rattle.osm_folder.specs.declared.fault.RunFault.{RunFault}
 use Rattle.osm_folder.specs.declared.fault.RunFault.TheVariants.{WantOfMemory, ReadFault, WriteFault, TooLarge, Absent}
 use Rattle.osm_folder.specs.declared.fault.RunFault.TheVariants.{BadState, BadChange, TimeBack, BadNow, BadSequence}
 use Rattle.osm_folder.specs.declared.fault.RunFault.TheVariants.{Differs, TopAt}
-use Rattle.osm_folder.specs.declared.publish_as.Asked.{Asked}
 use Rattle.osm_folder.proofs.FolderLemmas.{IsWritten, all_add, goes_on_number, some_keep, written_state}
 use Rattle.osm_folder.proofs.InStepLemmas.{same_time}
 use Rattle.osm_folder.proofs.NameLemmas.{one_file, top_is_no_file}
@@ -280,9 +279,6 @@ numbered_adds ps dir changes now sequence f g top time x report asked most (inr 
     }
 
 -- ---- refusals
-
-pub words_are : (now sequence : List ℕ) (a : Asked) → AreReadWords now sequence a → AreWords now sequence
-words_are now sequence a w = record { has_time = (a.time, w.now_is); number = a.number; number_is = w.number_is }
 
 with_asked : (dir changes now sequence : List ℕ) (files : Files) (top time : ℕ) (p : PublishedValue) (holds : ℕ → ℕ
     → PublishedValue → Type 0) → IsAsked dir changes now sequence files top time p → holds top time p

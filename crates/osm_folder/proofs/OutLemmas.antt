@@ -1,24 +1,21 @@
 -- The call at which a store stopped: how many were left tells which file.
-use Rattle.std.proofs.Common.{◌≡◌, ◌==◌, ℕ, ◌+◌, ◌<◌, ◌≤◌, List, Option, None, Some, inl, inr, Bool, true, false, arith, ap, refl, subst, sym, ◌∙◌}
+use Rattle.std.proofs.Common.{◌≡◌, ◌==◌, ℕ, ◌+◌, ◌≤◌, List, Option, None, Some, inl, inr, Bool, true, false, arith, ap, refl, subst, sym, ◌∙◌}
 use Rattle.std.specs.Prelude.{◌⊎◌, if◌then◌else◌}
 use Rattle.std.proofs.lemmas.Bool.Decides.{nat_tests}
 use Rattle.std.proofs.lemmas.Option.{same_Some}
 use Rattle.osm_reading.specs.Sequence.{SpellsSequence}
 use Rattle.osm_store.specs.Files.{Files, Spends, SpendsAtMost}
 use Rattle.osm_folder.specs.Names.{top_name_of}
-use Rattle.osm_folder.specs.Numbered.{NumberedOut, SpendsExactly, calls_before, file_read_after, numbered_calls}
-use Rattle.osm_folder.specs.Publication.{GoesOnFrom, PublishOut, file_after}
+use Rattle.osm_folder.specs.Numbered.{NumberedOut, SpendsExactly, calls_before, numbered_calls}
+use Rattle.osm_folder.specs.Publication.{GoesOnFrom, PublishOut}
 use Rattle.osm_folder.specs.Runs.{IsDeviceFault, LacksCalls}
-use Rattle.osm_folder.specs.Steps.Numbering.{CheckOut, check_calls}
-use Rattle.osm_folder.specs.Steps.Numbering.{FileDiffers}
-use Rattle.osm_folder.specs.Steps.Publishing.{ChangesStop, CloseStops, ReadsOut, TopStops, WritesOut}
-use Rattle.osm_folder.specs.Steps.Reading.{PutStops}
+use Rattle.osm_folder.specs.Steps.Numbering.{check_calls}
+use Rattle.osm_folder.specs.Steps.Publishing.{CloseStops, WritesOut}
 use Rattle.osm_follow.specs.Publisher.{PublisherValue}
-use Rattle.osm_folder.specs.declared.fault.FileName.{FileName}
 use Rattle.osm_folder.specs.declared.fault.RunFault.{RunFault}
-use Rattle.osm_folder.specs.declared.fault.RunFault.TheVariants.{WantOfMemory, ReadFault, WriteFault}
-use Rattle.osm_store.proofs.FileLemmas.{spends_both, spends_none}
-use Rattle.osm_store.proofs.FrameLemmas.{most_both, most_none}
+use Rattle.osm_folder.specs.declared.fault.RunFault.TheVariants.{ReadFault, WriteFault}
+use Rattle.osm_store.proofs.FileLemmas.{spends_both}
+use Rattle.osm_store.proofs.FrameLemmas.{most_both}
 
 -- how many calls were left before so many
 pub left_before : (calls count : ℕ) (a b : Option ℕ) → Spends calls a b → SpendsAtMost calls a b → b ≡ Some count → a ≡ Some (calls + count)
@@ -28,66 +25,14 @@ left_before calls count (Some n) b (m, is, few) (k, at, more) e =
     let also : k ≡ count = same_Some k count (sym at ∙ e) in
     ap (λ (x : ℕ). Some x) (omega (arith, same, also, few, more))
 
--- no call was left for one read or write
-pub none_left_read : (a : Option ℕ) (file : FileName) → LacksCalls 1 a (ReadFault file) → a ≡ Some 0
-none_left_read None file h = absurd (h tt)
-none_left_read (Some n) file h = ap (λ (x : ℕ). Some x) (let few : n < 1 = h tt in omega (arith, few))
-
-pub none_left_write : (a : Option ℕ) (file : FileName) → LacksCalls 1 a (WriteFault file) → a ≡ Some 0
-none_left_write None file h = absurd (h tt)
-none_left_write (Some n) file h = ap (λ (x : ℕ). Some x) (let few : n < 1 = h tt in omega (arith, few))
-
 -- ---- one call after so many
-
-pub write_out : (number count : ℕ) (a b : Option ℕ) (fault : RunFault) → count < 4 → Spends count a b
-    → SpendsAtMost count a b → PutStops (file_after number count) fault → LacksCalls 1 b fault
-    → WritesOut number a fault
-write_out number count a b WantOfMemory few least most stops lacks = tt
-write_out number count a b (WriteFault file) few least most stops lacks =
-    (count, few, left_before count 0 a b least most (none_left_write b file lacks) ∙ ap (λ (x : ℕ). Some x) (omega arith), stops)
-write_out number count a b fault few least most stops lacks = absurd stops
-
-pub top_out : (known : Type 0) (told : Option (List ℕ)) (a : Option ℕ) (fault : RunFault) → TopStops known told fault → LacksCalls 1 a fault → ReadsOut a fault
-top_out known told a (ReadFault file) stops lacks = inl (none_left_read a file lacks, stops)
-top_out known told a (WriteFault file) stops lacks = stops
-top_out known told a fault stops lacks = tt
-
-pub changes_out : (known : Type 0) (told : Option (List ℕ)) (a b : Option ℕ) (fault : RunFault) → Spends 1 a b
-    → SpendsAtMost 1 a b → ChangesStop known told fault → LacksCalls 1 b fault → ReadsOut a fault
-changes_out known told a b (ReadFault file) least most stops lacks = inr (left_before 1 0 a b least most (none_left_read b file lacks), stops)
-changes_out known told a b (WriteFault file) least most stops lacks = stops
-changes_out known told a b fault least most stops lacks = tt
-
-pub close_reads_out : (p : PublisherValue) (time : ℕ) (a : Option ℕ) (fault : RunFault) → CloseStops p time fault → ReadsOut a fault
-close_reads_out p time a (ReadFault file) stops = absurd stops
-close_reads_out p time a (WriteFault file) stops = stops
-close_reads_out p time a fault stops = tt
 
 pub close_without_device : (p : PublisherValue) (time : ℕ) (fault : RunFault) → CloseStops p time fault → IsDeviceFault fault → ⊥
 close_without_device p time (ReadFault file) stops blame = absurd stops
 close_without_device p time (WriteFault file) stops blame = absurd stops
 close_without_device p time fault stops blame = blame
 
-pub check_out : (known : Type 0) (number count : ℕ) (file : FileName) (holds : Type 0) (a b : Option ℕ)
-    (fault : RunFault) → count < 3 → file ≡ file_read_after number (2 + count) → Spends count a b
-    → SpendsAtMost count a b → FileDiffers known file number holds fault → LacksCalls 1 b fault
-    → CheckOut number a fault
-check_out known number count file holds a b (ReadFault named) few is least most stops lacks =
-    (count, few, left_before count 0 a b least most (none_left_read b named lacks) ∙ ap (λ (x : ℕ). Some x) (omega arith), stops ∙ is)
-check_out known number count file holds a b (WriteFault named) few is least most stops lacks = stops
-check_out known number count file holds a b fault few is least most stops lacks = tt
-
-pub close_check_out : (p : PublisherValue) (time number : ℕ) (a : Option ℕ) (fault : RunFault) → CloseStops p time fault → CheckOut number a fault
-close_check_out p time number a (ReadFault file) stops = absurd stops
-close_check_out p time number a (WriteFault file) stops = stops
-close_check_out p time number a fault stops = tt
-
 -- ---- a whole publication
-
-pub reads_publish_out : (dir : List ℕ) (files : Files) (a : Option ℕ) (fault : RunFault) → ReadsOut a fault → PublishOut dir files a fault
-reads_publish_out dir files a (ReadFault file) out = out
-reads_publish_out dir files a (WriteFault file) out = absurd out
-reads_publish_out dir files a fault out = tt
 
 pub writes_publish_out : (dir : List ℕ) (files : Files) (top time : ℕ) (a b : Option ℕ) (fault : RunFault)
     → GoesOnFrom (files (top_name_of dir)) top time → Spends 2 a b → SpendsAtMost 2 a b → WritesOut (top + 1) b fault
@@ -96,21 +41,6 @@ writes_publish_out dir files top time a b (ReadFault file) goes_on least most ou
 writes_publish_out dir files top time a b (WriteFault file) goes_on least most (count, few, left, is) =
     (top, time, count, goes_on, few, left_before 2 count a b least most left, is)
 writes_publish_out dir files top time a b fault goes_on least most out = tt
-
-pub reads_numbered_out : (dir sequence : List ℕ) (files : Files) (number : ℕ) (a : Option ℕ) (fault : RunFault)
-    → SpellsSequence sequence number → ReadsOut a fault → NumberedOut dir sequence files a fault
-reads_numbered_out dir sequence files number a (ReadFault file) spelled (inl out) = (number, 0, spelled, omega arith, out.0, out.1)
-reads_numbered_out dir sequence files number a (ReadFault file) spelled (inr out) = (number, 1, spelled, omega arith, out.0, out.1)
-reads_numbered_out dir sequence files number a (WriteFault file) spelled out = absurd out
-reads_numbered_out dir sequence files number a fault spelled out = tt
-
-pub check_numbered_out : (dir sequence : List ℕ) (files : Files) (number : ℕ) (a b : Option ℕ) (fault : RunFault)
-    → SpellsSequence sequence number → Spends 2 a b → SpendsAtMost 2 a b → CheckOut number b fault
-    → NumberedOut dir sequence files a fault
-check_numbered_out dir sequence files number a b (ReadFault file) spelled least most (count, few, left, is) =
-    (number, 2 + count, spelled, omega arith, left_before 2 count a b least most left, is)
-check_numbered_out dir sequence files number a b (WriteFault file) spelled least most out = absurd out
-check_numbered_out dir sequence files number a b fault spelled least most out = tt
 
 calls_before_is : (number top : ℕ) → 2 + check_calls number top ≡ calls_before number top
 calls_before_is number top = by_case (number == top + 1)
@@ -145,13 +75,6 @@ before_most number top = by_case (number == top + 1)
     by_case true = omega arith
     by_case false = omega arith
 
-pub before_least : (number top : ℕ) → 2 ≤ calls_before number top
-before_least number top = by_case (number == top + 1)
-  where
-    by_case : (next : Bool) → 2 ≤ (if next then 2 else 5)
-    by_case true = omega arith
-    by_case false = omega arith
-
 -- at most eight calls come before the one that fails
 pub out_lacks : (dir sequence : List ℕ) (files : Files) (a : Option ℕ) (fault : RunFault) → NumberedOut dir sequence files a fault → LacksCalls 9 a fault
 out_lacks dir sequence files a (ReadFault file) (number, count, spelled, few, left, is) = λ blame. rw left (omega arith)
@@ -173,24 +96,3 @@ writing_calls number top a b c (inr newest) x y =
     let before : calls_before number top ≡ 5 = rw t refl in
     let all : numbered_calls number top ≡ 9 = rw (t, u) refl in
     rw all (spends_sum 5 4 a b c (rw before at x) y)
-
-pub reading_calls : (number top : ℕ) (a b : Option ℕ) → number < top → SpendsExactly (calls_before number top) a b
-    → SpendsExactly (numbered_calls number top) a b
-reading_calls number top a b below x =
-    let t : (number == top + 1) ≡ false = grind (arith, nat_tests) in
-    let u : (number == top) ≡ false = grind (arith, nat_tests) in
-    let before : calls_before number top ≡ 5 = rw t refl in
-    let all : numbered_calls number top ≡ 5 = rw (t, u) refl in
-    rw all (rw before at x)
-
-pub check_new : (number top : ℕ) (a : Option ℕ) → number ≡ top + 1 → SpendsExactly (check_calls number top) a a
-check_new number top a next =
-    let t : (number == top + 1) ≡ true = grind (arith, nat_tests) in
-    let calls : check_calls number top ≡ 0 = rw t refl in
-    rw calls (spends_none a, most_none 0 a)
-
-pub check_old : (number top : ℕ) (a b : Option ℕ) → number ≤ top → Spends 3 a b → SpendsAtMost 3 a b → SpendsExactly (check_calls number top) a b
-check_old number top a b until least most =
-    let t : (number == top + 1) ≡ false = grind (arith, nat_tests) in
-    let calls : check_calls number top ≡ 3 = rw t refl in
-    rw calls (least, most)

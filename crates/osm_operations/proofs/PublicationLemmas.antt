@@ -95,11 +95,6 @@ allowed_at : (given : FilterValue) (extract : List ℕ) (later : hist.History) (
 allowed_at given extract [] q before all = all.0
 allowed_at given extract (x ∷ later) q before all = allowed_at given extract later q before all.1
 
-allowed_before : (given : FilterValue) (extract : List ℕ) (later before : hist.History)
-    → AreAllowed given extract (later ++ before) → AreAllowed given extract before
-allowed_before given extract [] before all = all
-allowed_before given extract (x ∷ later) before all = allowed_before given extract later before all.1
-
 pub answered : (given : FilterValue) (extract : List ℕ) (h later : hist.History) (q : hist.Pair) (before : hist.History) (p : PublishedValue)
     → AreAllowed given extract h
     → Answers h later q before p → IsAnswered h p

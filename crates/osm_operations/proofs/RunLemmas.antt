@@ -15,7 +15,7 @@ use Rattle.osm_store.specs.Files.{Files, Spends}
 use Rattle.osm_folder.specs.Folder.{IsApart, IsFolderOf}
 use Rattle.osm_folder.specs.Following.{IsSaveOf, plainly}
 use Rattle.osm_store.specs.Frames.{IsKnown, StoreState}
-use Rattle.osm_folder.specs.Progress.{IsOfContent, IsProgressReport, IsWhole}
+use Rattle.osm_folder.specs.Progress.{IsWhole}
 use Rattle.osm_round.specs.Over.{FollowRefuses, FollowsOver, follow_calls}
 use Rattle.osm_round.specs.Rounds.{IsFollowed, IsProgress}
 use Rattle.osm_folder.specs.Runs.{LacksCalls, Replaces}
@@ -35,7 +35,6 @@ use Rattle.osm_operations.specs.Steps.Stepping.{PublishAsTo, PublishStep, Return
 use Rattle.osm_operations.specs.Steps.Stepping.{stopped_reply}
 use Rattle.osm_operations.specs.declared.operation.Reply.{Reply}
 use Rattle.osm_operations.specs.declared.world.World.{World}
-use Rattle.osm_folder.specs.declared.options.Layout.TheVariants.{Lines}
 
 -- what the contract of a run says of its answer
 pub record Answers (left : Option ℕ) (dir changes now : List ℕ) (middle new : Files)
@@ -229,24 +228,6 @@ pub lacks_at : (p : List PublishedValue) (n : ℕ) (save : List ℕ) (f g : File
 lacks_at p n save f g calls left fault same is lacks =
     subst (λ k. LacksCalls (follow_calls p n (g save)) (Some k) fault) is
     (subst (λ (h : Files). LacksCalls (follow_calls p n (h save)) (Some calls) fault) same lacks)
-
--- only the store is blamed for a device
-content_no_device : (fault : RunFault) (k : ℕ) → IsOfContent fault k → IsNoDevice fault
-content_no_device (ReadFault file) k c = absurd c
-content_no_device (WriteFault file) k c = absurd c
-content_no_device fault k c = tt
-
-pub progress_no_device : (w : Result Progress RunFault) (r : Result ReportValue RunFault) → IsReportOf w r
-    → IfOk w (IsProgressReport Lines) → IfErr w IsNoDevice → IfErr r IsNoDevice
-progress_no_device (Ok (Whole report)) r is ok none = rw is tt
-progress_no_device (Ok (Before report fault)) r is ok none = rw is (content_no_device fault ok.1.0 ok.1.1)
-progress_no_device (Err fault) r is ok none = rw is none
-
-pub progress_left : (P : Type 0) (w : Result Progress RunFault) (r : Result ReportValue RunFault) → IsReportOf w r
-    → OnOk w P → OnOk r P
-progress_left P (Ok (Whole report)) r is left = rw is left
-progress_left P (Ok (Before report fault)) r is left = rw is tt
-progress_left P (Err fault) r is left = rw is tt
 
 -- what the contract of an export says of its answer
 pub record ExportAnswers (save extract : List ℕ) (old new : Files) (r : Result ReportValue RunFault) : Type 0 where

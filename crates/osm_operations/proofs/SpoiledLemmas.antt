@@ -22,7 +22,7 @@ use Rattle.osm_state.specs.declared.paths.Suffix.{Suffix}
 use Rattle.osm_state.specs.declared.paths.Suffix.TheVariants.{O5c, Opl, State}
 use Rattle.osm_follow.specs.Published.{PublishedValue}
 use Rattle.osm_store.specs.Files.{Files, Puts}
-use Rattle.osm_folder.specs.Folder.{IsFile, IsThere}
+use Rattle.osm_folder.specs.Folder.{IsFile}
 use Rattle.osm_folder.specs.Following.{AddsAll, AreChanges, HasFiles, is_lost}
 use Rattle.osm_folder.specs.Names.{file_name_of}
 use Rattle.osm_folder.proofs.NameLemmas.{one_file}
@@ -106,10 +106,6 @@ lost_alike dir k j s old new is most =
 pub record Unspoiled (dir : List ℕ) (k : ℕ) (s : Suffix) (old : Files) (p : PublishedValue) : Type 0 where
   pub has : HasFiles old dir p
   pub unread : p.number ≡ k → (s ≡ Opl) × (is_none (old (file_name_of dir k O5c)) ≡ false)
-
-changes_right : (o5c opl : Option (List ℕ)) (p : PublishedValue) → AreChanges o5c opl p → is_none o5c ≡ false → IsThere o5c (IsFile O5c p)
-changes_right None opl p h there = absurd cc
-changes_right (Some bytes) opl p h there = h
 
 no_spoiled_o5c : (o5c opl : Option (List ℕ)) (p : PublishedValue) → o5c ≡ Some spoiled → AreChanges o5c opl p → ⊥
 no_spoiled_o5c o5c opl p e h = no_file O5c p (rw e at h)

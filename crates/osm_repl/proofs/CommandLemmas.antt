@@ -16,7 +16,6 @@ use Rattle.clap.specs.Walk.{subcommand_or_other, to_positional, trailing, value,
 use Rattle.clap.specs.Walk.{walked_from, word_met}
 use Rattle.clap.specs.Simple.{label_of, rows_at}
 use Rattle.clap.specs.Walk.{answers_to, finished}
-use Rattle.clap.specs.Kinds.{check_kinds}
 use Rattle.clap.specs.Faults.{check_fault, entered_fault, level_fault}
 use Rattle.clap.specs.declared.error.kind.ErrorKind.TheVariants.{DisplayHelp, InvalidSubcommand}
 use Rattle.clap.specs.Words.{subcommand_of}
@@ -25,7 +24,7 @@ use Rattle.clap.specs.Walk.{all_of, first_of, rows_after}
 use Rattle.std.specs.Option.{option_map_or}
 use Rattle.std.specs.Borrow.{Bor}
 use Rattle.clap.specs.declared.error.kind.ErrorKind.TheVariants.{InvalidValue}
-use Rattle.osm_repl.specs.CommandLine.{first_rule, flag_rule, is_raised, keys_in, keys_rule, kinds_rule, last_rule, limit_rule, osmrepl_app}
+use Rattle.osm_repl.specs.CommandLine.{first_rule, flag_rule, keys_in, keys_rule, kinds_rule, last_rule, limit_rule, osmrepl_app}
 use Rattle.osm_repl.specs.CommandLine.{sequence_rule, time_rule, word_rule}
 use Rattle.osm_repl.specs.Steps.Commands.{HasValue, HasWord, HasWords, IsCommand, IsCommandOf}
 use Rattle.osm_repl.proofs.WordLemmas.{Each, HasValueIn, IsGoodRule, IsGoodValue, MayBeEmpty, Passes, first_passes, level_passes}
@@ -165,11 +164,6 @@ found_any word rest (s ∷ subs) f h passes = go (answers_to word (label_of s)) 
         → AnyOf (Meets word rest f) (s ∷ subs)
     go true e later h passes = inl (sym (same_Some _ f h), e, passes)
     go false e later h passes = inr (later h passes)
-
-needs_command : (x r y : Bool) → check_kinds x r y ≡ [] → r ≡ false
-needs_command true r y h = absurd cc
-needs_command false true y h = absurd cc
-needs_command false false y h = refl
 
 -- what the last checks of the program's command pass, if a command was named
 is_named : (rows : List Row) (has : Bool) → check_fault (built osmrepl_app).top rows has ≡ [] → has ≡ true
@@ -487,13 +481,6 @@ has_no_keys found items rows is none empty =
     let no_row : None ≡ all_of (codes "KEY") rows =
     sym (ap (option_map (λ (s : Bor (List (Bor Text))). map (λ (v : Bor Text). v.now) s.now)) none) ∙ is in
     ap (map (λ (key : Bor Text). key.now)) empty ∙ ap (λ (o : Option (List Text)). unwrap_or o []) no_row
-
--- a flag that was given has the value `true`
-pub raised : (found : Option (Bor Text)) (name : Text) (rows : List Row)
-    → option_map (λ (s : Bor Text). s.now) found ≡ first_of name rows
-    → option_map_or (λ (s : Bor Text). bytes_eq s.now (codes "true")) found false ≡ is_raised name rows
-raised None name rows is = ap (λ (o : Option Text). option_map_or (λ v. bytes_eq v (codes "true")) o false) is
-raised (Some s) name rows is = ap (λ (o : Option Text). option_map_or (λ v. bytes_eq v (codes "true")) o false) is
 
 -- a word with a value, or without one
 pub may_have : (found : Option (Bor Text)) (name : Text) (rows : List Row)

@@ -1,6 +1,6 @@
 -- How many calls a run makes.
 use Rattle.std.proofs.Common.{Bool, true, false, ◌≡◌, ℕ, ◌<◌, ◌≤◌, List, length, Option, Some, None, inl, inr, arith, refl, sym, ap, subst, ◌∙◌}
-use Rattle.std.specs.Prelude.{◌↔◌, Result, Err, IsTrue}
+use Rattle.std.specs.Prelude.{◌↔◌, Result, IsTrue}
 use Rattle.osm_model.specs.Filter.{FilterValue}
 use Rattle.osm_save.specs.declared.head.Head.{Head}
 use Rattle.osm_save.specs.declared.save.Saved.{Saved}
@@ -10,7 +10,6 @@ use Rattle.osm_follow.specs.Published.{PublishedValue}
 use Rattle.osm_store.specs.Files.{Files}
 use Rattle.osm_store.specs.Frames.{MakesAtMost, StoreState}
 use Rattle.osm_merge.specs.Faults as merge
-use Rattle.osm_merge.specs.declared.fault.MergeFault.{MergeFault}
 use Rattle.osm_merge.specs.declared.fault.MergeFault.TheVariants as merges
 use Rattle.osm_folder.specs.Folder.{IsFolderOf, IsStateFile, IsThere}
 use Rattle.osm_folder.specs.Following.{IsSaveOf, IsSaved, NumberStops, last_number}
@@ -25,38 +24,10 @@ use Rattle.osm_folder.proofs.InStepLemmas.{last_within, top_number}
 use Rattle.osm_round.proofs.OverLemmas.{right_number}
 use Rattle.osm_round.specs.Over.{FollowRefuses}
 use Rattle.osm_round.specs.Rounds.{IsFirst, IsWhole}
-use Rattle.osm_round.specs.Starting.{IsBegun, read_fault_of, write_fault_of}
+use Rattle.osm_round.specs.Starting.{IsBegun}
 use Rattle.osm_round.specs.declared.start.Start.{Start}
 
 -- ---- faults of a save text as those of a run
-
-read_device : (fault : MergeFault) → IsDeviceFault (read_fault_of fault) → merge.IsDeviceFault fault
-read_device merges.ReadFault blame = tt
-read_device merges.WriteFault blame = tt
-read_device merges.WantOfMemory blame = blame
-read_device merges.NoSave blame = blame
-read_device (merges.BadSave line) blame = blame
-read_device merges.LongLine blame = blame
-read_device merges.TooLarge blame = blame
-read_device merges.Changed blame = blame
-
-write_device : (fault : MergeFault) → IsDeviceFault (write_fault_of fault) → merge.IsDeviceFault fault
-write_device merges.ReadFault blame = tt
-write_device merges.WriteFault blame = tt
-write_device merges.WantOfMemory blame = blame
-write_device merges.NoSave blame = blame
-write_device (merges.BadSave line) blame = blame
-write_device merges.LongLine blame = blame
-write_device merges.TooLarge blame = blame
-write_device merges.Changed blame = blame
-
-pub read_calls : {T U : Type 0} (most : ℕ) (a b : StoreState) (fault : MergeFault) → MakesAtMost {T = T} merge.IsDeviceFault most a b (Err fault)
-    → MakesAtMost {T = U} IsDeviceFault most a b (Err (read_fault_of fault))
-read_calls most a b fault m = record { spent = tt; lacks = λ sure blame. m.lacks sure (read_device fault blame) }
-
-pub write_calls : {T U : Type 0} (most : ℕ) (a b : StoreState) (fault : MergeFault) → MakesAtMost {T = T} merge.IsDeviceFault most a b (Err fault)
-    → MakesAtMost {T = U} IsDeviceFault most a b (Err (write_fault_of fault))
-write_calls most a b fault m = record { spent = tt; lacks = λ sure blame. m.lacks sure (write_device fault blame) }
 
 -- ---- a fault over the folder of published sequences
 

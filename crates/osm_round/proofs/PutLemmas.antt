@@ -18,7 +18,7 @@ use Rattle.osm_save.specs.Save.{save_text}
 use Rattle.osm_save.specs.declared.head.Head.{Head}
 use Rattle.osm_save.specs.declared.version.Version.TheVariants.{Three}
 use Rattle.osm_store.specs.Files.{Files}
-use Rattle.osm_merge.specs.Checking.{BeginsWith, CheckStops, IsHugeFile}
+use Rattle.osm_merge.specs.Checking.{BeginsWith, IsHugeFile}
 use Rattle.osm_merge.specs.Laying.{IsFew}
 use Rattle.osm_merge.specs.Merging.{HasTooMany, IsMerged, MergeStops as MergeRefused}
 use Rattle.osm_merge.specs.declared.fault.MergeFault.{MergeFault}
@@ -31,24 +31,13 @@ use Rattle.osm_folder.specs.declared.fault.RunFault.TheVariants.{Absent, BadSave
 use Rattle.osm_folder.specs.declared.fault.RunFault.TheVariants.{ReadFault, TooLarge, WantOfMemory, WriteFault}
 use Rattle.osm_round.specs.Putting.{IsMadeOf, IsSavableAlone, IsSaveText, PutsTaken, saved_after}
 use Rattle.osm_round.specs.Starting.{BeginStops, BeginsOther, IsBegun, IsBegunAt, IsTooLarge, MergeStops, PutStops, ReadStops}
-use Rattle.osm_round.specs.Starting.{read_fault_of, write_fault_of}
+use Rattle.osm_round.specs.Starting.{write_fault_of}
 use Rattle.osm_round.specs.Taking.{IsTaken}
 use Rattle.osm_round.specs.declared.start.Start.{Start}
 use Rattle.osm_round.specs.declared.taken.Taken.{Taken}
 use Rattle.osm_round.proofs.CountLemmas.{added_length, few_counts}
 
 -- ---- faults of saves
-
-pub read_stops : (known : Type 0) (told : Option (List ℕ)) (fault : MergeFault) → (known → CheckStops told fault)
-    → ReadStops known told (read_fault_of fault)
-read_stops known told merges.ReadFault h = refl
-read_stops known told merges.WriteFault h = refl
-read_stops known told merges.WantOfMemory h = tt
-read_stops known told merges.NoSave h = (refl, h)
-read_stops known told (merges.BadSave line) h = h
-read_stops known told merges.LongLine h = (refl, λ sure. inr (h sure))
-read_stops known told merges.TooLarge h = (refl, λ sure. inl (h sure))
-read_stops known told merges.Changed h = (refl, h)
 
 pub write_stops : (known : Type 0) (told : Option (List ℕ)) (n : NetValue) (fault : MergeFault) → (known → MergeRefused told n fault)
     → MergeStops known told n (write_fault_of fault)

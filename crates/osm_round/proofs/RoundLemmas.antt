@@ -29,7 +29,7 @@ use Rattle.osm_folder.proofs.InStepLemmas.{last_within}
 use Rattle.osm_round.specs.Putting.{PutsTaken, saved_after}
 use Rattle.osm_round.specs.Rounds.{BeforeStops, IsFirst, IsPrepared, IsProgress, IsReport, IsUnpublished, IsWhole, PrepareStops, UpToStops}
 use Rattle.osm_round.specs.Rounds.{HasManyObjects, RoundStops, StartStops, StopsLooking, StopsTaking, outcome_of, progress_of}
-use Rattle.osm_round.specs.Starting.{BeginStops, BeginsOther, IsBegun, IsBegunAt, IsOtherSave, IsTooLarge, PutStops, WholeStops}
+use Rattle.osm_round.specs.Starting.{BeginStops, BeginsOther, IsBegun, IsBegunAt, IsOtherSave, IsTooLarge, PutStops}
 use Rattle.osm_round.specs.Taking.{AdvancesAll, HasTaken, StopsOnTheWay, TakesUp}
 use Rattle.osm_round.specs.declared.round.Prepared.{Prepared}
 use Rattle.osm_round.specs.declared.start.Start.{Start}
@@ -149,15 +149,6 @@ reports known options dir files start p is = by_fault p.fault is.report
 
 -- ---- why it is refused
 
-pub whole_stops : (known : Type 0) (options : FollowOptions) (dir save : List ℕ) (files : Files) (fault : RunFault)
-    → WholeStops known (files save) fault → RoundStops known options dir save files fault
-whole_stops known options dir save files WantOfMemory h = inl tt
-whole_stops known options dir save files (ReadFault file) h = inl (rw h tt)
-whole_stops known options dir save files (TooLarge file) h = inl (rw h.0 (λ sure. inl (h.1 sure)))
-whole_stops known options dir save files (BadSave line) h = inl h
-whole_stops known options dir save files (Changed file) h = inl (rw h.0 h.1)
-whole_stops known options dir save files fault h = absurd h
-
 -- what a whole save saves, if a run began at it
 pub whole_saves : (given : FilterValue) (told : Option (List ℕ)) (start : Start) → IsBegun given told start → IsWhole told
     → (v : Saved) × IsSaved given told v × (head_of v ≡ start.head) × (v.filter ≡ given)
@@ -182,31 +173,6 @@ begin_stops known options dir save files (BadSave line) h whole = inl h
 begin_stops known options dir save files (Changed file) h whole = inl (rw h.0 h.1)
 begin_stops known options dir save files OtherFilter h whole = inl (λ sure. other_save options.filter (files save) (h sure) (whole sure))
 begin_stops known options dir save files fault h whole = absurd h
-
--- no check of the save comes before these
-pub begin_first : (known : Type 0) (options : FollowOptions) (dir save : List ℕ) (files : Files) (fault : RunFault)
-    → BeginStops known options.filter (files save) fault → IsFirst fault → RoundStops known options dir save files fault
-begin_first known options dir save files WantOfMemory h first = inl tt
-begin_first known options dir save files (ReadFault Save) h first = inl tt
-begin_first known options dir save files (TooLarge Save) h first = inl (λ sure. inl (h.1 sure))
-begin_first known options dir save files (BadSave line) h first = inl h
-begin_first known options dir save files fault h first = absurd first
-
-pub prepare_first : (known : Type 0) (options : FollowOptions) (dir save : List ℕ) (files : Files) (start : Head) (fault : RunFault)
-    → PrepareStops known options dir files start fault → IsFirst fault → RoundStops known options dir save files fault
-prepare_first known options dir save files start WantOfMemory h first = inl tt
-prepare_first known options dir save files start (ReadFault Save) h first = inl tt
-prepare_first known options dir save files start (TooLarge Save) (inl h) first = absurd (let bad = h.0 in cc)
-prepare_first known options dir save files start (TooLarge Save) (inr (inl h)) first = absurd (let bad : TooLarge Save ≡ WantOfMemory = h in cc)
-prepare_first known options dir save files start (TooLarge Save) (inr (inr (inl h))) first = absurd (let bad = h.0 in cc)
-prepare_first known options dir save files start (TooLarge Save) (inr (inr (inr (inl h)))) first = absurd h.stops
-prepare_first known options dir save files start (TooLarge Save) (inr (inr (inr (inr h)))) first = absurd h.stops
-prepare_first known options dir save files start (BadSave line) (inl h) first = absurd h
-prepare_first known options dir save files start (BadSave line) (inr (inl h)) first = absurd (let bad : BadSave line ≡ WantOfMemory = h in cc)
-prepare_first known options dir save files start (BadSave line) (inr (inr (inl h))) first = absurd (let bad = h.0 in cc)
-prepare_first known options dir save files start (BadSave line) (inr (inr (inr (inl h)))) first = absurd h.stops
-prepare_first known options dir save files start (BadSave line) (inr (inr (inr (inr h)))) first = absurd h.stops
-prepare_first known options dir save files start fault h first = absurd first
 
 module _ (known : Type 0) (options : FollowOptions) (dir save : List ℕ) (files : Files) (start : Start)
     (begun : known → IsBegun options.filter (files save) start) where

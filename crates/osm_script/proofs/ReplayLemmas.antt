@@ -6,7 +6,7 @@ use Rattle.std.specs.List.{AllZip}
 use Rattle.std.specs.Prelude.{not, IfSome}
 use Rattle.osm_model.specs.Filter.{FilterValue, everything}
 use Rattle.osm_reading.specs.Lines.{lines_of, is_skipped}
-use Rattle.osm_script.specs.Replay.{IsWriteFault, ReplayFault, ReplayLeaves, RepliesTo}
+use Rattle.osm_script.specs.Replay.{IsWriteFault, ReplayFault, ReplayLeaves}
 use Rattle.osm_script.specs.Replies.{reply_text}
 use Rattle.osm_script.specs.Steps.Replaying.{IsAnswered, AnswerRefused}
 use Rattle.osm_script.specs.Script.{IsEventLine, ScriptOf, IsBadLine, unskipped}
@@ -77,16 +77,4 @@ answered_more next events old text event reply new more a step is = record {
   replies = a.replies ++ reply ∷ [];
   is_run = next everything events a.replies old event reply new a.is_run step;
   text_is = is ∙ (ap (λ (xs : List ℕ). xs ++ reply_text reply) a.text_is ∙ flat_map_more reply_text [] a.replies reply);
-}
-
--- all events of the script are answered
-pub answered_all : (script : List ℕ) (events : List Event) (world : WorldValue) (text : List ℕ) → ScriptOf script events
-    → IsAnswered events world text → RepliesTo script text
-answered_all script events world text is a = record {
-  events = events;
-  is_script = is;
-  replies = a.replies;
-  world = world;
-  is_run = a.is_run;
-  text_is = a.text_is;
 }

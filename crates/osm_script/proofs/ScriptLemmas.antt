@@ -193,15 +193,6 @@ pub record IsReadTo (script : List ℕ) (rest : Option (Bor (List ℕ))) (number
   pub counted : number ≡ length passed
   pub room : number + left_of rest ≤ length script + 1
 
-pub read_none : (script : Bor (List ℕ)) → IsReadTo script.now (Some script) 0 []
-read_none script = record {
-  passed = [];
-  lines = refl;
-  are_events = tt;
-  counted = refl;
-  room = omega arith;
-}
-
 -- the text's first line and what follows it
 pub record IsSplit (bytes line : List ℕ) (after : Option (Bor (List ℕ))) : Type 0 where
   pub lines : lines_of bytes ≡ line ∷ lines_after after
