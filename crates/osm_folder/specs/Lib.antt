@@ -14,5 +14,4 @@ pub mod Numbered
 pub mod Publication
 pub mod Reports
 pub mod Runs
-pub mod Showing
 pub mod Steps

@@ -21,5 +21,4 @@ pub mod progress;
 pub mod publish;
 pub mod publish_as;
 pub mod report;
-pub mod show;
 pub mod top;

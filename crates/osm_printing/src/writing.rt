@@ -2,13 +2,13 @@
 
 ghost use Rattle.std.specs.Prelude.{OnOk, IfErr};
 ghost use Rattle.std.specs.Io.KnownBytes.{Appends};
-ghost use Rattle.osm_repl.specs.Steps.Replaying.{WritingFault};
+ghost use Rattle.osm_printing.specs.Writing.{WritingFault};
 
 use osm_folder::fault::{FileName, RunFault};
 use std::io::Write;
 
-// Writes the whole text. On a fault a prefix of it was written.
-pub(crate) fn write_text<W: Write>(writer: &mut W, text: &[u8]) -> Result<(), RunFault>
+/// Writes the whole text. On a fault a prefix of it was written.
+pub fn write_text<W: Write>(writer: &mut W, text: &[u8]) -> Result<(), RunFault>
     ensures written { OnOk result
         (Appends (W.contents writer.old) (W.contents writer.new) text.now) }
     ensures fault { IfErr result

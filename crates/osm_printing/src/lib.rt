@@ -1,0 +1,7 @@
+//! The show text of a save of any size, printed block by block.
+#![tactic(auto)]
+
+mod copy;
+pub mod show;
+mod start;
+pub mod writing;
