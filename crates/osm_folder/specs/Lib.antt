@@ -14,6 +14,5 @@ pub mod Numbered
 pub mod Publication
 pub mod Reports
 pub mod Runs
-pub mod Showing
 pub mod Writing
 pub mod Steps

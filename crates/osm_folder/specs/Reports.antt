@@ -1,9 +1,7 @@
 -- What the runs print, line by line, and their exit statuses.
 use Rattle.std.specs.Prelude.{ℕ, List, [], ◌∷◌, ◌++◌, Option, Some, None, codes}
 use Rattle.std.specs.List.{flat_map}
-use Rattle.osm_follow.specs.View.{ViewValue}
 use Rattle.osm_show.specs.Lines.{applied_line, numbered_line}
-use Rattle.osm_show.specs.Show.{view_text}
 use Rattle.osm_json.specs.Line.{fault_data, follow_data, json_line, lag_data}
 use Rattle.osm_json.specs.declared.line.Standing.{Standing}
 use Rattle.osm_folder.specs.declared.options.Layout.{Layout}
@@ -25,10 +23,6 @@ publish_report_of n = record { status = 0; text = numbered_line (codes "publishe
 -- number N
 abbrev pub begin_report_of : ℕ → ReportValue
 begin_report_of n = record { status = 0; text = numbered_line (codes "number ") n }
-
--- the show text of a view
-abbrev pub show_report_of : ViewValue → ReportValue
-show_report_of view = record { status = 0; text = view_text view }
 
 -- seconds S, or seconds none
 abbrev pub seconds_line : Option ℕ → List ℕ

@@ -21,6 +21,5 @@ pub mod progress;
 pub mod publish;
 pub mod publish_as;
 pub mod report;
-pub mod show;
 pub mod top;
 pub mod writing;

@@ -8,16 +8,14 @@ ghost use Rattle.osm_folder.specs.Faults.{status_of};
 ghost use Rattle.osm_folder.specs.Reports.{begin_report_of, convert_report_of, fault_report_of};
 ghost use Rattle.osm_folder.specs.Reports.{follow_report_of, follow_text, gap_status};
 ghost use Rattle.osm_folder.specs.Reports.{lag_report_of, lag_told, publish_report_of, report_of};
-ghost use Rattle.osm_folder.specs.Reports.{seconds_line, show_report_of};
+ghost use Rattle.osm_folder.specs.Reports.{seconds_line};
 
 use crate::fault::RunFault;
 use crate::options::Layout;
 use osm_follow::lag::Lag;
-use osm_follow::view::View;
 use osm_json::line::{Standing, fault_line, follow_line, lag_line};
 use osm_model::memory::WantOfMemory;
 use osm_show::lines::{write_applied, write_bytes, write_numbered, write_numbered_lines};
-use osm_show::show::write_view;
 use std::alloc::Global;
 use std::marker::Model;
 
@@ -122,15 +120,6 @@ pub fn fault_report(alloc: Global, fault: RunFault) -> Result<Report, WantOfMemo
 /// A fault's text.
 pub fn fault_text(alloc: Global, fault: RunFault) -> Result<String, WantOfMemory> {
     Ok(format!(in alloc; "{fault}")?)
-}
-
-/// The show text of a view.
-pub fn show_report(alloc: Global, view: &View) -> Result<Report, WantOfMemory>
-    ensures { IfOk result (λ report. report ≡ show_report_of view.now) }
-{
-    let mut text = Vec::new(alloc);
-    write_view(view, &mut text)?;
-    Ok(Report { status: 0, text })
 }
 
 fn write_seconds(seconds: Option<u32>, text: &mut Vec<u8>) -> Result<(), WantOfMemory>

@@ -29,7 +29,8 @@ pub fn write_view(view: &View, text: &mut Vec<u8>) -> Result<(), WantOfMemory>
     write_held(view.held(), text)
 }
 
-fn write_base(base: u32, text: &mut Vec<u8>) -> Result<(), WantOfMemory>
+/// Appends the line of the base, if it isn't 0.
+pub fn write_base(base: u32, text: &mut Vec<u8>) -> Result<(), WantOfMemory>
     ensures appended { OnOk result (text.new.items ≡ text.old.items ++ base_line base) }
     ensures room { vec_capacity text.old ≤ vec_capacity text.new }
     ensures refused { OnErr result
@@ -41,7 +42,8 @@ fn write_base(base: u32, text: &mut Vec<u8>) -> Result<(), WantOfMemory>
     write_numbered(b"base ", base as u64, text)
 }
 
-fn write_time(time: Option<u32>, text: &mut Vec<u8>) -> Result<(), WantOfMemory>
+/// Appends the line of the time.
+pub fn write_time(time: Option<u32>, text: &mut Vec<u8>) -> Result<(), WantOfMemory>
     ensures appended { OnOk result (text.new.items ≡ text.old.items ++ time_line time) }
     ensures room { vec_capacity text.old ≤ vec_capacity text.new }
     ensures refused { OnErr result

@@ -12,7 +12,7 @@ use Rattle.osm_state.specs.declared.paths.Suffix.TheVariants as suffixes
 use Rattle.osm_follow.specs.Delivery.{FaultPlaces, Spelling}
 use Rattle.osm_follow.specs.Follower.{FollowerValue}
 use Rattle.osm_follow.specs.Reach.{numbers}
-use Rattle.osm_follow.specs.Restart.{follower_of, saved_of}
+use Rattle.osm_follow.specs.Restart.{saved_of}
 use Rattle.osm_store.specs.Files.{Files}
 use Rattle.osm_folder.specs.Folder.{IsStateFile, IsThere}
 use Rattle.osm_folder.specs.Following.{IsLookedFor}
@@ -27,10 +27,6 @@ use Rattle.osm_folder.specs.declared.fault.RunFault.TheVariants.{TooLarge, BadSt
 use Rattle.osm_folder.specs.declared.fault.RunFault.TheVariants.{BadChange, BadSave, Mismatch}
 use Rattle.osm_folder.specs.declared.form.Form.{Form}
 use Rattle.osm_folder.specs.declared.form.Form.TheVariants.{Opl, O5c}
-
--- the follower holds nothing, and isn't broken
-abbrev pub IsFresh : FollowerValue → Type 0
-IsFresh f = f ≡ follower_of (saved_of f)
 
 -- why a text isn't read as a save, of whatever filter
 abbrev pub SavedStops : List ℕ → RunFault → Type 0

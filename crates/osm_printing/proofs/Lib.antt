@@ -1,0 +1,4 @@
+pub mod SaveLemmas
+pub mod ShowLemmas
+pub mod CopyLemmas
+pub mod PrintLemmas

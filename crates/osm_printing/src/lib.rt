@@ -1,0 +1,6 @@
+//! The show text of a save of any size, printed block by block.
+#![tactic(auto)]
+
+mod copy;
+pub mod show;
+mod start;
