@@ -8,7 +8,7 @@ use Rattle.osm_folder.specs.declared.fault.RunFault.{RunFault}
 use Rattle.osm_folder.specs.declared.fault.RunFault.TheVariants.{WriteFault}
 use Rattle.osm_repl.specs.Auditing.{IsAuditFaultLine}
 use Rattle.osm_repl.specs.Execution.{IsFaultLine}
-use Rattle.osm_repl.specs.Steps.Replaying.{WritingFault}
+use Rattle.osm_printing.specs.Writing.{WritingFault}
 
 take_all : (xs : List ℕ) → take (length xs) xs ≡ xs
 take_all [] = refl

@@ -1,5 +1,6 @@
 pub mod CheckLemmas
 pub mod ScriptLemmas
+pub mod ShowLemmas
 pub mod EchoLemmas
 pub mod ReplayLemmas
 pub mod WordLemmas

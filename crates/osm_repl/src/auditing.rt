@@ -8,13 +8,13 @@ ghost use Rattle.osm_repl.specs.Steps.Printing.{IsAuditPrinted, IsAuditUnprinted
 ghost use Rattle.osm_repl.specs.Steps.Printing.{IsRangeAudited, IsRangeNotAudited};
 
 use crate::numbers::number_of;
-use crate::writing::write_text;
 use osm_audit::audit::{Audit, audit_run};
 use osm_audit::fault::AuditFault;
 use osm_audit::report::{audit_fault_line, audit_line, audit_status, audit_text};
 use osm_folder::fault::RunFault;
 use osm_folder::options::Layout;
 use osm_model::memory::WantOfMemory;
+use osm_printing::writing::write_text;
 use osm_store::store::Store;
 use std::alloc::Global;
 use std::io::Write;

@@ -19,4 +19,3 @@ pub mod refusal;
 pub mod replay;
 pub mod replies;
 pub mod script;
-mod writing;

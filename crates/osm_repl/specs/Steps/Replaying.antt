@@ -1,6 +1,6 @@
--- What the parts of a replay do: reading the script, answering an event, writing the text.
-use Rattle.std.specs.Prelude.{◌≡◌, ℕ, ◌<◌, List, length, Option, take}
-use Rattle.std.specs.Io.KnownBytes.{Consumes, Appends}
+-- What the parts of a replay do: reading the script and answering an event.
+use Rattle.std.specs.Prelude.{◌≡◌, ℕ, ◌<◌, List, length, Option}
+use Rattle.std.specs.Io.KnownBytes.{Consumes}
 use Rattle.osm_model.specs.Filter.{everything}
 use Rattle.osm_model.specs.Limits.{max_file}
 use Rattle.osm_world.specs.Correct.{IsRun}
@@ -9,10 +9,10 @@ use Rattle.osm_world.specs.declared.event.Event.{Event}
 use Rattle.osm_world.specs.declared.event.Reply.{Reply}
 use Rattle.osm_repl.specs.Replies.{replies_text}
 use Rattle.osm_repl.specs.Script.{IsBadLine}
-use Rattle.osm_folder.specs.declared.fault.FileName.TheVariants.{Input, Output}
+use Rattle.osm_folder.specs.declared.fault.FileName.TheVariants.{Input}
 use Rattle.osm_folder.specs.declared.fault.RunFault.{RunFault}
 use Rattle.osm_folder.specs.declared.fault.RunFault.TheVariants.{WantOfMemory, ReadFault}
-use Rattle.osm_folder.specs.declared.fault.RunFault.TheVariants.{WriteFault, TooLarge, BadScript}
+use Rattle.osm_folder.specs.declared.fault.RunFault.TheVariants.{TooLarge, BadScript}
 
 -- how often a reader is asked at most: for each byte of the largest script, for one byte too many,
 -- and once more
@@ -39,9 +39,3 @@ abbrev pub AnswerRefused : List ℕ → RunFault → Type 0
 AnswerRefused script WantOfMemory = Unit {0}
 AnswerRefused script (BadScript line) = IsBadLine script line
 AnswerRefused script fault = ⊥
-
--- writing failed, and a prefix of the text was written
-abbrev pub WritingFault : Option (List ℕ) → Option (List ℕ) → List ℕ → RunFault → Type 0
-WritingFault old new text (WriteFault file) =
-    (file ≡ Output) × ((n : ℕ) × Appends old new (take n text))
-WritingFault old new text fault = ⊥
