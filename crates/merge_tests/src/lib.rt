@@ -1,4 +1,4 @@
-//! Tests of saves in blocks: osm_merge, osm_round.
+//! Tests of saves in blocks: osm_merge, osm_round, osm_printing.
 #![tactic(auto)]
 
 #[cfg(test)]

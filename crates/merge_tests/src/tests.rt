@@ -1,3 +1,4 @@
 mod large;
 mod merge;
 mod rounds;
+mod shows;

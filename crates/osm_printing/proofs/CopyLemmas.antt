@@ -1,5 +1,6 @@
 -- Lists that are copied piece by piece.
-use Rattle.std.proofs.Common.{◌≡◌, ℕ, zero, suc, ◌+◌, ◌<◌, ◌≤◌, List, [], ◌∷◌, ◌++◌, length, take, drop, Option, Some, None, refl, sym, ap, subst, ◌∙◌, arith, lit<, append_assoc, length-append}
+use Rattle.std.proofs.Common.{◌≡◌, ℕ, zero, suc, ◌+◌, ◌<◌, ◌≤◌, List, [], ◌∷◌, ◌++◌, length, take, drop, Option, Some, None, refl, sym, ap, subst, ◌∙◌, arith}
+use Rattle.std.proofs.Common.{lit<, append_assoc, length-append}
 use Rattle.std.specs.Prelude.{◌≢◌, Bool, IfErr, IsTrue, Ok, OnOk, Err, Result, min}
 use Rattle.std.specs.Io.KnownBytes.{Appends}
 use Rattle.std.proofs.KnownBytes.{Appends-nil, Appends-trans}
@@ -80,7 +81,8 @@ piece_of most from count file block left tail parts taken long =
     )
 
 -- a short block is the last line
-last_of : (most : ℕ) (left tail : List ℕ) → length tail < most → length (take most (left ++ tail)) ≤ length tail → (left ≡ []) × (take most (left ++ tail) ≡ tail)
+last_of : (most : ℕ) (left tail : List ℕ) → length tail < most → length (take most (left ++ tail)) ≤ length tail
+    → (left ≡ []) × (take most (left ++ tail) ≡ tail)
 last_of most [] tail more h = (refl, whole most tail (omega (arith, more)))
 last_of most (x ∷ left) tail more h =
     let long : length (take most (x ∷ left ++ tail)) ≡ min most (length (x ∷ left ++ tail)) = length-take most (x ∷ left ++ tail) in
@@ -98,7 +100,8 @@ ended_at state name from block left h taken few =
     (both.0, sym is ∙ both.1)
 
 pub rest_after : (state : StoreState) (name : List ℕ) (from count next : ℕ) (block copied lists : List ℕ) → (r : HasRest state name from copied lists)
-    → take max_block (drop from r.there.file) ≡ block → length block ≡ count + 4 → next ≡ from + count → HasRest state name next (copied ++ take count block) lists
+    → take max_block (drop from r.there.file) ≡ block → length block ≡ count + 4 → next ≡ from + count
+    → HasRest state name next (copied ++ take count block) lists
 rest_after state name from count next block copied lists r taken long is =
     let both = piece_of max_block from count r.there.file block r.left end_line r.there.parts taken long in
     record {
@@ -145,7 +148,8 @@ block_stops begun state name place (Changed file) frame h = (h.0, λ lists own. 
 block_stops begun state name place fault frame h = absurd h
 
 -- writing failed, and a part was written
-pub write_stops : (state : StoreState) (name : List ℕ) (place : ℕ) (old new : Option (List ℕ)) (text : List ℕ) (fault : RunFault) → WritingFault old new text fault
+pub write_stops : (state : StoreState) (name : List ℕ) (place : ℕ) (old new : Option (List ℕ)) (text : List ℕ) (fault : RunFault)
+    → WritingFault old new text fault
     → PlaceStops state name place fault
 write_stops state name place old new text (WriteFault file) h = h.0
 write_stops state name place old new text fault h = absurd h
@@ -159,7 +163,8 @@ written_part old new text fault h = absurd h
 abbrev pub ReadsBlock : StoreState → List ℕ → ℕ → List ℕ → Type 0
 ReadsBlock state name from block = (file : List ℕ) → HasFile state name file → take max_block (drop from file) ≡ block
 
-taken_at : (begun state : StoreState) (name : List ℕ) (from : ℕ) (block left : List ℕ) → ReadsOften {T = Unit {0}} IsReadFault begun state (Ok tt) → ReadsBlock state name from block
+taken_at : (begun state : StoreState) (name : List ℕ) (from : ℕ) (block left : List ℕ) → ReadsOften {T = Unit {0}} IsReadFault begun state (Ok tt)
+    → ReadsBlock state name from block
     → (h : HasLists begun name from left) → take max_block (drop from h.file) ≡ block
 taken_at begun state name from block left frame read h = read h.file (has_still begun state tt name h.file frame h.has)
 
@@ -172,7 +177,8 @@ block_fails begun state name place from printed after fault c h = record {
   are = λ lists own. part_of_rest begun name from c.copied lists (c.rest lists own);
 }
 
-pub ends_well : {T : Type 0} (begun state : StoreState) (name : List ℕ) (place from : ℕ) (printed after : Option (List ℕ)) (block bytes : List ℕ) (r : Result T RunFault)
+pub ends_well : {T : Type 0} (begun state : StoreState) (name : List ℕ) (place from : ℕ) (printed after : Option (List ℕ)) (block bytes : List ℕ)
+    (r : Result T RunFault)
     → Copies begun state name place from printed after → ReadsBlock state name from block → length block ≤ 4 → OnOk r (bytes ≡ end_line)
     → OnOk r (IsCopied begun name place printed after)
 ends_well begun state name place from printed after block bytes (Ok x) c read few is = record {
@@ -185,7 +191,8 @@ ends_well begun state name place from printed after block bytes (Ok x) c read fe
 }
 ends_well begun state name place from printed after block bytes (Err fault) c read few is = tt
 
-pub ends_badly : {T : Type 0} (begun state : StoreState) (name : List ℕ) (place from : ℕ) (printed after : Option (List ℕ)) (block bytes : List ℕ) (r : Result T RunFault)
+pub ends_badly : {T : Type 0} (begun state : StoreState) (name : List ℕ) (place from : ℕ) (printed after : Option (List ℕ)) (block bytes : List ℕ)
+    (r : Result T RunFault)
     → Copies begun state name place from printed after → ReadsBlock state name from block → length block ≤ 4 → bytes ≡ block
     → IfErr r (λ fault. (fault ≡ Changed Save) × (bytes ≢ end_line)) → IfErr r (IsCopiedInPart begun name place printed after)
 ends_badly begun state name place from printed after block bytes (Ok x) c read few same is = tt
@@ -202,7 +209,8 @@ ends_badly begun state name place from printed after block bytes (Err fault) c r
   are = λ lists own. part_of_rest begun name from c.copied lists (c.rest lists own);
 }
 
-pub piece_fails : (begun state : StoreState) (name : List ℕ) (place from count : ℕ) (printed mid after : Option (List ℕ)) (block piece : List ℕ) (fault : RunFault)
+pub piece_fails : (begun state : StoreState) (name : List ℕ) (place from count : ℕ) (printed mid after : Option (List ℕ)) (block piece : List ℕ)
+    (fault : RunFault)
     → Copies begun state name place from printed mid → ReadsBlock state name from block → length block ≡ count + 4 → piece ≡ take count block
     → WritingFault mid after piece fault → IsCopiedInPart begun name place printed after fault
 piece_fails begun state name place from count printed mid after block piece fault c read long is h =
@@ -213,7 +221,8 @@ piece_fails begun state name place from count printed mid after block piece faul
       some = Appends-trans printed mid after c.copied (take part.0 piece) c.all part.1;
       are = λ lists own.
           let rest : HasRest begun name from c.copied lists = c.rest lists own in
-          let next = rest_after begun name from count (from + count) block c.copied lists rest (taken_at begun state name from block rest.left c.frame read rest.there) long refl in
+          let next = rest_after begun name from count (from + count) block c.copied lists rest
+          (taken_at begun state name from block rest.left c.frame read rest.there) long refl in
           part_trans (c.copied ++ take part.0 piece) (c.copied ++ take count block) lists
           (part_after (take part.0 piece) c.copied (take count block) (rw (← is) (part_take part.0 piece)))
           (part_of_rest begun name (from + count) (c.copied ++ take count block) lists next);
@@ -232,11 +241,13 @@ place_fails begun state name place from count printed mid after block piece c re
   some = Appends-trans printed mid after c.copied piece c.all all;
   are = λ lists own.
       let rest : HasRest begun name from c.copied lists = c.rest lists own in
-      let next = rest_after begun name from count (from + count) block c.copied lists rest (taken_at begun state name from block rest.left c.frame read rest.there) long refl in
+      let next = rest_after begun name from count (from + count) block c.copied lists rest
+      (taken_at begun state name from block rest.left c.frame read rest.there) long refl in
       rw is (part_of_rest begun name (from + count) (c.copied ++ take count block) lists next);
 }
 
-pub copies_more : {T : Type 0} (begun state new : StoreState) (name : List ℕ) (place from count next : ℕ) (printed mid after : Option (List ℕ)) (block piece : List ℕ) (x : T)
+pub copies_more : {T : Type 0} (begun state new : StoreState) (name : List ℕ) (place from count next : ℕ) (printed mid after : Option (List ℕ))
+    (block piece : List ℕ) (x : T)
     → Copies begun state name place from printed mid → ReadsOften IsReadFault state new (Ok x) → ReadsBlock state name from block → length block ≡ count + 4
     → piece ≡ take count block → Appends mid after piece → next ≡ from + count → Copies begun new name place next printed after
 copies_more begun state new name place from count next printed mid after block piece x c frame read long is all at = record {
@@ -245,6 +256,7 @@ copies_more begun state new name place from count next printed mid after block p
   all = Appends-trans printed mid after c.copied piece c.all all;
   rest = λ lists own.
       let rest : HasRest begun name from c.copied lists = c.rest lists own in
-      let more = rest_after begun name from count next block c.copied lists rest (taken_at begun state name from block rest.left c.frame read rest.there) long at in
+      let more = rest_after begun name from count next block c.copied lists rest
+      (taken_at begun state name from block rest.left c.frame read rest.there) long at in
       rw is more;
 }

@@ -18,9 +18,11 @@ use Rattle.osm_save.specs.Save.{SpellsSave}
 use Rattle.osm_save.specs.declared.head.Head.{Head}
 use Rattle.osm_save.specs.declared.save.Saved.{Saved}
 use Rattle.osm_show.specs.Show.{counts_text, held_text, objects_text, view_text}
-use Rattle.osm_printing.specs.Printing.{CopyStops, IsCutOff, IsNotPrinted, IsPrinted, IsReadFault, IsReportOf, IsShown, ShowStops, shown_text, start_text, view_of_saved}
+use Rattle.osm_printing.specs.Printing.{CopyStops, IsCutOff, IsNotPrinted, IsPrinted, IsReadFault, IsShowOf, IsShown, ShowStops, shown_text, start_text}
+use Rattle.osm_printing.specs.Printing.{view_of_saved}
 use Rattle.osm_folder.specs.Writing.{WritingFault}
-use Rattle.osm_printing.specs.Steps.Copying.{HasLists, IsCopied, IsCopiedInPart, IsPart, IsPrintedFrom, IsPrintedInPart, IsSaveText, IsStart, PlaceStops, StartStops, lists_of}
+use Rattle.osm_printing.specs.Steps.Copying.{HasLists, IsCopied, IsCopiedInPart, IsPart, IsPrintedFrom, IsPrintedInPart, IsSaveText, IsStart, PlaceStops}
+use Rattle.osm_printing.specs.Steps.Copying.{StartStops, lists_of}
 use Rattle.osm_printing.specs.declared.start.Start.{Start}
 use Rattle.osm_printing.proofs.CopyLemmas.{part_after, part_all, part_before, part_take, write_stops, written_part}
 use Rattle.osm_printing.proofs.ShowLemmas.{shown_of}
@@ -76,7 +78,8 @@ all_printed state name start printed mid last after text end is held all c most 
 }
 
 pub last_fails : (state : StoreState) (name : List ℕ) (start : Start) (printed mid last after : Option (List ℕ)) (text end : List ℕ) (fault : RunFault)
-    → text ≡ start_text start.head → end ≡ codes "held 0\n" → Appends printed mid text → IsCopied state name start.after mid last → WritingFault last after end fault
+    → text ≡ start_text start.head → end ≡ codes "held 0\n" → Appends printed mid text → IsCopied state name start.after mid last
+    → WritingFault last after end fault
     → IsPrintedInPart state name start printed after fault
 last_fails state name start printed mid last after text end fault is held all c h =
     let part : (n : ℕ) × Appends last after (take n end) = written_part last after end fault h in
@@ -123,7 +126,8 @@ shows told start lists own = record {
   report_is = ap (λ (l : List ℕ). record { status = 0; text = l }) (rw (own.head, own.lists_are) (text_is own.text.saved));
 }
 
-report_of : (known : Type 0) (told : Option (List ℕ)) (start : Start) (lists : List ℕ) → (known → IsOwn told start lists) → IsReportOf known told (report_with start lists)
+report_of : (known : Type 0) (told : Option (List ℕ)) (start : Start) (lists : List ℕ) → (known → IsOwn told start lists)
+    → IsShowOf known told (report_with start lists)
 report_of known told start lists own = record {
   shown = λ yes. shows told start lists (own yes);
   in_step = λ yes published given base number is. shown_of given published base number told (report_with start lists) is (shows told start lists (own yes));
@@ -132,7 +136,8 @@ report_of known told start lists own = record {
 
 -- ---- the whole
 
-pub start_stops : (a b : StoreState) (name : List ℕ) (fault : RunFault) → (IsKnown a → IsSaveText (a.files name)) → ReadsOften {T = Unit {0}} IsReadFault a b (Ok tt)
+pub start_stops : (a b : StoreState) (name : List ℕ) (fault : RunFault) → (IsKnown a → IsSaveText (a.files name))
+    → ReadsOften {T = Unit {0}} IsReadFault a b (Ok tt)
     → StartStops b name fault → ShowStops (IsKnown a) (a.files name) fault
 start_stops a b name WantOfMemory whole frame h = tt
 start_stops a b name (ReadFault file) whole frame h = h
@@ -171,7 +176,8 @@ own_of a c name start h known =
       has = record { file = t.file; has = two; parts = is.lists };
     }
 
-own_lists : (a c : StoreState) (name : List ℕ) (start : Start) (lists : List ℕ) → (h : HasOwn a c name start) → lists ≡ lists_of h.text.saved.mirror → IsOwn (a.files name) start lists
+own_lists : (a c : StoreState) (name : List ℕ) (start : Start) (lists : List ℕ) → (h : HasOwn a c name start) → lists ≡ lists_of h.text.saved.mirror
+    → IsOwn (a.files name) start lists
 own_lists a c name start lists h e = record { text = h.text; head = h.head; lists_are = e }
 
 pub is_printed : (a c : StoreState) (name : List ℕ) (start : Start) (printed after : Option (List ℕ)) → IsAhead a c name start

@@ -1,5 +1,6 @@
 -- The lists of a save text, as a show text has them.
-use Rattle.std.proofs.Common.{◌≡◌, ℕ, zero, suc, ◌≤◌, List, [], ◌∷◌, ◌++◌, length, map, take, drop, Option, Some, None, refl, sym, ap, ◌∙◌, arith, lit≤, append_assoc}
+use Rattle.std.proofs.Common.{◌≡◌, ℕ, zero, suc, ◌≤◌, List, [], ◌∷◌, ◌++◌, length, map, take, drop, Option, Some, None, refl, sym, ap, ◌∙◌, arith, lit≤}
+use Rattle.std.proofs.Common.{append_assoc}
 use Rattle.std.specs.Prelude.{codes, decimal}
 use Rattle.std.specs.List.{flat_map}
 use Rattle.std.proofs.lemmas.List.{take-append-drop}
@@ -98,10 +99,12 @@ start_is file block v start taken s starts =
 pub no_start : (file block : List ℕ) (v : Saved) → take max_block file ≡ block → head_at block ≡ None → SpellsSave file v → ⊥
 no_start file block v taken none s =
     let gone : head_at file ≡ None = head_absent max_block file (lit≤ tt) (rw taken none) in
-    let bad : ◌≡◌ {A = Option (Version × Head × FilterValue × List ℕ)} None (Some (s.version, head_of v, v.filter, mirror_text v.mirror)) = sym gone ∙ head_is file v s in
+    let bad : ◌≡◌ {A = Option (Version × Head × FilterValue × List ℕ)} None (Some
+    (s.version, head_of v, v.filter, mirror_text v.mirror)) = sym gone ∙ head_is file v s in
     cc
 
-pub head_stops : (state : StoreState) (name block : List ℕ) (fault : RunFault) → ((file : List ℕ) → HasFile state name file → take max_block (drop 0 file) ≡ block)
+pub head_stops : (state : StoreState) (name block : List ℕ) (fault : RunFault) → ((file : List ℕ) → HasFile state name file
+    → take max_block (drop 0 file) ≡ block)
     → HeadStops block fault → StartStops state name fault
 head_stops state name block WantOfMemory read h = tt
 head_stops state name block (Changed file) read h = (h.0, λ bytes saved has spells. no_start bytes block saved (read bytes has) h.1 spells)

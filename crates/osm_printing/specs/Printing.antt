@@ -72,7 +72,7 @@ pub record IsShowReport (report : ReportValue) : Type 0 where
   pub report_is : report ≡ record { status = 0; text = shown_text head lists }
 
 -- the report is that of a show of the save
-pub record IsReportOf (known : Type 0) (told : Option (List ℕ)) (report : ReportValue)
+pub record IsShowOf (known : Type 0) (told : Option (List ℕ)) (report : ReportValue)
     : Type 0 where
   pub shown : known → IsShown told report
   pub in_step : known → (published : List PublishedValue) (given : FilterValue) (base number : ℕ)
@@ -82,7 +82,7 @@ pub record IsReportOf (known : Type 0) (told : Option (List ℕ)) (report : Repo
 -- all of the report was printed
 pub record IsPrinted (known : Type 0) (told printed after : Option (List ℕ)) : Type 0 where
   pub report : ReportValue
-  pub is : IsReportOf known told report
+  pub is : IsShowOf known told report
   pub all : Appends printed after report.text
 
 -- the save has more bytes than 64 bits count, or a line of more than 256 MiB, as no save text has
@@ -119,7 +119,7 @@ pub record IsRefused (known : Type 0) (told printed after : Option (List ℕ)) (
 pub record IsCutOff (known : Type 0) (told printed after : Option (List ℕ)) (fault : RunFault)
     : Type 0 where
   pub report : ReportValue
-  pub is : IsReportOf known told report
+  pub is : IsShowOf known told report
   pub stops : CopyStops known told fault
   pub count : ℕ
   pub some : Appends printed after (take count report.text)

@@ -7,12 +7,11 @@ use Rattle.std.specs.Io.KnownBytes.{Appends}
 use Rattle.osm_json.specs.Line.{fault_data, json_line}
 use Rattle.osm_model.specs.Filter.{FilterValue}
 use Rattle.osm_follow.specs.Published.{PublishedValue}
-use Rattle.osm_follow.specs.View.{ViewValue}
 use Rattle.osm_reading.specs.Sequence.{SpellsSequence}
 use Rattle.osm_folder.specs.Beginning.{BeginStops, IsBaseOf, IsBegunFrom}
 use Rattle.osm_folder.specs.Conversion.{ConvertStops, IsConverted}
 use Rattle.osm_folder.specs.Exporting.{ExportStops, IsExported, IsExportOf}
-use Rattle.osm_store.specs.Files.{Files}
+use Rattle.osm_store.specs.Files.{Files, HasFailed}
 use Rattle.osm_folder.specs.Folder.{IsApart, IsFolderOf}
 use Rattle.osm_folder.specs.Following.{IsFollowReport, IsInStepAfter, IsSaveOf}
 use Rattle.osm_folder.specs.Lagging.{IsLag, IsLagOf, IsLagReport, LagRefuses, LagStops}
@@ -20,9 +19,8 @@ use Rattle.osm_folder.specs.Numbered.{IsAddedAs, IsPublishedAs, NumberedRefuses,
 use Rattle.osm_folder.specs.Progress.{IsProgressReport}
 use Rattle.osm_folder.specs.Publication.{FolderRefuses, IsAdded, IsPublished, PublishStops}
 use Rattle.osm_folder.specs.Reports.{ReportValue, begin_report_of, convert_report_of}
-use Rattle.osm_folder.specs.Reports.{publish_report_of, show_report_of}
+use Rattle.osm_folder.specs.Reports.{publish_report_of}
 use Rattle.osm_folder.specs.Runs.{Blames}
-use Rattle.osm_folder.specs.Showing.{IsShown, IsShownOf, ShowStops}
 use Rattle.osm_folder.specs.declared.fault.FileName.TheVariants.{Output}
 use Rattle.osm_folder.specs.declared.fault.RunFault.{RunFault}
 use Rattle.osm_folder.specs.declared.fault.RunFault.TheVariants.{WantOfMemory, WriteFault}
@@ -31,6 +29,8 @@ use Rattle.osm_folder.specs.declared.options.Layout.{Layout}
 use Rattle.osm_folder.specs.declared.options.Layout.TheVariants.{Json, Lines}
 use Rattle.osm_folder.specs.declared.progress.Progress.{Progress}
 use Rattle.osm_folder.specs.declared.progress.Progress.TheVariants.{Whole, Before}
+use Rattle.osm_printing.specs.Printing.{CopyStops, IsReadFault, IsShowReport, IsShown, IsShownOf}
+use Rattle.osm_printing.specs.Printing.{ShowStops}
 use Rattle.osm_round.specs.Over.{FollowRefuses}
 use Rattle.osm_round.specs.Rounds.{IsFollowed, IsFollowedBefore, RoundStops}
 use Rattle.osm_script.specs.Replay.{ReplayFault, ReplayLeaves, Replays}
@@ -62,11 +62,13 @@ abbrev pub IsFollow : Order → Type 0
 IsFollow (Follow dir save) = Unit {0}
 IsFollow order = ⊥
 
--- the order is one of the other runs that give a report
+-- the order is one of the other runs that give a report, which is printed after the run; the word
+-- `show` prints while it reads
 abbrev pub IsOtherRun : Order → Type 0
 IsOtherRun Replay = ⊥
 IsOtherRun (Audit dir from to) = ⊥
 IsOtherRun (Follow dir save) = ⊥
+IsOtherRun (Show save) = ⊥
 IsOtherRun order = Unit {0}
 
 -- how many calls of the store a run makes at least if it is done
@@ -139,7 +141,7 @@ IsReportOf options (Begin base state save) report =
     (n : ℕ) × (0 < n) × (report ≡ begin_report_of n)
 IsReportOf options (Follow dir save) report = IsFollowReport options.layout None report
 IsReportOf options (Lag dir save) report = IsLagReport options.layout report
-IsReportOf options (Show save) report = (view : ViewValue) × (report ≡ show_report_of view)
+IsReportOf options (Show save) report = IsShowReport report
 IsReportOf options (Export save output) report = report ≡ convert_report_of
 IsReportOf options (Convert input output) report = report ≡ convert_report_of
 IsReportOf options (Audit dir from to) report = ⊥
@@ -293,6 +295,24 @@ pub record IsCutBefore (known : Type 0) (options : FollowOptions) (order : Order
   pub count : ℕ
   pub some : Appends printed after (take count report.text)
 
+-- why the word `show` stops while it prints
+abbrev pub StopsPrinting : Type 0 → Order → Files → RunFault → Type 0
+StopsPrinting known (Show save) old fault = CopyStops known (old save.now) fault
+StopsPrinting known order old fault = ⊥
+
+-- the word `show` stopped while it printed: the save is a save text, and a prefix of its report was
+-- printed
+pub record IsShownInPart (known : Type 0) (options : FollowOptions) (order : Order)
+    (old new : Files) (failed fails : ℕ) (printed after : Option (List ℕ)) (fault : RunFault)
+    : Type 0 where
+  pub report : ReportValue
+  pub run : IsRun known options order old new report
+  pub stops : StopsPrinting known order old fault
+  pub leaves : Leaves known order old new
+  pub device : IsReadFault fault → HasFailed failed fails
+  pub count : ℕ
+  pub some : Appends printed after (take count report.text)
+
 -- why an order over the files isn't done: its run stops, or its report isn't printed, or it is done
 -- up to a faulty number; the files that the run wrote then stay
 abbrev pub IsNotDone : Type 0 → FollowOptions → Order → Files → Files → ℕ → ℕ
@@ -302,6 +322,7 @@ IsNotDone known options order old new failed fails printed after fault =
     ⊎ IsCutShort known options order old new printed after fault
     ⊎ IsPrintedBefore known options order old new printed after fault
     ⊎ IsCutBefore known options order old new printed after fault
+    ⊎ IsShownInPart known options order old new failed fails printed after fault
 
 -- a replay was done: the replies were printed, and the status is 0
 abbrev pub IsReplayed : Option (List ℕ) → Option (List ℕ) → Option (List ℕ) → ℕ → Type 0

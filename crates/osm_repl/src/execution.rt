@@ -6,6 +6,7 @@ ghost use Rattle.std.specs.Io.KnownBytes.{Appends};
 ghost use Rattle.osm_store.specs.Files.{Spends};
 ghost use Rattle.osm_store.specs.Frames.{IsKnown};
 ghost use Rattle.osm_folder.specs.Runs.{Blames};
+ghost use Rattle.osm_folder.specs.Writing.{WritingFault};
 ghost use Rattle.osm_repl.specs.Auditing.{IsAudited, IsNotAudited, audit_fault_of};
 ghost use Rattle.osm_repl.specs.Execution.{Does, DoesOver, IsDone, IsNotDone, IsNotReplayed};
 ghost use Rattle.osm_repl.specs.Execution.{GivesReport, IsRunFault};
@@ -13,7 +14,6 @@ ghost use Rattle.osm_repl.specs.Execution.{HasFollowed, IsFollow, IsOtherRun, Is
 ghost use Rattle.osm_repl.specs.Execution.{IsReplayed, IsReportOf, IsUntouched};
 ghost use Rattle.osm_repl.specs.Execution.{IsFaultLine, Leaves, RunStops, StopsOver, TellsFault};
 ghost use Rattle.osm_repl.specs.Execution.{calls_of, layout_of};
-ghost use Rattle.osm_folder.specs.Writing.{WritingFault};
 
 use crate::auditing::audit_and_print;
 use crate::order_fault::OrderFault;
@@ -28,8 +28,8 @@ use osm_folder::progress::Progress;
 use osm_folder::publish::publish_run;
 use osm_folder::publish_as::publish_as_run;
 use osm_folder::report::{Report, fault_report};
-use osm_folder::show::show_run;
 use osm_folder::writing::write_text;
+use osm_printing::show::show_in_blocks;
 use osm_round::round::follow_round;
 use osm_script::replay::replay_run;
 use osm_store::store::Store;
@@ -39,13 +39,15 @@ use std::io::{Read, Write};
 /// Does what an order asks for, and answers the exit status. The words `follow` and `begin` write
 /// their save under the filter of the options; `follow` goes by their limit, and `follow`, `lag`
 /// and `audit` by their layout. A replay reads from `reader` and writes its replies to `writer`;
-/// every other order runs over the files of the store, and then writes its report to `writer`.
+/// every other order runs over the files of the store, and then writes its report to `writer`,
+/// except `show`, which checks its save first and then writes while it reads the save again.
 ///
-/// Only an audit has the fault `BadRange`. On a fault nothing was written to `writer`, with three
+/// Only an audit has the fault `BadRange`. On a fault nothing was written to `writer`, with four
 /// exceptions. On `WriteFault(Output)` a prefix of the report was, and the files that a run wrote
-/// stay. The word `follow` may end with the fault of a faulty number, after it saved and reported
-/// the numbers before. In JSON the line of `fault_report`, or for an audit of `audit_fault_line`,
-/// is written, as far as `writer` takes it, unless memory was wanted for the run or for the line.
+/// stay. If `show` can't read its save again, a prefix was too. The word `follow` may end with the
+/// fault of a faulty number, after it saved and reported the numbers before. In JSON the line of
+/// `fault_report`, or for an audit of `audit_fault_line`, is written, as far as `writer` takes it,
+/// unless memory was wanted for the run or for the line.
 pub fn execute<S: Store, R: Read, W: Write>(
     alloc: Global,
     order: Order<'_>,
@@ -94,6 +96,10 @@ pub fn execute<S: Store, R: Read, W: Write>(
         Order::Audit { dir, from, to } => {
             let layout = options.layout;
             Ok(audit_and_print(alloc, dir, from, to, layout, store, writer)?)
+        }
+        Order::Show { save } => {
+            show_in_blocks(alloc, store, save, writer)?;
+            Ok(0)
         }
         _ => Ok(run_and_print(alloc, order, options, store, writer)?),
     }
@@ -261,10 +267,11 @@ fn run<S: Store>(
             options.filter,
         ),
         Order::Lag { dir, save } => lag_run(alloc, store, dir, save, options.layout),
-        Order::Show { save } => show_run(alloc, store, save),
         Order::Export { save, output } => export_run(alloc, store, save, output),
         Order::Convert { input, output } => convert_run(alloc, store, input, output),
-        Order::Follow { .. } | Order::Audit { .. } | Order::Replay => unreachable!(),
+        Order::Follow { .. } | Order::Show { .. } | Order::Audit { .. } | Order::Replay => {
+            unreachable!()
+        }
     }
 }
 

@@ -10,9 +10,9 @@ use osm_folder::options::{FollowOptions, Layout};
 use osm_folder::progress::Progress;
 use osm_folder::publish::publish_run;
 use osm_folder::report::Report;
-use osm_folder::show::show_run;
 use osm_model::filter::Filter;
 use osm_model::memory::WantOfMemory;
+use osm_printing::show::show_in_blocks;
 use osm_round::round::follow_round;
 use osm_store::memory_store::MemoryStore;
 use osm_store::store::Store;
@@ -83,9 +83,13 @@ pub enum Run {
     Convert,
 }
 
-/// What the run over the store answers.
-pub fn outcome<S: Store>(alloc: Global, store: &mut S, run: Run) -> Result<Report, RunFault> {
-    match run {
+/// What the run over the store answers: its status, and what it prints.
+pub fn outcome<S: Store>(
+    alloc: Global,
+    store: &mut S,
+    run: Run,
+) -> Result<(u8, Vec<u8>), RunFault> {
+    let answered = match run {
         Run::Publish => publish_run(alloc, store, "dir", "changes", "2024-01-01T00:00:00Z"),
         Run::Begin(base) => begin_run(alloc, store, base, "state", "save", Filter::all(alloc)),
         Run::BeginExtract(base) => {
@@ -101,10 +105,23 @@ pub fn outcome<S: Store>(alloc: Global, store: &mut S, run: Run) -> Result<Repor
         Run::FollowJson => follow_all(alloc, store, None, Layout::Json),
         Run::Lag => lag_run(alloc, store, "dir", "save", Layout::Lines),
         Run::LagJson => lag_run(alloc, store, "dir", "save", Layout::Json),
-        Run::Show => show_run(alloc, store, "save"),
+        Run::Show => return Ok((0, show(alloc, store)?)),
         Run::Export(output) => export_run(alloc, store, "save", output),
         Run::Convert => convert_run(alloc, store, "a.opl", "b.o5c"),
-    }
+    };
+    let report = answered?;
+    Ok((report.status(), copy_of(alloc, report.text())?))
+}
+
+// What is printed of the save.
+fn show<S: Store>(alloc: Global, store: &mut S) -> Result<Vec<u8>, RunFault> {
+    let mut printed = Vec::new(alloc);
+    show_in_blocks(alloc, store, "save", &mut printed)?;
+    Ok(printed)
+}
+
+fn copy_of(alloc: Global, bytes: &[u8]) -> Result<Vec<u8>, WantOfMemory> {
+    Ok(Vec::from_slice(alloc, bytes)?)
 }
 
 // Follows all objects.
@@ -143,7 +160,7 @@ pub fn reports<S: Store>(
     (status, text): (u8, &str),
 ) -> bool {
     match outcome(alloc, store, kind) {
-        Ok(report) => report.status() == status && report.text() == text.as_bytes(),
+        Ok((found, printed)) => found == status && printed.as_slice() == text.as_bytes(),
         Err(_) => false,
     }
 }

@@ -314,7 +314,8 @@ fn each_store_call_of_the_other_runs_failing_in_turn(rt: HostRuntime) {
         (&LAG, 1, 0, Some(RunFault::ReadFault(FileName::Top))),
         (&LAG, 2, 0, None),
         (&SHOW, 0, 0, Some(RunFault::ReadFault(FileName::Save))),
-        (&SHOW, 1, 0, None),
+        (&SHOW, 4, 0, Some(RunFault::ReadFault(FileName::Save))),
+        (&SHOW, 5, 0, None),
         (&CONVERT, 0, 0, Some(RunFault::ReadFault(FileName::Input))),
         (&CONVERT, 1, 0, Some(RunFault::WriteFault(FileName::Output))),
         (&CONVERT, 2, 1, None),
@@ -367,8 +368,8 @@ fn asks_for_the_window(alloc: Global) -> bool {
     };
     let mut stopping = StoppingStore::new(store, 67);
     let is_reported = match outcome(alloc, &mut stopping, Run::Follow) {
-        Ok(report) => report
-            .text()
+        Ok((_status, printed)) => printed
+            .as_slice()
             .ends_with(b"missing 63\nmissing 64\nnumber 0\n"),
         Err(_) => false,
     };

@@ -32,6 +32,16 @@ fn save_of(alloc: Global, sequence: u32, version: u32, edits: u32) -> Result<Str
     Ok(text)
 }
 
+/// The lines of a save's lists of as many nodes, and of one edit each.
+pub fn nodes_and_counts(alloc: Global, count: u32) -> Result<String, AllocError> {
+    let mut text = format!(in alloc; "objects {count}\n")?;
+    for id in 0..count {
+        push_node(alloc, id, 1, &mut text)?;
+    }
+    text.push_str(format!(in alloc; "users 1\n5 {count}\nchangesets 1\n7 {count}\n")?.as_str())?;
+    Ok(text)
+}
+
 fn push_node(alloc: Global, id: u32, version: u32, text: &mut String) -> Result<(), AllocError> {
     let line = node(alloc, id, version)?;
     text.push_str(line.as_str())?;

@@ -29,7 +29,8 @@ returns-in-Err-write_text-clause-stops g c =
     let long : length c.in-Ok.block.items ≡ count + 4 = grind (arith, nat_tests) in
     piece_fails (g.S.Store.state c.args.store.now) (g.S.Store.state c.blocks-2.store) c.args.save.now c.args.place c.blocks-2.from count
     (g.W.Write.contents c.args.writer.now) (g.W.Write.contents c.blocks-2.writer) (g.W.Write.contents c.write_text.new.writer) c.in-Ok.block.items
-    (take count c.deref.result.now) c.in-Err-write_text.fault c.blocks-2.invariant c.in-Ok.ensures.read long (ap (take count) c.deref.ensures.value) c.in-Err-write_text.ensures.fault
+    (take count c.deref.result.now) c.in-Err-write_text.fault c.blocks-2.invariant c.in-Ok.ensures.read long (ap
+    (take count) c.deref.ensures.value) c.in-Err-write_text.ensures.fault
 
 pub returns-in_default-clause-stops : goal.returns-in_default-clause-stops
 returns-in_default-clause-stops g c =

@@ -16,9 +16,6 @@ returns-in-Lag-clause-over g c = rw c.in-Lag.is
     (lag_does c.args.options c.in-Lag.dir c.in-Lag.save (g.S.Store.state c.args.store.now) (g.S.Store.state c.lag_run.new.store)
     c.lag_run.result c.lag_run.ensures.over)
 
-pub returns-in-Show-clause-over : goal.returns-in-Show-clause-over
-returns-in-Show-clause-over g c = rw c.in-Show.is c.show_run.ensures.in_step
-
 pub returns-in-PublishAs-clause-stops : goal.returns-in-PublishAs-clause-stops
 returns-in-PublishAs-clause-stops g c = rw c.in-PublishAs.is c.publish_as_run.ensures.stops
 

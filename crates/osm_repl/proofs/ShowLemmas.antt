@@ -1,0 +1,55 @@
+-- What the word `show` does, as its order asks for.
+use Rattle.std.proofs.Common.{◌≡◌, ℕ, List, Option, inl, inr, ap, sym}
+use Rattle.std.specs.Borrow.{Bor}
+use Rattle.osm_store.specs.Files.{Files, HasFailed}
+use Rattle.osm_folder.specs.Reports.{ReportValue}
+use Rattle.osm_folder.specs.Runs.{Blames}
+use Rattle.osm_folder.specs.declared.fault.RunFault.{RunFault}
+use Rattle.osm_folder.specs.declared.fault.RunFault.TheVariants.{ReadFault, WriteFault}
+use Rattle.osm_folder.specs.declared.options.FollowOptions.{FollowOptions}
+use Rattle.osm_printing.specs.Printing.{IsCutOff, IsNotPrinted, IsPrinted, IsReadFault, IsRefused, IsShowOf, ShowStops}
+use Rattle.osm_repl.specs.Execution.{IsDone, IsNotDone, IsRun}
+use Rattle.osm_repl.specs.declared.orders.Order.TheVariants.{Show}
+
+is_run : (known : Type 0) (options : FollowOptions) (save : Bor (List ℕ)) (old new : Files) (report : ReportValue)
+    → IsShowOf known (old save.now) report → IsRun known options (Show save) old new report
+is_run known options save old new report is = record {
+  does = is.shown;
+  over = is.in_step;
+  report_is = is.form;
+}
+
+pub show_done : (known : Type 0) (options : FollowOptions) (save : Bor (List ℕ)) (old new : Files) (printed after : Option (List ℕ))
+    → IsPrinted known (old save.now) printed after → IsDone known options (Show save) old new printed after 0
+show_done known options save old new printed after p = record {
+  report = p.report;
+  run = is_run known options save old new p.report p.is;
+  all = p.all;
+  status_is = sym (ap (λ (r : ReportValue). r.status) p.is.form.report_is);
+}
+
+blames : (known : Type 0) (told : Option (List ℕ)) (failed fails : ℕ) (fault : RunFault) → ShowStops known told fault
+    → (IsReadFault fault → HasFailed failed fails) → Blames failed fails fault
+blames known told failed fails (ReadFault file) stops h = h
+blames known told failed fails (WriteFault file) stops h = absurd stops
+blames known told failed fails fault stops h = λ bad. absurd bad
+
+pub show_not_done : (known : Type 0) (options : FollowOptions) (save : Bor (List ℕ)) (old new : Files) (failed fails : ℕ) (printed after : Option (List ℕ))
+    (fault : RunFault) → IsNotPrinted known (old save.now) printed after fault → new ≡ old → (IsReadFault fault → HasFailed failed fails)
+    → IsNotDone known options (Show save) old new failed fails printed after fault
+show_not_done known options save old new failed fails printed after fault (inl refused) same h = inl (record {
+  stops = refused.stops;
+  over = λ sure. tt;
+  leaves = same;
+  device = blames known (old save.now) failed fails fault refused.stops h;
+  told = refused.nothing;
+})
+show_not_done known options save old new failed fails printed after fault (inr cut) same h = inr (inr (inr (inr (record {
+  report = cut.report;
+  run = is_run known options save old new cut.report cut.is;
+  stops = cut.stops;
+  leaves = same;
+  device = h;
+  count = cut.count;
+  some = cut.some;
+}))))
