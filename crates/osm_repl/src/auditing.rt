@@ -13,7 +13,7 @@ use osm_audit::fault::AuditFault;
 use osm_audit::report::{audit_fault_line, audit_line, audit_status, audit_text};
 use osm_folder::fault::RunFault;
 use osm_folder::options::Layout;
-use osm_folder::writing::{write_text, write_text};
+use osm_folder::writing::write_text;
 use osm_model::memory::WantOfMemory;
 use osm_store::store::Store;
 use std::alloc::Global;
