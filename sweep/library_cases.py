@@ -229,6 +229,8 @@ LINES = [
     appending("write_numbered", b"number 12\n"),
     appending("write_numbered_lines", b"missing 2\nmissing 3\nmissing 5\n"),
     appending("write_applied", b"applied 1..3\n"),
+    appending("write_base", b"base 7\n"),
+    appending("write_time", b"time 2024-01-01T00:00:00Z\n"),
     appending("write_count_lines", b"5 1\n6 22\n"),
     appending("write_number", b"18446744073709551615"),
     appending("write_bytes", b"some bytes"),

@@ -9,7 +9,7 @@ use osm_show::lines::{
     write_applied, write_bytes, write_count_lines, write_number, write_numbered,
     write_numbered_lines,
 };
-use osm_show::show::write_view;
+use osm_show::show::{write_base, write_time, write_view};
 use std::alloc::Global;
 
 /// A view, and the text that is appended to.
@@ -38,6 +38,8 @@ pub(crate) enum Line {
     CountLines,
     Number,
     Bytes,
+    Base,
+    Time,
 }
 
 const CALLS: &[(&str, Call)] = &[
@@ -51,6 +53,8 @@ const CALLS: &[(&str, Call)] = &[
     ("write_count_lines", Call::Append(Line::CountLines)),
     ("write_number", Call::Append(Line::Number)),
     ("write_bytes", Call::Append(Line::Bytes)),
+    ("write_base", Call::Append(Line::Base)),
+    ("write_time", Call::Append(Line::Time)),
 ];
 
 impl Subject for Lines {
@@ -100,6 +104,8 @@ fn append(line: Line, text: &mut Vec<u8>) -> Result<(), WantOfMemory> {
         Line::CountLines => write_count_lines(&[(5, 1), (6, 22)], text),
         Line::Number => write_number(u64::MAX, text),
         Line::Bytes => write_bytes(b"some bytes", text),
+        Line::Base => write_base(7, text),
+        Line::Time => write_time(Some(1_704_067_200), text),
     }
 }
 
