@@ -1,5 +1,7 @@
 -- What the word `show` does, as its order asks for.
 use Rattle.std.proofs.Common.{◌≡◌, ℕ, List, Option, inl, inr, ap, sym}
+use Rattle.std.specs.Prelude.{Result, IfErr}
+use Rattle.std.specs.Result.{IsErrAnd}
 use Rattle.std.specs.Borrow.{Bor}
 use Rattle.osm_store.specs.Files.{Files, HasFailed}
 use Rattle.osm_folder.specs.Reports.{ReportValue}
@@ -8,7 +10,11 @@ use Rattle.osm_folder.specs.declared.fault.RunFault.{RunFault}
 use Rattle.osm_folder.specs.declared.fault.RunFault.TheVariants.{ReadFault, WriteFault}
 use Rattle.osm_folder.specs.declared.options.FollowOptions.{FollowOptions}
 use Rattle.osm_printing.specs.Printing.{IsCutOff, IsNotPrinted, IsPrinted, IsReadFault, IsRefused, IsShowOf, ShowStops}
-use Rattle.osm_repl.specs.Execution.{IsDone, IsNotDone, IsRun}
+use Rattle.osm_folder.proofs.ResultLemmas.{same_err}
+use Rattle.osm_repl.specs.Execution.{IsDone, IsNotDone, IsRun, IsRunFault}
+use Rattle.osm_repl.specs.declared.orders.Order.{Order}
+use Rattle.osm_repl.specs.declared.order_fault.OrderFault.{OrderFault}
+use Rattle.osm_repl.specs.declared.order_fault.OrderFault.TheVariants.{Run}
 use Rattle.osm_repl.specs.declared.orders.Order.TheVariants.{Show}
 
 is_run : (known : Type 0) (options : FollowOptions) (save : Bor (List ℕ)) (old new : Files) (report : ReportValue)
@@ -53,3 +59,11 @@ show_not_done known options save old new failed fails printed after fault (inr c
   count = cut.count;
   some = cut.some;
 }))))
+
+pub show_refused : {T : Type 0} (known : Type 0) (options : FollowOptions) (order : Order) (save : Bor (List ℕ)) (old new : Files) (failed fails : ℕ)
+    (printed after : Option (List ℕ)) (fault : RunFault) (r : Result T OrderFault) → order ≡ Show save → IsErrAnd r (λ e. e ≡ Run fault)
+    → IsNotPrinted known (old save.now) printed after fault → new ≡ old → (IsReadFault fault → HasFailed failed fails)
+    → IfErr r (IsRunFault (IsNotDone known options order old new failed fails printed after))
+show_refused known options order save old new failed fails printed after fault r is err not same h =
+    same_err (IsRunFault (IsNotDone known options order old new failed fails printed after)) r (Run fault) err
+    (rw is (show_not_done known options save old new failed fails printed after fault not same h))
