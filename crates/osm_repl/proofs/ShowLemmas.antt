@@ -1,5 +1,5 @@
 -- What the word `show` does, as its order asks for.
-use Rattle.std.proofs.Common.{◌≡◌, ℕ, List, Option, inl, inr, ap, sym}
+use Rattle.std.proofs.Common.{◌≡◌, ℕ, List, Option, inl, inr}
 use Rattle.std.specs.Prelude.{Result, IfErr}
 use Rattle.std.specs.Result.{IsErrAnd}
 use Rattle.std.specs.Borrow.{Bor}
@@ -9,9 +9,9 @@ use Rattle.osm_folder.specs.Runs.{Blames}
 use Rattle.osm_folder.specs.declared.fault.RunFault.{RunFault}
 use Rattle.osm_folder.specs.declared.fault.RunFault.TheVariants.{ReadFault, WriteFault}
 use Rattle.osm_folder.specs.declared.options.FollowOptions.{FollowOptions}
-use Rattle.osm_printing.specs.Printing.{IsCutOff, IsNotPrinted, IsPrinted, IsReadFault, IsRefused, IsShowOf, ShowStops}
+use Rattle.osm_printing.specs.Printing.{IsCutOff, IsNotPrinted, IsReadFault, IsRefused, IsShowOf, ShowStops}
 use Rattle.osm_folder.proofs.ResultLemmas.{same_err}
-use Rattle.osm_repl.specs.Execution.{IsDone, IsNotDone, IsRun, IsRunFault}
+use Rattle.osm_repl.specs.Execution.{IsNotDone, IsRun, IsRunFault}
 use Rattle.osm_repl.specs.declared.orders.Order.{Order}
 use Rattle.osm_repl.specs.declared.order_fault.OrderFault.{OrderFault}
 use Rattle.osm_repl.specs.declared.order_fault.OrderFault.TheVariants.{Run}
@@ -23,15 +23,6 @@ is_run known options save old new report is = record {
   does = is.shown;
   over = is.in_step;
   report_is = is.form;
-}
-
-pub show_done : (known : Type 0) (options : FollowOptions) (save : Bor (List ℕ)) (old new : Files) (printed after : Option (List ℕ))
-    → IsPrinted known (old save.now) printed after → IsDone known options (Show save) old new printed after 0
-show_done known options save old new printed after p = record {
-  report = p.report;
-  run = is_run known options save old new p.report p.is;
-  all = p.all;
-  status_is = sym (ap (λ (r : ReportValue). r.status) p.is.form.report_is);
 }
 
 blames : (known : Type 0) (told : Option (List ℕ)) (failed fails : ℕ) (fault : RunFault) → ShowStops known told fault
