@@ -393,6 +393,15 @@ def word(name, answer, old, new=None, left=None, given=b"", script=None):
                 refused={OUT_OF_MEMORY: Refusal(left=left)}, shown="\n".join(NAMES).encode(), script=script)
 
 
+def show_word(text, old):
+    """A show prints its first lines, then the lists, and last that nothing is held. Where it is refused it stops after
+    any of these."""
+    first = lines(*text.splitlines()[:2])
+    printed = (b"", first, text.removesuffix(b"held 0\n"))
+    return word("show", text + b"status 0\n", old)._replace(
+        refused={part + OUT_OF_MEMORY: Refusal() for part in printed})
+
+
 CHANGES = {"changes": lines(NODE)}
 WHOLE = {**SEQUENCE, "dir/state.txt": TOP}
 SAVED = {"save": save(3, *PLENTY)}
@@ -432,7 +441,7 @@ FILES = [
     for_ways("begin-opl", b"number 3\nstatus 0\n", {"a.opl": lines(*PLENTY[0]), "state": state(3)},
              ways_save(3, 3, (TAGGED,), (), ())),
     word("lag", b"behind 0\nseconds 0\nstatus 0\n", {"dir/state.txt": state(3), **SAVED}),
-    word("show", show(3, *PLENTY) + b"status 0\n", SAVED),
+    show_word(show(3, *PLENTY), SAVED),
     word("export-opl", b"status 0\n", SAVED, {"b.opl": lines(*PLENTY[0])}),
     word("export-o5m", b"status 0\n", begun(KINDS), {"b.o5m": DATA_FILE}),
     word("convert", b"status 0\n", {"a.opl": OPL_FILE}, {"b.o5c": O5C_FILE}),
