@@ -394,8 +394,8 @@ def word(name, answer, old, new=None, left=None, given=b"", script=None):
 
 
 def show_word(text, old):
-    """A show prints its first lines, then the lists, and last that nothing is held. Where it is refused it stops after
-    any of these."""
+    """A show prints its first lines, then the lists, and last that nothing is held. If memory is refused, it has printed
+    none of these, the first, or the first two."""
     first = lines(*text.splitlines()[:2])
     printed = (b"", first, text.removesuffix(b"held 0\n"))
     return word("show", text + b"status 0\n", old)._replace(
