@@ -18,6 +18,11 @@ pub record HasDataEnd (name : List ℕ) (form : DataForm) : Type 0 where
   pub start : List ℕ
   pub name_is : name ≡ start ++ data_end_of form
 
+-- the name tells a form of data files
+pub record HasDataForm (name : List ℕ) : Type 0 where
+  pub form : DataForm
+  pub end : HasDataEnd name form
+
 -- the name ends in neither form
 abbrev pub HasNoDataForm : List ℕ → Type 0
 HasNoDataForm name = (form : DataForm) → HasDataEnd name form → ⊥

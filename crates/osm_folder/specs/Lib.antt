@@ -1,7 +1,5 @@
-pub mod Beginning
 pub mod Conversion
 pub mod DataForms
-pub mod Exporting
 pub mod Faults
 pub mod Filters
 pub mod Folder

@@ -1,6 +1,4 @@
 -- Definitions that only clauses of private functions cite.
-pub mod Beginning
-pub mod Exporting
 pub mod Filtering
 pub mod Following
 pub mod Lagging

@@ -13,8 +13,8 @@ use std::alloc::Global;
 /// The most bytes of a state file.
 pub const MAX_STATE: u64 = 65_536;
 
-// The most bytes of a save that is read whole: 1 GiB.
-pub(crate) const MAX_SAVE: u64 = 1_073_741_824;
+/// The most bytes of a save that is read whole: 1 GiB.
+pub const MAX_SAVE: u64 = 1_073_741_824;
 
 // All bytes of a file, or `TooLarge` above the limit; None if there is no such file.
 pub(crate) fn read_file<S: Store>(
@@ -60,8 +60,8 @@ pub(crate) fn read_prefix<S: Store>(
     }
 }
 
-// All bytes of a file that has to be there, or `TooLarge` above the limit.
-pub(crate) fn read_present<S: Store>(
+/// All bytes of a file that has to be there, or `TooLarge` above the limit.
+pub fn read_present<S: Store>(
     alloc: Global,
     store: &mut S,
     file: FileName,
@@ -101,8 +101,8 @@ pub(crate) fn is_there<S: Store>(
     }
 }
 
-// Replaces the whole file with the bytes.
-pub(crate) fn write_file<S: Store>(
+/// Replaces the whole file with the bytes.
+pub fn write_file<S: Store>(
     alloc: Global,
     store: &mut S,
     file: FileName,

@@ -1,18 +1,15 @@
 //! The runs of the program over a store, but for following and audits.
 #![tactic(auto)]
 
-pub mod begin;
 mod compare;
 pub mod convert;
 pub mod data_form;
-pub mod export;
 pub mod fault;
 mod fetch;
 pub mod files;
 pub mod filters;
 pub mod form;
 pub mod lag;
-pub mod laws;
 pub mod missing;
 pub mod names;
 pub mod number;

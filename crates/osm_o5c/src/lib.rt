@@ -2,20 +2,20 @@
 #![tactic(auto)]
 
 mod chains;
-mod counters;
+pub mod counters;
 pub mod data;
-mod datasets;
-mod file_string;
-mod files;
+pub mod datasets;
+pub mod file_string;
+pub mod files;
 mod hashed_string;
 mod latest;
 mod metadata;
-mod numbers;
+pub mod numbers;
 pub mod o5c;
 mod objects;
-mod reader;
+pub mod reader;
 mod references;
 mod string_index;
-mod strings;
+pub mod strings;
 mod tags;
-mod writer;
+pub mod writer;

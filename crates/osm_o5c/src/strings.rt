@@ -78,7 +78,19 @@ impl<'a> StringTable<'a> {
         }
     }
 
-    fn push(&mut self, alloc: Global, item: Entry<'a>) -> Result<(), WantOfMemory>
+    /// How many strings can be named.
+    pub fn len(&self) -> usize
+        ensures value { result ≡ length self.now }
+        ensures most { result ≤ 15000 }
+    {
+        match &self.ring {
+            None => 0,
+            Some(ring) => ring.len(),
+        }
+    }
+
+    /// Enters a string. Of more than 15,000 the oldest is forgotten.
+    pub fn push(&mut self, alloc: Global, item: Entry<'a>) -> Result<(), WantOfMemory>
         ensures { OnOk result (self.new ≡ keep_last 15000 (self.old ++ item.entry ∷ [])) }
     {
         match &mut self.ring {
@@ -94,9 +106,9 @@ impl<'a> StringTable<'a> {
         Ok(())
     }
 
-    // The k-th most recent entry, counted from 1.
+    /// The k-th most recent entry, counted from 1.
     #[tactic(auto, unfolding(crate::specs::Steps::StringReading::latest))]
-    fn get(&self, k: u64) -> Option<&Entry<'a>>
+    pub fn get(&self, k: u64) -> Option<&Entry<'a>>
         ensures { option_copied result ≡ latest self.now k }
     {
         if k == 0 {

@@ -29,11 +29,12 @@ use Rattle.osm_follow.proofs.BeginLemmas.{kept_at}
 use Rattle.osm_follow.proofs.PublishedLemmas.{time_next}
 use Rattle.osm_follow.specs.Begin.{kept_objects}
 use Rattle.osm_follow.specs.Published.{PublishedValue, changes_after, changes_up_to, sequence_at}
-use Rattle.osm_folder.proofs.BeginLemmas.{one_form, same_base, same_start, spelled_data}
+use Rattle.osm_beginning.proofs.BeginLemmas.{one_form, same_base, same_start, spelled_data}
 use Rattle.osm_folder.proofs.InStepLemmas.{one_saved}
-use Rattle.osm_folder.specs.Beginning.{BeginStops, HasStart, IsBase, IsBadBase, IsBeginning, IsBegunFrom, begun_save}
+use Rattle.osm_beginning.specs.Beginning.{BeginStops, HasStart, IsBase, IsBadBase, IsBeginning, IsBegunFrom, begun_save}
 use Rattle.osm_folder.specs.DataForms.{data_text_of, spells_data}
-use Rattle.osm_folder.specs.Exporting.{ExportStops, HasDataForm, Holds, IsExportOf}
+use Rattle.osm_folder.specs.DataForms.{HasDataForm}
+use Rattle.osm_exporting.specs.Exporting.{ExportStops, Holds, IsExportOf}
 use Rattle.osm_store.specs.Files.{Files, IsOver, Puts}
 use Rattle.osm_folder.specs.Folder.{IsStateFile, IsThere, max_state}
 use Rattle.osm_folder.specs.Following.{IsInStep, IsSaveOf, IsSaved, max_save}

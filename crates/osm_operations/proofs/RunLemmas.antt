@@ -9,8 +9,8 @@ use Rattle.std.specs.Prelude.{decimal, max}
 use Rattle.std.proofs.lemmas.Fmt.{decimal_is_IsNumeral, length-decimal-le}
 use Rattle.osm_reading.specs.Sequence.{SpellsSequence}
 use Rattle.osm_state.specs.StateLaws.{NoFaultBesideState}
-use Rattle.osm_folder.specs.Beginning.{BeginStops, IsBegunFrom}
-use Rattle.osm_folder.specs.Exporting.{ExportStops, IsExportOf, IsExported}
+use Rattle.osm_beginning.specs.Beginning.{BeginStops, IsBegunFrom}
+use Rattle.osm_exporting.specs.Exporting.{ExportStops, IsExportOf, IsExported}
 use Rattle.osm_store.specs.Files.{Files, Spends}
 use Rattle.osm_folder.specs.Folder.{IsApart, IsFolderOf}
 use Rattle.osm_folder.specs.Following.{IsSaveOf, plainly}

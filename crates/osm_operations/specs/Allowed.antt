@@ -17,7 +17,7 @@ use Rattle.osm_state.specs.declared.paths.Suffix.TheVariants.{O5c, Opl, State}
 use Rattle.osm_follow.specs.Published.{PublishedValue, changes_up_to, sequence_at}
 use Rattle.osm_follow.specs.Publisher.{IsTooLarge}
 use Rattle.osm_folder.specs.DataForms.{HasNoDataForm, data_text_of}
-use Rattle.osm_folder.specs.Exporting.{HasDataForm}
+use Rattle.osm_folder.specs.DataForms.{HasDataForm}
 use Rattle.osm_folder.specs.Following.{IsInStep, IsSaveOf, max_save, ranges}
 use Rattle.osm_folder.specs.Numbered.{calls_before, file_read_after, numbered_calls}
 use Rattle.osm_folder.specs.Publication.{file_after}

@@ -15,7 +15,7 @@ use Rattle.osm_state.specs.declared.paths.Suffix.{Suffix}
 use Rattle.osm_state.specs.declared.paths.Suffix.TheVariants.{State}
 use Rattle.osm_follow.specs.Published.{PublishedValue}
 use Rattle.osm_follow.specs.Reach.{numbers}
-use Rattle.osm_folder.specs.Exporting.{IsExportOf}
+use Rattle.osm_exporting.specs.Exporting.{IsExportOf}
 use Rattle.osm_store.specs.Files.{Files}
 use Rattle.osm_folder.specs.Folder.{IsApart, IsFolderOf}
 use Rattle.osm_folder.specs.Following.{IsSaveOf}

@@ -19,8 +19,8 @@ ghost use Rattle.osm_operations.specs.Steps.Stepping.{LacksFollowCalls, Moves, N
 ghost use Rattle.osm_operations.specs.Steps.Stepping.{Returns, named};
 ghost use Rattle.osm_operations.specs.Steps.Stepping.{PublishStep, state_name_of};
 
-use osm_folder::begin::begin_run;
-use osm_folder::export::export_run;
+use osm_beginning::begin::begin_run;
+use osm_exporting::export::export_run;
 use osm_folder::fault::{FileName, RunFault};
 use osm_folder::names::file_name;
 use osm_folder::options::FollowOptions;

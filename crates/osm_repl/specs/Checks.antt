@@ -6,7 +6,7 @@ use Rattle.osm_model.specs.Filter.{FilterValue, everything}
 use Rattle.osm_model.specs.Time.{TimeText}
 use Rattle.osm_reading.specs.Sequence.{SpellsSequence}
 use Rattle.osm_folder.specs.DataForms.{HasNoDataForm}
-use Rattle.osm_folder.specs.Exporting.{HasDataForm}
+use Rattle.osm_folder.specs.DataForms.{HasDataForm}
 use Rattle.osm_folder.specs.Filters.{FilterStops, IsAsked}
 use Rattle.osm_folder.specs.Publication.{HasTime}
 use Rattle.osm_folder.specs.declared.fault.RunFault.{RunFault}

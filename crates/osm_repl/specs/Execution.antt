@@ -8,9 +8,9 @@ use Rattle.osm_json.specs.Line.{fault_data, json_line}
 use Rattle.osm_model.specs.Filter.{FilterValue}
 use Rattle.osm_follow.specs.Published.{PublishedValue}
 use Rattle.osm_reading.specs.Sequence.{SpellsSequence}
-use Rattle.osm_folder.specs.Beginning.{BeginStops, IsBaseOf, IsBegunFrom}
+use Rattle.osm_beginning.specs.Beginning.{BeginStops, IsBaseOf, IsBegunFrom}
 use Rattle.osm_folder.specs.Conversion.{ConvertStops, IsConverted}
-use Rattle.osm_folder.specs.Exporting.{ExportStops, IsExported, IsExportOf}
+use Rattle.osm_exporting.specs.Exporting.{ExportStops, IsExported, IsExportOf}
 use Rattle.osm_store.specs.Files.{Files, HasFailed}
 use Rattle.osm_folder.specs.Folder.{IsApart, IsFolderOf}
 use Rattle.osm_folder.specs.Following.{IsFollowReport, IsInStepAfter, IsSaveOf}

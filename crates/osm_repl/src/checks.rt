@@ -2,7 +2,7 @@
 
 ghost use Rattle.std.specs.Prelude.{◌≡◌, ◌+◌, ◌<◌, ◌≤◌, IfErr, IfOk, MatchBool, OnOk, map};
 ghost use Rattle.osm_folder.specs.DataForms.{HasNoDataForm};
-ghost use Rattle.osm_folder.specs.Exporting.{HasDataForm};
+ghost use Rattle.osm_folder.specs.DataForms.{HasDataForm};
 ghost use Rattle.osm_folder.specs.Filters.{FilterStops, IsAsked};
 ghost use Rattle.osm_folder.specs.Publication.{HasTime};
 ghost use Rattle.osm_folder.specs.declared.fault.RunFault.{RunFault};

@@ -4,35 +4,24 @@ use Rattle.std.specs.Prelude.{◌≡◌, ℕ, ◌+◌, ◌<◌, ◌≤◌, List,
 use Rattle.std.specs.Prelude.{suc, filter, Option, Some, None, Vec}
 use Rattle.osm_model.specs.ChangeForm.{SpellsNothing}
 use Rattle.osm_model.specs.Limits.{IsPositive, max_file}
-use Rattle.osm_save.specs.Save.{SpellsSave}
-use Rattle.osm_save.specs.declared.save.Saved.{Saved}
 use Rattle.osm_state.specs.StateFault.{FaultOf}
 use Rattle.osm_state.specs.declared.paths.Suffix.{Suffix}
 use Rattle.osm_state.specs.declared.paths.Suffix.TheVariants as suffixes
 use Rattle.osm_follow.specs.Delivery.{FaultPlaces, Spelling}
-use Rattle.osm_follow.specs.Follower.{FollowerValue}
 use Rattle.osm_follow.specs.Reach.{numbers}
-use Rattle.osm_follow.specs.Restart.{saved_of}
 use Rattle.osm_store.specs.Files.{Files}
 use Rattle.osm_folder.specs.Folder.{IsStateFile, IsThere}
 use Rattle.osm_folder.specs.Following.{IsLookedFor}
 use Rattle.osm_folder.specs.Following.{IsReached, is_lost}
-use Rattle.osm_folder.specs.Following.{max_save}
 use Rattle.osm_folder.specs.Names.{file_name_of}
 use Rattle.osm_folder.specs.declared.fault.FileName.{FileName}
-use Rattle.osm_folder.specs.declared.fault.FileName.TheVariants.{Top, Sequence, Save}
+use Rattle.osm_folder.specs.declared.fault.FileName.TheVariants.{Top, Sequence}
 use Rattle.osm_folder.specs.declared.fault.RunFault.{RunFault}
 use Rattle.osm_folder.specs.declared.fault.RunFault.TheVariants.{WantOfMemory, ReadFault}
-use Rattle.osm_folder.specs.declared.fault.RunFault.TheVariants.{TooLarge, BadState}
-use Rattle.osm_folder.specs.declared.fault.RunFault.TheVariants.{BadChange, BadSave, Mismatch}
+use Rattle.osm_folder.specs.declared.fault.RunFault.TheVariants.{BadState}
+use Rattle.osm_folder.specs.declared.fault.RunFault.TheVariants.{BadChange, Mismatch}
 use Rattle.osm_folder.specs.declared.form.Form.{Form}
 use Rattle.osm_folder.specs.declared.form.Form.TheVariants.{Opl, O5c}
-
--- why a text isn't read as a save, of whatever filter
-abbrev pub SavedStops : List ℕ → RunFault → Type 0
-SavedStops text WantOfMemory = Unit {0}
-SavedStops text (BadSave line) = (v : Saved) → SpellsSave text v → ⊥
-SavedStops text fault = ⊥
 
 -- why a text isn't the top state
 abbrev pub TopTextStops : List ℕ → RunFault → Type 0
@@ -102,15 +91,3 @@ pub record AreNamed (known : Type 0) (files : Files) (dir : List ℕ) (reached t
   pub some : 0 < length missing
   pub named : known → IsReached files dir reached top
       → missing ≡ filter (is_lost files dir) (numbers reached (suc count))
-
--- a follower's save passes 1 GiB
-pub record IsBigSave (f : FollowerValue) : Type 0 where
-  pub text : List ℕ
-  pub spelled : SpellsSave text (saved_of f)
-  pub over : max_save < length text
-
--- why a follower isn't saved
-abbrev pub MadeStops : FollowerValue → RunFault → Type 0
-MadeStops f WantOfMemory = Unit {0}
-MadeStops f (TooLarge file) = (file ≡ Save) × IsBigSave f
-MadeStops f fault = ⊥

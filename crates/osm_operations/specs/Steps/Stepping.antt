@@ -14,8 +14,8 @@ use Rattle.osm_state.specs.declared.paths.Suffix.{Suffix}
 use Rattle.osm_save.specs.declared.head.Head.{Head}
 use Rattle.osm_state.specs.declared.paths.Suffix.TheVariants.{O5c, Opl, State}
 use Rattle.osm_follow.specs.Published.{PublishedValue}
-use Rattle.osm_folder.specs.Beginning.{BeginStops, IsBegunFrom}
-use Rattle.osm_folder.specs.Exporting.{ExportStops, IsExportOf, IsExported}
+use Rattle.osm_beginning.specs.Beginning.{BeginStops, IsBegunFrom}
+use Rattle.osm_exporting.specs.Exporting.{ExportStops, IsExportOf, IsExported}
 use Rattle.osm_store.specs.Files.{Files, Puts}
 use Rattle.osm_folder.specs.Folder.{IsApart, IsFolderOf}
 use Rattle.osm_folder.specs.Following.{IsSaveOf, plainly}
