@@ -14,7 +14,7 @@ use Rattle.osm_folder.specs.declared.fault.RunFault.TheVariants.{WantOfMemory, R
 use Rattle.osm_folder.specs.declared.fault.RunFault.TheVariants.{BadState, BadSave, Changed, OtherFilter, TopBehind}
 use Rattle.osm_folder.proofs.InStepLemmas.{one_saved}
 use Rattle.osm_round.specs.Rounds.{HasManyObjects, IsFollowed, IsFollowedBefore, RoundStops, StartStops}
-use Rattle.osm_round.specs.Starting.{IsTooLarge}
+use Rattle.osm_checked.specs.Checking.{IsTooLarge}
 use Rattle.osm_round.proofs.OverLemmas.{no_bad_save}
 use Rattle.osm_operations.specs.Allowed.{OtherRefused}
 use Rattle.osm_operations.specs.Steps.Stepping.{IsNoDevice}

@@ -32,7 +32,7 @@ use Rattle.osm_folder.proofs.TakingLemmas.{adds_has, adds_number, has_not_lost}
 use Rattle.osm_merge.specs.Checking.{IsHugeFile}
 use Rattle.osm_round.specs.Over.{FollowRefuses, HasMany}
 use Rattle.osm_round.specs.Rounds.{ComesBefore, HasManyObjects, RoundStops, StartStops}
-use Rattle.osm_round.specs.Starting.{IsTooLarge}
+use Rattle.osm_checked.specs.Checking.{IsTooLarge}
 use Rattle.osm_round.proofs.OverLemmas.{no_bad_save, start_refuses}
 use Rattle.osm_operations.specs.Spoiling.{IsSpoiledFault, spoiled}
 use Rattle.osm_operations.proofs.SpoiledLemmas.{IsSpoiled, lost_alike, no_state, other_number, other_suffix, suffix_cases, there_same}

@@ -1,5 +1,5 @@
 -- A show text that is printed in parts, and what it says of the save.
-use Rattle.std.proofs.Common.{◌≡◌, ℕ, List, [], ◌++◌, length, take, Option, Some, inl, inr, refl, sym, ap, subst, ◌∙◌, append_assoc}
+use Rattle.std.proofs.Common.{◌≡◌, ℕ, List, [], ◌++◌, length, take, Option, inr, refl, sym, ap, subst, ◌∙◌, append_assoc}
 use Rattle.std.specs.Prelude.{Bool, true, false, IsTrue, Ok, codes}
 use Rattle.std.specs.Fmt.{digits}
 use Rattle.std.specs.Io.KnownBytes.{Appends}
@@ -9,7 +9,6 @@ use Rattle.osm_store.specs.Frames.{IsKnown, StoreState}
 use Rattle.osm_blocks.specs.Frames.{ReadsOften}
 use Rattle.osm_blocks.specs.Places.{HasFile}
 use Rattle.osm_folder.specs.Reports.{ReportValue}
-use Rattle.osm_folder.specs.declared.fault.FileName.TheVariants.{Save}
 use Rattle.osm_folder.specs.declared.fault.RunFault.{RunFault}
 use Rattle.osm_folder.specs.declared.fault.RunFault.TheVariants.{Changed, ReadFault, TooLarge, WantOfMemory, WriteFault}
 use Rattle.osm_merge.proofs.FrameLemmas.{has_still}
@@ -18,10 +17,12 @@ use Rattle.osm_save.specs.Save.{SpellsSave}
 use Rattle.osm_save.specs.declared.head.Head.{Head}
 use Rattle.osm_save.specs.declared.save.Saved.{Saved}
 use Rattle.osm_show.specs.Show.{counts_text, held_text, objects_text, view_text}
-use Rattle.osm_printing.specs.Printing.{CopyStops, IsCutOff, IsNotPrinted, IsPrinted, IsReadFault, IsShowOf, IsShown, ShowStops, shown_text, start_text}
+use Rattle.osm_printing.specs.Printing.{CopyStops, IsCutOff, IsNotPrinted, IsPrinted, IsReadFault, IsShowOf, IsShown, shown_text, start_text}
+use Rattle.osm_checked.specs.Checking.{ReadStops}
 use Rattle.osm_printing.specs.Printing.{view_of_saved}
 use Rattle.osm_folder.specs.Writing.{WritingFault}
-use Rattle.osm_printing.specs.Steps.Copying.{HasLists, IsCopied, IsCopiedInPart, IsPart, IsPrintedFrom, IsPrintedInPart, IsSaveText, IsStart, PlaceStops}
+use Rattle.osm_printing.specs.Steps.Copying.{HasLists, IsCopied, IsCopiedInPart, IsPart, IsPrintedFrom, IsPrintedInPart, IsStart, PlaceStops}
+use Rattle.osm_checked.specs.Checking.{IsSaveText}
 use Rattle.osm_printing.specs.Steps.Copying.{StartStops, lists_of}
 use Rattle.osm_printing.specs.declared.start.Start.{Start}
 use Rattle.osm_printing.proofs.CopyLemmas.{part_after, part_all, part_before, part_take, write_stops, written_part}
@@ -138,7 +139,7 @@ report_of known told start lists own = record {
 
 pub start_stops : (a b : StoreState) (name : List ℕ) (fault : RunFault) → (IsKnown a → IsSaveText (a.files name))
     → ReadsOften {T = Unit {0}} IsReadFault a b (Ok tt)
-    → StartStops b name fault → ShowStops (IsKnown a) (a.files name) fault
+    → StartStops b name fault → ReadStops (IsKnown a) (a.files name) fault
 start_stops a b name WantOfMemory whole frame h = tt
 start_stops a b name (ReadFault file) whole frame h = h
 start_stops a b name (Changed file) whole frame h = (

@@ -1,6 +1,6 @@
 -- Printing what a save holds, while it is read. `known` says that it is known what the files hold,
 -- and `told` is then what the save holds, none if there is no such file.
-use Rattle.std.specs.Prelude.{◌≡◌, ℕ, ◌⊎◌, List, [], ◌++◌, Option, Some, None, codes, take}
+use Rattle.std.specs.Prelude.{◌≡◌, ℕ, ◌⊎◌, List, [], ◌++◌, Option, Some, codes, take}
 use Rattle.std.specs.Io.KnownBytes.{Appends}
 use Rattle.osm_mirror.specs.Mirror.{IsMirrorOf}
 use Rattle.osm_model.specs.Filter.{FilterValue}
@@ -11,12 +11,13 @@ use Rattle.osm_follow.specs.Published.{PublishedValue, changes_after, changes_up
 use Rattle.osm_follow.specs.View.{ViewValue}
 use Rattle.osm_show.specs.Lines.{numbered_line}
 use Rattle.osm_show.specs.Show.{base_line, held_text, time_line, view_text}
-use Rattle.osm_merge.specs.Checking.{IsHugeFile, IsNoSave}
+use Rattle.osm_merge.specs.Checking.{IsHugeFile}
+use Rattle.osm_checked.specs.Checking.{ReadStops}
 use Rattle.osm_folder.specs.Following.{IsSaveOf}
 use Rattle.osm_folder.specs.Reports.{ReportValue}
 use Rattle.osm_folder.specs.declared.fault.FileName.TheVariants.{Output, Save}
 use Rattle.osm_folder.specs.declared.fault.RunFault.{RunFault}
-use Rattle.osm_folder.specs.declared.fault.RunFault.TheVariants.{Absent, BadSave, Changed}
+use Rattle.osm_folder.specs.declared.fault.RunFault.TheVariants.{Changed}
 use Rattle.osm_folder.specs.declared.fault.RunFault.TheVariants.{ReadFault, TooLarge, WantOfMemory}
 use Rattle.osm_folder.specs.declared.fault.RunFault.TheVariants.{WriteFault}
 
@@ -85,20 +86,6 @@ pub record IsPrinted (known : Type 0) (told printed after : Option (List ℕ)) :
   pub is : IsShowOf known told report
   pub all : Appends printed after report.text
 
--- the save has more bytes than 64 bits count, or a line of more than 256 MiB, as no save text has
-abbrev pub IsTooLarge : Option (List ℕ) → Type 0
-IsTooLarge told = IsHugeFile told ⊎ IsNoSave told
-
--- why a save isn't shown at all
-abbrev pub ShowStops : Type 0 → Option (List ℕ) → RunFault → Type 0
-ShowStops known told WantOfMemory = Unit {0}
-ShowStops known told (ReadFault file) = file ≡ Save
-ShowStops known told (Absent file) = (file ≡ Save) × (known → told ≡ None)
-ShowStops known told (TooLarge file) = (file ≡ Save) × (known → IsTooLarge told)
-ShowStops known told (BadSave line) = known → IsNoSave told
-ShowStops known told (Changed file) = (file ≡ Save) × (known → ⊥)
-ShowStops known told fault = ⊥
-
 -- why a save text is shown in part: standard output failed, or the save isn't read again. A save
 -- whose bytes are known doesn't change
 abbrev pub CopyStops : Type 0 → Option (List ℕ) → RunFault → Type 0
@@ -112,7 +99,7 @@ CopyStops known told fault = ⊥
 -- the save wasn't found to be a save text, and nothing was printed
 pub record IsRefused (known : Type 0) (told printed after : Option (List ℕ)) (fault : RunFault)
     : Type 0 where
-  pub stops : ShowStops known told fault
+  pub stops : ReadStops known told fault
   pub nothing : after ≡ printed
 
 -- the save is a save text, and a prefix of its report was printed

@@ -1,21 +1,20 @@
 //! Showing what a save holds, whatever its size.
 
-ghost use Rattle.std.specs.Prelude.{◌≡◌, ◌++◌, IfErr, IfOk, OnOk};
+ghost use Rattle.std.specs.Prelude.{◌≡◌, IfErr, IfOk, OnOk};
 ghost use Rattle.osm_store.specs.Files.{Spends};
 ghost use Rattle.osm_store.specs.Frames.{IsKnown, MakesAtMost};
 ghost use Rattle.osm_blocks.specs.Frames.{ReadsOften};
 ghost use Rattle.osm_merge.specs.Calls.{bytes_in, check_calls};
-ghost use Rattle.osm_printing.specs.Printing.{IsNotPrinted, IsPrinted, IsReadFault, ShowStops};
+ghost use Rattle.osm_checked.specs.Checking.{IsSaveText, ReadStops};
+ghost use Rattle.osm_printing.specs.Printing.{IsNotPrinted, IsPrinted, IsReadFault};
 ghost use Rattle.osm_printing.specs.Printing.{start_text};
-ghost use Rattle.osm_printing.specs.Steps.Copying.{IsPrintedFrom, IsPrintedInPart, IsSaveText};
-ghost use Rattle.osm_printing.specs.Steps.Copying.{read_fault_of};
+ghost use Rattle.osm_printing.specs.Steps.Copying.{IsPrintedFrom, IsPrintedInPart};
 
 use crate::copy::copy_lists;
 use crate::start::{Start, read_start};
-use osm_folder::fault::{FileName, RunFault};
+use osm_checked::check::check;
+use osm_folder::fault::RunFault;
 use osm_folder::writing::write_text;
-use osm_merge::check::check_save;
-use osm_merge::fault::MergeFault;
 use osm_model::memory::WantOfMemory;
 use osm_save::head::Head;
 use osm_show::lines::write_numbered;
@@ -40,7 +39,7 @@ pub fn show_in_blocks<S: Store, W: Write>(
     ensures frame { ReadsOften IsReadFault (S.state store.old) (S.state store.new) result }
     ensures spends { OnOk result (Spends 1 (S.state store.old).left (S.state store.new).left) }
 {
-    match check(alloc, store, save) {
+    match check_save(alloc, store, save) {
         Ok(()) => {}
         Err(fault) => return Err(fault),
     }
@@ -54,11 +53,12 @@ pub fn show_in_blocks<S: Store, W: Write>(
     }
 }
 
-// Refuses a save that isn't there or is no save text.
-fn check<S: Store>(alloc: Global, store: &mut S, save: &str) -> Result<(), RunFault>
+// Refuses a save that isn't there or is no save text. Nothing is written, so the device that fails
+// is that of the save.
+fn check_save<S: Store>(alloc: Global, store: &mut S, save: &str) -> Result<(), RunFault>
     ensures whole { OnOk result (IsKnown (S.state store.old)
         → IsSaveText ((S.state store.old).files save.now)) }
-    ensures stops { IfErr result (ShowStops (IsKnown (S.state store.old))
+    ensures stops { IfErr result (ReadStops (IsKnown (S.state store.old))
         ((S.state store.old).files save.now)) }
     ensures frame { ReadsOften IsReadFault (S.state store.old) (S.state store.new) result }
     ensures spends { OnOk result (Spends 1 (S.state store.old).left (S.state store.new).left) }
@@ -66,23 +66,9 @@ fn check<S: Store>(alloc: Global, store: &mut S, save: &str) -> Result<(), RunFa
         (check_calls (bytes_in ((S.state store.old).files save.now)))
         (S.state store.old) (S.state store.new) result }
 {
-    match check_save(alloc, store, save) {
-        Ok(_checked) => Ok(()),
-        Err(fault) => Err(read_fault(fault)),
-    }
-}
-
-// The fault of a save text as one of a run that reads it.
-fn read_fault(fault: MergeFault) -> RunFault
-    ensures { result ≡ read_fault_of fault }
-{
-    match fault {
-        MergeFault::ReadFault | MergeFault::WriteFault => RunFault::ReadFault(FileName::Save),
-        MergeFault::WantOfMemory => RunFault::WantOfMemory,
-        MergeFault::NoSave => RunFault::Absent(FileName::Save),
-        MergeFault::BadSave { line } => RunFault::BadSave(line),
-        MergeFault::LongLine | MergeFault::TooLarge => RunFault::TooLarge(FileName::Save),
-        MergeFault::Changed => RunFault::Changed(FileName::Save),
+    match check(alloc, store, save) {
+        Ok(()) => Ok(()),
+        Err(fault) => Err(fault),
     }
 }
 

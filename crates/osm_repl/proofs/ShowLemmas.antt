@@ -9,7 +9,8 @@ use Rattle.osm_folder.specs.Runs.{Blames}
 use Rattle.osm_folder.specs.declared.fault.RunFault.{RunFault}
 use Rattle.osm_folder.specs.declared.fault.RunFault.TheVariants.{ReadFault, WriteFault}
 use Rattle.osm_folder.specs.declared.options.FollowOptions.{FollowOptions}
-use Rattle.osm_printing.specs.Printing.{IsCutOff, IsNotPrinted, IsReadFault, IsRefused, IsShowOf, ShowStops}
+use Rattle.osm_printing.specs.Printing.{IsCutOff, IsNotPrinted, IsReadFault, IsRefused, IsShowOf}
+use Rattle.osm_checked.specs.Checking.{ReadStops}
 use Rattle.osm_folder.proofs.ResultLemmas.{same_err}
 use Rattle.osm_repl.specs.Execution.{IsNotDone, IsRun, IsRunFault}
 use Rattle.osm_repl.specs.declared.orders.Order.{Order}
@@ -25,7 +26,7 @@ is_run known options save old new report is = record {
   report_is = is.form;
 }
 
-blames : (known : Type 0) (told : Option (List ℕ)) (failed fails : ℕ) (fault : RunFault) → ShowStops known told fault
+blames : (known : Type 0) (told : Option (List ℕ)) (failed fails : ℕ) (fault : RunFault) → ReadStops known told fault
     → (IsReadFault fault → HasFailed failed fails) → Blames failed fails fault
 blames known told failed fails (ReadFault file) stops h = h
 blames known told failed fails (WriteFault file) stops h = absurd stops

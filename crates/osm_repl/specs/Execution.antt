@@ -30,7 +30,7 @@ use Rattle.osm_folder.specs.declared.options.Layout.TheVariants.{Json, Lines}
 use Rattle.osm_folder.specs.declared.progress.Progress.{Progress}
 use Rattle.osm_folder.specs.declared.progress.Progress.TheVariants.{Whole, Before}
 use Rattle.osm_printing.specs.Printing.{CopyStops, IsReadFault, IsShowReport, IsShown, IsShownOf}
-use Rattle.osm_printing.specs.Printing.{ShowStops}
+use Rattle.osm_checked.specs.Checking.{ReadStops}
 use Rattle.osm_round.specs.Over.{FollowRefuses}
 use Rattle.osm_round.specs.Rounds.{IsFollowed, IsFollowedBefore, RoundStops}
 use Rattle.osm_script.specs.Replay.{ReplayFault, ReplayLeaves, Replays}
@@ -158,7 +158,7 @@ RunStops known options (Begin base state save) old new fault =
 RunStops known options (Follow dir save) old new fault =
     RoundStops known options dir.now save.now old fault
 RunStops known options (Lag dir save) old new fault = LagStops known dir.now save.now old fault
-RunStops known options (Show save) old new fault = ShowStops known (old save.now) fault
+RunStops known options (Show save) old new fault = ReadStops known (old save.now) fault
 RunStops known options (Export save output) old new fault =
     ExportStops known save.now output.now old fault
 RunStops known options (Convert input output) old new fault =

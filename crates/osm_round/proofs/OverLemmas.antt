@@ -30,7 +30,8 @@ use Rattle.osm_folder.proofs.RefusalLemmas.{good_top, none_published, small_top}
 use Rattle.osm_folder.proofs.TakingLemmas.{adds_number}
 use Rattle.osm_round.specs.Over.{FollowRefuses, FollowsOver, HasMany, follow_calls}
 use Rattle.osm_round.specs.Rounds.{HasManyObjects, IsFollowed, IsFollowedBefore, IsProgress, RoundStops, StartStops}
-use Rattle.osm_round.specs.Starting.{IsOtherSave, IsTooLarge}
+use Rattle.osm_round.specs.Starting.{IsOtherSave}
+use Rattle.osm_checked.specs.Checking.{IsTooLarge}
 
 -- ---- what it does
 

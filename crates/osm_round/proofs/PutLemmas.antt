@@ -29,9 +29,11 @@ use Rattle.osm_folder.specs.Lagging.{no_head}
 use Rattle.osm_folder.specs.declared.fault.RunFault.{RunFault}
 use Rattle.osm_folder.specs.declared.fault.RunFault.TheVariants.{Absent, BadSave, Changed, OtherFilter}
 use Rattle.osm_folder.specs.declared.fault.RunFault.TheVariants.{ReadFault, TooLarge, WantOfMemory, WriteFault}
-use Rattle.osm_round.specs.Putting.{IsMadeOf, IsSavableAlone, IsSaveText, PutsTaken, saved_after}
-use Rattle.osm_round.specs.Starting.{BeginStops, BeginsOther, IsBegun, IsBegunAt, IsTooLarge, MergeStops, PutStops, ReadStops}
-use Rattle.osm_round.specs.Starting.{write_fault_of}
+use Rattle.osm_round.specs.Putting.{IsMadeOf, IsSavableAlone, PutsTaken, saved_after}
+use Rattle.osm_checked.specs.Checking.{IsSaveText}
+use Rattle.osm_round.specs.Starting.{BeginStops, BeginsOther, IsBegun, IsBegunAt, MergeStops, PutStops}
+use Rattle.osm_checked.specs.Checking.{IsTooLarge, ReadStops}
+use Rattle.osm_checked.specs.Checking.{write_fault_of}
 use Rattle.osm_round.specs.Taking.{IsTaken}
 use Rattle.osm_round.specs.declared.start.Start.{Start}
 use Rattle.osm_round.specs.declared.taken.Taken.{Taken}

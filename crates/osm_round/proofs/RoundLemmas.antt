@@ -29,7 +29,8 @@ use Rattle.osm_folder.proofs.InStepLemmas.{last_within}
 use Rattle.osm_round.specs.Putting.{PutsTaken, saved_after}
 use Rattle.osm_round.specs.Rounds.{BeforeStops, IsFirst, IsPrepared, IsProgress, IsReport, IsUnpublished, IsWhole, PrepareStops, UpToStops}
 use Rattle.osm_round.specs.Rounds.{HasManyObjects, RoundStops, StartStops, StopsLooking, StopsTaking, outcome_of, progress_of}
-use Rattle.osm_round.specs.Starting.{BeginStops, BeginsOther, IsBegun, IsBegunAt, IsOtherSave, IsTooLarge, PutStops}
+use Rattle.osm_round.specs.Starting.{BeginStops, BeginsOther, IsBegun, IsBegunAt, IsOtherSave, PutStops}
+use Rattle.osm_checked.specs.Checking.{IsTooLarge}
 use Rattle.osm_round.specs.Taking.{AdvancesAll, HasTaken, StopsOnTheWay, TakesUp}
 use Rattle.osm_round.specs.declared.round.Prepared.{Prepared}
 use Rattle.osm_round.specs.declared.start.Start.{Start}

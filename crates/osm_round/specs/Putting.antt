@@ -1,5 +1,5 @@
 -- What a run leaves of its save.
-use Rattle.std.specs.Prelude.{◌≡◌, ℕ, List, Option, Some}
+use Rattle.std.specs.Prelude.{◌≡◌, ℕ, List, Some}
 use Rattle.osm_mirror.specs.Mirror.{IsWithin, no_mirror}
 use Rattle.osm_model.specs.Filter.{AreKept, FilterValue}
 use Rattle.osm_net.specs.Laid.{laid_on}
@@ -15,13 +15,6 @@ use Rattle.osm_round.specs.declared.taken.Taken.{Taken}
 -- what a save holds after what was taken
 abbrev pub saved_after : Saved → Taken → Saved
 saved_after v taken = saved_with taken.head v.filter (laid_on taken.net v.mirror)
-
--- the file is the save text of something
-pub record IsSaveText (told : Option (List ℕ)) : Type 0 where
-  pub file : List ℕ
-  pub there : told ≡ Some file
-  pub saved : Saved
-  pub spells : SpellsSave file saved
 
 -- the save was that of something under the given filter at that head, and is that of it after what
 -- was taken; no other file changed

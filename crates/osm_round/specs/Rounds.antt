@@ -31,8 +31,9 @@ use Rattle.osm_folder.specs.declared.options.FollowOptions.{FollowOptions}
 use Rattle.osm_folder.specs.declared.options.Layout.{Layout}
 use Rattle.osm_folder.specs.declared.progress.Progress.{Progress}
 use Rattle.osm_folder.specs.declared.progress.Progress.TheVariants.{Before, Whole}
-use Rattle.osm_round.specs.Putting.{IsSaveText}
-use Rattle.osm_round.specs.Starting.{IsOtherSave, IsTooLarge}
+use Rattle.osm_checked.specs.Checking.{IsSaveText}
+use Rattle.osm_round.specs.Starting.{IsOtherSave}
+use Rattle.osm_checked.specs.Checking.{IsTooLarge}
 use Rattle.osm_round.specs.Taking.{HasTaken}
 use Rattle.osm_round.specs.declared.taken.Taken.{Taken}
 use Rattle.osm_round.specs.declared.round.Prepared.{Prepared}

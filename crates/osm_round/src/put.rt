@@ -9,20 +9,20 @@ ghost use Rattle.osm_mirror.specs.Mirror.{AreRising, no_mirror};
 ghost use Rattle.osm_net.specs.Laid.{laid_on, laid_over, put_before};
 ghost use Rattle.osm_store.specs.Files.{Spends};
 ghost use Rattle.osm_store.specs.Frames.{IsKnown, MakesAtMost};
-ghost use Rattle.osm_blocks.specs.Frames.{ReadsOften};
-ghost use Rattle.osm_merge.specs.Calls.{bytes_in, check_calls, merge_calls};
+ghost use Rattle.osm_merge.specs.Calls.{bytes_in, merge_calls};
 ghost use Rattle.osm_merge.specs.Frames.{ReplacesOften};
 ghost use Rattle.osm_merge.specs.Laying.{IsFew};
 ghost use Rattle.osm_merge.specs.Merging.{IsMerged};
 ghost use Rattle.osm_folder.specs.Runs.{IsDeviceFault};
-ghost use Rattle.osm_round.specs.Putting.{IsMadeOf, IsSavableAlone, IsSaveText, PutsTaken};
-ghost use Rattle.osm_round.specs.Starting.{IsBegun, MergeStops, PutStops, ReadStops};
+ghost use Rattle.osm_round.specs.Putting.{IsMadeOf, IsSavableAlone, PutsTaken};
+ghost use Rattle.osm_round.specs.Starting.{IsBegun, MergeStops, PutStops};
 ghost use Rattle.osm_round.specs.Taking.{IsTaken};
 
-use crate::start::{Start, read_fault, write_fault};
+use crate::start::Start;
 use crate::taken::Taken;
+use osm_checked::check::check;
+use osm_checked::fault::write_fault;
 use osm_folder::fault::{FileName, RunFault};
-use osm_merge::check::check_save;
 use osm_merge::merge::merge_save;
 use osm_mirror::mirror::Mirror;
 use osm_mirror::objects::Objects;
@@ -71,24 +71,6 @@ pub(crate) fn put<S: Store>(
         return check(alloc, store, save);
     }
     merge(alloc, store, save, taken)
-}
-
-// Checks the save, which stays as it is.
-fn check<S: Store>(alloc: Global, store: &mut S, save: &str) -> Result<(), RunFault>
-    ensures checked { OnOk result (IsKnown (S.state store.old)
-        → IsSaveText ((S.state store.old).files save.now)) }
-    ensures stops { IfErr result (ReadStops (IsKnown (S.state store.old))
-        ((S.state store.old).files save.now)) }
-    ensures frame { ReadsOften IsDeviceFault (S.state store.old) (S.state store.new) result }
-    ensures spends { OnOk result (Spends 1 (S.state store.old).left (S.state store.new).left) }
-    ensures calls { IsKnown (S.state store.old) → MakesAtMost IsDeviceFault
-        (check_calls (bytes_in ((S.state store.old).files save.now)))
-        (S.state store.old) (S.state store.new) result }
-{
-    match check_save(alloc, store, save) {
-        Ok(_checked) => Ok(()),
-        Err(fault) => Err(read_fault(fault)),
-    }
 }
 
 // Lays what was taken over the save.

@@ -7,9 +7,10 @@ ghost use Rattle.osm_store.specs.Frames.{IsKnown, MakesAtMost};
 ghost use Rattle.osm_blocks.specs.Frames.{ReadsOften};
 ghost use Rattle.osm_folder.specs.Runs.{IsDeviceFault};
 ghost use Rattle.osm_folder.specs.declared.fault.RunFault.TheVariants.{OtherFilter};
-ghost use Rattle.osm_round.specs.Starting.{BeginStops, IsBegun, read_fault_of, write_fault_of};
+ghost use Rattle.osm_round.specs.Starting.{BeginStops, IsBegun};
 
-use osm_folder::fault::{FileName, RunFault};
+use osm_checked::fault::read_fault;
+use osm_folder::fault::RunFault;
 use osm_merge::fault::MergeFault;
 use osm_merge::opening::{Opening, read_beginning};
 use osm_model::filter::{Filter, laws_of_filters};
@@ -78,28 +79,4 @@ fn are_same(filter: &Filter, other: &Filter) -> bool
 {
     laws_of_filters();
     filter == other
-}
-
-/// The fault of a save text as one of a run that reads it.
-pub(crate) fn read_fault(fault: MergeFault) -> RunFault
-    ensures { result ≡ read_fault_of fault }
-{
-    match fault {
-        MergeFault::ReadFault | MergeFault::WriteFault => RunFault::ReadFault(FileName::Save),
-        MergeFault::WantOfMemory => RunFault::WantOfMemory,
-        MergeFault::NoSave => RunFault::Absent(FileName::Save),
-        MergeFault::BadSave { line } => RunFault::BadSave(line),
-        MergeFault::LongLine | MergeFault::TooLarge => RunFault::TooLarge(FileName::Save),
-        MergeFault::Changed => RunFault::Changed(FileName::Save),
-    }
-}
-
-/// The fault of a save text as one of a run that writes it too.
-pub(crate) fn write_fault(fault: MergeFault) -> RunFault
-    ensures { result ≡ write_fault_of fault }
-{
-    match fault {
-        MergeFault::WriteFault => RunFault::WriteFault(FileName::Save),
-        _ => read_fault(fault),
-    }
 }

@@ -12,11 +12,9 @@ use Rattle.osm_save.specs.Save.{SpellsSave}
 use Rattle.osm_save.specs.declared.save.Saved.{Saved}
 use Rattle.osm_save.specs.declared.version.Version.{Version}
 use Rattle.osm_store.specs.Frames.{StoreState}
-use Rattle.osm_merge.specs.declared.fault.MergeFault.{MergeFault}
-use Rattle.osm_merge.specs.declared.fault.MergeFault.TheVariants as merges
 use Rattle.osm_folder.specs.declared.fault.FileName.TheVariants.{Output, Save}
 use Rattle.osm_folder.specs.declared.fault.RunFault.{RunFault}
-use Rattle.osm_folder.specs.declared.fault.RunFault.TheVariants.{Absent, BadSave, Changed}
+use Rattle.osm_folder.specs.declared.fault.RunFault.TheVariants.{Changed}
 use Rattle.osm_folder.specs.declared.fault.RunFault.TheVariants.{ReadFault, TooLarge, WantOfMemory}
 use Rattle.osm_folder.specs.declared.fault.RunFault.TheVariants.{WriteFault}
 use Rattle.osm_printing.specs.Printing.{shown_text}
@@ -31,24 +29,6 @@ abbrev pub lists_of : MirrorValue → List ℕ
 lists_of m =
     objects_text m.objects ++ counts_text (codes "users ") m.users
     ++ counts_text (codes "changesets ") m.changesets
-
--- the fault of a save text as one of a run that reads it
-abbrev pub read_fault_of : MergeFault → RunFault
-read_fault_of merges.ReadFault = ReadFault Save
-read_fault_of merges.WriteFault = ReadFault Save
-read_fault_of merges.WantOfMemory = WantOfMemory
-read_fault_of merges.NoSave = Absent Save
-read_fault_of (merges.BadSave line) = BadSave line
-read_fault_of merges.LongLine = TooLarge Save
-read_fault_of merges.TooLarge = TooLarge Save
-read_fault_of merges.Changed = Changed Save
-
--- the file is there, and is a save text
-pub record IsSaveText (told : Option (List ℕ)) : Type 0 where
-  pub file : List ℕ
-  pub there : told ≡ Some file
-  pub saved : Saved
-  pub spells : SpellsSave file saved
 
 -- why no block is read
 abbrev pub BlockStops : StoreState → List ℕ → RunFault → Type 0

@@ -2,7 +2,8 @@ use Rattle.std.proofs.Common.{◌≡◌, arith}
 use Rattle.std.proofs.lemmas.Bool.Decides.{nat_tests}
 use Rattle.osm_store.specs.Frames.{IsKnown}
 use Rattle.osm_folder.proofs.ResultLemmas.{err_map}
-use Rattle.osm_round.specs.Starting.{MergeStops, PutStops, ReadStops}
+use Rattle.osm_round.specs.Starting.{MergeStops, PutStops}
+use Rattle.osm_checked.specs.Checking.{ReadStops}
 use Rattle.osm_round.proofs.FrameLemmas.{false_by_not, on_ok_map, true_by_not}
 use Rattle.osm_round.proofs.PutLemmas.{checked_put, few_changesets, few_users, made_put, merge_of_read, merged_put, put_of_merge, savable_alone}
 use Rattle.osm_round.proofs.put.put.Goals as goal

@@ -1,0 +1,71 @@
+//! Reading a data file in blocks, whatever its form.
+
+ghost use Rattle.std.specs.Prelude.{◌≡◌, ◌++◌, ◌<◌, ℕ, List, [], IfErr, IfOk, OnOk};
+ghost use Rattle.osm_model.specs.Change.{ChangeValue};
+ghost use Rattle.osm_model.specs.ChangeForm.{SpellsNothing};
+ghost use Rattle.osm_model.specs.Data.{IsData};
+ghost use Rattle.osm_store.specs.Files.{Spends};
+ghost use Rattle.osm_blocks.specs.Frames.{ReadsOften};
+ghost use Rattle.osm_blocks.specs.Places.{HasFile};
+ghost use Rattle.osm_data.specs.Reading.{EndsOrGoesOn, IsDeviceFault, NextStops, OpenStops};
+
+use crate::fault::DataFault;
+use osm_model::change::Change;
+use osm_store::store::Store;
+use std::alloc::Global;
+
+/// A data file of one form, from which objects are read in their order, some at a time.
+pub trait DataReader: Sized {
+    /// The bytes spell the objects.
+    ghost spells: { List ℕ → List ChangeValue → Type 0 };
+
+    /// The bytes spell no objects, and go wrong at that place.
+    ghost goes_wrong: { List ℕ → ℕ → Type 0 };
+
+    /// The bytes have a line or a dataset of more than 64 MiB.
+    ghost is_long: { List ℕ → Type 0 };
+
+    /// So far, those objects of a file were read.
+    ghost has_read: { Self → List ℕ → List ChangeValue → Type 0 };
+
+    /// Falls with each objects that are read.
+    ghost ahead: { Self → ℕ };
+
+    /// Opens a file.
+    fn open<S: Store>(alloc: Global, store: &mut S, name: &str) -> Result<Self, DataFault>
+        ensures opened { IfOk result (λ reader. (file : List ℕ)
+            → HasFile (S.state store.old) name.now file → has_read reader file []) }
+        ensures stops { IfErr result
+            (OpenStops goes_wrong is_long (S.state store.old) name.now) }
+        ensures stage { (S.state store.new).stage ≡ (S.state store.old).stage }
+        ensures frame { ReadsOften IsDeviceFault (S.state store.old) (S.state store.new) result }
+        ensures spends { OnOk result (Spends 1 (S.state store.old).left (S.state store.new).left) };
+
+    /// Reads the next objects; None at the end of the file.
+    fn next<S: Store>(
+        &mut self,
+        alloc: Global,
+        store: &mut S,
+        name: &str,
+    ) -> Result<Option<Vec<Change>>, DataFault>
+        ensures read { IfOk result (λ next. (file : List ℕ) (done : List ChangeValue)
+            → HasFile (S.state store.old) name.now file → has_read self.old file done
+            → EndsOrGoesOn (spells file done)
+            (λ objects. has_read self.new file (done ++ objects.items)) next) }
+        ensures falls { IfOk result (EndsOrGoesOn (Unit {0})
+            (λ _. ahead self.new < ahead self.old)) }
+        ensures stops { IfErr result (λ fault. (file : List ℕ) (done : List ChangeValue)
+            → HasFile (S.state store.old) name.now file → has_read self.old file done
+            → NextStops goes_wrong is_long file fault) }
+        ensures stage { (S.state store.new).stage ≡ (S.state store.old).stage }
+        ensures frame { ReadsOften IsDeviceFault (S.state store.old) (S.state store.new) result };
+
+    /// Tells the prover the laws of the form. Does nothing at run time.
+    fn laws()
+        ensures data { (bytes : List ℕ) (objects : List ChangeValue)
+            → spells bytes objects → IsData objects }
+        ensures one_list { (bytes : List ℕ) (a b : List ChangeValue)
+            → spells bytes a → spells bytes b → a ≡ b }
+        ensures nothing { (bytes : List ℕ) (place : ℕ)
+            → goes_wrong bytes place → SpellsNothing spells bytes };
+}

@@ -1,0 +1,28 @@
+//! Why the objects of a data file aren't read.
+
+use osm_model::form::Why;
+use thiserror::Error;
+
+/// Why the objects of a data file aren't read.
+#[derive(Clone, Copy, Debug, PartialEq, Eq, Error)]
+pub enum DataFault {
+    /// The device failed.
+    #[error("Device")]
+    Device,
+    /// Memory was refused.
+    #[error("WantOfMemory")]
+    WantOfMemory,
+    /// There is no such file.
+    #[error("NoFile")]
+    NoFile,
+    /// The file is no data file. The place is what the form says: the line, or the offset of the
+    /// dataset.
+    #[error("BadData")]
+    BadData { place: u64, why: Why },
+    /// A line or a dataset of the file has more than 64 MiB.
+    #[error("LongPart")]
+    LongPart,
+    /// The file has more bytes than 64 bits count.
+    #[error("TooLarge")]
+    TooLarge,
+}

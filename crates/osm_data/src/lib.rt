@@ -1,0 +1,5 @@
+//! Data files of any size: how their objects are read, a block after the other.
+#![tactic(auto)]
+
+pub mod data_reader;
+pub mod fault;
