@@ -1,13 +1,16 @@
 //! Reading a data file in blocks, whatever its form.
 
-ghost use Rattle.std.specs.Prelude.{◌≡◌, ◌++◌, ◌<◌, ℕ, List, [], IfErr, IfOk, OnOk};
+ghost use Rattle.std.specs.Prelude.{◌≡◌, ◌++◌, ◌+◌, ◌<◌, ◌≤◌, ℕ, List, [], length, IfErr, IfOk, OnOk};
 ghost use Rattle.osm_model.specs.Change.{ChangeValue};
 ghost use Rattle.osm_model.specs.ChangeForm.{SpellsNothing};
 ghost use Rattle.osm_model.specs.Data.{IsData};
 ghost use Rattle.osm_store.specs.Files.{Spends};
+ghost use Rattle.osm_store.specs.Frames.{MakesAtMost};
+ghost use Rattle.osm_blocks.specs.Calls.{Advances};
 ghost use Rattle.osm_blocks.specs.Frames.{ReadsOften};
 ghost use Rattle.osm_blocks.specs.Places.{HasFile};
 ghost use Rattle.osm_data.specs.Reading.{EndsOrGoesOn, IsDeviceFault, NextStops, OpenStops};
+ghost use Rattle.osm_data.specs.Reading.{read_calls};
 
 use crate::fault::DataFault;
 use osm_model::change::Change;
@@ -28,18 +31,30 @@ pub trait DataReader: Sized {
     /// So far, those objects of a file were read.
     ghost has_read: { Self → List ℕ → List ChangeValue → Type 0 };
 
-    /// Falls with each objects that are read.
+    /// Falls with each call that reads objects, whatever the store does.
     ghost ahead: { Self → ℕ };
+
+    /// At most so many bytes of a file are left.
+    ghost bytes_left: { Self → List ℕ → ℕ };
+
+    /// The calls of the store that are ahead at most.
+    ghost calls_ahead: { Self → List ℕ → ℕ };
 
     /// Opens a file.
     fn open<S: Store>(alloc: Global, store: &mut S, name: &str) -> Result<Self, DataFault>
         ensures opened { IfOk result (λ reader. (file : List ℕ)
             → HasFile (S.state store.old) name.now file → has_read reader file []) }
+        ensures left { IfOk result (λ reader. (file : List ℕ)
+            → HasFile (S.state store.old) name.now file → bytes_left reader file ≤ length file) }
+        ensures ahead { IfOk result (λ reader. (file : List ℕ)
+            → HasFile (S.state store.old) name.now file
+            → calls_ahead reader file + 1 ≤ read_calls (length file)) }
         ensures stops { IfErr result
             (OpenStops goes_wrong is_long (S.state store.old) name.now) }
         ensures stage { (S.state store.new).stage ≡ (S.state store.old).stage }
         ensures frame { ReadsOften IsDeviceFault (S.state store.old) (S.state store.new) result }
-        ensures spends { OnOk result (Spends 1 (S.state store.old).left (S.state store.new).left) };
+        ensures spends { OnOk result (Spends 1 (S.state store.old).left (S.state store.new).left) }
+        ensures calls { MakesAtMost IsDeviceFault 1 (S.state store.old) (S.state store.new) result };
 
     /// Reads the next objects; None at the end of the file.
     fn next<S: Store>(
@@ -54,11 +69,19 @@ pub trait DataReader: Sized {
             (λ objects. has_read self.new file (done ++ objects.items)) next) }
         ensures falls { IfOk result (EndsOrGoesOn (Unit {0})
             (λ _. ahead self.new < ahead self.old)) }
+        ensures fewer { IfOk result (λ next. (file : List ℕ) (done : List ChangeValue)
+            → HasFile (S.state store.old) name.now file → has_read self.old file done
+            → EndsOrGoesOn (Unit {0})
+            (λ _. bytes_left self.new file < bytes_left self.old file) next) }
         ensures stops { IfErr result (λ fault. (file : List ℕ) (done : List ChangeValue)
             → HasFile (S.state store.old) name.now file → has_read self.old file done
             → NextStops goes_wrong is_long file fault) }
         ensures stage { (S.state store.new).stage ≡ (S.state store.old).stage }
-        ensures frame { ReadsOften IsDeviceFault (S.state store.old) (S.state store.new) result };
+        ensures frame { ReadsOften IsDeviceFault (S.state store.old) (S.state store.new) result }
+        ensures calls { (file : List ℕ) → HasFile (S.state store.old) name.now file
+            → Advances IsDeviceFault (calls_ahead self.old file)
+            (λ _. calls_ahead self.new file)
+            (S.state store.old) (S.state store.new) result };
 
     /// Tells the prover the laws of the form. Does nothing at run time.
     fn laws()
