@@ -11,7 +11,7 @@ use Rattle.osm_mirror.specs.Mirror.{object_at}
 use Rattle.osm_save.specs.Save.{SpellsSave}
 use Rattle.osm_save.specs.declared.save.Saved.{Saved}
 use Rattle.osm_follow.specs.Published.{PublishedValue, changes_up_to}
-use Rattle.osm_folder.specs.DataForms.{HasDataEnd, HasNoDataForm, data_text_of}
+use Rattle.osm_folder.specs.DataForms.{HasDataForm, HasNoDataForm, data_text_of}
 use Rattle.osm_store.specs.Files.{Files, IsOver, Puts}
 use Rattle.osm_folder.specs.Following.{IsBadSave, max_save}
 use Rattle.osm_folder.specs.declared.data_form.DataForm.{DataForm}

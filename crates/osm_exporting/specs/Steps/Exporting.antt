@@ -9,7 +9,7 @@ use Rattle.osm_folder.specs.DataForms.{data_text_of}
 use Rattle.osm_folder.specs.declared.data_form.DataForm.{DataForm}
 use Rattle.osm_folder.specs.declared.fault.FileName.TheVariants.{Output}
 use Rattle.osm_folder.specs.declared.fault.RunFault.{RunFault}
-use Rattle.osm_folder.specs.declared.fault.RunFault.TheVariants.{WantOfMemory, TooLarge}
+use Rattle.osm_folder.specs.declared.fault.RunFault.TheVariants.{BadSave, WantOfMemory, TooLarge}
 
 -- the objects are those of what the text saves, and are data
 pub record IsObjectsOf (text : List ℕ) (objects : List ChangeValue) : Type 0 where
