@@ -28,8 +28,9 @@ ghost use Rattle.osm_round.specs.Rounds.{RoundStops, outcome_of, progress_of};
 ghost use Rattle.osm_round.specs.Starting.{WholeStops};
 
 use crate::put::put;
-use crate::start::{read_fault, read_start};
+use crate::start::read_start;
 use crate::taken::{End, Taken, take_numbers};
+use osm_checked::fault::read_fault;
 use osm_folder::fault::{FileName, RunFault};
 use osm_folder::missing::missing;
 use osm_folder::options::{FollowOptions, Layout, last_number};
