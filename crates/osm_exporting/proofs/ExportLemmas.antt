@@ -1,30 +1,35 @@
 -- The objects of a save are data; what an export leaves, and why one stops.
-use Rattle.std.proofs.Common.{◌≡◌, ℕ, ◌<◌, ◌≤◌, List, [], ◌∷◌, ◌++◌, length, map, Option, Some, ap, refl, ◌∙◌, subst}
+use Rattle.std.proofs.Common.{◌≡◌, ℕ, List, [], ◌∷◌, ◌++◌, map, Option, Some, None, inl, ap, sym, ◌∙◌, subst}
+use Rattle.std.specs.Prelude.{Ok}
 use Rattle.std.specs.List.{AllByRecursion}
 use Rattle.std.specs.List.Sorted.{IsStrictlySortedBy}
+use Rattle.std.proofs.lemmas.Option.{same_Some}
 use Rattle.std.specs.declared.cmp.Ordering.TheVariants.{Less}
+use Rattle.osm_blocks.specs.Frames.{ReadsOften}
+use Rattle.osm_blocks.specs.Places.{HasFile, Place, left_of}
 use Rattle.osm_model.specs.Change.{ChangeValue, IsChange}
 use Rattle.osm_model.specs.Data.{IsData, IsFirstFault, IsLeft}
 use Rattle.osm_model.specs.Filter.{FilterValue}
 use Rattle.osm_model.specs.KeyOrder.{key_cmp}
-use Rattle.osm_model.specs.Limits.{max_file}
 use Rattle.osm_model.specs.declared.kind.Key.{Key}
 use Rattle.osm_mirror.specs.Mirror.{IsMirrorOf, IsObject}
 use Rattle.osm_follow.specs.Published.{PublishedValue, changes_after, changes_up_to}
 use Rattle.osm_save.specs.Save.{SpellsSave}
 use Rattle.osm_save.specs.declared.save.Saved.{Saved}
-use Rattle.osm_folder.specs.DataForms.{HasDataEnd, data_text_of}
-use Rattle.osm_folder.specs.DataForms.{HasDataForm}
-use Rattle.osm_exporting.specs.Exporting.{ExportStops, Holds, IsExportOf, IsExportable, IsExported}
 use Rattle.osm_store.specs.Files.{Files, Puts}
-use Rattle.osm_folder.specs.Following.{IsSaveOf, IsSaved, max_save}
-use Rattle.osm_exporting.specs.Steps.Exporting.{IsObjectsOf, TextStops}
-use Rattle.osm_folder.specs.Steps.Reading.{PutStops}
+use Rattle.osm_store.specs.Frames.{IsKnown, StoreState}
+use Rattle.osm_merge.proofs.FrameLemmas.{has_still}
+use Rattle.osm_checked.specs.Checking.{IsSaveText}
+use Rattle.osm_folder.specs.DataForms.{HasDataEnd, HasDataForm, data_text_of}
+use Rattle.osm_folder.specs.Following.{IsSaveOf, IsSaved}
+use Rattle.osm_folder.specs.Runs.{IsDeviceFault}
 use Rattle.osm_folder.specs.declared.data_form.DataForm.{DataForm}
-use Rattle.osm_folder.specs.declared.fault.FileName.TheVariants.{Output}
 use Rattle.osm_folder.specs.declared.fault.RunFault.{RunFault}
-use Rattle.osm_folder.specs.declared.fault.RunFault.TheVariants.{WantOfMemory, WriteFault, TooLarge}
+use Rattle.osm_folder.specs.declared.fault.RunFault.TheVariants.{Changed, ReadFault, TooLarge, WantOfMemory, WriteFault}
 use Rattle.osm_folder.proofs.InStepLemmas.{one_saved}
+use Rattle.osm_exporting.specs.Exporting.{ExportStops, IsExportOf, IsExported}
+use Rattle.osm_exporting.specs.Steps.Copying.{Copies, IsAtObjects, PassStops, SavesNothing, object_lines_at}
+use Rattle.osm_exporting.proofs.PassLemmas.{lacks_all, lacks_nothing}
 
 -- ---- data have no fault
 
@@ -64,51 +69,33 @@ each_left : (cs : List ChangeValue) → AllByRecursion IsObject cs → AllByRecu
 each_left [] all = tt
 each_left (c ∷ cs) all = (all.0.is_left, each_left cs all.1)
 
-pub saved_objects : (text : List ℕ) (v : Saved) → SpellsSave text v → IsObjectsOf text v.mirror.objects
-saved_objects text v spelled = record {
-  saved = v;
-  spelled = spelled;
-  objects_are = refl;
-  are_data = record {
-    limits = each_limits v.mirror.objects spelled.savable.mirror.objects;
-    left = each_left v.mirror.objects spelled.savable.mirror.objects;
-    rising = spelled.savable.mirror.orderly.objects;
-  };
+saved_data : (text : List ℕ) (v : Saved) → SpellsSave text v → IsData v.mirror.objects
+saved_data text v spelled = record {
+  limits = each_limits v.mirror.objects spelled.savable.mirror.objects;
+  left = each_left v.mirror.objects spelled.savable.mirror.objects;
+  rising = spelled.savable.mirror.orderly.objects;
 }
 
 -- ---- what an export leaves
 
--- what was read is what the save holds
-abbrev held_of : (told : Option (List ℕ)) (bytes : List ℕ) (objects : List ChangeValue) → told ≡ Some bytes
-    → length bytes ≤ max_save → IsObjectsOf bytes objects → Holds told
-held_of told bytes objects there small read =
-    record { bytes = bytes; saved = read.saved; there = there; small = small; spelled = read.spelled }
-
-abbrev pub exportable_of : (save output bytes text : List ℕ) (files : Files) (form : DataForm) (objects : List ChangeValue)
-    → HasDataEnd output form → files save ≡ Some bytes → length bytes ≤ max_save → IsObjectsOf bytes objects
-    → text ≡ data_text_of form objects → length text ≤ max_file → IsExportable save output files
-exportable_of save output bytes text files form objects end there small read text_is few = record {
-  named = record { form = form; end = end };
-  held = held_of (files save) bytes objects there small read;
-  fits = subst (λ xs. length (data_text_of form xs) ≤ max_file) read.objects_are
-      (subst (λ (t : List ℕ). length t ≤ max_file) text_is few);
-}
-
-pub exported_of : (save output bytes text : List ℕ) (old new : Files) (form : DataForm) (objects : List ChangeValue)
-    → HasDataEnd output form → old save ≡ Some bytes → length bytes ≤ max_save → IsObjectsOf bytes objects
-    → text ≡ data_text_of form objects → length text ≤ max_file → Puts old output (Some text) new
-    → IsExported save output old new
-exported_of save output bytes text old new form objects end there small read text_is few put = record {
-  made = exportable_of save output bytes text old form objects end there small read text_is few;
-  are_data = subst IsData read.objects_are read.are_data;
-  put = subst (λ (t : List ℕ). Puts old output (Some t) new) (text_is ∙ ap (data_text_of form) read.objects_are) put;
+-- the save was checked, and then its objects were put
+pub exported_of : (a b : StoreState) (save output : List ℕ) (form : DataForm) (new : Files) → HasDataEnd output form
+    → IsSaveText (a.files save) → IsKnown a → ReadsOften {T = Unit {0}} IsDeviceFault a b (Ok tt)
+    → ((file : List ℕ) (saved : Saved) → HasFile b save file → SpellsSave file saved
+    → Puts b.files output (Some (data_text_of form saved.mirror.objects)) new)
+    → IsExported save output a.files new
+exported_of a b save output form new end text known frame put = record {
+  made = record { named = record { form = form; end = end }; held = text };
+  are_data = saved_data text.file text.saved text.spells;
+  put = subst (λ (f : Files). Puts f output (Some (data_text_of form text.saved.mirror.objects)) new) frame.files
+      (put text.file text.saved (has_still a b tt save text.file frame (record { known = known; there = text.there })) text.spells);
 }
 
 pub export_of : (given : FilterValue) (ps : List PublishedValue) (base number : ℕ) (save output : List ℕ) (old new : Files)
     → IsSaveOf ps given base number (old save) → IsExported save output old new → IsExportOf ps given number output (new output)
 export_of given ps base number save output old new saved done =
     let held = done.made.held in
-    let here : IsSaved given (old save) held.saved = rw held.there held.spelled in
+    let here : IsSaved given (old save) held.saved = rw held.there held.spells in
     let same : held.saved ≡ saved.value = one_saved given (old save) held.saved saved.value here saved.saved in
     let mirror : IsMirrorOf given (changes_up_to ps number) (changes_after ps saved.value.base number) held.saved.mirror =
     rw (same, ← saved.number_is) saved.in_step.mirror in
@@ -116,31 +103,60 @@ export_of given ps base number save output old new saved done =
       named = done.made.named;
       objects = held.saved.mirror.objects;
       are_data = done.are_data;
-      fits = done.made.fits;
       content = mirror.objects;
       text = done.put.there;
     }
 
 -- ---- why an export stops
 
-pub text_stops : (known : Type 0) (save output bytes : List ℕ) (files : Files) (form : DataForm)
-    (objects : List ChangeValue) → HasDataEnd output form → (known → files save ≡ Some bytes)
-    → length bytes ≤ max_save → IsObjectsOf bytes objects → (fault : RunFault) → TextStops form objects fault
-    → ExportStops known save output files fault
-text_stops known save output bytes files form objects end there small read WantOfMemory r = record { form = form; end = end }
-text_stops known save output bytes files form objects end there small read (TooLarge Output) r = (
-  record { form = form; end = end },
-  λ yes. record {
-    named = record { form = form; end = end };
-    held = held_of (files save) bytes objects (there yes) small read;
-    over = subst (λ xs. max_file < length (data_text_of form xs)) read.objects_are r;
-  },
+pub second_stops : (a b : StoreState) (save output : List ℕ) (fault : RunFault) → HasDataForm output → (IsKnown a → IsSaveText (a.files save))
+    → ReadsOften {T = Unit {0}} IsDeviceFault a b (Ok tt) → PassStops b save SavesNothing fault → ExportStops (IsKnown a) save output a.files fault
+second_stops a b save output WantOfMemory named text frame r = (named, tt)
+second_stops a b save output (ReadFault file) named text frame r = (named, r)
+second_stops a b save output (WriteFault file) named text frame r = (r, named, λ yes. record { named = named; held = text yes })
+second_stops a b save output (TooLarge file) named text frame r = (
+  named,
+  (
+    r.0,
+    λ yes.
+        let t = text yes in
+        inl (record {
+          file = t.file;
+          there = t.there;
+          huge = r.1 t.file (has_still a b tt save t.file frame (record { known = yes; there = t.there }));
+        }),
+  ),
 )
-text_stops known save output bytes files form objects end there small read fault r = absurd r
+second_stops a b save output (Changed file) named text frame r = (
+  named,
+  (
+    r.0,
+    λ yes.
+        let t = text yes in
+        r.1 t.file (has_still a b tt save t.file frame (record { known = yes; there = t.there })) t.saved t.spells,
+  ),
+)
+second_stops a b save output fault named text frame r = absurd r
 
-pub put_stops : (known : Type 0) (save output : List ℕ) (files : Files) → HasDataForm output
-    → (known → IsExportable save output files) → (fault : RunFault) → PutStops Output fault
-    → ExportStops known save output files fault
-put_stops known save output files named made WantOfMemory r = named
-put_stops known save output files named made (WriteFault file) r = rw r (named, made)
-put_stops known save output files named made fault r = absurd r
+-- ---- what is staged
+
+-- the output was begun, and all of its objects were copied
+pub staged_of : (d e : StoreState) (save output : List ℕ) (form : DataForm) (f : FilterValue) (many : ℕ) (old new : Place) (file : List ℕ) (saved : Saved)
+    → HasFile d save file → IsAtObjects file saved old f many → d.stage ≡ Some (output, [])
+    → Copies d e (λ objects. (file : List ℕ) → HasFile d save file → object_lines_at f many (left_of old file) ≡ Some (objects, left_of new file))
+    (data_text_of form) []
+    → e.stage ≡ Some (output, data_text_of form saved.mirror.objects)
+staged_of d e save output form f many old new file saved has at begun copied =
+    let both = same_Some (copied.objects, left_of new file) (saved.mirror.objects, at.after) (sym (copied.read file has) ∙ at.lines) in
+    let same : copied.objects ≡ saved.mirror.objects = ap (λ (p : List ChangeValue × List ℕ). p.0) both in
+    let whole = data_text_of form copied.objects in
+    let text : e.stage ≡ Some (output, whole) =
+    lacks_nothing e output whole (copied.fills has.known output whole (lacks_all d output whole begun)) in
+    text ∙ ap (λ (objects : List ChangeValue). Some (output, data_text_of form objects)) same
+
+-- the lines of a known save's objects can be read
+pub at_reads : (file : List ℕ) (saved : Saved) (place : Place) (f : FilterValue) (many : ℕ) → IsAtObjects file saved place f many
+    → object_lines_at f many (left_of place file) ≡ None → ⊥
+at_reads file saved place f many at none =
+    let bad : ◌≡◌ {A = Option (List ChangeValue × List ℕ)} None (Some (saved.mirror.objects, at.after)) = sym none ∙ at.lines in
+    cc

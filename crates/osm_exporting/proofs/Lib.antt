@@ -1,1 +1,4 @@
+pub mod PassLemmas
+pub mod ObjectLemmas
+pub mod CopyLemmas
 pub mod ExportLemmas

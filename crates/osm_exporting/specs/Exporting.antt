@@ -1,39 +1,25 @@
 -- Exporting the objects of a save as a data file. `known` says that it is known what the files
 -- hold.
-use Rattle.std.specs.Prelude.{◌≡◌, ℕ, ◌<◌, ◌≤◌, List, Option, Some, None, length}
+use Rattle.std.specs.Prelude.{◌≡◌, ℕ, ◌+◌, ◌*◌, List, Option, Some}
 use Rattle.osm_model.specs.Change.{ChangeValue}
 use Rattle.osm_model.specs.Data.{IsData}
 use Rattle.osm_model.specs.Content.{content_of}
 use Rattle.osm_model.specs.Filter.{FilterValue, kept}
-use Rattle.osm_model.specs.Limits.{max_file}
 use Rattle.osm_model.specs.declared.kind.Key.{Key}
 use Rattle.osm_mirror.specs.Mirror.{object_at}
-use Rattle.osm_save.specs.Save.{SpellsSave}
-use Rattle.osm_save.specs.declared.save.Saved.{Saved}
 use Rattle.osm_follow.specs.Published.{PublishedValue, changes_up_to}
+use Rattle.osm_merge.specs.Calls.{check_calls}
+use Rattle.osm_checked.specs.Checking.{IsSaveText, ReadStops}
 use Rattle.osm_folder.specs.DataForms.{HasDataForm, HasNoDataForm, data_text_of}
-use Rattle.osm_store.specs.Files.{Files, IsOver, Puts}
-use Rattle.osm_folder.specs.Following.{IsBadSave, max_save}
-use Rattle.osm_folder.specs.declared.data_form.DataForm.{DataForm}
-use Rattle.osm_folder.specs.declared.fault.FileName.TheVariants.{Save, Output}
+use Rattle.osm_store.specs.Files.{Files, Puts}
+use Rattle.osm_folder.specs.declared.fault.FileName.TheVariants.{Output}
 use Rattle.osm_folder.specs.declared.fault.RunFault.{RunFault}
-use Rattle.osm_folder.specs.declared.fault.RunFault.TheVariants.{WantOfMemory, ReadFault}
-use Rattle.osm_folder.specs.declared.fault.RunFault.TheVariants.{WriteFault, TooLarge, Absent}
-use Rattle.osm_folder.specs.declared.fault.RunFault.TheVariants.{BadSave, UnknownForm}
+use Rattle.osm_folder.specs.declared.fault.RunFault.TheVariants.{UnknownForm, WriteFault}
 
--- the save is there, and this is what it saves
-pub record Holds (told : Option (List ℕ)) : Type 0 where
-  pub bytes : List ℕ
-  pub saved : Saved
-  pub there : told ≡ Some bytes
-  pub small : length bytes ≤ max_save
-  pub spelled : SpellsSave bytes saved
-
--- the output can be made: its form is known, the save is there, and the text isn't too large
+-- the output can be made: its form is known, and the save is a save text
 pub record IsExportable (save output : List ℕ) (files : Files) : Type 0 where
   pub named : HasDataForm output
-  pub held : Holds (files save)
-  pub fits : length (data_text_of named.form held.saved.mirror.objects) ≤ max_file
+  pub held : IsSaveText (files save)
 
 -- the output holds exactly the save's objects, and no other name changes
 pub record IsExported (save output : List ℕ) (old new : Files) : Type 0 where
@@ -48,30 +34,20 @@ pub record IsExportOf (published : List PublishedValue) (given : FilterValue) (n
   pub named : HasDataForm output
   pub objects : List ChangeValue
   pub are_data : IsData objects
-  pub fits : length (data_text_of named.form objects) ≤ max_file
   pub content : (k : Key) →
       object_at objects k ≡ kept given (content_of (changes_up_to published number)) k
   pub text : told ≡ Some (data_text_of named.form objects)
 
--- the text of the save's objects passes 64 MiB
-pub record IsBigExport (save output : List ℕ) (files : Files) : Type 0 where
-  pub named : HasDataForm output
-  pub held : Holds (files save)
-  pub over : max_file < length (data_text_of named.form held.saved.mirror.objects)
-
 -- why objects aren't exported: the output's name first, then the save, then the output
 abbrev pub ExportStops : Type 0 → List ℕ → List ℕ → Files → RunFault → Type 0
 ExportStops known save output files UnknownForm = HasNoDataForm output
-ExportStops known save output files WantOfMemory = HasDataForm output
-ExportStops known save output files (ReadFault Save) = HasDataForm output
-ExportStops known save output files (Absent Save) =
-    HasDataForm output × (known → files save ≡ None)
-ExportStops known save output files (TooLarge Save) =
-    HasDataForm output × (known → IsOver max_save (files save))
-ExportStops known save output files (BadSave line) =
-    HasDataForm output × (known → IsBadSave (files save))
-ExportStops known save output files (TooLarge Output) =
-    HasDataForm output × (known → IsBigExport save output files)
-ExportStops known save output files (WriteFault Output) =
-    HasDataForm output × (known → IsExportable save output files)
-ExportStops known save output files fault = ⊥
+ExportStops known save output files (WriteFault file) =
+    (file ≡ Output) × HasDataForm output × (known → IsExportable save output files)
+ExportStops known save output files fault =
+    HasDataForm output × ReadStops known (files save) fault
+
+-- the most calls of an export of a save of so many bytes: two readings of the save, an append for
+-- each line, so for each byte at most, and three more: `begin`, the bytes that wait at the end, and
+-- `commit`
+abbrev pub export_calls : ℕ → ℕ
+export_calls bytes = 2 * check_calls bytes + bytes + 3

@@ -1,2 +1,2 @@
 -- Definitions that only clauses of private functions cite.
-pub mod Exporting
+pub mod Copying

@@ -1,5 +1,8 @@
-//! The objects of a save exported as a data file.
+//! The objects of a save of any size, exported as a data file while they are read.
 #![tactic(auto)]
 
-mod data;
+mod copy;
+mod data_writer;
 pub mod export;
+mod fault;
+mod objects;

@@ -88,10 +88,10 @@ Kinds or keys that make no filter are refused: 'bad filter'.
 A run locks SAVE by the file SAVE.lock, which stays there. If another run is at work on SAVE:
 'save: in use', and the status is 4.
 
-A name that ends in .opl is that of an OPL file, one that ends in .o5m that of an o5m file. The file
-has at most 64 MiB. Its objects come by rising keys: nodes, ways and relations, each by their ids.
-Each has its metadata, and none is deleted. A state of number 0 is refused, so what export writes
-of a save at number 0 is nothing to begin with.
+A name that ends in .opl is that of an OPL file, one that ends in .o5m that of an o5m file. It may
+have any size, but no line or dataset of more than 64 MiB. Its objects come by rising keys: nodes,
+ways and relations, each by their ids. Each has its metadata, and none is deleted. A state of number
+0 is refused, so what export writes of a save at number 0 is nothing to begin with.
 
 A fault names BASE as base, STATE as state, and SAVE as save.";
 
@@ -177,8 +177,8 @@ pub(crate) const EXPORTING: &str = "As in
   osmrepl export follower.save objects.o5m
 
 The objects are written by rising keys: nodes, ways and relations, each by their ids. A name that
-ends in .opl is that of an OPL file, and one that ends in .o5m that of an o5m file. The file
-has at most 64 MiB. The number, the time and the counts of edits aren't written. Nothing is printed.
+ends in .opl is that of an OPL file, and one that ends in .o5m that of an o5m file. The number, the
+time and the counts of edits aren't written. Nothing is printed.
 
 With the state file of the save's number, OUT is what begin takes.
 

@@ -1,0 +1,6 @@
+pub mod StringsLemmas
+pub mod ExtentLemmas
+pub mod PartLemmas
+pub mod ReadingLemmas
+pub mod UnreadLemmas
+pub mod ObjectsLemmas

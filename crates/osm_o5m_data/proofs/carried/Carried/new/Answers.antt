@@ -1,0 +1,17 @@
+use Rattle.std.proofs.Common.{◌≡◌, [], refl}
+use Rattle.osm_o5m_data.specs.Steps.Strings.{AreCarried, entries_in, total_of}
+use Rattle.osm_o5m_data.proofs.carried.Carried.new.Goals as goal
+
+none_carried : AreCarried [] []
+unfolding total_of
+none_carried = record { whole = refl; few = omega Rattle.std.proofs.Common.arith }
+
+no_entries : entries_in [] [] ≡ []
+unfolding entries_in
+no_entries = refl
+
+pub invariant_of-result : goal.invariant_of-result
+invariant_of-result c = rw (c.new.ensures.items, c.new-2.ensures.items) none_carried
+
+pub returns : goal.returns
+returns c = rw (c.new.ensures.items, c.new-2.ensures.items) no_entries

@@ -1,0 +1,34 @@
+use Rattle.std.proofs.Common.{◌≡◌, ◌+◌, ◌++◌, ◌∙◌, refl, [], take, sym, ap, arith, length-append, ◌∷◌, Some, rules}
+use Rattle.std.specs.Prelude.{slice_get, option_copied}
+use Rattle.osm_o5c.specs.declared.strings.Entry.{Entry}
+use Rattle.osm_o5m_data.specs.Steps.Strings.{bytes_of, sizes_of}
+use Rattle.osm_o5m_data.proofs.StringsLemmas.{copied_some, entries_then, latest_oldest, nothing_carried, some_there, take_then}
+use Rattle.osm_o5m_data.proofs.StringsLemmas.{total_then}
+use Rattle.osm_o5m_data.proofs.carried.Carried.of.Goals as goal
+
+pub loop-index-init : goal.loop-index-init
+loop-index-init c = rw (c.new-bytes.ensures.items, c.new-sizes.ensures.items) nothing_carried
+
+-- every entry from the oldest on is there
+pub unwrap-entry-requires : goal.unwrap-entry-requires
+unwrap-entry-requires c =
+    let there = some_there c.args.table.now c.loop-index.index (rw c.len-count.ensures.value at c.loop-index-test.true) in
+    copied_some c.get.result there.0 (c.get.ensures
+    ∙ latest_oldest c.args.table.now c.len-count.result c.loop-index.index c.len-count.ensures.value c.loop-index-test.true ∙ there.1)
+
+pub loop-index-preserved : goal.loop-index-preserved
+loop-index-preserved c =
+    let found : option_copied c.get.result ≡ slice_get c.args.table.now c.loop-index.index = c.get.ensures
+    ∙ latest_oldest c.args.table.now c.len-count.result c.loop-index.index c.len-count.ensures.value c.loop-index-test.true in
+    let entry : Entry = c.unwrap-entry.result.now in
+    let got : slice_get c.args.table.now c.loop-index.index ≡ Some entry = sym found ∙ ap option_copied c.unwrap-entry.ensures in
+    let bytes : c.append.new.bytes.items ≡ c.loop-index.bytes.items ++ bytes_of entry = search rules in
+    let sizes : c.append.new.sizes.items ≡ c.loop-index.sizes.items ++ sizes_of entry ∷ [] = search rules in
+    let inv = c.loop-index.invariant in
+    let next : take (c.loop-index.index + 1) c.args.table.now ≡ take c.loop-index.index c.args.table.now ++ entry ∷ [] =
+    take_then c.args.table.now c.loop-index.index entry got in
+    record {
+      same = rw (bytes, sizes, entries_then c.loop-index.sizes.items c.loop-index.bytes.items entry inv.whole, next, inv.same) refl;
+      whole = rw (bytes, sizes) (total_then c.loop-index.sizes.items c.loop-index.bytes.items entry inv.whole);
+      count = rw sizes (omega (arith, inv.count, length-append c.loop-index.sizes.items (sizes_of entry ∷ [])));
+    }

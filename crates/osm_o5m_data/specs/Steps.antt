@@ -1,0 +1,7 @@
+-- Definitions that only clauses of private functions cite.
+pub mod Blocks
+pub mod Extents
+pub mod Objects
+pub mod Reading
+pub mod Strings
+pub mod Unread

@@ -1,0 +1,83 @@
+//! What a reader knows between two blocks of a file.
+
+ghost use Rattle.std.specs.Prelude.{◌≡◌, ◌↔◌, [], IfOk, IsTrue};
+ghost use Rattle.osm_o5c.specs.Steps.FileReading.{new_reader};
+ghost use Rattle.osm_o5m_data.specs.Steps.Reading.{Follows, last_after, reader_in};
+ghost use Rattle.std.specs.Prelude.{None};
+
+use crate::carried::Carried;
+use osm_model::change::Change;
+use osm_model::kind::Key;
+use osm_model::memory::WantOfMemory;
+use osm_o5c::counters::Counters;
+use osm_o5c::reader::Reader;
+use std::alloc::Global;
+
+/// The counters and the string table since the last reset, and the key of the last object.
+#[derive(Drop)]
+pub struct Held {
+    counters: Counters,
+    strings: Carried,
+    last: Option<Key>,
+}
+
+impl Held {
+    /// At the beginning of a file; takes no memory.
+    pub fn new(alloc: Global) -> Held
+        ensures reader { reader_in result ≡ new_reader }
+        ensures last { result.last ≡ None }
+    {
+        Held {
+            counters: Counters::new(),
+            strings: Carried::new(alloc),
+            last: None,
+        }
+    }
+
+    /// The same after these objects, when the reader has come so far.
+    pub fn after(
+        &self,
+        alloc: Global,
+        reader: &Reader,
+        objects: &[Change],
+    ) -> Result<Held, WantOfMemory>
+        ensures reader { IfOk result (λ held. reader_in held ≡ reader.now) }
+        ensures last { IfOk result (λ held. held.last ≡ last_after self.now.last objects.now) }
+    {
+        Ok(Held {
+            counters: reader.counters,
+            strings: Carried::of(alloc, &reader.strings)?,
+            last: self.last_after(objects),
+        })
+    }
+
+    // The key of the last object after these.
+    fn last_after(&self, objects: &[Change]) -> Option<Key>
+        ensures { result ≡ last_after self.now.last objects.now }
+    {
+        match objects.last() {
+            Some(object) => Some(object.key()),
+            None => self.last,
+        }
+    }
+
+    /// A reader that goes on; it borrows its strings from here.
+    pub fn reader(&self, alloc: Global) -> Result<Reader<'_>, WantOfMemory>
+        ensures { IfOk result (λ reader. reader ≡ reader_in self.now) }
+    {
+        Ok(Reader {
+            counters: self.counters,
+            strings: self.strings.table(alloc)?,
+        })
+    }
+
+    /// Whether the objects can follow the last one.
+    pub fn precedes(&self, objects: &[Change]) -> bool
+        ensures { IsTrue result ↔ Follows self.now.last objects.now }
+    {
+        match (self.last, objects.first()) {
+            (Some(last), Some(first)) => last < first.key(),
+            _ => true,
+        }
+    }
+}

@@ -1,0 +1,80 @@
+-- Calls of a store that come one after the other, by how many are ahead.
+use Rattle.std.proofs.Common.{◌≡◌, ℕ, ◌+◌, ◌<◌, ◌≤◌, List, length, take, drop, Option, Some, refl, sym, ap, subst, ◌∙◌, arith, length-append, zero-add}
+use Rattle.std.specs.Prelude.{Bool, IsTrue, true, false, Ok, ◌==◌}
+use Rattle.std.proofs.lemmas.Bool.Decides.{nat_tests}
+use Rattle.std.proofs.lemmas.List.{length-drop}
+use Rattle.osm_model.specs.Change.{ChangeValue}
+use Rattle.osm_store.specs.Files.{Files, HasFewer, SpendsAtMost}
+use Rattle.osm_store.specs.Frames.{StoreState}
+use Rattle.osm_blocks.specs.Calls.{SpendsDown, blocks_in, reads_ahead}
+use Rattle.osm_blocks.specs.Frames.{ReadsOften}
+use Rattle.osm_blocks.specs.Places.{HasFile, Place, left_of, max_block}
+use Rattle.osm_blocks.proofs.CallLemmas.{block_read, down_lacks, down_none, down_of, down_then}
+use Rattle.osm_data.specs.Reading.{read_calls}
+use Rattle.osm_opl_data.specs.Reading.{calls_after, calls_before_end}
+use Rattle.osm_opl_data.specs.Steps.Passing.{Begins, PassesLine}
+use Rattle.osm_opl_data.specs.declared.opl_data.OplData.{OplData}
+
+-- a file stays known, and has the same bytes
+pub has_still : {T E : Type 0} {blames : E → Type 0} (a b : StoreState) (x : T) (name file : List ℕ) → ReadsOften blames a b (Ok x) → HasFile a name file
+    → HasFile b name file
+has_still a b x name file frame has = record {
+  known = subst (λ (t : Bool). IsTrue t) (sym frame.known) has.known;
+  there = subst (λ (f : Files). f name ≡ Some file) (sym frame.files) has.there;
+}
+
+-- the first block of a file was read
+pub first_ahead : (place : Place) (file : List ℕ) → place.unread ≡ take max_block file → left_of place file ≡ file → 0 < length place.unread
+    → blocks_in (length (drop place.from file)) + 1 ≤ blocks_in (length file)
+first_ahead place file unread left some =
+    let fewer : blocks_in (length (drop (length place.unread) file)) + 1 ≤ blocks_in (length file) =
+    subst (λ (n : ℕ). blocks_in (length (drop n file)) + 1 ≤ blocks_in (length file)) (zero-add (length place.unread))
+    (block_read file place.unread 0 (sym unread) some) in
+    let parts : length (left_of place file) ≡ length place.unread + length (drop place.from file) = length-append place.unread (drop place.from file) in
+    let all : length (left_of place file) ≡ length file = ap length left in
+    let after : length (drop (length place.unread) file) ≡ length (drop place.from file) =
+    (let rest = length-drop (length place.unread) file in omega (arith, parts, all, rest)) in
+    subst (λ (n : ℕ). blocks_in n + 1 ≤ blocks_in (length file)) after fewer
+
+-- so many calls are ahead then
+pub begun_ahead : (place : Place) (reader : OplData) (file : List ℕ) → place.unread ≡ take max_block file → left_of place file ≡ file → Begins place reader
+    → calls_after reader file + 1 ≤ read_calls (length file)
+begun_ahead place reader file unread left is =
+    subst (λ (t : Bool). calls_before_end t reader file + 1 ≤ read_calls (length file)) (sym is.ended) (by_test (length place.unread == 0) refl)
+  where
+    by_test : (t : Bool) → (length place.unread == 0) ≡ t → calls_before_end t reader file + 1 ≤ read_calls (length file)
+    by_test true e = omega arith
+    by_test false e =
+        let some : 0 < length place.unread = grind (arith, nat_tests) in
+        let fewer : blocks_in (length (drop place.from file)) + 1 ≤ blocks_in (length file) = first_ahead place file unread left some in
+        let same : blocks_in (length (drop reader.reader.from file)) ≡ blocks_in (length (drop place.from file)) =
+        ap (λ (p : Place). blocks_in (length (drop p.from file))) is.same in
+        omega (arith, fewer, same)
+
+-- ---- a line
+
+-- the call that reads what follows the last LF is ahead still
+pub line_calls : (old mid new : OplData) (file : List ℕ) (count : ℕ) (xs ys : List ChangeValue) (a b : Option ℕ) → old.is_ended ≡ false
+    → mid.is_ended ≡ false → PassesLine count mid new xs ys → SpendsDown (reads_ahead old.reader file) (reads_ahead mid.reader file) a b
+    → SpendsDown (calls_after old file) (calls_after new file) a b
+line_calls old mid new file count xs ys a b is_open still p spent =
+    let before : calls_after old file ≡ reads_ahead old.reader file + 1 = ap (λ (t : Bool). calls_before_end t old file) is_open in
+    let after : calls_after new file ≡ reads_ahead new.reader file + 1 = ap (λ (t : Bool). calls_before_end t new file) (p.open_still ∙ still) in
+    let same : reads_ahead new.reader file ≡ reads_ahead mid.reader file = ap (λ (r : Place). reads_ahead r file) p.passed in
+    down_then (reads_ahead old.reader file) (reads_ahead mid.reader file) 0 0 (calls_after old file) (calls_after new file) a b b
+    (omega (arith, before, after, same)) spent (down_none 0 b)
+
+-- it was made
+pub rest_calls : (old new : OplData) (file : List ℕ) (a b c : Option ℕ) → old.is_ended ≡ false → new.is_ended ≡ true
+    → SpendsDown (reads_ahead old.reader file) 0 a b → SpendsAtMost 1 b c → SpendsDown (calls_after old file) (calls_after new file) a c
+rest_calls old new file a b c is_open ended spent last =
+    let before : calls_after old file ≡ reads_ahead old.reader file + 1 = ap (λ (t : Bool). calls_before_end t old file) is_open in
+    let after : calls_after new file ≡ 0 = ap (λ (t : Bool). calls_before_end t new file) ended in
+    down_then (reads_ahead old.reader file) 0 1 0 (calls_after old file) (calls_after new file) a b c
+    (omega (arith, before, after)) spent (down_of 1 b c last)
+
+pub rest_lacks : (old : OplData) (file : List ℕ) (a b : Option ℕ) → old.is_ended ≡ false → SpendsDown (reads_ahead old.reader file) 0 a b → HasFewer 1 b
+    → HasFewer (calls_after old file) a
+rest_lacks old file a b is_open spent few =
+    let before : calls_after old file ≡ reads_ahead old.reader file + 1 = ap (λ (t : Bool). calls_before_end t old file) is_open in
+    down_lacks (reads_ahead old.reader file) 0 1 (calls_after old file) a b (omega (arith, before)) spent few

@@ -1,0 +1,5 @@
+pub mod OrderLemmas
+pub mod LineLemmas
+pub mod PassingLemmas
+pub mod CallLemmas
+pub mod FillLemmas

@@ -1,0 +1,4 @@
+-- Definitions that only clauses of private functions cite.
+pub mod Faults
+pub mod Objects
+pub mod Passing

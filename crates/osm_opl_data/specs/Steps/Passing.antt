@@ -1,0 +1,53 @@
+-- How a line of a file is passed.
+use Rattle.std.specs.Prelude.{◌≡◌, ℕ, ◌+◌, ◌<◌, ◌≤◌, ◌==◌, Bool, true, false, List, take, length}
+use Rattle.std.specs.Prelude.{None, drop}
+use Rattle.osm_model.specs.Change.{ChangeValue}
+use Rattle.osm_reading.specs.Lines.{lines_of, without_cr}
+use Rattle.osm_reading.specs.Pieces.{cut_at}
+use Rattle.osm_blocks.specs.Places.{Place, past}
+use Rattle.osm_data.specs.declared.fault.DataFault.{DataFault}
+use Rattle.osm_data.specs.declared.fault.DataFault.TheVariants.{Device, WantOfMemory, LongPart}
+use Rattle.osm_opl_data.specs.Reading.{HasPassed, max_line}
+use Rattle.osm_opl_data.specs.Steps.Objects.{Adds}
+use Rattle.osm_opl_data.specs.declared.opl_data.OplData.{OplData}
+use Rattle.osm_opl_data.specs.declared.so_far.SoFar.{SoFar}
+
+-- before the first line of a file; nothing is left of an empty one
+pub record Begins (place : Place) (reader : OplData) : Type 0 where
+  pub same : reader.reader ≡ place
+  pub bytes : reader.so_far.bytes ≡ 0
+  pub lines : reader.so_far.lines ≡ 0
+  pub last : reader.so_far.last ≡ None
+  pub ended : reader.is_ended ≡ (length place.unread == 0)
+
+-- the next line, without its line end, if it has so many bytes before its LF
+abbrev pub line_of : ℕ → OplData → List ℕ
+line_of count reader = without_cr (take count reader.reader.unread)
+
+-- that line was passed with its LF
+pub record PassesLine (count : ℕ) (old new : OplData) (before after : List ChangeValue)
+    : Type 0 where
+  pub adds : Adds (line_of count old) (count + 1) old.so_far new.so_far before after
+  pub passed : new.reader ≡ past (count + 1) old.reader
+  pub open_still : new.is_ended ≡ old.is_ended
+
+-- whether a line was passed; if none was, nothing is left, and nothing was added
+abbrev pub Goes : Bool → OplData → OplData → List ChangeValue → List ChangeValue → Type 0
+Goes true old new before after =
+    (old.so_far.bytes < new.so_far.bytes) × (new.so_far.bytes ≤ 18446744073709551615)
+Goes false old new before after =
+    (new.is_ended ≡ true) × (new.so_far ≡ old.so_far) × (after ≡ before)
+
+-- what follows the last LF is next
+pub record IsLast (so_far : SoFar) (file : List ℕ) (objects : List ChangeValue) : Type 0 where
+  pub within : so_far.bytes ≤ length file
+  pub uncut : cut_at 10 (drop so_far.bytes file) ≡ None
+  pub passed : HasPassed file (lines_of (drop so_far.bytes file)) objects so_far
+
+-- why what is left of a known file isn't read: it is too long only if its line is, even if a CR
+-- ends that
+abbrev pub RestStops : List ℕ → DataFault → Type 0
+RestStops rest Device = Unit {0}
+RestStops rest WantOfMemory = Unit {0}
+RestStops rest LongPart = max_line + 2 ≤ length rest
+RestStops rest fault = ⊥
