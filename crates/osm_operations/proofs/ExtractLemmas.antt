@@ -11,7 +11,7 @@ use Rattle.osm_model.specs.Change.{ChangeValue, IsChange}
 use Rattle.osm_model.specs.Content.{content_of}
 use Rattle.osm_model.specs.Data.{IsData, IsLeft}
 use Rattle.osm_model.specs.Filter.{FilterValue, kept, kept_object}
-use Rattle.osm_model.specs.Limits.{max_file, max_sequence}
+use Rattle.osm_model.specs.Limits.{max_sequence}
 use Rattle.osm_model.specs.declared.kind.Key.{Key}
 use Rattle.osm_mirror.specs.Mirror.{IsMirror, IsMirrorOf, IsObject, IsOrderly, MirrorValue, object_at}
 use Rattle.osm_o5c.proofs.WrittenFile as o5m_written
@@ -29,15 +29,16 @@ use Rattle.osm_follow.proofs.BeginLemmas.{kept_at}
 use Rattle.osm_follow.proofs.PublishedLemmas.{time_next}
 use Rattle.osm_follow.specs.Begin.{kept_objects}
 use Rattle.osm_follow.specs.Published.{PublishedValue, changes_after, changes_up_to, sequence_at}
-use Rattle.osm_beginning.proofs.BeginLemmas.{one_form, same_base, same_start, spelled_data}
-use Rattle.osm_folder.proofs.InStepLemmas.{one_saved}
-use Rattle.osm_beginning.specs.Beginning.{BeginStops, HasStart, IsBase, IsBadBase, IsBeginning, IsBegunFrom, begun_save}
+use Rattle.osm_beginning.proofs.BeginLemmas.{kept_data, one_form, same_base, same_start, spelled_data}
+use Rattle.osm_beginning.specs.Beginning.{BeginStops, HasStart, IsBase, IsBadBase, IsBeginning, IsBegunFrom, begin_calls, begun_save, most_kept}
 use Rattle.osm_folder.specs.DataForms.{data_text_of, spells_data}
 use Rattle.osm_folder.specs.DataForms.{HasDataForm}
-use Rattle.osm_exporting.specs.Exporting.{ExportStops, Holds, IsExportOf}
-use Rattle.osm_store.specs.Files.{Files, IsOver, Puts}
+use Rattle.osm_exporting.specs.Exporting.{ExportStops, IsExportOf, IsExportable, export_calls}
+use Rattle.osm_merge.specs.Calls.{bytes_in}
+use Rattle.osm_merge.specs.Checking.{IsNoSave}
+use Rattle.osm_store.specs.Files.{Files, HasFewer, IsOver, Puts}
 use Rattle.osm_folder.specs.Folder.{IsStateFile, IsThere, max_state}
-use Rattle.osm_folder.specs.Following.{IsInStep, IsSaveOf, IsSaved, max_save}
+use Rattle.osm_folder.specs.Following.{IsInStep, IsSaveOf, IsSaved}
 use Rattle.osm_folder.specs.Lagging.{IsHead}
 use Rattle.osm_folder.specs.Names.{file_name_of, top_name_of}
 use Rattle.osm_folder.specs.Publication.{IsBadState}
@@ -46,16 +47,16 @@ use Rattle.osm_folder.specs.Runs.{LacksCalls}
 use Rattle.osm_folder.specs.declared.data_form.DataForm.{DataForm}
 use Rattle.osm_folder.specs.declared.data_form.DataForm.TheVariants.{Opl, O5m}
 use Rattle.osm_folder.specs.declared.fault.FileName.TheVariants as files
-use Rattle.osm_folder.specs.declared.fault.FileName.TheVariants.{Base, Output, Save}
+use Rattle.osm_folder.specs.declared.fault.FileName.TheVariants.{Base, Save}
 use Rattle.osm_folder.specs.declared.fault.RunFault.{RunFault}
 use Rattle.osm_folder.specs.declared.fault.RunFault.TheVariants.{WantOfMemory, ReadFault, WriteFault, TooLarge, Absent}
-use Rattle.osm_folder.specs.declared.fault.RunFault.TheVariants.{BadState, BadChange, BadSave, UnknownForm, ZeroBase}
-use Rattle.osm_operations.specs.Allowed.{BeginRefused, ExportRefused, HasBeginning, HasBigBeginning, HasExport}
+use Rattle.osm_folder.specs.declared.fault.RunFault.TheVariants.{BadState, BadChange, BadSave, Changed, UnknownForm, ZeroBase}
+use Rattle.osm_operations.specs.Allowed.{BeginRefused, ExportRefused, HasBeginning, HasExport, HasManyToBegin, LacksBeginCalls, LacksExportCalls}
 use Rattle.osm_operations.specs.Allowed.{KilledBeginRefused, KilledExportRefused}
 use Rattle.osm_operations.specs.Correct.{AreApart, IsExtractOf}
 use Rattle.osm_operations.specs.History.{Standing, begins_at, text_of, unless_lost}
 use Rattle.osm_operations.specs.History as hist
-use Rattle.osm_operations.specs.Steps.Stepping.{Exports, IsNoDevice, state_name_of}
+use Rattle.osm_operations.specs.Steps.Stepping.{Exports, IsNoDevice, LacksCallsToBegin, state_name_of}
 use Rattle.osm_operations.proofs.AgreeLemmas.{Agrees, few, folder_same}
 
 -- ---- what was saved and exported
@@ -95,22 +96,12 @@ mirror_data m is = record {
 }
 
 -- what can be exported of a save
-pub has_export : (given : FilterValue) (h : hist.History) (extract : List ℕ) (told : Option (List ℕ)) (holds : List ℕ → Type 0) (named : HasDataForm extract)
-    (held : Holds told) → IsSaveOf (hist.published_of h) given (hist.base_of h) (hist.number_of h) told → is_none told ≡ not (hist.is_saved h)
-    → holds (data_text_of named.form held.saved.mirror.objects) → HasExport given h extract holds
-has_export given h extract told holds named held save there fits =
-    let here : IsSaved given told held.saved = rw held.there held.spelled in
-    let same : held.saved ≡ save.value = one_saved given told held.saved save.value here save.saved in
-    let mirror : IsMirrorOf given (changes_up_to (hist.published_of h) save.value.number)
-    (changes_after (hist.published_of h) save.value.base save.value.number) held.saved.mirror = rw same save.in_step.mirror in
-    record {
-      saved = is_there_not (hist.is_saved h) told held.bytes there held.there;
-      named = named;
-      objects = held.saved.mirror.objects;
-      are_data = mirror_data held.saved.mirror held.spelled.savable.mirror;
-      content = λ k. mirror.objects k ∙ ap (λ n. kept_object given (content_of (changes_up_to (hist.published_of h) n) k)) save.number_is;
-      fits = fits;
-    }
+pub has_export : (h : hist.History) (save extract : List ℕ) (f : Files) → IsExportable save extract f
+    → is_none (f save) ≡ not (hist.is_saved h) → HasExport h extract
+has_export h save extract f made there = record {
+  saved = is_there_not (hist.is_saved h) (f save) made.held.file there made.held.there;
+  named = made.named;
+}
 
 -- an export is done
 pub export_agrees : (p : List PublishedValue) (lost : ℕ → Suffix → Bool) (m : Standing) (given : FilterValue) (dir save changes extract : List ℕ)
@@ -147,35 +138,46 @@ export_agrees p lost m given dir save changes extract start f g l n report apart
     same : g save ≡ f save
     same = put.others save (λ e. apart.not_saved (sym e))
 
+-- the calls that an export lacked
+lacks_calls : (given : FilterValue) (h : hist.History) (save : List ℕ) (f : Files) (calls : ℕ)
+    → IsSaveOf (hist.published_of h) given (hist.base_of h) (hist.number_of h) (f save)
+    → HasFewer (export_calls (bytes_in (f save))) (Some calls) → LacksExportCalls given h calls
+lacks_calls given h save f calls s few = record { base = hist.base_of h; told = f save; saved = s; few = few }
+
+-- what was saved is a save text
+saved_text : (given : FilterValue) (told : Option (List ℕ)) (v : Saved) → IsSaved given told v → IsNoSave told → ⊥
+saved_text given told v saved none = none.none v (saved_right given told v none.file saved none.there)
+
 -- why an export stopped
 pub export_row : (given : FilterValue) (h : hist.History) (extract save : List ℕ) (calls : ℕ) (f : Files) (fault : RunFault)
-    → LacksCalls 2 (Some calls) fault → IsSaveOf (hist.published_of h) given (hist.base_of h) (hist.number_of h) (f save)
+    → LacksCalls (export_calls (bytes_in (f save))) (Some calls) fault
+    → IsSaveOf (hist.published_of h) given (hist.base_of h) (hist.number_of h) (f save)
     → is_none (f save) ≡ not (hist.is_saved h) → ExportStops (IsTrue true) save extract f fault
     → KilledExportRefused given h extract calls fault
 export_row given h extract save calls f UnknownForm lacks s there r = r
 export_row given h extract save calls f WantOfMemory lacks s there r = tt
-export_row given h extract save calls f (ReadFault Save) lacks s there r = (refl, r, lacks tt)
-export_row given h extract save calls f (Absent Save) lacks s there r = (refl, r.0, is_absent_not (hist.is_saved h) (f save) there (r.1 refl))
-export_row given h extract save calls f (TooLarge Save) lacks s there r =
-    let big = r.1 refl in (
-      r.0,
-      record {
-        value = s.value;
-        text = big.bytes;
-        in_step = s.in_step;
-        spelled = saved_right given (f save) s.value big.bytes s.saved big.there;
-        over = big.over;
-      },
-    )
-export_row given h extract save calls f (BadSave line) lacks s there r =
-    absurd (let bad = r.1 refl in bad.nothing s.value (saved_right given (f save) s.value bad.bytes s.saved bad.there))
-export_row given h extract save calls f (TooLarge Output) lacks s there r =
-    let big = r.1 refl in
-    (refl, has_export given h extract (f save) (λ text. max_file < length text) big.named big.held s there big.over)
-export_row given h extract save calls f (WriteFault Output) lacks s there r =
-    let made = r.1 refl in
-    (refl, has_export given h extract (f save) (λ text. length text ≤ max_file) made.named made.held s there made.fits, lacks tt)
-export_row given h extract save calls f fault lacks s there r = absurd r
+export_row given h extract save calls f (ReadFault file) lacks s there r = (r.1, r.0, lacks_calls given h save f calls s (lacks tt))
+export_row given h extract save calls f (Absent file) lacks s there r =
+    (r.1.0, r.0, is_absent_not (hist.is_saved h) (f save) there (r.1.1 refl))
+export_row given h extract save calls f (TooLarge file) lacks s there r = (
+  r.1.0,
+  r.0,
+  elim r.1.1 refl [
+    | inl huge ↦ record {
+      base = hist.base_of h;
+      number = hist.number_of h;
+      told = f save;
+      saved = s;
+      huge = huge;
+    }
+    | inr none ↦ absurd (saved_text given (f save) s.value s.saved none)
+  ],
+)
+export_row given h extract save calls f (BadSave line) lacks s there r = absurd (saved_text given (f save) s.value s.saved (r.1 refl))
+export_row given h extract save calls f (Changed file) lacks s there r = absurd (r.1.1 refl)
+export_row given h extract save calls f (WriteFault file) lacks s there r =
+    (r.0, has_export h save extract f (r.2 refl) there, lacks_calls given h save f calls s (lacks tt))
+export_row given h extract save calls f fault lacks s there r = absurd r.1
 
 pub not_killed_export : (given : FilterValue) (h : hist.History) (extract : List ℕ) (calls : ℕ) (fault : RunFault) → IsNoDevice fault
     → KilledExportRefused given h extract calls fault → ExportRefused given h extract fault
@@ -212,7 +214,6 @@ base_of_export p given number extract state f e above within named = record {
     named = e.named;
     bytes = data_text_of e.named.form e.objects;
     there = e.text;
-    small = e.fits;
     spelled = written_data e.named.form e.objects e.are_data;
   };
   content = e.content;
@@ -365,20 +366,20 @@ begin_agrees p lost m given dir save changes extract state start f g l n report 
 
 -- ---- why a beginning stopped
 
--- the save that a beginning would write passes 1 GiB
-big_beginning : (p : List PublishedValue) (given : FilterValue) (number : ℕ) (extract state : List ℕ) (f : Files)
-    → IsKeptBase p given number extract state f → (s : StateValue) (text : List ℕ) → IsBeginning given extract state f s text
-    → max_save < length text → HasBigBeginning p given number
-big_beginning p given number extract state f of s text b over =
-    let step = begun_step p given number extract state f of s text b in
+-- the save that a beginning would write has too many objects
+many_to_begin : (p : List PublishedValue) (given : FilterValue) (number : ℕ) (extract state : List ℕ) (f : Files)
+    → IsKeptBase p given number extract state f → (objects : List ChangeValue) → IsBase extract (f extract) objects
+    → most_kept < length (kept_objects given objects) → HasManyToBegin p given number
+many_to_begin p given number extract state f of objects base many =
+    let same : objects ≡ of.objects = same_base extract (f extract) objects of.objects base of.base_is in
+    let are : IsData objects = spelled_data base.named.form base.bytes objects base.spelled in
     record {
-      value = begun_save given s b.objects;
-      text = text;
-      base_is = step.0;
-      number_is = step.0;
-      in_step = step.1;
-      spelled = b.spelled;
-      over = over;
+      objects = kept_objects given objects;
+      are_data = kept_data given objects are;
+      content = λ k. kept_at given objects are.rising k
+          ∙ (ap (kept_object given) (ap (λ (os : List ChangeValue). object_at os k) same ∙ of.content k)
+          ∙ extracts_are_enough given (content_of (changes_up_to p number)) [] k);
+      many = many;
     }
 
 -- what holds of a file that is there
@@ -398,13 +399,6 @@ state_right : NoFaultBesideState → (o : Option (List ℕ)) (number time : ℕ)
     → IsBadState o cause → ⊥
 state_right law None number time cause h bad = h
 state_right law (Some text) number time cause h bad = law text _ cause h.names (rw (same_Some text bad.bytes bad.there) bad.fault)
-
-base_small : (extract : List ℕ) (told : Option (List ℕ)) (objects : List ChangeValue) → IsBase extract told objects → IsOver max_file told → ⊥
-base_small extract told objects b over =
-    let long = ap length (same_Some _ _ (sym b.there ∙ over.there)) in
-    let most = over.over in
-    let small = b.small in
-    omega (arith, long, most, small)
 
 base_right : (extract : List ℕ) (told : Option (List ℕ)) (objects : List ChangeValue) (place : ℕ) → IsBase extract told objects
     → IsBadBase extract told place → ⊥
@@ -442,11 +436,21 @@ module _ (h : hist.History) (given : FilterValue) (dir save changes extract : Li
   base_is : HasStart (state_in dir h) f → IsKeptBase (hist.published_of h) given (hist.beginning_of h) extract (state_in dir h) f
   base_is start_is = (state_there (IsStateFile start_is.0.sequence start_is.0.time) start_is.1.there).2
 
-  pub begin_row : (fault : RunFault) → LacksCalls 3 (Some calls) fault → NoFaultBesideState → BeginStops (IsTrue true) given extract (state_in dir h) f fault
-      → KilledBeginRefused given h extract calls fault
+  -- what was exported last
+  exported_is : HasStart (state_in dir h) f → IsExportOf (hist.published_of h) given (hist.beginning_of h) extract (f extract)
+  exported_is start_is =
+      exported_some (hist.published_of h) given (hist.exported_of h) extract (start extract) (f extract)
+      (state_there (IsStateFile start_is.0.sequence start_is.0.time) start_is.1.there).0 s.saved.extract_is
+
+  lacks_begin : HasStart (state_in dir h) f → HasFewer (begin_calls (bytes_in (f extract))) (Some calls)
+      → LacksBeginCalls (hist.published_of h) given (hist.beginning_of h) extract calls
+  lacks_begin start_is few = record { told = f extract; exported = exported_is start_is; few = few }
+
+  pub begin_row : (fault : RunFault) → LacksCallsToBegin extract calls f fault → NoFaultBesideState
+      → BeginStops (IsTrue true) given extract (state_in dir h) f fault → KilledBeginRefused given h extract calls fault
   begin_row UnknownForm lacks law r = r
   begin_row WantOfMemory lacks law r = tt
-  begin_row (ReadFault files.State) lacks law r = (r, lacks tt)
+  begin_row (ReadFault files.State) lacks law r = (r, lacks.first refl)
   begin_row (Absent files.State) lacks law r = (
     refl,
     r.0,
@@ -471,29 +475,30 @@ module _ (h : hist.History) (given : FilterValue) (dir save changes extract : Li
       let same : 0 ≡ hist.beginning_of h = ap (λ (u : StateValue). u.sequence) (same_start (f (state_in dir h)) zero_state named zero.1 here.2.start) in
       let above : 0 < hist.beginning_of h = here.0 in
       absurd (omega (arith, same, above))
-  begin_row (ReadFault Base) lacks law r = (beginning_has r.0 (r.1 refl), lacks tt)
+  begin_row (ReadFault Base) lacks law r = (beginning_has r.0 (r.1 refl), lacks_begin (r.1 refl) (lacks.all tt))
   begin_row (Absent Base) lacks law r =
       let told = r.1 refl in
       let is = base_is told.0 in
       absurd (let bad : None ≡ Some is.base_is.bytes = sym told.1 ∙ is.base_is.there in cc)
   begin_row (TooLarge Base) lacks law r =
       let told = r.1 refl in
-      let is = base_is told.0 in
-      absurd (base_small extract (f extract) is.objects is.base_is told.1)
+      (beginning_has r.0 told.0, record { told = f extract; exported = exported_is told.0; large = told.1 })
   begin_row (BadChange Base place why) lacks law r =
       let told = r refl in
       let is = base_is told.0 in
       absurd (base_right extract (f extract) is.objects place is.base_is told.1)
   begin_row (TooLarge Save) lacks law r =
       let big = r refl in
-      let has : HasStart (state_in dir h) f = (big.0, big.2.start) in (
+      let has : HasStart (state_in dir h) f = (big.s, big.start) in (
         refl,
-        beginning_has big.2.base_is.named has,
-        big_beginning (hist.published_of h) given (hist.beginning_of h) extract (state_in dir h) f (base_is has) big.0 big.1 big.2 big.3,
+        beginning_has big.base_is.named has,
+        many_to_begin (hist.published_of h) given (hist.beginning_of h) extract (state_in dir h) f (base_is has) big.objects big.base_is big.many,
       )
   begin_row (WriteFault Save) lacks law r =
       let told = r refl in
-      (refl, beginning_has told.2.base_is.named (told.0, told.2.start), lacks tt)
+      let has : HasStart (state_in dir h) f = (told.s, told.start) in
+      (refl, beginning_has told.base_is.named has, lacks_begin has (lacks.all tt))
+  begin_row (Changed Base) lacks law r = absurd (r refl)
   begin_row fault lacks law r = absurd r
 
 pub not_killed_begin : (given : FilterValue) (h : hist.History) (extract : List ℕ) (calls : ℕ) (fault : RunFault) → IsNoDevice fault

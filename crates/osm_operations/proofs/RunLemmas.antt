@@ -9,19 +9,20 @@ use Rattle.std.specs.Prelude.{decimal, max}
 use Rattle.std.proofs.lemmas.Fmt.{decimal_is_IsNumeral, length-decimal-le}
 use Rattle.osm_reading.specs.Sequence.{SpellsSequence}
 use Rattle.osm_state.specs.StateLaws.{NoFaultBesideState}
-use Rattle.osm_beginning.specs.Beginning.{BeginStops, IsBegunFrom}
+use Rattle.osm_beginning.specs.Beginning.{BeginStops, IsBegunFrom, begin_calls}
 use Rattle.osm_exporting.specs.Exporting.{ExportStops, IsExportOf, IsExported}
-use Rattle.osm_store.specs.Files.{Files, Spends}
+use Rattle.osm_store.specs.Files.{Files, HasFewer}
 use Rattle.osm_folder.specs.Folder.{IsApart, IsFolderOf}
 use Rattle.osm_folder.specs.Following.{IsSaveOf, plainly}
-use Rattle.osm_store.specs.Frames.{IsKnown, StoreState}
+use Rattle.osm_store.specs.Frames.{IsKnown, MakesAtMost, StoreState}
+use Rattle.osm_merge.specs.Calls.{bytes_in}
 use Rattle.osm_folder.specs.Progress.{IsWhole}
 use Rattle.osm_round.specs.Over.{FollowRefuses, FollowsOver, follow_calls}
 use Rattle.osm_round.specs.Rounds.{IsFollowed, IsProgress}
-use Rattle.osm_folder.specs.Runs.{LacksCalls, Replaces}
+use Rattle.osm_folder.specs.Runs.{IsDeviceFault, LacksCalls}
 use Rattle.osm_folder.specs.declared.progress.Progress.{Progress}
 use Rattle.osm_folder.specs.declared.progress.Progress.TheVariants.{Whole, Before}
-use Rattle.osm_folder.specs.declared.fault.RunFault.TheVariants.{ReadFault, WriteFault}
+use Rattle.osm_folder.specs.declared.fault.RunFault.TheVariants.{ReadFault}
 use Rattle.osm_state.specs.declared.paths.Suffix.TheVariants.{O5c, Opl}
 use Rattle.osm_store.specs.Stores.{files_of}
 use Rattle.osm_folder.specs.Names.{file_name_of, top_name_of}
@@ -29,8 +30,8 @@ use Rattle.osm_folder.specs.Numbered.{IsAddedAs, IsPublishedAs, NumberedOut, Num
 use Rattle.osm_folder.specs.Publication.{FolderRefuses, GoesOnFrom, IsPublished, PublishOut, PublishStops}
 use Rattle.osm_folder.specs.Reports.{ReportValue, convert_report_of}
 use Rattle.osm_folder.specs.declared.fault.RunFault.{RunFault}
-use Rattle.osm_operations.specs.Steps.Stepping.{BeginStep, ExportStep, Exports, StopsBeginning, state_name_of}
-use Rattle.osm_operations.specs.Steps.Stepping.{AreChangesPut, FollowStep, HasCalls, IsNoDevice, IsNumberText, IsReportOf, NumberedStep}
+use Rattle.osm_operations.specs.Steps.Stepping.{BeginStep, ExportStep, Exports, LacksCallsToBegin, StopsBeginning, state_name_of}
+use Rattle.osm_operations.specs.Steps.Stepping.{AreChangesPut, FollowStep, HasCalls, IsNumberText, IsReportOf, NumberedStep}
 use Rattle.osm_operations.specs.Steps.Stepping.{PublishAsTo, PublishStep, ReturnBoth, ReturnForms, SettleTo, named}
 use Rattle.osm_operations.specs.Steps.Stepping.{stopped_reply}
 use Rattle.osm_operations.specs.declared.operation.Reply.{Reply}
@@ -269,28 +270,26 @@ begin_step given dir number extract state save f g f' g' (Err fault) name same s
       (subst (λ s. StopsBeginning given extract s fault f') name (record { stops = a.stops; law = a.law }))),
 )
 
--- a run that could make any number of calls isn't refused by the device
-pub unlimited_no_device : (calls : ℕ) (fault : RunFault) → LacksCalls calls None fault → IsNoDevice fault
-unlimited_no_device calls (ReadFault file) lacks = lacks tt
-unlimited_no_device calls (WriteFault file) lacks = lacks tt
-unlimited_no_device calls fault lacks = tt
+-- a killed run that the device refused had fewer calls than it may make
+pub made_lacks : (most left : ℕ) (old new : StoreState) (r : Result ReportValue RunFault) → IsKnown old → old.left ≡ Some left
+    → MakesAtMost IsDeviceFault most old new r → IfErr r (LacksCalls most (Some left))
+made_lacks most left old new (Ok report) known some makes = tt
+made_lacks most left old new (Err fault) known some makes = subst (λ o. LacksCalls most o fault) some (makes.lacks known)
 
-pub replaced_no_device : (calls : ℕ) (old new : StoreState) (r : Result ReportValue RunFault) → IsKnown old → old.left ≡ None
-    → Replaces calls old new r → IfErr r IsNoDevice
-replaced_no_device calls old new (Ok report) known none frame = tt
-replaced_no_device calls old new (Err fault) known none frame =
-    unlimited_no_device calls fault (subst (λ left. LacksCalls calls left fault) none (frame.at_most.lacks known))
+-- why the device has no state to read
+abbrev pub LacksState : StoreState → RunFault → Type 0
+LacksState old fault = fault ≡ ReadFault State → IsKnown old → HasFewer 1 old.left
 
--- a killed run that is done had its calls, and one that the device refused had fewer
-pub replaced_calls : (calls left : ℕ) (old new : StoreState) (r : Result ReportValue RunFault) → old.left ≡ Some left
-    → Replaces calls old new r → OnOk r (calls ≤ left)
-replaced_calls calls left old new (Err fault) some frame = tt
-replaced_calls calls left old new (Ok report) some frame =
-    let spent = subst (λ o. Spends calls o new.left) some frame.makes.spent in
-    let sum = spent.2 in omega (arith, sum)
+none_left : (left : Option ℕ) (calls : ℕ) → left ≡ Some calls → HasFewer 1 left → calls ≡ 0
+none_left left calls some few = let less : calls < 1 = subst (HasFewer 1) some few in omega (arith, less)
 
-pub replaced_lacks : (calls left : ℕ) (old new : StoreState) (r : Result ReportValue RunFault) → IsKnown old → old.left ≡ Some left
-    → Replaces calls old new r → IfErr r (LacksCalls calls (Some left))
-replaced_lacks calls left old new (Ok report) known some frame = tt
-replaced_lacks calls left old new (Err fault) known some frame =
-    subst (λ o. LacksCalls calls o fault) some (frame.at_most.lacks known)
+-- the same of a beginning
+pub begin_lacks : (extract : List ℕ) (calls : ℕ) (old new : StoreState) (f : Files) (r : Result ReportValue RunFault) → IsKnown old
+    → old.left ≡ Some calls → old.files ≡ f → MakesAtMost IsDeviceFault (begin_calls (bytes_in (old.files extract))) old new r
+    → IfErr r (LacksState old) → IfErr r (LacksCallsToBegin extract calls f)
+begin_lacks extract calls old new f (Ok report) known some same makes first = tt
+begin_lacks extract calls old new f (Err fault) known some same makes first = record {
+  all = subst (λ (g : Files). LacksCalls (begin_calls (bytes_in (g extract))) (Some calls) fault) same
+      (made_lacks (begin_calls (bytes_in (old.files extract))) calls old new (Err fault) known some makes);
+  first = λ state. none_left old.left calls some (first state known);
+}

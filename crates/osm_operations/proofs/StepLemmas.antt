@@ -7,14 +7,16 @@ use Rattle.std.proofs.lemmas.Bool.{eq-eqb, ne_eqb}
 use Rattle.std.proofs.lemmas.List.{reverse-append}
 use Rattle.osm_model.specs.Change.{ChangeValue}
 use Rattle.osm_model.specs.Filter.{FilterValue}
-use Rattle.osm_model.specs.Limits.{max_file, max_sequence}
+use Rattle.osm_model.specs.Limits.{max_sequence}
 use Rattle.osm_mirror.proofs.MirrorLemmas.{mirror_of-nil}
 use Rattle.osm_save.specs.Head.{head_of}
 use Rattle.osm_state.specs.declared.paths.Suffix.{Suffix}
 use Rattle.osm_state.specs.declared.paths.Suffix.TheVariants.{O5c, Opl, State}
 use Rattle.osm_follow.specs.Published.{PublishedValue, sequence_at}
 use Rattle.osm_follow.specs.Reach.{numbers}
-use Rattle.osm_beginning.specs.Beginning.{BeginStops, IsBegunFrom}
+use Rattle.osm_beginning.specs.Beginning.{BeginStops, IsBegunFrom, begin_calls}
+use Rattle.osm_exporting.specs.Exporting.{export_calls}
+use Rattle.osm_merge.specs.Calls.{bytes_in}
 use Rattle.osm_store.specs.Files.{Files}
 use Rattle.osm_folder.specs.Folder.{IsStateFile}
 use Rattle.osm_folder.specs.Following.{IsSaveOf, no_save, ranges}
@@ -36,7 +38,7 @@ use Rattle.osm_operations.specs.Correct.{AreApart, IsNew, IsRun}
 use Rattle.osm_operations.specs.History as hist
 use Rattle.osm_operations.specs.Reported.{applied_in}
 use Rattle.osm_operations.specs.Spoiling.{number_before}
-use Rattle.osm_operations.specs.Steps.Stepping.{BeginTo, ExportTo, KeepsExported, OtherTo, state_name_of}
+use Rattle.osm_operations.specs.Steps.Stepping.{BeginTo, ExportTo, KeepsExported, LacksCallsToBegin, OtherTo, state_name_of}
 use Rattle.osm_operations.specs.Steps.Stepping.{FollowTo, HasCalls, IsNoDevice, IsNumber, NumberedStep, PublishAsTo}
 use Rattle.osm_operations.specs.Steps.Stepping.{PublishStep, PublishTo, ReturnForms, SpoiledStep, SpoiledTo, Step, form_back, named}
 use Rattle.osm_operations.specs.declared.operation.Operation.{Operation}
@@ -404,7 +406,7 @@ export_more : (h : hist.History) (given : FilterValue) (dir save changes extract
     → AreApart dir save changes extract → AgreesIn (hist.published_of h) (hist.is_file_lost h) (hist.standing_of h) given dir save
     changes extract start a → ExportTo save extract (Exported report) a b
     → AgreesIn (hist.published_of h ++ []) (hist.is_file_lost h) (hist.standing_after h (Exported report) (hist.standing_of h)) given dir save
-    changes extract start b × (report ≡ convert_report_of) × HasExport given h extract (λ text. length text ≤ max_file)
+    changes extract start b × (report ≡ convert_report_of) × HasExport h extract
     × (b.exported ≡ hist.number_of h)
 export_more h given dir save changes extract start a b report apart s (done, lost, count, number) =
     let agrees = export_agrees (hist.published_of h) (hist.is_file_lost h) (hist.standing_of h) given dir save changes extract start
@@ -417,13 +419,13 @@ export_more h given dir save changes extract start a b report apart s (done, los
           changes extract start (files_of b.store) (files_of a.lost) (files_of b.store) (files_of b.lost) a.published b.published refl
           (ap files_of lost) count agrees),
       done.report_is,
-      has_export given h extract (files_of a.store save) (λ text. length text ≤ max_file) made.named made.held s.saved.save_is s.saved.is_there made.fits,
+      has_export h save extract (files_of a.store) made s.saved.is_there,
       number (head_of save_is.value) (saved_head given (files_of a.store save) save_is.value save_is.saved) ∙ save_is.number_is,
     )
 
 -- an export is refused
 export_stopped : (h : hist.History) (given : FilterValue) (dir save changes extract : List ℕ) (start : Files) (a b : World) (calls : ℕ) (fault : RunFault)
-    → LacksCalls 2 (Some calls) fault → AgreesIn (hist.published_of h) (hist.is_file_lost h) (hist.standing_of h) given dir save
+    → LacksCalls (export_calls (bytes_in (files_of a.store save))) (Some calls) fault → AgreesIn (hist.published_of h) (hist.is_file_lost h) (hist.standing_of h) given dir save
     changes extract start a → ExportTo save extract (Refused fault) a b
     → AgreesIn (hist.published_of h ++ []) (hist.is_file_lost h) (hist.standing_of h) given dir save changes extract start b
     × KilledExportRefused given h extract calls fault
@@ -466,9 +468,17 @@ begin_more h given dir save changes extract start a b report apart s (done, lost
       record { named = begun.base_is.named; above = there.0; there = there.1 },
     )
 
+-- a beginning that isn't killed isn't refused by the device
+begins_unkilled : (extract : List ℕ) (f : Files) (fault : RunFault) → IsNoDevice fault → LacksCallsToBegin extract 0 f fault
+begins_unkilled extract f fault none = record {
+  all = no_device_lacks (begin_calls (bytes_in (f extract))) (Some 0) fault none;
+  first = λ state. refl;
+}
+
 -- a beginning is refused
 begin_stopped : (h : hist.History) (given : FilterValue) (dir save changes extract : List ℕ) (start : Files) (a b : World) (calls : ℕ) (fault : RunFault)
-    → LacksCalls 3 (Some calls) fault → Holds h given dir save changes extract start a → BeginTo given dir save extract (Refused fault) a b
+    → LacksCallsToBegin extract calls (files_of a.store) fault → Holds h given dir save changes extract start a
+    → BeginTo given dir save extract (Refused fault) a b
     → AgreesIn (hist.published_of h ++ []) (hist.is_file_lost h) (hist.standing_of h) given dir save changes extract start b
     × KilledBeginRefused given h extract calls fault
 begin_stopped h given dir save changes extract start a b calls fault lacks s (stops, lost, count) = (
@@ -917,7 +927,8 @@ step_holds h Export (Exported report) given dir save changes extract start a b a
     let done = export_more h given dir save changes extract start a b report apart s.agrees t.0 in
     record { agrees = done.0; allowed = ((done.1, done.2), s.allowed); reported = s.reported; exported = done.3 }
 step_holds h Export (Refused fault) given dir save changes extract start a b apart s t x =
-    let done = export_stopped h given dir save changes extract start a b 0 fault (no_device_lacks 2 (Some 0) fault t.1) s.agrees t.0 in
+    let lacks = no_device_lacks (export_calls (bytes_in (files_of a.store save))) (Some 0) fault t.1 in
+    let done = export_stopped h given dir save changes extract start a b 0 fault lacks s.agrees t.0 in
     record {
       agrees = done.0;
       allowed = (not_killed_export given h extract 0 fault t.1 done.1, s.allowed);
@@ -941,7 +952,7 @@ step_holds h Begin (Begun report) given dir save changes extract start a b apart
       exported = x ∙ s.exported;
     }
 step_holds h Begin (Refused fault) given dir save changes extract start a b apart s t x =
-    let done = begin_stopped h given dir save changes extract start a b 0 fault (no_device_lacks 3 (Some 0) fault t.1) s t.0 in
+    let done = begin_stopped h given dir save changes extract start a b 0 fault (begins_unkilled extract (files_of a.store) fault t.1) s t.0 in
     record {
       agrees = done.0;
       allowed = (not_killed_begin given h extract 0 fault t.1 done.1, s.allowed);

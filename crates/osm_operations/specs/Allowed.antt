@@ -7,18 +7,16 @@ use Rattle.osm_model.specs.Change.{ChangeValue}
 use Rattle.osm_model.specs.Content.{content_of}
 use Rattle.osm_model.specs.Data.{IsData}
 use Rattle.osm_model.specs.Filter.{FilterValue, kept}
-use Rattle.osm_model.specs.Limits.{max_file, max_sequence}
+use Rattle.osm_model.specs.Limits.{max_sequence}
 use Rattle.osm_model.specs.declared.kind.Key.{Key}
 use Rattle.osm_mirror.specs.Mirror.{object_at}
-use Rattle.osm_save.specs.Save.{SpellsSave}
-use Rattle.osm_save.specs.declared.save.Saved.{Saved}
 use Rattle.osm_state.specs.declared.paths.Suffix.{Suffix}
 use Rattle.osm_state.specs.declared.paths.Suffix.TheVariants.{O5c, Opl, State}
 use Rattle.osm_follow.specs.Published.{PublishedValue, changes_up_to, sequence_at}
 use Rattle.osm_follow.specs.Publisher.{IsTooLarge}
-use Rattle.osm_folder.specs.DataForms.{HasNoDataForm, data_text_of}
+use Rattle.osm_folder.specs.DataForms.{HasNoDataForm}
 use Rattle.osm_folder.specs.DataForms.{HasDataForm}
-use Rattle.osm_folder.specs.Following.{IsInStep, IsSaveOf, max_save, ranges}
+use Rattle.osm_folder.specs.Following.{IsSaveOf, ranges}
 use Rattle.osm_folder.specs.Numbered.{calls_before, file_read_after, numbered_calls}
 use Rattle.osm_folder.specs.Publication.{file_after}
 use Rattle.osm_folder.specs.Reports.{ReportValue, begin_report_of, convert_report_of}
@@ -31,7 +29,10 @@ use Rattle.osm_folder.specs.declared.fault.RunFault.TheVariants.{WriteFault, Too
 use Rattle.osm_folder.specs.declared.fault.RunFault.TheVariants.{TimeBack, SequenceFull, BadNow}
 use Rattle.osm_folder.specs.declared.fault.RunFault.TheVariants.{BadSequence, Differs, TopAt}
 use Rattle.osm_folder.specs.declared.fault.RunFault.TheVariants.{UnknownForm, OtherFilter}
+use Rattle.osm_merge.specs.Calls.{bytes_in}
 use Rattle.osm_merge.specs.Checking.{IsHugeFile}
+use Rattle.osm_beginning.specs.Beginning.{IsLargeBase, begin_calls}
+use Rattle.osm_exporting.specs.Exporting.{IsExportOf, export_calls}
 use Rattle.osm_round.specs.Over.{HasMany, follow_calls}
 use Rattle.osm_operations.specs.History.{History, published_of, is_file_lost, number_of}
 use Rattle.osm_operations.specs.History.{is_number_lost, count_after, lost_after, is_saved}
@@ -114,14 +115,6 @@ KilledNumberedRefused h changes time n calls (WriteFault file) =
     × (file ≡ file_after n count)
 KilledNumberedRefused h changes time n calls fault = NumberedRefused h changes time n fault
 
--- the save text of a follower of the published sequences under the filter passes 1 GiB
-pub record HasBigSave (published : List PublishedValue) (given : FilterValue) : Type 0 where
-  pub value : Saved
-  pub text : List ℕ
-  pub in_step : IsInStep published given value
-  pub spelled : SpellsSave text value
-  pub over : max_save < length text
-
 -- a save of the published sequences under the filter has more bytes than 64 bits count
 pub record HasHugeSave (published : List PublishedValue) (given : FilterValue) : Type 0 where
   pub base : ℕ
@@ -139,13 +132,13 @@ FollowingRefused published given (TooLarge file) =
     (file ≡ Save) × (HasHugeSave published given ⊎ HasMany published given)
 FollowingRefused published given fault = ⊥
 
--- fewer calls than a run of the follower from that number may make
-pub record HasFewCalls (published : List PublishedValue) (given : FilterValue) (number calls : ℕ) :
-    Type 0 where
+-- fewer calls than a run with a save of that number may make, which are `most` of what it holds
+pub record HasFewCalls (published : List PublishedValue) (given : FilterValue) (number : ℕ)
+    (most : Option (List ℕ) → ℕ) (calls : ℕ) : Type 0 where
   pub base : ℕ
   pub told : Option (List ℕ)
   pub saved : IsSaveOf published given base number told
-  pub few : calls < follow_calls published number told
+  pub few : calls < most told
 
 -- why a run of the follower from that number that is killed after that many calls isn't done: for a
 -- call after the last one, if there were fewer than such a run may make; else only for what refuses
@@ -153,45 +146,40 @@ pub record HasFewCalls (published : List PublishedValue) (given : FilterValue) (
 abbrev pub KilledFollowingRefused :
     List PublishedValue → FilterValue → ℕ → ℕ → RunFault → Type 0
 KilledFollowingRefused published given number calls (ReadFault file) =
-    HasFewCalls published given number calls
+    HasFewCalls published given number (follow_calls published number) calls
 KilledFollowingRefused published given number calls (WriteFault file) =
-    (file ≡ Save) × HasFewCalls published given number calls
+    (file ≡ Save) × HasFewCalls published given number (follow_calls published number) calls
 KilledFollowingRefused published given number calls fault =
     FollowingRefused published given fault
 
--- the follower's number can be exported, or can't for its size: something was saved, the name tells
--- a form, and this holds of the data file of what the filter keeps of what published sequences 1 to
--- the number leave
-pub record HasExport (given : FilterValue) (h : History) (extract : List ℕ)
-    (holds : List ℕ → Type 0) : Type 0 where
+-- an export has what it exports: something was saved, and the name tells a form
+pub record HasExport (h : History) (extract : List ℕ) : Type 0 where
   pub saved : is_saved h ≡ true
   pub named : HasDataForm extract
-  pub objects : List ChangeValue
-  pub are_data : IsData objects
-  pub content : (k : Key) → object_at objects k
-      ≡ kept given (content_of (changes_up_to (published_of h) (number_of h))) k
-  pub fits : holds (data_text_of named.form objects)
 
 -- why an export that isn't killed isn't done: for its name, since nothing was saved, or if the save
--- passes 1 GiB or what it exports 64 MiB; never for what the save says
+-- has more bytes than 64 bits count; never for what the save says
 abbrev pub ExportRefused : FilterValue → History → List ℕ → RunFault → Type 0
 ExportRefused given h extract WantOfMemory = Unit {0}
 ExportRefused given h extract UnknownForm = HasNoDataForm extract
 ExportRefused given h extract (Absent file) =
     (file ≡ Save) × HasDataForm extract × (is_saved h ≡ false)
-ExportRefused given h extract (TooLarge Save) =
-    HasDataForm extract × HasBigSave (published_of h) given
 ExportRefused given h extract (TooLarge file) =
-    (file ≡ Output) × HasExport given h extract (λ text. max_file < length text)
+    (file ≡ Save) × HasDataForm extract × HasHugeSave (published_of h) given
 ExportRefused given h extract fault = ⊥
 
+-- fewer calls than an export of the follower's number may make
+abbrev pub LacksExportCalls : FilterValue → History → ℕ → Type 0
+LacksExportCalls given h calls =
+    HasFewCalls (published_of h) given (number_of h) (λ told. export_calls (bytes_in told)) calls
+
 -- why an export that is killed after that many calls isn't done: for a call after the last one, if
--- there were fewer than it makes; else only for what refuses a whole one
+-- there were fewer than it may make; else only for what refuses a whole one
 abbrev pub KilledExportRefused : FilterValue → History → List ℕ → ℕ → RunFault → Type 0
 KilledExportRefused given h extract calls (ReadFault file) =
-    (file ≡ Save) × HasDataForm extract × (calls < 2)
+    (file ≡ Save) × HasDataForm extract × LacksExportCalls given h calls
 KilledExportRefused given h extract calls (WriteFault file) =
-    (file ≡ Output) × HasExport given h extract (λ text. length text ≤ max_file) × (calls < 2)
+    (file ≡ Output) × HasExport h extract × LacksExportCalls given h calls
 KilledExportRefused given h extract calls fault = ExportRefused given h extract fault
 
 -- a beginning has what it begins with: the name tells a form, and a number above 0 was exported,
@@ -201,41 +189,59 @@ pub record HasBeginning (h : History) (extract : List ℕ) : Type 0 where
   pub above : 0 < beginning_of h
   pub there : is_file_lost h (beginning_of h) State ≡ false
 
--- the save text of a follower of the published sequences under the filter that begins at that
--- number passes 1 GiB
-pub record HasBigBeginning (published : List PublishedValue) (given : FilterValue) (number : ℕ) :
+-- the objects that published sequences 1 to the number leave, as the filter keeps them, are more
+-- than a save text can have
+pub record HasManyToBegin (published : List PublishedValue) (given : FilterValue) (number : ℕ) :
     Type 0 where
-  pub value : Saved
-  pub text : List ℕ
-  pub base_is : value.base ≡ number
-  pub number_is : value.number ≡ number
-  pub in_step : IsInStep published given value
-  pub spelled : SpellsSave text value
-  pub over : max_save < length text
+  pub objects : List ChangeValue
+  pub are_data : IsData objects
+  pub content : (k : Key) →
+      object_at objects k ≡ kept given (content_of (changes_up_to published number)) k
+  pub many : 999999999999999999 < length objects
+
+-- what was exported has a line or a dataset of more than 64 MiB, or more bytes than 64 bits count
+pub record HasLargeExtract (published : List PublishedValue) (given : FilterValue) (number : ℕ)
+    (extract : List ℕ) : Type 0 where
+  pub told : Option (List ℕ)
+  pub exported : IsExportOf published given number extract told
+  pub large : IsLargeBase extract told
+
+-- fewer calls than a beginning with what was exported may make
+pub record LacksBeginCalls (published : List PublishedValue) (given : FilterValue) (number : ℕ)
+    (extract : List ℕ) (calls : ℕ) : Type 0 where
+  pub told : Option (List ℕ)
+  pub exported : IsExportOf published given number extract told
+  pub few : calls < begin_calls (bytes_in told)
 
 -- why a beginning that isn't killed isn't done: for its name, since no number above 0 was exported
--- or the state of that number is lost, or for the size of its save; never for what the files say
+-- or the state of that number is lost, or for the size of what was exported or of its save; never
+-- for what the files say
 abbrev pub BeginRefused : FilterValue → History → List ℕ → RunFault → Type 0
 BeginRefused given h extract WantOfMemory = Unit {0}
 BeginRefused given h extract UnknownForm = HasNoDataForm extract
 BeginRefused given h extract (Absent file) =
     (file ≡ files.State) × HasDataForm extract
     × ((beginning_of h ≡ 0) ⊎ (is_file_lost h (beginning_of h) State ≡ true))
+BeginRefused given h extract (TooLarge files.Base) =
+    HasBeginning h extract × HasLargeExtract (published_of h) given (beginning_of h) extract
 BeginRefused given h extract (TooLarge file) =
     (file ≡ Save) × HasBeginning h extract
-    × HasBigBeginning (published_of h) given (beginning_of h)
+    × HasManyToBegin (published_of h) given (beginning_of h)
 BeginRefused given h extract fault = ⊥
 
--- why a beginning that is killed after that many calls isn't done: for a call after the last one,
--- if there were fewer than it makes; else only for what refuses a whole one
+-- why a beginning that is killed after that many calls isn't done: for its first call, if it had
+-- none; for a call after the last one, if there were fewer than it may make; else only for what
+-- refuses a whole one
 abbrev pub KilledBeginRefused : FilterValue → History → List ℕ → ℕ → RunFault → Type 0
 KilledBeginRefused given h extract calls (ReadFault files.State) =
-    HasDataForm extract × (calls < 3)
+    HasDataForm extract × (calls ≡ 0)
 KilledBeginRefused given h extract calls (ReadFault files.Base) =
-    HasBeginning h extract × (calls < 3)
+    HasBeginning h extract
+    × LacksBeginCalls (published_of h) given (beginning_of h) extract calls
 KilledBeginRefused given h extract calls (ReadFault file) = ⊥
 KilledBeginRefused given h extract calls (WriteFault file) =
-    (file ≡ Save) × HasBeginning h extract × (calls < 3)
+    (file ≡ Save) × HasBeginning h extract
+    × LacksBeginCalls (published_of h) given (beginning_of h) extract calls
 KilledBeginRefused given h extract calls fault = BeginRefused given h extract fault
 
 -- what a publication prints: the next number
@@ -417,7 +423,7 @@ AllowedKilledSpoiled given h n s calls r = ⊥
 -- an export is done or refused
 abbrev pub AllowedExport : FilterValue → History → List ℕ → Reply → Type 0
 AllowedExport given h extract (Exported report) =
-    (report ≡ convert_report_of) × HasExport given h extract (λ text. length text ≤ max_file)
+    (report ≡ convert_report_of) × HasExport h extract
 AllowedExport given h extract (Refused fault) = ExportRefused given h extract fault
 AllowedExport given h extract r = ⊥
 
@@ -425,8 +431,7 @@ AllowedExport given h extract r = ⊥
 -- had fewer
 abbrev pub AllowedKilledExport : FilterValue → History → List ℕ → ℕ → Reply → Type 0
 AllowedKilledExport given h extract calls (Exported report) =
-    (report ≡ convert_report_of) × HasExport given h extract (λ text. length text ≤ max_file)
-    × (2 ≤ calls)
+    (report ≡ convert_report_of) × HasExport h extract × (2 ≤ calls)
 AllowedKilledExport given h extract calls (Refused fault) =
     KilledExportRefused given h extract calls fault
 AllowedKilledExport given h extract calls r = ⊥

@@ -6,6 +6,7 @@ ghost use Rattle.std.specs.Prelude.{decimal, string_bytes};
 ghost use Rattle.std.specs.Str.{IsAscii};
 ghost use Rattle.osm_model.specs.Limits.{max_sequence};
 ghost use Rattle.osm_store.specs.Files.{Puts};
+ghost use Rattle.osm_merge.specs.Calls.{bytes_in};
 ghost use Rattle.osm_folder.specs.Names.{file_name_of};
 ghost use Rattle.osm_folder.specs.Runs.{LacksCalls};
 ghost use Rattle.osm_store.specs.Stores.{calls_of, files_of, inner_of};
@@ -15,7 +16,9 @@ ghost use Rattle.osm_operations.specs.Steps.Stepping.{AreChangesPut, BeginStep, 
 ghost use Rattle.osm_operations.specs.Steps.Stepping.{ExportStep, FollowStep, IsNoDevice};
 ghost use Rattle.osm_operations.specs.Steps.Stepping.{IsNumberOfSave, IsReportOf, IsSpoiledNow};
 ghost use Rattle.osm_operations.specs.Steps.Stepping.{OtherAnswer, SpoiledAnswer};
-ghost use Rattle.osm_operations.specs.Steps.Stepping.{LacksFollowCalls, Moves, NumberedStep};
+ghost use Rattle.osm_operations.specs.Steps.Stepping.{LacksCallsToBegin, LacksFollowCalls};
+ghost use Rattle.osm_operations.specs.Steps.Stepping.{Moves, NumberedStep};
+ghost use Rattle.osm_exporting.specs.Exporting.{export_calls};
 ghost use Rattle.osm_operations.specs.Steps.Stepping.{Returns, named};
 ghost use Rattle.osm_operations.specs.Steps.Stepping.{PublishStep, state_name_of};
 
@@ -326,7 +329,8 @@ pub(crate) fn export_killed(
     ensures step { ExportStep save.now extract.now result
         (files_of store.old) (files_of store.new) }
     ensures left { OnOk result (2 ≤ calls) }
-    ensures lacks { IfErr result (LacksCalls 2 (Some calls)) }
+    ensures lacks { IfErr result
+        (LacksCalls (export_calls (bytes_in (files_of store.old save.now))) (Some calls)) }
 {
     let mut stopping = stopping_over(alloc, store, calls);
     let answer = export_run(alloc, &mut stopping, save, extract);
@@ -394,7 +398,7 @@ pub(crate) fn begin_killed(
     ensures step { BeginStep filter.now dir.now number extract.now save.now result
         (files_of store.old) (files_of store.new) }
     ensures left { OnOk result (3 ≤ calls) }
-    ensures lacks { IfErr result (LacksCalls 3 (Some calls)) }
+    ensures lacks { IfErr result (LacksCallsToBegin extract.now calls (files_of store.old)) }
 {
     laws_of_state();
     let state = state_name(alloc, dir, number)?;

@@ -6,7 +6,8 @@ ghost use Rattle.std.specs.Prelude.{string_bytes};
 ghost use Rattle.osm_model.specs.Filter.{everything};
 ghost use Rattle.osm_store.specs.Stores.{files_of};
 ghost use Rattle.osm_operations.specs.Correct.{AreApart, IsNew, IsRun};
-ghost use Rattle.osm_operations.specs.Steps.Stepping.{BeginTo, ExportTo, FollowTo, HasCallsOf};
+ghost use Rattle.osm_operations.specs.Steps.Stepping.{BeginTo, ExportTo, FollowTo};
+ghost use Rattle.osm_operations.specs.Steps.Stepping.{HasBeginCalls, HasExportCalls};
 ghost use Rattle.osm_operations.specs.Steps.Stepping.{HasFollowCalls, HasPublishCalls, IsNumber};
 ghost use Rattle.osm_operations.specs.Steps.Stepping.{IsWhole, KeepsExported};
 ghost use Rattle.osm_operations.specs.Steps.Stepping.{KeepsOthers, LoseTo, OtherTo, PublishAsTo};
@@ -398,7 +399,7 @@ impl World {
 
     fn export_killed(&mut self, save: &str, extract: &str, calls: u64) -> Reply
         ensures step { ExportTo save.now extract.now result self.old self.new }
-        ensures left { HasCallsOf 2 calls result }
+        ensures left { HasExportCalls save.now calls result (files_of self.old.store) }
         ensures exported { KeepsExported result self.old self.new }
     {
         let Ok(number) = saved_number(self.alloc, &self.store, save) else {
@@ -454,7 +455,7 @@ impl World {
     ) -> Reply
         ensures step { BeginTo filter.now dir.now save.now extract.now result
             self.old self.new }
-        ensures left { HasCallsOf 3 calls result }
+        ensures left { HasBeginCalls extract.now calls result (files_of self.old.store) }
         ensures exported { self.new.exported ≡ self.old.exported }
     {
         match begin_killed(

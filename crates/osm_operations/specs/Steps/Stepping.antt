@@ -14,8 +14,9 @@ use Rattle.osm_state.specs.declared.paths.Suffix.{Suffix}
 use Rattle.osm_save.specs.declared.head.Head.{Head}
 use Rattle.osm_state.specs.declared.paths.Suffix.TheVariants.{O5c, Opl, State}
 use Rattle.osm_follow.specs.Published.{PublishedValue}
-use Rattle.osm_beginning.specs.Beginning.{BeginStops, IsBegunFrom}
-use Rattle.osm_exporting.specs.Exporting.{ExportStops, IsExportOf, IsExported}
+use Rattle.osm_beginning.specs.Beginning.{BeginStops, IsBegunFrom, begin_calls}
+use Rattle.osm_exporting.specs.Exporting.{ExportStops, IsExportOf, IsExported, export_calls}
+use Rattle.osm_merge.specs.Calls.{bytes_in}
 use Rattle.osm_store.specs.Files.{Files, Puts}
 use Rattle.osm_folder.specs.Folder.{IsApart, IsFolderOf}
 use Rattle.osm_folder.specs.Following.{IsSaveOf, plainly}
@@ -30,6 +31,7 @@ use Rattle.osm_folder.specs.Runs.{LacksCalls}
 use Rattle.osm_store.specs.Stores.{files_of}
 use Rattle.osm_round.specs.Over.{FollowRefuses, follow_calls}
 use Rattle.osm_round.specs.Rounds.{IsFollowed, IsProgress, RoundStops}
+use Rattle.osm_folder.specs.declared.fault.FileName.TheVariants as names
 use Rattle.osm_folder.specs.declared.fault.FileName.TheVariants.{Changes}
 use Rattle.osm_folder.specs.declared.fault.RunFault.{RunFault}
 use Rattle.osm_folder.specs.declared.progress.Progress.{Progress}
@@ -450,12 +452,25 @@ abbrev pub KeepsExported : Reply → World → World → Type 0
 KeepsExported (Exported report) a b = Unit {0}
 KeepsExported r a b = b.exported ≡ a.exported
 
--- what a reply says about the calls that a killed export or beginning had, which makes so many
-abbrev pub HasCallsOf : ℕ → ℕ → Reply → Type 0
-HasCallsOf made calls (Exported report) = made ≤ calls
-HasCallsOf made calls (Begun report) = made ≤ calls
-HasCallsOf made calls (Refused fault) = LacksCalls made (Some calls) fault
-HasCallsOf made calls r = Unit {0}
+-- what a reply says about the calls that a killed export had
+abbrev pub HasExportCalls : List ℕ → ℕ → Reply → Files → Type 0
+HasExportCalls save calls (Exported report) files = 2 ≤ calls
+HasExportCalls save calls (Refused fault) files =
+    LacksCalls (export_calls (bytes_in (files save))) (Some calls) fault
+HasExportCalls save calls r files = Unit {0}
+
+-- why a beginning that had that many calls is refused by the device: of the state, only if it had
+-- none
+pub record LacksCallsToBegin (extract : List ℕ) (calls : ℕ) (files : Files) (fault : RunFault)
+    : Type 0 where
+  pub all : LacksCalls (begin_calls (bytes_in (files extract))) (Some calls) fault
+  pub first : fault ≡ ReadFault names.State → calls ≡ 0
+
+-- what a reply says about the calls that a killed beginning had
+abbrev pub HasBeginCalls : List ℕ → ℕ → Reply → Files → Type 0
+HasBeginCalls extract calls (Begun report) files = 3 ≤ calls
+HasBeginCalls extract calls (Refused fault) files = LacksCallsToBegin extract calls files fault
+HasBeginCalls extract calls r files = Unit {0}
 
 -- what a reply says about the calls that a killed publication had
 abbrev pub HasPublishCalls : ℕ → Reply → Type 0
@@ -542,10 +557,11 @@ Step given dir save changes extract (KilledFollowSpoiled n s calls) r a b =
     SpoiledTo given dir save n s r a b × HasSpoiledCalls calls r
 Step given dir save changes extract Export r a b = ExportTo save extract r a b × IsWhole r
 Step given dir save changes extract (KilledExport calls) r a b =
-    ExportTo save extract r a b × HasCallsOf 2 calls r
+    ExportTo save extract r a b × HasExportCalls save calls r (files_of a.store)
 Step given dir save changes extract Begin r a b =
     BeginTo given dir save extract r a b × IsWhole r
 Step given dir save changes extract (KilledBegin calls) r a b =
-    BeginTo given dir save extract r a b × HasCallsOf 3 calls r
+    BeginTo given dir save extract r a b
+    × HasBeginCalls extract calls r (files_of a.store)
 Step given dir save changes extract (Lose n s) r a b = LoseTo dir n s r a b
 Step given dir save changes extract (PutBack n s) r a b = PutBackTo dir n s r a b

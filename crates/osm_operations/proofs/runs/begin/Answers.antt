@@ -1,6 +1,6 @@
 use Rattle.std.proofs.Common.{refl, ◌∙◌}
 use Rattle.osm_store.specs.Stores.{files_of, memory_state}
-use Rattle.osm_operations.proofs.RunLemmas.{begin_step, replaced_no_device}
+use Rattle.osm_operations.proofs.RunLemmas.{begin_step}
 use Rattle.osm_operations.proofs.runs.begin.Goals as goal
 
 pub returns-clause-step : goal.returns-clause-step
@@ -13,8 +13,3 @@ returns-clause-step c =
       kept = c.begin_run.ensures.frame.files;
       law = c.laws_of_state.ensures.no_fault_beside_state;
     })
-
-pub returns-clause-device : goal.returns-clause-device
-returns-clause-device c =
-    replaced_no_device 3 (memory_state c.args.store.now) (memory_state c.begin_run.new.store) c.begin_run.result refl refl
-    c.begin_run.ensures.frame

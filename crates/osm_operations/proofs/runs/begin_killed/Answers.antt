@@ -1,6 +1,6 @@
 use Rattle.std.proofs.Common.{Some, ap, refl, ◌∙◌}
 use Rattle.osm_store.specs.Stores.{files_of, stopping_state, memory_state}
-use Rattle.osm_operations.proofs.RunLemmas.{begin_step, replaced_calls, replaced_lacks}
+use Rattle.osm_operations.proofs.RunLemmas.{begin_lacks, begin_step}
 use Rattle.osm_operations.proofs.runs.begin_killed.Goals as goal
 
 pub returns-clause-step : goal.returns-clause-step
@@ -15,14 +15,9 @@ returns-clause-step c =
       law = c.laws_of_state.ensures.no_fault_beside_state;
     })
 
-pub returns-clause-left : goal.returns-clause-left
-returns-clause-left c =
-    replaced_calls 3 c.args.calls (stopping_state memory_state c.stopping_over-stopping.result)
-    (stopping_state memory_state c.begin_run-answer.new.store) c.begin_run-answer.result (ap Some c.stopping_over-stopping.ensures.calls)
-    c.begin_run-answer.ensures.frame
-
 pub returns-clause-lacks : goal.returns-clause-lacks
 returns-clause-lacks c =
-    replaced_lacks 3 c.args.calls (stopping_state memory_state c.stopping_over-stopping.result)
-    (stopping_state memory_state c.begin_run-answer.new.store) c.begin_run-answer.result refl (ap Some c.stopping_over-stopping.ensures.calls)
-    c.begin_run-answer.ensures.frame
+    begin_lacks c.args.extract.now c.args.calls (stopping_state memory_state c.stopping_over-stopping.result)
+    (stopping_state memory_state c.begin_run-answer.new.store) (files_of c.args.store.now) c.begin_run-answer.result refl
+    (ap Some c.stopping_over-stopping.ensures.calls) c.stopping_over-stopping.ensures.inner (c.begin_run-answer.ensures.calls refl)
+    c.begin_run-answer.ensures.first

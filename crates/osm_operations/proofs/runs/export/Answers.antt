@@ -1,6 +1,6 @@
 use Rattle.std.proofs.Common.{refl}
 use Rattle.osm_store.specs.Stores.{files_of, memory_state}
-use Rattle.osm_operations.proofs.RunLemmas.{export_step, replaced_no_device}
+use Rattle.osm_operations.proofs.RunLemmas.{export_step}
 use Rattle.osm_operations.proofs.runs.export.Goals as goal
 
 pub returns-clause-step : goal.returns-clause-step
@@ -13,8 +13,3 @@ returns-clause-step c =
       stops = c.export_run.ensures.stops;
       kept = c.export_run.ensures.frame.files;
     })
-
-pub returns-clause-device : goal.returns-clause-device
-returns-clause-device c =
-    replaced_no_device 2 (memory_state c.args.store.now) (memory_state c.export_run.new.store) c.export_run.result refl refl
-    c.export_run.ensures.frame

@@ -1,6 +1,11 @@
-use Rattle.std.proofs.Common.{Some, ap, refl}
+use Rattle.std.proofs.Common.{Some, ap, refl, subst}
+use Rattle.std.specs.Prelude.{IfErr}
+use Rattle.osm_merge.specs.Calls.{bytes_in}
+use Rattle.osm_exporting.specs.Exporting.{export_calls}
+use Rattle.osm_folder.specs.Runs.{LacksCalls}
+use Rattle.osm_store.specs.Files.{Files}
 use Rattle.osm_store.specs.Stores.{files_of, stopping_state, memory_state}
-use Rattle.osm_operations.proofs.RunLemmas.{export_step, replaced_calls, replaced_lacks}
+use Rattle.osm_operations.proofs.RunLemmas.{export_step, made_lacks}
 use Rattle.osm_operations.proofs.runs.export_killed.Goals as goal
 
 pub returns-clause-step : goal.returns-clause-step
@@ -15,14 +20,10 @@ returns-clause-step c =
       kept = c.export_run-answer.ensures.frame.files;
     })
 
-pub returns-clause-left : goal.returns-clause-left
-returns-clause-left c =
-    replaced_calls 2 c.args.calls (stopping_state memory_state c.stopping_over-stopping.result)
-    (stopping_state memory_state c.export_run-answer.new.store) c.export_run-answer.result (ap Some c.stopping_over-stopping.ensures.calls)
-    c.export_run-answer.ensures.frame
-
 pub returns-clause-lacks : goal.returns-clause-lacks
 returns-clause-lacks c =
-    replaced_lacks 2 c.args.calls (stopping_state memory_state c.stopping_over-stopping.result)
-    (stopping_state memory_state c.export_run-answer.new.store) c.export_run-answer.result refl (ap Some c.stopping_over-stopping.ensures.calls)
-    c.export_run-answer.ensures.frame
+    subst (λ (f : Files). IfErr c.export_run-answer.result (LacksCalls (export_calls (bytes_in (f c.args.save.now))) (Some c.args.calls)))
+    c.stopping_over-stopping.ensures.inner
+    (made_lacks _ c.args.calls (stopping_state memory_state c.stopping_over-stopping.result)
+    (stopping_state memory_state c.export_run-answer.new.store) c.export_run-answer.result refl
+    (ap Some c.stopping_over-stopping.ensures.calls) (c.export_run-answer.ensures.calls refl))
