@@ -1,48 +1,57 @@
 -- What a beginning leaves, and why nothing begins.
 use Rattle.std.proofs.Common.{◌≡◌, ℕ, ◌-◌, ◌<◌, ◌≤◌, List, [], ◌∷◌, ◌++◌, length, map, take, Option, Some, None, arith, refl, sym, ap, ◌∙◌, subst}
-use Rattle.std.specs.Prelude.{codes, cond, Bool, true, false, if◌then◌else◌}
+use Rattle.std.proofs.Common.{append_assoc}
+use Rattle.std.specs.Prelude.{codes, cond, Bool, true, false, decimal, if◌then◌else◌}
 use Rattle.std.specs.List.{AllByRecursion, flat_map}
 use Rattle.std.specs.List.Sorted.{IsStrictlySortedBy}
 use Rattle.std.specs.declared.cmp.Ordering.TheVariants.{Less}
 use Rattle.std.proofs.lemmas.List.{drop_all, length-take-le}
+use Rattle.std.proofs.lemmas.Fmt.{decimal_digit}
 use Rattle.std.proofs.lemmas.Option.{same_Some}
-use Rattle.osm_model.specs.Change.{ChangeValue}
+use Rattle.osm_model.specs.Change.{ChangeValue, IsChange}
+use Rattle.osm_model.specs.ChangeForm.{SpellsNothing}
 use Rattle.osm_model.specs.Content.{content_of}
-use Rattle.osm_model.specs.Data.{IsData}
-use Rattle.osm_model.specs.Filter.{FilterValue, everything, kept, kept_object, keeps}
+use Rattle.osm_model.specs.Data.{IsData, IsLeft}
+use Rattle.osm_model.specs.Filter.{FilterValue, IsFilter, everything, kept, kept_object, keeps}
 use Rattle.osm_model.specs.KeyOrder.{key_cmp}
 use Rattle.osm_model.specs.declared.kind.Key.{Key}
-use Rattle.osm_mirror.specs.Mirror.{AreRising, IsMirrorOf, object_at}
+use Rattle.osm_mirror.specs.Mirror.{AreCountsAboveZero, AreRising, IsMirrorOf, IsObject, object_at}
 use Rattle.osm_o5c.proofs.FileLimitLemmas.{data_limits}
 use Rattle.osm_o5c.proofs.FrontLemmas as o5m_file
 use Rattle.osm_o5c.proofs.WrittenFile as o5m_written
 use Rattle.osm_o5c.specs.File.{data_beginning}
 use Rattle.osm_opl.proofs.FileLaws as opl_file
 use Rattle.osm_opl.proofs.RoundTrip as opl_written
-use Rattle.osm_save.specs.Save.{SpellsSave}
+use Rattle.osm_opl.specs.Written.{line_text}
+use Rattle.osm_save.proofs.TextLemmas.{ended_before, mirror_text, save_text_is}
+use Rattle.osm_save.specs.Head.{head_lines}
+use Rattle.osm_save.specs.Lines.{ended, list_lines}
+use Rattle.osm_save.specs.Save.{IsSavable, SpellsSave, count_text, save_text}
+use Rattle.osm_save.specs.declared.version.Version.TheVariants.{Three}
 use Rattle.osm_save.specs.declared.save.Saved.{Saved}
 use Rattle.osm_state.proofs.StateLemmas.{one_state}
-use Rattle.osm_state.specs.State.{StateValue}
-use Rattle.osm_follow.proofs.BeginLemmas.{everything_left, keeps_all, kept_at}
+use Rattle.osm_state.specs.State.{IsState, StateValue}
+use Rattle.osm_follow.proofs.BeginLemmas.{all_are_kept, everything_left, keeps_all, kept_at}
 use Rattle.osm_follow.proofs.PublishedLemmas.{time_next}
 use Rattle.osm_follow.specs.Begin.{kept_objects}
 use Rattle.osm_follow.specs.Published.{PublishedValue, changes_after, changes_up_to, sequence_at}
-use Rattle.osm_beginning.specs.Beginning.{BeginStops, HasBegun, HasStart, IsBase, IsBaseOf, IsBeginning, IsBegunFrom, IsStart, begun_save, handed_on}
-use Rattle.osm_folder.specs.DataForms.{HasDataEnd, data_end_of, data_text_of, spells_data}
+use Rattle.osm_beginning.specs.Beginning.{BeginStops, HasBegun, IsBase, IsBaseOf, IsBeginning, IsBegunFrom, IsStart, begun_save, handed_on, is_long_data, most_kept}
+use Rattle.osm_folder.specs.DataForms.{HasDataEnd, data_end_of, data_text_of, place_of_data, spells_data}
 use Rattle.osm_folder.specs.DataForms.{HasDataForm}
 use Rattle.osm_exporting.specs.Exporting.{IsExportOf, IsExported}
-use Rattle.osm_store.specs.Files.{Files}
+use Rattle.osm_save.specs.declared.head.Head.{Head}
+use Rattle.osm_store.specs.Files.{Files, Puts}
 use Rattle.osm_folder.specs.Folder.{IsStateFile, IsThere}
-use Rattle.osm_folder.specs.Following.{IsInStep, IsSaveOf, IsSaved, max_save}
+use Rattle.osm_folder.specs.Following.{IsInStep, IsSaveOf, IsSaved}
 use Rattle.osm_folder.specs.Reports.{ReportValue, begin_report_of}
-use Rattle.osm_beginning.specs.Steps.Beginning.{BaseStops, BegunStops, IsBaseRead, StartStops}
-use Rattle.osm_folder.specs.Steps.Reading.{PutStops}
+use Rattle.osm_beginning.specs.Steps.Beginning.{StartStops, head_from}
+use Rattle.osm_beginning.specs.Steps.Passes.{FromStops, IsKept, IsReplaced, begun_text, first_text, last_text}
 use Rattle.osm_folder.specs.declared.data_form.DataForm.{DataForm}
 use Rattle.osm_folder.specs.declared.data_form.DataForm.TheVariants.{Opl, O5m}
 use Rattle.osm_folder.specs.declared.fault.FileName.TheVariants.{Base, Save, State}
 use Rattle.osm_folder.specs.declared.fault.RunFault.{RunFault}
 use Rattle.osm_folder.specs.declared.fault.RunFault.TheVariants.{WantOfMemory, ReadFault, WriteFault, TooLarge, Absent}
-use Rattle.osm_folder.specs.declared.fault.RunFault.TheVariants.{BadState, BadChange, ZeroBase}
+use Rattle.osm_folder.specs.declared.fault.RunFault.TheVariants.{BadState, BadChange, Changed, ZeroBase}
 use Rattle.osm_folder.proofs.InStepLemmas.{one_saved}
 
 -- ---- a name ends in one form
@@ -137,6 +146,115 @@ uncounted given cs counted objects rising content none = rw none (record {
   changesets = λ id. refl;
 })
 
+-- ---- what is saved
+
+each_kept : (P : ChangeValue → Type 0) (f : FilterValue) (os : List ChangeValue) → AllByRecursion P os → AllByRecursion P (kept_objects f os)
+each_kept P f [] all = tt
+each_kept P f (o ∷ os) all = by_test (each_kept P f os all.1) (keeps f o)
+  where
+    by_test : AllByRecursion P (kept_objects f os) → (b : Bool) → AllByRecursion P (cond b (o ∷ kept_objects f os) (kept_objects f os))
+    by_test rest true = (all.0, rest)
+    by_test rest false = rest
+
+-- what is kept of data is data
+pub kept_data : (f : FilterValue) (os : List ChangeValue) → IsData os → IsData (kept_objects f os)
+kept_data f os are = record {
+  limits = each_kept IsChange f os are.limits;
+  left = each_kept IsLeft f os are.left;
+  rising = rising_kept f os are.rising;
+}
+
+each_object : (os : List ChangeValue) → AllByRecursion IsChange os → AllByRecursion IsLeft os → AllByRecursion IsObject os
+each_object [] limits left = tt
+each_object (o ∷ os) limits left = (record { limits = limits.0; is_left = left.0 }, each_object os limits.1 left.1)
+
+no_counts : AreCountsAboveZero []
+unfolding IsStrictlySortedBy
+no_counts = record { rising = tt; above = tt }
+
+-- a save that begins with objects can be saved
+savable : (given : FilterValue) (s : StateValue) (objects : List ChangeValue) → IsFilter given → IsState s → 0 < s.sequence → IsData objects
+    → length (kept_objects given objects) ≤ most_kept → IsSavable Three (begun_save given s objects)
+savable given s objects is_filter is_state above are few = record {
+  head = record { number = is_state.sequence; base = omega arith; told = tt; time = (above, is_state.time) };
+  filter = is_filter;
+  tells = tt;
+  mirror = record {
+    orderly = record {
+      objects = rising_kept given objects are.rising;
+      users = no_counts;
+      changesets = no_counts;
+    };
+    objects = each_kept IsObject given objects (each_object objects are.limits are.left);
+    users = tt;
+    changesets = tt;
+  };
+  kept = all_are_kept given objects;
+  within = record { users = omega arith; changesets = omega arith; user_counts = λ uid. omega arith; changeset_counts = λ id. omega arith };
+  objects = few;
+}
+
+-- the lines after the objects are those of no counts
+last_are : last_text ≡ ended (list_lines (codes "users ") count_text []) ++ (ended (list_lines (codes "changesets ") count_text [])
+    ++ (codes "end" ++ 10 ∷ []))
+unfolding last_text
+last_are =
+    let zero : decimal 0 ≡ 48 ∷ [] = decimal_digit 0 (omega arith) in
+    ap (λ (d : List ℕ). ((codes "users " ++ d) ++ 10 ∷ []) ++ (((codes "changesets " ++ d) ++ 10 ∷ []) ++ (codes "end" ++ 10 ∷ []))) (sym zero)
+
+one_more_list : (head number lines last : List ℕ) → (head ++ (number ++ 10 ∷ [])) ++ (lines ++ last) ≡ head ++ ((number ++ 10 ∷ lines) ++ last)
+one_more_list head number lines last = append_assoc head (number ++ 10 ∷ []) (lines ++ last)
+    ∙ ap (λ (l : List ℕ). head ++ l) (append_assoc number (10 ∷ []) (lines ++ last) ∙ sym (append_assoc number (10 ∷ lines) last))
+
+-- the text that is written is the save text
+begun_text_is : (given : FilterValue) (s : StateValue) (objects : List ChangeValue)
+    → begun_text (head_from s) given (length (kept_objects given objects)) (kept_objects given objects) ≡ save_text Three (begun_save given s objects)
+unfolding first_text
+begun_text_is given s objects =
+    let kept : List ChangeValue = kept_objects given objects in
+    let head : List (List ℕ) = head_lines Three (head_from s) given in
+    let number : List ℕ = codes "objects " ++ decimal (length kept) in
+    let lines : List ℕ = ended (map line_text kept) in
+    one_more_list (ended head) number lines last_text
+    ∙ (ap (λ (l : List ℕ). ended head ++ ((number ++ 10 ∷ lines) ++ l)) last_are
+    ∙ (ended_before head (mirror_text (begun_save given s objects).mirror) ∙ sym (save_text_is Three (begun_save given s objects))))
+
+pub begun_spelled : (given : FilterValue) (s : StateValue) (objects : List ChangeValue) (text : List ℕ) → IsFilter given → IsState s → 0 < s.sequence
+    → IsData objects → length (kept_objects given objects) ≤ most_kept
+    → text ≡ begun_text (head_from s) given (length (kept_objects given objects)) (kept_objects given objects)
+    → SpellsSave text (begun_save given s objects) × (text ≡ save_text Three (begun_save given s objects))
+begun_spelled given s objects text is_filter is_state above are few is =
+    let text_is : text ≡ save_text Three (begun_save given s objects) = is ∙ begun_text_is given s objects in
+    (record { version = Three; savable = savable given s objects is_filter is_state above are few; text = text_is }, text_is)
+
+-- what a run leaves that put the text into its place
+pub begun_of : (given : FilterValue) (base state save : List ℕ) (old mid new : Files) (form : DataForm) (s : StateValue) (head : Head) (report : ReportValue)
+    → HasDataEnd base form → IsFilter given → IsState s → IsStart (old state) s → mid ≡ old → head ≡ head_from s → report ≡ begin_report_of s.sequence
+    → IsKept (spells_data form) given (mid base) (IsReplaced head given save mid new) → IsBegunFrom given base state save old new report
+begun_of given base state save old mid new form s head report end is_filter is_state start same head_is report_is k =
+    let kept : List ChangeValue = kept_objects given k.objects in
+    let text : List ℕ = begun_text head given (length kept) kept in
+    let spelled = begun_spelled given s k.objects text is_filter is_state start.above (spelled_data form k.bytes k.objects k.spelled) k.holds_of.few
+    (ap (λ (h : Head). begun_text h given (length kept) kept) head_is) in
+    record {
+      s = s;
+      text = text;
+      beginning = record {
+        start = start;
+        objects = k.objects;
+        base_is = record {
+          named = record { form = form; end = end };
+          bytes = k.bytes;
+          there = ap (λ (f : Files). f base) (sym same) ∙ k.there;
+          spelled = k.spelled;
+        };
+        spelled = spelled.0;
+        text_is = spelled.1;
+      };
+      put = subst (λ (f : Files). Puts f save (Some text) new) same k.holds_of.put;
+      report_is = report_is;
+    }
+
 begun_saved : (given : FilterValue) (base state save : List ℕ) (old new : Files) (report : ReportValue) (b : IsBegunFrom given base state save old new report)
     → IsSaved given (new save) (begun_save given b.s b.beginning.objects)
 begun_saved given base state save old new report b = rw b.put.there b.beginning.spelled
@@ -180,7 +298,6 @@ exported_base save out before after files e at = record {
   named = e.made.named;
   bytes = data_text_of e.made.named.form e.made.held.saved.mirror.objects;
   there = at ∙ e.put.there;
-  small = e.made.fits;
   spelled = written_data e.made.named.form e.made.held.saved.mirror.objects e.are_data;
 }
 
@@ -244,7 +361,6 @@ base_of_export ps number out state files e above within named = record {
     named = e.named;
     bytes = data_text_of e.named.form e.objects;
     there = e.text;
-    small = e.fits;
     spelled = written_data e.named.form e.objects e.are_data;
   };
   content = λ k. e.content k ∙ everything_left (changes_up_to ps number) k;
@@ -262,54 +378,46 @@ start_stops given known base state files named (BadState State cause) h = (named
 start_stops given known base state files named ZeroBase h = (named, h)
 start_stops given known base state files named fault h = absurd h
 
-pub base_stops : (given : FilterValue) (known : Type 0) (base state : List ℕ) (files : Files) (form : DataForm) → HasDataEnd base form
-    → (known → HasStart state files) → (fault : RunFault) → BaseStops known form (files base) fault
-    → BeginStops known given base state files fault
-base_stops given known base state files form end has WantOfMemory h = record { form = form; end = end }
-base_stops given known base state files form end has (ReadFault Base) h = (record { form = form; end = end }, has)
-base_stops given known base state files form end has (Absent Base) h = (record { form = form; end = end }, λ yes. (has yes, h yes))
-base_stops given known base state files form end has (TooLarge Base) h = (record { form = form; end = end }, λ yes. (has yes, h yes))
-base_stops given known base state files form end has (BadChange Base place why) h = λ yes. (
-  has yes,
-  let bad = h yes in record {
-    named = record { form = form; end = end };
-    bytes = bad.bytes;
-    there = bad.there;
-    small = bad.small;
-    nothing = bad.nothing;
-    place_is = bad.place_is;
-  },
-)
-base_stops given known base state files form end has fault h = absurd h
-
--- what the state and the data file give
-abbrev pub beginning_of : (given : FilterValue) (base state text : List ℕ) (files : Files) (form : DataForm) (s : StateValue) (objects : List ChangeValue)
-    → HasDataEnd base form → IsStart (files state) s → IsBaseRead form (files base) objects → SpellsSave text (begun_save given s objects)
-    → IsBeginning given base state files s text
-beginning_of given base state text files form s objects end start read spelled = record {
+-- everything was read
+has_begun : (given : FilterValue) (base state : List ℕ) (files : Files) (form : DataForm) (s : StateValue) (holds : ℕ → Type 0) → HasDataEnd base form
+    → IsStart (files state) s → IsKept (spells_data form) given (files base) (λ kept. holds (length kept)) → HasBegun given base state files holds
+has_begun given base state files form s holds end start kept = record {
+  s = s;
   start = start;
-  objects = objects;
-  base_is = record {
-    named = record { form = form; end = end };
-    bytes = read.bytes;
-    there = read.there;
-    small = read.small;
-    spelled = read.spelled;
-  };
-  spelled = spelled;
+  objects = kept.objects;
+  base_is = record { named = record { form = form; end = end }; bytes = kept.bytes; there = kept.there; spelled = kept.spelled };
+  many = kept.holds_of;
 }
 
-pub text_stops : (given : FilterValue) (known : Type 0) (base state : List ℕ) (files : Files) (form : DataForm) (s : StateValue) (objects : List ChangeValue)
-    → HasDataEnd base form → (known → IsStart (files state) s) → (known → IsBaseRead form (files base) objects) → (fault : RunFault)
-    → BegunStops given s objects fault → BeginStops known given base state files fault
-text_stops given known base state files form s objects end start read WantOfMemory h = record { form = form; end = end }
-text_stops given known base state files form s objects end start read (TooLarge Save) h =
-    λ yes. (s, h.0, beginning_of given base state h.0 files form s objects end (start yes) (read yes) h.1, h.2)
-text_stops given known base state files form s objects end start read fault h = absurd h
-
-pub put_stops : (given : FilterValue) (known : Type 0) (base state : List ℕ) (files : Files) → HasDataForm base
-    → (known → HasBegun given base state files (λ text. length text ≤ max_save)) → (fault : RunFault) → PutStops Save fault
+-- why a save isn't begun with a data file of that form, at a state that was read
+pub from_stops : (given : FilterValue) (known : Type 0) (base state : List ℕ) (files : Files) (form : DataForm) (s : StateValue) → HasDataEnd base form
+    → (known → IsStart (files state) s)
+    → ((bytes : List ℕ) (place : ℕ) → place_of_data form bytes place → SpellsNothing (spells_data form) bytes)
+    → (fault : RunFault) → FromStops (spells_data form) (place_of_data form) (is_long_data form) given known (files base) fault
     → BeginStops known given base state files fault
-put_stops given known base state files named has WantOfMemory h = named
-put_stops given known base state files named has (WriteFault file) h = rw h has
-put_stops given known base state files named has fault h = absurd h
+from_stops given known base state files form s end start nothing WantOfMemory h = record { form = form; end = end }
+from_stops given known base state files form s end start nothing (ReadFault Base) h = (record { form = form; end = end }, λ yes. (s, start yes))
+from_stops given known base state files form s end start nothing (Absent Base) h = (record { form = form; end = end }, λ yes. ((s, start yes), h yes))
+from_stops given known base state files form s end start nothing (TooLarge Base) h = (
+  record { form = form; end = end },
+  λ yes. (
+    (s, start yes),
+    let at = h yes in record { named = record { form = form; end = end }; bytes = at.0; there = at.1; large = at.2 },
+  ),
+)
+from_stops given known base state files form s end start nothing (BadChange Base place why) h = λ yes. (
+  (s, start yes),
+  let at = h yes in record {
+    named = record { form = form; end = end };
+    bytes = at.0;
+    there = at.1;
+    nothing = nothing at.0 place at.2;
+    place_is = at.2;
+  },
+)
+from_stops given known base state files form s end start nothing (Changed Base) h = h
+from_stops given known base state files form s end start nothing (TooLarge Save) h =
+    λ yes. has_begun given base state files form s (λ many. most_kept < many) end (start yes) (h yes)
+from_stops given known base state files form s end start nothing (WriteFault Save) h =
+    λ yes. has_begun given base state files form s (λ many. many ≤ most_kept) end (start yes) (h yes)
+from_stops given known base state files form s end start nothing fault h = absurd h

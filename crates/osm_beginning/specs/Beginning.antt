@@ -1,23 +1,29 @@
 -- Beginning a save from a data file and the state that belongs to it. `known` says that it is known
 -- what the files hold, and `given` is the filter that the run was given.
-use Rattle.std.specs.Prelude.{◌≡◌, ℕ, ◌<◌, ◌≤◌, List, [], length, Option, Some, None}
+use Rattle.std.specs.Prelude.{◌≡◌, ℕ, ◌+◌, ◌*◌, ◌<◌, ◌≤◌, ◌⊎◌, List, [], length, Option, Some}
+use Rattle.std.specs.Prelude.{None}
 use Rattle.osm_model.specs.Change.{ChangeValue}
 use Rattle.osm_model.specs.ChangeForm.{SpellsNothing}
 use Rattle.osm_model.specs.Content.{content_of}
 use Rattle.osm_model.specs.Filter.{FilterValue}
-use Rattle.osm_model.specs.Limits.{max_file}
 use Rattle.osm_model.specs.declared.kind.Key.{Key}
 use Rattle.osm_mirror.specs.Mirror.{object_at}
-use Rattle.osm_save.specs.Save.{SpellsSave}
+use Rattle.osm_save.specs.Save.{SpellsSave, save_text}
 use Rattle.osm_save.specs.declared.save.Saved.{Saved}
+use Rattle.osm_save.specs.declared.version.Version.TheVariants.{Three}
 use Rattle.osm_state.specs.State.{StateValue}
 use Rattle.osm_follow.specs.Begin.{kept_objects}
 use Rattle.osm_follow.specs.Published.{PublishedValue, changes_up_to, sequence_at}
 use Rattle.osm_folder.specs.DataForms.{HasNoDataForm, place_of_data, spells_data}
 use Rattle.osm_folder.specs.DataForms.{HasDataForm}
+use Rattle.osm_folder.specs.declared.data_form.DataForm.{DataForm}
+use Rattle.osm_folder.specs.declared.data_form.DataForm.TheVariants as forms
+use Rattle.osm_blocks.specs.Places.{IsHuge}
+use Rattle.osm_data.specs.Reading.{read_calls}
+use Rattle.osm_o5m_data.specs.Long.{HasLong}
+use Rattle.osm_opl_data.specs.Reading.{HasLongLine}
 use Rattle.osm_store.specs.Files.{Files, IsOver, Puts}
 use Rattle.osm_folder.specs.Folder.{IsStateFile, IsThere, max_state}
-use Rattle.osm_folder.specs.Following.{max_save}
 use Rattle.osm_folder.specs.Publication.{IsBadState}
 use Rattle.osm_folder.specs.Reports.{ReportValue, begin_report_of}
 use Rattle.osm_folder.specs.declared.fault.FileName.TheVariants.{Base, Save, State}
@@ -26,6 +32,7 @@ use Rattle.osm_folder.specs.declared.fault.RunFault.TheVariants.{WantOfMemory, R
 use Rattle.osm_folder.specs.declared.fault.RunFault.TheVariants.{WriteFault, TooLarge, Absent}
 use Rattle.osm_folder.specs.declared.fault.RunFault.TheVariants.{BadState, BadChange}
 use Rattle.osm_folder.specs.declared.fault.RunFault.TheVariants.{UnknownForm, ZeroBase}
+use Rattle.osm_folder.specs.declared.fault.RunFault.TheVariants.{Changed}
 
 -- what a beginning saves: its number, its base and its time are the state's, its objects those of
 -- the data file that the filter keeps, and no edits are counted
@@ -49,16 +56,16 @@ pub record IsBase (base : List ℕ) (told : Option (List ℕ)) (objects : List C
   pub named : HasDataForm base
   pub bytes : List ℕ
   pub there : told ≡ Some bytes
-  pub small : length bytes ≤ max_file
   pub spelled : spells_data named.form bytes objects
 
--- the text to save was made of the state and the data file
+-- the text to save was made of the state and the data file, in version 3
 pub record IsBeginning (given : FilterValue) (base state : List ℕ) (files : Files) (s : StateValue)
     (text : List ℕ) : Type 0 where
   pub start : IsStart (files state) s
   pub objects : List ChangeValue
   pub base_is : IsBase base (files base) objects
   pub spelled : SpellsSave text (begun_save given s objects)
+  pub text_is : text ≡ save_text Three (begun_save given s objects)
 
 -- the save holds exactly what the state and the data file give, whatever it held before, no other
 -- name changes, and the number is reported
@@ -67,7 +74,6 @@ pub record IsBegunFrom (given : FilterValue) (base state save : List ℕ) (old n
   pub s : StateValue
   pub text : List ℕ
   pub beginning : IsBeginning given base state old s text
-  pub small : length text ≤ max_save
   pub put : Puts old save (Some text) new
   pub report_is : report ≡ begin_report_of s.sequence
 
@@ -95,14 +101,33 @@ pub record IsBadBase (base : List ℕ) (told : Option (List ℕ)) (place : ℕ) 
   pub named : HasDataForm base
   pub bytes : List ℕ
   pub there : told ≡ Some bytes
-  pub small : length bytes ≤ max_file
   pub nothing : SpellsNothing (spells_data named.form) bytes
   pub place_is : place_of_data named.form bytes place
 
--- everything was read, and this holds of the text to save
-abbrev pub HasBegun : FilterValue → List ℕ → List ℕ → Files → (List ℕ → Type 0) → Type 0
-HasBegun given base state files holds =
-    (s : StateValue) × (text : List ℕ) × IsBeginning given base state files s text × holds text
+-- the bytes have a line or a dataset of more than 64 MiB, as that form defines it
+abbrev pub is_long_data : DataForm → List ℕ → Type 0
+is_long_data forms.Opl = HasLongLine
+is_long_data forms.O5m = HasLong
+
+-- the data file has such a part in the form of its name, or more bytes than 64 bits count
+pub record IsLargeBase (base : List ℕ) (told : Option (List ℕ)) : Type 0 where
+  pub named : HasDataForm base
+  pub bytes : List ℕ
+  pub there : told ≡ Some bytes
+  pub large : is_long_data named.form bytes ⊎ IsHuge bytes
+
+-- the most objects that a save text can have
+abbrev pub most_kept : ℕ
+most_kept = 999999999999999999
+
+-- everything was read, and this holds of the number of the objects that the filter keeps
+pub record HasBegun (given : FilterValue) (base state : List ℕ) (files : Files)
+    (holds : ℕ → Type 0) : Type 0 where
+  pub s : StateValue
+  pub start : IsStart (files state) s
+  pub objects : List ChangeValue
+  pub base_is : IsBase base (files base) objects
+  pub many : holds (length (kept_objects given objects))
 
 -- why nothing begins: the name of the data file first, then the state, then the data file, then the
 -- save
@@ -123,13 +148,14 @@ BeginStops known given base state files (ReadFault Base) =
 BeginStops known given base state files (Absent Base) =
     HasDataForm base × (known → HasStart state files × (files base ≡ None))
 BeginStops known given base state files (TooLarge Base) =
-    HasDataForm base × (known → HasStart state files × IsOver max_file (files base))
+    HasDataForm base × (known → HasStart state files × IsLargeBase base (files base))
 BeginStops known given base state files (BadChange Base place why) =
     known → HasStart state files × IsBadBase base (files base) place
+BeginStops known given base state files (Changed Base) = known → ⊥
 BeginStops known given base state files (TooLarge Save) =
-    known → HasBegun given base state files (λ text. max_save < length text)
+    known → HasBegun given base state files (λ many. most_kept < many)
 BeginStops known given base state files (WriteFault Save) =
-    known → HasBegun given base state files (λ text. length text ≤ max_save)
+    known → HasBegun given base state files (λ many. many ≤ most_kept)
 BeginStops known given base state files fault = ⊥
 
 -- what a beginning from the export of a save gives: its number and time, those of its objects that
@@ -142,3 +168,9 @@ handed_on given v = record {
   filter = given;
   mirror = record { objects = kept_objects given v.mirror.objects; users = []; changesets = [] };
 }
+
+-- the most calls of a beginning with a data file of so many bytes: that file is read twice, with
+-- each read an append at most, so one for each byte, and six more: the state, `begin`, the lines
+-- before the objects, those after them, the bytes that wait at the end, and `commit`
+abbrev pub begin_calls : ℕ → ℕ
+begin_calls bytes = 2 * read_calls bytes + bytes + 6

@@ -1,37 +1,34 @@
 //! Beginning a save with a data file.
 
-ghost use Rattle.std.specs.Prelude.{◌≡◌, ◌<◌, ◌≤◌, ℕ, List, Some, false, IfErr, IfOk, length};
-ghost use Rattle.osm_model.specs.Data.{IsData};
-ghost use Rattle.osm_model.specs.Limits.{max_file};
-ghost use Rattle.osm_save.specs.Save.{SpellsSave};
-ghost use Rattle.osm_follow.specs.Begin.{begun_of};
+ghost use Rattle.std.specs.Prelude.{◌≡◌, ◌<◌, ◌≤◌, ℕ, List, IfErr, IfOk, OnOk};
+ghost use Rattle.osm_model.specs.ChangeForm.{SpellsNothing};
+ghost use Rattle.osm_store.specs.Files.{HasFewer, Spends};
+ghost use Rattle.osm_store.specs.Frames.{IsKnown, MakesAtMost};
+ghost use Rattle.osm_merge.specs.Calls.{bytes_in};
+ghost use Rattle.osm_merge.specs.Frames.{ReplacesOften};
+ghost use Rattle.osm_data.specs.Reading.{read_calls};
 ghost use Rattle.osm_follow.specs.Published.{PublishedValue};
-ghost use Rattle.osm_follow.specs.Restart.{saved_of};
-ghost use Rattle.osm_beginning.specs.Beginning.{BeginStops, IsBaseOf, IsBegunFrom, IsStart};
-ghost use Rattle.osm_beginning.specs.Beginning.{begun_save};
-ghost use Rattle.osm_folder.specs.Folder.{max_state};
-ghost use Rattle.osm_folder.specs.Following.{IsSaveOf, max_save};
-ghost use Rattle.osm_store.specs.Frames.{IsKnown};
+ghost use Rattle.osm_beginning.specs.Beginning.{BeginStops, IsBaseOf, IsBegunFrom};
+ghost use Rattle.osm_beginning.specs.Beginning.{begin_calls, is_long_data};
+ghost use Rattle.osm_beginning.specs.Steps.Passes.{FromStops, IsKept, IsReplaced, ReplaceStops};
+ghost use Rattle.osm_beginning.specs.Steps.Passes.{IsCountOf, from_calls, replace_calls};
+ghost use Rattle.osm_folder.specs.DataForms.{place_of_data, spells_data};
+ghost use Rattle.osm_folder.specs.Following.{IsSaveOf};
 ghost use Rattle.osm_folder.specs.Reports.{begin_report_of};
-ghost use Rattle.osm_folder.specs.Runs.{Reads, Replaces};
-ghost use Rattle.osm_beginning.specs.Steps.Beginning.{BaseStops, BaseTextStops, BegunStops};
-ghost use Rattle.osm_beginning.specs.Steps.Beginning.{IsBaseRead, IsObjectsOf, StartStops};
-ghost use Rattle.osm_beginning.specs.Steps.Beginning.{MadeStops, StartTextStops};
+ghost use Rattle.osm_folder.specs.Runs.{IsDeviceFault};
 
-use crate::data::read_data;
+use crate::counting::count_kept;
+use crate::start::{head_from, read_start};
+use crate::writing::{commit, write_kept};
+use osm_data::data_reader::DataReader;
 use osm_folder::data_form::{DataForm, data_form_of};
 use osm_folder::fault::{FileName, RunFault};
-use osm_folder::files::{MAX_SAVE, MAX_STATE, read_present, write_file};
 use osm_folder::report::{Report, begin_report};
-use osm_follow::begin::BeginError;
-use osm_follow::follower::Follower;
-use osm_follow::view::ViewError;
-use osm_model::change::Change;
 use osm_model::filter::Filter;
-use osm_model::form::FormError;
-use osm_model::limits::MAX_FILE;
-use osm_state::state::State;
-use osm_state::state_text::state_read;
+use osm_o5m_data::o5m_data::O5mData;
+use osm_opl_data::opl_data::OplData;
+use osm_save::head::Head;
+use osm_save::objects::MOST_OBJECTS;
 use osm_store::store::Store;
 use std::alloc::Global;
 
@@ -39,7 +36,10 @@ use std::alloc::Global;
 /// sequence and the time of the state that belongs to it, whatever the save held before. Its counts
 /// are those of the sequences after that one. A name that ends in `.opl` or `.o5m` tells the form
 /// of the data file; any other is refused as `UnknownForm`. A state of sequence 0 is refused as
-/// `ZeroBase`. A refusal leaves all files as they were.
+/// `ZeroBase`. The data file is read twice, in blocks, and what is in memory doesn't grow with it.
+/// It is refused as `TooLarge` if it has a line or a dataset of more than 64 MiB, or more bytes
+/// than 64 bits count; the save is, if it would have more than 999,999,999,999,999,999 objects. A
+/// refusal leaves all files as they were.
 pub fn begin_run<S: Store>(
     alloc: Global,
     store: &mut S,
@@ -60,129 +60,137 @@ pub fn begin_run<S: Store>(
         (λ report. (number : ℕ) × (0 < number) × (report ≡ begin_report_of number)) }
     ensures stops { IfErr result (BeginStops (IsKnown (S.state store.old)) filter
         base.now state.now (S.state store.old).files) }
-    ensures frame { Replaces 3 (S.state store.old) (S.state store.new) result }
+    ensures frame { ReplacesOften IsDeviceFault (S.state store.old) (S.state store.new) result }
+    ensures spends { OnOk result (Spends 3 (S.state store.old).left (S.state store.new).left) }
+    ensures first { IfErr result (λ fault. fault ≡ RunFault.ReadFault FileName.State
+        → IsKnown (S.state store.old) → HasFewer 1 (S.state store.old).left) }
+    ensures calls { IsKnown (S.state store.old) → MakesAtMost IsDeviceFault
+        (begin_calls (bytes_in ((S.state store.old).files base.now)))
+        (S.state store.old) (S.state store.new) result }
 {
     let Some(form) = data_form_of(base) else {
         return Err(RunFault::UnknownForm);
     };
-    let start = read_start(alloc, store, state)?;
-    let objects = read_base(alloc, store, form, base)?;
-    let text = begun_text(alloc, filter, &start, objects)?;
-    let report = begin_report(alloc, start.sequence())?;
-    write_file(alloc, store, FileName::Save, save, text.as_slice())?;
-    Ok(report)
-}
-
-// The state that belongs to a data file, which has to name a sequence.
-fn read_start<S: Store>(alloc: Global, store: &mut S, state: &str) -> Result<State, RunFault>
-    ensures start { IfOk result (λ s. IsKnown (S.state store.old)
-        → IsStart ((S.state store.old).files state.now) s) }
-    ensures above { IfOk result (λ s. 0 < s.sequence) }
-    ensures stops { IfErr result
-        (StartStops (IsKnown (S.state store.old)) ((S.state store.old).files state.now)) }
-    ensures frame { Reads 1 (S.state store.old) (S.state store.new) result }
-{
-    match read_present(alloc, store, FileName::State, state, MAX_STATE) {
-        Ok(text) => start_of(text.as_slice()),
+    let start = match read_start(alloc, store, state) {
+        Ok(start) => start,
+        Err(fault) => return Err(fault),
+    };
+    let Ok(report) = begin_report(alloc, start.sequence()) else {
+        return Err(RunFault::WantOfMemory);
+    };
+    match begin_in(alloc, store, form, base, save, head_from(&start), &filter) {
+        Ok(()) => Ok(report),
         Err(fault) => Err(fault),
     }
 }
 
-fn start_of(text: &[u8]) -> Result<State, RunFault>
-    requires { length text.now ≤ max_state }
-    ensures start { IfOk result (λ s. IsStart (Some text.now) s) }
-    ensures stops { IfErr result (StartTextStops text.now) }
-{
-    match state_read(text) {
-        Ok(state) if state.sequence() == 0 => Err(RunFault::ZeroBase),
-        Ok(state) => Ok(state),
-        Err(cause) => Err(RunFault::BadState(FileName::State, cause)),
-    }
-}
-
-// The objects of the data file. Its bytes are dropped at the end.
-fn read_base<S: Store>(
+// Writes a save with that head and what the filter keeps of the objects of a data file of that
+// form.
+fn begin_in<S: Store>(
     alloc: Global,
     store: &mut S,
     form: DataForm,
     base: &str,
-) -> Result<Vec<Change>, RunFault>
-    ensures read { IfOk result (λ objects. IsKnown (S.state store.old)
-        → IsBaseRead form ((S.state store.old).files base.now) objects.items) }
-    ensures are_data { IfOk result (λ objects. IsData objects.items) }
-    ensures stops { IfErr result
-        (BaseStops (IsKnown (S.state store.old)) form ((S.state store.old).files base.now)) }
-    ensures frame { Reads 1 (S.state store.old) (S.state store.new) result }
+    save: &str,
+    head: Head,
+    filter: &Filter,
+) -> Result<(), RunFault>
+    ensures replaced { OnOk result (IsKnown (S.state store.old)
+        → IsKept (spells_data form) filter.now ((S.state store.old).files base.now)
+        (IsReplaced head filter.now save.now (S.state store.old).files
+        (S.state store.new).files)) }
+    ensures stops { IfErr result (FromStops (spells_data form) (place_of_data form)
+        (is_long_data form) filter.now (IsKnown (S.state store.old))
+        ((S.state store.old).files base.now)) }
+    ensures nothing { (bytes : List ℕ) (place : ℕ)
+        → place_of_data form bytes place → SpellsNothing (spells_data form) bytes }
+    ensures frame { ReplacesOften IsDeviceFault (S.state store.old) (S.state store.new) result }
+    ensures spends { OnOk result (Spends 2 (S.state store.old).left (S.state store.new).left) }
+    ensures calls { IsKnown (S.state store.old) → MakesAtMost IsDeviceFault
+        (from_calls (bytes_in ((S.state store.old).files base.now)))
+        (S.state store.old) (S.state store.new) result }
 {
-    match read_present(alloc, store, FileName::Base, base, MAX_FILE as u64) {
-        Ok(bytes) => objects_of(alloc, form, bytes.as_slice()),
-        Err(fault) => Err(fault),
+    match form {
+        DataForm::Opl => begin_from::<S, OplData>(alloc, store, base, save, head, filter),
+        DataForm::O5m => begin_from::<S, O5mData>(alloc, store, base, save, head, filter),
     }
 }
 
-fn objects_of(alloc: Global, form: DataForm, bytes: &[u8]) -> Result<Vec<Change>, RunFault>
-    requires { length bytes.now ≤ max_file }
-    ensures read { IfOk result (λ objects. IsObjectsOf form bytes.now objects.items) }
-    ensures stops { IfErr result (BaseTextStops form bytes.now) }
+// The same, for the form that `D` reads.
+fn begin_from<S: Store, D: DataReader + Drop>(
+    alloc: Global,
+    store: &mut S,
+    base: &str,
+    save: &str,
+    head: Head,
+    filter: &Filter,
+) -> Result<(), RunFault>
+    ensures replaced { OnOk result (IsKnown (S.state store.old)
+        → IsKept D.spells filter.now ((S.state store.old).files base.now)
+        (IsReplaced head filter.now save.now (S.state store.old).files
+        (S.state store.new).files)) }
+    ensures stops { IfErr result (FromStops D.spells D.goes_wrong D.is_long filter.now
+        (IsKnown (S.state store.old)) ((S.state store.old).files base.now)) }
+    ensures nothing { (bytes : List ℕ) (place : ℕ)
+        → D.goes_wrong bytes place → SpellsNothing D.spells bytes }
+    ensures frame { ReplacesOften IsDeviceFault (S.state store.old) (S.state store.new) result }
+    ensures spends { OnOk result (Spends 2 (S.state store.old).left (S.state store.new).left) }
+    ensures calls { IsKnown (S.state store.old) → MakesAtMost IsDeviceFault
+        (from_calls (bytes_in ((S.state store.old).files base.now)))
+        (S.state store.old) (S.state store.new) result }
 {
-    match read_data(alloc, form, bytes) {
-        Ok(objects) => Ok(objects),
-        Err(FormError::Fault { place, why }) => {
-            Err(RunFault::BadChange(FileName::Base, place, why))
+    D::laws();
+    let count = match count_kept::<S, D>(alloc, store, base, filter) {
+        Ok(count) => count,
+        Err(fault) => return Err(fault),
+    };
+    if count > MOST_OBJECTS {
+        return Err(RunFault::TooLarge(FileName::Save));
+    }
+    match replace::<S, D>(alloc, store, base, save, head, filter, count) {
+        Ok(()) => Ok(()),
+        Err(fault) => {
+            store.abandon();
+            Err(fault)
         }
-        Err(FormError::WantOfMemory) => Err(RunFault::WantOfMemory),
-        Err(FormError::TooLarge) => unreachable!(),
     }
 }
 
-// The save that begins with those of the objects that the filter keeps, at the state.
-fn begun_text(
+// The second pass, and the commit. `count` is what the first pass counted.
+fn replace<S: Store, D: DataReader + Drop>(
     alloc: Global,
-    filter: Filter,
-    start: &State,
-    objects: Vec<Change>,
-) -> Result<Vec<u8>, RunFault>
-    requires above { 0 < start.now.sequence }
-    requires are_data { IsData objects.items }
-    ensures spelled { IfOk result
-        (λ text. SpellsSave text.items (begun_save filter start.now objects.items)) }
-    ensures small { IfOk result (λ text. length text.items ≤ max_save) }
-    ensures stops { IfErr result (BegunStops filter start.now objects.items) }
+    store: &mut S,
+    base: &str,
+    save: &str,
+    head: Head,
+    filter: &Filter,
+    count: u64,
+) -> Result<(), RunFault>
+    requires few { count ≤ 999999999999999999 }
+    ensures replaced { OnOk result (IsKnown (S.state store.old)
+        → IsKept D.spells filter.now ((S.state store.old).files base.now)
+        (IsReplaced head filter.now save.now (S.state store.old).files
+        (S.state store.new).files)) }
+    ensures stops { IfErr result (λ fault. (IsKnown (S.state store.old)
+        → IsKept D.spells filter.now ((S.state store.old).files base.now) (IsCountOf count))
+        → ReplaceStops D.goes_wrong D.is_long (IsKnown (S.state store.old))
+        ((S.state store.old).files base.now) fault) }
+    ensures frame { ReplacesOften IsDeviceFault (S.state store.old) (S.state store.new) result }
+    ensures spends { OnOk result (Spends 1 (S.state store.old).left (S.state store.new).left) }
+    ensures calls { IsKnown (S.state store.old) → MakesAtMost IsDeviceFault
+        (replace_calls (bytes_in ((S.state store.old).files base.now)))
+        (S.state store.old) (S.state store.new) result }
 {
-    let follower = begun(alloc, filter, start, objects)?;
-    save_text(alloc, &follower)
-}
-
-fn begun(
-    alloc: Global,
-    filter: Filter,
-    start: &State,
-    objects: Vec<Change>,
-) -> Result<Follower, RunFault>
-    requires above { 0 < start.now.sequence }
-    requires are_data { IsData objects.items }
-    ensures begun { IfOk result (λ f. f ≡ begun_of filter start.now objects.items) }
-    ensures stops { IfErr result (λ fault. fault ≡ RunFault.WantOfMemory) }
-{
-    match Follower::begin_with(alloc, filter, start, objects) {
-        Ok(follower) => Ok(follower),
-        Err(BeginError::WantOfMemory) => Err(RunFault::WantOfMemory),
-        Err(BeginError::BadSequence) => unreachable!(),
-        Err(BeginError::NotData { index: _ }) => unreachable!(),
+    D::laws();
+    let counted = match write_kept::<S, D>(alloc, store, base, save, head, filter, count) {
+        Ok(counted) => counted,
+        Err(fault) => return Err(fault),
+    };
+    if counted != count {
+        return Err(RunFault::Changed(FileName::Base));
     }
-}
-
-// What a follower saves.
-fn save_text(alloc: Global, follower: &Follower) -> Result<Vec<u8>, RunFault>
-    requires { follower.now.is_broken ≡ false }
-    ensures spelled { IfOk result (λ text. SpellsSave text.items (saved_of follower.now)) }
-    ensures small { IfOk result (λ text. length text.items ≤ max_save) }
-    ensures stops { IfErr result (MadeStops follower.now) }
-{
-    match follower.save(alloc) {
-        Ok(text) if text.len() as u64 <= MAX_SAVE => Ok(text),
-        Ok(_) => Err(RunFault::TooLarge(FileName::Save)),
-        Err(ViewError::WantOfMemory) => Err(RunFault::WantOfMemory),
-        Err(ViewError::Broken) => unreachable!(),
+    match commit(store) {
+        Ok(()) => Ok(()),
+        Err(fault) => Err(fault),
     }
 }

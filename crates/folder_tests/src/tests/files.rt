@@ -1,8 +1,8 @@
 //! Runs over a store with a few files, and what they leave.
 
 use osm_beginning::begin::begin_run;
-use osm_folder::convert::convert_run;
 use osm_exporting::export::export_run;
+use osm_folder::convert::convert_run;
 use osm_folder::fault::RunFault;
 use osm_folder::filters::filter_of;
 use osm_folder::lag::lag_run;

@@ -1,70 +1,32 @@
-use Rattle.std.proofs.Common.{Some, subst, sym, ◌∙◌}
+use Rattle.std.proofs.Common.{◌≡◌, subst, sym, ◌∙◌}
 use Rattle.std.specs.Prelude.{IsTrue}
-use Rattle.osm_store.specs.Files.{Puts}
+use Rattle.osm_model.specs.Filter.{IsFilter}
 use Rattle.osm_store.specs.Frames.{IsKnown}
-use Rattle.osm_beginning.proofs.BeginLemmas.{base_stops, beginning_of, begun_in_step, put_stops, start_stops, text_stops}
-use Rattle.osm_folder.proofs.ResultLemmas.{same_err}
+use Rattle.osm_beginning.proofs.BeginLemmas.{begun_in_step, begun_of, from_stops}
 use Rattle.osm_beginning.proofs.begin.begin_run.Goals as goal
 
-pub returns-in_err-start-clause-stops : goal.returns-in_err-start-clause-stops
-returns-in_err-start-clause-stops g c =
-    same_err _ c.from_residual.result _ c.from_residual.ensures.1
-    (start_stops c.args.filter (IsKnown (g.S.Store.state c.args.store.now)) c.args.base.now c.args.state.now (g.S.Store.state c.args.store.now).files
-    (record { form = c.in-Some.form; end = c.in-Some.ensures.found }) _ c.in_err-start.ensures.stops)
-
-pub returns-in_err-objects-clause-stops : goal.returns-in_err-objects-clause-stops
-returns-in_err-objects-clause-stops g c =
-    same_err _ c.from_residual-in_err-objects.result _ c.from_residual-in_err-objects.ensures.1
-    (base_stops c.args.filter (IsKnown (g.S.Store.state c.args.store.now)) c.args.base.now c.args.state.now (g.S.Store.state c.args.store.now).files
-    c.in-Some.form c.in-Some.ensures.found (λ yes. (c.in_ok-start.start, c.in_ok-start.ensures.start yes)) _
-    (rw (c.read_start.ensures.frame.makes.known, c.read_start.ensures.frame.files) at c.in_err-objects.ensures.stops))
-
-pub returns-in_err-text-clause-stops : goal.returns-in_err-text-clause-stops
-returns-in_err-text-clause-stops g c =
-    same_err _ c.from_residual-in_err-text.result _ c.from_residual-in_err-text.ensures.1
-    (text_stops c.args.filter (IsKnown (g.S.Store.state c.args.store.now)) c.args.base.now c.args.state.now (g.S.Store.state c.args.store.now).files
-    c.in-Some.form c.in_ok-start.start c.in_ok-objects.objects.items c.in-Some.ensures.found c.in_ok-start.ensures.start
-    (rw (c.read_start.ensures.frame.makes.known, c.read_start.ensures.frame.files) at c.in_ok-objects.ensures.read)
-    _ c.in_err-text.ensures.stops)
-
-pub returns-in_err-write_file-clause-stops : goal.returns-in_err-write_file-clause-stops
-returns-in_err-write_file-clause-stops g c =
-    let read = rw (c.read_start.ensures.frame.makes.known, c.read_start.ensures.frame.files) at c.in_ok-objects.ensures.read in
-    same_err _ c.from_residual-in_err-write_file.result _ c.from_residual-in_err-write_file.ensures.1
-    (put_stops c.args.filter (IsKnown (g.S.Store.state c.args.store.now)) c.args.base.now c.args.state.now (g.S.Store.state c.args.store.now).files
-    (record { form = c.in-Some.form; end = c.in-Some.ensures.found })
-    (λ yes. (
-      c.in_ok-start.start,
-      c.in_ok-text.text.items,
-      beginning_of c.args.filter c.args.base.now c.args.state.now c.in_ok-text.text.items (g.S.Store.state c.args.store.now).files c.in-Some.form
-          c.in_ok-start.start c.in_ok-objects.objects.items c.in-Some.ensures.found (c.in_ok-start.ensures.start yes) (read yes)
-          c.in_ok-text.ensures.spelled,
-      c.in_ok-text.ensures.small,
-    )) _ c.in_err-write_file.ensures.stops)
-
-begun : goal.returns-clause-begun
+begun : goal.returns-in-Ok-begin_in-clause-begun
 begun g c = λ yes.
-    let read = rw (c.read_start.ensures.frame.makes.known, c.read_start.ensures.frame.files) at c.in_ok-objects.ensures.read in
-    let known : IsKnown (g.S.Store.state c.read_start.new.store) = subst IsTrue (sym c.read_start.ensures.frame.makes.known) yes in
-    let then : IsKnown (g.S.Store.state c.read_base.new.store) = subst IsTrue (sym c.read_base.ensures.frame.makes.known) known in
-    record {
-      s = c.in_ok-start.start;
-      text = c.in_ok-text.text.items;
-      beginning = beginning_of c.args.filter c.args.base.now c.args.state.now c.in_ok-text.text.items (g.S.Store.state c.args.store.now).files
-          c.in-Some.form c.in_ok-start.start c.in_ok-objects.objects.items c.in-Some.ensures.found (c.in_ok-start.ensures.start yes)
-          (read yes) c.in_ok-text.ensures.spelled;
-      small = c.in_ok-text.ensures.small;
-      put = subst (λ f. Puts f c.args.save.now (Some c.in_ok-text.text.items) (g.S.Store.state c.write_file.new.store).files)
-          (c.read_base.ensures.frame.files ∙ c.read_start.ensures.frame.files)
-          (subst (λ xs. Puts (g.S.Store.state c.read_base.new.store).files c.args.save.now (Some xs)
-          (g.S.Store.state c.write_file.new.store).files) c.as_slice.ensures.value (c.in_ok-write_file.ensures.written then));
-      report_is = rw c.sequence.ensures.sequence at c.in_ok-report.ensures;
-    }
+    let a = g.S.Store.state c.args.store.now in
+    let b = g.S.Store.state c.read_start.new.store in
+    let known : IsKnown b = subst IsTrue (sym c.in-Ok.ensures.frame.makes.known) yes in
+    let is_filter : IsFilter c.args.filter = rw (← c.filter.view_is) c.filter.invariant in
+    begun_of c.args.filter c.args.base.now c.args.state.now c.args.save.now a.files b.files (g.S.Store.state c.begin_in.new.store).files c.in-Some.form
+    c.in-Ok.start c.head_from.result c.in-Ok-begin_report.report c.in-Some.ensures.found is_filter c.head_from.ensures.limits (c.in-Ok.ensures.start yes)
+    c.in-Ok.ensures.frame.files c.head_from.ensures.head (rw c.sequence.ensures.sequence at c.in-Ok-begin_report.ensures)
+    (c.in-Ok-begin_in.ensures.replaced known)
 
-pub returns-clause-begun : goal.returns-clause-begun
-returns-clause-begun g c = begun g c
+pub returns-in-Ok-begin_in-clause-begun : goal.returns-in-Ok-begin_in-clause-begun
+returns-in-Ok-begin_in-clause-begun g c = begun g c
 
-pub returns-clause-in_step : goal.returns-clause-in_step
-returns-clause-in_step g c = λ yes ps number of.
+pub returns-in-Ok-begin_in-clause-in_step : goal.returns-in-Ok-begin_in-clause-in_step
+returns-in-Ok-begin_in-clause-in_step g c = λ yes ps number of.
     begun_in_step c.args.filter ps number c.args.base.now c.args.state.now c.args.save.now (g.S.Store.state c.args.store.now).files
-    (g.S.Store.state c.write_file.new.store).files c.in_ok-report.report of (begun g c yes)
+    (g.S.Store.state c.begin_in.new.store).files c.in-Ok-begin_report.report of (begun g c yes)
+
+pub returns-clause-stops : goal.returns-clause-stops
+returns-clause-stops g c =
+    let a = g.S.Store.state c.args.store.now in
+    from_stops c.args.filter (IsKnown a) c.args.base.now c.args.state.now a.files c.in-Some.form c.in-Ok.start c.in-Some.ensures.found
+    c.in-Ok.ensures.start c.in-Err-begin_in.ensures.nothing c.in-Err-begin_in.fault
+    (rw (c.in-Ok.ensures.frame.makes.known, c.in-Ok.ensures.frame.files) at c.in-Err-begin_in.ensures.stops)

@@ -1,0 +1,318 @@
+-- Passes over a data file.
+use Rattle.std.proofs.Common.{◌≡◌, ℕ, ◌+◌, ◌<◌, ◌≤◌, List, [], ◌∷◌, ◌++◌, length, map, Option, Some, None, inl, inr, refl, sym, ap, subst, ◌∙◌, arith}
+use Rattle.std.proofs.Common.{add-one, append_assoc, get_or, length-append, lit<, take}
+use Rattle.std.proofs.Math.Seq.{take-suc}
+use Rattle.std.specs.Prelude.{◌⊎◌, Bool, IsTrue, Result, Ok, Err, min}
+use Rattle.std.proofs.lemmas.List.{map-append}
+use Rattle.std.proofs.lemmas.List.Elements.{filter-append}
+use Rattle.std.proofs.lemmas.Option.{same_Some}
+use Rattle.osm_model.specs.Change.{ChangeValue}
+use Rattle.osm_model.specs.Filter.{FilterValue, keeps}
+use Rattle.osm_opl.specs.Written.{line_text}
+use Rattle.osm_save.specs.Lines.{ended}
+use Rattle.osm_save.proofs.TextLemmas.{ended-append}
+use Rattle.osm_store.specs.Files.{Files, HasFewer, Puts}
+use Rattle.osm_store.specs.Frames.{IsKnown, MakesAtMost, StoreState}
+use Rattle.osm_blocks.specs.Calls.{Advances, SpendsDown}
+use Rattle.osm_blocks.specs.Frames.{ReadsOften}
+use Rattle.osm_blocks.specs.Places.{HasFile}
+use Rattle.osm_blocks.specs.Writing.{IsWritten, Waiting}
+use Rattle.osm_save.specs.declared.head.Head.{Head}
+use Rattle.osm_blocks.proofs.CallLemmas.{at_most_of, down_lacks, down_none, down_of, down_then}
+use Rattle.osm_blocks.proofs.OftenLemmas.{often_then}
+use Rattle.osm_merge.specs.Calls.{bytes_in}
+use Rattle.osm_merge.specs.Laying.{Writes}
+use Rattle.osm_merge.proofs.FrameLemmas.{has_still, often_as, writes_after, writes_both}
+use Rattle.osm_data.specs.Reading.{NextStops, OpenStops, read_calls}
+use Rattle.osm_data.specs.declared.fault.DataFault.{DataFault}
+use Rattle.osm_data.specs.declared.fault.DataFault.TheVariants as faults
+use Rattle.osm_follow.specs.Begin.{kept_objects}
+use Rattle.osm_folder.specs.declared.fault.FileName.TheVariants.{Base, Save}
+use Rattle.osm_folder.specs.declared.fault.RunFault.{RunFault}
+use Rattle.osm_beginning.specs.Beginning.{most_kept}
+use Rattle.osm_beginning.specs.Steps.Passes.{AreTooMany, AreWritten, BaseStops, IsCountOf, IsKept, IsReading, IsReplaced, IsStaged, base_fault_of}
+use Rattle.osm_beginning.specs.Steps.Passes.{begun_text, first_text, last_text, most_counted}
+
+-- ---- faults of a data file as those of a run
+
+pub open_stops : (goes_wrong : List ℕ → ℕ → Type 0) (is_long : List ℕ → Type 0) (state : StoreState) (name : List ℕ) (fault : DataFault)
+    → OpenStops goes_wrong is_long state name fault
+    → BaseStops goes_wrong is_long (IsKnown state) (state.files name) (base_fault_of fault)
+open_stops goes_wrong is_long state name faults.Device h = tt
+open_stops goes_wrong is_long state name faults.WantOfMemory h = tt
+open_stops goes_wrong is_long state name faults.NoFile h = h
+open_stops goes_wrong is_long state name (faults.BadData place why) h = h
+open_stops goes_wrong is_long state name faults.LongPart h = λ known. (let at = h known in (at.0, at.1, inl at.2))
+open_stops goes_wrong is_long state name faults.TooLarge h = λ known. (let at = h known in (at.0, at.1, inr at.2))
+
+pub next_stops : {D : Type 0} (goes_wrong : List ℕ → ℕ → Type 0) (is_long : List ℕ → Type 0) (has_read : D → List ℕ → List ChangeValue → Type 0)
+    (state : StoreState) (name : List ℕ) (reader : D) (fault : DataFault)
+    → ((file : List ℕ) (done : List ChangeValue) → HasFile state name file → has_read reader file done → NextStops goes_wrong is_long file fault)
+    → (IsKnown state → IsReading has_read state name reader)
+    → BaseStops goes_wrong is_long (IsKnown state) (state.files name) (base_fault_of fault)
+next_stops goes_wrong is_long has_read state name reader faults.Device h reads = tt
+next_stops goes_wrong is_long has_read state name reader faults.WantOfMemory h reads = tt
+next_stops goes_wrong is_long has_read state name reader faults.NoFile h reads =
+    λ known. (let r = reads known in absurd (h r.file r.done r.has r.read))
+next_stops goes_wrong is_long has_read state name reader (faults.BadData place why) h reads =
+    λ known. (let r = reads known in (r.file, r.has.there, h r.file r.done r.has r.read))
+next_stops goes_wrong is_long has_read state name reader faults.LongPart h reads =
+    λ known. (let r = reads known in (r.file, r.has.there, inl (h r.file r.done r.has r.read)))
+next_stops goes_wrong is_long has_read state name reader faults.TooLarge h reads =
+    λ known. (let r = reads known in (r.file, r.has.there, inr (h r.file r.done r.has r.read)))
+
+-- ---- counts
+
+pub kept_append : (f : FilterValue) (done objects : List ChangeValue) → kept_objects f (done ++ objects) ≡ kept_objects f done ++ kept_objects f objects
+kept_append f done objects = filter-append (keeps f) done objects
+
+pub count_more : (f : FilterValue) (count next : ℕ) (done objects : List ChangeValue) → IsCountOf count (kept_objects f done)
+    → next ≡ min (count + length (kept_objects f objects)) most_counted → IsCountOf next (kept_objects f (done ++ objects))
+count_more f count next done objects is more =
+    let all : length (kept_objects f (done ++ objects)) ≡ length (kept_objects f done) + length (kept_objects f objects) =
+    ap length (kept_append f done objects) ∙ length-append (kept_objects f done) (kept_objects f objects) in
+    capped (length (kept_objects f done)) (length (kept_objects f objects)) most_counted count next (length (kept_objects f (done ++ objects))) is more all
+  where
+    capped : (a b most count next all : ℕ) → count ≡ min a most → next ≡ min (count + b) most → all ≡ a + b → next ≡ min all most
+    capped a b most count next all is more sum = omega (arith, is, more, sum)
+
+-- one more object was counted
+pub counted_next : (f : FilterValue) (start count next : ℕ) (taken longer : List ChangeValue) (o : ChangeValue) → longer ≡ taken ++ o ∷ []
+    → count ≡ min (start + length (kept_objects f taken)) most_counted → next ≡ min (count + length (kept_objects f (o ∷ []))) most_counted
+    → next ≡ min (start + length (kept_objects f longer)) most_counted
+counted_next f start count next taken longer o parts is more =
+    let all : length (kept_objects f longer) ≡ length (kept_objects f taken) + length (kept_objects f (o ∷ [])) =
+    ap (λ (l : List ChangeValue). length (kept_objects f l)) parts
+    ∙ (ap length (kept_append f taken (o ∷ [])) ∙ length-append (kept_objects f taken) (kept_objects f (o ∷ []))) in
+    capped start (length (kept_objects f taken)) (length (kept_objects f (o ∷ []))) most_counted count next (length (kept_objects f longer)) is more all
+  where
+    capped : (start a b most count next all : ℕ) → count ≡ min (start + a) most → next ≡ min (count + b) most → all ≡ a + b → next ≡ min (start + all) most
+    capped start a b most count next all is more sum = omega (arith, is, more, sum)
+
+-- ---- where a pass stands
+
+-- objects of a known data file were read, and this is said of them
+pub record Passed {D : Type 0} (has_read : D → List ℕ → List ChangeValue → Type 0) (ahead : D → List ℕ → ℕ) (most : ℕ → ℕ)
+    (begun state : StoreState) (name : List ℕ) (reader : D) (Says : List ChangeValue → Type 0) : Type 0 where
+  pub file : List ℕ
+  pub has : HasFile begun name file
+  pub done : List ChangeValue
+  pub read : has_read reader file done
+  pub says : Says done
+  pub calls : SpendsDown (most (length file)) (ahead reader file) begun.left state.left
+
+pub record Passing {D E : Type 0} (blames : E → Type 0) (has_read : D → List ℕ → List ChangeValue → Type 0) (ahead : D → List ℕ → ℕ) (most : ℕ → ℕ)
+    (begun state : StoreState) (name : List ℕ) (reader : D) (Says : List ChangeValue → Type 0) : Type 0 where
+  pub frame : ReadsOften {T = Unit {0}} blames begun state (Ok tt)
+  pub reads : IsKnown begun → Passed has_read ahead most begun state name reader Says
+
+module _ {D E : Type 0} (blames : E → Type 0) (has_read : D → List ℕ → List ChangeValue → Type 0) (ahead : D → List ℕ → ℕ) (most : ℕ → ℕ)
+    (begun : StoreState) (name : List ℕ) where
+  -- the file was opened
+  pub passing_begun : {T : Type 0} (state : StoreState) (x : T) (reader : D) (Says : List ChangeValue → Type 0) → ReadsOften blames begun state (Ok x)
+      → (IsKnown begun → IsReading has_read begun name reader)
+      → ((file : List ℕ) → HasFile begun name file → has_read reader file [])
+      → MakesAtMost blames 1 begun state (Ok x)
+      → ((file : List ℕ) → HasFile begun name file → ahead reader file + 1 ≤ most (length file))
+      → Says [] → Passing blames has_read ahead most begun state name reader Says
+  passing_begun {T} state x reader Says frame there opened calls few says = record {
+    frame = often_as blames begun state x tt frame;
+    reads = λ known. (let r = there known in
+        let enough = few r.file r.has in
+        record {
+          file = r.file;
+          has = r.has;
+          done = [];
+          read = opened r.file r.has;
+          says = says;
+          calls = down_then 1 0 0 0 (most (length r.file)) (ahead reader r.file) begun.left state.left state.left (omega (arith, enough))
+              (down_of 1 begun.left state.left calls.spent) (down_none 0 state.left);
+        });
+  }
+
+  module _ (state : StoreState) (reader : D) (Says : List ChangeValue → Type 0) (p : Passing blames has_read ahead most begun state name reader Says) where
+    known_before : IsKnown state → IsKnown begun
+    known_before known = subst (λ (t : Bool). IsTrue t) p.frame.known known
+
+    -- the file is still being read
+    pub still_reads : IsKnown state → IsReading has_read state name reader
+    still_reads known = (let r = p.reads (known_before known) in record {
+      file = r.file;
+      has = has_still begun state tt name r.file p.frame r.has;
+      done = r.done;
+      read = r.read;
+    })
+
+    -- more objects were read
+    pub passing_more : {T : Type 0} (next : StoreState) (new : D) (x : T) (objects : List ChangeValue) (Then : List ChangeValue → Type 0)
+        → ReadsOften {T = T} blames state next (Ok x)
+        → ((file : List ℕ) (done : List ChangeValue) → HasFile state name file → has_read reader file done → has_read new file (done ++ objects))
+        → ((file : List ℕ) (done : List ChangeValue) → HasFile state name file → has_read reader file done → SpendsDown
+        (ahead reader file) (ahead new file) state.left next.left)
+        → ((done : List ChangeValue) → Says done → Then (done ++ objects))
+        → Passing blames has_read ahead most begun next name new Then
+    passing_more {T} next new x objects Then frame read calls says = record {
+      frame = often_then {V = Unit {0}} blames begun state next tt x tt p.frame frame;
+      reads = λ known. (let r = p.reads known in
+          let has = has_still begun state tt name r.file p.frame r.has in
+          record {
+            file = r.file;
+            has = r.has;
+            done = r.done ++ objects;
+            read = read r.file r.done has r.read;
+            says = says r.done r.says;
+            calls = down_then (most (length r.file)) (ahead reader r.file) (ahead reader r.file) (ahead new r.file) (most (length r.file))
+                (ahead new r.file) begun.left state.left next.left (omega arith) r.calls (calls r.file r.done has r.read);
+          });
+    }
+
+    -- all objects were read
+    pub passing_ends : (spells : List ℕ → List ChangeValue → Type 0) (f : FilterValue) (Then : List ChangeValue → Type 0)
+        → ((file : List ℕ) (done : List ChangeValue) → HasFile state name file → has_read reader file done → spells file done)
+        → ((done : List ChangeValue) → Says done → Then (kept_objects f done))
+        → IsKnown begun → IsKept spells f (begun.files name) Then
+    passing_ends spells f Then read says known = (let r = p.reads known in record {
+      bytes = r.file;
+      there = r.has.there;
+      objects = r.done;
+      spelled = read r.file r.done (has_still begun state tt name r.file p.frame r.has) r.read;
+      holds_of = says r.done r.says;
+    })
+
+    -- the calls of all of it
+    pub calls_end : {U : Type 0} (next : StoreState) (z : U)
+        → ((file : List ℕ) (done : List ChangeValue) → HasFile state name file → has_read reader file done → (c : ℕ) × (d : ℕ) × (c ≤ ahead reader file + d)
+        × SpendsDown c d state.left next.left)
+        → IsKnown begun → MakesAtMost blames (most (bytes_in (begun.files name))) begun next (Ok z)
+    calls_end next z calls known = (let r = p.reads known in
+        let c = calls r.file r.done (has_still begun state tt name r.file p.frame r.has) r.read in
+        let enough = c.2 in
+        let all : bytes_in (begun.files name) ≡ length r.file = ap bytes_in r.has.there in
+        rw all (record {
+          spent = at_most_of (most (length r.file)) 0 (most (length r.file)) begun.left next.left (omega arith)
+              (down_then (most (length r.file)) (ahead reader r.file) c.0 c.1 (most (length r.file)) 0 begun.left state.left next.left
+              (omega (arith, enough)) r.calls c.3);
+          lacks = tt;
+        }))
+
+    -- a call failed
+    pub calls_fail : {U : Type 0} (next : StoreState) (fault : E)
+        → ((file : List ℕ) (done : List ChangeValue) → HasFile state name file → has_read reader file done → blames fault
+        → HasFewer (ahead reader file) state.left)
+        → IsKnown begun → MakesAtMost {T = U} blames (most (bytes_in (begun.files name))) begun next (Err fault)
+    calls_fail next fault lacks known = (let r = p.reads known in
+        let all : bytes_in (begun.files name) ≡ length r.file = ap bytes_in r.has.there in
+        rw all (record {
+          spent = tt;
+          lacks = λ again blame. down_lacks (most (length r.file)) (ahead reader r.file) (ahead reader r.file) (most (length r.file)) begun.left state.left
+              (omega arith) r.calls (lacks r.file r.done (has_still begun state tt name r.file p.frame r.has) r.read blame);
+        }))
+
+-- why it isn't read on
+pub stops_before : (goes_wrong : List ℕ → ℕ → Type 0) (is_long : List ℕ → Type 0) (a b : StoreState) (name : List ℕ) (fault : RunFault)
+    → b.is_known ≡ a.is_known → b.files ≡ a.files
+    → BaseStops goes_wrong is_long (IsKnown b) (b.files name) fault → BaseStops goes_wrong is_long (IsKnown a) (a.files name) fault
+stops_before goes_wrong is_long a b name fault known files h =
+    subst (λ (f : Files). BaseStops goes_wrong is_long (IsKnown a) (f name) fault) files
+    (subst (λ (t : Bool). BaseStops goes_wrong is_long (IsTrue t) (b.files name) fault) known h)
+
+-- ---- what was written
+
+pub lines_append : (f : FilterValue) (done objects : List ChangeValue)
+    → ended (map line_text (kept_objects f (done ++ objects))) ≡ ended (map line_text (kept_objects f done)) ++ ended (map line_text (kept_objects f objects))
+lines_append f done objects = ap (λ (l : List ChangeValue). ended (map line_text l)) (kept_append f done objects)
+    ∙ (ap ended (map-append line_text (kept_objects f done) (kept_objects f objects))
+    ∙ ended-append (map line_text (kept_objects f done)) (map line_text (kept_objects f objects)))
+
+pub taken_next : (objects : List ChangeValue) (i : ℕ) (o : ChangeValue) → i < length objects → o ≡ get_or objects i o
+    → take (i + 1) objects ≡ take i objects ++ o ∷ []
+taken_next objects i o within is = ap (λ (n : ℕ). take n objects) (add-one i)
+    ∙ (take-suc objects i o within ∙ ap (λ (x : ChangeValue). take i objects ++ x ∷ []) (sym is))
+
+-- one more line was added, if the object is kept
+pub lines_next : (f : FilterValue) (begun now next : List ℕ) (taken longer : List ChangeValue) (o : ChangeValue) → longer ≡ taken ++ o ∷ []
+    → now ≡ begun ++ ended (map line_text (kept_objects f taken)) → next ≡ now ++ ended (map line_text (kept_objects f (o ∷ [])))
+    → next ≡ begun ++ ended (map line_text (kept_objects f longer))
+lines_next f begun now next taken longer o parts is more =
+    more ∙ (ap (λ (l : List ℕ). l ++ ended (map line_text (kept_objects f (o ∷ [])))) is
+    ∙ (append_assoc begun (ended (map line_text (kept_objects f taken))) (ended (map line_text (kept_objects f (o ∷ []))))
+    ∙ ap (λ (l : List ℕ). begun ++ l) (sym (lines_append f taken (o ∷ [])) ∙ sym (ap (λ (l : List ChangeValue). ended (map line_text (kept_objects f l))) parts))))
+
+-- the lines of more objects were written
+pub written_more : {T E : Type 0} {blames : E → Type 0} (f : FilterValue) (begun state next after : StoreState) (w v u : Waiting) (x : T)
+    (count more : ℕ) (done objects : List ChangeValue) → ReadsOften {T = Unit {0}} blames begun state (Ok tt) → ReadsOften blames state next (Ok x)
+    → next.stage ≡ state.stage → Writes next v after u (ended (map line_text (kept_objects f objects)))
+    → more ≡ min (count + length (kept_objects f objects)) most_counted → AreWritten count (Writes begun w state v) (kept_objects f done)
+    → AreWritten more (Writes begun w after u) (kept_objects f (done ++ objects))
+written_more f begun state next after w v u x count more done objects frame read stage put is s = record {
+  counted = count_more f count more done objects s.counted is;
+  written = subst (Writes begun w after u) (sym (lines_append f done objects))
+      (writes_both begun state after w v u tt (ended (map line_text (kept_objects f done))) (ended (map line_text (kept_objects f objects))) frame s.written
+      (writes_after state next after v u x (ended (map line_text (kept_objects f objects))) read stage put));
+}
+
+-- the parts that were written are the text
+pub staged_text : (first lines last : List ℕ) → (([] ++ first) ++ lines) ++ last ≡ first ++ (lines ++ last)
+staged_text first lines last = append_assoc first lines last
+
+-- ---- the second pass and the commit
+
+-- what is kept of a data file, told as it was before
+pub kept_as : (spells : List ℕ → List ChangeValue → Type 0) (f : FilterValue) (told before : Option (List ℕ)) (P Q : List ChangeValue → Type 0)
+    → told ≡ before → ((kept : List ChangeValue) → P kept → Q kept) → IsKept spells f told P → IsKept spells f before Q
+kept_as spells f told before P Q same goes k = record {
+  bytes = k.bytes;
+  there = sym same ∙ k.there;
+  objects = k.objects;
+  spelled = k.spelled;
+  holds_of = goes (kept_objects f k.objects) k.holds_of;
+}
+
+-- the file that was staged is the whole text
+pub staged_as : (first last : List ℕ) (save : List ℕ) (head : Head) (f : FilterValue) (given count : ℕ) (d e z : StoreState) (u t : Waiting)
+    (kept : List ChangeValue) → first ≡ first_text head f given → last ≡ last_text → IsKnown d → IsKnown e → IsWritten d.stage u save ([] ++ first)
+    → ((name text : List ℕ) → IsWritten e.stage t name text → z.stage ≡ Some (name, text ++ last)) → AreWritten count (Writes d u e t) kept
+    → IsStaged z save head f given count kept
+staged_as first last save head f given count d e z u t kept first_is last_is known_d known_e begun ends a = record {
+  counted = a.counted;
+  stage = ends save (([] ++ first) ++ ended (map line_text kept)) (a.written known_d save ([] ++ first) begun)
+      ∙ ap (λ (l : List ℕ). Some (save, l)) (staged_text first (ended (map line_text kept)) last
+      ∙ (ap (λ (l : List ℕ). l ++ (ended (map line_text kept) ++ last)) first_is
+      ∙ ap (λ (l : List ℕ). first_text head f given ++ (ended (map line_text kept) ++ l)) last_is));
+}
+
+-- a count below the greatest one is exact
+exact : (n most low count : ℕ) → count ≡ min n most → count ≤ low → low < most → n ≡ count
+exact n most low count is few below = omega (arith, is, few, below)
+
+pub exact_count : (count : ℕ) (kept : List ChangeValue) → IsCountOf count kept → count ≤ most_kept → length kept ≡ count
+exact_count count kept is few = exact (length kept) most_counted most_kept count is few (lit< tt)
+
+-- the text was put into its place
+pub replaced_of : (head : Head) (f : FilterValue) (save : List ℕ) (b : StoreState) (old new : Files) (count counted : ℕ) (kept : List ChangeValue)
+    → counted ≡ count → count ≤ most_kept → b.files ≡ old
+    → ((name text : List ℕ) → b.stage ≡ Some (name, text) → Puts b.files name (Some text) new)
+    → IsStaged b save head f count counted kept → IsReplaced head f save old new kept
+replaced_of head f save b old new count counted kept same few files put s =
+    let many : length kept ≡ count = exact_count count kept (sym same ∙ s.counted) few in
+    record {
+      few = omega (arith, many, few);
+      put = subst (λ (n : ℕ). Puts old save (Some (begun_text head f n kept)) new) (sym many)
+          (subst (λ (g : Files). Puts g save (Some (begun_text head f count kept)) new) files (put save (begun_text head f count kept) s.stage));
+    }
+
+-- too many were counted
+many : (n most low count : ℕ) → count ≡ min n most → low < count → low < n
+many n most low count is over = omega (arith, is, over)
+
+pub many_counted : (count : ℕ) (kept : List ChangeValue) → IsCountOf count kept → most_kept < count → AreTooMany kept
+many_counted count kept is over = many (length kept) most_counted most_kept count is over
+
+-- two passes over the same bytes count the same
+pub one_count : (spells : List ℕ → List ChangeValue → Type 0) (f : FilterValue) (told : Option (List ℕ)) (count counted : ℕ)
+    → ((bytes : List ℕ) (a b : List ChangeValue) → spells bytes a → spells bytes b → a ≡ b)
+    → IsKept spells f told (IsCountOf count) → IsKept spells f told (IsCountOf counted) → counted ≡ count
+one_count spells f told count counted one_list k l =
+    let bytes : k.bytes ≡ l.bytes = same_Some k.bytes l.bytes (sym k.there ∙ l.there) in
+    let objects : k.objects ≡ l.objects = one_list l.bytes k.objects l.objects (subst (λ (b : List ℕ). spells b k.objects) bytes k.spelled) l.spelled in
+    l.holds_of ∙ (ap (λ (os : List ChangeValue). min (length (kept_objects f os)) most_counted) (sym objects) ∙ sym k.holds_of)

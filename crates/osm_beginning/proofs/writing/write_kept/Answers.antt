@@ -1,0 +1,28 @@
+use Rattle.std.proofs.Common.{◌≡◌, [], ap, refl, ◌∙◌}
+use Rattle.osm_beginning.proofs.PassLemmas.{kept_as, staged_as}
+use Rattle.osm_beginning.specs.Steps.Passes.{AreWritten, IsStaged, first_text, last_text}
+use Rattle.osm_merge.proofs.FrameLemmas.{known_still}
+use Rattle.osm_merge.specs.Laying.{Writes}
+use Rattle.osm_store.specs.Files.{Files}
+use Rattle.osm_beginning.proofs.writing.write_kept.Goals as goal
+
+pub returns-in-Ok-put_last-clause-staged : goal.returns-in-Ok-put_last-clause-staged
+returns-in-Ok-put_last-clause-staged g c = λ known.
+    let a = g.S.Store.state c.args.store.now in
+    let b = g.S.Store.state c.begin.new.store in
+    let d = g.S.Store.state c.put_first.new.store in
+    let e = g.S.Store.state c.put_objects.new.store in
+    let z = g.S.Store.state c.put_last.new.store in
+    let known_b = known_still a b c.in-Ok.field-0 c.in-Ok.ensures.frame known in
+    let known_d = known_still b d c.in-Ok-put_first.field-0 c.in-Ok-put_first.ensures.frame known_b in
+    let known_e = known_still d e c.in-Ok-put_objects.count c.in-Ok-put_objects.ensures.frame known_d in
+    let first = first_text c.args.head c.args.filter.now c.args.given in
+    let begun = c.in-Ok-put_first.ensures.written known_b c.args.save.now []
+    (rw c.new-writer.ensures (record { appended = []; staged = c.in-Ok.ensures.begun known; whole = refl; writes = refl })) in
+    kept_as g.D.DataReader.spells c.args.filter.now (d.files c.args.base.now) (a.files c.args.base.now)
+    (AreWritten c.in-Ok-put_objects.count (Writes d c.put_first.new.writer e c.put_objects.new.writer))
+    (IsStaged z c.args.save.now c.args.head c.args.filter.now c.args.given c.in-Ok-put_objects.count)
+    (ap (λ (f : Files). f c.args.base.now) (c.in-Ok-put_first.ensures.frame.files ∙ c.in-Ok.ensures.frame.files))
+    (λ kept. staged_as first last_text c.args.save.now c.args.head c.args.filter.now c.args.given c.in-Ok-put_objects.count d e z c.put_first.new.writer
+    c.put_objects.new.writer kept refl refl known_d known_e begun (c.in-Ok-put_last.ensures.staged known_e))
+    (c.in-Ok-put_objects.ensures.written known_d)

@@ -1,0 +1,142 @@
+-- The two passes over a data file, and why they end early. `spells`, `goes_wrong` and `is_long` are
+-- what the form of the data file says of bytes, `told` is what the data file holds, and `known` says
+-- that this is known.
+use Rattle.std.specs.Prelude.{◌≡◌, ℕ, ◌+◌, ◌<◌, ◌≤◌, ◌⊎◌, List, [], ◌∷◌, ◌++◌, length, map, min, codes}
+use Rattle.std.specs.Prelude.{decimal, Option, Some, None}
+use Rattle.osm_model.specs.Change.{ChangeValue}
+use Rattle.osm_model.specs.Filter.{FilterValue}
+use Rattle.osm_opl.specs.Written.{line_text}
+use Rattle.osm_save.specs.Head.{head_lines}
+use Rattle.osm_save.specs.Lines.{ended}
+use Rattle.osm_save.specs.declared.head.Head.{Head}
+use Rattle.osm_save.specs.declared.version.Version.TheVariants.{Three}
+use Rattle.osm_follow.specs.Begin.{kept_objects}
+use Rattle.osm_store.specs.Files.{Files, Puts}
+use Rattle.osm_store.specs.Frames.{StoreState}
+use Rattle.osm_blocks.specs.Places.{HasFile, IsHuge}
+use Rattle.osm_data.specs.Reading.{Holds, read_calls}
+use Rattle.osm_data.specs.declared.fault.DataFault.{DataFault}
+use Rattle.osm_data.specs.declared.fault.DataFault.TheVariants as faults
+use Rattle.osm_beginning.specs.Beginning.{most_kept}
+use Rattle.osm_folder.specs.declared.fault.FileName.TheVariants.{Base, Save}
+use Rattle.osm_folder.specs.declared.fault.RunFault.{RunFault}
+use Rattle.osm_folder.specs.declared.fault.RunFault.TheVariants.{WantOfMemory, ReadFault, TooLarge}
+use Rattle.osm_folder.specs.declared.fault.RunFault.TheVariants.{Absent, BadChange, Changed}
+use Rattle.osm_folder.specs.declared.fault.RunFault.TheVariants.{WriteFault}
+
+-- the fault of a data file as one of a run
+abbrev pub base_fault_of : DataFault → RunFault
+base_fault_of faults.Device = ReadFault Base
+base_fault_of faults.WantOfMemory = WantOfMemory
+base_fault_of faults.NoFile = Absent Base
+base_fault_of (faults.BadData place why) = BadChange Base place why
+base_fault_of faults.LongPart = TooLarge Base
+base_fault_of faults.TooLarge = TooLarge Base
+
+-- a known data file is being read, and these objects were read so far
+pub record IsReading {D : Type 0} (has_read : D → List ℕ → List ChangeValue → Type 0)
+    (state : StoreState) (name : List ℕ) (reader : D) : Type 0 where
+  pub file : List ℕ
+  pub has : HasFile state name file
+  pub done : List ChangeValue
+  pub read : has_read reader file done
+
+-- why a data file isn't read
+abbrev pub BaseStops : (List ℕ → ℕ → Type 0) → (List ℕ → Type 0) → Type 0 → Option (List ℕ)
+    → RunFault → Type 0
+BaseStops goes_wrong is_long known told WantOfMemory = Unit {0}
+BaseStops goes_wrong is_long known told (ReadFault Base) = Unit {0}
+BaseStops goes_wrong is_long known told (Absent Base) = known → told ≡ None
+BaseStops goes_wrong is_long known told (TooLarge Base) =
+    known → Holds (λ bytes. is_long bytes ⊎ IsHuge bytes) told
+BaseStops goes_wrong is_long known told (BadChange Base place why) =
+    known → Holds (λ bytes. goes_wrong bytes place) told
+BaseStops goes_wrong is_long known told fault = ⊥
+
+-- the data file spells objects, and this holds of those that the filter keeps
+pub record IsKept (spells : List ℕ → List ChangeValue → Type 0) (f : FilterValue)
+    (told : Option (List ℕ)) (holds : List ChangeValue → Type 0) : Type 0 where
+  pub bytes : List ℕ
+  pub there : told ≡ Some bytes
+  pub objects : List ChangeValue
+  pub spelled : spells bytes objects
+  pub holds_of : holds (kept_objects f objects)
+
+-- the greatest number that is counted
+abbrev pub most_counted : ℕ
+most_counted = 18446744073709551615
+
+-- so many objects, or as many as are counted
+abbrev pub IsCountOf : ℕ → List ChangeValue → Type 0
+IsCountOf count kept = count ≡ min (length kept) most_counted
+
+-- the lines before the objects: the head, and the number of objects
+unfoldable pub first_text : Head → FilterValue → ℕ → List ℕ
+first_text head f count =
+    ended (head_lines Three head f) ++ ended ((codes "objects " ++ decimal count) ∷ [])
+
+-- the lines after the objects: no counts, and `end`
+unfoldable pub last_text : List ℕ
+last_text = codes "users 0\nchangesets 0\nend\n"
+
+-- a save text with that head and those objects, under that number
+abbrev pub begun_text : Head → FilterValue → ℕ → List ChangeValue → List ℕ
+begun_text head f count kept =
+    first_text head f count ++ (ended (map line_text kept) ++ last_text)
+
+-- so many objects were kept, and with the lines before and after them they are the file that was
+-- begun
+pub record IsStaged (state : StoreState) (save : List ℕ) (head : Head) (f : FilterValue)
+    (given count : ℕ) (kept : List ChangeValue) : Type 0 where
+  pub counted : IsCountOf count kept
+  pub stage : state.stage ≡ Some (save, begun_text head f given kept)
+
+-- so many objects were kept, and their lines were written
+pub record AreWritten (count : ℕ) (out : List ℕ → Type 0) (kept : List ChangeValue) : Type 0 where
+  pub counted : IsCountOf count kept
+  pub written : out (ended (map line_text kept))
+
+-- why the save isn't begun with a data file
+abbrev pub WriteStops : (List ℕ → ℕ → Type 0) → (List ℕ → Type 0) → Type 0 → Option (List ℕ)
+    → RunFault → Type 0
+WriteStops goes_wrong is_long known told (WriteFault Save) = Unit {0}
+WriteStops goes_wrong is_long known told fault = BaseStops goes_wrong is_long known told fault
+
+-- the same, or the data file isn't as it was in the first pass, in which so many objects were kept
+abbrev pub ReplaceStops : (List ℕ → ℕ → Type 0) → (List ℕ → Type 0) → Type 0 → Option (List ℕ)
+    → RunFault → Type 0
+ReplaceStops goes_wrong is_long known told (Changed Base) = known → ⊥
+ReplaceStops goes_wrong is_long known told fault = WriteStops goes_wrong is_long known told fault
+
+-- the save holds a text with that head and what the filter keeps of the objects of the data file,
+-- which aren't too many, and no other name changes
+pub record IsReplaced (head : Head) (f : FilterValue) (save : List ℕ) (old new : Files)
+    (kept : List ChangeValue) : Type 0 where
+  pub few : length kept ≤ most_kept
+  pub put : Puts old save (Some (begun_text head f (length kept) kept)) new
+
+-- the filter keeps more objects than a save text can have
+abbrev pub AreTooMany : List ChangeValue → Type 0
+AreTooMany kept = most_kept < length kept
+
+-- it doesn't
+abbrev pub AreFew : List ChangeValue → Type 0
+AreFew kept = length kept ≤ most_kept
+
+-- the most calls of the second pass and the commit with a data file of so many bytes
+abbrev pub replace_calls : ℕ → ℕ
+replace_calls bytes = read_calls bytes + bytes + 5
+
+-- and of both passes
+abbrev pub from_calls : ℕ → ℕ
+from_calls bytes = read_calls bytes + replace_calls bytes
+
+-- why no save begins with a data file
+abbrev pub FromStops : (List ℕ → List ChangeValue → Type 0) → (List ℕ → ℕ → Type 0)
+    → (List ℕ → Type 0) → FilterValue → Type 0 → Option (List ℕ) → RunFault → Type 0
+FromStops spells goes_wrong is_long f known told (TooLarge Save) =
+    known → IsKept spells f told AreTooMany
+FromStops spells goes_wrong is_long f known told (WriteFault Save) =
+    known → IsKept spells f told AreFew
+FromStops spells goes_wrong is_long f known told fault =
+    ReplaceStops goes_wrong is_long known told fault

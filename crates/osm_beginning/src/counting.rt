@@ -1,0 +1,73 @@
+//! The first pass over a data file: how many of its objects a filter keeps.
+
+ghost use Rattle.std.specs.Prelude.{◌≡◌, ◌+◌, ◌∷◌, [], IfErr, IfOk, OnOk, length, min};
+ghost use Rattle.osm_store.specs.Files.{Spends};
+ghost use Rattle.osm_store.specs.Frames.{IsKnown, MakesAtMost};
+ghost use Rattle.osm_blocks.specs.Frames.{ReadsOften};
+ghost use Rattle.osm_merge.specs.Calls.{bytes_in};
+ghost use Rattle.osm_data.specs.Reading.{read_calls};
+ghost use Rattle.osm_folder.specs.Runs.{IsDeviceFault};
+ghost use Rattle.osm_follow.specs.Begin.{kept_objects};
+ghost use Rattle.osm_beginning.specs.Steps.Passes.{BaseStops, IsCountOf, IsKept, most_counted};
+
+use crate::base::{next_objects, open_base};
+use osm_data::data_reader::DataReader;
+use osm_folder::fault::RunFault;
+use osm_model::change::Change;
+use osm_model::filter::Filter;
+use osm_store::store::Store;
+use std::alloc::Global;
+
+/// Reads all objects of a data file, and counts those that the filter keeps.
+pub(crate) fn count_kept<S: Store, D: DataReader + Drop>(
+    alloc: Global,
+    store: &mut S,
+    base: &str,
+    filter: &Filter,
+) -> Result<u64, RunFault>
+    ensures counted { IfOk result (λ count. IsKnown (S.state store.old)
+        → IsKept D.spells filter.now ((S.state store.old).files base.now) (IsCountOf count)) }
+    ensures stops { IfErr result (BaseStops D.goes_wrong D.is_long (IsKnown (S.state store.old))
+        ((S.state store.old).files base.now)) }
+    ensures frame { ReadsOften IsDeviceFault (S.state store.old) (S.state store.new) result }
+    ensures spends { OnOk result (Spends 1 (S.state store.old).left (S.state store.new).left) }
+    ensures calls { IsKnown (S.state store.old) → MakesAtMost IsDeviceFault
+        (read_calls (bytes_in ((S.state store.old).files base.now)))
+        (S.state store.old) (S.state store.new) result }
+{
+    let mut reader: D = match open_base(alloc, store, base) {
+        Ok(reader) => reader,
+        Err(fault) => return Err(fault),
+    };
+    let mut count: u64 = 0;
+    'batches: loop {
+        let objects = match next_objects(alloc, store, base, &mut reader) {
+            Ok(Some(objects)) => objects,
+            Ok(None) => return Ok(count),
+            Err(fault) => return Err(fault),
+        };
+        count = add_kept(filter, objects.as_slice(), count);
+    }
+}
+
+/// The count with those of the objects that the filter keeps; it stops at its greatest value.
+pub(crate) fn add_kept(filter: &Filter, objects: &[Change], count: u64) -> u64
+    ensures { result
+        ≡ min (count + length (kept_objects filter.now objects.now)) most_counted }
+{
+    let mut total = count;
+    for object in objects {
+        total = add_one(filter, object, total);
+    }
+    total
+}
+
+fn add_one(filter: &Filter, object: &Change, count: u64) -> u64
+    ensures { result
+        ≡ min (count + length (kept_objects filter.now (object.now ∷ []))) most_counted }
+{
+    if !filter.keeps(object) {
+        return count;
+    }
+    count.saturating_add(1)
+}

@@ -1,0 +1,295 @@
+//! The second pass over a data file: the save text with the objects that a filter keeps, written
+//! block by block.
+
+ghost use Rattle.std.specs.Prelude.{◌≡◌, ◌↔◌, ◌+◌, ◌++◌, ◌∷◌, [], ℕ, List, Some, IfErr, IfOk};
+ghost use Rattle.std.specs.Prelude.{OnOk, length, map, true};
+ghost use Rattle.osm_opl.specs.Written.{line_text};
+ghost use Rattle.osm_save.specs.Lines.{ended};
+ghost use Rattle.osm_store.specs.Files.{Puts, Spends};
+ghost use Rattle.osm_store.specs.Frames.{IsKnown, MakesAtMost};
+ghost use Rattle.osm_blocks.specs.Frames as blocks;
+ghost use Rattle.osm_blocks.specs.Frames.{ReadsOften};
+ghost use Rattle.osm_blocks.specs.Writing.{IsWritten};
+ghost use Rattle.osm_merge.specs.Calls.{bytes_in};
+ghost use Rattle.osm_merge.specs.Frames.{ReplacesOften};
+ghost use Rattle.osm_merge.specs.Laying.{Writes};
+ghost use Rattle.osm_data.specs.Reading.{read_calls};
+ghost use Rattle.osm_folder.specs.Runs.{IsDeviceFault};
+ghost use Rattle.osm_folder.specs.Steps.Reading.{PutStops};
+ghost use Rattle.osm_folder.specs.declared.fault.FileName.TheVariants.{Save};
+ghost use Rattle.osm_follow.specs.Begin.{kept_objects};
+ghost use Rattle.osm_beginning.specs.Steps.Passes.{AreWritten, IsKept, IsStaged, WriteStops};
+ghost use Rattle.osm_beginning.specs.Steps.Passes.{first_text, last_text};
+
+use crate::base::{next_objects, open_base};
+use crate::counting::add_kept;
+use osm_blocks::block_writer::BlockWriter;
+use osm_blocks::fault::BlockFault;
+use osm_data::data_reader::DataReader;
+use osm_folder::fault::{FileName, RunFault};
+use osm_model::change::Change;
+use osm_model::filter::Filter;
+use osm_model::memory::WantOfMemory;
+use osm_save::head::{Head, write_head};
+use osm_save::lines::write_numbered;
+use osm_save::objects::write_object;
+use osm_store::store::{Store, StoreError};
+use std::alloc::Global;
+
+/// Begins the file of the save, and writes to it the head, the number of objects that is given, the
+/// objects that the filter keeps, and the lines after them. Gives the number of those objects.
+pub(crate) fn write_kept<S: Store, D: DataReader + Drop>(
+    alloc: Global,
+    store: &mut S,
+    base: &str,
+    save: &str,
+    head: Head,
+    filter: &Filter,
+    given: u64,
+) -> Result<u64, RunFault>
+    ensures staged { IfOk result (λ count. IsKnown (S.state store.old)
+        → IsKept D.spells filter.now ((S.state store.old).files base.now)
+        (IsStaged (S.state store.new) save.now head filter.now given count)) }
+    ensures stops { IfErr result (WriteStops D.goes_wrong D.is_long (IsKnown (S.state store.old))
+        ((S.state store.old).files base.now)) }
+    ensures frame { ReadsOften IsDeviceFault (S.state store.old) (S.state store.new) result }
+    ensures calls { IsKnown (S.state store.old) → MakesAtMost IsDeviceFault
+        (read_calls (bytes_in ((S.state store.old).files base.now))
+        + bytes_in ((S.state store.old).files base.now) + 4)
+        (S.state store.old) (S.state store.new) result }
+{
+    match begin(alloc, store, save) {
+        Ok(()) => {}
+        Err(fault) => return Err(fault),
+    }
+    let mut writer = BlockWriter::new(alloc);
+    match put_first(alloc, store, &mut writer, head, filter, given) {
+        Ok(()) => {}
+        Err(fault) => return Err(fault),
+    }
+    let count = match put_objects::<S, D>(alloc, store, base, &mut writer, filter) {
+        Ok(count) => count,
+        Err(fault) => return Err(fault),
+    };
+    match put_last(store, &mut writer) {
+        Ok(()) => Ok(count),
+        Err(fault) => Err(fault),
+    }
+}
+
+// Begins the file.
+fn begin<S: Store>(alloc: Global, store: &mut S, save: &str) -> Result<(), RunFault>
+    ensures begun { OnOk result (IsKnown (S.state store.old)
+        → (S.state store.new).stage ≡ Some (save.now, [])) }
+    ensures stops { IfErr result (PutStops Save) }
+    ensures frame { ReadsOften IsDeviceFault (S.state store.old) (S.state store.new) result }
+    ensures calls { MakesAtMost IsDeviceFault 1 (S.state store.old) (S.state store.new) result }
+{
+    match store.begin(alloc, save) {
+        Ok(()) => Ok(()),
+        Err(StoreError::Device) => Err(RunFault::WriteFault(FileName::Save)),
+        Err(StoreError::TooLarge) => unreachable!(),
+        Err(StoreError::WantOfMemory) => Err(RunFault::WantOfMemory),
+    }
+}
+
+/// Puts the file that was begun into its place.
+pub(crate) fn commit<S: Store>(store: &mut S) -> Result<(), RunFault>
+    ensures put { OnOk result (IsKnown (S.state store.old) → (name text : List ℕ)
+        → (S.state store.old).stage ≡ Some (name, text)
+        → Puts (S.state store.old).files name (Some text) (S.state store.new).files) }
+    ensures stops { IfErr result (PutStops Save) }
+    ensures frame { ReplacesOften IsDeviceFault (S.state store.old) (S.state store.new) result }
+    ensures spends { OnOk result (Spends 1 (S.state store.old).left (S.state store.new).left) }
+    ensures calls { MakesAtMost IsDeviceFault 1 (S.state store.old) (S.state store.new) result }
+{
+    match store.commit() {
+        Ok(()) => Ok(()),
+        Err(StoreError::Device) => Err(RunFault::WriteFault(FileName::Save)),
+        Err(StoreError::TooLarge) => unreachable!(),
+        Err(StoreError::WantOfMemory) => Err(RunFault::WantOfMemory),
+    }
+}
+
+// Adds bytes to the file.
+fn put<S: Store>(store: &mut S, writer: &mut BlockWriter, bytes: &[u8]) -> Result<(), RunFault>
+    ensures written { OnOk result (Writes (S.state store.old) writer.old
+        (S.state store.new) writer.new bytes.now) }
+    ensures stops { IfErr result (PutStops Save) }
+    ensures frame { ReadsOften IsDeviceFault (S.state store.old) (S.state store.new) result }
+    ensures calls { MakesAtMost IsDeviceFault 1 (S.state store.old) (S.state store.new) result }
+{
+    match writer.put(store, bytes) {
+        Ok(()) => Ok(()),
+        Err(fault) => Err(unwritten(fault)),
+    }
+}
+
+// Appends what waits to the file.
+fn flush<S: Store>(store: &mut S, writer: &mut BlockWriter) -> Result<(), RunFault>
+    ensures flushed { OnOk result (IsKnown (S.state store.old) → (name text : List ℕ)
+        → IsWritten (S.state store.old).stage writer.old name text
+        → (S.state store.new).stage ≡ Some (name, text)) }
+    ensures stops { IfErr result (PutStops Save) }
+    ensures frame { ReadsOften IsDeviceFault (S.state store.old) (S.state store.new) result }
+    ensures calls { MakesAtMost IsDeviceFault 1 (S.state store.old) (S.state store.new) result }
+{
+    match writer.flush(store) {
+        Ok(()) => Ok(()),
+        Err(fault) => Err(unwritten(fault)),
+    }
+}
+
+// The fault of a writer, which never calls a line or a file too long.
+fn unwritten(fault: BlockFault) -> RunFault
+    requires { blocks.IsPlain fault }
+    ensures stops { PutStops Save result }
+    ensures device { blocks.IsDeviceFault fault ↔ IsDeviceFault result }
+{
+    match fault {
+        BlockFault::Device => RunFault::WriteFault(FileName::Save),
+        BlockFault::LongLine | BlockFault::TooLarge => unreachable!(),
+        BlockFault::WantOfMemory => RunFault::WantOfMemory,
+    }
+}
+
+// Writes the lines before the objects.
+fn put_first<S: Store>(
+    alloc: Global,
+    store: &mut S,
+    writer: &mut BlockWriter,
+    head: Head,
+    filter: &Filter,
+    given: u64,
+) -> Result<(), RunFault>
+    ensures written { OnOk result (Writes (S.state store.old) writer.old
+        (S.state store.new) writer.new (first_text head filter.now given)) }
+    ensures stops { IfErr result (PutStops Save) }
+    ensures frame { ReadsOften IsDeviceFault (S.state store.old) (S.state store.new) result }
+    ensures calls { MakesAtMost IsDeviceFault 1 (S.state store.old) (S.state store.new) result }
+{
+    let lines = match first_lines(alloc, head, filter, given) {
+        Ok(lines) => lines,
+        Err(WantOfMemory) => return Err(RunFault::WantOfMemory),
+    };
+    put(store, writer, lines.as_slice())
+}
+
+#[tactic(auto, unfolding(crate::specs::Steps::Passes::first_text))]
+fn first_lines(
+    alloc: Global,
+    head: Head,
+    filter: &Filter,
+    given: u64,
+) -> Result<Vec<u8>, WantOfMemory>
+    ensures { IfOk result (λ lines. lines.items ≡ first_text head filter.now given) }
+{
+    let mut lines = Vec::new(alloc);
+    write_head(head, filter, &mut lines)?;
+    write_numbered(b"objects ", given, &mut lines)?;
+    Ok(lines)
+}
+
+// Writes the lines of the objects that the filter keeps, and gives their number.
+fn put_objects<S: Store, D: DataReader + Drop>(
+    alloc: Global,
+    store: &mut S,
+    base: &str,
+    writer: &mut BlockWriter,
+    filter: &Filter,
+) -> Result<u64, RunFault>
+    ensures written { IfOk result (λ count. IsKnown (S.state store.old)
+        → IsKept D.spells filter.now ((S.state store.old).files base.now) (AreWritten count
+        (Writes (S.state store.old) writer.old (S.state store.new) writer.new))) }
+    ensures stops { IfErr result (WriteStops D.goes_wrong D.is_long (IsKnown (S.state store.old))
+        ((S.state store.old).files base.now)) }
+    ensures frame { ReadsOften IsDeviceFault (S.state store.old) (S.state store.new) result }
+    ensures calls { IsKnown (S.state store.old) → MakesAtMost IsDeviceFault
+        (read_calls (bytes_in ((S.state store.old).files base.now))
+        + bytes_in ((S.state store.old).files base.now))
+        (S.state store.old) (S.state store.new) result }
+{
+    let mut reader: D = match open_base(alloc, store, base) {
+        Ok(reader) => reader,
+        Err(fault) => return Err(fault),
+    };
+    let mut lines = Vec::new(alloc);
+    let mut count: u64 = 0;
+    'batches: loop {
+        let objects = match next_objects(alloc, store, base, &mut reader) {
+            Ok(Some(objects)) => objects,
+            Ok(None) => return Ok(count),
+            Err(fault) => return Err(fault),
+        };
+        match put_kept(store, writer, filter, objects.as_slice(), &mut lines) {
+            Ok(()) => {}
+            Err(fault) => return Err(fault),
+        }
+        count = add_kept(filter, objects.as_slice(), count);
+    }
+}
+
+// Writes the lines of those of the objects that the filter keeps. `lines` is a buffer that all
+// calls share.
+fn put_kept<S: Store>(
+    store: &mut S,
+    writer: &mut BlockWriter,
+    filter: &Filter,
+    objects: &[Change],
+    lines: &mut Vec<u8>,
+) -> Result<(), RunFault>
+    ensures written { OnOk result (Writes (S.state store.old) writer.old
+        (S.state store.new) writer.new
+        (ended (map line_text (kept_objects filter.now objects.now)))) }
+    ensures stops { IfErr result (PutStops Save) }
+    ensures frame { ReadsOften IsDeviceFault (S.state store.old) (S.state store.new) result }
+    ensures calls { MakesAtMost IsDeviceFault 1 (S.state store.old) (S.state store.new) result }
+{
+    lines.clear();
+    match add_lines(filter, objects, lines) {
+        Ok(()) => {}
+        Err(WantOfMemory) => return Err(RunFault::WantOfMemory),
+    }
+    put(store, writer, lines.as_slice())
+}
+
+// Appends the lines of those of the objects that the filter keeps.
+fn add_lines(filter: &Filter, objects: &[Change], lines: &mut Vec<u8>) -> Result<(), WantOfMemory>
+    ensures { OnOk result (lines.new.items
+        ≡ lines.old.items ++ ended (map line_text (kept_objects filter.now objects.now))) }
+{
+    for object in objects {
+        add_line(filter, object, lines)?;
+    }
+    Ok(())
+}
+
+fn add_line(filter: &Filter, object: &Change, lines: &mut Vec<u8>) -> Result<(), WantOfMemory>
+    ensures { OnOk result (lines.new.items
+        ≡ lines.old.items ++ ended (map line_text (kept_objects filter.now (object.now ∷ [])))) }
+{
+    if filter.keeps(object) {
+        write_object(object, lines)?;
+    }
+    Ok(())
+}
+
+// Writes the lines after the objects, and all that waits.
+#[tactic(auto, unfolding(crate::specs::Steps::Passes::last_text))]
+fn put_last<S: Store>(store: &mut S, writer: &mut BlockWriter) -> Result<(), RunFault>
+    ensures staged { OnOk result (IsKnown (S.state store.old) → (name text : List ℕ)
+        → IsWritten (S.state store.old).stage writer.old name text
+        → (S.state store.new).stage ≡ Some (name, text ++ last_text)) }
+    ensures stops { IfErr result (PutStops Save) }
+    ensures frame { ReadsOften IsDeviceFault (S.state store.old) (S.state store.new) result }
+    ensures calls { MakesAtMost IsDeviceFault 2 (S.state store.old) (S.state store.new) result }
+{
+    match put(store, writer, b"users 0\nchangesets 0\nend\n") {
+        Ok(()) => {}
+        Err(fault) => return Err(fault),
+    }
+    match flush(store, writer) {
+        Ok(()) => Ok(()),
+        Err(fault) => Err(fault),
+    }
+}
