@@ -162,7 +162,7 @@ export_row given h extract save calls f (Absent file) lacks s there r =
 export_row given h extract save calls f (TooLarge file) lacks s there r = (
   r.1.0,
   r.0,
-  elim r.1.1 refl [
+  elim (r.1.1 refl) [
     | inl huge ↦ record {
       base = hist.base_of h;
       number = hist.number_of h;
