@@ -35,7 +35,7 @@ use Rattle.osm_follow.proofs.BeginLemmas.{all_are_kept, everything_left, keeps_a
 use Rattle.osm_follow.proofs.PublishedLemmas.{time_next}
 use Rattle.osm_follow.specs.Begin.{kept_objects}
 use Rattle.osm_follow.specs.Published.{PublishedValue, changes_after, changes_up_to, sequence_at}
-use Rattle.osm_beginning.specs.Beginning.{BeginStops, HasBegun, IsBase, IsBaseOf, IsBeginning, IsBegunFrom, IsStart, begun_save, handed_on, is_long_data, most_kept}
+use Rattle.osm_beginning.specs.Beginning.{BeginStops, HasBegun, IsBase, IsBaseOf, IsBegunFrom, IsStart, begun_save, handed_on, is_long_data, most_kept}
 use Rattle.osm_folder.specs.DataForms.{HasDataEnd, data_end_of, data_text_of, place_of_data, spells_data}
 use Rattle.osm_folder.specs.DataForms.{HasDataForm}
 use Rattle.osm_exporting.specs.Exporting.{IsExportOf, IsExported}

@@ -1,8 +1,8 @@
 -- Passes over a data file.
-use Rattle.std.proofs.Common.{◌≡◌, ℕ, ◌+◌, ◌<◌, ◌≤◌, List, [], ◌∷◌, ◌++◌, length, map, Option, Some, None, inl, inr, refl, sym, ap, subst, ◌∙◌, arith}
+use Rattle.std.proofs.Common.{◌≡◌, ℕ, ◌+◌, ◌<◌, ◌≤◌, List, [], ◌∷◌, ◌++◌, length, map, Option, Some, inl, inr, sym, ap, subst, ◌∙◌, arith}
 use Rattle.std.proofs.Common.{add-one, append_assoc, get_or, length-append, lit<, take}
 use Rattle.std.proofs.Math.Seq.{take-suc}
-use Rattle.std.specs.Prelude.{◌⊎◌, Bool, IsTrue, Result, Ok, Err, min}
+use Rattle.std.specs.Prelude.{Bool, IsTrue, Ok, Err, min}
 use Rattle.std.proofs.lemmas.List.{map-append}
 use Rattle.std.proofs.lemmas.List.Elements.{filter-append}
 use Rattle.std.proofs.lemmas.Option.{same_Some}
@@ -13,7 +13,7 @@ use Rattle.osm_save.specs.Lines.{ended}
 use Rattle.osm_save.proofs.TextLemmas.{ended-append}
 use Rattle.osm_store.specs.Files.{Files, HasFewer, Puts}
 use Rattle.osm_store.specs.Frames.{IsKnown, MakesAtMost, StoreState}
-use Rattle.osm_blocks.specs.Calls.{Advances, SpendsDown}
+use Rattle.osm_blocks.specs.Calls.{SpendsDown}
 use Rattle.osm_blocks.specs.Frames.{ReadsOften}
 use Rattle.osm_blocks.specs.Places.{HasFile}
 use Rattle.osm_blocks.specs.Writing.{IsWritten, Waiting}
@@ -23,11 +23,10 @@ use Rattle.osm_blocks.proofs.OftenLemmas.{often_then}
 use Rattle.osm_merge.specs.Calls.{bytes_in}
 use Rattle.osm_merge.specs.Laying.{Writes}
 use Rattle.osm_merge.proofs.FrameLemmas.{has_still, often_as, writes_after, writes_both}
-use Rattle.osm_data.specs.Reading.{NextStops, OpenStops, read_calls}
+use Rattle.osm_data.specs.Reading.{NextStops, OpenStops}
 use Rattle.osm_data.specs.declared.fault.DataFault.{DataFault}
 use Rattle.osm_data.specs.declared.fault.DataFault.TheVariants as faults
 use Rattle.osm_follow.specs.Begin.{kept_objects}
-use Rattle.osm_folder.specs.declared.fault.FileName.TheVariants.{Base, Save}
 use Rattle.osm_folder.specs.declared.fault.RunFault.{RunFault}
 use Rattle.osm_beginning.specs.Beginning.{most_kept}
 use Rattle.osm_beginning.specs.Steps.Passes.{AreTooMany, AreWritten, BaseStops, IsCountOf, IsKept, IsReading, IsReplaced, IsStaged, base_fault_of}
@@ -236,7 +235,8 @@ pub lines_next : (f : FilterValue) (begun now next : List ℕ) (taken longer : L
 lines_next f begun now next taken longer o parts is more =
     more ∙ (ap (λ (l : List ℕ). l ++ ended (map line_text (kept_objects f (o ∷ [])))) is
     ∙ (append_assoc begun (ended (map line_text (kept_objects f taken))) (ended (map line_text (kept_objects f (o ∷ []))))
-    ∙ ap (λ (l : List ℕ). begun ++ l) (sym (lines_append f taken (o ∷ [])) ∙ sym (ap (λ (l : List ChangeValue). ended (map line_text (kept_objects f l))) parts))))
+    ∙ ap (λ (l : List ℕ). begun ++ l) (sym (lines_append f taken (o ∷ []))
+    ∙ sym (ap (λ (l : List ChangeValue). ended (map line_text (kept_objects f l))) parts))))
 
 -- the lines of more objects were written
 pub written_more : {T E : Type 0} {blames : E → Type 0} (f : FilterValue) (begun state next after : StoreState) (w v u : Waiting) (x : T)

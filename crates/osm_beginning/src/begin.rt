@@ -1,6 +1,6 @@
 //! Beginning a save with a data file.
 
-ghost use Rattle.std.specs.Prelude.{◌≡◌, ◌<◌, ◌≤◌, ℕ, List, IfErr, IfOk, OnOk};
+ghost use Rattle.std.specs.Prelude.{◌≡◌, ◌<◌, ◌≤◌, ℕ, List, None, IfErr, IfOk, OnErr, OnOk};
 ghost use Rattle.osm_model.specs.ChangeForm.{SpellsNothing};
 ghost use Rattle.osm_store.specs.Files.{HasFewer, Spends};
 ghost use Rattle.osm_store.specs.Frames.{IsKnown, MakesAtMost};
@@ -133,6 +133,8 @@ fn begin_from<S: Store, D: DataReader + Drop>(
         (IsKnown (S.state store.old)) ((S.state store.old).files base.now)) }
     ensures nothing { (bytes : List ℕ) (place : ℕ)
         → D.goes_wrong bytes place → SpellsNothing D.spells bytes }
+    ensures dropped { OnErr result (IsKnown (S.state store.old)
+        → (S.state store.old).stage ≡ None → (S.state store.new).stage ≡ None) }
     ensures frame { ReplacesOften IsDeviceFault (S.state store.old) (S.state store.new) result }
     ensures spends { OnOk result (Spends 2 (S.state store.old).left (S.state store.new).left) }
     ensures calls { IsKnown (S.state store.old) → MakesAtMost IsDeviceFault

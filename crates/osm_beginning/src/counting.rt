@@ -29,6 +29,7 @@ pub(crate) fn count_kept<S: Store, D: DataReader + Drop>(
         → IsKept D.spells filter.now ((S.state store.old).files base.now) (IsCountOf count)) }
     ensures stops { IfErr result (BaseStops D.goes_wrong D.is_long (IsKnown (S.state store.old))
         ((S.state store.old).files base.now)) }
+    ensures stage { (S.state store.new).stage ≡ (S.state store.old).stage }
     ensures frame { ReadsOften IsDeviceFault (S.state store.old) (S.state store.new) result }
     ensures spends { OnOk result (Spends 1 (S.state store.old).left (S.state store.new).left) }
     ensures calls { IsKnown (S.state store.old) → MakesAtMost IsDeviceFault

@@ -1,8 +1,8 @@
 -- The two passes over a data file, and why they end early. `spells`, `goes_wrong` and `is_long` are
--- what the form of the data file says of bytes, `told` is what the data file holds, and `known` says
--- that this is known.
-use Rattle.std.specs.Prelude.{◌≡◌, ℕ, ◌+◌, ◌<◌, ◌≤◌, ◌⊎◌, List, [], ◌∷◌, ◌++◌, length, map, min, codes}
-use Rattle.std.specs.Prelude.{decimal, Option, Some, None}
+-- what the form of the data file says of bytes. `told` is what the data file holds, none if there
+-- is no such file, and `known` says that this is known.
+use Rattle.std.specs.Prelude.{◌≡◌, ℕ, ◌+◌, ◌<◌, ◌≤◌, ◌⊎◌, List, [], ◌∷◌, ◌++◌, length, map, min}
+use Rattle.std.specs.Prelude.{codes, decimal, Option, Some, None}
 use Rattle.osm_model.specs.Change.{ChangeValue}
 use Rattle.osm_model.specs.Filter.{FilterValue}
 use Rattle.osm_opl.specs.Written.{line_text}

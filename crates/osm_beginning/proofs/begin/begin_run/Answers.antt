@@ -1,4 +1,4 @@
-use Rattle.std.proofs.Common.{◌≡◌, subst, sym, ◌∙◌}
+use Rattle.std.proofs.Common.{subst, sym}
 use Rattle.std.specs.Prelude.{IsTrue}
 use Rattle.osm_model.specs.Filter.{IsFilter}
 use Rattle.osm_store.specs.Frames.{IsKnown}

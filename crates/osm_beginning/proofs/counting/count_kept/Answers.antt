@@ -1,4 +1,4 @@
-use Rattle.std.proofs.Common.{◌≤◌, ◌+◌, arith}
+use Rattle.std.proofs.Common.{◌∙◌, arith}
 use Rattle.osm_beginning.proofs.PassLemmas.{calls_end, count_more, passing_more}
 use Rattle.osm_beginning.specs.Steps.Passes.{IsCountOf}
 use Rattle.osm_data.specs.Reading.{read_calls}
@@ -29,6 +29,7 @@ batches-preserved g c = record {
       (λ file done has read. (c.in-Ok-Some.ensures.calls file has).spent)
       (λ done says. count_more c.args.filter.now c.batches.count c.add_kept-count.result done c.in-Ok-Some.objects.items says
       (rw c.as_slice.ensures.value at c.add_kept-count.ensures));
+  stage = c.in-Ok-Some.ensures.stage ∙ c.batches.invariant.stage;
   spends = spends_both 1 0 1 (g.S.Store.state c.args.store.now).left (g.S.Store.state c.batches.store).left
       (g.S.Store.state c.next_objects.new.store).left (omega arith) c.batches.invariant.spends c.in-Ok-Some.ensures.frame.left;
 }

@@ -1,3 +1,4 @@
+use Rattle.std.proofs.Common.{◌≡◌}
 use Rattle.osm_beginning.proofs.PassLemmas.{Passing}
 use Rattle.osm_beginning.specs.Steps.Passes.{IsCountOf}
 use Rattle.osm_data.specs.Reading.{read_calls}
@@ -10,6 +11,7 @@ abbrev pub invariant-batches : goal.invariant-batches
 invariant-batches g l = record {
   passing : Passing IsDeviceFault g.D.DataReader.has_read g.D.DataReader.calls_ahead read_calls (g.S.Store.state l.fn.store) (g.S.Store.state l.store)
       l.fn.base l.reader (λ done. IsCountOf l.count (kept_objects l.fn.filter done));
+  stage : (g.S.Store.state l.store).stage ≡ (g.S.Store.state l.fn.store).stage;
   spends : Spends 1 (g.S.Store.state l.fn.store).left (g.S.Store.state l.store).left;
 }
 

@@ -1,4 +1,4 @@
-use Rattle.std.proofs.Common.{◌≤◌, ◌<◌, ◌+◌, ℕ, List, length, refl, arith}
+use Rattle.std.proofs.Common.{◌+◌, arith}
 use Rattle.osm_beginning.proofs.PassLemmas.{calls_end, calls_fail, passing_begun, passing_more, written_more}
 use Rattle.osm_beginning.specs.Steps.Passes.{AreWritten}
 use Rattle.osm_blocks.proofs.CallLemmas.{down_lacks, down_of, down_then}

@@ -1,4 +1,4 @@
-use Rattle.std.proofs.Common.{◌≡◌, [], ap, refl, ◌∙◌}
+use Rattle.std.proofs.Common.{[], ap, refl, ◌∙◌}
 use Rattle.osm_beginning.proofs.PassLemmas.{kept_as, staged_as}
 use Rattle.osm_beginning.specs.Steps.Passes.{AreWritten, IsStaged, first_text, last_text}
 use Rattle.osm_merge.proofs.FrameLemmas.{known_still}
