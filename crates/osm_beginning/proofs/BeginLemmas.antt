@@ -307,7 +307,7 @@ pub handed : (own given : FilterValue) (save out state again : List ℕ) (before
 handed own given save out state again before after files new v time report saved time_is e at named b =
     let t : StateValue = record { sequence = v.number; time = time } in
     let held = e.made.held in
-    let here : IsSaved own (before save) held.saved = rw held.there held.spelled in
+    let here : IsSaved own (before save) held.saved = rw held.there held.spells in
     let same : held.saved ≡ v = one_saved own (before save) held.saved v here saved in
     let start : b.s ≡ t = same_start (files state) b.s t b.beginning.start.there named in
     let objects : b.beginning.objects ≡ v.mirror.objects =

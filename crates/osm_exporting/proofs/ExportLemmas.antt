@@ -1,17 +1,13 @@
 -- The objects of a save are data; what an export leaves, and why one stops.
-use Rattle.std.proofs.Common.{◌≡◌, ℕ, List, [], ◌∷◌, ◌++◌, map, Option, Some, None, inl, ap, sym, ◌∙◌, subst}
+use Rattle.std.proofs.Common.{◌≡◌, ℕ, List, [], ◌∷◌, Option, Some, None, inl, ap, sym, ◌∙◌, subst}
 use Rattle.std.specs.Prelude.{Ok}
 use Rattle.std.specs.List.{AllByRecursion}
-use Rattle.std.specs.List.Sorted.{IsStrictlySortedBy}
 use Rattle.std.proofs.lemmas.Option.{same_Some}
-use Rattle.std.specs.declared.cmp.Ordering.TheVariants.{Less}
 use Rattle.osm_blocks.specs.Frames.{ReadsOften}
 use Rattle.osm_blocks.specs.Places.{HasFile, Place, left_of}
 use Rattle.osm_model.specs.Change.{ChangeValue, IsChange}
-use Rattle.osm_model.specs.Data.{IsData, IsFirstFault, IsLeft}
+use Rattle.osm_model.specs.Data.{IsData, IsLeft}
 use Rattle.osm_model.specs.Filter.{FilterValue}
-use Rattle.osm_model.specs.KeyOrder.{key_cmp}
-use Rattle.osm_model.specs.declared.kind.Key.{Key}
 use Rattle.osm_mirror.specs.Mirror.{IsMirrorOf, IsObject}
 use Rattle.osm_follow.specs.Published.{PublishedValue, changes_after, changes_up_to}
 use Rattle.osm_save.specs.Save.{SpellsSave}
@@ -31,36 +27,8 @@ use Rattle.osm_exporting.specs.Exporting.{ExportStops, IsExportOf, IsExported}
 use Rattle.osm_exporting.specs.Steps.Copying.{Copies, IsAtObjects, PassStops, SavesNothing, object_lines_at}
 use Rattle.osm_exporting.proofs.PassLemmas.{lacks_all, lacks_nothing}
 
--- ---- data have no fault
+-- ---- the objects of a mirror are data
 
-all_up : {X : Type 0} (P : X → Type 0) (xs : List X) (x : X) (ys : List X) → AllByRecursion P (xs ++ x ∷ ys)
-    → AllByRecursion P (xs ++ x ∷ [])
-all_up P [] x ys all = (all.0, tt)
-all_up P (y ∷ xs) x ys all = (all.0, all_up P xs x ys all.1)
-
-keys_up : (k : Key) (xs : List ChangeValue) (x : ChangeValue) (ys : List ChangeValue)
-    → AllByRecursion (λ y. key_cmp k y ≡ Less) (map (λ (o : ChangeValue). o.key) (xs ++ x ∷ ys))
-    → AllByRecursion (λ y. key_cmp k y ≡ Less) (map (λ (o : ChangeValue). o.key) (xs ++ x ∷ []))
-keys_up k [] x ys all = (all.0, tt)
-keys_up k (y ∷ xs) x ys all = (all.0, keys_up k xs x ys all.1)
-
-rising_up : (xs : List ChangeValue) (x : ChangeValue) (ys : List ChangeValue)
-    → IsStrictlySortedBy key_cmp (map (λ (o : ChangeValue). o.key) (xs ++ x ∷ ys))
-    → IsStrictlySortedBy key_cmp (map (λ (o : ChangeValue). o.key) (xs ++ x ∷ []))
-unfolding IsStrictlySortedBy
-rising_up [] x ys rising = (tt, tt)
-rising_up (y ∷ xs) x ys rising = (keys_up y.key xs x ys rising.0, rising_up xs x ys rising.1)
-
-pub no_fault : (objects : List ChangeValue) (index : ℕ) → IsData objects → IsFirstFault objects index → ⊥
-no_fault objects index are fault =
-    let whole : IsData (fault.before ++ fault.change ∷ fault.after) = subst IsData fault.parts are in
-    fault.fault (record {
-      limits = all_up _ fault.before fault.change fault.after whole.limits;
-      left = all_up _ fault.before fault.change fault.after whole.left;
-      rising = rising_up fault.before fault.change fault.after whole.rising;
-    })
-
--- the objects of a mirror are data
 each_limits : (cs : List ChangeValue) → AllByRecursion IsObject cs → AllByRecursion IsChange cs
 each_limits [] all = tt
 each_limits (c ∷ cs) all = (all.0.limits, each_limits cs all.1)

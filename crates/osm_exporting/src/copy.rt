@@ -23,7 +23,7 @@ use osm_model::memory::WantOfMemory;
 use osm_store::store::{Store, StoreError};
 use std::alloc::Global;
 
-// As many bytes as are appended at once, or some more.
+// What was made is appended as soon as it has as many bytes.
 const BLOCK: usize = 65_536;
 
 /// Copies so many objects, whose lines are next, to the file that was begun, in that form.

@@ -15,8 +15,8 @@ use std::alloc::Global;
 // What a file in the form o5m begins with: reset, header, length 4, `o5m2`.
 const O5M_BEGINNING: [u8; 7] = [0xff, 0xe0, 4, 0x6f, 0x35, 0x6d, 0x32];
 
-// As many objects as fill a block.
-const BLOCK_OF_OBJECTS: usize = 32_768;
+// So many objects of the usual size fill a block of 64 KiB.
+const OBJECTS_IN_A_BLOCK: usize = 2_048;
 
 /// Makes the text of a data file, from which the bytes that were made are taken now and then.
 pub(crate) trait DataWriter {
@@ -96,7 +96,7 @@ pub(crate) fn o5m_writer(alloc: Global) -> Result<Writer, WantOfMemory>
     ensures { IfOk result (λ writer. (objects : List ChangeValue)
         → o5m_ahead writer objects ≡ o5m_text objects) }
 {
-    Writer::new(alloc, &O5M_BEGINNING, BLOCK_OF_OBJECTS)
+    Writer::new(alloc, &O5M_BEGINNING, OBJECTS_IN_A_BLOCK)
 }
 
 impl DataWriter for Writer {

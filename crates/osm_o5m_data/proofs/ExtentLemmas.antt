@@ -301,11 +301,11 @@ no_dataset_cut s (t ∷ bytes) h = elim (cut_is t bytes h) [
 
 -- the bytes end with those
 pub record EndsWith (bytes rest : List ℕ) : Type 0 where
-  pub front : List ℕ
-  pub parts : bytes ≡ front ++ rest
+  pub prefix : List ℕ
+  pub parts : bytes ≡ prefix ++ rest
 
 part_ends : (bytes : List ℕ) (x : List ℕ × List ℕ) → part_at bytes ≡ Some x → EndsWith bytes x.1
-part_ends bytes x e = let t = part_takes bytes x e in record { front = t.prefix; parts = t.parts }
+part_ends bytes x e = let t = part_takes bytes x e in record { prefix = t.prefix; parts = t.parts }
 
 object_ends : (k : Kind) (s : Reader) (bytes : List ℕ) (x : Given) → object_dataset_at k s bytes ≡ Some x → EndsWith bytes x.2
 unfolding object_dataset_at
@@ -324,10 +324,10 @@ other_ends t s bytes x e =
     subst (λ (q : Given). EndsWith bytes q.2) (same_Some (None, s, p.0.1) x p.2) (part_ends bytes p.0 p.1))
     (λ high is.
     chosen (ltb t 254) (Some (None, s, bytes)) (cond (eqb t 255) (Some (None, new_reader, bytes)) None) (Some x) is (EndsWith bytes x.2)
-    (λ low is. subst (λ (q : Given). EndsWith bytes q.2) (same_Some (None, s, bytes) x is) (record { front = []; parts = refl }))
+    (λ low is. subst (λ (q : Given). EndsWith bytes q.2) (same_Some (None, s, bytes) x is) (record { prefix = []; parts = refl }))
     (λ end is.
     chosen (eqb t 255) (Some (None, new_reader, bytes)) None (Some x) is (EndsWith bytes x.2)
-    (λ yes_reset is. subst (λ (q : Given). EndsWith bytes q.2) (same_Some (None, new_reader, bytes) x is) (record { front = []; parts = refl }))
+    (λ yes_reset is. subst (λ (q : Given). EndsWith bytes q.2) (same_Some (None, new_reader, bytes) x is) (record { prefix = []; parts = refl }))
     (λ no_reset is. absurd cc)))
 
 of_ends : (o : Option Kind) (t : ℕ) (s : Reader) (bytes : List ℕ) (x : Given) → dataset_of o t s bytes ≡ Some x → EndsWith bytes x.2
@@ -345,8 +345,8 @@ dataset_passes s [] x e = absurd cc
 dataset_passes s (t ∷ bytes) x e =
     let l : EndsWith bytes x.2 = of_ends (kind_of_byte t) t s bytes x e in
     record {
-      ends = record { front = t ∷ l.front; parts = ap (λ (m : List ℕ). t ∷ m) l.parts };
-      fewer = omega (arith, ap length l.parts, length-append l.front x.2);
+      ends = record { prefix = t ∷ l.prefix; parts = ap (λ (m : List ℕ). t ∷ m) l.parts };
+      fewer = omega (arith, ap length l.parts, length-append l.prefix x.2);
     }
 
 pub step_passes : (p q : Position) → step p ≡ Some q → Passes p.rest q.rest

@@ -54,14 +54,14 @@ pub stands_first : (held : Held) (bytes : List ℕ) (reader : Reader) (objects :
     → Stands held bytes reader objects bytes
 stands_first held bytes reader objects same none = record {
   part = rw none (none_follow held.last);
-  ends = record { front = []; parts = refl };
+  ends = record { prefix = []; parts = refl };
   comes = λ file done more has. rw (same, none, append-nil done) has.reached;
 }
 
 ends_on : (bytes rest after : List ℕ) → EndsWith bytes rest → EndsWith rest after → EndsWith bytes after
 ends_on bytes rest after a b = record {
-  front = a.front ++ b.front;
-  parts = a.parts ∙ ap (λ (l : List ℕ). a.front ++ l) b.parts ∙ sym (append_assoc a.front b.front after);
+  prefix = a.prefix ++ b.prefix;
+  parts = a.parts ∙ ap (λ (l : List ℕ). a.prefix ++ l) b.parts ∙ sym (append_assoc a.prefix b.prefix after);
 }
 
 pub stands_on : (held : Held) (bytes : List ℕ) (r s : Reader) (xs ys : List ChangeValue) (rest after : List ℕ) → Stands held bytes r xs rest
@@ -79,11 +79,11 @@ stands_on held bytes r s xs ys rest after stands whole e part = record {
 -- the rest of the bytes, by its size
 pub rest_is : (bytes rest : List ℕ) → EndsWith bytes rest → rest ≡ drop (length bytes - length rest) bytes
 rest_is bytes rest ends =
-    let size : length bytes - length rest ≡ length ends.front = omega (arith, ap length ends.parts, length-append ends.front rest) in
-    rw size (sym (ap (drop (length ends.front)) ends.parts ∙ drop_at ends.front rest (length ends.front) refl))
+    let size : length bytes - length rest ≡ length ends.prefix = omega (arith, ap length ends.parts, length-append ends.prefix rest) in
+    rw size (sym (ap (drop (length ends.prefix)) ends.parts ∙ drop_at ends.prefix rest (length ends.prefix) refl))
 
 pub rest_short : (bytes rest : List ℕ) → EndsWith bytes rest → length rest ≤ length bytes
-rest_short bytes rest ends = omega (arith, ap length ends.parts, length-append ends.front rest)
+rest_short bytes rest ends = omega (arith, ap length ends.parts, length-append ends.prefix rest)
 
 -- what was read after the block
 pub read_after : (held next : Held) (bytes : List ℕ) (reader : Reader) (objects : List ChangeValue) (rest : List ℕ) (passed : ℕ)

@@ -1,6 +1,6 @@
 //! The strings of a table, kept between two blocks of a file.
 
-ghost use Rattle.std.specs.Prelude.{◌≡◌, ◌+◌, ◌≤◌, [], ◌∷◌, ◌++◌, length, take, drop, IfOk, OnOk};
+ghost use Rattle.std.specs.Prelude.{◌≡◌, ◌≤◌, [], ◌∷◌, ◌++◌, length, drop, IfOk, OnOk};
 ghost use Rattle.osm_o5m_data.specs.Steps.Strings.{bytes_of, sizes_of, entry_at, size_in};
 
 use osm_model::memory::WantOfMemory;

@@ -1,9 +1,8 @@
 //! What a reader knows between two blocks of a file.
 
-ghost use Rattle.std.specs.Prelude.{◌≡◌, ◌↔◌, [], IfOk, IsTrue};
+ghost use Rattle.std.specs.Prelude.{◌≡◌, ◌↔◌, IfOk, IsTrue, None};
 ghost use Rattle.osm_o5c.specs.Steps.FileReading.{new_reader};
 ghost use Rattle.osm_o5m_data.specs.Steps.Reading.{Follows, last_after, reader_in};
-ghost use Rattle.std.specs.Prelude.{None};
 
 use crate::carried::Carried;
 use osm_model::change::Change;

@@ -167,7 +167,7 @@ pub add_fault : (file line : List ℕ) (more : List (List ℕ)) (so_far : SoFar)
     → HasPassed file (line ∷ more) objects so_far → 0 < count → so_far.bytes + count ≤ length file → AddStops line count so_far fault
     → NextStops DataFaultLine HasLongLine file fault
 add_fault file line more so_far count objects TooLarge p some within stop =
-    let high : 18446744073709551615 < so_far.bytes + count = stop some p.few in
+    let high : 18446744073709551615 < so_far.bytes + count = stop p.few in
     omega (arith, high, within)
 add_fault file line more so_far count objects Device p some within stop = tt
 add_fault file line more so_far count objects WantOfMemory p some within stop = tt

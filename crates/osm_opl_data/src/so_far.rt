@@ -40,6 +40,7 @@ impl SoFar {
         count: usize,
         objects: &mut Vec<Change>,
     ) -> Result<(), DataFault>
+        requires { 0 < count }
         ensures added { OnOk result (Adds line.now count self.old self.new
             objects.old.items objects.new.items) }
         ensures stops { IfErr result (AddStops line.now count self.old) }

@@ -66,5 +66,5 @@ pub record Adds (line : List ℕ) (count : ℕ) (old new : SoFar) (before after 
 -- why a line isn't passed
 abbrev pub AddStops : List ℕ → ℕ → SoFar → DataFault → Type 0
 AddStops line count old TooLarge =
-    0 < count → old.lines ≤ old.bytes → 18446744073709551615 < old.bytes + count
+    old.lines ≤ old.bytes → 18446744073709551615 < old.bytes + count
 AddStops line count old fault = LineStops line (old.lines + 1) old.last fault
