@@ -191,6 +191,11 @@ PUTS = tuple(command for number in range(1, 16) for command in (("change", node(
 EMPTY = save(0, *NOTHING)
 HEAD_WITH_A_KEY = lines(b"osmrepl-save 3", b"base 0", b"kinds w", b"keys 1", LONG, b"sequence 3",
                         b"time 2024-01-01T00:00:00Z")
+# The same save in each version, and one with a base.
+THIRD_VERSION = save(1, *ONE)
+SECOND_VERSION = THIRD_VERSION.replace(b"save 3", b"save 2").replace(b"kinds nwr\nkeys 0\n", b"")
+FIRST_VERSION = SECOND_VERSION.replace(b"save 2\nbase 0\n", b"save 1\n")
+WITH_A_BASE = save(2, *ONE).replace(b"base 0", b"base 1")
 COPIES = [("Mirror::objects", lines(*PLENTY[0])), ("Mirror::users", b"[(5, 3)]\n"),
           ("Mirror::changesets", b"[(7, 3)]\n"), ("Objects::to_vec", lines(*PLENTY[0])),
           ("Counts::to_vec", b"[(5, 3)]\n"), ("save_write", save(3, *PLENTY) + b"\n")]
@@ -200,7 +205,13 @@ MIRRORS = [
          refused={WANT: Refusal(left=is_partly_applied)}),
     *[Case("mirrors", call, answer=answer, before=(("saved", save(3, *PLENTY)),), left=save(3, *PLENTY))
       for call, answer in COPIES],
+    Case("mirrors", "save_write", answer=WITH_A_BASE + b"\n", before=(("saved", WITH_A_BASE),), left=WITH_A_BASE),
     Case("mirrors", "head_read", HEAD_WITH_A_KEY, b"3\n", left=EMPTY),
+    Case("mirrors", "head_read", b"osmrepl-save 3\nbase 0\nkinds nwr\nkeys 1\na\n", b"BadHead { line: 6 }\n",
+         left=EMPTY),
+    *[Case("mirrors", "save_read", text, b"done\n", left=EMPTY, after=THIRD_VERSION)
+      for text in (THIRD_VERSION, SECOND_VERSION, FIRST_VERSION)],
+    Case("mirrors", "save_read", WITH_A_BASE, b"done\n", left=EMPTY, after=WITH_A_BASE),
     Case("mirrors", "save_read", save(3, *PLENTY), b"done\n", left=EMPTY, after=save(3, *PLENTY)),
     Case("mirrors", "save_read", save(1, *MORE), b"done\n", left=EMPTY, after=save(1, *MORE)),
     Case("mirrors", "Objects::put", answer=b"done\n", before=(("change", NODE),), again=(("change", NODE),),
@@ -459,6 +470,15 @@ STILL = [
     ("forms", "read_text", b"twenty-two-bytes-long!", b"twenty-two-bytes-long!\n", ()),
     ("forms", "Opl::read", b"", b"", ()),
     ("forms", "O5c::read", BEGINNING + b"\xfe", b"", ()),
+    *[("mirrors", "head_read", text, b"1\n", ()) for text in (THIRD_VERSION, SECOND_VERSION, FIRST_VERSION)],
+    ("mirrors", "head_read", WITH_A_BASE, b"2\n", ()),
+    ("mirrors", "head_read", EMPTY, b"0\n", ()),
+    ("mirrors", "head_read", FIRST_VERSION[:FIRST_VERSION.index(b"objects") + 3], b"1\n", ()),
+    *[("mirrors", "head_read", text, b"BadHead { line: %d }\n" % line, ()) for text, line in (
+        (b"osmrepl-save 1\nsequence 1\ntime none\n", 3), (b"osmrepl-save 1\nsequence 1\n", 3),
+        (b"osmrepl-save 2\nsequence 1\n", 2), (b"osmrepl-save 2\nbase 2\nsequence 1\n", 3),
+        (b"osmrepl-save 3\nbase 0\nsequence 1\n", 3))],
+    ("mirrors", "save_read", EMPTY, b"done\n", ()),
     ("follower", "restart-from-nothing", b"", b"done\n", HOLDS),
     ("follower", "Follower::deliver::<Opl>", b"\0", b"BadState(MissingSequence)\n", ()),
     ("follower", "Follower::deliver::<Opl>", state(0) + b"\0", b"BadSequence\n", ()),

@@ -1,4 +1,4 @@
-//! Tests of the public calls of the folder and of saves: osm_folder, osm_round, osm_save.
+//! Tests of stores, of the names of errors, and of words that no command line passes on.
 #![tactic(auto)]
 
 #[cfg(test)]

@@ -1,8 +1,3 @@
-mod begin;
-mod files;
-mod filters;
-mod numbered;
-mod runs;
-mod save;
-mod shown;
-mod store;
+mod errors;
+mod stores;
+mod words;
