@@ -34,10 +34,6 @@ use Rattle.osm_folder.specs.declared.options.Layout.{Layout}
 use Rattle.osm_folder.specs.declared.options.Layout.TheVariants.{Lines}
 use Rattle.osm_json.specs.declared.line.Standing.{Standing}
 
--- the most bytes of a save that is read whole or begun: 1 GiB
-abbrev pub max_save : ℕ
-max_save = 1073741824
-
 -- all that there is, told in lines
 abbrev pub plainly : FilterValue → FollowOptions
 plainly given = record { filter = given; limit = None; layout = Lines }
@@ -203,13 +199,6 @@ pub record IsFollowReport (layout : Layout) (fault : Option (List ℕ)) (report 
 -- a save under the given filter can be read
 abbrev pub HasSave : FilterValue → List ℕ → Files → Type 0
 HasSave given save files = (v : Saved) × IsSaved given (files save) v × (v.filter ≡ given)
-
--- the save is no save text
-pub record IsBadSave (told : Option (List ℕ)) : Type 0 where
-  pub bytes : List ℕ
-  pub there : told ≡ Some bytes
-  pub small : length bytes ≤ max_save
-  pub nothing : (v : Saved) → SpellsSave bytes v → ⊥
 
 -- the top state is below the save
 pub record IsTopBehind (given : FilterValue) (dir save : List ℕ) (files : Files) : Type 0 where

@@ -13,9 +13,6 @@ use std::alloc::Global;
 /// The most bytes of a state file.
 pub const MAX_STATE: u64 = 65_536;
 
-/// The most bytes of a save that is read whole: 1 GiB.
-pub const MAX_SAVE: u64 = 1_073_741_824;
-
 // All bytes of a file, or `TooLarge` above the limit; None if there is no such file.
 pub(crate) fn read_file<S: Store>(
     alloc: Global,
@@ -101,8 +98,8 @@ pub(crate) fn is_there<S: Store>(
     }
 }
 
-/// Replaces the whole file with the bytes.
-pub fn write_file<S: Store>(
+// Replaces the whole file with the bytes.
+pub(crate) fn write_file<S: Store>(
     alloc: Global,
     store: &mut S,
     file: FileName,
