@@ -1,11 +1,12 @@
 //! Reading a data file in blocks, whatever its form.
 
-ghost use Rattle.std.specs.Prelude.{◌≡◌, ◌++◌, ◌+◌, ◌<◌, ◌≤◌, ℕ, List, [], length, IfErr, IfOk, OnOk};
+ghost use Rattle.std.specs.Prelude.{◌≡◌, ◌++◌, ◌+◌, ◌<◌, ◌≤◌, ℕ, List, [], length, IfErr, IfOk};
+ghost use Rattle.std.specs.Prelude.{IsSome, OnOk};
 ghost use Rattle.osm_model.specs.Change.{ChangeValue};
 ghost use Rattle.osm_model.specs.ChangeForm.{SpellsNothing};
 ghost use Rattle.osm_model.specs.Data.{IsData};
 ghost use Rattle.osm_store.specs.Files.{Spends};
-ghost use Rattle.osm_store.specs.Frames.{MakesAtMost};
+ghost use Rattle.osm_store.specs.Frames.{IsKnown, MakesAtMost};
 ghost use Rattle.osm_blocks.specs.Calls.{Advances};
 ghost use Rattle.osm_blocks.specs.Frames.{ReadsOften};
 ghost use Rattle.osm_blocks.specs.Places.{HasFile};
@@ -44,6 +45,8 @@ pub trait DataReader: Sized {
     fn open<S: Store>(alloc: Global, store: &mut S, name: &str) -> Result<Self, DataFault>
         ensures opened { IfOk result (λ reader. (file : List ℕ)
             → HasFile (S.state store.old) name.now file → has_read reader file []) }
+        ensures there { IfOk result (λ reader. IsKnown (S.state store.old)
+            → IsSome ((S.state store.old).files name.now)) }
         ensures left { IfOk result (λ reader. (file : List ℕ)
             → HasFile (S.state store.old) name.now file → bytes_left reader file ≤ length file) }
         ensures ahead { IfOk result (λ reader. (file : List ℕ)
