@@ -9,7 +9,7 @@ use std::alloc::Global;
 type Given = Result<Option<&'static [u8]>, StoreError>;
 
 // A call of a store about the file of that name, and its answer.
-#[derive(Clone, Copy, Debug)]
+#[derive(Clone, Copy)]
 enum Call {
     // Of all bytes, at most so many.
     Read(&'static str, u64, Given),
