@@ -1,7 +1,7 @@
 //! The datasets that are whole in the bytes that were read of a file.
 
 ghost use Rattle.std.specs.Prelude.{◌≡◌, ◌++◌, ◌<◌, ◌≤◌, ℕ, List, Some, drop, length};
-ghost use Rattle.std.specs.Prelude.{IfErr, IfOk, OnOk};
+ghost use Rattle.std.specs.Prelude.{IfErr, IfOk, IsTrue, OnOk, false};
 ghost use Rattle.osm_model.specs.Change.{ChangeValue};
 ghost use Rattle.osm_o5c.specs.Steps.FileReading.{position, step};
 ghost use Rattle.osm_o5m_data.specs.declared.extents.Extent.TheVariants as extents;
@@ -50,7 +50,12 @@ impl FileLimits for DataFile {
     fn laws() {}
 }
 
-/// Reads the datasets at the start of the bytes, as long as they are whole; at least the first is.
+/// The bytes with which a call reads no further dataset: 256 KiB. A reference of a byte or two may
+/// name a string of 250, so the objects can take some hundred times as much memory.
+const PORTION: usize = 262_144;
+
+/// Reads the datasets at the start of the bytes, as long as they are whole, up to the one with which
+/// they are a portion; at least the first is.
 pub fn read_datasets(alloc: Global, held: &Held, bytes: &[u8]) -> Result<Found, Stop>
     requires { extent_at bytes.now ≡ extents.Whole }
     ensures read { IfOk result (λ found. (file : List ℕ) (done : List ChangeValue) (more : List ℕ)
@@ -69,7 +74,7 @@ pub fn read_datasets(alloc: Global, held: &Held, bytes: &[u8]) -> Result<Found, 
     };
     let mut objects = Vec::new(alloc);
     let mut rest = bytes;
-    while is_whole(rest) {
+    while is_next(bytes, rest) {
         match read_one(alloc, held, &mut reader, &mut objects, rest) {
             Ok(after) => {
                 rest = after;
@@ -90,6 +95,15 @@ pub fn read_datasets(alloc: Global, held: &Held, bytes: &[u8]) -> Result<Found, 
         held,
         passed,
     })
+}
+
+// Whether another dataset is read: the bytes before it aren't a portion, and it is whole.
+fn is_next(bytes: &[u8], rest: &[u8]) -> bool
+    ensures whole { IsTrue result → extent_at rest.now ≡ extents.Whole }
+    ensures passed { result ≡ false → extent_at rest.now ≡ extents.Whole
+        → length rest.now < length bytes.now }
+{
+    bytes.len().saturating_sub(rest.len()) < PORTION && is_whole(rest)
 }
 
 // Reads one dataset, adds its object to the others if it has one, and returns what follows it.

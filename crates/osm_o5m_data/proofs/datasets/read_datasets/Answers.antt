@@ -15,14 +15,14 @@ loop-reader-smaller c = (step_passes (position c.loop-reader.reader c.loop-reade
 
 pub loop-reader-preserved : goal.loop-reader-preserved
 loop-reader-preserved c =
-    let whole : extent_at c.loop-reader.rest.now ≡ Whole = c.is_whole.ensures.0 c.loop-reader-test.true in
+    let whole : extent_at c.loop-reader.rest.now ≡ Whole = c.is_next.ensures.whole c.loop-reader-test.true in
     stands_on c.args.held.now c.args.bytes.now c.loop-reader.reader c.read_one.new.reader c.loop-reader.objects.items
     c.read_one.new.objects.items c.loop-reader.rest.now c.in-Ok-read_one.after.now c.loop-reader.invariant whole
     c.in-Ok-read_one.ensures.ok c.in-Ok-read_one.ensures.right
 
 pub returns-in-Err-Fault-clause-stops : goal.returns-in-Err-Fault-clause-stops
 returns-in-Err-Fault-clause-stops c =
-    let whole : extent_at c.loop-reader.rest.now ≡ Whole = c.is_whole.ensures.0 c.loop-reader-test.true in
+    let whole : extent_at c.loop-reader.rest.now ≡ Whole = c.is_next.ensures.whole c.loop-reader-test.true in
     stops_there c.args.held.now c.args.bytes.now c.loop-reader.reader c.loop-reader.objects.items c.loop-reader.rest.now
     c.loop-reader.invariant whole (rw c.in-Err-Fault.field-0-is at c.in-Err-Fault.ensures.refused)
 
