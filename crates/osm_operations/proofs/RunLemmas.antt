@@ -29,6 +29,7 @@ use Rattle.osm_folder.specs.Names.{file_name_of, top_name_of}
 use Rattle.osm_folder.specs.Numbered.{IsAddedAs, IsPublishedAs, NumberedOut, NumberedRefuses, NumberedStops, SpendsExactly, numbered_calls}
 use Rattle.osm_folder.specs.Publication.{FolderRefuses, GoesOnFrom, IsPublished, PublishOut, PublishStops}
 use Rattle.osm_folder.specs.Reports.{ReportValue, convert_report_of}
+use Rattle.osm_folder.specs.declared.fault.FileName.TheVariants as names
 use Rattle.osm_folder.specs.declared.fault.RunFault.{RunFault}
 use Rattle.osm_operations.specs.Steps.Stepping.{BeginStep, ExportStep, Exports, LacksCallsToBegin, StopsBeginning, state_name_of}
 use Rattle.osm_operations.specs.Steps.Stepping.{AreChangesPut, FollowStep, HasCalls, IsNumberText, IsReportOf, NumberedStep}
@@ -278,7 +279,7 @@ made_lacks most left old new (Err fault) known some makes = subst (λ o. LacksCa
 
 -- why the device has no state to read
 abbrev pub LacksState : StoreState → RunFault → Type 0
-LacksState old fault = fault ≡ ReadFault State → IsKnown old → HasFewer 1 old.left
+LacksState old fault = fault ≡ ReadFault names.State → IsKnown old → HasFewer 1 old.left
 
 none_left : (left : Option ℕ) (calls : ℕ) → left ≡ Some calls → HasFewer 1 left → calls ≡ 0
 none_left left calls some few = let less : calls < 1 = subst (HasFewer 1) some few in omega (arith, less)
