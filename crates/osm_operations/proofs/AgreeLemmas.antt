@@ -196,7 +196,6 @@ extract_before p given x (Some number) extract was told within s = record {
   named = s.named;
   objects = s.objects;
   are_data = s.are_data;
-  fits = s.fits;
   content = λ k. s.content k ∙ ap (λ cs. kept_object given (content_of cs k)) (sym (changes_within p (x ∷ []) number within));
   text = s.text;
 }
