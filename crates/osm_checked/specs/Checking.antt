@@ -1,5 +1,5 @@
--- A save that a run reads, and why it isn't read. `known` says that it is known what the files hold,
--- and `told` is then what the save holds, none if there is no such file.
+-- A save that a run reads, and why it isn't read. `known` says that it is known what the files
+-- hold, and `told` is then what the save holds, none if there is no such file.
 use Rattle.std.specs.Prelude.{◌≡◌, ℕ, ◌⊎◌, List, Option, Some, None}
 use Rattle.osm_save.specs.Save.{SpellsSave}
 use Rattle.osm_save.specs.declared.save.Saved.{Saved}

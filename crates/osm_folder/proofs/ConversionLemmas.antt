@@ -3,7 +3,7 @@ use Rattle.std.proofs.Common.{◌≡◌, ℕ, ◌≤◌, List, Some, length, inr
 use Rattle.osm_model.specs.Limits.{max_file}
 use Rattle.osm_folder.specs.Conversion.{HaveForms, IsConvertible, ConvertStops}
 use Rattle.osm_store.specs.Files.{Files}
-use Rattle.osm_folder.specs.Forms.{ConvertRefused, HasEnd}
+use Rattle.osm_folder.specs.Forms.{BytesStop, HasEnd}
 use Rattle.osm_folder.specs.Steps.Reading.{PutStops}
 use Rattle.osm_folder.specs.declared.fault.FileName.TheVariants.{Input, Output}
 use Rattle.osm_folder.specs.declared.fault.RunFault.{RunFault}
@@ -12,7 +12,7 @@ use Rattle.osm_folder.specs.declared.form.Form.{Form}
 
 pub text_stops : (known : Type 0) (input output bytes : List ℕ) (files : Files) (from to : Form) → HasEnd input from
     → HasEnd output to → (known → files input ≡ Some bytes) → length bytes ≤ max_file → (fault : RunFault)
-    → ConvertRefused from to bytes fault → ConvertStops known input output files fault
+    → BytesStop from to bytes fault → ConvertStops known input output files fault
 text_stops known input output bytes files from to f g there small WantOfMemory r = record { from = from; to = to; input_form = f; output_form = g }
 text_stops known input output bytes files from to f g there small (TooLarge Input) r = absurd (omega arith)
 text_stops known input output bytes files from to f g there small (TooLarge Output) r =

@@ -12,7 +12,7 @@ use Rattle.osm_store.specs.Files.{Files, prefix_of}
 use Rattle.osm_folder.specs.Folder.{IsFolderOf}
 use Rattle.osm_folder.specs.Following.{IsSaveOf, IsSaved, standing_at}
 use Rattle.osm_folder.specs.Following.{TopStateStops}
-use Rattle.osm_folder.specs.Lagging.{IsBadHead, IsBegun, IsHead, IsLag, IsLagOf, LagRefuses, LagStops, standing_from}
+use Rattle.osm_folder.specs.Lagging.{IsBadHead, IsBegun, IsHead, IsLag, IsLagOf, LagStopsOver, LagStops, standing_from}
 use Rattle.osm_folder.specs.Names.{top_name_of}
 use Rattle.osm_folder.specs.Reports.{ReportValue, lag_told}
 use Rattle.osm_folder.specs.Steps.Lagging.{HeadStops, HeadTextStops, IsTold, ToldStops}
@@ -135,7 +135,7 @@ no_bad_head given (Some bytes) v s b = b.nothing (head_of v) (rw (← same_Some 
 
 pub lag_refuses : (given : FilterValue) (ps : List PublishedValue) (base number : ℕ) (dir save : List ℕ) (files : Files) (known : Type 0)
     (fault : RunFault) → NoFaultBesideState → known → IsFolderOf ps files dir → IsSaveOf ps given base number (files save)
-    → LagStops known dir save files fault → LagRefuses ps number fault
+    → LagStops known dir save files fault → LagStopsOver ps number fault
 lag_refuses given ps base number dir save files known WantOfMemory law sure folder saved h = tt
 lag_refuses given ps base number dir save files known (ReadFault file) law sure folder saved h = tt
 lag_refuses given ps base number dir save files known (BadSave line) law sure folder saved h = no_bad_head given (files save) saved.value saved.saved (h sure)

@@ -27,7 +27,7 @@ use Rattle.osm_folder.specs.Folder.{IsAbsentOr, IsFile, IsFolderOf, IsThere, IsT
 use Rattle.osm_folder.specs.Following.{is_lost}
 use Rattle.osm_folder.specs.Names.{file_name_of, top_name_of}
 use Rattle.osm_folder.specs.Numbered.{IsAddedAs, IsAsked, IsAskedWith, IsPublishedIn, IsRepeatOf, IsRepeated}
-use Rattle.osm_folder.specs.Numbered.{IsToWrite, NotNumbered, NumberedRefuses, PutsSequence}
+use Rattle.osm_folder.specs.Numbered.{IsToWrite, NotNumbered, NumberedStopsOver, PutsSequence}
 use Rattle.osm_folder.specs.Publication.{CutsOff, GoesOnFrom, Writes, writes_of}
 use Rattle.osm_folder.specs.Reports.{ReportValue, publish_report_of}
 use Rattle.osm_folder.specs.Steps.Numbering.{PrepareStops}
@@ -332,7 +332,7 @@ asked_own ps dir changes now sequence files top time k p asked number is above w
 
 pub numbered_refuses : NoFaultBesideState → (known : Type 0) (ps : List PublishedValue)
     (dir changes now sequence : List ℕ) (files : Files) (fault : RunFault) → known → IsFolderOf ps files dir
-    → NotNumbered known dir changes now sequence files fault → NumberedRefuses ps dir changes now sequence files fault
+    → NotNumbered known dir changes now sequence files fault → NumberedStopsOver ps dir changes now sequence files fault
 numbered_refuses law known ps dir changes now sequence files BadNow sure is h = h
 numbered_refuses law known ps dir changes now sequence files BadSequence sure is h = h.1
 numbered_refuses law known ps dir changes now sequence files WantOfMemory sure is h = tt
@@ -367,7 +367,7 @@ numbered_refuses law known ps dir changes now sequence files (Differs number) su
 numbered_refuses law known ps dir changes now sequence files fault sure is h = absurd h
 
 pub cut_refuses : (ps : List PublishedValue) (dir changes now sequence : List ℕ) (files : Files) (number count : ℕ)
-    (fault : RunFault) → CutsOff number count fault → NumberedRefuses ps dir changes now sequence files fault
+    (fault : RunFault) → CutsOff number count fault → NumberedStopsOver ps dir changes now sequence files fault
 cut_refuses ps dir changes now sequence files number count WantOfMemory h = tt
 cut_refuses ps dir changes now sequence files number count (WriteFault file) h = tt
 cut_refuses ps dir changes now sequence files number count fault h = absurd h

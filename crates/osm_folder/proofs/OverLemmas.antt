@@ -4,8 +4,8 @@ use Rattle.std.specs.Prelude.{Result, Ok, Err, IfErr, IfOk, OnErr}
 use Rattle.osm_follow.specs.Published.{PublishedValue}
 use Rattle.osm_store.specs.Files.{Files}
 use Rattle.osm_folder.specs.Folder.{IsFolderOf}
-use Rattle.osm_folder.specs.Numbered.{IsAddedAs, NumberedRefuses, PublishesAsOver}
-use Rattle.osm_folder.specs.Publication.{FolderRefuses, IsAdded, PublishesOver}
+use Rattle.osm_folder.specs.Numbered.{IsAddedAs, NumberedStopsOver, PublishesAsOver}
+use Rattle.osm_folder.specs.Publication.{PublishStopsOver, IsAdded, PublishesOver}
 use Rattle.osm_folder.specs.Reports.{ReportValue}
 use Rattle.osm_folder.specs.declared.fault.RunFault.{RunFault}
 
@@ -19,7 +19,7 @@ publish_adds known dir changes now old new (Err fault) over = tt
 
 pub publish_refuses : (known : Type 0) (dir changes now : List ℕ) (old new : Files) (r : Result ReportValue RunFault)
     → (known → (p : List PublishedValue) → IsFolderOf p old dir → PublishesOver p dir changes now old new r)
-    → IfErr r (λ fault. known → (p : List PublishedValue) → IsFolderOf p old dir → FolderRefuses p now fault)
+    → IfErr r (λ fault. known → (p : List PublishedValue) → IsFolderOf p old dir → PublishStopsOver p now fault)
 publish_refuses known dir changes now old new (Ok report) over = tt
 publish_refuses known dir changes now old new (Err fault) over = λ sure p is. (over sure p is).refuses
 
@@ -41,7 +41,7 @@ number_adds known dir changes now sequence old new (Err fault) over = tt
 pub number_refuses : (known : Type 0) (dir changes now sequence : List ℕ) (old new : Files) (r : Result ReportValue RunFault)
     → (known → (p : List PublishedValue) → IsFolderOf p old dir → PublishesAsOver p dir changes now sequence old new r)
     → IfErr r (λ fault. known → (p : List PublishedValue) → IsFolderOf p old dir
-    → NumberedRefuses p dir changes now sequence old fault)
+    → NumberedStopsOver p dir changes now sequence old fault)
 number_refuses known dir changes now sequence old new (Ok report) over = tt
 number_refuses known dir changes now sequence old new (Err fault) over = λ sure p is. (over sure p is).refuses
 

@@ -10,7 +10,7 @@ use Rattle.osm_state.specs.declared.state_text.StateError.{StateError}
 use Rattle.osm_store.specs.Files.{Files, IsOver}
 use Rattle.osm_folder.specs.Folder.{IsFolderOf, IsTop, max_state}
 use Rattle.osm_folder.specs.Names.{top_name_of}
-use Rattle.osm_folder.specs.Publication.{CutsOff, FolderRefuses, GoesOnFrom, IsBadState, IsBeforeLast, NotReady}
+use Rattle.osm_folder.specs.Publication.{CutsOff, PublishStopsOver, GoesOnFrom, IsBadState, IsBeforeLast, NotReady}
 use Rattle.osm_folder.specs.declared.fault.RunFault.{RunFault}
 use Rattle.osm_folder.specs.declared.fault.RunFault.TheVariants.{WantOfMemory, ReadFault, WriteFault, TooLarge, Absent}
 use Rattle.osm_folder.specs.declared.fault.RunFault.TheVariants.{BadState, BadChange, TimeBack, SequenceFull, BadNow}
@@ -43,7 +43,7 @@ before_last p (Some bytes) now number last time (inr a) g is back =
     record { time = time; now_is = is; some = a.0; before = omega (arith, same, back) }
 
 pub not_ready : NoFaultBesideState → (known : Type 0) (p : List PublishedValue) (dir changes now : List ℕ) (f : Files)
-    (fault : RunFault) → known → IsFolderOf p f dir → NotReady known dir changes now f fault → FolderRefuses p now fault
+    (fault : RunFault) → known → IsFolderOf p f dir → NotReady known dir changes now f fault → PublishStopsOver p now fault
 not_ready law known p dir changes now f BadNow known_now is h = h
 not_ready law known p dir changes now f WantOfMemory known_now is h = tt
 not_ready law known p dir changes now f (ReadFault file) known_now is h = tt
@@ -63,7 +63,7 @@ not_ready law known p dir changes now f TimeBack known_now is h =
     before_last p (f (top_name_of dir)) now r.publisher.number r.publisher.time r.time is.top r.read.goes_on r.read.now_is r.is_so.1
 not_ready law known p dir changes now f fault known_now is h = absurd h
 
-pub cut_off : (p : List PublishedValue) (now : List ℕ) (number count : ℕ) (fault : RunFault) → CutsOff number count fault → FolderRefuses p now fault
+pub cut_off : (p : List PublishedValue) (now : List ℕ) (number count : ℕ) (fault : RunFault) → CutsOff number count fault → PublishStopsOver p now fault
 cut_off p now number count WantOfMemory h = tt
 cut_off p now number count (WriteFault file) h = tt
 cut_off p now number count fault h = absurd h

@@ -1,7 +1,7 @@
 -- The two forms of change files, the names that tell the form, and conversion.
 use Rattle.std.specs.Prelude.{◌≡◌, ℕ, ◌<◌, ◌≤◌, List, ◌++◌, length, codes}
 use Rattle.osm_model.specs.Change.{ChangeValue}
-use Rattle.osm_model.specs.ChangeForm.{ReadRefused, SpellsNothing, WriteRefused}
+use Rattle.osm_model.specs.ChangeForm.{ReadStops, SpellsNothing, WriteStops}
 use Rattle.osm_model.specs.Limits.{max_file}
 use Rattle.osm_model.specs.declared.form.FormError.{FormError}
 use Rattle.osm_o5c.specs.File.{FaultPlace, SpellsO5c}
@@ -40,12 +40,12 @@ place_of Opl = FaultLine
 place_of O5c = FaultPlace
 
 -- when a file of that form isn't read
-abbrev pub ReadFails : Form → List ℕ → FormError → Type 0
-ReadFails form = ReadRefused (spells_of form) (place_of form)
+abbrev pub FormReadStops : Form → List ℕ → FormError → Type 0
+FormReadStops form = ReadStops (spells_of form) (place_of form)
 
 -- when a batch isn't written in that form
-abbrev pub WriteFails : Form → List ChangeValue → FormError → Type 0
-WriteFails form batch = WriteRefused (text_of form batch)
+abbrev pub FormWriteStops : Form → List ChangeValue → FormError → Type 0
+FormWriteStops form batch = WriteStops (text_of form batch)
 
 -- the text is the written text of the batch that the bytes spell
 pub record Converts (from to : Form) (bytes text : List ℕ) : Type 0 where
@@ -67,9 +67,9 @@ pub record IsFaulty (form : Form) (bytes : List ℕ) (place : ℕ) : Type 0 wher
   pub is_place : place_of form bytes place
 
 -- why bytes aren't converted
-abbrev pub ConvertRefused : Form → Form → List ℕ → RunFault → Type 0
-ConvertRefused from to bytes WantOfMemory = length bytes ≤ max_file
-ConvertRefused from to bytes (TooLarge Input) = max_file < length bytes
-ConvertRefused from to bytes (TooLarge Output) = IsOutputTooLarge from to bytes
-ConvertRefused from to bytes (BadChange Input place why) = IsFaulty from bytes place
-ConvertRefused from to bytes fault = ⊥
+abbrev pub BytesStop : Form → Form → List ℕ → RunFault → Type 0
+BytesStop from to bytes WantOfMemory = length bytes ≤ max_file
+BytesStop from to bytes (TooLarge Input) = max_file < length bytes
+BytesStop from to bytes (TooLarge Output) = IsOutputTooLarge from to bytes
+BytesStop from to bytes (BadChange Input place why) = IsFaulty from bytes place
+BytesStop from to bytes fault = ⊥

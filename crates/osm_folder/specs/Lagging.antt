@@ -123,17 +123,17 @@ pub record IsLagOf (layout : Layout) (published : List PublishedValue) (base num
 -- why a lag is refused over the folder of published sequences and a save in step with them:
 -- besides memory and the device, only that nothing was published yet, or that the last time is
 -- below the save's
-abbrev pub LagRefuses : List PublishedValue → ℕ → RunFault → Type 0
-LagRefuses published number WantOfMemory = Unit {0}
-LagRefuses published number (ReadFault file) = Unit {0}
-LagRefuses published number (Absent file) = (file ≡ Top) × (length published ≡ 0)
-LagRefuses published number TimeBehind =
+abbrev pub LagStopsOver : List PublishedValue → ℕ → RunFault → Type 0
+LagStopsOver published number WantOfMemory = Unit {0}
+LagStopsOver published number (ReadFault file) = Unit {0}
+LagStopsOver published number (Absent file) = (file ≡ Top) × (length published ≡ 0)
+LagStopsOver published number TimeBehind =
     (time : ℕ) × (time_at published number ≡ Some time)
     × ((sequence_at published (length published)).time < time)
-LagRefuses published number fault = ⊥
+LagStopsOver published number fault = ⊥
 
 -- what a run does over them: it tells the lag, or is refused
 pub record LagsOver (layout : Layout) (published : List PublishedValue) (base number : ℕ)
     (result : Result ReportValue RunFault) : Type 0 where
   pub in_step : IfOk result (IsLagOf layout published base number)
-  pub refuses : IfErr result (LagRefuses published number)
+  pub refuses : IfErr result (LagStopsOver published number)

@@ -214,35 +214,35 @@ pub record IsRepeatOf (files : Files) (dir changes now : List ℕ) (p : Publishe
 
 -- why a publication by number into the folder of published sequences is refused: never for a fault
 -- in its state
-abbrev pub NumberedRefuses : List PublishedValue → List ℕ → List ℕ → List ℕ → List ℕ → Files
+abbrev pub NumberedStopsOver : List PublishedValue → List ℕ → List ℕ → List ℕ → List ℕ → Files
     → RunFault → Type 0
-NumberedRefuses published dir changes now sequence files BadNow =
+NumberedStopsOver published dir changes now sequence files BadNow =
     (time : ℕ) → TimeText now time → ⊥
-NumberedRefuses published dir changes now sequence files BadSequence =
+NumberedStopsOver published dir changes now sequence files BadSequence =
     (number : ℕ) → SpellsSequence sequence number → ⊥
-NumberedRefuses published dir changes now sequence files WantOfMemory = Unit {0}
-NumberedRefuses published dir changes now sequence files (ReadFault file) = Unit {0}
-NumberedRefuses published dir changes now sequence files (WriteFault file) = Unit {0}
-NumberedRefuses published dir changes now sequence files (Absent file) = file ≡ Changes
-NumberedRefuses published dir changes now sequence files (TooLarge file) = file ≡ Changes
-NumberedRefuses published dir changes now sequence files (BadChange file place why) =
+NumberedStopsOver published dir changes now sequence files WantOfMemory = Unit {0}
+NumberedStopsOver published dir changes now sequence files (ReadFault file) = Unit {0}
+NumberedStopsOver published dir changes now sequence files (WriteFault file) = Unit {0}
+NumberedStopsOver published dir changes now sequence files (Absent file) = file ≡ Changes
+NumberedStopsOver published dir changes now sequence files (TooLarge file) = file ≡ Changes
+NumberedStopsOver published dir changes now sequence files (BadChange file place why) =
     file ≡ Changes
-NumberedRefuses published dir changes now sequence files TimeBack =
+NumberedStopsOver published dir changes now sequence files TimeBack =
     SpellsSequence sequence (length published + 1) × IsBeforeLast published now
-NumberedRefuses published dir changes now sequence files (TopAt top) =
+NumberedStopsOver published dir changes now sequence files (TopAt top) =
     (top ≡ length published)
     × ((number : ℕ) × SpellsSequence sequence number × ((number ≡ 0) ⊎ (top + 1 < number)))
-NumberedRefuses published dir changes now sequence files (Differs number) =
+NumberedStopsOver published dir changes now sequence files (Differs number) =
     SpellsSequence sequence number × (0 < number) × (number ≤ length published)
     × (IsRepeatOf files dir changes now (sequence_at published number) → ⊥)
-NumberedRefuses published dir changes now sequence files fault = ⊥
+NumberedStopsOver published dir changes now sequence files fault = ⊥
 
 -- what a publication by number into that folder does: the sequence is added or is there already, or
 -- it is refused, and the folder is still that of what was published before
 pub record PublishesAsOver (published : List PublishedValue) (dir changes now sequence : List ℕ)
     (old new : Files) (result : Result ReportValue RunFault) : Type 0 where
   pub added : IfOk result (IsAddedAs published dir changes now sequence old new)
-  pub refuses : IfErr result (NumberedRefuses published dir changes now sequence old)
+  pub refuses : IfErr result (NumberedStopsOver published dir changes now sequence old)
   pub keeps : OnErr result (IsFolderOf published new dir)
 
 -- how many calls of the store a publication by number makes if it is done

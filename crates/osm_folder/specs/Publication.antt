@@ -194,22 +194,22 @@ pub record IsBeforeLast (published : List PublishedValue) (now : List ℕ) : Typ
 
 -- why a publication into the folder of published sequences is refused: never for a fault in its
 -- state
-abbrev pub FolderRefuses : List PublishedValue → List ℕ → RunFault → Type 0
-FolderRefuses published now BadNow = (time : ℕ) → TimeText now time → ⊥
-FolderRefuses published now WantOfMemory = Unit {0}
-FolderRefuses published now (ReadFault file) = Unit {0}
-FolderRefuses published now (WriteFault file) = Unit {0}
-FolderRefuses published now (Absent file) = file ≡ Changes
-FolderRefuses published now (TooLarge file) = file ≡ Changes
-FolderRefuses published now (BadChange file place why) = file ≡ Changes
-FolderRefuses published now SequenceFull = length published ≡ max_sequence
-FolderRefuses published now TimeBack = IsBeforeLast published now
-FolderRefuses published now fault = ⊥
+abbrev pub PublishStopsOver : List PublishedValue → List ℕ → RunFault → Type 0
+PublishStopsOver published now BadNow = (time : ℕ) → TimeText now time → ⊥
+PublishStopsOver published now WantOfMemory = Unit {0}
+PublishStopsOver published now (ReadFault file) = Unit {0}
+PublishStopsOver published now (WriteFault file) = Unit {0}
+PublishStopsOver published now (Absent file) = file ≡ Changes
+PublishStopsOver published now (TooLarge file) = file ≡ Changes
+PublishStopsOver published now (BadChange file place why) = file ≡ Changes
+PublishStopsOver published now SequenceFull = length published ≡ max_sequence
+PublishStopsOver published now TimeBack = IsBeforeLast published now
+PublishStopsOver published now fault = ⊥
 
 -- what a publication into that folder does: it adds a sequence, or is refused, and the folder is
 -- still that of what was published before
 pub record PublishesOver (published : List PublishedValue) (dir changes now : List ℕ)
     (old new : Files) (result : Result ReportValue RunFault) : Type 0 where
   pub added : IfOk result (IsAdded published dir changes now old new)
-  pub refuses : IfErr result (FolderRefuses published now)
+  pub refuses : IfErr result (PublishStopsOver published now)
   pub keeps : OnErr result (IsFolderOf published new dir)

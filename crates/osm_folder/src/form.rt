@@ -3,7 +3,8 @@
 ghost use Rattle.std.specs.Prelude.{◌≡◌, ◌≤◌, Some, IfSome, IfNone, IfOk, OnOk, IfErr, length};
 ghost use Rattle.osm_model.specs.Limits.{max_file};
 ghost use Rattle.osm_folder.specs.Conversion.{HasNoForm};
-ghost use Rattle.osm_folder.specs.Forms.{ConvertRefused, Converts, HasEnd, ReadFails, WriteFails};
+ghost use Rattle.osm_folder.specs.Forms.{BytesStop, Converts, HasEnd, FormReadStops};
+ghost use Rattle.osm_folder.specs.Forms.{FormWriteStops};
 ghost use Rattle.osm_folder.specs.Forms.{spells_of, text_of};
 ghost use Rattle.osm_folder.specs.declared.form.Form.{Form};
 
@@ -44,7 +45,7 @@ pub fn form_of(name: &str) -> Option<Form>
 /// output passes 64 MiB.
 pub fn convert(alloc: Global, from: Form, to: Form, bytes: Vec<u8>) -> Result<Vec<u8>, RunFault>
     ensures converted { IfOk result (λ text. Converts from to bytes.items text.items) }
-    ensures refused { IfErr result (ConvertRefused from to bytes.items) }
+    ensures refused { IfErr result (BytesStop from to bytes.items) }
 {
     let read = read_form(alloc, from, bytes.as_slice());
     drop(bytes);
@@ -68,7 +69,7 @@ pub fn convert(alloc: Global, from: Form, to: Form, bytes: Vec<u8>) -> Result<Ve
 pub fn read_form(alloc: Global, form: Form, bytes: &[u8]) -> Result<Batch, FormError>
     ensures spelled { IfOk result (λ batch. spells_of form bytes.now batch) }
     ensures small { OnOk result (length bytes.now ≤ max_file) }
-    ensures refused { IfErr result (ReadFails form bytes.now) }
+    ensures refused { IfErr result (FormReadStops form bytes.now) }
 {
     match form {
         Form::Opl => Opl::read(alloc, bytes),
@@ -79,7 +80,7 @@ pub fn read_form(alloc: Global, form: Form, bytes: &[u8]) -> Result<Batch, FormE
 fn write_form(alloc: Global, form: Form, batch: &Batch) -> Result<Vec<u8>, FormError>
     ensures text { IfOk result (λ text. text.items ≡ text_of form batch.now) }
     ensures small { IfOk result (λ text. length text.items ≤ max_file) }
-    ensures refused { IfErr result (WriteFails form batch.now) }
+    ensures refused { IfErr result (FormWriteStops form batch.now) }
 {
     match form {
         Form::Opl => Opl::write(alloc, batch),

@@ -97,11 +97,11 @@ abbrev pub sequence_of : StateValue → List ChangeValue → PublishedValue
 sequence_of s changes = record { number = s.sequence; changes = changes; time = s.time }
 
 -- why bytes that are read are refused, apart from memory
-abbrev pub BytesRefused : Spelling → FaultPlaces → List ℕ → FormError → Type 0
-BytesRefused spells fault_place bytes faults.TooLarge = max_file < length bytes
-BytesRefused spells fault_place bytes (faults.Fault place why) =
+abbrev pub BytesStop : Spelling → FaultPlaces → List ℕ → FormError → Type 0
+BytesStop spells fault_place bytes faults.TooLarge = max_file < length bytes
+BytesStop spells fault_place bytes (faults.Fault place why) =
     (length bytes ≤ max_file) × SpellsNothing spells bytes × fault_place bytes place
-BytesRefused spells fault_place bytes faults.WantOfMemory = ⊥
+BytesStop spells fault_place bytes faults.WantOfMemory = ⊥
 
 -- the state text and the bytes were delivered to the follower: each answer with all its conditions,
 -- so that no two apply, except that memory may be refused instead of an application
@@ -121,7 +121,7 @@ Delivers spells fault_place f state bytes (Err Broke) g =
     × (s.sequence ≡ f.number + 1) × (length bytes ≤ max_file) × spells bytes changes
     × Breaks f (sequence_of s changes) g
 Delivers spells fault_place f state bytes (Err (BadChange fault)) g =
-    (s : StateValue) × IsDue f state s × BytesRefused spells fault_place bytes fault × (g ≡ f)
+    (s : StateValue) × IsDue f state s × BytesStop spells fault_place bytes fault × (g ≡ f)
 Delivers spells fault_place f state bytes (Err WantOfMemory) g =
     (s : StateValue) × IsDue f state s
     × (length bytes ≤ max_file) × (spells bytes [] → ⊥) × (g ≡ f)

@@ -31,6 +31,6 @@ Lags f s answer = (f.is_broken ≡ false) × LagsFrom f.number f.time s answer
 
 -- why there is no list of missing numbers: up to a state that isn't after the follower the list is
 -- empty, and no memory is taken
-abbrev pub MissingRefused : FollowerValue → StateValue → ViewError → Type 0
-MissingRefused f s views.Broken = f.is_broken ≡ true
-MissingRefused f s views.WantOfMemory = (f.is_broken ≡ false) × (f.number < s.sequence)
+abbrev pub MissingStops : FollowerValue → StateValue → ViewError → Type 0
+MissingStops f s views.Broken = f.is_broken ≡ true
+MissingStops f s views.WantOfMemory = (f.is_broken ≡ false) × (f.number < s.sequence)

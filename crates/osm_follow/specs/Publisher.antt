@@ -43,9 +43,9 @@ abbrev pub IsTooLarge : List ChangeValue → Type 0
 IsTooLarge changes = (max_file < length (opl_text changes)) ⊎ (max_file < length (o5c_text changes))
 
 -- why an edit is handed back
-abbrev pub EditRefused : PublisherValue → ChangeValue → EditError → Type 0
-EditRefused p c (edits.BatchFull d) = (length p.pending ≡ max_changes) × (d ≡ c)
-EditRefused p c (edits.WantOfMemory d) = (length p.pending < max_changes) × (d ≡ c)
+abbrev pub EditStops : PublisherValue → ChangeValue → EditError → Type 0
+EditStops p c (edits.BatchFull d) = (length p.pending ≡ max_changes) × (d ≡ c)
+EditStops p c (edits.WantOfMemory d) = (length p.pending < max_changes) × (d ≡ c)
 
 -- why a publisher can't close at that time, whatever is pending
 abbrev pub CloseBarred : PublisherValue → ℕ → CloseError → Type 0

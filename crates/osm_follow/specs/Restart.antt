@@ -33,9 +33,9 @@ follower_of v = record {
 }
 
 -- why a follower isn't saved
-abbrev pub SavingRefused : FollowerValue → ViewError → Type 0
-SavingRefused f views.Broken = f.is_broken ≡ true
-SavingRefused f views.WantOfMemory = f.is_broken ≡ false
+abbrev pub SavingStops : FollowerValue → ViewError → Type 0
+SavingStops f views.Broken = f.is_broken ≡ true
+SavingStops f views.WantOfMemory = f.is_broken ≡ false
 
 -- the bytes are the save text of nothing
 abbrev pub SavesNothing : List ℕ → Type 0
@@ -61,7 +61,7 @@ Restarts f (Some text) (Err OtherFilter) g =
 Restarts f (Some text) (Err WantOfMemory) g = IsLeftBroken f g
 
 -- why a follower can't be made from a text alone, whose filter it would have
-abbrev pub ReadingRefused : List ℕ → RestartError → Type 0
-ReadingRefused text (BadSave line) = SavesNothing text
-ReadingRefused text OtherFilter = ⊥
-ReadingRefused text WantOfMemory = Unit {0}
+abbrev pub ReadingStops : List ℕ → RestartError → Type 0
+ReadingStops text (BadSave line) = SavesNothing text
+ReadingStops text OtherFilter = ⊥
+ReadingStops text WantOfMemory = Unit {0}

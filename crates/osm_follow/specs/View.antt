@@ -30,9 +30,9 @@ view_of f = record {
 }
 
 -- why a follower shows nothing: if its mirror is empty and nothing is held, no memory is taken
-abbrev pub ViewRefused : FollowerValue → ViewError → Type 0
-ViewRefused f Broken = f.is_broken ≡ true
-ViewRefused f WantOfMemory =
+abbrev pub ViewStops : FollowerValue → ViewError → Type 0
+ViewStops f Broken = f.is_broken ≡ true
+ViewStops f WantOfMemory =
     (f.is_broken ≡ false) × (HoldsSome f.mirror ⊎ (0 < length (numbers_of f.holding)))
 
 -- the view of a follower with that filter and that base, which started at `start` and accepted

@@ -13,17 +13,17 @@ ghost use Rattle.osm_follow.specs.Begin.{Begins, begun_of};
 ghost use Rattle.osm_follow.specs.Delivery.{AnswersUnread, Delivers, Holds, IsDue, sequence_of};
 ghost use Rattle.osm_follow.specs.Follower.{held_at, is_held, most_edits, new_follower};
 ghost use Rattle.osm_follow.specs.Follower.{new_follower_of};
-ghost use Rattle.osm_follow.specs.Lag.{Lags, MissingRefused};
+ghost use Rattle.osm_follow.specs.Lag.{Lags, MissingStops};
 ghost use Rattle.osm_holding.specs.Holding.{window};
 ghost use Rattle.osm_mirror.specs.Mirror.{IsOrderly, IsWithin, count_at, no_mirror, object_at};
 ghost use Rattle.osm_save.specs.Head.{IsTimeOf, head_of, most_counted};
 ghost use Rattle.osm_save.specs.Save.{SpellsSave};
 ghost use Rattle.osm_follow.specs.Reach.{missing_numbers};
 ghost use Rattle.osm_save.specs.declared.save.Saved.{Saved};
-ghost use Rattle.osm_follow.specs.Restart.{ReadingRefused, Restarts, SavingRefused};
+ghost use Rattle.osm_follow.specs.Restart.{ReadingStops, Restarts, SavingStops};
 ghost use Rattle.osm_follow.specs.Restart.{follower_of, saved_of};
 ghost use Rattle.osm_follow.specs.Steps.Taking.{TakeAnswers};
-ghost use Rattle.osm_follow.specs.View.{ViewRefused, view_of};
+ghost use Rattle.osm_follow.specs.View.{ViewStops, view_of};
 ghost use Rattle.osm_follow.specs.declared.delivery.Delivered.{Delivered};
 ghost use Rattle.osm_follow.specs.declared.delivery.DeliverError.{DeliverError};
 
@@ -357,7 +357,7 @@ impl Follower {
         ensures whole { OnOk result (self.now.is_broken ≡ false) }
         ensures numbers { IfOk result (λ ns. ns.items
             ≡ missing_numbers (is_held self.now) self.now.number state.now.sequence) }
-        ensures refused { IfErr result (MissingRefused self.now state.now) }
+        ensures refused { IfErr result (MissingStops self.now state.now) }
     {
         if self.is_broken {
             return Err(ViewError::Broken);
@@ -421,7 +421,7 @@ impl Follower {
         ensures rising { IfOk result (λ v. IsStrictlySortedBy nat_cmp v.held) }
         ensures held { IfOk result (λ v. (number : ℕ) →
             Contains v.held number ↔ IsSome (held_at self.now number)) }
-        ensures refused { IfErr result (ViewRefused self.now) }
+        ensures refused { IfErr result (ViewStops self.now) }
     {
         if self.is_broken {
             return Err(ViewError::Broken);
@@ -437,7 +437,7 @@ impl Follower {
     pub fn save(&self, alloc: Global) -> Result<Vec<u8>, ViewError>
         ensures whole { OnOk result (self.now.is_broken ≡ false) }
         ensures text { IfOk result (λ text. SpellsSave text.items (saved_of self.now)) }
-        ensures refused { IfErr result (SavingRefused self.now) }
+        ensures refused { IfErr result (SavingStops self.now) }
     {
         if self.is_broken {
             return Err(ViewError::Broken);
@@ -539,7 +539,7 @@ impl Follower {
     pub fn from_save(alloc: Global, text: &[u8]) -> Result<Follower, RestartError>
         ensures saved { IfOk result (λ f.
             (v : Saved) × SpellsSave text.now v × (f ≡ follower_of v)) }
-        ensures refused { IfErr result (ReadingRefused text.now) }
+        ensures refused { IfErr result (ReadingStops text.now) }
     {
         let saved = read_saved(alloc, text)?;
         let Ok(holding) = HoldingArea::new(alloc, saved.number) else {
@@ -560,7 +560,7 @@ impl Follower {
 /// The filter that a text was saved under. All of the text is read.
 pub fn saved_filter(alloc: Global, text: &[u8]) -> Result<Filter, RestartError>
     ensures filter { IfOk result (λ f. (v : Saved) × SpellsSave text.now v × (v.filter ≡ f)) }
-    ensures refused { IfErr result (ReadingRefused text.now) }
+    ensures refused { IfErr result (ReadingStops text.now) }
 {
     let saved = read_saved(alloc, text)?;
     Ok(saved.filter)
@@ -577,7 +577,7 @@ fn are_same(filter: &Filter, other: &Filter) -> bool
 // What a text saves.
 fn read_saved(alloc: Global, text: &[u8]) -> Result<Saved, RestartError>
     ensures spelled { IfOk result (λ saved. SpellsSave text.now saved) }
-    ensures refused { IfErr result (ReadingRefused text.now) }
+    ensures refused { IfErr result (ReadingStops text.now) }
 {
     match save_read(alloc, text) {
         Ok(saved) => Ok(saved),

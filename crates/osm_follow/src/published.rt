@@ -4,7 +4,7 @@ ghost use Rattle.std.specs.Prelude.{◌≡◌, ◌≤◌, length, IfOk, OnOk, If
 ghost use Rattle.osm_model.specs.Limits.{max_file};
 ghost use Rattle.osm_follow.specs.Published.{written_of};
 ghost use Rattle.osm_follow.specs.Publisher.{IsSmall, IsTooLarge};
-ghost use Rattle.osm_follow.specs.Steps.Closing.{TextRefused, WriteStops};
+ghost use Rattle.osm_follow.specs.Steps.Closing.{TextStops, WriteStops};
 
 use crate::publisher::CloseError;
 use osm_model::batch::Batch;
@@ -99,7 +99,7 @@ impl Published {
 fn write_text<F: ChangeForm>(alloc: Global, batch: &Batch) -> Result<Vec<u8>, CloseError>
     ensures text { IfOk result (λ v. v.items ≡ F.text batch.now) }
     ensures small { OnOk result (length (F.text batch.now) ≤ max_file) }
-    ensures refused { IfErr result (TextRefused (F.text batch.now)) }
+    ensures refused { IfErr result (TextStops (F.text batch.now)) }
 {
     match F::write(alloc, batch) {
         Ok(text) => Ok(text),

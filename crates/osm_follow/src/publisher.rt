@@ -3,7 +3,7 @@
 ghost use Rattle.std.specs.Prelude.{◌≡◌, ◌<◌, ◌≤◌, ◌++◌, [], ◌∷◌, length, OnOk, OnErr, IfErr};
 ghost use Rattle.osm_model.specs.Batch.{IsBatch};
 ghost use Rattle.osm_model.specs.Limits.{IsPositive, max_changes, max_sequence};
-ghost use Rattle.osm_follow.specs.Publisher.{CanClose, CloseBarred, Closes, EditRefused};
+ghost use Rattle.osm_follow.specs.Publisher.{CanClose, CloseBarred, Closes, EditStops};
 ghost use Rattle.osm_follow.specs.Publisher.{new_publisher};
 
 use crate::published::Published;
@@ -111,7 +111,7 @@ impl Publisher {
             ≡ record self.old { pending = self.old.pending ++ change ∷ [] }) }
         ensures room { OnOk result (length self.old.pending < max_changes) }
         ensures limits { IsBatch self.new.pending }
-        ensures refused { IfErr result (EditRefused self.old change) }
+        ensures refused { IfErr result (EditStops self.old change) }
         ensures unchanged { OnErr result (self.new ≡ self.old) }
     {
         match self.pending.push(change) {

@@ -28,7 +28,7 @@ use Rattle.osm_merge.specs.Checking.{BeginsWith, CheckStops, IsChecked, IsNoSave
 use Rattle.osm_merge.specs.Merging.{IsStaged, MergeStops, merged_text}
 use Rattle.osm_merge.specs.Mirrors.{both_at, end_at, totals_of}
 use Rattle.osm_merge.specs.Opening.{IsOpened, OpeningStops}
-use Rattle.osm_merge.specs.Reading.{Refuses}
+use Rattle.osm_merge.specs.Reading.{LineStops}
 use Rattle.osm_merge.specs.declared.lists.Totals.{Totals}
 use Rattle.osm_merge.specs.declared.opening.Opening.{Opening}
 use Rattle.osm_merge.specs.declared.fault.MergeFault.{MergeFault}
@@ -170,7 +170,7 @@ is_checked told place o totals opened m read counted = record {
 }
 
 pub lists_stop : (told : Option (List ℕ)) (place : Place) (o : Opening) (fault : MergeFault) → (opened : IsOpened told place o)
-    → Refuses opened.file fault (mirror_at o.version o.head o.filter (left_of place opened.file)) → CheckStops told fault
+    → LineStops opened.file fault (mirror_at o.version o.head o.filter (left_of place opened.file)) → CheckStops told fault
 lists_stop told place o (BadSave line) opened none = record {
   file = opened.file;
   there = opened.there;

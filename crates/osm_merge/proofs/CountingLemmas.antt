@@ -20,7 +20,7 @@ use Rattle.osm_reading.proofs.StepLemmas.{guard_some, some_then}
 use Rattle.osm_save.specs.Reading.{is_above, items_at, object_at}
 use Rattle.osm_merge.specs.Counting.{CountsBelow, CountsOne}
 use Rattle.osm_merge.specs.Laying.{next_at}
-use Rattle.osm_merge.specs.Reading.{Refuses}
+use Rattle.osm_merge.specs.Reading.{LineStops}
 use Rattle.osm_merge.specs.declared.fault.MergeFault.{MergeFault}
 use Rattle.osm_merge.proofs.LineLemmas.{refuses_all}
 use Rattle.osm_merge.proofs.ObjectLemmas.{over_above, over_at, over_below, over_none, over_nothing}
@@ -200,12 +200,12 @@ counting_more many i es rest after count k key Has begun now new lt h one passes
 pub counting_stops : (many i : ℕ) (es rest : List NetEntry) (count : ℕ) (Has : List ℕ → Type 0) (begun now : List ℕ → List ℕ) (file : List ℕ)
     (fault : MergeFault) → i < many
     → Counting many i es rest count Has begun now → Has file
-    → ((f : FilterValue) (last : Option Key) → Refuses file fault (next_at (object_at f) last (now file)))
-    → (f : FilterValue) → Refuses file fault (items_at (λ (c : ChangeValue). c.key) (object_at f) many None (begun file))
+    → ((f : FilterValue) (last : Option Key) → LineStops file fault (next_at (object_at f) last (now file)))
+    → (f : FilterValue) → LineStops file fault (items_at (λ (c : ChangeValue). c.key) (object_at f) many None (begun file))
 counting_stops many i es rest count Has begun now file fault lt h has refused f = by_reading (items_at (λ c. c.key) (object_at f) many None (begun file)) refl
   where
     by_reading : (r : Option (List ChangeValue × List ℕ)) → items_at (λ c. c.key) (object_at f) many None (begun file) ≡ r
-        → Refuses file fault (items_at (λ (c : ChangeValue). c.key) (object_at f) many None (begun file))
+        → LineStops file fault (items_at (λ (c : ChangeValue). c.key) (object_at f) many None (begun file))
     by_reading None e = refuses_all file fault (next_at (object_at f) None (now file)) (items_at (λ c. c.key) (object_at f) many None (begun file))
         (refused f None) (λ none. e)
     by_reading (Some r) e =

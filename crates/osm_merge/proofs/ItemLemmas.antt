@@ -17,7 +17,7 @@ use Rattle.osm_save.proofs.ItemLemmas.{Items, items_begun, items_cut, items_done
 use Rattle.osm_save.proofs.TextLemmas.{ended-append}
 use Rattle.osm_merge.specs.Faults.{IsDeviceFault}
 use Rattle.osm_merge.specs.Laying.{Lays, LaysRest, Merges, Writes, next_at}
-use Rattle.osm_merge.specs.Reading.{Refuses}
+use Rattle.osm_merge.specs.Reading.{LineStops}
 use Rattle.osm_merge.specs.declared.fault.MergeFault.{MergeFault}
 use Rattle.osm_merge.proofs.FrameLemmas.{writes_both, writes_none}
 use Rattle.osm_merge.proofs.LineLemmas.{refuses_all}
@@ -117,7 +117,7 @@ module _ {E X K : Type 0} (lay : List E → List X → List X) (text : X → Lis
   pub merging_stops : (many : ℕ) (es rest : List E) (i : ℕ) (last : Option K) (count : ℕ) (Has : List ℕ → Type 0) (begun now : List ℕ → List ℕ)
       (a b : StoreState) (w v : Waiting) (file : List ℕ) (fault : MergeFault) → i < many
       → Merging lay text key item many es i last rest count Has begun now a w b v → Has file
-      → Refuses file fault (next_at item last (now file)) → Refuses file fault (items_at key item many None (begun file))
+      → LineStops file fault (next_at item last (now file)) → LineStops file fault (items_at key item many None (begun file))
   merging_stops many es rest i last count Has begun now a b w v file fault lt h has refused =
       refuses_all file fault (next_at item last (now file)) (items_at key item many None (begun file)) refused
       (items_stop many (begun file) i h.values last (now file) lt (h.read file has))

@@ -6,12 +6,12 @@ use Rattle.std.proofs.lemmas.Fmt.{length-decimal-le}
 use Rattle.osm_blocks.specs.Places.{IsLong, Place, left_of, max_line}
 use Rattle.osm_reading.specs.Pieces.{Lacks, cut_at}
 use Rattle.osm_reading.specs.Answers.{and_then}
-use Rattle.osm_save.specs.Answers.{Fails}
+use Rattle.osm_save.specs.Answers.{StopsPlainly}
 use Rattle.osm_save.specs.declared.stop.Stop.{Stop}
 use Rattle.osm_save.specs.declared.stop.Stop.TheVariants as stops
 use Rattle.osm_save.specs.Reading.{after_word, fixed_at, number_at, numbered_at}
 use Rattle.osm_save.proofs.LineLemmas.{TakesNumbered, fixed_takes, numbered_takes}
-use Rattle.osm_merge.specs.Reading.{FindsNext, Refuses}
+use Rattle.osm_merge.specs.Reading.{FindsNext, LineStops}
 use Rattle.osm_merge.specs.declared.fault.MergeFault.{MergeFault}
 use Rattle.osm_merge.specs.declared.fault.MergeFault.TheVariants.{BadSave, Changed, LongLine, NoSave, ReadFault, TooLarge, WantOfMemory, WriteFault}
 
@@ -91,7 +91,7 @@ fixed_same text xs ys line a b p q = rw (p, q) (by_test (bytes_eq line text))
 
 -- a reading begins with a line: without an LF, or with a line too long, nothing is read
 pub refused_by : {A : Type 0} (file : List ℕ) (old new : Place) (fault : MergeFault) (reading : Option A) → FindsNext file old new (Err fault)
-    → (cut_at 10 (left_of old file) ≡ None → reading ≡ None) → (IsLong (left_of old file) → reading ≡ None) → Refuses file fault reading
+    → (cut_at 10 (left_of old file) ≡ None → reading ≡ None) → (IsLong (left_of old file) → reading ≡ None) → LineStops file fault reading
 refused_by file old new (BadSave line) reading found none long = none found
 refused_by file old new LongLine reading found none long = long found
 refused_by file old new TooLarge reading found none long = found
@@ -110,8 +110,8 @@ unfolding fixed_at
 fixed_none text bytes e = rw e refl
 
 -- what is refused is so whatever is read after it
-pub refuses_all : {A B : Type 0} (file : List ℕ) (fault : MergeFault) (r : Option A) (s : Option B) → Refuses file fault r → (r ≡ None → s ≡ None)
-    → Refuses file fault s
+pub refuses_all : {A B : Type 0} (file : List ℕ) (fault : MergeFault) (r : Option A) (s : Option B) → LineStops file fault r → (r ≡ None → s ≡ None)
+    → LineStops file fault s
 refuses_all file (BadSave line) r s none f = f none
 refuses_all file LongLine r s none f = f none
 refuses_all file TooLarge r s none f = none
@@ -122,6 +122,6 @@ refuses_all file WriteFault r s none f = tt
 refuses_all file WantOfMemory r s none f = tt
 
 -- a reading that takes no memory fails only if nothing can be read
-pub fails_none : {A : Type 0} (stop : Stop) (r : Option A) → Fails stop r → r ≡ None
+pub fails_none : {A : Type 0} (stop : Stop) (r : Option A) → StopsPlainly stop r → r ≡ None
 fails_none stops.WantOfMemory r bad = absurd bad
 fails_none (stops.Wrong left) r none = none

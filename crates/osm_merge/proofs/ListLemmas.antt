@@ -11,7 +11,7 @@ use Rattle.osm_save.specs.Lines.{ended}
 use Rattle.osm_save.specs.Reading.{count_at, counts_at, fixed_at, items_at, numbered_at, object_at, objects_at}
 use Rattle.osm_merge.specs.Laying.{Merges, MergesList, Writes}
 use Rattle.osm_merge.specs.Mirrors.{both_at, end_at}
-use Rattle.osm_merge.specs.Reading.{Ends, Refuses}
+use Rattle.osm_merge.specs.Reading.{Ends, LineStops}
 use Rattle.osm_merge.specs.declared.fault.MergeFault.{MergeFault}
 use Rattle.osm_merge.specs.declared.fault.MergeFault.TheVariants.{BadSave, Changed, LongLine, NoSave, ReadFault, TooLarge, WantOfMemory, WriteFault}
 use Rattle.osm_merge.proofs.FrameLemmas.{writes_both}
@@ -91,7 +91,7 @@ pub end_done : (bytes rest : List ℕ) → fixed_at (codes "end") bytes ≡ Some
 end_done bytes rest e more = end_is bytes rest e ∙ ap (λ (t : Bool). if t then Some tt else None) more
 
 -- the end of a file can't be read for a reason other than the device, memory or its length
-pub ends_refused : {A : Type 0} (file : List ℕ) (place : Place) (fault : MergeFault) (r : Option A) → Ends file place (Err fault) → Refuses file fault r
+pub ends_refused : {A : Type 0} (file : List ℕ) (place : Place) (fault : MergeFault) (r : Option A) → Ends file place (Err fault) → LineStops file fault r
 ends_refused file place (BadSave line) r bad = absurd bad
 ends_refused file place LongLine r bad = absurd bad
 ends_refused file place TooLarge r huge = huge

@@ -17,7 +17,7 @@ use Rattle.osm_save.proofs.ObjectLemmas.{TakesObject, object_takes}
 use Rattle.osm_opl.specs.Written.{line_text}
 use Rattle.osm_merge.specs.Faults.{IsBadLine}
 use Rattle.osm_merge.specs.Laying.{next_at}
-use Rattle.osm_merge.specs.Reading.{Refuses}
+use Rattle.osm_merge.specs.Reading.{LineStops}
 use Rattle.osm_merge.specs.declared.fault.MergeFault.{MergeFault}
 use Rattle.osm_merge.specs.declared.fault.MergeFault.TheVariants.{BadSave, Changed, LongLine, NoSave, ReadFault, TooLarge, WantOfMemory, WriteFault}
 use Rattle.osm_merge.proofs.LineLengthLemmas.{lines_are_short}
@@ -77,7 +77,7 @@ object_long f last bytes long = next_long (object_at f) last bytes (λ line afte
     not_long bytes (line_text c) after long (cut_takes 10 bytes line after cut ∙ ap (λ (l : List ℕ). l ++ 10 ∷ after) t.text)
     (lines_are_short c t.good.object)))
 
-pub bad_refuses : {A : Type 0} (file : List ℕ) (fault : MergeFault) (r : Option A) → IsBadLine fault → r ≡ None → Refuses file fault r
+pub bad_refuses : {A : Type 0} (file : List ℕ) (fault : MergeFault) (r : Option A) → IsBadLine fault → r ≡ None → LineStops file fault r
 bad_refuses file (BadSave line) r bad none = none
 bad_refuses file LongLine r bad none = absurd bad
 bad_refuses file TooLarge r bad none = absurd bad

@@ -12,7 +12,7 @@ use Rattle.osm_save.specs.Reading.{items_at, object_at, save_at}
 use Rattle.osm_save.specs.declared.save.Saved.{Saved}
 use Rattle.osm_merge.specs.Laying.{next_at}
 use Rattle.osm_merge.specs.Mirrors.{totals_of}
-use Rattle.osm_merge.specs.Reading.{Refuses}
+use Rattle.osm_merge.specs.Reading.{LineStops}
 use Rattle.osm_merge.specs.declared.fault.MergeFault.{MergeFault}
 use Rattle.osm_merge.specs.declared.lists.Totals.{Totals}
 
@@ -25,7 +25,7 @@ PassesKey file old new (Ok key) =
     → (c.key ≡ key) × (after ≡ left_of new file)
 PassesKey file old new (Err fault) =
     (f : FilterValue) (last : Option Key)
-    → Refuses file fault (next_at (object_at f) last (left_of old file))
+    → LineStops file fault (next_at (object_at f) last (left_of old file))
 
 -- an object with that key and the entries up to it leave so many objects, and `rest` is laid over
 -- those after it

@@ -10,7 +10,7 @@ use Rattle.osm_save.specs.Save.{count_text}
 use Rattle.osm_merge.specs.declared.lists.Totals.{Totals}
 use Rattle.osm_reading.specs.Answers.{and_then}
 use Rattle.osm_save.specs.Reading.{counts_at, fixed_at}
-use Rattle.osm_merge.specs.Reading.{Refuses}
+use Rattle.osm_merge.specs.Reading.{LineStops}
 use Rattle.osm_merge.specs.declared.fault.MergeFault.{MergeFault}
 
 -- `end`, and nothing after it
@@ -29,7 +29,7 @@ both_at most bytes =
 -- the end is there, or why not
 abbrev pub Closes : List ℕ → Result (Unit {0}) MergeFault → Option (Unit {0}) → Type 0
 Closes file (Ok x) reading = reading ≡ Some tt
-Closes file (Err fault) reading = Refuses file fault reading
+Closes file (Err fault) reading = LineStops file fault reading
 
 -- how many objects, users and changesets a mirror has
 abbrev pub totals_of : MirrorValue → Totals

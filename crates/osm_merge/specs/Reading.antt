@@ -25,26 +25,26 @@ FindsNext file old new (Err WantOfMemory) = Unit {0}
 
 -- why nothing is read: a bad line or a long one only if nothing can be read, and a large file only
 -- if it is
-abbrev pub Refuses : {A : Type 0} → List ℕ → MergeFault → Option A → Type 0
-Refuses file (BadSave line) reading = reading ≡ None
-Refuses file LongLine reading = reading ≡ None
-Refuses file TooLarge reading = IsHuge file
-Refuses file NoSave reading = ⊥
-Refuses file Changed reading = ⊥
-Refuses file ReadFault reading = Unit {0}
-Refuses file WriteFault reading = Unit {0}
-Refuses file WantOfMemory reading = Unit {0}
+abbrev pub LineStops : {A : Type 0} → List ℕ → MergeFault → Option A → Type 0
+LineStops file (BadSave line) reading = reading ≡ None
+LineStops file LongLine reading = reading ≡ None
+LineStops file TooLarge reading = IsHuge file
+LineStops file NoSave reading = ⊥
+LineStops file Changed reading = ⊥
+LineStops file ReadFault reading = Unit {0}
+LineStops file WriteFault reading = Unit {0}
+LineStops file WantOfMemory reading = Unit {0}
 
 -- the answer and what is left of the file at the new place are what the reading gives
 abbrev pub Follows : {A B : Type 0} → (A → B) → List ℕ → Place → Result A MergeFault
     → Option (B × List ℕ) → Type 0
 Follows view file place (Ok x) reading = reading ≡ Some (view x, left_of place file)
-Follows view file place (Err fault) reading = Refuses file fault reading
+Follows view file place (Err fault) reading = LineStops file fault reading
 
 -- what is left of the file at the new place is what the reading gives
 abbrev pub Passes : List ℕ → Place → Result (Unit {0}) MergeFault → Option (List ℕ) → Type 0
 Passes file place (Ok x) reading = reading ≡ Some (left_of place file)
-Passes file place (Err fault) reading = Refuses file fault reading
+Passes file place (Err fault) reading = LineStops file fault reading
 
 -- whether nothing is left of a known file
 abbrev pub Ends : List ℕ → Place → Result Bool MergeFault → Type 0

@@ -15,7 +15,7 @@ ghost use Rattle.osm_merge.specs.Counting.{CountsObjects, CountsOne, PassesKey};
 ghost use Rattle.osm_merge.specs.Faults.{IsDeviceFault};
 ghost use Rattle.osm_merge.specs.Laying.{IsFew};
 ghost use Rattle.osm_merge.specs.Mirrors.{totals_of};
-ghost use Rattle.osm_merge.specs.Reading.{Refuses};
+ghost use Rattle.osm_merge.specs.Reading.{LineStops};
 
 use crate::fault::MergeFault;
 use crate::lists::{Totals, merge_both};
@@ -120,7 +120,7 @@ fn count_objects<S: Store>(
         → CountsObjects file source.old source.new many entries.now count) }
     ensures refused { IfErr result (λ fault. (file : List ℕ)
         → HasFile (S.state store.old) name.now file → (f : FilterValue)
-        → Refuses file fault
+        → LineStops file fault
         (items_at (λ c. c.key) (object_at f) many None (left_of source.old file))) }
     ensures frame { ReadsOften IsDeviceFault (S.state store.old) (S.state store.new) result }
     ensures calls { (file : List ℕ) → HasFile (S.state store.old) name.now file
@@ -166,7 +166,7 @@ pub(crate) fn count_lists<S: Store>(
         (record { objects = entries.now; users = users.now; changesets = changesets.now })
         saved.mirror)) }
     ensures refused { IfErr result (λ fault. (file : List ℕ)
-        → HasFile (S.state store.old) name.now file → Refuses file fault
+        → HasFile (S.state store.old) name.now file → LineStops file fault
         (mirror_at opening.now.version opening.now.head opening.now.filter
         (left_of source.old file))) }
     ensures frame { ReadsOften IsDeviceFault (S.state store.old) (S.state store.new) result }

@@ -19,7 +19,7 @@ ghost use Rattle.osm_merge.specs.Calls.{calls_ahead};
 ghost use Rattle.osm_merge.specs.Faults.{IsDeviceFault, IsPlain};
 ghost use Rattle.osm_merge.specs.Laying.{IsFew, MergesList, Writes};
 ghost use Rattle.osm_merge.specs.Mirrors.{MergesBoth, MergesMirror, both_at};
-ghost use Rattle.osm_merge.specs.Reading.{Follows, Refuses};
+ghost use Rattle.osm_merge.specs.Reading.{Follows, LineStops};
 
 use crate::counts::merge_counts;
 use crate::fault::{MergeFault, unwritten};
@@ -130,7 +130,7 @@ pub(crate) fn merge_object_list<S: Store>(
         ≡ Some (objects, left_of source.new file))
         (Writes (S.state store.old) writer.old (S.state store.new) writer.new)) }
     ensures refused { IfErr result (λ fault. (file : List ℕ)
-        → HasFile (S.state store.old) name.now file → Refuses file fault
+        → HasFile (S.state store.old) name.now file → LineStops file fault
         (objects_at filter.now most (left_of source.old file))) }
     ensures frame { ReadsOften IsDeviceFault (S.state store.old) (S.state store.new) result }
     ensures calls { (file : List ℕ) → HasFile (S.state store.old) name.now file
@@ -172,7 +172,7 @@ pub(crate) fn merge_count_list<S: Store>(
         ≡ Some (counts, left_of source.new file))
         (Writes (S.state store.old) writer.old (S.state store.new) writer.new)) }
     ensures refused { IfErr result (λ fault. (file : List ℕ)
-        → HasFile (S.state store.old) name.now file → Refuses file fault
+        → HasFile (S.state store.old) name.now file → LineStops file fault
         (counts_at word.now most (left_of source.old file))) }
     ensures frame { ReadsOften IsDeviceFault (S.state store.old) (S.state store.new) result }
     ensures calls { (file : List ℕ) → HasFile (S.state store.old) name.now file
@@ -229,7 +229,7 @@ pub(crate) fn merge_both<S: Store>(
         → both_at most (left_of source.old file) ≡ Some parts)
         (Writes (S.state store.old) writer.old (S.state store.new) writer.new)) }
     ensures refused { IfErr result (λ fault. (file : List ℕ)
-        → HasFile (S.state store.old) name.now file → Refuses file fault
+        → HasFile (S.state store.old) name.now file → LineStops file fault
         (both_at most (left_of source.old file))) }
     ensures frame { ReadsOften IsDeviceFault (S.state store.old) (S.state store.new) result }
     ensures calls { (file : List ℕ) → HasFile (S.state store.old) name.now file
@@ -296,7 +296,7 @@ pub(crate) fn merge_lists<S: Store>(
         ≡ Some (saved_with opening.now.head opening.now.filter mirror))
         (Writes (S.state store.old) writer.old (S.state store.new) writer.new)) }
     ensures refused { IfErr result (λ fault. (file : List ℕ)
-        → HasFile (S.state store.old) name.now file → Refuses file fault
+        → HasFile (S.state store.old) name.now file → LineStops file fault
         (mirror_at opening.now.version opening.now.head opening.now.filter
         (left_of source.old file))) }
     ensures frame { ReadsOften IsDeviceFault (S.state store.old) (S.state store.new) result }

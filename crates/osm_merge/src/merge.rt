@@ -24,7 +24,7 @@ ghost use Rattle.osm_merge.specs.Merging.{IsMerged, IsStaged, MergeStops, merged
 ghost use Rattle.osm_store.specs.Files.{Puts, Spends};
 ghost use Rattle.osm_merge.specs.Frames.{ReplacesOften};
 ghost use Rattle.osm_merge.specs.Mirrors.{MergesMirror};
-ghost use Rattle.osm_merge.specs.Reading.{Refuses};
+ghost use Rattle.osm_merge.specs.Reading.{LineStops};
 
 use crate::check::{Checked, check_save};
 use crate::counting::count_lists;
@@ -110,7 +110,7 @@ pub(crate) fn write_lists<S: Store>(
         (λ bytes. IsKnown (S.state store.old) → (S.state store.new).stage
         ≡ Some (name.now, ended (head_lines Three head opening.now.filter) ++ bytes))) }
     ensures refused { IfErr result (λ fault. (file : List ℕ)
-        → HasFile (S.state store.old) name.now file → Refuses file fault
+        → HasFile (S.state store.old) name.now file → LineStops file fault
         (mirror_at opening.now.version opening.now.head opening.now.filter
         (left_of source.old file))) }
     ensures frame { ReadsOften IsDeviceFault (S.state store.old) (S.state store.new) result }

@@ -14,7 +14,7 @@ ghost use Rattle.osm_save.specs.Lines.{ended};
 ghost use Rattle.osm_save.specs.Reading.{items_at, object_at};
 ghost use Rattle.osm_merge.specs.Faults.{IsDeviceFault, IsPlain};
 ghost use Rattle.osm_merge.specs.Laying.{Appends, Lays, LaysRest, Merges, Writes, next_at};
-ghost use Rattle.osm_merge.specs.Reading.{Follows, Refuses};
+ghost use Rattle.osm_merge.specs.Reading.{Follows, LineStops};
 
 use crate::fault::{MergeFault, unwritten};
 use crate::source::Source;
@@ -221,7 +221,7 @@ pub(crate) fn merge_objects<S: Store>(
         ≡ Some (objects, left_of source.new file))
         (Writes (S.state store.old) writer.old (S.state store.new) writer.new)) }
     ensures refused { IfErr result (λ fault. (file : List ℕ)
-        → HasFile (S.state store.old) name.now file → Refuses file fault
+        → HasFile (S.state store.old) name.now file → LineStops file fault
         (items_at (λ c. c.key) (object_at filter.now) many None (left_of source.old file))) }
     ensures frame { ReadsOften IsDeviceFault (S.state store.old) (S.state store.new) result }
     ensures calls { (file : List ℕ) → HasFile (S.state store.old) name.now file

@@ -34,10 +34,10 @@ IsNext objects c = IsData (objects ++ c ∷ [])
 
 -- why a change can't follow the objects of a data file: it is a deletion, or if it is none, its key
 -- isn't above theirs
-abbrev pub NextRefused : ChangeValue → Why → Type 0
-NextRefused c Deleted = IsLeft c → ⊥
-NextRefused c OutOfOrder = IsLeft c
-NextRefused c why = ⊥
+abbrev pub NextStops : ChangeValue → Why → Type 0
+NextStops c Deleted = IsLeft c → ⊥
+NextStops c OutOfOrder = IsLeft c
+NextStops c why = ⊥
 
 -- the number, counted from 1, of the first change that can't follow those before it
 pub record IsFirstFault (changes : List ChangeValue) (index : ℕ) : Type 0 where
@@ -51,7 +51,7 @@ pub record IsFirstFault (changes : List ChangeValue) (index : ℕ) : Type 0 wher
 
 -- why changes aren't written as a data file: they are no data, the first fault being named; if they
 -- are, their text is too large; memory comes last
-abbrev pub DataRefused : (List ChangeValue → List ℕ) → List ChangeValue → DataError → Type 0
-DataRefused text changes (NotData index) = IsFirstFault changes index
-DataRefused text changes TooLarge = IsData changes × (max_file < length (text changes))
-DataRefused text changes WantOfMemory = IsData changes
+abbrev pub DataStops : (List ChangeValue → List ℕ) → List ChangeValue → DataError → Type 0
+DataStops text changes (NotData index) = IsFirstFault changes index
+DataStops text changes TooLarge = IsData changes × (max_file < length (text changes))
+DataStops text changes WantOfMemory = IsData changes

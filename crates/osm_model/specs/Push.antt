@@ -6,6 +6,6 @@ use Rattle.osm_model.specs.declared.batch.PushError.{PushError}
 use Rattle.osm_model.specs.declared.batch.PushError.TheVariants.{Full, WantOfMemory}
 
 -- the change is handed back; `Full` comes exactly if the batch has as many changes as it may
-abbrev pub PushRefused : List ChangeValue → ChangeValue → PushError → Type 0
-PushRefused old change (Full c) = (c ≡ change) × (length old ≡ max_changes)
-PushRefused old change (WantOfMemory c) = (c ≡ change) × (length old < max_changes)
+abbrev pub PushStops : List ChangeValue → ChangeValue → PushError → Type 0
+PushStops old change (Full c) = (c ≡ change) × (length old ≡ max_changes)
+PushStops old change (WantOfMemory c) = (c ≡ change) × (length old < max_changes)

@@ -3,7 +3,7 @@
 ghost use Rattle.std.specs.Prelude.{◌≡◌, ◌<◌, [], ◌∷◌, ◌++◌, length, OnOk, IfOk, IfErr, OnErr};
 ghost use Rattle.osm_model.specs.Batch.{IsBatch};
 ghost use Rattle.osm_model.specs.Limits.{max_changes};
-ghost use Rattle.osm_model.specs.Push.{PushRefused};
+ghost use Rattle.osm_model.specs.Push.{PushStops};
 
 use crate::change::Change;
 use crate::limits::MAX_CHANGES;
@@ -64,7 +64,7 @@ impl Batch {
     pub fn push(&mut self, change: Change) -> Result<(), PushError>
         ensures ok { OnOk result (self.new ≡ self.old ++ change ∷ []) }
         ensures room { OnOk result (length self.old < max_changes) }
-        ensures refused { IfErr result (PushRefused self.old change) }
+        ensures refused { IfErr result (PushStops self.old change) }
         ensures unchanged { OnErr result (self.new ≡ self.old) }
     {
         if self.changes.len() >= MAX_CHANGES {

@@ -1,7 +1,7 @@
 //! What a data file holds: objects that aren't deleted, by rising keys.
 
 ghost use Rattle.std.specs.Prelude.{◌↔◌, IfErr, IsTrue, MatchOption, OnOk, OnErr};
-ghost use Rattle.osm_model.specs.Data.{AreBelow, IsData, IsFirstFault, IsNext, NextRefused};
+ghost use Rattle.osm_model.specs.Data.{AreBelow, IsData, IsFirstFault, IsNext, NextStops};
 
 use crate::change::Change;
 use crate::form::Why;
@@ -27,7 +27,7 @@ pub fn check_next(objects: &[Change], change: &Change) -> Result<(), Why>
     requires { IsData objects.now }
     ensures next { OnOk result (IsNext objects.now change.now) }
     ensures other { OnErr result (IsNext objects.now change.now → ⊥) }
-    ensures cause { IfErr result (NextRefused change.now) }
+    ensures cause { IfErr result (NextStops change.now) }
 {
     change.limits();
     if change.is_deletion() {

@@ -3,7 +3,7 @@
 ghost use Rattle.std.specs.Prelude.{◌≡◌, ℕ, List, ◌≤◌, length, IfOk, OnOk, IfErr};
 ghost use Rattle.osm_model.specs.Batch.{IsBatch};
 ghost use Rattle.osm_model.specs.Change.{ChangeValue};
-ghost use Rattle.osm_model.specs.ChangeForm.{ReadRefused, WriteRefused};
+ghost use Rattle.osm_model.specs.ChangeForm.{ReadStops, WriteStops};
 ghost use Rattle.osm_model.specs.Limits.{max_file};
 
 use crate::batch::Batch;
@@ -95,13 +95,13 @@ pub trait ChangeForm {
     fn write(alloc: Global, batch: &Batch) -> Result<Vec<u8>, FormError>
         ensures text { IfOk result (λ v. v.items ≡ text batch.now) }
         ensures small { IfOk result (λ v. length v.items ≤ max_file) }
-        ensures refused { IfErr result (WriteRefused (text batch.now)) };
+        ensures refused { IfErr result (WriteStops (text batch.now)) };
 
     /// The batch that the bytes spell.
     fn read(alloc: Global, bytes: &[u8]) -> Result<Batch, FormError>
         ensures spelled { IfOk result (λ b. spells bytes.now b) }
         ensures small { OnOk result (length bytes.now ≤ max_file) }
-        ensures refused { IfErr result (ReadRefused spells fault_place bytes.now) };
+        ensures refused { IfErr result (ReadStops spells fault_place bytes.now) };
 
     /// The laws of the form: the written text of a batch within the limits spells it, and one list
     /// of bytes spells at most one batch. Does nothing at run time.
@@ -116,7 +116,7 @@ pub trait ChangeForm {
 /// this law.
 pub fn there_and_back<F: ChangeForm>(alloc: Global, batch: &Batch) -> Result<Batch, FormError>
     ensures same { IfOk result (λ b. b ≡ batch.now) }
-    ensures refused { IfErr result (WriteRefused (F.text batch.now)) }
+    ensures refused { IfErr result (WriteStops (F.text batch.now)) }
 {
     F::laws();
     batch.limits();

@@ -5,7 +5,7 @@ use Rattle.std.proofs.lemmas.Option.{same_Some}
 use Rattle.std.proofs.lemmas.List.{length-append, append-nil}
 use Rattle.osm_o5c.specs.Many.{SpellsMany, none, more}
 use Rattle.osm_o5c.specs.Steps.ObjectReading.{many_at}
-use Rattle.osm_reading.specs.Answers.{and_then, Fails}
+use Rattle.osm_reading.specs.Answers.{and_then, Stops}
 use Rattle.osm_reading.specs.declared.refusal.Refusal.{Refusal}
 use Rattle.osm_reading.specs.declared.refusal.Refusal.TheVariants.{WantOfMemory, Fault}
 use Rattle.osm_reading.proofs.StepLemmas.{some_then}
@@ -68,7 +68,7 @@ module _ {S A : Type 0} where
   -- a part is wrong
   pub loop_wrong : (one : S → List ℕ → Option (A × S × List ℕ)) (k : ℕ) (s : S) (bytes : List ℕ) (found : List A)
       (whole : Option (List A × S)) (refusal : Refusal) → whole ≡ behind found (many_at one k s bytes)
-      → 0 < length bytes → Fails refusal (one s bytes) → Fails refusal whole
+      → 0 < length bytes → Stops refusal (one s bytes) → Stops refusal whole
   loop_wrong one k s bytes found whole WantOfMemory w h f = tt
   loop_wrong one k s bytes found whole (Fault why) w h f = w ∙ rw (many_bad one k s bytes h f) refl
 

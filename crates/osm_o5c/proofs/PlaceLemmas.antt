@@ -11,7 +11,7 @@ use Rattle.std.proofs.lemmas.Slice.Eq.{bytes_eq-Decides}
 use Rattle.std.proofs.lemmas.List.{length-append, length-drop, take-append-drop, take_at}
 use Rattle.osm_model.specs.Batch.{IsBatch}
 use Rattle.osm_model.specs.Change.{ChangeValue}
-use Rattle.osm_model.specs.ChangeForm.{ReadRefused, SpellsNothing}
+use Rattle.osm_model.specs.ChangeForm.{ReadStops, SpellsNothing}
 use Rattle.osm_model.specs.Data.{IsData}
 use Rattle.osm_model.specs.Limits.{max_file}
 use Rattle.osm_model.specs.declared.form.FormError.TheVariants.{WantOfMemory}
@@ -384,7 +384,7 @@ empty_later Limits bytes k p q here begins none end ends =
 -- if an object begins after what was read, the bytes don't spell the empty list
 pub wanted_at_object : (start : List ℕ) (Limits : List ChangeValue → Type 0) → AreLimits Limits → (bytes : List ℕ)
     (p : Position) → length bytes ≤ max_file → IsReached start Limits bytes p → BeginsObject p.rest
-    → ReadRefused (SpellsFile start Limits) (FaultIn start Limits) bytes WantOfMemory
+    → ReadStops (SpellsFile start Limits) (FaultIn start Limits) bytes WantOfMemory
 wanted_at_object start Limits are bytes p small s begins = (
   small,
   λ empty.

@@ -4,7 +4,7 @@ ghost use Rattle.std.specs.Prelude.{◌≡◌, ◌∷◌, [], ◌++◌, Option, 
 ghost use Rattle.osm_o5c.specs.Steps.FileReading.{kind_of_byte, object_dataset_at};
 ghost use Rattle.osm_o5c.specs.Steps.FileReading.{other_dataset_at};
 ghost use Rattle.osm_o5c.specs.Steps.FileReading.{position, with_found, step};
-ghost use Rattle.osm_o5c.specs.Steps.FileReading.{ChangeRefused, ObjectRefused, StepRefused};
+ghost use Rattle.osm_o5c.specs.Steps.FileReading.{ChangeStops, ObjectStops, StepStops};
 ghost use Rattle.osm_o5c.specs.Written.{is_other, reset_text, state_before, dataset_text};
 ghost use Rattle.osm_o5c.specs.Written.{after_object, change_text, after_change};
 ghost use Rattle.osm_o5c.specs.File.{kind_byte};
@@ -49,7 +49,7 @@ fn add<F: FileLimits>(change: Change, changes: &mut Vec<Change>) -> Result<(), R
     requires { F.limits changes.old.items }
     ensures added { OnOk result (changes.new.items ≡ changes.old.items ++ change ∷ []) }
     ensures right { OnOk result (F.limits changes.new.items) }
-    ensures refused { IfErr result (ChangeRefused F.limits changes.old.items change) }
+    ensures refused { IfErr result (ChangeStops F.limits changes.old.items change) }
 {
     match F::check_next(changes.as_slice(), &change) {
         Ok(()) => {}
@@ -76,7 +76,7 @@ impl<'a> Reader<'a> {
             and_then (object_dataset_at kind self.old bytes.now) (with_found changes.old.items)
             ≡ Option.Some (position self.new changes.new.items r.now)) }
         ensures right { OnOk result (F.limits changes.new.items) }
-        ensures refused { IfErr result (ObjectRefused F.limits
+        ensures refused { IfErr result (ObjectStops F.limits
             (and_then (object_dataset_at kind self.old bytes.now)
             (with_found changes.old.items))) }
     {
@@ -121,7 +121,7 @@ impl<'a> Reader<'a> {
             ≡ Option.Some (position self.new changes.new.items r.now)) }
         ensures right { OnOk result (F.limits changes.new.items) }
         ensures refused { IfErr result
-            (StepRefused F.limits (position self.old changes.old.items bytes.now)) }
+            (StepStops F.limits (position self.old changes.old.items bytes.now)) }
     {
         let Some((first, rest)) = bytes.split_first() else {
             return Err(Refusal::Fault(Why::Truncated));

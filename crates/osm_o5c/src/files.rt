@@ -3,7 +3,7 @@
 ghost use Rattle.std.specs.Prelude.{◌≡◌, List, ◌∷◌, [], ◌++◌, ◌≤◌, length, IfOk, OnOk, OnErr};
 ghost use Rattle.std.specs.Prelude.{IfErr};
 ghost use Rattle.osm_model.specs.Change.{ChangeValue};
-ghost use Rattle.osm_model.specs.ChangeForm.{ReadRefused};
+ghost use Rattle.osm_model.specs.ChangeForm.{ReadStops};
 ghost use Rattle.osm_model.specs.Limits.{max_file};
 ghost use Rattle.osm_o5c.specs.File.{FaultIn, SpellsFile};
 ghost use Rattle.osm_o5c.specs.Steps.Files.{AreLimits, WriteStops};
@@ -77,7 +77,7 @@ pub fn read_changes<F: FileLimits>(
     ensures spelled { IfOk result (λ v. SpellsFile start.now F.limits bytes.now v.items) }
     ensures right { IfOk result (λ v. F.limits v.items) }
     ensures small { OnOk result (length bytes.now ≤ max_file) }
-    ensures refused { IfErr result (ReadRefused (SpellsFile start.now F.limits)
+    ensures refused { IfErr result (ReadStops (SpellsFile start.now F.limits)
         (FaultIn start.now F.limits) bytes.now) }
 {
     if bytes.len() > MAX_FILE {

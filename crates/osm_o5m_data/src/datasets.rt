@@ -6,7 +6,7 @@ ghost use Rattle.osm_model.specs.Change.{ChangeValue};
 ghost use Rattle.osm_o5c.specs.Steps.FileReading.{position, step};
 ghost use Rattle.osm_o5m_data.specs.declared.extents.Extent.TheVariants as extents;
 ghost use Rattle.osm_o5m_data.specs.Steps.Extents.{extent_at};
-ghost use Rattle.osm_o5m_data.specs.Steps.Reading.{HasReadTo, IsPart, PartRefused};
+ghost use Rattle.osm_o5m_data.specs.Steps.Reading.{HasReadTo, IsPart, PartStops};
 ghost use Rattle.osm_o5m_data.specs.Steps.Blocks.{IsWithin, StopsAt};
 
 use crate::extents::is_whole;
@@ -54,8 +54,8 @@ impl FileLimits for DataFile {
 /// name a string of 250, so the objects can take some hundred times as much memory.
 const PORTION: usize = 262_144;
 
-/// Reads the datasets at the start of the bytes, as long as they are whole, up to the one with which
-/// they are a portion; at least the first is.
+/// Reads the datasets at the start of the bytes, as long as they are whole, up to the one with
+/// which they are a portion; at least the first is.
 pub fn read_datasets(alloc: Global, held: &Held, bytes: &[u8]) -> Result<Found, Stop>
     requires { extent_at bytes.now ≡ extents.Whole }
     ensures read { IfOk result (λ found. (file : List ℕ) (done : List ChangeValue) (more : List ℕ)
@@ -119,7 +119,7 @@ fn read_one<'a>(
         ≡ Some (position reader.new objects.new.items rest.now)) }
     ensures right { OnOk result (IsPart held.now.last objects.new.items) }
     ensures refused { IfErr result
-        (PartRefused held.now.last (position reader.old objects.old.items bytes.now)) }
+        (PartStops held.now.last (position reader.old objects.old.items bytes.now)) }
 {
     let rest = match reader.next::<DataFile>(alloc, objects, bytes) {
         Ok(rest) => rest,

@@ -51,8 +51,8 @@ use Rattle.osm_folder.specs.declared.fault.FileName.TheVariants.{Base, Save}
 use Rattle.osm_folder.specs.declared.fault.RunFault.{RunFault}
 use Rattle.osm_folder.specs.declared.fault.RunFault.TheVariants.{WantOfMemory, ReadFault, WriteFault, TooLarge, Absent}
 use Rattle.osm_folder.specs.declared.fault.RunFault.TheVariants.{BadState, BadChange, BadSave, Changed, UnknownForm, ZeroBase}
-use Rattle.osm_operations.specs.Allowed.{BeginRefused, ExportRefused, HasBeginning, HasExport, HasManyToBegin, LacksBeginCalls, LacksExportCalls}
-use Rattle.osm_operations.specs.Allowed.{KilledBeginRefused, KilledExportRefused}
+use Rattle.osm_operations.specs.Allowed.{BeginStopsIn, ExportStopsIn, HasBeginning, HasExport, HasManyToBegin, LacksBeginCalls, LacksExportCalls}
+use Rattle.osm_operations.specs.Allowed.{KilledBeginStopsIn, KilledExportStopsIn}
 use Rattle.osm_operations.specs.Correct.{AreApart, IsExtractOf}
 use Rattle.osm_operations.specs.History.{Standing, begins_at, text_of, unless_lost}
 use Rattle.osm_operations.specs.History as hist
@@ -153,7 +153,7 @@ pub export_row : (given : FilterValue) (h : hist.History) (extract save : List �
     → LacksCalls (export_calls (bytes_in (f save))) (Some calls) fault
     → IsSaveOf (hist.published_of h) given (hist.base_of h) (hist.number_of h) (f save)
     → is_none (f save) ≡ not (hist.is_saved h) → ExportStops (IsTrue true) save extract f fault
-    → KilledExportRefused given h extract calls fault
+    → KilledExportStopsIn given h extract calls fault
 export_row given h extract save calls f UnknownForm lacks s there r = r
 export_row given h extract save calls f WantOfMemory lacks s there r = tt
 export_row given h extract save calls f (ReadFault file) lacks s there r = (r.1, r.0, lacks_calls given h save f calls s (lacks tt))
@@ -180,7 +180,7 @@ export_row given h extract save calls f (WriteFault file) lacks s there r =
 export_row given h extract save calls f fault lacks s there r = absurd r.1
 
 pub not_killed_export : (given : FilterValue) (h : hist.History) (extract : List ℕ) (calls : ℕ) (fault : RunFault) → IsNoDevice fault
-    → KilledExportRefused given h extract calls fault → ExportRefused given h extract fault
+    → KilledExportStopsIn given h extract calls fault → ExportStopsIn given h extract fault
 not_killed_export given h extract calls (ReadFault file) none r = absurd none
 not_killed_export given h extract calls (WriteFault file) none r = absurd none
 not_killed_export given h extract calls fault none r = r
@@ -447,7 +447,7 @@ module _ (h : hist.History) (given : FilterValue) (dir save changes extract : Li
   lacks_begin start_is few = record { told = f extract; exported = exported_is start_is; few = few }
 
   pub begin_row : (fault : RunFault) → LacksCallsToBegin extract calls f fault → NoFaultBesideState
-      → BeginStops (IsTrue true) given extract (state_in dir h) f fault → KilledBeginRefused given h extract calls fault
+      → BeginStops (IsTrue true) given extract (state_in dir h) f fault → KilledBeginStopsIn given h extract calls fault
   begin_row UnknownForm lacks law r = r
   begin_row WantOfMemory lacks law r = tt
   begin_row (ReadFault files.State) lacks law r = (r, lacks.first refl)
@@ -502,7 +502,7 @@ module _ (h : hist.History) (given : FilterValue) (dir save changes extract : Li
   begin_row fault lacks law r = absurd r
 
 pub not_killed_begin : (given : FilterValue) (h : hist.History) (extract : List ℕ) (calls : ℕ) (fault : RunFault) → IsNoDevice fault
-    → KilledBeginRefused given h extract calls fault → BeginRefused given h extract fault
+    → KilledBeginStopsIn given h extract calls fault → BeginStopsIn given h extract fault
 not_killed_begin given h extract calls (ReadFault file) none r = absurd none
 not_killed_begin given h extract calls (WriteFault file) none r = absurd none
 not_killed_begin given h extract calls fault none r = r

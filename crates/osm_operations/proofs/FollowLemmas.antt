@@ -21,10 +21,10 @@ use Rattle.osm_folder.specs.declared.fault.RunFault.{RunFault}
 use Rattle.osm_folder.specs.declared.fault.RunFault.TheVariants.{WantOfMemory, ReadFault, WriteFault, TooLarge, Absent}
 use Rattle.osm_folder.proofs.InStepLemmas.{one_saved}
 use Rattle.osm_folder.proofs.TakingLemmas.{adds_number}
-use Rattle.osm_round.specs.Over.{FollowRefuses, follow_calls}
+use Rattle.osm_round.specs.Over.{FollowStopsOver, follow_calls}
 use Rattle.osm_round.specs.Rounds.{IsFollowed}
 use Rattle.osm_round.proofs.OverLemmas.{in_step_after}
-use Rattle.osm_operations.specs.Allowed.{FollowingRefused, KilledFollowingRefused}
+use Rattle.osm_operations.specs.Allowed.{FollowingStopsIn, KilledFollowingStopsIn}
 use Rattle.osm_operations.specs.Correct.{AreApart, IsExtractOf}
 use Rattle.osm_operations.specs.History.{Standing, count_from, text_of, unless_lost}
 use Rattle.osm_operations.specs.Steps.Stepping.{IsNoDevice}
@@ -193,8 +193,8 @@ followed p lost m given dir save changes extract start f g l n report apart s ru
 
 -- a run that stopped
 pub stopped_follow : (p : List PublishedValue) (given : FilterValue) (base m calls : ℕ) (told : Option (List ℕ)) (fault : RunFault)
-    → LacksCalls (follow_calls p m told) (Some calls) fault → IsSaveOf p given base m told → FollowRefuses p given told fault
-    → KilledFollowingRefused p given m calls fault
+    → LacksCalls (follow_calls p m told) (Some calls) fault → IsSaveOf p given base m told → FollowStopsOver p given told fault
+    → KilledFollowingStopsIn p given m calls fault
 stopped_follow p given base m calls told WantOfMemory lacks s r = tt
 stopped_follow p given base m calls told (ReadFault file) lacks s r =
     record { base = base; told = told; saved = s; few = lacks tt }
@@ -211,7 +211,7 @@ stopped_follow p given base m calls told (TooLarge file) lacks s r = (
 stopped_follow p given base m calls told fault lacks s r = absurd r
 
 pub not_killed_follow : (p : List PublishedValue) (given : FilterValue) (m calls : ℕ) (fault : RunFault) → IsNoDevice fault
-    → KilledFollowingRefused p given m calls fault → FollowingRefused p given fault
+    → KilledFollowingStopsIn p given m calls fault → FollowingStopsIn p given fault
 not_killed_follow p given m calls (ReadFault file) none h = absurd none
 not_killed_follow p given m calls (WriteFault file) none h = absurd none
 not_killed_follow p given m calls fault none h = h

@@ -19,7 +19,7 @@ use Rattle.osm_folder.specs.Folder.{IsFolderOf, IsThere}
 use Rattle.osm_folder.specs.Following.{is_lost}
 use Rattle.osm_folder.specs.Names.{top_name_of}
 use Rattle.osm_folder.specs.Numbered.{IsFileOfNumber, IsRepeatOf, NumberedOut}
-use Rattle.osm_folder.specs.Numbered.{NumberedRefuses, NumberedStops, calls_before, file_read_after}
+use Rattle.osm_folder.specs.Numbered.{NumberedStopsOver, NumberedStops, calls_before, file_read_after}
 use Rattle.osm_folder.specs.Publication.{CutsOff, file_after}
 use Rattle.osm_folder.specs.declared.fault.FileName.{FileName}
 use Rattle.osm_folder.specs.declared.fault.FileName.TheVariants.{Changes, Sequence, Top}
@@ -28,7 +28,7 @@ use Rattle.osm_folder.specs.declared.fault.RunFault.TheVariants.{WantOfMemory, R
 use Rattle.osm_folder.specs.declared.fault.RunFault.TheVariants.{BadChange, TimeBack, BadNow, BadSequence}
 use Rattle.osm_folder.specs.declared.fault.RunFault.TheVariants.{Differs, TopAt}
 use Rattle.osm_folder.proofs.FolderLemmas.{goes_on_number}
-use Rattle.osm_operations.specs.Allowed.{CutsAfter, IsRepeat, KilledNumberedRefused, NumberedRefused}
+use Rattle.osm_operations.specs.Allowed.{CutsAfter, IsRepeat, KilledNumberedStopsIn, NumberedStopsIn}
 use Rattle.osm_operations.specs.History as hist
 use Rattle.osm_operations.specs.Steps.Stepping.{ChangesStop, IsNoDevice, IsNumberText, IsPublishRun, StopsPublishingAs}
 use Rattle.osm_operations.proofs.AgreeLemmas.{Agrees, one_shown}
@@ -37,7 +37,7 @@ use Rattle.osm_operations.proofs.NumberedLemmas.{asked_is}
 
 -- the file of changes wasn't written
 pub unwritten_number : (h : hist.History) (batch : List ChangeValue) (time n calls : ℕ) (fault : RunFault)
-    → ChangesStop batch fault → KilledNumberedRefused h batch time n calls fault
+    → ChangesStop batch fault → KilledNumberedStopsIn h batch time n calls fault
 unwritten_number h batch time n calls WantOfMemory e = tt
 unwritten_number h batch time n calls (TooLarge file) e = (e.0, inl e.1)
 unwritten_number h batch time n calls fault e = absurd e
@@ -96,7 +96,7 @@ pub stopped_number : (h : hist.History) (given : FilterValue) (dir save changes 
     (batch : List ChangeValue) (time n calls : ℕ) (fault : RunFault)
     → (run : IsPublishRun dir changes batch time f g (StopsPublishingAs (Some calls) dir changes n fault g))
     → Agrees (hist.published_of h) (hist.is_file_lost h) m given dir save changes extract start run.middle l c
-    → KilledNumberedRefused h batch time n calls fault
+    → KilledNumberedStopsIn h batch time n calls fault
 stopped_number h given dir save changes extract start f g l c m batch time n calls fault run s =
     by_fault fault run.is_so.stops (run.is_so.refuses (hist.published_of h) s.folder) run.is_so.out
   where
@@ -139,9 +139,9 @@ stopped_number h given dir save changes extract start f g l c m batch time n cal
     first_two file known (inr (inr e)) = inr (inr e)
 
     by_fault : (fault : RunFault) → NumberedStops (IsTrue true) dir changes run.now run.is_so.sequence run.middle g
-        fault → NumberedRefuses p dir changes run.now run.is_so.sequence run.middle fault
+        fault → NumberedStopsOver p dir changes run.now run.is_so.sequence run.middle fault
         → NumberedOut dir run.is_so.sequence run.middle (Some calls) fault
-        → KilledNumberedRefused h batch time n calls fault
+        → KilledNumberedStopsIn h batch time n calls fault
     by_fault BadNow stops r out = elim (cases_lt 0 time) [
       | inl some ↦ absurd (r time (run.is_text some))
       | inr none ↦ omega (arith, none)
@@ -233,7 +233,7 @@ number_unlimited dir sequence f (WriteFault file) out = absurd (let e = out.7 in
 number_unlimited dir sequence f fault out = (out, out)
 
 pub number_not_killed : (h : hist.History) (batch : List ChangeValue) (time n calls : ℕ) (fault : RunFault)
-    → IsNoDevice fault → KilledNumberedRefused h batch time n calls fault → NumberedRefused h batch time n fault
+    → IsNoDevice fault → KilledNumberedStopsIn h batch time n calls fault → NumberedStopsIn h batch time n fault
 number_not_killed h batch time n calls (ReadFault file) none e = absurd none
 number_not_killed h batch time n calls (WriteFault file) none e = absurd none
 number_not_killed h batch time n calls fault none e = e

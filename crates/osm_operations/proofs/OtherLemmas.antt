@@ -16,7 +16,7 @@ use Rattle.osm_folder.proofs.InStepLemmas.{one_saved}
 use Rattle.osm_round.specs.Rounds.{HasManyObjects, IsFollowed, IsFollowedBefore, RoundStops, StartStops}
 use Rattle.osm_checked.specs.Checking.{IsTooLarge}
 use Rattle.osm_round.proofs.OverLemmas.{no_bad_save}
-use Rattle.osm_operations.specs.Allowed.{OtherRefused}
+use Rattle.osm_operations.specs.Allowed.{OtherStopsIn}
 use Rattle.osm_operations.specs.Steps.Stepping.{IsNoDevice}
 use Rattle.osm_operations.proofs.ExtractLemmas.{saved_right}
 
@@ -48,7 +48,7 @@ module _ (given other : FilterValue) (p : List PublishedValue) (base number : �
   many_other : HasManyObjects (plainly other) dir save f → ⊥
   many_other m = not_started m.start m.top m.started
 
-  start_other : (fault : RunFault) → IsNoDevice fault → StartStops (IsTrue true) (plainly other) dir save f fault → OtherRefused p given fault
+  start_other : (fault : RunFault) → IsNoDevice fault → StartStops (IsTrue true) (plainly other) dir save f fault → OtherStopsIn p given fault
   start_other WantOfMemory none h = tt
   start_other (ReadFault file) none h = absurd none
   start_other (WriteFault file) none h = absurd none
@@ -56,7 +56,7 @@ module _ (given other : FilterValue) (p : List PublishedValue) (base number : �
   start_other (Absent Save) none h = absurd (h refl)
   start_other (TooLarge Save) none h = by_reason (h refl)
     where
-      by_reason : IsTooLarge (f save) ⊎ HasManyObjects (plainly other) dir save f → OtherRefused p given (TooLarge Save)
+      by_reason : IsTooLarge (f save) ⊎ HasManyObjects (plainly other) dir save f → OtherStopsIn p given (TooLarge Save)
       by_reason (inl (inl huge)) = (refl, record { base = base; number = number; told = f save; saved = s; huge = huge })
       by_reason (inl (inr bad)) = absurd (no_bad_save given (f save) s.value s.saved bad)
       by_reason (inr many) = absurd (many_other many)
@@ -70,7 +70,7 @@ module _ (given other : FilterValue) (p : List PublishedValue) (base number : �
   start_other fault none h = absurd h
 
   -- for the filter, or for want of memory
-  pub other_refused : (fault : RunFault) → IsNoDevice fault → RoundStops (IsTrue true) (plainly other) dir save f fault → OtherRefused p given fault
+  pub other_refused : (fault : RunFault) → IsNoDevice fault → RoundStops (IsTrue true) (plainly other) dir save f fault → OtherStopsIn p given fault
   other_refused fault none (inl h) = start_other fault none h
   other_refused fault none (inr (inl h)) = absurd (let c = h.comes refl in not_started c.start c.top c.started)
   other_refused fault none (inr (inr h)) = absurd (let c = h.comes refl in not_started c.start c.top c.started)

@@ -13,20 +13,20 @@ use Rattle.osm_follow.specs.Publisher.{IsTooLarge}
 use Rattle.osm_store.specs.Files.{Files}
 use Rattle.osm_folder.specs.Folder.{IsFolderOf}
 use Rattle.osm_folder.specs.Names.{top_name_of}
-use Rattle.osm_folder.specs.Publication.{FolderRefuses, PublishOut, PublishStops, file_after}
+use Rattle.osm_folder.specs.Publication.{PublishStopsOver, PublishOut, PublishStops, file_after}
 use Rattle.osm_folder.specs.Runs.{LacksCalls}
 use Rattle.osm_folder.specs.declared.fault.RunFault.{RunFault}
 use Rattle.osm_folder.specs.declared.fault.FileName.TheVariants.{Changes, Top}
 use Rattle.osm_folder.specs.declared.fault.RunFault.TheVariants.{WantOfMemory, ReadFault, WriteFault, TooLarge, Absent}
 use Rattle.osm_folder.specs.declared.fault.RunFault.TheVariants.{BadChange, TimeBack, SequenceFull, BadNow}
 use Rattle.osm_folder.proofs.FolderLemmas.{goes_on_number}
-use Rattle.osm_operations.specs.Allowed.{KilledPublicationRefused, PublicationRefused}
+use Rattle.osm_operations.specs.Allowed.{KilledPublicationStopsIn, PublicationStopsIn}
 use Rattle.osm_operations.specs.Steps.Stepping.{AreChangesPut, ChangesStop, IsNoDevice}
 use Rattle.osm_operations.proofs.AgreeLemmas.{one_shown, read_batch}
 
 -- the file of changes wasn't written
 pub unwritten_row : (p : List PublishedValue) (batch : List ChangeValue) (time calls : ℕ) (fault : RunFault)
-    → ChangesStop batch fault → KilledPublicationRefused p batch time calls fault
+    → ChangesStop batch fault → KilledPublicationStopsIn p batch time calls fault
 unwritten_row p batch time calls WantOfMemory h = tt
 unwritten_row p batch time calls (TooLarge file) h = (h.0, inl h.1)
 unwritten_row p batch time calls fault h = absurd h
@@ -35,8 +35,8 @@ unwritten_row p batch time calls fault h = absurd h
 pub stopped_row : (p : List PublishedValue) (dir changes now : List ℕ) (batch : List ChangeValue) (time calls : ℕ)
     (f m g : Files) (fault : RunFault) → IsFolderOf p m dir → PublishOut dir m (Some calls) fault → Shows now time
     → (1 ≤ time → TimeText now time) → AreChangesPut changes batch f m
-    → PublishStops (IsTrue true) dir changes now m g fault → FolderRefuses p now fault
-    → KilledPublicationRefused p batch time calls fault
+    → PublishStops (IsTrue true) dir changes now m g fault → PublishStopsOver p now fault
+    → KilledPublicationStopsIn p batch time calls fault
 stopped_row p dir changes now batch time calls f m g BadNow folder out shows is_text put stops r = elim (cases_lt 0 time) [
   | inl some ↦ absurd (r time (is_text some))
   | inr none ↦ omega (arith, none)
@@ -97,7 +97,7 @@ no_device_lacks k left (WriteFault file) none = λ blame. absurd none
 no_device_lacks k left fault none = λ blame. absurd blame
 
 pub not_killed : (p : List PublishedValue) (batch : List ChangeValue) (time calls : ℕ) (fault : RunFault)
-    → IsNoDevice fault → KilledPublicationRefused p batch time calls fault → PublicationRefused p batch time fault
+    → IsNoDevice fault → KilledPublicationStopsIn p batch time calls fault → PublicationStopsIn p batch time fault
 not_killed p batch time calls (ReadFault file) none h = absurd none
 not_killed p batch time calls (WriteFault file) none h = absurd none
 not_killed p batch time calls fault none h = h

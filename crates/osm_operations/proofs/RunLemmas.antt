@@ -17,7 +17,7 @@ use Rattle.osm_folder.specs.Following.{IsSaveOf, plainly}
 use Rattle.osm_store.specs.Frames.{IsKnown, MakesAtMost, StoreState}
 use Rattle.osm_merge.specs.Calls.{bytes_in}
 use Rattle.osm_folder.specs.Progress.{IsWhole}
-use Rattle.osm_round.specs.Over.{FollowRefuses, FollowsOver, follow_calls}
+use Rattle.osm_round.specs.Over.{FollowStopsOver, FollowsOver, follow_calls}
 use Rattle.osm_round.specs.Rounds.{IsFollowed, IsProgress}
 use Rattle.osm_folder.specs.Runs.{IsDeviceFault, LacksCalls}
 use Rattle.osm_folder.specs.declared.progress.Progress.{Progress}
@@ -26,8 +26,8 @@ use Rattle.osm_folder.specs.declared.fault.RunFault.TheVariants.{ReadFault}
 use Rattle.osm_state.specs.declared.paths.Suffix.TheVariants.{O5c, Opl}
 use Rattle.osm_store.specs.Stores.{files_of}
 use Rattle.osm_folder.specs.Names.{file_name_of, top_name_of}
-use Rattle.osm_folder.specs.Numbered.{IsAddedAs, IsPublishedAs, NumberedOut, NumberedRefuses, NumberedStops, SpendsExactly, numbered_calls}
-use Rattle.osm_folder.specs.Publication.{FolderRefuses, GoesOnFrom, IsPublished, PublishOut, PublishStops}
+use Rattle.osm_folder.specs.Numbered.{IsAddedAs, IsPublishedAs, NumberedOut, NumberedStopsOver, NumberedStops, SpendsExactly, numbered_calls}
+use Rattle.osm_folder.specs.Publication.{PublishStopsOver, GoesOnFrom, IsPublished, PublishOut, PublishStops}
 use Rattle.osm_folder.specs.Reports.{ReportValue, convert_report_of}
 use Rattle.osm_folder.specs.declared.fault.FileName.TheVariants as names
 use Rattle.osm_folder.specs.declared.fault.RunFault.{RunFault}
@@ -43,7 +43,7 @@ pub record Answers (left : Option ℕ) (dir changes now : List ℕ) (middle new 
     (r : Result ReportValue RunFault) : Type 0 where
   pub published : IfOk r (λ report. IsTrue true → IsPublished dir changes now middle new report)
   pub stops : IfErr r (PublishStops (IsTrue true) dir changes now middle new)
-  pub refuses : IfErr r (λ fault. IsTrue true → (p : List PublishedValue) → IsFolderOf p middle dir → FolderRefuses p now fault)
+  pub refuses : IfErr r (λ fault. IsTrue true → (p : List PublishedValue) → IsFolderOf p middle dir → PublishStopsOver p now fault)
   pub keeps : OnErr r (IsTrue true → (p : List PublishedValue) → IsFolderOf p middle dir → IsFolderOf p new dir)
   pub out : IfErr r (λ fault. IsTrue true → PublishOut dir middle left fault)
   pub others : IsTrue true → (name : List ℕ) → IsApart dir name → new name ≡ middle name
@@ -89,7 +89,7 @@ pub record AnswersAs (left : Option ℕ) (dir changes now sequence : List ℕ) (
   pub exact : OnOk r (IsTrue true → (number top time : ℕ) → SpellsSequence sequence number
       → GoesOnFrom (middle (top_name_of dir)) top time → HasCalls (numbered_calls number top) left)
   pub stops : IfErr r (NumberedStops (IsTrue true) dir changes now sequence middle new)
-  pub refuses : IfErr r (λ fault. IsTrue true → (p : List PublishedValue) → IsFolderOf p middle dir → NumberedRefuses p dir changes now sequence middle fault)
+  pub refuses : IfErr r (λ fault. IsTrue true → (p : List PublishedValue) → IsFolderOf p middle dir → NumberedStopsOver p dir changes now sequence middle fault)
   pub keeps : OnErr r (IsTrue true → (p : List PublishedValue) → IsFolderOf p middle dir → IsFolderOf p new dir)
   pub out : IfErr r (λ fault. IsTrue true → NumberedOut dir sequence middle left fault)
   pub others : IsTrue true → (name : List ℕ) → IsApart dir name → new name ≡ middle name
@@ -190,7 +190,7 @@ pub follow_step : (given : FilterValue) (dir save : List ℕ) (f f' g g' : Files
     (r : Result ReportValue RunFault) → IsReportOf w r → f' ≡ f → g' ≡ g
     → IfOk w (IsProgress (IsTrue true) (plainly given) dir save f' g)
     → (IsTrue true → (p : List PublishedValue) (base n : ℕ) → IsFolderOf p f' dir → IsSaveOf p given base n (f' save)
-    → IsWhole w (λ x. IfErr x (FollowRefuses p given (f' save)))) → OnErr w (g ≡ f') → FollowStep given dir save r f g'
+    → IsWhole w (λ x. IfErr x (FollowStopsOver p given (f' save)))) → OnErr w (g ≡ f') → FollowStep given dir save r f g'
 follow_step given dir save f f' g g' (Ok (Whole report)) r is same same_after done over unchanged =
     rw is (subst (λ (x : Files). IsFollowed (plainly given) dir save f x report) (sym same_after)
     (subst (λ (x : Files). IsFollowed (plainly given) dir save x g report) same (done refl)))
@@ -200,7 +200,7 @@ follow_step given dir save f f' g g' (Ok (Before report fault)) r is same same_a
 follow_step given dir save f f' g g' (Err fault) r is same same_after done over unchanged =
     rw is (λ p base n folder saved. (
       same_after ∙ (unchanged ∙ same),
-      subst (λ (x : Files). FollowRefuses p given (x save) fault) same
+      subst (λ (x : Files). FollowStopsOver p given (x save) fault) same
           (over refl p base n (subst (λ (x : Files). IsFolderOf p x dir) (sym same) folder)
           (subst (λ (x : Files). IsSaveOf p given base n (x save)) (sym same) saved)),
     ))
@@ -210,7 +210,7 @@ pub progress_over_refuses : (given : FilterValue) (dir save : List ℕ) (a b : S
     → (IsKnown a → (p : List PublishedValue) (base n : ℕ) → IsFolderOf p a.files dir → IsSaveOf p given base n (a.files save)
     → IsWhole w (FollowsOver p (plainly given) base n dir save a b))
     → IsKnown a → (p : List PublishedValue) (base n : ℕ) → IsFolderOf p a.files dir → IsSaveOf p given base n (a.files save)
-    → IsWhole w (λ x. IfErr x (FollowRefuses p given (a.files save)))
+    → IsWhole w (λ x. IfErr x (FollowStopsOver p given (a.files save)))
 progress_over_refuses given dir save a b (Ok (Whole report)) over sure p base n folder saved = tt
 progress_over_refuses given dir save a b (Ok (Before report fault)) over sure p base n folder saved = over sure p base n folder saved
 progress_over_refuses given dir save a b (Err fault) over sure p base n folder saved = (over sure p base n folder saved).refuses

@@ -30,7 +30,7 @@ use Rattle.osm_folder.proofs.InStepLemmas.{all_in_step, not_bad, not_faulty, not
 use Rattle.osm_folder.proofs.NameLemmas.{top_is_no_file}
 use Rattle.osm_folder.proofs.TakingLemmas.{adds_has, adds_number, has_not_lost}
 use Rattle.osm_merge.specs.Checking.{IsHugeFile}
-use Rattle.osm_round.specs.Over.{FollowRefuses, HasMany}
+use Rattle.osm_round.specs.Over.{FollowStopsOver, HasMany}
 use Rattle.osm_round.specs.Rounds.{ComesBefore, HasManyObjects, RoundStops, StartStops}
 use Rattle.osm_checked.specs.Checking.{IsTooLarge}
 use Rattle.osm_round.proofs.OverLemmas.{no_bad_save, start_refuses}
@@ -310,7 +310,7 @@ module _ (given : FilterValue) (ps : List PublishedValue) (base number : ℕ) (d
 
   -- over the right folder
   over_old : NoFaultBesideState → (known : Type 0) → known → (fault : RunFault) → StartStops known (plainly given) dir save old fault
-      → FollowRefuses ps given (old save) fault
+      → FollowStopsOver ps given (old save) fault
   over_old law known sure fault h = start_refuses law (plainly given) ps base number dir save old o.folder o.saved known fault sure h
 
   many_over : HasManyObjects (plainly given) dir save new → HasMany ps given
@@ -328,7 +328,7 @@ module _ (given : FilterValue) (ps : List PublishedValue) (base number : ℕ) (d
       }
 
   start_over : NoFaultBesideState → (known : Type 0) → known → (fault : RunFault) → StartStops known (plainly given) dir save new fault
-      → FollowRefuses ps given (old save) fault
+      → FollowStopsOver ps given (old save) fault
   start_over law known sure WantOfMemory h = tt
   start_over law known sure (ReadFault file) h = tt
   start_over law known sure (WriteFault Save) h = refl
@@ -357,7 +357,7 @@ module _ (given : FilterValue) (ps : List PublishedValue) (base number : ℕ) (d
   start_over law known sure fault h = absurd h
 
   missing_refuses : (known : Type 0) (reached last : ℕ) (fault : RunFault) → MissingStops known dir new reached last fault
-      → FollowRefuses ps given (old save) fault
+      → FollowStopsOver ps given (old save) fault
   missing_refuses known reached last WantOfMemory h = tt
   missing_refuses known reached last (ReadFault (Sequence j t)) h = tt
   missing_refuses known reached last fault h = absurd h
@@ -376,7 +376,7 @@ module _ (given : FilterValue) (ps : List PublishedValue) (base number : ℕ) (d
 
   number_refuses : NoFaultBesideState → (known : Type 0) → known → (j : ℕ) → 0 < j → j ≤ length ps → (fault : RunFault)
       → NumberStops known dir new j fault → ((m : ℕ) → IsOfContent fault m → IsNextAfter given save new m)
-      → FollowRefuses ps given (old save) fault ⊎ IsNextSpoiled fault
+      → FollowStopsOver ps given (old save) fault ⊎ IsNextSpoiled fault
   number_refuses law known sure j above until WantOfMemory h next = inl tt
   number_refuses law known sure j above until (ReadFault (Sequence i t)) h next = inl tt
   number_refuses law known sure j above until (TooLarge (Sequence i t)) h next =
@@ -393,7 +393,7 @@ module _ (given : FilterValue) (ps : List PublishedValue) (base number : ℕ) (d
 
   -- for what stops a run over the folder, or for the spoiled file of the next number
   pub progress_stops : NoFaultBesideState → (known : Type 0) → known → (fault : RunFault) → RoundStops known (plainly given) dir save new fault
-      → FollowRefuses ps given (old save) fault ⊎ ((k ≡ number + 1) × IsSpoiledFault k s fault × IsReadAt old dir k s)
+      → FollowStopsOver ps given (old save) fault ⊎ ((k ≡ number + 1) × IsSpoiledFault k s fault × IsReadAt old dir k s)
   progress_stops law known sure fault (inl h) = inl (start_over law known sure fault h)
   progress_stops law known sure fault (inr (inl at)) =
       let c = at.comes sure in

@@ -20,7 +20,7 @@ use Rattle.osm_merge.specs.Calls.{bytes_in}
 use Rattle.osm_store.specs.Files.{Files}
 use Rattle.osm_folder.specs.Folder.{IsStateFile}
 use Rattle.osm_folder.specs.Following.{IsSaveOf, no_save, ranges}
-use Rattle.osm_round.specs.Over.{FollowRefuses, follow_calls}
+use Rattle.osm_round.specs.Over.{FollowStopsOver, follow_calls}
 use Rattle.osm_folder.specs.Names.{file_name_of}
 use Rattle.osm_folder.specs.Numbered.{numbered_calls}
 use Rattle.osm_folder.specs.Reports.{ReportValue, begin_report_of, convert_report_of, follow_report_of, publish_report_of}
@@ -29,11 +29,11 @@ use Rattle.osm_store.specs.Stores.{files_of}
 use Rattle.osm_folder.specs.declared.fault.RunFault.{RunFault}
 use Rattle.osm_folder.specs.declared.fault.RunFault.TheVariants.{WantOfMemory, ReadFault, WriteFault, TooLarge, Absent}
 use Rattle.osm_folder.specs.declared.progress.Progress.TheVariants.{Whole, Before}
-use Rattle.osm_operations.specs.Allowed.{AreAllowed, CutsAfter, IsNoNumber, IsRepeat, KilledFollowingRefused}
-use Rattle.osm_operations.specs.Allowed.{KilledNumberedRefused, KilledPublicationRefused, NumberedCut, NumberedDone}
-use Rattle.osm_operations.specs.Allowed.{HasBeginning, HasExport, KilledBeginRefused, KilledExportRefused, following_report}
-use Rattle.osm_operations.specs.Allowed.{AllowedFollowOther, IsFileThere, IsReadIn, KilledSpoiledRefused, NothingToSpoil}
-use Rattle.osm_operations.specs.Allowed.{SpoiledBefore, SpoiledDone, SpoiledRefused}
+use Rattle.osm_operations.specs.Allowed.{AreAllowed, CutsAfter, IsNoNumber, IsRepeat, KilledFollowingStopsIn}
+use Rattle.osm_operations.specs.Allowed.{KilledNumberedStopsIn, KilledPublicationStopsIn, NumberedCut, NumberedDone}
+use Rattle.osm_operations.specs.Allowed.{HasBeginning, HasExport, KilledBeginStopsIn, KilledExportStopsIn, following_report}
+use Rattle.osm_operations.specs.Allowed.{AllowedFollowOther, IsFileThere, IsReadIn, KilledSpoiledStopsIn, NothingToSpoil}
+use Rattle.osm_operations.specs.Allowed.{SpoiledBefore, SpoiledDone, SpoiledStopsIn}
 use Rattle.osm_operations.specs.Correct.{AreApart, IsNew, IsRun}
 use Rattle.osm_operations.specs.History as hist
 use Rattle.osm_operations.specs.Reported.{applied_in}
@@ -114,7 +114,7 @@ publish_stopped : (p : List PublishedValue) (lost : ℕ → Suffix → Bool) (m 
     (start : Files) (a b : World) (batch : List ChangeValue) (time calls : ℕ) (fault : RunFault)
     → AreApart dir save changes extract → AgreesIn p lost m given dir save changes extract start a
     → PublishTo (Some calls) dir changes batch time (Refused fault) a b
-    → AgreesIn (p ++ []) lost m given dir save changes extract start b × KilledPublicationRefused p batch time calls fault
+    → AgreesIn (p ++ []) lost m given dir save changes extract start b × KilledPublicationStopsIn p batch time calls fault
 publish_stopped p lost m given dir save changes extract start a b batch time calls fault apart s step =
     let done = by_step step.0 in (
       quiet p lost m given dir save changes extract start (files_of b.store) (files_of b.lost) b.published
@@ -125,7 +125,7 @@ publish_stopped p lost m given dir save changes extract start a b batch time cal
   where
     by_step : PublishStep (Some calls) dir changes batch time (Err fault) (files_of a.store) (files_of b.store)
         → Agrees p lost m given dir save changes extract start (files_of b.store) (files_of a.lost) a.published
-        × KilledPublicationRefused p batch time calls fault
+        × KilledPublicationStopsIn p batch time calls fault
     by_step (inl h) = (
       renewed p lost m given dir save changes extract start (files_of a.store) (files_of a.lost) (files_of b.store)
           (files_of a.lost) a.published a.published h.1 refl refl s,
@@ -196,7 +196,7 @@ follow_more h given dir save changes extract start a b report apart s step =
 follow_stopped : (p : List PublishedValue) (lost : ℕ → Suffix → Bool) (m : hist.Standing) (given : FilterValue) (dir save changes extract : List ℕ)
     (start : Files) (a b : World) (calls : ℕ) (fault : RunFault) → LacksCalls (follow_calls p m.number (files_of a.store save)) (Some calls) fault
     → AgreesIn p lost m given dir save changes extract start a → FollowTo given dir save (Refused fault) a b
-    → AgreesIn (p ++ []) lost m given dir save changes extract start b × KilledFollowingRefused p given m.number calls fault
+    → AgreesIn (p ++ []) lost m given dir save changes extract start b × KilledFollowingStopsIn p given m.number calls fault
 follow_stopped p lost m given dir save changes extract start a b calls fault lacks s step = (
   quiet p lost m given dir save changes extract start (files_of b.store) (files_of b.lost) b.published
       (renewed p lost m given dir save changes extract start (files_of a.store) (files_of a.lost) (files_of b.store)
@@ -285,12 +285,12 @@ number_refused : (h : hist.History) (given : FilterValue) (dir save changes extr
     (time n calls : ℕ) (fault : RunFault) → AreApart dir save changes extract
     → AgreesIn (hist.published_of h) (hist.is_file_lost h) (hist.standing_of h) given dir save changes extract start a
     → PublishAsTo (Some calls) dir changes batch time n (Refused fault) a b → AgreesIn (hist.published_of h ++ [])
-    (hist.is_file_lost h) (hist.standing_of h) given dir save changes extract start b × KilledNumberedRefused h batch time n calls
+    (hist.is_file_lost h) (hist.standing_of h) given dir save changes extract start b × KilledNumberedStopsIn h batch time n calls
     fault
 number_refused h given dir save changes extract start a b batch time n calls fault apart s (inl (why, same)) = (
   still h given dir save changes extract start a b s (ap (λ (w : World). files_of w.store) same)
       (ap (λ (w : World). files_of w.lost) same) (ap (λ (w : World). w.published) same),
-  subst (KilledNumberedRefused h batch time n calls) (sym why) tt,
+  subst (KilledNumberedStopsIn h batch time n calls) (sym why) tt,
 )
 number_refused h given dir save changes extract start a b batch time n calls fault apart s (inr (inl unrun, back, count)) = (
   quiet (hist.published_of h) (hist.is_file_lost h) (hist.standing_of h) given dir save changes extract start (files_of b.store) (files_of b.lost) b.published
@@ -425,14 +425,14 @@ export_more h given dir save changes extract start a b report apart s (done, los
 
 -- an export is refused
 export_stopped : (h : hist.History) (given : FilterValue) (dir save changes extract : List ℕ) (start : Files) (a b : World) (calls : ℕ) (fault : RunFault)
-    → LacksCalls (export_calls (bytes_in (files_of a.store save))) (Some calls) fault → AgreesIn (hist.published_of h) (hist.is_file_lost h) (hist.standing_of h) given dir save
-    changes extract start a → ExportTo save extract (Refused fault) a b
+    → LacksCalls (export_calls (bytes_in (files_of a.store save))) (Some calls) fault
+    → AgreesIn (hist.published_of h) (hist.is_file_lost h) (hist.standing_of h) given dir save changes extract start a → ExportTo save extract (Refused fault) a b
     → AgreesIn (hist.published_of h ++ []) (hist.is_file_lost h) (hist.standing_of h) given dir save changes extract start b
-    × KilledExportRefused given h extract calls fault
+    × KilledExportStopsIn given h extract calls fault
 export_stopped h given dir save changes extract start a b calls fault lacks s (stops, lost, count) = (
   still h given dir save changes extract start a b s stops.0 (ap files_of lost) count,
   elim stops.1 [
-    | inl want ↦ subst (KilledExportRefused given h extract calls) (sym want) tt
+    | inl want ↦ subst (KilledExportStopsIn given h extract calls) (sym want) tt
     | inr run ↦ export_row given h extract save calls (files_of a.store) fault lacks s.saved.save_is s.saved.is_there run
   ],
 )
@@ -480,11 +480,11 @@ begin_stopped : (h : hist.History) (given : FilterValue) (dir save changes extra
     → LacksCallsToBegin extract calls (files_of a.store) fault → Holds h given dir save changes extract start a
     → BeginTo given dir save extract (Refused fault) a b
     → AgreesIn (hist.published_of h ++ []) (hist.is_file_lost h) (hist.standing_of h) given dir save changes extract start b
-    × KilledBeginRefused given h extract calls fault
+    × KilledBeginStopsIn given h extract calls fault
 begin_stopped h given dir save changes extract start a b calls fault lacks s (stops, lost, count) = (
   still h given dir save changes extract start a b s.agrees stops.0 (ap files_of lost) count,
   elim stops.1 [
-    | inl want ↦ subst (KilledBeginRefused given h extract calls) (sym want) tt
+    | inl want ↦ subst (KilledBeginStopsIn given h extract calls) (sym want) tt
     | inr run ↦ begin_row h given dir save changes extract start (files_of a.store) (files_of a.lost) a.published calls s.agrees fault lacks run.law
         (subst (λ name. BeginStops (IsTrue true) given extract name (files_of a.store) fault) (state_of h given dir save changes extract start a s) run.stops)
   ],
@@ -623,8 +623,8 @@ spoiled_short h given dir save changes extract start a b k t report fault apart 
 
 -- what refuses a run over the right file
 spoiled_row : (given : FilterValue) (h : hist.History) (k : ℕ) (t : Suffix) (told : Option (List ℕ)) (fault : RunFault)
-    → IsSaveOf (hist.published_of h) given (hist.base_of h) (hist.number_of h) told → FollowRefuses (hist.published_of h) given told fault
-    → KilledSpoiledRefused given h k t fault
+    → IsSaveOf (hist.published_of h) given (hist.base_of h) (hist.number_of h) told → FollowStopsOver (hist.published_of h) given told fault
+    → KilledSpoiledStopsIn given h k t fault
 spoiled_row given h k t told (ReadFault file) s r = tt
 spoiled_row given h k t told (WriteFault file) s r = r
 spoiled_row given h k t told WantOfMemory s r = inl tt
@@ -634,16 +634,16 @@ spoiled_row given h k t told (TooLarge file) s r =
 spoiled_row given h k t told fault s r = absurd r
 
 -- what a killed run and a whole one are refused for
-killed_spoiled : (given : FilterValue) (h : hist.History) (k : ℕ) (t : Suffix) (fault : RunFault) → SpoiledRefused given h k t fault
-    → KilledSpoiledRefused given h k t fault
+killed_spoiled : (given : FilterValue) (h : hist.History) (k : ℕ) (t : Suffix) (fault : RunFault) → SpoiledStopsIn given h k t fault
+    → KilledSpoiledStopsIn given h k t fault
 killed_spoiled given h k t (ReadFault file) r = tt
 killed_spoiled given h k t (WriteFault file) (inl r) = absurd r
 killed_spoiled given h k t (WriteFault file) (inr r) = absurd r.3
 killed_spoiled given h k t fault r = r
 
 not_killed_spoiled : (given : FilterValue) (h : hist.History) (k : ℕ) (t : Suffix) (fault : RunFault) → IsNoDevice fault
-    → KilledSpoiledRefused given h k t fault
-    → SpoiledRefused given h k t fault
+    → KilledSpoiledStopsIn given h k t fault
+    → SpoiledStopsIn given h k t fault
 not_killed_spoiled given h k t (ReadFault file) none r = absurd none
 not_killed_spoiled given h k t (WriteFault file) none r = absurd none
 not_killed_spoiled given h k t fault none r = r
@@ -657,7 +657,7 @@ spoiled_stopped : (h : hist.History) (given : FilterValue) (dir save changes ext
     → AreApart dir save changes extract → AgreesIn (hist.published_of h) (hist.is_file_lost h) (hist.standing_of h) given dir save
     changes extract start a → SpoiledTo given dir save k t (Refused fault) a b
     → AgreesIn (hist.published_of h ++ []) (hist.is_file_lost h) (hist.standing_of h) given dir save changes extract start b
-    × KilledSpoiledRefused given h k t fault
+    × KilledSpoiledStopsIn given h k t fault
 spoiled_stopped h given dir save changes extract start a b k t fault apart s to = by_step to.step
   where
     p : List PublishedValue
@@ -676,10 +676,10 @@ spoiled_stopped h given dir save changes extract start a b k t fault apart s to 
     within = let n_is = s.number in omega (arith, n_is, to.number.1)
 
     by_step : SpoiledStep given dir save (file_name_of dir k t) (Err fault) f (files_of b.store)
-        → AgreesIn (p ++ []) lost m given dir save changes extract start b × KilledSpoiledRefused given h k t fault
+        → AgreesIn (p ++ []) lost m given dir save changes extract start b × KilledSpoiledStopsIn given h k t fault
     by_step (inl want) = (
       still h given dir save changes extract start a b s want.1 (ap files_of to.lost) to.published,
-      subst (KilledSpoiledRefused given h k t) (sym (one_fault (Err fault) fault WantOfMemory refl want.0)) (inl tt),
+      subst (KilledSpoiledStopsIn given h k t) (sym (one_fault (Err fault) fault WantOfMemory refl want.0)) (inl tt),
     )
     by_step (inr run) =
         let above = to.number.0 in

@@ -62,25 +62,25 @@ IsBelowLast published time =
     (0 < length published) × (time < (sequence_at published (length published)).time)
 
 -- why a publication that isn't killed isn't done: never for a file of the folder
-abbrev pub PublicationRefused : List PublishedValue → List ChangeValue → ℕ → RunFault → Type 0
-PublicationRefused published changes time WantOfMemory = Unit {0}
-PublicationRefused published changes time BadNow = time ≡ 0
-PublicationRefused published changes time (TooLarge file) = (file ≡ Changes) × IsTooLarge changes
-PublicationRefused published changes time SequenceFull = length published ≡ max_sequence
-PublicationRefused published changes time TimeBack = IsBelowLast published time
-PublicationRefused published changes time fault = ⊥
+abbrev pub PublicationStopsIn : List PublishedValue → List ChangeValue → ℕ → RunFault → Type 0
+PublicationStopsIn published changes time WantOfMemory = Unit {0}
+PublicationStopsIn published changes time BadNow = time ≡ 0
+PublicationStopsIn published changes time (TooLarge file) = (file ≡ Changes) × IsTooLarge changes
+PublicationStopsIn published changes time SequenceFull = length published ≡ max_sequence
+PublicationStopsIn published changes time TimeBack = IsBelowLast published time
+PublicationStopsIn published changes time fault = ⊥
 
 -- why a publication that is killed after that many calls isn't done: for the file of the next call;
 -- else only for what refuses a whole publication
-abbrev pub KilledPublicationRefused :
+abbrev pub KilledPublicationStopsIn :
     List PublishedValue → List ChangeValue → ℕ → ℕ → RunFault → Type 0
-KilledPublicationRefused published changes time calls (ReadFault file) =
+KilledPublicationStopsIn published changes time calls (ReadFault file) =
     ((calls ≡ 0) × (file ≡ Top)) ⊎ ((calls ≡ 1) × (file ≡ Changes))
-KilledPublicationRefused published changes time calls (WriteFault file) =
+KilledPublicationStopsIn published changes time calls (WriteFault file) =
     (count : ℕ) × (count < 4) × (calls ≡ 2 + count)
     × (file ≡ file_after (length published + 1) count)
-KilledPublicationRefused published changes time calls fault =
-    PublicationRefused published changes time fault
+KilledPublicationStopsIn published changes time calls fault =
+    PublicationStopsIn published changes time fault
 
 -- the changes and the time are those of the published sequence of that number, whose state is there
 -- and its changes in one form at least
@@ -92,28 +92,28 @@ IsRepeat h changes time n =
 
 -- why a publication by number that isn't killed isn't done: never for a fault in a file of the
 -- folder
-abbrev pub NumberedRefused : History → List ChangeValue → ℕ → ℕ → RunFault → Type 0
-NumberedRefused h changes time n WantOfMemory = Unit {0}
-NumberedRefused h changes time n BadNow = time ≡ 0
-NumberedRefused h changes time n BadSequence = max_sequence < n
-NumberedRefused h changes time n (TooLarge file) = (file ≡ Changes) × IsTooLarge changes
-NumberedRefused h changes time n TimeBack =
+abbrev pub NumberedStopsIn : History → List ChangeValue → ℕ → ℕ → RunFault → Type 0
+NumberedStopsIn h changes time n WantOfMemory = Unit {0}
+NumberedStopsIn h changes time n BadNow = time ≡ 0
+NumberedStopsIn h changes time n BadSequence = max_sequence < n
+NumberedStopsIn h changes time n (TooLarge file) = (file ≡ Changes) × IsTooLarge changes
+NumberedStopsIn h changes time n TimeBack =
     (n ≡ length (published_of h) + 1) × IsBelowLast (published_of h) time
-NumberedRefused h changes time n (TopAt number) =
+NumberedStopsIn h changes time n (TopAt number) =
     (number ≡ length (published_of h)) × ((n ≡ 0) ⊎ (length (published_of h) + 1 < n))
-NumberedRefused h changes time n (Differs number) =
+NumberedStopsIn h changes time n (Differs number) =
     (number ≡ n) × (0 < n) × (n ≤ length (published_of h)) × (IsRepeat h changes time n → ⊥)
-NumberedRefused h changes time n fault = ⊥
+NumberedStopsIn h changes time n fault = ⊥
 
 -- why a publication by number that is killed after that many calls isn't done: for the file of the
 -- next call; else only for what refuses a whole one
-abbrev pub KilledNumberedRefused : History → List ChangeValue → ℕ → ℕ → ℕ → RunFault → Type 0
-KilledNumberedRefused h changes time n calls (ReadFault file) =
+abbrev pub KilledNumberedStopsIn : History → List ChangeValue → ℕ → ℕ → ℕ → RunFault → Type 0
+KilledNumberedStopsIn h changes time n calls (ReadFault file) =
     (calls < calls_before n (length (published_of h))) × (file ≡ file_read_after n calls)
-KilledNumberedRefused h changes time n calls (WriteFault file) =
+KilledNumberedStopsIn h changes time n calls (WriteFault file) =
     (count : ℕ) × (count < 4) × (calls ≡ calls_before n (length (published_of h)) + count)
     × (file ≡ file_after n count)
-KilledNumberedRefused h changes time n calls fault = NumberedRefused h changes time n fault
+KilledNumberedStopsIn h changes time n calls fault = NumberedStopsIn h changes time n fault
 
 -- a save of the published sequences under the filter has more bytes than 64 bits count
 pub record HasHugeSave (published : List PublishedValue) (given : FilterValue) : Type 0 where
@@ -125,12 +125,12 @@ pub record HasHugeSave (published : List PublishedValue) (given : FilterValue) :
 
 -- why a run of the follower that isn't killed isn't done: never for a file of the folder or for
 -- what its save says, but perhaps for its size
-abbrev pub FollowingRefused : List PublishedValue → FilterValue → RunFault → Type 0
-FollowingRefused published given WantOfMemory = Unit {0}
-FollowingRefused published given (Absent file) = (file ≡ Top) × (length published ≡ 0)
-FollowingRefused published given (TooLarge file) =
+abbrev pub FollowingStopsIn : List PublishedValue → FilterValue → RunFault → Type 0
+FollowingStopsIn published given WantOfMemory = Unit {0}
+FollowingStopsIn published given (Absent file) = (file ≡ Top) × (length published ≡ 0)
+FollowingStopsIn published given (TooLarge file) =
     (file ≡ Save) × (HasHugeSave published given ⊎ HasMany published given)
-FollowingRefused published given fault = ⊥
+FollowingStopsIn published given fault = ⊥
 
 -- fewer calls than a run with a save of that number may make, which are `most` of what it holds
 pub record HasFewCalls (published : List PublishedValue) (given : FilterValue) (number : ℕ)
@@ -143,14 +143,14 @@ pub record HasFewCalls (published : List PublishedValue) (given : FilterValue) (
 -- why a run of the follower from that number that is killed after that many calls isn't done: for a
 -- call after the last one, if there were fewer than such a run may make; else only for what refuses
 -- a whole run
-abbrev pub KilledFollowingRefused :
+abbrev pub KilledFollowingStopsIn :
     List PublishedValue → FilterValue → ℕ → ℕ → RunFault → Type 0
-KilledFollowingRefused published given number calls (ReadFault file) =
+KilledFollowingStopsIn published given number calls (ReadFault file) =
     HasFewCalls published given number (follow_calls published number) calls
-KilledFollowingRefused published given number calls (WriteFault file) =
+KilledFollowingStopsIn published given number calls (WriteFault file) =
     (file ≡ Save) × HasFewCalls published given number (follow_calls published number) calls
-KilledFollowingRefused published given number calls fault =
-    FollowingRefused published given fault
+KilledFollowingStopsIn published given number calls fault =
+    FollowingStopsIn published given fault
 
 -- an export has what it exports: something was saved, and the name tells a form
 pub record HasExport (h : History) (extract : List ℕ) : Type 0 where
@@ -159,14 +159,14 @@ pub record HasExport (h : History) (extract : List ℕ) : Type 0 where
 
 -- why an export that isn't killed isn't done: for its name, since nothing was saved, or if the save
 -- has more bytes than 64 bits count; never for what the save says
-abbrev pub ExportRefused : FilterValue → History → List ℕ → RunFault → Type 0
-ExportRefused given h extract WantOfMemory = Unit {0}
-ExportRefused given h extract UnknownForm = HasNoDataForm extract
-ExportRefused given h extract (Absent file) =
+abbrev pub ExportStopsIn : FilterValue → History → List ℕ → RunFault → Type 0
+ExportStopsIn given h extract WantOfMemory = Unit {0}
+ExportStopsIn given h extract UnknownForm = HasNoDataForm extract
+ExportStopsIn given h extract (Absent file) =
     (file ≡ Save) × HasDataForm extract × (is_saved h ≡ false)
-ExportRefused given h extract (TooLarge file) =
+ExportStopsIn given h extract (TooLarge file) =
     (file ≡ Save) × HasDataForm extract × HasHugeSave (published_of h) given
-ExportRefused given h extract fault = ⊥
+ExportStopsIn given h extract fault = ⊥
 
 -- fewer calls than an export of the follower's number may make
 abbrev pub LacksExportCalls : FilterValue → History → ℕ → Type 0
@@ -175,12 +175,12 @@ LacksExportCalls given h calls =
 
 -- why an export that is killed after that many calls isn't done: for a call after the last one, if
 -- there were fewer than it may make; else only for what refuses a whole one
-abbrev pub KilledExportRefused : FilterValue → History → List ℕ → ℕ → RunFault → Type 0
-KilledExportRefused given h extract calls (ReadFault file) =
+abbrev pub KilledExportStopsIn : FilterValue → History → List ℕ → ℕ → RunFault → Type 0
+KilledExportStopsIn given h extract calls (ReadFault file) =
     (file ≡ Save) × HasDataForm extract × LacksExportCalls given h calls
-KilledExportRefused given h extract calls (WriteFault file) =
+KilledExportStopsIn given h extract calls (WriteFault file) =
     (file ≡ Output) × HasExport h extract × LacksExportCalls given h calls
-KilledExportRefused given h extract calls fault = ExportRefused given h extract fault
+KilledExportStopsIn given h extract calls fault = ExportStopsIn given h extract fault
 
 -- a beginning has what it begins with: the name tells a form, and a number above 0 was exported,
 -- whose state is there
@@ -216,33 +216,33 @@ pub record LacksBeginCalls (published : List PublishedValue) (given : FilterValu
 -- why a beginning that isn't killed isn't done: for its name, since no number above 0 was exported
 -- or the state of that number is lost, or for the size of what was exported or of its save; never
 -- for what the files say
-abbrev pub BeginRefused : FilterValue → History → List ℕ → RunFault → Type 0
-BeginRefused given h extract WantOfMemory = Unit {0}
-BeginRefused given h extract UnknownForm = HasNoDataForm extract
-BeginRefused given h extract (Absent file) =
+abbrev pub BeginStopsIn : FilterValue → History → List ℕ → RunFault → Type 0
+BeginStopsIn given h extract WantOfMemory = Unit {0}
+BeginStopsIn given h extract UnknownForm = HasNoDataForm extract
+BeginStopsIn given h extract (Absent file) =
     (file ≡ files.State) × HasDataForm extract
     × ((beginning_of h ≡ 0) ⊎ (is_file_lost h (beginning_of h) State ≡ true))
-BeginRefused given h extract (TooLarge files.Base) =
+BeginStopsIn given h extract (TooLarge files.Base) =
     HasBeginning h extract × HasLargeExtract (published_of h) given (beginning_of h) extract
-BeginRefused given h extract (TooLarge file) =
+BeginStopsIn given h extract (TooLarge file) =
     (file ≡ Save) × HasBeginning h extract
     × HasManyToBegin (published_of h) given (beginning_of h)
-BeginRefused given h extract fault = ⊥
+BeginStopsIn given h extract fault = ⊥
 
 -- why a beginning that is killed after that many calls isn't done: for its first call, if it had
 -- none; for a call after the last one, if there were fewer than it may make; else only for what
 -- refuses a whole one
-abbrev pub KilledBeginRefused : FilterValue → History → List ℕ → ℕ → RunFault → Type 0
-KilledBeginRefused given h extract calls (ReadFault files.State) =
+abbrev pub KilledBeginStopsIn : FilterValue → History → List ℕ → ℕ → RunFault → Type 0
+KilledBeginStopsIn given h extract calls (ReadFault files.State) =
     HasDataForm extract × (calls ≡ 0)
-KilledBeginRefused given h extract calls (ReadFault files.Base) =
+KilledBeginStopsIn given h extract calls (ReadFault files.Base) =
     HasBeginning h extract
     × LacksBeginCalls (published_of h) given (beginning_of h) extract calls
-KilledBeginRefused given h extract calls (ReadFault file) = ⊥
-KilledBeginRefused given h extract calls (WriteFault file) =
+KilledBeginStopsIn given h extract calls (ReadFault file) = ⊥
+KilledBeginStopsIn given h extract calls (WriteFault file) =
     (file ≡ Save) × HasBeginning h extract
     × LacksBeginCalls (published_of h) given (beginning_of h) extract calls
-KilledBeginRefused given h extract calls fault = BeginRefused given h extract fault
+KilledBeginStopsIn given h extract calls fault = BeginStopsIn given h extract fault
 
 -- what a publication prints: the next number
 abbrev pub publication_report : History → ReportValue
@@ -260,7 +260,7 @@ following_report h =
 abbrev pub AllowedPublish : History → List ChangeValue → ℕ → Reply → Type 0
 AllowedPublish h changes time (Published report) = report ≡ publication_report h
 AllowedPublish h changes time (Refused fault) =
-    PublicationRefused (published_of h) changes time fault
+    PublicationStopsIn (published_of h) changes time fault
 AllowedPublish h changes time r = ⊥
 
 -- a killed publication that is done had as many calls as it makes; one that the device refused had
@@ -269,7 +269,7 @@ abbrev pub AllowedKilledPublish : History → List ChangeValue → ℕ → ℕ �
 AllowedKilledPublish h changes time calls (Published report) =
     (report ≡ publication_report h) × (6 ≤ calls)
 AllowedKilledPublish h changes time calls (Refused fault) =
-    KilledPublicationRefused (published_of h) changes time calls fault
+    KilledPublicationStopsIn (published_of h) changes time calls fault
 AllowedKilledPublish h changes time calls r = ⊥
 
 -- a publication by number is done: it is the next one, or is published already with those changes
@@ -295,7 +295,7 @@ NumberedCut h changes time n fault s count =
 -- a publication by number is done, refused, or cut off for want of memory
 abbrev pub AllowedPublishAs : History → List ChangeValue → ℕ → ℕ → Reply → Type 0
 AllowedPublishAs h changes time n (Published report) = NumberedDone h changes time n report
-AllowedPublishAs h changes time n (Refused fault) = NumberedRefused h changes time n fault
+AllowedPublishAs h changes time n (Refused fault) = NumberedStopsIn h changes time n fault
 AllowedPublishAs h changes time n (CutOff fault s) =
     (fault ≡ WantOfMemory) × ((count : ℕ) × NumberedCut h changes time n fault s count)
 AllowedPublishAs h changes time n r = ⊥
@@ -312,7 +312,7 @@ abbrev pub AllowedKilledPublishAs : History → List ChangeValue → ℕ → ℕ
 AllowedKilledPublishAs h changes time n calls (Published report) =
     NumberedDone h changes time n report × (numbered_calls n (length (published_of h)) ≤ calls)
 AllowedKilledPublishAs h changes time n calls (Refused fault) =
-    KilledNumberedRefused h changes time n calls fault
+    KilledNumberedStopsIn h changes time n calls fault
 AllowedKilledPublishAs h changes time n calls (CutOff fault s) =
     (count : ℕ) × CutsAfter n calls count fault × NumberedCut h changes time n fault s count
 AllowedKilledPublishAs h changes time n calls r = ⊥
@@ -320,7 +320,7 @@ AllowedKilledPublishAs h changes time n calls r = ⊥
 -- a run of the follower is done or refused
 abbrev pub AllowedFollow : FilterValue → History → Reply → Type 0
 AllowedFollow given h (Followed report) = report ≡ following_report h
-AllowedFollow given h (Refused fault) = FollowingRefused (published_of h) given fault
+AllowedFollow given h (Refused fault) = FollowingStopsIn (published_of h) given fault
 AllowedFollow given h r = ⊥
 
 -- a killed run that is done had at least as many calls as the fewest that it makes; one that the
@@ -329,21 +329,21 @@ abbrev pub AllowedKilledFollow : FilterValue → History → ℕ → Reply → T
 AllowedKilledFollow given h calls (Followed report) =
     (report ≡ following_report h) × (3 ≤ calls)
 AllowedKilledFollow given h calls (Refused fault) =
-    KilledFollowingRefused (published_of h) given (number_of h) calls fault
+    KilledFollowingStopsIn (published_of h) given (number_of h) calls fault
 AllowedKilledFollow given h calls r = ⊥
 
 -- why a run of the follower under another filter than the save's isn't done
-abbrev pub OtherRefused : List PublishedValue → FilterValue → RunFault → Type 0
-OtherRefused published given WantOfMemory = Unit {0}
-OtherRefused published given OtherFilter = Unit {0}
-OtherRefused published given (TooLarge file) = (file ≡ Save) × HasHugeSave published given
-OtherRefused published given fault = ⊥
+abbrev pub OtherStopsIn : List PublishedValue → FilterValue → RunFault → Type 0
+OtherStopsIn published given WantOfMemory = Unit {0}
+OtherStopsIn published given OtherFilter = Unit {0}
+OtherStopsIn published given (TooLarge file) = (file ≡ Save) × HasHugeSave published given
+OtherStopsIn published given fault = ⊥
 
 -- a run of the follower under another filter is refused; none is made if nothing was saved, or if
 -- the filter is no other
 abbrev pub AllowedFollowOther : FilterValue → History → FilterValue → Reply → Type 0
 AllowedFollowOther given h other (Refused fault) =
-    (is_saved h ≡ true) × (other ≢ given) × OtherRefused (published_of h) given fault
+    (is_saved h ≡ true) × (other ≢ given) × OtherStopsIn (published_of h) given fault
 AllowedFollowOther given h other NotThere = (is_saved h ≡ false) ⊎ (other ≡ given)
 AllowedFollowOther given h other r = ⊥
 
@@ -386,16 +386,16 @@ SpoiledBefore h n s report fault =
 
 -- why it isn't done: for the spoiled file, if its number is the follower's next one; else only for
 -- what refuses a run over the right file
-abbrev pub SpoiledRefused : FilterValue → History → ℕ → Suffix → RunFault → Type 0
-SpoiledRefused given h n s fault =
-    FollowingRefused (published_of h) given fault
+abbrev pub SpoiledStopsIn : FilterValue → History → ℕ → Suffix → RunFault → Type 0
+SpoiledStopsIn given h n s fault =
+    FollowingStopsIn (published_of h) given fault
     ⊎ (IsFileThere h n s × IsInTurn h n s × (n ≡ number_of h + 1) × IsSpoiledFault n s fault)
 
 -- why a killed one isn't done: for the device, else only for what refuses a whole one
-abbrev pub KilledSpoiledRefused : FilterValue → History → ℕ → Suffix → RunFault → Type 0
-KilledSpoiledRefused given h n s (ReadFault file) = Unit {0}
-KilledSpoiledRefused given h n s (WriteFault file) = file ≡ Save
-KilledSpoiledRefused given h n s fault = SpoiledRefused given h n s fault
+abbrev pub KilledSpoiledStopsIn : FilterValue → History → ℕ → Suffix → RunFault → Type 0
+KilledSpoiledStopsIn given h n s (ReadFault file) = Unit {0}
+KilledSpoiledStopsIn given h n s (WriteFault file) = file ≡ Save
+KilledSpoiledStopsIn given h n s fault = SpoiledStopsIn given h n s fault
 
 -- there is no file to spoil
 abbrev pub NothingToSpoil : History → ℕ → Suffix → Type 0
@@ -406,7 +406,7 @@ NothingToSpoil h n s =
 abbrev pub AllowedSpoiled : FilterValue → History → ℕ → Suffix → Reply → Type 0
 AllowedSpoiled given h n s (Followed report) = SpoiledDone h n s report
 AllowedSpoiled given h n s (FollowedBefore report fault) = SpoiledBefore h n s report fault
-AllowedSpoiled given h n s (Refused fault) = SpoiledRefused given h n s fault
+AllowedSpoiled given h n s (Refused fault) = SpoiledStopsIn given h n s fault
 AllowedSpoiled given h n s NotThere = NothingToSpoil h n s
 AllowedSpoiled given h n s r = ⊥
 
@@ -416,7 +416,7 @@ AllowedKilledSpoiled given h n s calls (Followed report) =
     SpoiledDone h n s report × (3 ≤ calls)
 AllowedKilledSpoiled given h n s calls (FollowedBefore report fault) =
     SpoiledBefore h n s report fault × (3 ≤ calls)
-AllowedKilledSpoiled given h n s calls (Refused fault) = KilledSpoiledRefused given h n s fault
+AllowedKilledSpoiled given h n s calls (Refused fault) = KilledSpoiledStopsIn given h n s fault
 AllowedKilledSpoiled given h n s calls NotThere = NothingToSpoil h n s
 AllowedKilledSpoiled given h n s calls r = ⊥
 
@@ -424,7 +424,7 @@ AllowedKilledSpoiled given h n s calls r = ⊥
 abbrev pub AllowedExport : FilterValue → History → List ℕ → Reply → Type 0
 AllowedExport given h extract (Exported report) =
     (report ≡ convert_report_of) × HasExport h extract
-AllowedExport given h extract (Refused fault) = ExportRefused given h extract fault
+AllowedExport given h extract (Refused fault) = ExportStopsIn given h extract fault
 AllowedExport given h extract r = ⊥
 
 -- a killed export that is done had at least as many calls as it makes; one that the device refused
@@ -433,14 +433,14 @@ abbrev pub AllowedKilledExport : FilterValue → History → List ℕ → ℕ �
 AllowedKilledExport given h extract calls (Exported report) =
     (report ≡ convert_report_of) × HasExport h extract × (2 ≤ calls)
 AllowedKilledExport given h extract calls (Refused fault) =
-    KilledExportRefused given h extract calls fault
+    KilledExportStopsIn given h extract calls fault
 AllowedKilledExport given h extract calls r = ⊥
 
 -- a beginning is done or refused; it prints the number that was exported last
 abbrev pub AllowedBegin : FilterValue → History → List ℕ → Reply → Type 0
 AllowedBegin given h extract (Begun report) =
     (report ≡ begin_report_of (beginning_of h)) × HasBeginning h extract
-AllowedBegin given h extract (Refused fault) = BeginRefused given h extract fault
+AllowedBegin given h extract (Refused fault) = BeginStopsIn given h extract fault
 AllowedBegin given h extract r = ⊥
 
 -- a killed beginning that is done had at least as many calls as it makes; one that the device
@@ -449,7 +449,7 @@ abbrev pub AllowedKilledBegin : FilterValue → History → List ℕ → ℕ →
 AllowedKilledBegin given h extract calls (Begun report) =
     (report ≡ begin_report_of (beginning_of h)) × HasBeginning h extract × (3 ≤ calls)
 AllowedKilledBegin given h extract calls (Refused fault) =
-    KilledBeginRefused given h extract calls fault
+    KilledBeginStopsIn given h extract calls fault
 AllowedKilledBegin given h extract calls r = ⊥
 
 -- the number is that of a published sequence

@@ -11,7 +11,7 @@ use Rattle.std.proofs.lemmas.Option.{same_Some}
 use Rattle.std.proofs.lemmas.Str.{IsUtf8-append, IsUtf8-encode, IsUtf8-nil, is_utf8-from_IsUtf8, encode_ascii}
 use lib.Utf8.{scalar, scalars, encodes}
 use Rattle.osm_model.specs.Text.{IsText}
-use Rattle.osm_opl.specs.Escape.{is_reserved, IsBare, NamesChar, SpellsText, TextRefused, end, bare, escape}
+use Rattle.osm_opl.specs.Escape.{is_reserved, IsBare, NamesChar, SpellsText, TextStops, end, bare, escape}
 use Rattle.osm_reading.specs.Pieces.{joined, pieces}
 use Rattle.osm_opl.specs.Reading.{escape_at, is_free, run_at, runs_at, text_at}
 use Rattle.osm_reading.specs.Refusal.{IsWant}
@@ -200,7 +200,7 @@ pub text_spelled : (bytes : List ℕ) (r : Result (List ℕ) Refusal) → Gives 
 text_spelled bytes (Ok t) h = text_takes bytes t h
 text_spelled bytes (Err e) h = tt
 
-pub text_refused : (bytes : List ℕ) (r : Result (List ℕ) Refusal) → Gives (λ t. t) r (text_at bytes) → IfErr r (TextRefused bytes)
+pub text_refused : (bytes : List ℕ) (r : Result (List ℕ) Refusal) → Gives (λ t. t) r (text_at bytes) → IfErr r (TextStops bytes)
 text_refused bytes (Ok t) h = tt
 text_refused bytes (Err WantOfMemory) h = tt
 text_refused bytes (Err (Fault why)) h = λ t is s. let e = text_again bytes t s is in let z : None ≡ Some t = sym h ∙ e in absurd cc

@@ -4,12 +4,12 @@ use Rattle.std.proofs.Common.{None, refl, sym, ap, subst, ◌∙◌, append_asso
 use Rattle.std.proofs.lemmas.Bool.{cases_lt}
 use Rattle.std.proofs.lemmas.List.{append-nil, length-append}
 use Rattle.osm_model.specs.Change.{ChangeValue, IsChange}
-use Rattle.osm_model.specs.ChangeForm.{ReadRefused, SpellsNothing}
+use Rattle.osm_model.specs.ChangeForm.{ReadStops, SpellsNothing}
 use Rattle.osm_model.specs.Batch.{IsBatch}
 use Rattle.osm_model.specs.Limits.{max_file}
 use Rattle.osm_model.specs.declared.form.FormError.{FormError}
 use Rattle.osm_model.specs.declared.form.FormError.TheVariants.{WantOfMemory, TooLarge, Fault}
-use Rattle.osm_opl.specs.Steps.Adding.{AddsLine, AreLimits, LineStops}
+use Rattle.osm_opl.specs.Steps.Adding.{AddsLine, AreLimits, NextLineStops}
 use Rattle.osm_opl.specs.Steps.Adding as answers
 use Rattle.osm_opl.specs.File.{FaultIn, SpellsFile, SpellsLines, SpellsOpl, none, skipped, change}
 use Rattle.osm_opl.specs.Line.{SpellsLine}
@@ -217,8 +217,8 @@ not_empty Limits bytes more line changes place h counts s =
 -- reading that stops at a line is refused as the form says
 pub line_stops : (Limits : List ChangeValue → Type 0) → AreLimits Limits → (bytes : List ℕ) (left more : List (List ℕ))
     (line : List ℕ) (changes : List ChangeValue) (place : ℕ) (error : FormError) → length bytes ≤ max_file
-    → LinesRead Limits bytes left changes place → left ≡ line ∷ more → LineStops Limits line (place + 1) changes error
-    → ReadRefused (SpellsFile Limits) (FaultIn Limits) bytes error
+    → LinesRead Limits bytes left changes place → left ≡ line ∷ more → NextLineStops Limits line (place + 1) changes error
+    → ReadStops (SpellsFile Limits) (FaultIn Limits) bytes error
 line_stops Limits are bytes left more line changes place WantOfMemory small read e stop =
     (small, not_empty Limits bytes more line changes place (rw e at read) stop)
 line_stops Limits are bytes left more line changes place TooLarge small read e stop = absurd stop

@@ -11,7 +11,7 @@ use Rattle.osm_reading.specs.Refusal.{IsWant}
 use Rattle.osm_reading.specs.Answers.{Gives}
 use Rattle.osm_reading.specs.declared.refusal.Refusal.{Refusal}
 use Rattle.osm_reading.specs.declared.refusal.Refusal.TheVariants.{WantOfMemory, Fault}
-use Rattle.osm_opl.specs.Line.{LineRefused, SpellsLine}
+use Rattle.osm_opl.specs.Line.{LineStops, SpellsLine}
 use Rattle.osm_opl.specs.Lists.{letter_of}
 use Rattle.osm_reading.specs.Pieces.{joined, pieces}
 use Rattle.osm_opl.specs.Written.{visible_text}
@@ -149,7 +149,7 @@ pub line_spelled : (line : List ℕ) (r : Result ChangeValue Refusal) → Gives 
 line_spelled line (Ok c) h = line_takes line c h
 line_spelled line (Err e) h = tt
 
-pub line_refused : (line : List ℕ) (r : Result ChangeValue Refusal) → Gives (λ c. c) r (line_at line) → IfErr r (LineRefused line)
+pub line_refused : (line : List ℕ) (r : Result ChangeValue Refusal) → Gives (λ c. c) r (line_at line) → IfErr r (LineStops line)
 line_refused line (Ok c) h = tt
 line_refused line (Err WantOfMemory) h = tt
 line_refused line (Err (Fault why)) h = λ c s. let e = line_again line c s in let z : None ≡ Some c = sym h ∙ e in absurd cc

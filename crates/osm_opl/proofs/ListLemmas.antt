@@ -8,7 +8,7 @@ use Rattle.std.specs.Char.{encode_utf8}
 use Rattle.osm_reading.specs.Pieces.{pieces}
 use Rattle.osm_opl.specs.Reading.{PassesLimit, text_at, each_at, escape_at, list_at, list_pieces, run_at, runs_at}
 use Rattle.osm_reading.specs.Answers.{and_then}
-use Rattle.osm_reading.specs.Answers.{Fails}
+use Rattle.osm_reading.specs.Answers.{Stops}
 use Rattle.osm_reading.specs.declared.refusal.Refusal.{Refusal}
 use Rattle.osm_reading.specs.declared.refusal.Refusal.TheVariants.{WantOfMemory, Fault}
 use Rattle.osm_opl.specs.Steps.Plain.{first_at}
@@ -98,7 +98,7 @@ first_unread {X} read most bytes (p ∷ ps) items before some e =
 
 pub item_fails : {X : Type 0} (read : List ℕ → Option X) (most : ℕ) (bytes : List ℕ) (error : Refusal)
     (left ps : List (List ℕ)) (items : List X) (p : List ℕ) → ListRead read (list_pieces bytes) left items
-    → left ≡ p ∷ ps → Fails error (read p) → Fails error (list_at read most bytes)
+    → left ≡ p ∷ ps → Stops error (read p) → Stops error (list_at read most bytes)
 item_fails read most bytes WantOfMemory left ps items p before is e = tt
 item_fails read most bytes (Fault why) left ps items p before is e = item_unread read most bytes left ps items p before is e
 
@@ -188,7 +188,7 @@ run_none bytes start run left ps e is none = text_none bytes start left e (rw is
 
 pub run_long : (bytes start run r : List ℕ) (left ps : List (List ℕ)) (error : Refusal) → runs_at (pieces 37 bytes) ≡
     put_before start (runs_at left) → left ≡ run ∷ ps → run_at run ≡ Some r → PassesLimit (start ++ r) error
-    → Fails error (text_at bytes)
+    → Stops error (text_at bytes)
 run_long bytes start run r left ps WantOfMemory e is read long = tt
 run_long bytes start run r left ps (Fault why) e is read long =
     let f = run_first run r ps read in
@@ -216,6 +216,6 @@ escape_none bytes start run digits left more e is none = text_none bytes start l
     by_run (Some r) = refl
 
 pub char_long : (bytes next : List ℕ) (rest : Option (List ℕ)) (error : Refusal) → runs_at (pieces 37 bytes) ≡
-    put_before next rest → PassesLimit next error → Fails error (text_at bytes)
+    put_before next rest → PassesLimit next error → Stops error (text_at bytes)
 char_long bytes next rest WantOfMemory e long = tt
 char_long bytes next rest (Fault why) e long = text_long bytes next rest e long

@@ -36,6 +36,6 @@ pub data SpellsText : List ℕ → List ℕ → Type 0 where
       → SpellsText (37 ∷ digits ++ 37 ∷ bytes) (encode_utf8 c ++ text)
 
 -- bytes are refused with a fault only if they spell no text within the limits
-abbrev pub TextRefused : List ℕ → Refusal → Type 0
-TextRefused bytes WantOfMemory = Unit {0}
-TextRefused bytes (Fault why) = (text : List ℕ) → IsText text → SpellsText bytes text → ⊥
+abbrev pub TextStops : List ℕ → Refusal → Type 0
+TextStops bytes WantOfMemory = Unit {0}
+TextStops bytes (Fault why) = (text : List ℕ) → IsText text → SpellsText bytes text → ⊥

@@ -76,6 +76,6 @@ pub record SpellsLine (line : List ℕ) (change : ChangeValue) : Type 0 where
   pub limits : IsChange change
 
 -- a line is refused with a fault only if it spells no change
-abbrev pub LineRefused : List ℕ → Refusal → Type 0
-LineRefused line WantOfMemory = Unit {0}
-LineRefused line (Fault why) = (change : ChangeValue) → SpellsLine line change → ⊥
+abbrev pub LineStops : List ℕ → Refusal → Type 0
+LineStops line WantOfMemory = Unit {0}
+LineStops line (Fault why) = (change : ChangeValue) → SpellsLine line change → ⊥

@@ -2,8 +2,8 @@
 
 ghost use Rattle.std.specs.Prelude.{◌≡◌, ℕ, List, ◌≤◌, length, IfOk, OnOk, IfErr};
 ghost use Rattle.osm_model.specs.Change.{ChangeValue};
-ghost use Rattle.osm_model.specs.ChangeForm.{ReadRefused, SpellsNothing};
-ghost use Rattle.osm_model.specs.Data.{DataRefused, IsData};
+ghost use Rattle.osm_model.specs.ChangeForm.{ReadStops, SpellsNothing};
+ghost use Rattle.osm_model.specs.Data.{DataStops, IsData};
 ghost use Rattle.osm_model.specs.Limits.{max_file};
 ghost use Rattle.osm_opl.specs.File.{DataFaultLine, SpellsData};
 ghost use Rattle.osm_opl.specs.Written.{opl_text};
@@ -34,7 +34,7 @@ impl FileLimits for DataFile {
 pub fn read_data(alloc: Global, bytes: &[u8]) -> Result<Vec<Change>, FormError>
     ensures spelled { IfOk result (λ v. SpellsData bytes.now v.items) }
     ensures small { OnOk result (length bytes.now ≤ max_file) }
-    ensures refused { IfErr result (ReadRefused SpellsData DataFaultLine bytes.now) }
+    ensures refused { IfErr result (ReadStops SpellsData DataFaultLine bytes.now) }
 {
     read_changes::<DataFile>(alloc, bytes)
 }
@@ -44,7 +44,7 @@ pub fn write_data(alloc: Global, objects: &[Change]) -> Result<Vec<u8>, DataErro
     ensures text { IfOk result (λ v. v.items ≡ opl_text objects.now) }
     ensures small { IfOk result (λ v. length v.items ≤ max_file) }
     ensures data { OnOk result (IsData objects.now) }
-    ensures refused { IfErr result (DataRefused opl_text objects.now) }
+    ensures refused { IfErr result (DataStops opl_text objects.now) }
 {
     if let Some(index) = first_fault(objects) {
         return Err(DataError::NotData { index });

@@ -3,11 +3,11 @@
 ghost use Rattle.std.specs.Prelude.{◌≡◌, List, ◌∷◌, [], ◌++◌, ◌≤◌, ◌<◌, length};
 ghost use Rattle.std.specs.Prelude.{◌*◌, IfOk, OnOk, OnErr, IfErr, vec_capacity};
 ghost use Rattle.osm_model.specs.Change.{ChangeValue};
-ghost use Rattle.osm_model.specs.ChangeForm.{ReadRefused};
+ghost use Rattle.osm_model.specs.ChangeForm.{ReadStops};
 ghost use Rattle.osm_model.specs.Limits.{max_file};
 ghost use Rattle.osm_opl.specs.File.{FaultIn, SpellsFile};
 ghost use Rattle.osm_opl.specs.Room.{LacksRoom};
-ghost use Rattle.osm_opl.specs.Steps.Adding.{AddsLine, AreLimits, LineStops, WriteStops};
+ghost use Rattle.osm_opl.specs.Steps.Adding.{AddsLine, AreLimits, NextLineStops, WriteStops};
 ghost use Rattle.osm_opl.specs.Written.{line_text, opl_text};
 
 use crate::lines::{read_line, write_line};
@@ -118,7 +118,7 @@ pub fn read_changes<F: FileLimits>(alloc: Global, bytes: &[u8]) -> Result<Vec<Ch
     ensures spelled { IfOk result (λ v. SpellsFile F.limits bytes.now v.items) }
     ensures small { OnOk result (length bytes.now ≤ max_file) }
     ensures refused { IfErr result
-        (ReadRefused (SpellsFile F.limits) (FaultIn F.limits) bytes.now) }
+        (ReadStops (SpellsFile F.limits) (FaultIn F.limits) bytes.now) }
 {
     if bytes.len() > MAX_FILE {
         return Err(FormError::TooLarge);
@@ -149,7 +149,7 @@ fn add_line<F: FileLimits>(
     requires { F.limits changes.old.items }
     ensures ok { OnOk result (AddsLine line.now changes.old.items changes.new.items) }
     ensures right { OnOk result (F.limits changes.new.items) }
-    ensures refused { IfErr result (LineStops F.limits line.now place changes.old.items) }
+    ensures refused { IfErr result (NextLineStops F.limits line.now place changes.old.items) }
 {
     if is_skipped_line(line) {
         return Ok(());

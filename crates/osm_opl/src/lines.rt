@@ -6,7 +6,7 @@ ghost use Rattle.std.specs.Prelude.{◌≤◌, IfSome, Some, vec_capacity};
 ghost use Rattle.std.specs.Io.{StartsWith};
 ghost use Rattle.osm_model.specs.Change.{ChangeValue};
 ghost use Rattle.osm_model.specs.Limits.{IsId};
-ghost use Rattle.osm_opl.specs.Line.{LineRefused, SpellsLine};
+ghost use Rattle.osm_opl.specs.Line.{LineStops, SpellsLine};
 ghost use Rattle.osm_opl.specs.Room.{LacksRoom};
 ghost use Rattle.osm_opl.specs.Reading.{key_at, line_at};
 ghost use Rattle.osm_opl.specs.Written.{line_text};
@@ -61,7 +61,7 @@ fn append_line(change: &Change, out: &mut Vec<u8>) -> Result<(), WantOfMemory>
 /// Reads the change that a line spells. The line is given without its line end.
 pub fn read_line(alloc: Global, line: &[u8]) -> Result<Change, LineError>
     ensures spelled { IfOk result (λ c. SpellsLine line.now c) }
-    ensures refused { IfErr result (LineRefused line.now) }
+    ensures refused { IfErr result (LineStops line.now) }
     ensures only { (change : ChangeValue) → SpellsLine line.now change
         → MatchResult result (λ c. c ≡ change) IsWant }
 {

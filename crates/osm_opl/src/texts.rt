@@ -4,7 +4,7 @@
 ghost use Rattle.std.specs.Prelude.{◌≡◌, ℕ, List, ◌≤◌, ◌<◌, ◌++◌, length, vec_capacity};
 ghost use Rattle.std.specs.Prelude.{IfErr, IfOk, MatchResult, OnErr, OnOk};
 ghost use Rattle.osm_model.specs.Text.{IsText};
-ghost use Rattle.osm_opl.specs.Escape.{SpellsText, TextRefused};
+ghost use Rattle.osm_opl.specs.Escape.{SpellsText, TextStops};
 ghost use Rattle.osm_opl.specs.Room.{LacksRoom, WantsOnlyIf};
 ghost use Rattle.osm_opl.specs.Written.{escaped_text};
 ghost use Rattle.osm_reading.specs.Refusal.{IsWant};
@@ -34,7 +34,7 @@ pub fn write_text(text: &Text, out: &mut Vec<u8>) -> Result<(), WantOfMemory>
 /// empty text.
 pub fn read_text(alloc: Global, bytes: &[u8]) -> Result<Text, LineError>
     ensures spelled { IfOk result (λ t. SpellsText bytes.now t) }
-    ensures refused { IfErr result (TextRefused bytes.now) }
+    ensures refused { IfErr result (TextStops bytes.now) }
     ensures only { (text : List ℕ) → IsText text → SpellsText bytes.now text
         → MatchResult result (λ t. t ≡ text) IsWant }
     ensures wants { WantsOnlyIf (0 < length bytes.now) result }

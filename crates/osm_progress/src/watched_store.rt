@@ -1,7 +1,7 @@
 //! A store that tells what is read and written.
 
 ghost use Rattle.std.specs.Prelude.{◌≡◌, ◌++◌, ℕ, List, [], Some, None, IfErr, IfOk, OnOk, is_some};
-ghost use Rattle.osm_store.specs.Files.{IsWithin, NeverTooLarge, Puts, ReadRefused, Tells};
+ghost use Rattle.osm_store.specs.Files.{IsWithin, NeverTooLarge, Puts, ReadStops, Tells};
 ghost use Rattle.osm_store.specs.Files.{block_of, prefix_of};
 ghost use Rattle.osm_store.specs.Frames.{Abandons, IsDevice, IsKnown, ReadsBetween};
 ghost use Rattle.osm_store.specs.Frames.{ReplacesBetween};

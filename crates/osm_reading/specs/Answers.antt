@@ -21,14 +21,14 @@ Finds view (Ok x) reading = reading ≡ Some (view x)
 Finds view (Err why) reading = reading ≡ None
 
 -- nothing can be read, or memory was refused
-abbrev pub Fails : {A : Type 0} → Refusal → Option A → Type 0
-Fails WantOfMemory reading = Unit {0}
-Fails (Fault why) reading = reading ≡ None
+abbrev pub Stops : {A : Type 0} → Refusal → Option A → Type 0
+Stops WantOfMemory reading = Unit {0}
+Stops (Fault why) reading = reading ≡ None
 
 -- the answer, seen by view, is what the reading gives, unless memory was refused
 abbrev pub Gives : {A B : Type 0} → (A → B) → Result A Refusal → Option B → Type 0
 Gives view (Ok x) reading = reading ≡ Some (view x)
-Gives view (Err refusal) reading = Fails refusal reading
+Gives view (Err refusal) reading = Stops refusal reading
 
 -- memory was not refused
 abbrev pub IsNoWant : Refusal → Type 0

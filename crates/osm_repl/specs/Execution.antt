@@ -14,10 +14,10 @@ use Rattle.osm_exporting.specs.Exporting.{ExportStops, IsExported, IsExportOf}
 use Rattle.osm_store.specs.Files.{Files, HasFailed}
 use Rattle.osm_folder.specs.Folder.{IsApart, IsFolderOf}
 use Rattle.osm_folder.specs.Following.{IsFollowReport, IsInStepAfter, IsSaveOf}
-use Rattle.osm_folder.specs.Lagging.{IsLag, IsLagOf, IsLagReport, LagRefuses, LagStops}
-use Rattle.osm_folder.specs.Numbered.{IsAddedAs, IsPublishedAs, NumberedRefuses, NumberedStops}
+use Rattle.osm_folder.specs.Lagging.{IsLag, IsLagOf, IsLagReport, LagStopsOver, LagStops}
+use Rattle.osm_folder.specs.Numbered.{IsAddedAs, IsPublishedAs, NumberedStopsOver, NumberedStops}
 use Rattle.osm_folder.specs.Progress.{IsProgressReport}
-use Rattle.osm_folder.specs.Publication.{FolderRefuses, IsAdded, IsPublished, PublishStops}
+use Rattle.osm_folder.specs.Publication.{PublishStopsOver, IsAdded, IsPublished, PublishStops}
 use Rattle.osm_folder.specs.Reports.{ReportValue, begin_report_of, convert_report_of}
 use Rattle.osm_folder.specs.Reports.{publish_report_of}
 use Rattle.osm_folder.specs.Runs.{Blames}
@@ -31,7 +31,7 @@ use Rattle.osm_folder.specs.declared.progress.Progress.{Progress}
 use Rattle.osm_folder.specs.declared.progress.Progress.TheVariants.{Whole, Before}
 use Rattle.osm_printing.specs.Printing.{CopyStops, IsReadFault, IsShowReport, IsShown, IsShownOf}
 use Rattle.osm_checked.specs.Checking.{ReadStops}
-use Rattle.osm_round.specs.Over.{FollowRefuses}
+use Rattle.osm_round.specs.Over.{FollowStopsOver}
 use Rattle.osm_round.specs.Rounds.{IsFollowed, IsFollowedBefore, RoundStops}
 use Rattle.osm_script.specs.Replay.{ReplayFault, ReplayLeaves, Replays}
 use Rattle.osm_repl.specs.declared.orders.Order.{Order}
@@ -170,18 +170,18 @@ RunStops known options Replay old new fault = ⊥
 abbrev pub StopsOver : FollowOptions → Order → Files → Files → RunFault → Type 0
 StopsOver options (Publish dir changes now) old new fault =
     (published : List PublishedValue) → IsFolderOf published old dir.now
-    → FolderRefuses published now.now fault
+    → PublishStopsOver published now.now fault
 StopsOver options (PublishAs dir changes now sequence) old new fault =
     (published : List PublishedValue) → IsFolderOf published old dir.now
-    → NumberedRefuses published dir.now changes.now now.now sequence.now old fault
+    → NumberedStopsOver published dir.now changes.now now.now sequence.now old fault
 StopsOver options (Follow dir save) old new fault =
     (published : List PublishedValue) (base number : ℕ) → IsFolderOf published old dir.now
     → IsSaveOf published options.filter base number (old save.now)
-    → FollowRefuses published options.filter (old save.now) fault
+    → FollowStopsOver published options.filter (old save.now) fault
 StopsOver options (Lag dir save) old new fault =
     (published : List PublishedValue) (own : FilterValue) (base number : ℕ)
     → IsFolderOf published old dir.now → IsSaveOf published own base number (old save.now)
-    → LagRefuses published number fault
+    → LagStopsOver published number fault
 StopsOver options order old new fault = Unit {0}
 
 -- what a run that stops leaves: all files as they were, or, for a publication, which may be cut

@@ -22,7 +22,7 @@ use Rattle.osm_folder.specs.declared.fault.RunFault.{RunFault}
 use Rattle.osm_folder.specs.declared.fault.RunFault.TheVariants.{Absent, ReadFault, TooLarge, WantOfMemory, WriteFault}
 use Rattle.osm_folder.proofs.InStepLemmas.{last_within, top_number}
 use Rattle.osm_round.proofs.OverLemmas.{right_number}
-use Rattle.osm_round.specs.Over.{FollowRefuses}
+use Rattle.osm_round.specs.Over.{FollowStopsOver}
 use Rattle.osm_round.specs.Rounds.{IsFirst, IsWhole}
 use Rattle.osm_round.specs.Starting.{IsBegun}
 use Rattle.osm_round.specs.declared.start.Start.{Start}
@@ -40,7 +40,7 @@ whole_save ps given base number told s = by_told told s.saved
     by_told (Some file) saved = inr (record { file = file; there = refl; saved = s.value; spells = saved })
 
 -- it is one of the device, if it is none of the others
-pub device_left : (ps : List PublishedValue) (given : FilterValue) (told : Option (List ℕ)) (fault : RunFault) → FollowRefuses ps given told fault
+pub device_left : (ps : List PublishedValue) (given : FilterValue) (told : Option (List ℕ)) (fault : RunFault) → FollowStopsOver ps given told fault
     → (fault ≡ Absent Top → ⊥) → (IsFirst fault → ⊥) → IsDeviceFault fault
 device_left ps given told WantOfMemory h present first = absurd (first tt)
 device_left ps given told (ReadFault file) h present first = tt

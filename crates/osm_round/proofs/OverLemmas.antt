@@ -28,7 +28,7 @@ use Rattle.osm_folder.proofs.InStepLemmas.{all_in_step, last_within, not_bad, no
 use Rattle.osm_folder.proofs.InStepLemmas.{one_saved, reached_of, top_number}
 use Rattle.osm_folder.proofs.RefusalLemmas.{good_top, none_published, small_top}
 use Rattle.osm_folder.proofs.TakingLemmas.{adds_number}
-use Rattle.osm_round.specs.Over.{FollowRefuses, FollowsOver, HasMany, follow_calls}
+use Rattle.osm_round.specs.Over.{FollowStopsOver, FollowsOver, HasMany, follow_calls}
 use Rattle.osm_round.specs.Rounds.{HasManyObjects, IsFollowed, IsFollowedBefore, IsProgress, RoundStops, StartStops}
 use Rattle.osm_round.specs.Starting.{IsOtherSave}
 use Rattle.osm_checked.specs.Checking.{IsTooLarge}
@@ -100,7 +100,7 @@ module _ (law : NoFaultBesideState) (options : FollowOptions) (ps : List Publish
       }
 
   pub start_refuses : (known : Type 0) (fault : RunFault) → known → StartStops known options dir save files fault
-      → FollowRefuses ps options.filter (files save) fault
+      → FollowStopsOver ps options.filter (files save) fault
   start_refuses known WantOfMemory sure h = tt
   start_refuses known (ReadFault file) sure h = tt
   start_refuses known (WriteFault Save) sure h = refl
@@ -127,7 +127,7 @@ module _ (law : NoFaultBesideState) (options : FollowOptions) (ps : List Publish
   start_refuses known fault sure h = absurd h
 
   number_refuses : (known : Type 0) (k : ℕ) (fault : RunFault) → known → 0 < k → k ≤ length ps → NumberStops known dir files k fault
-      → FollowRefuses ps options.filter (files save) fault
+      → FollowStopsOver ps options.filter (files save) fault
   number_refuses known k WantOfMemory sure above within h = tt
   number_refuses known k (ReadFault file) sure above within h = tt
   number_refuses known k (TooLarge (Sequence j s)) sure above within h =
@@ -141,13 +141,13 @@ module _ (law : NoFaultBesideState) (options : FollowOptions) (ps : List Publish
   number_refuses known k fault sure above within h = absurd h
 
   missing_refuses : (known : Type 0) (reached last : ℕ) (fault : RunFault) → MissingStops known dir files reached last fault
-      → FollowRefuses ps options.filter (files save) fault
+      → FollowStopsOver ps options.filter (files save) fault
   missing_refuses known reached last WantOfMemory h = tt
   missing_refuses known reached last (ReadFault (Sequence k s)) h = tt
   missing_refuses known reached last fault h = absurd h
 
   pub over_refuses : (known : Type 0) (fault : RunFault) → known → RoundStops known options dir save files fault
-      → FollowRefuses ps options.filter (files save) fault
+      → FollowStopsOver ps options.filter (files save) fault
   over_refuses known fault sure (inl h) = start_refuses known fault sure h
   over_refuses known fault sure (inr (inl h)) =
       let c = h.comes sure in

@@ -20,7 +20,7 @@ use Rattle.osm_save.specs.declared.version.Version.TheVariants.{Three}
 use Rattle.osm_store.specs.Files.{Files}
 use Rattle.osm_merge.specs.Checking.{BeginsWith, IsHugeFile}
 use Rattle.osm_merge.specs.Laying.{IsFew}
-use Rattle.osm_merge.specs.Merging.{HasTooMany, IsMerged, MergeStops as MergeRefused}
+use Rattle.osm_merge.specs.Merging.{HasTooMany, IsMerged, MergeStops as MergeStopsAt}
 use Rattle.osm_merge.specs.declared.fault.MergeFault.{MergeFault}
 use Rattle.osm_merge.specs.declared.fault.MergeFault.TheVariants as merges
 use Rattle.osm_merge.specs.declared.opening.Opening.{Opening}
@@ -41,7 +41,7 @@ use Rattle.osm_round.proofs.CountLemmas.{added_length, few_counts}
 
 -- ---- faults of saves
 
-pub write_stops : (known : Type 0) (told : Option (List ℕ)) (n : NetValue) (fault : MergeFault) → (known → MergeRefused told n fault)
+pub write_stops : (known : Type 0) (told : Option (List ℕ)) (n : NetValue) (fault : MergeFault) → (known → MergeStopsAt told n fault)
     → MergeStops known told n (write_fault_of fault)
 write_stops known told n merges.ReadFault h = refl
 write_stops known told n merges.WriteFault h = refl

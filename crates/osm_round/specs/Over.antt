@@ -25,14 +25,14 @@ pub record HasMany (published : List PublishedValue) (given : FilterValue) : Typ
 
 -- why a run of the follower over them is refused: never for a fault in one of their files. Besides
 -- memory and the device, only since nothing was published yet, or for the size of what is saved
-abbrev pub FollowRefuses : List PublishedValue → FilterValue → Option (List ℕ) → RunFault → Type 0
-FollowRefuses published given told WantOfMemory = Unit {0}
-FollowRefuses published given told (ReadFault file) = Unit {0}
-FollowRefuses published given told (WriteFault file) = file ≡ Save
-FollowRefuses published given told (Absent file) = (file ≡ Top) × (length published ≡ 0)
-FollowRefuses published given told (TooLarge file) =
+abbrev pub FollowStopsOver : List PublishedValue → FilterValue → Option (List ℕ) → RunFault → Type 0
+FollowStopsOver published given told WantOfMemory = Unit {0}
+FollowStopsOver published given told (ReadFault file) = Unit {0}
+FollowStopsOver published given told (WriteFault file) = file ≡ Save
+FollowStopsOver published given told (Absent file) = (file ≡ Top) × (length published ≡ 0)
+FollowStopsOver published given told (TooLarge file) =
     (file ≡ Save) × (IsHugeFile told ⊎ HasMany published given)
-FollowRefuses published given told fault = ⊥
+FollowStopsOver published given told fault = ⊥
 
 -- the most calls of a run from that number: the head of the save, the top state, at most three
 -- files of each number after it, and what is laid over the save
@@ -45,5 +45,5 @@ pub record FollowsOver (published : List PublishedValue) (options : FollowOption
     (dir save : List ℕ) (old new : StoreState) (result : Result ReportValue RunFault) : Type 0 where
   pub in_step :
       IfOk result (IsInStepAfter published options base number dir save old.files new.files)
-  pub refuses : IfErr result (FollowRefuses published options.filter (old.files save))
+  pub refuses : IfErr result (FollowStopsOver published options.filter (old.files save))
   pub calls : CallsUpTo (follow_calls published number (old.files save)) old new result

@@ -10,7 +10,7 @@ use Rattle.std.specs.declared.cmp.Ordering.TheVariants.{Less, Equal, Greater}
 use Rattle.osm_reading.specs.Pieces.{cut_at}
 use Rattle.osm_reading.specs.Answers.{and_then}
 use Rattle.std.specs.Prelude.{Err, Result}
-use Rattle.osm_save.specs.Answers.{Fails, Stops, WantedIf, WantsOnlyIf}
+use Rattle.osm_save.specs.Answers.{StopsPlainly, Stops, WantedIf, WantsOnlyIf}
 use Rattle.osm_save.specs.Reading.{is_above, items_at}
 use Rattle.osm_save.specs.declared.stop.Stop.{Stop}
 use Rattle.osm_save.specs.declared.stop.Stop.TheVariants.{WantOfMemory, Wrong}
@@ -65,12 +65,12 @@ module _ {X K : Type 0} (key : X → K) (item : Option K → List ℕ → Option
       h.same ∙ rw (left, append-nil xs) refl
 
 -- what the refusal of a line says of the whole list
-pub stops : {A B : Type 0} (s : Stop) (r : Option A) (t : Option B) → Fails s r → (r ≡ None → t ≡ None) → Stops s t
+pub stops : {A B : Type 0} (s : Stop) (r : Option A) (t : Option B) → StopsPlainly s r → (r ≡ None → t ≡ None) → Stops s t
 stops WantOfMemory r t h f = tt
 stops (Wrong left) r t h f = f h
 
 -- where nothing can be read, any stop may be answered
-pub any_stop : {A : Type 0} (s t : Stop) (r : Option A) → Fails s r → Stops t r
+pub any_stop : {A : Type 0} (s t : Stop) (r : Option A) → StopsPlainly s r → Stops t r
 any_stop WantOfMemory t r bad = absurd bad
 any_stop (Wrong left) WantOfMemory r none = tt
 any_stop (Wrong left) (Wrong other) r none = none

@@ -14,14 +14,14 @@ Gives view (Ok x) reading = reading ≡ Some (view x)
 Gives view (Err stop) reading = Stops stop reading
 
 -- nothing can be read
-abbrev pub Fails : {A : Type 0} → Stop → Option A → Type 0
-Fails WantOfMemory reading = ⊥
-Fails (Wrong left) reading = reading ≡ None
+abbrev pub StopsPlainly : {A : Type 0} → Stop → Option A → Type 0
+StopsPlainly WantOfMemory reading = ⊥
+StopsPlainly (Wrong left) reading = reading ≡ None
 
 -- the answer, seen through `view`, is what the reading gives: no memory is taken
 abbrev pub Finds : {A B : Type 0} → (A → B) → Result A Stop → Option B → Type 0
 Finds view (Ok x) reading = reading ≡ Some (view x)
-Finds view (Err stop) reading = Fails stop reading
+Finds view (Err stop) reading = StopsPlainly stop reading
 
 -- memory was refused only if some was needed
 abbrev pub WantedIf : Type 0 → Stop → Type 0

@@ -10,12 +10,12 @@ use Rattle.osm_save.specs.declared.save.SaveError.TheVariants.{BadSave, WantOfMe
 use Rattle.osm_save.specs.declared.save.Saved.{Saved}
 
 -- a text is bad only if it is the save text of nothing
-abbrev pub SaveRefused : List ℕ → SaveError → Type 0
-SaveRefused bytes WantOfMemory = Unit {0}
-SaveRefused bytes (BadSave line) = (v : Saved) → SpellsSave bytes v → ⊥
+abbrev pub SaveStops : List ℕ → SaveError → Type 0
+SaveStops bytes WantOfMemory = Unit {0}
+SaveStops bytes (BadSave line) = (v : Saved) → SpellsSave bytes v → ⊥
 
 -- a head is bad only if the bytes begin with that of no save text, and memory is refused only to
 -- bytes that have keys
-abbrev pub HeadRefused : List ℕ → HeadError → Type 0
-HeadRefused bytes heads.WantOfMemory = HasKeys bytes
-HeadRefused bytes (heads.BadHead line) = (head : Head) → BeginsSave bytes head → ⊥
+abbrev pub HeadStops : List ℕ → HeadError → Type 0
+HeadStops bytes heads.WantOfMemory = HasKeys bytes
+HeadStops bytes (heads.BadHead line) = (head : Head) → BeginsSave bytes head → ⊥

@@ -8,7 +8,7 @@ ghost use Rattle.osm_opl.specs.Reading.{time_at};
 ghost use Rattle.osm_save.specs.Head.{BeginsSave, HasKeys, head_lines, head_of, max_head};
 ghost use Rattle.osm_save.specs.Head.{maybe_time_text};
 ghost use Rattle.osm_save.specs.Lines.{ended};
-ghost use Rattle.osm_save.specs.Refusal.{HeadRefused};
+ghost use Rattle.osm_save.specs.Refusal.{HeadStops};
 ghost use Rattle.osm_save.specs.Save.{SpellsSave};
 ghost use Rattle.osm_save.specs.Answers.{Finds, Gives, WantsOnlyIf};
 ghost use Rattle.osm_save.specs.Reading.{base_at, head_at, sequence_at, time_line_at};
@@ -55,7 +55,7 @@ pub enum HeadError {
 /// are enough. The filter has to be right too. What follows the head isn't looked at.
 pub fn head_read(alloc: Global, bytes: &[u8]) -> Result<Head, HeadError>
     ensures begins { IfOk result (BeginsSave bytes.now) }
-    ensures refused { IfErr result (HeadRefused bytes.now) }
+    ensures refused { IfErr result (HeadStops bytes.now) }
 {
     match read_head(alloc, bytes) {
         Ok((_version, head, _filter, _rest)) => Ok(head),

@@ -9,7 +9,7 @@ ghost use Rattle.osm_model.specs.KeyOrder.{key_cmp};
 ghost use Rattle.osm_opl.specs.Reading.{line_at};
 ghost use Rattle.osm_opl.specs.Written.{line_text};
 ghost use Rattle.osm_save.specs.Lines.{ended, list_lines};
-ghost use Rattle.osm_save.specs.Answers.{Fails, Gives, Stops};
+ghost use Rattle.osm_save.specs.Answers.{StopsPlainly, Gives, Stops};
 ghost use Rattle.osm_save.specs.Reading.{is_above, items_at, object_at, objects_at};
 
 use crate::lines::{next_line, numbered_line, write_numbered};
@@ -67,7 +67,7 @@ pub fn read_objects<'a>(
 
 // Where the list is refused whose number was refused with `stop`.
 fn refused_at(alloc: Global, filter: &Filter, most: u64, rest: &[u8], stop: Stop) -> Stop
-    requires { Fails stop (objects_at filter.now most rest.now) }
+    requires { StopsPlainly stop (objects_at filter.now most rest.now) }
     ensures { Stops result (objects_at filter.now most rest.now) }
 {
     if most < MOST_OBJECTS {

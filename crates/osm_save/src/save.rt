@@ -25,7 +25,7 @@ ghost use Rattle.osm_model.specs.Filter.{AreKept, FilterValue};
 ghost use Rattle.osm_model.specs.Limits.{max_sequence};
 ghost use Rattle.osm_mirror.specs.Mirror.{HoldsSome, IsWithin};
 ghost use Rattle.osm_save.specs.Head.{IsHeadIn, most_counted};
-ghost use Rattle.osm_save.specs.Refusal.{SaveRefused};
+ghost use Rattle.osm_save.specs.Refusal.{SaveStops};
 ghost use Rattle.osm_save.specs.Save.{IsSavable, SpellsSave, most_objects, save_text, saved_with};
 ghost use Rattle.osm_save.specs.Answers.{Gives};
 ghost use Rattle.osm_save.specs.Reading.{mirror_at, save_at};
@@ -124,7 +124,7 @@ fn least_length(mirror: &Mirror) -> usize
 /// Reads what a save text saves.
 pub fn save_read(alloc: Global, bytes: &[u8]) -> Result<Saved, SaveError>
     ensures spelled { IfOk result (λ saved. SpellsSave bytes.now saved) }
-    ensures refused { IfErr result (SaveRefused bytes.now) }
+    ensures refused { IfErr result (SaveStops bytes.now) }
 {
     match read_save(alloc, bytes) {
         Ok(saved) => Ok(saved),

@@ -8,7 +8,7 @@ use Rattle.osm_model.specs.Filter.{FilterValue, everything}
 use Rattle.osm_reading.specs.Lines.{lines_of, is_skipped}
 use Rattle.osm_script.specs.Replay.{IsWriteFault, ReplayFault, ReplayLeaves}
 use Rattle.osm_script.specs.Replies.{reply_text}
-use Rattle.osm_script.specs.Steps.Replaying.{IsAnswered, AnswerRefused}
+use Rattle.osm_script.specs.Steps.Replaying.{IsAnswered, AnswerStops}
 use Rattle.osm_script.specs.Script.{IsEventLine, ScriptOf, IsBadLine, unskipped}
 use Rattle.std.proofs.lemmas.List.{flat_map_more}
 use Rattle.osm_world.specs.Correct.{IsRun}
@@ -44,7 +44,7 @@ all_read (Some xs) (Some ys) bytes P c e p =
 
 -- what a fault says about the bytes that were read, it says about all of them
 pub script_fault : (old new : Option (List ℕ)) (script : List ℕ) (fault : RunFault) → Consumes old new script
-    → IsAtEnd new → AnswerRefused script fault → ReplayFault old new fault
+    → IsAtEnd new → AnswerStops script fault → ReplayFault old new fault
 script_fault old new script WantOfMemory c e h = tt
 script_fault old new script (BadScript line) c e h =
     all_read old new script (λ s. IsBadLine s line × ((events : List Event) → ScriptOf s events → ⊥)) c e

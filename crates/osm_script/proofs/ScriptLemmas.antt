@@ -11,7 +11,7 @@ use Rattle.osm_reading.specs.Sequence.{SpellsSequence}
 use Rattle.std.specs.Borrow.{Bor}
 use Rattle.std.specs.List.{AllZip}
 use Rattle.std.specs.Prelude.{IfSome, nat_eq, not, codes, Result, Ok, Err, IfErr}
-use Rattle.osm_script.specs.Steps.Parsing.{IsBeginOf, IsEditOf, IsCloseOf, IsDeliverOf, Refused, IsTakenAs}
+use Rattle.osm_script.specs.Steps.Parsing.{IsBeginOf, IsEditOf, IsCloseOf, IsDeliverOf, EventStops, IsTakenAs}
 use Rattle.osm_script.specs.Script.{IsEventLine, ScriptOf, form_text, AreEvents, unskipped}
 use Rattle.osm_world.specs.declared.event.Event.{Event}
 use Rattle.osm_world.specs.declared.event.Event.TheVariants.{Edit, Close, Deliver, Show, Save, Restart, Begin}
@@ -127,7 +127,7 @@ begin_digits digits Restart h = absurd h
 begin_digits digits (Begin n) h = (n, h)
 
 -- what refuses one fact refuses another that implies it
-pub refused_more : (r : Result Event LineFault) (A B : Event → Type 0) → ((e : Event) → B e → A e) → IfErr r (Refused A) → IfErr r (Refused B)
+pub refused_more : (r : Result Event LineFault) (A B : Event → Type 0) → ((e : Event) → B e → A e) → IfErr r (EventStops A) → IfErr r (EventStops B)
 refused_more (Ok e) A B more h = tt
 refused_more (Err WantOfMemory) A B more h = tt
 refused_more (Err NoEvent) A B more h = λ e b. h e (more e b)

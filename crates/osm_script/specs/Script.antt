@@ -84,7 +84,7 @@ pub record IsBadLine (script : List ℕ) (number : ℕ) : Type 0 where
 
 -- a script with a line that isn't skipped may be refused for memory, and any script at its first
 -- line that is no event
-abbrev pub ScriptRefused : List ℕ → RunFault → Type 0
-ScriptRefused script WantOfMemory = HasUnskipped script
-ScriptRefused script (BadScript line) = IsBadLine script line
-ScriptRefused script fault = ⊥
+abbrev pub ScriptStops : List ℕ → RunFault → Type 0
+ScriptStops script WantOfMemory = HasUnskipped script
+ScriptStops script (BadScript line) = IsBadLine script line
+ScriptStops script fault = ⊥

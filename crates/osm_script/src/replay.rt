@@ -5,7 +5,7 @@ ghost use Rattle.std.specs.Io.KnownBytes.{Appends, Consumes, IsAtEnd};
 ghost use Rattle.osm_model.specs.Limits.{max_file};
 ghost use Rattle.osm_script.specs.Replay.{IsWriteFault, ReplayFault, ReplayLeaves, Replays};
 ghost use Rattle.osm_script.specs.Replay.{RepliesTo};
-ghost use Rattle.osm_script.specs.Steps.Replaying.{AnswerRefused, ReadingFault};
+ghost use Rattle.osm_script.specs.Steps.Replaying.{AnswerStops, ReadingFault};
 ghost use Rattle.osm_script.specs.Steps.Replaying.{most_reads};
 ghost use Rattle.osm_folder.specs.declared.fault.RunFault.{RunFault};
 
@@ -106,7 +106,7 @@ impl EventSink for Answering {
 fn reply_text_of(alloc: Global, script: &[u8]) -> Result<Vec<u8>, RunFault>
     requires { length script.now ≤ max_file }
     ensures text { IfOk result (λ text. RepliesTo script.now text.items) }
-    ensures fault { IfErr result (AnswerRefused script.now) }
+    ensures fault { IfErr result (AnswerStops script.now) }
 {
     laws_of_runs();
     let Ok(world) = World::new(alloc) else {

@@ -4,11 +4,11 @@
 
 ghost use Rattle.std.specs.Prelude.{◌≡◌, ℕ, ◌<◌, ◌++◌, ◌^◌, List, [], ◌∷◌, length};
 ghost use Rattle.std.specs.Prelude.{IfOk, IfErr, OnOk, IfSome, IfNone};
-ghost use Rattle.osm_script.specs.Script.{IsEventLine, ScriptOf, ScriptRefused, form_text};
+ghost use Rattle.osm_script.specs.Script.{IsEventLine, ScriptOf, ScriptStops, form_text};
 ghost use Rattle.osm_world.specs.declared.event.Event.{Event};
 ghost use Rattle.osm_world.specs.declared.event.Form.{Form};
 ghost use Rattle.osm_script.specs.Steps.Parsing.{AllAreTaken, IsBeginOf, IsCloseOf, IsDeliverOf};
-ghost use Rattle.osm_script.specs.Steps.Parsing.{IsEditOf, IsTakenAs, LineRefused, Refused};
+ghost use Rattle.osm_script.specs.Steps.Parsing.{IsEditOf, IsTakenAs, LineStops, EventStops};
 
 use osm_folder::fault::RunFault;
 use osm_model::memory::WantOfMemory;
@@ -52,7 +52,7 @@ impl EventSink for Vec<Event> {
 pub fn parse_script(alloc: Global, script: &[u8]) -> Result<Vec<Event>, RunFault>
     requires { length script.now < 2 ^ 63 }
     ensures events { IfOk result (λ events. ScriptOf script.now events.items) }
-    ensures refused { IfErr result (ScriptRefused script.now) }
+    ensures refused { IfErr result (ScriptStops script.now) }
 {
     let mut events = Vec::new(alloc);
     send_events(alloc, script, &mut events)?;
@@ -70,7 +70,7 @@ pub(crate) fn send_events<S: EventSink>(
     requires short { length script.now < 2 ^ 63 }
     requires empty { S.took sink.old [] }
     ensures sent { OnOk result (AllAreTaken (S.took sink.new) script.now) }
-    ensures refused { IfErr result (ScriptRefused script.now) }
+    ensures refused { IfErr result (ScriptStops script.now) }
 {
     let mut rest = Some(script);
     let mut number = 0u64;
@@ -94,7 +94,7 @@ pub(crate) fn send_events<S: EventSink>(
 // The event of the line with that number; None if it is skipped.
 fn line_event(alloc: Global, line: &[u8], number: u64) -> Result<Option<Event>, RunFault>
     ensures taken { IfOk result (IsTakenAs line.now) }
-    ensures refused { IfErr result (LineRefused line.now number) }
+    ensures refused { IfErr result (LineStops line.now number) }
 {
     if is_skipped_line(line) {
         return Ok(None);
@@ -108,7 +108,7 @@ fn line_event(alloc: Global, line: &[u8], number: u64) -> Result<Option<Event>, 
 
 fn parse_event(alloc: Global, line: &[u8]) -> Result<Event, LineFault>
     ensures event { IfOk result (λ e. IsEventLine line.now e) }
-    ensures refused { IfErr result (Refused (IsEventLine line.now)) }
+    ensures refused { IfErr result (EventStops (IsEventLine line.now)) }
 {
     if let Some(object) = after_prefix(line, b"edit ") {
         return parse_edit(alloc, object);
@@ -132,7 +132,7 @@ fn parse_event(alloc: Global, line: &[u8]) -> Result<Event, LineFault>
 
 fn parse_edit(alloc: Global, object: &[u8]) -> Result<Event, LineFault>
     ensures event { IfOk result (λ e. IsEditOf object.now e) }
-    ensures refused { IfErr result (Refused (IsEditOf object.now)) }
+    ensures refused { IfErr result (EventStops (IsEditOf object.now)) }
 {
     match read_line(alloc, object) {
         Ok(change) => Ok(Event::Edit(change)),
@@ -143,7 +143,7 @@ fn parse_edit(alloc: Global, object: &[u8]) -> Result<Event, LineFault>
 
 fn parse_close(text: &[u8]) -> Result<Event, LineFault>
     ensures event { IfOk result (λ e. IsCloseOf text.now e) }
-    ensures refused { IfErr result (Refused (IsCloseOf text.now)) }
+    ensures refused { IfErr result (EventStops (IsCloseOf text.now)) }
 {
     match time_read(text) {
         Some(time) => Ok(Event::Close(time)),
@@ -153,7 +153,7 @@ fn parse_close(text: &[u8]) -> Result<Event, LineFault>
 
 fn parse_deliver(words: &[u8]) -> Result<Event, LineFault>
     ensures event { IfOk result (λ e. IsDeliverOf words.now e) }
-    ensures refused { IfErr result (Refused (IsDeliverOf words.now)) }
+    ensures refused { IfErr result (EventStops (IsDeliverOf words.now)) }
 {
     let Some((digits, form)) = before_form(words) else {
         return Err(LineFault::NoEvent);
@@ -166,7 +166,7 @@ fn parse_deliver(words: &[u8]) -> Result<Event, LineFault>
 
 fn parse_begin(digits: &[u8]) -> Result<Event, LineFault>
     ensures event { IfOk result (λ e. IsBeginOf digits.now e) }
-    ensures refused { IfErr result (Refused (IsBeginOf digits.now)) }
+    ensures refused { IfErr result (EventStops (IsBeginOf digits.now)) }
 {
     match sequence_read(digits) {
         Some(number) => Ok(Event::Begin(number)),

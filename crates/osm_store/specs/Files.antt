@@ -63,9 +63,9 @@ abbrev pub HasFailed : ℕ → ℕ → Type 0
 HasFailed old new = (old < new) ⊎ (18446744073709551615 ≤ old)
 
 -- why a file isn't read: it is too large only if it has more bytes than asked for
-abbrev pub ReadRefused : Type 0 → ℕ → Option (List ℕ) → StoreError → Type 0
-ReadRefused known limit told TooLarge = known → IsOver limit told
-ReadRefused known limit told e = Unit {0}
+abbrev pub ReadStops : Type 0 → ℕ → Option (List ℕ) → StoreError → Type 0
+ReadStops known limit told TooLarge = known → IsOver limit told
+ReadStops known limit told e = Unit {0}
 
 -- why a part of a file isn't read, or a file isn't written: never since it is too large
 abbrev pub NeverTooLarge : StoreError → Type 0

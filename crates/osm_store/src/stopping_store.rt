@@ -2,7 +2,7 @@
 
 ghost use Rattle.std.specs.Prelude.{◌≡◌, ◌+◌, ◌≤◌, ◌++◌, ℕ, List, [], Some, None, OnOk, OnErr};
 ghost use Rattle.std.specs.Prelude.{IfErr, IfOk, is_some};
-ghost use Rattle.osm_store.specs.Files.{HasFailed, IsWithin, NeverTooLarge, Puts, ReadRefused};
+ghost use Rattle.osm_store.specs.Files.{HasFailed, IsWithin, NeverTooLarge, Puts, ReadStops};
 ghost use Rattle.osm_store.specs.Files.{Tells, block_of, prefix_of};
 ghost use Rattle.osm_store.specs.Frames.{Abandons, IsDevice, IsKnown, ReadsBetween};
 ghost use Rattle.osm_store.specs.Frames.{ReplacesBetween};
@@ -73,7 +73,7 @@ impl<S: Store> Store for StoppingStore<S> {
         ensures read { IfOk result (λ o. IsKnown (S.Store.state self.old.inner)
             → Tells o ((S.Store.state self.old.inner).files name.now)) }
         ensures within { IfOk result (IsWithin limit) }
-        ensures refused { IfErr result (ReadRefused (IsKnown (S.Store.state self.old.inner)) limit
+        ensures refused { IfErr result (ReadStops (IsKnown (S.Store.state self.old.inner)) limit
             ((S.Store.state self.old.inner).files name.now)) }
         ensures stopped { IfErr result (IsStopped self.old.calls
             (S.Store.state self.old.inner) (S.Store.state self.new.inner)) }

@@ -1,7 +1,7 @@
 //! Files behind a trait.
 
 ghost use Rattle.std.specs.Prelude.{◌≡◌, ◌++◌, ℕ, List, [], Some, None, IfErr, IfOk, OnOk, is_some};
-ghost use Rattle.osm_store.specs.Files.{IsWithin, NeverTooLarge, Puts, ReadRefused, Tells};
+ghost use Rattle.osm_store.specs.Files.{IsWithin, NeverTooLarge, Puts, ReadStops, Tells};
 ghost use Rattle.osm_store.specs.Files.{block_of, prefix_of};
 ghost use Rattle.osm_store.specs.Frames.{Abandons, IsDevice, IsKnown, ReadsBetween};
 ghost use Rattle.osm_store.specs.Frames.{ReplacesBetween, StoreState};
@@ -40,7 +40,7 @@ pub trait Store {
             (λ o. IsKnown (state self.old) → Tells o ((state self.old).files name.now)) }
         ensures within { IfOk result (λ o. IsWithin limit o) }
         ensures refused { IfErr result
-            (ReadRefused (IsKnown (state self.old)) limit ((state self.old).files name.now)) }
+            (ReadStops (IsKnown (state self.old)) limit ((state self.old).files name.now)) }
         ensures frame { ReadsBetween IsDevice 1 1 (state self.old) (state self.new) result };
 
     /// The first bytes of a file, at most so many: all of it if it has fewer. None if there is no

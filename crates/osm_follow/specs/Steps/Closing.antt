@@ -7,10 +7,10 @@ use Rattle.osm_follow.specs.declared.publisher.CloseError.{CloseError}
 use Rattle.osm_follow.specs.declared.publisher.CloseError.TheVariants.{TooLarge, WantOfMemory}
 
 -- why a text isn't written
-abbrev pub TextRefused : List ℕ → CloseError → Type 0
-TextRefused text TooLarge = max_file < length text
-TextRefused text WantOfMemory = Unit {0}
-TextRefused text error = ⊥
+abbrev pub TextStops : List ℕ → CloseError → Type 0
+TextStops text TooLarge = max_file < length text
+TextStops text WantOfMemory = Unit {0}
+TextStops text error = ⊥
 
 -- why the texts of a sequence aren't written
 abbrev pub WriteStops : List ChangeValue → CloseError → Type 0

@@ -72,17 +72,17 @@ abbrev pub Stops : (List ChangeValue → Type 0) → Option Position → Type 0
 Stops Limits next = (q : Position) → next ≡ Some q → Limits q.changes → ⊥
 
 -- no dataset is added: for a fault, none may come next; out of memory only at an object
-abbrev pub StepRefused : (List ChangeValue → Type 0) → Position → Refusal → Type 0
-StepRefused Limits p WantOfMemory = BeginsObject p.rest
-StepRefused Limits p (Fault why) = Stops Limits (step p)
+abbrev pub StepStops : (List ChangeValue → Type 0) → Position → Refusal → Type 0
+StepStops Limits p WantOfMemory = BeginsObject p.rest
+StepStops Limits p (Fault why) = Stops Limits (step p)
 
 -- a change isn't added: for a fault, it may not follow the others
-abbrev pub ChangeRefused : (List ChangeValue → Type 0) → List ChangeValue → ChangeValue → Refusal
+abbrev pub ChangeStops : (List ChangeValue → Type 0) → List ChangeValue → ChangeValue → Refusal
     → Type 0
-ChangeRefused Limits changes c WantOfMemory = Unit {0}
-ChangeRefused Limits changes c (Fault why) = Limits (changes ++ c ∷ []) → ⊥
+ChangeStops Limits changes c WantOfMemory = Unit {0}
+ChangeStops Limits changes c (Fault why) = Limits (changes ++ c ∷ []) → ⊥
 
 -- an object isn't added: for a fault, there is none, or it may not come next
-abbrev pub ObjectRefused : (List ChangeValue → Type 0) → Option Position → Refusal → Type 0
-ObjectRefused Limits next WantOfMemory = Unit {0}
-ObjectRefused Limits next (Fault why) = Stops Limits next
+abbrev pub ObjectStops : (List ChangeValue → Type 0) → Option Position → Refusal → Type 0
+ObjectStops Limits next WantOfMemory = Unit {0}
+ObjectStops Limits next (Fault why) = Stops Limits next

@@ -34,9 +34,9 @@ pub record IsPart (last : Option Key) (objects : List ChangeValue) : Type 0 wher
   pub follows : Follows last objects
 
 -- an object isn't added to a part: for a fault, none may come next
-abbrev pub PartRefused : Option Key → Position → Refusal → Type 0
-PartRefused last p WantOfMemory = Unit {0}
-PartRefused last p (Fault why) = Stops (IsPart last) (step p)
+abbrev pub PartStops : Option Key → Position → Refusal → Type 0
+PartStops last p WantOfMemory = Unit {0}
+PartStops last p (Fault why) = Stops (IsPart last) (step p)
 
 -- a reader over the whole file comes to that position
 pub data Reaches (file : List ℕ) : Position → Type 0 where

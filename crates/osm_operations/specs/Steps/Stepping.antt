@@ -21,15 +21,15 @@ use Rattle.osm_store.specs.Files.{Files, Puts}
 use Rattle.osm_folder.specs.Folder.{IsApart, IsFolderOf}
 use Rattle.osm_folder.specs.Following.{IsSaveOf, plainly}
 use Rattle.osm_folder.specs.Lagging.{IsHead}
-use Rattle.osm_folder.specs.Numbered.{IsAddedAs, IsPublishedAs, NumberedOut, NumberedRefuses}
+use Rattle.osm_folder.specs.Numbered.{IsAddedAs, IsPublishedAs, NumberedOut, NumberedStopsOver}
 use Rattle.osm_folder.specs.Numbered.{NumberedStops, numbered_calls}
-use Rattle.osm_folder.specs.Publication.{FolderRefuses, GoesOnFrom, IsPublished, PublishOut}
+use Rattle.osm_folder.specs.Publication.{PublishStopsOver, GoesOnFrom, IsPublished, PublishOut}
 use Rattle.osm_folder.specs.Publication.{PublishStops}
 use Rattle.osm_folder.specs.Names.{file_name_of, top_name_of}
 use Rattle.osm_folder.specs.Reports.{ReportValue, convert_report_of}
 use Rattle.osm_folder.specs.Runs.{LacksCalls}
 use Rattle.osm_store.specs.Stores.{files_of}
-use Rattle.osm_round.specs.Over.{FollowRefuses, follow_calls}
+use Rattle.osm_round.specs.Over.{FollowStopsOver, follow_calls}
 use Rattle.osm_round.specs.Rounds.{IsFollowed, IsProgress, RoundStops}
 use Rattle.osm_folder.specs.declared.fault.FileName.TheVariants as names
 use Rattle.osm_folder.specs.declared.fault.FileName.TheVariants.{Changes}
@@ -93,7 +93,7 @@ pub record StopsPublishing (left : Option ℕ) (dir changes : List ℕ) (fault :
     (new : Files) (now : List ℕ) (middle : Files) : Type 0 where
   pub stops : PublishStops (IsTrue true) dir changes now middle new fault
   pub refuses : (published : List PublishedValue) → IsFolderOf published middle dir
-      → FolderRefuses published now fault
+      → PublishStopsOver published now fault
   pub keeps : (published : List PublishedValue) → IsFolderOf published middle dir
       → IsFolderOf published new dir
   pub out : PublishOut dir middle left fault
@@ -134,7 +134,7 @@ pub record StopsPublishingAs (left : Option ℕ) (dir changes : List ℕ) (n : �
   pub number_is : IsNumberText n sequence
   pub stops : NumberedStops (IsTrue true) dir changes now sequence middle new fault
   pub refuses : (published : List PublishedValue) → IsFolderOf published middle dir
-      → NumberedRefuses published dir changes now sequence middle fault
+      → NumberedStopsOver published dir changes now sequence middle fault
   pub keeps : (published : List PublishedValue) → IsFolderOf published middle dir
       → IsFolderOf published new dir
   pub out : NumberedOut dir sequence middle left fault
@@ -166,7 +166,7 @@ FollowStep given dir save (Ok report) old new = IsFollowed (plainly given) dir s
 FollowStep given dir save (Err fault) old new =
     (published : List PublishedValue) (base number : ℕ) → IsFolderOf published old dir
     → IsSaveOf published given base number (old save)
-    → (new ≡ old) × FollowRefuses published given (old save) fault
+    → (new ≡ old) × FollowStopsOver published given (old save) fault
 
 -- a run of the word `follow` under another filter than the given one, if something is saved
 pub record IsOtherRun (given other : FilterValue) (dir save : List ℕ)

@@ -26,11 +26,11 @@ pub data AddsLine : List ℕ → List ChangeValue → List ChangeValue → Type 
 
 -- a line is refused: it isn't skipped and, unless out of memory, it spells no change with which the
 -- changes so far are still within the limits
-abbrev pub LineStops : (List ChangeValue → Type 0) → List ℕ → ℕ → List ChangeValue → FormError
+abbrev pub NextLineStops : (List ChangeValue → Type 0) → List ℕ → ℕ → List ChangeValue → FormError
     → Type 0
-LineStops Limits line place changes forms.WantOfMemory = is_skipped line ≡ false
-LineStops Limits line place changes forms.TooLarge = ⊥
-LineStops Limits line place changes (forms.Fault p why) =
+NextLineStops Limits line place changes forms.WantOfMemory = is_skipped line ≡ false
+NextLineStops Limits line place changes forms.TooLarge = ⊥
+NextLineStops Limits line place changes (forms.Fault p why) =
     (p ≡ place) × (is_skipped line ≡ false)
     × ((c : ChangeValue) → SpellsLine line c → Limits (changes ++ c ∷ []) → ⊥)
 

@@ -40,9 +40,9 @@ IsBeginOf digits (Begin number) = SpellsSequence digits number
 IsBeginOf digits e = ⊥
 
 -- a line is refused as no event only if it is no event
-abbrev pub Refused : (Event → Type 0) → LineFault → Type 0
-Refused IsIt WantOfMemory = Unit {0}
-Refused IsIt NoEvent = (e : Event) → IsIt e → ⊥
+abbrev pub EventStops : (Event → Type 0) → LineFault → Type 0
+EventStops IsIt WantOfMemory = Unit {0}
+EventStops IsIt NoEvent = (e : Event) → IsIt e → ⊥
 
 -- a line is skipped, or is that event
 abbrev pub IsTakenAs : List ℕ → Option Event → Type 0
@@ -50,11 +50,11 @@ IsTakenAs line None = is_skipped line ≡ true
 IsTakenAs line (Some event) = (is_skipped line ≡ false) × IsEventLine line event
 
 -- a line that isn't skipped is no event, or memory was refused
-abbrev pub LineRefused : List ℕ → ℕ → RunFault → Type 0
-LineRefused line number faults.WantOfMemory = is_skipped line ≡ false
-LineRefused line number (faults.BadScript n) =
+abbrev pub LineStops : List ℕ → ℕ → RunFault → Type 0
+LineStops line number faults.WantOfMemory = is_skipped line ≡ false
+LineStops line number (faults.BadScript n) =
     (n ≡ number) × (is_skipped line ≡ false) × ((e : Event) → IsEventLine line e → ⊥)
-LineRefused line number fault = ⊥
+LineStops line number fault = ⊥
 
 -- the events of the script were all taken
 abbrev pub AllAreTaken : (List Event → Type 0) → List ℕ → Type 0

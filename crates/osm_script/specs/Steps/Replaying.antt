@@ -35,7 +35,7 @@ pub record IsAnswered (events : List Event) (world : WorldValue) (text : List �
   pub text_is : text ≡ replies_text replies
 
 -- a script isn't answered: memory was refused, or a line is no event
-abbrev pub AnswerRefused : List ℕ → RunFault → Type 0
-AnswerRefused script WantOfMemory = Unit {0}
-AnswerRefused script (BadScript line) = IsBadLine script line
-AnswerRefused script fault = ⊥
+abbrev pub AnswerStops : List ℕ → RunFault → Type 0
+AnswerStops script WantOfMemory = Unit {0}
+AnswerStops script (BadScript line) = IsBadLine script line
+AnswerStops script fault = ⊥

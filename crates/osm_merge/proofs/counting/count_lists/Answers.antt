@@ -12,7 +12,7 @@ use Rattle.osm_save.specs.Save.{most_objects, saved_with}
 use Rattle.osm_save.specs.declared.save.Saved.{Saved}
 use Rattle.osm_merge.specs.Calls.{calls_ahead, puts_ahead}
 use Rattle.osm_merge.specs.Mirrors.{both_at, totals_of}
-use Rattle.osm_merge.specs.Reading.{Refuses}
+use Rattle.osm_merge.specs.Reading.{LineStops}
 use Rattle.osm_merge.specs.declared.lists.Totals.{Totals}
 use Rattle.osm_merge.proofs.CallLemmas.{advances_fails, advances_first, advances_then, drops_nothing}
 use Rattle.osm_merge.proofs.CheckLemmas.{after_objects, mirror_none, mirror_read}
@@ -85,7 +85,7 @@ returns-clause-refused g c = λ file has. by_objects file has
     by_objects : (file : List ℕ) (has : HasFile (g.S.Store.state c.args.store.now) c.args.name.now file)
         → (r : Option (List ChangeValue × List ℕ))
         → objects_at c.args.opening.now.filter (most_objects c.args.opening.now.version c.args.opening.now.head.number) (left_of c.args.source.now file) ≡ r
-        → Refuses file c.in-Err-merge_both.fault
+        → LineStops file c.in-Err-merge_both.fault
         (mirror_at c.args.opening.now.version c.args.opening.now.head c.args.opening.now.filter (left_of c.args.source.now file))
     by_objects file has r read =
         let o = c.args.opening.now in

@@ -1,5 +1,5 @@
 use Rattle.std.proofs.Common.{ap, subst}
-use Rattle.osm_save.specs.Refusal.{HeadRefused}
+use Rattle.osm_save.specs.Refusal.{HeadStops}
 use Rattle.osm_save.specs.declared.head.Head.{Head}
 use Rattle.osm_operations.proofs.runs.number_of_head.Goals as goal
 
@@ -8,4 +8,4 @@ returns-in-Ok c = λ head begins. ap (λ (h : Head). h.number) (c.laws_of_heads.
 
 pub returns-in-Err-BadHead : goal.returns-in-Err-BadHead
 returns-in-Err-BadHead c = λ head begins.
-    absurd (subst (HeadRefused c.args.bytes.now) c.in-Err-BadHead.field-0-is c.in-Err-BadHead.ensures.refused head begins)
+    absurd (subst (HeadStops c.args.bytes.now) c.in-Err-BadHead.field-0-is c.in-Err-BadHead.ensures.refused head begins)

@@ -2,7 +2,7 @@ use Rattle.std.proofs.Common.{◌≡◌, [], ◌∷◌, ◌++◌, None, refl, ru
 use Rattle.std.specs.Char.{encode_utf8}
 use Rattle.std.specs.Prelude.{string_bytes}
 use Rattle.osm_reading.specs.Pieces.{pieces}
-use Rattle.osm_reading.specs.Answers.{Fails}
+use Rattle.osm_reading.specs.Answers.{Stops}
 use Rattle.osm_opl.specs.Reading.{runs_at, text_at}
 use Rattle.osm_opl.proofs.ListLemmas.{char_long, escape_none, escape_open, put_before-nothing, run_long, run_none, run_read, text_whole}
 use Rattle.osm_opl.proofs.escapes.unescape.Goals as goal
@@ -21,7 +21,7 @@ returns-in_err-read_run c =
 
 pub returns-in_err-append_run : goal.returns-in_err-append_run
 returns-in_err-append_run c =
-    let failed : Fails c.in_err-append_run.field-0.0 (text_at c.args.bytes.now) =
+    let failed : Stops c.in_err-append_run.field-0.0 (text_at c.args.bytes.now) =
     run_long c.args.bytes.now (string_bytes c.loop-text.text) c.cut.result.0.now c.in_ok-read_run.field-0.now
     (pieces 37 c.loop-text.rest.now) _ c.in_err-append_run.field-0.0 c.loop-text.invariant c.cut.ensures.pieces
     c.in_ok-read_run.ensures c.in_err-append_run.ensures.refused in
@@ -63,7 +63,7 @@ returns-in_err-append_char c =
     (pieces 37 c.in-Some-after.after.now) c.cut-in-loop-text.result.0.now c.in_ok-read_escape.field-0
     (runs_at (pieces 37 c.args.bytes.now)) c.loop-text.invariant (first ∙ rw second refl) c.in_ok-read_run.ensures
     c.in_ok-read_escape.ensures c.in_ok-append_run.ensures.ok refl in
-    let failed : Fails c.in_err-append_char.field-0.0 (text_at c.args.bytes.now) =
+    let failed : Stops c.in_err-append_char.field-0.0 (text_at c.args.bytes.now) =
     char_long c.args.bytes.now (string_bytes c.append_run.new.text ++ encode_utf8 c.in_ok-read_escape.field-0)
     (runs_at (pieces 37 c.in-Some-after.after.now)) c.in_err-append_char.field-0.0 read
     c.in_err-append_char.ensures.refused in
