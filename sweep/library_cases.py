@@ -242,6 +242,7 @@ LINES = [
     appending("write_applied", b"applied 1..3\n"),
     appending("write_base", b"base 7\n"),
     appending("write_time", b"time 2024-01-01T00:00:00Z\n"),
+    appending("write_count", b"5 12\n"),
     appending("write_count_lines", b"5 1\n6 22\n"),
     appending("write_number", b"18446744073709551615"),
     appending("write_bytes", b"some bytes"),

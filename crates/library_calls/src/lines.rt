@@ -5,8 +5,8 @@ use crate::subject::Subject;
 use osm_follow::follower::Follower;
 use osm_follow::view::View;
 use osm_model::memory::WantOfMemory;
-use osm_show::lines::{
-    write_applied, write_bytes, write_count_lines, write_number, write_numbered,
+use osm_reading::number_lines::{
+    write_applied, write_bytes, write_count, write_count_lines, write_number, write_numbered,
     write_numbered_lines,
 };
 use osm_show::show::{write_base, write_time, write_view};
@@ -35,6 +35,7 @@ pub(crate) enum Line {
     Numbered,
     NumberedLines,
     Applied,
+    Count,
     CountLines,
     Number,
     Bytes,
@@ -50,6 +51,7 @@ const CALLS: &[(&str, Call)] = &[
     ("write_numbered", Call::Append(Line::Numbered)),
     ("write_numbered_lines", Call::Append(Line::NumberedLines)),
     ("write_applied", Call::Append(Line::Applied)),
+    ("write_count", Call::Append(Line::Count)),
     ("write_count_lines", Call::Append(Line::CountLines)),
     ("write_number", Call::Append(Line::Number)),
     ("write_bytes", Call::Append(Line::Bytes)),
@@ -101,6 +103,7 @@ fn append(line: Line, text: &mut Vec<u8>) -> Result<(), WantOfMemory> {
         Line::Numbered => write_numbered(b"number ", 12, text),
         Line::NumberedLines => write_numbered_lines(b"missing ", &[2, 3, 5], text),
         Line::Applied => write_applied(1, 3, text),
+        Line::Count => write_count(5, 12, text),
         Line::CountLines => write_count_lines(&[(5, 1), (6, 22)], text),
         Line::Number => write_number(u64::MAX, text),
         Line::Bytes => write_bytes(b"some bytes", text),

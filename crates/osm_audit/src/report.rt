@@ -14,7 +14,7 @@ use crate::audit::Audit;
 use crate::fault::AuditFault;
 use crate::finding::Finding;
 use osm_model::memory::WantOfMemory;
-use osm_show::lines::{write_bytes, write_number};
+use osm_reading::number_lines::{write_bytes, write_number};
 use serde_json::{Value, json};
 use std::alloc::{AllocError, Global};
 

@@ -1,7 +1,7 @@
 -- What the runs print, line by line, and their exit statuses.
 use Rattle.std.specs.Prelude.{ℕ, List, [], ◌∷◌, ◌++◌, Option, Some, None, codes}
 use Rattle.std.specs.List.{flat_map}
-use Rattle.osm_show.specs.Lines.{applied_line, numbered_line}
+use Rattle.osm_reading.specs.NumberLines.{applied_line, numbered_line}
 use Rattle.osm_json.specs.Line.{fault_data, follow_data, json_line, lag_data}
 use Rattle.osm_json.specs.declared.line.Standing.{Standing}
 use Rattle.osm_folder.specs.declared.options.Layout.{Layout}

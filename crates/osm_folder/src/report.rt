@@ -3,7 +3,7 @@
 ghost use Rattle.std.specs.Prelude.{◌≡◌, ◌≤◌, ◌++◌, ℕ, List, [], IfOk, OnOk, length};
 ghost use Rattle.std.specs.Prelude.{option_map};
 ghost use Rattle.std.specs.List.{flat_map};
-ghost use Rattle.osm_show.specs.Lines.{applied_line};
+ghost use Rattle.osm_reading.specs.NumberLines.{applied_line};
 ghost use Rattle.osm_folder.specs.Faults.{status_of};
 ghost use Rattle.osm_folder.specs.Reports.{begin_report_of, convert_report_of, fault_report_of};
 ghost use Rattle.osm_folder.specs.Reports.{follow_report_of, follow_text, gap_status};
@@ -15,7 +15,7 @@ use crate::options::Layout;
 use osm_follow::lag::Lag;
 use osm_json::line::{Standing, fault_line, follow_line, lag_line};
 use osm_model::memory::WantOfMemory;
-use osm_show::lines::{write_applied, write_bytes, write_numbered, write_numbered_lines};
+use osm_reading::number_lines::{write_applied, write_bytes, write_numbered, write_numbered_lines};
 use std::alloc::Global;
 use std::marker::Model;
 

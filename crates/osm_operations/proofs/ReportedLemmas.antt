@@ -14,7 +14,7 @@ use Rattle.osm_model.specs.Limits.{max_sequence}
 use Rattle.osm_follow.specs.Reach.{numbers}
 use Rattle.osm_folder.specs.Following.{ranges}
 use Rattle.osm_folder.specs.Reports.{ReportValue, follow_report_of, follow_text}
-use Rattle.osm_show.specs.Lines.{applied_line, numbered_line}
+use Rattle.osm_reading.specs.NumberLines.{applied_line, numbered_line}
 use Rattle.osm_operations.specs.Allowed.{following_report}
 use Rattle.osm_operations.specs.History as hist
 use Rattle.osm_operations.proofs.FollowLemmas.{min_below}

@@ -20,7 +20,7 @@ use Rattle.osm_save.specs.declared.version.Version.{Version}
 use Rattle.osm_save.proofs.HeadLemmas.{head_again}
 use Rattle.osm_save.proofs.TextLemmas.{mirror_text, save_text_is}
 use Rattle.osm_merge.proofs.OpeningLemmas.{head_absent, head_more}
-use Rattle.osm_show.specs.Lines.{count_line, numbered_line}
+use Rattle.osm_reading.specs.NumberLines.{count_line, numbered_line}
 use Rattle.osm_show.specs.Show.{counts_text, object_line, objects_text}
 use Rattle.osm_store.specs.Frames.{StoreState}
 use Rattle.osm_folder.specs.declared.fault.RunFault.{RunFault}

@@ -9,7 +9,7 @@ use Rattle.osm_save.specs.declared.head.Head.{Head}
 use Rattle.osm_save.specs.declared.save.Saved.{Saved}
 use Rattle.osm_follow.specs.Published.{PublishedValue, changes_after, changes_up_to, time_at}
 use Rattle.osm_follow.specs.View.{ViewValue}
-use Rattle.osm_show.specs.Lines.{numbered_line}
+use Rattle.osm_reading.specs.NumberLines.{numbered_line}
 use Rattle.osm_show.specs.Show.{base_line, held_text, time_line, view_text}
 use Rattle.osm_merge.specs.Checking.{IsHugeFile}
 use Rattle.osm_checked.specs.Checking.{ReadStops}

@@ -1,5 +1,6 @@
 pub mod Pieces
 pub mod Lines
+pub mod NumberLines
 pub mod Sequence
 pub mod Refusal
 pub mod Answers

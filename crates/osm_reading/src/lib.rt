@@ -3,6 +3,7 @@
 #![tactic(auto)]
 
 pub mod lines;
+pub mod number_lines;
 pub mod pieces;
 pub mod refusal;
 pub mod sequence;

@@ -7,11 +7,12 @@ ghost use Rattle.osm_save.specs.Answers.{Gives};
 ghost use Rattle.osm_save.specs.Reading.{count_at, counts_at, items_at};
 
 use crate::lines::{next_line, numbered_line, write_numbered};
-use crate::numbers::{read_number, write_number};
+use crate::numbers::read_number;
 use crate::order::is_number_above;
 use crate::stop::Stop;
 use osm_mirror::counts::Counts;
 use osm_model::memory::WantOfMemory;
+use osm_reading::number_lines;
 use osm_reading::pieces::cut;
 use std::alloc::Global;
 
@@ -32,11 +33,7 @@ pub fn write_count(number: u32, count: u64, out: &mut Vec<u8>) -> Result<(), Wan
     ensures { OnOk result
         (out.new.items ≡ out.old.items ++ ended (count_text (number, count) ∷ [])) }
 {
-    write_number(number as u64, out)?;
-    out.push(b' ')?;
-    write_number(count, out)?;
-    out.push(b'\n')?;
-    Ok(())
+    number_lines::write_count(number, count, out)
 }
 
 /// Reads the list that begins with that word: its counts, each at most `most`, and the bytes after

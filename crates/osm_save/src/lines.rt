@@ -6,9 +6,10 @@ ghost use Rattle.osm_save.specs.Lines.{ended};
 ghost use Rattle.osm_save.specs.Answers.{Finds};
 ghost use Rattle.osm_save.specs.Reading.{fixed_at, numbered_at};
 
-use crate::numbers::{read_number, write_number};
+use crate::numbers::read_number;
 use crate::stop::Stop;
 use osm_model::memory::WantOfMemory;
+use osm_reading::number_lines;
 use osm_reading::pieces::cut;
 
 /// The next line without its LF, and the bytes after it.
@@ -58,10 +59,7 @@ pub fn write_numbered(word: &[u8], number: u64, out: &mut Vec<u8>) -> Result<(),
     ensures { OnOk result
         (out.new.items ≡ out.old.items ++ ended ((word.now ++ decimal number) ∷ [])) }
 {
-    out.extend_from_slice(word)?;
-    write_number(number, out)?;
-    out.push(b'\n')?;
-    Ok(())
+    number_lines::write_numbered(word, number, out)
 }
 
 /// The number, counted from 1, of the line at whose start `left` bytes are left.

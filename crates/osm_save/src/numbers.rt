@@ -1,11 +1,10 @@
 //! Numbers in plain decimal: no sign, and no leading zeros.
 
-ghost use Rattle.std.specs.Prelude.{◌≡◌, ◌<◌, ◌^◌, ◌++◌, decimal, IfSome, OnOk};
+ghost use Rattle.std.specs.Prelude.{◌≡◌};
 ghost use Rattle.osm_opl.specs.Reading.{digits_at};
 ghost use Rattle.osm_save.specs.Reading.{number_at};
 
 use itoa::Buffer;
-use osm_model::memory::WantOfMemory;
 
 /// The most digits of a number.
 pub const MOST_DIGITS: usize = 18;
@@ -37,12 +36,4 @@ fn read_digits(digits: &[u8]) -> Option<u64>
         number = 10 * number + (*byte - b'0') as u64;
     }
     Some(number)
-}
-
-/// Appends a number.
-pub fn write_number(number: u64, out: &mut Vec<u8>) -> Result<(), WantOfMemory>
-    ensures { OnOk result (out.new.items ≡ out.old.items ++ decimal number) }
-{
-    out.extend_from_slice(Buffer::new().format(number).as_bytes())?;
-    Ok(())
 }

@@ -1,7 +1,7 @@
 -- The reply text: a line for each reply, and more for a view, each ended by LF.
 use Rattle.std.specs.Prelude.{ℕ, List, codes}
 use Rattle.std.specs.List.{flat_map}
-use Rattle.osm_show.specs.Lines.{applied_line, numbered_line}
+use Rattle.osm_reading.specs.NumberLines.{applied_line, numbered_line}
 use Rattle.osm_show.specs.Show.{view_text}
 use Rattle.osm_world.specs.declared.event.Reply.{Reply}
 use Rattle.osm_world.specs.declared.event.Reply.TheVariants.{Edited, BatchFull, WantOfMemory}

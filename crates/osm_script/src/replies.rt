@@ -4,7 +4,7 @@ ghost use Rattle.std.specs.Prelude.{◌≡◌, ◌<◌, ◌++◌, length, IfOk, 
 ghost use Rattle.osm_script.specs.Replies.{replies_text, reply_text};
 
 use osm_model::memory::WantOfMemory;
-use osm_show::lines::{write_applied, write_bytes, write_numbered};
+use osm_reading::number_lines::{write_applied, write_bytes, write_numbered};
 use osm_show::show::write_view;
 use osm_world::event::Reply;
 use std::alloc::Global;

@@ -7,7 +7,7 @@ use Rattle.osm_model.specs.CivilTime.{time_text}
 use Rattle.osm_opl.specs.Written.{line_text}
 use Rattle.osm_mirror.specs.Mirror.{Counted}
 use Rattle.osm_follow.specs.View.{ViewValue}
-use Rattle.osm_show.specs.Lines.{count_line, number_line, numbered_line}
+use Rattle.osm_reading.specs.NumberLines.{count_line, number_line, numbered_line}
 
 -- `time none`, or `time` and the time, and LF
 abbrev pub time_line : Option ℕ → List ℕ

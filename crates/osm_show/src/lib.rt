@@ -1,5 +1,4 @@
-//! The show text of a view, and lines with numbers.
+//! The show text of a view.
 #![tactic(auto)]
 
-pub mod lines;
 pub mod show;

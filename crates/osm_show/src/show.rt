@@ -6,12 +6,14 @@ ghost use Rattle.std.specs.List.{flat_map};
 ghost use Rattle.osm_show.specs.Show.{base_line, counts_text, held_text, object_line};
 ghost use Rattle.osm_show.specs.Show.{objects_text, time_line, view_text};
 
-use crate::lines::{write_bytes, write_count_lines, write_numbered, write_numbered_lines};
 use osm_follow::view::View;
 use osm_model::change::Change;
 use osm_model::memory::WantOfMemory;
 use osm_model::time::time_write;
 use osm_opl::lines::write_line;
+use osm_reading::number_lines::{
+    write_bytes, write_count_lines, write_numbered, write_numbered_lines,
+};
 
 /// Appends the show text: number, base if it isn't 0, time, objects, users and changesets with
 /// their counts of edits, and the numbers that are held. If memory is refused, a part may have been

@@ -1,6 +1,6 @@
 use Rattle.std.proofs.Common.{◌≡◌, ◌++◌, take}
 use Rattle.std.specs.List.{flat_map}
-use Rattle.osm_show.specs.Lines.{applied_line}
+use Rattle.osm_reading.specs.NumberLines.{applied_line}
 use Rattle.osm_folder.proofs.report.write_ranges.Given as goal
 
 abbrev pub invariant-loop-low : goal.invariant-loop-low

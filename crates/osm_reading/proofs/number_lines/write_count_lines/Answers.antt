@@ -1,8 +1,8 @@
 use Rattle.std.proofs.Common.{◌≡◌, ℕ, ◌+◌, ◌<◌, ◌≤◌, ◌++◌, ap, arith, length, length-append, rules, sym, take, vec_capacity, vec_len, slice_index_or}
 use Rattle.std.specs.List.{flat_map}
 use Rattle.std.proofs.lemmas.List.Folds.{length-flat_map-take}
-use Rattle.osm_show.specs.Lines.{count_line}
-use Rattle.osm_show.proofs.lines.write_count_lines.Goals as goal
+use Rattle.osm_reading.specs.NumberLines.{count_line}
+use Rattle.osm_reading.proofs.number_lines.write_count_lines.Goals as goal
 
 pub returns-in_err-write_count-clause-refused : goal.returns-in_err-write_count-clause-refused
 returns-in_err-write_count-clause-refused c =

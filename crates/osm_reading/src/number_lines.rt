@@ -3,7 +3,7 @@
 ghost use Rattle.std.specs.Prelude.{◌≡◌, ◌+◌, ◌<◌, ◌≤◌, ◌++◌, OnErr, OnOk, decimal, length};
 ghost use Rattle.std.specs.Prelude.{vec_capacity, vec_len};
 ghost use Rattle.std.specs.List.{flat_map};
-ghost use Rattle.osm_show.specs.Lines.{applied_line, count_line, numbered_line};
+ghost use Rattle.osm_reading.specs.NumberLines.{applied_line, count_line, numbered_line};
 
 use itoa::Buffer;
 use osm_model::memory::WantOfMemory;
@@ -67,7 +67,8 @@ pub fn write_count_lines(counts: &[(u32, u64)], text: &mut Vec<u8>) -> Result<()
     Ok(())
 }
 
-fn write_count(number: u32, count: u64, text: &mut Vec<u8>) -> Result<(), WantOfMemory>
+/// Appends `ID COUNT`.
+pub fn write_count(number: u32, count: u64, text: &mut Vec<u8>) -> Result<(), WantOfMemory>
     ensures appended { OnOk result (text.new.items ≡ text.old.items ++ count_line (number, count)) }
     ensures room { vec_capacity text.old ≤ vec_capacity text.new }
     ensures refused { OnErr result

@@ -1,6 +1,5 @@
 -- Lines with numbers. Each ends with LF.
 use Rattle.std.specs.Prelude.{ℕ, List, [], ◌∷◌, ◌++◌, codes, decimal}
-use Rattle.osm_mirror.specs.Mirror.{Counted}
 
 -- `NAME N` and LF
 abbrev pub numbered_line : List ℕ → ℕ → List ℕ
@@ -11,7 +10,7 @@ abbrev pub applied_line : ℕ × ℕ → List ℕ
 applied_line range = codes "applied " ++ decimal range.0 ++ codes ".." ++ decimal range.1 ++ 10 ∷ []
 
 -- `ID COUNT` and LF
-abbrev pub count_line : Counted → List ℕ
+abbrev pub count_line : ℕ × ℕ → List ℕ
 count_line e = decimal e.0 ++ 32 ∷ decimal e.1 ++ 10 ∷ []
 
 -- a number and LF
