@@ -1,19 +1,17 @@
 //! Carrying out what the words of the command line ask for.
 
-ghost use Rattle.std.specs.Prelude.{◌≡◌, ℕ, ◌≤◌, ◌⊎◌, List, Option, IfOk, IfErr, OnOk, OnErr};
+ghost use Rattle.std.specs.Prelude.{◌≡◌, ℕ, ◌⊎◌, List, Option, IfOk, IfErr, OnErr};
 ghost use Rattle.std.specs.Borrow.{Bor};
 ghost use Rattle.std.specs.Io.KnownBytes.{Appends};
-ghost use Rattle.osm_store.specs.Files.{Spends};
 ghost use Rattle.osm_store.specs.Frames.{IsKnown};
 ghost use Rattle.osm_folder.specs.Runs.{Blames};
 ghost use Rattle.osm_folder.specs.Writing.{WritingFault};
 ghost use Rattle.osm_repl.specs.Auditing.{IsAudited, IsNotAudited, audit_fault_of};
-ghost use Rattle.osm_repl.specs.Execution.{Does, DoesOver, IsDone, IsNotDone, IsNotReplayed};
-ghost use Rattle.osm_repl.specs.Execution.{GivesReport, IsRunFault};
-ghost use Rattle.osm_repl.specs.Execution.{HasFollowed, IsFollow, IsOtherRun, IsOverFiles};
-ghost use Rattle.osm_repl.specs.Execution.{IsReplayed, IsReportOf, IsUntouched};
-ghost use Rattle.osm_repl.specs.Execution.{IsFaultLine, Leaves, RunStops, StopsOver, TellsFault};
-ghost use Rattle.osm_repl.specs.Execution.{calls_of, layout_of};
+ghost use Rattle.osm_repl.specs.Execution.{CarriesOut, Does, DoesOver, GivesReport, HasFollowed};
+ghost use Rattle.osm_repl.specs.Execution.{IsDone, IsFaultLine, IsFollow, IsNotDone, IsNotReplayed};
+ghost use Rattle.osm_repl.specs.Execution.{IsOtherRun, IsOverFiles, IsReplayed, IsReportOf};
+ghost use Rattle.osm_repl.specs.Execution.{IsRunFault, Leaves, RunStops, StopsOver, TellsFault};
+ghost use Rattle.osm_repl.specs.Execution.{execution_of, layout_of};
 
 use crate::auditing::audit_and_print;
 use crate::order_fault::OrderFault;
@@ -57,13 +55,11 @@ pub fn execute<S: Store, R: Read, W: Write>(
     writer: &mut W,
 ) -> Result<u8, OrderFault>
     ensures done { GivesReport order.entry
-        → IfOk result (IsDone (IsKnown (S.state store.old)) options order.entry
-        (S.state store.old).files (S.state store.new).files (W.contents writer.old)
-        (W.contents writer.new)) }
-    ensures not_done { GivesReport order.entry → IfErr result
-        (IsRunFault (IsNotDone (IsKnown (S.state store.old)) options order.entry
-        (S.state store.old).files (S.state store.new).files (S.state store.old).failures
-        (S.state store.new).failures (W.contents writer.old) (W.contents writer.new))) }
+        → IfOk result (IsDone (execution_of options order.entry
+        (S.state store.old) (S.state store.new)) (W.contents writer.old) (W.contents writer.new)) }
+    ensures not_done { GivesReport order.entry
+        → IfErr result (IsRunFault (IsNotDone (execution_of options order.entry
+        (S.state store.old) (S.state store.new)) (W.contents writer.old) (W.contents writer.new))) }
     ensures audited { (dir : Bor (List ℕ)) → (from to : Option (Bor (List ℕ)))
         → order.entry ≡ Order.Audit dir from to → IfOk result (IsAudited (S.state store.old)
         (S.state store.new) options.layout dir.now from to (W.contents writer.old)
@@ -82,13 +78,7 @@ pub fn execute<S: Store, R: Read, W: Write>(
         (IsRunFault (IsNotReplayed (R.remaining reader.old) (R.remaining reader.new)
         (W.contents writer.old) (W.contents writer.new))) }
     ensures idle { order.entry ≡ Order.Replay → store.new ≡ store.old }
-    ensures untouched { IsKnown (S.state store.old) → (name : List ℕ) → IsUntouched order.entry name
-        → (S.state store.new).files name ≡ (S.state store.old).files name }
-    ensures known { (S.state store.new).is_known ≡ (S.state store.old).is_known }
-    ensures left { OnOk result
-        (Spends (calls_of order.entry) (S.state store.old).left (S.state store.new).left) }
-    ensures left_after { Spends 0 (S.state store.old).left (S.state store.new).left }
-    ensures kept { (S.state store.old).failures ≤ (S.state store.new).failures }
+    ensures frame { CarriesOut order.entry (S.state store.old) (S.state store.new) result }
 {
     match order {
         Order::Replay => Ok(replay(alloc, reader, writer)?),
@@ -124,19 +114,11 @@ fn run_and_print<S: Store, W: Write>(
     writer: &mut W,
 ) -> Result<u8, RunFault>
     requires { IsOtherRun order }
-    ensures done { IfOk result (IsDone (IsKnown (S.state store.old)) options order.entry
-        (S.state store.old).files (S.state store.new).files (W.contents writer.old)
-        (W.contents writer.new)) }
-    ensures not_done { IfErr result (IsNotDone (IsKnown (S.state store.old)) options order.entry
-        (S.state store.old).files (S.state store.new).files (S.state store.old).failures
-        (S.state store.new).failures (W.contents writer.old) (W.contents writer.new)) }
-    ensures untouched { IsKnown (S.state store.old) → (name : List ℕ) → IsUntouched order.entry name
-        → (S.state store.new).files name ≡ (S.state store.old).files name }
-    ensures known { (S.state store.new).is_known ≡ (S.state store.old).is_known }
-    ensures left { OnOk result
-        (Spends (calls_of order.entry) (S.state store.old).left (S.state store.new).left) }
-    ensures left_after { Spends 0 (S.state store.old).left (S.state store.new).left }
-    ensures kept { (S.state store.old).failures ≤ (S.state store.new).failures }
+    ensures done { IfOk result (IsDone (execution_of options order.entry
+        (S.state store.old) (S.state store.new)) (W.contents writer.old) (W.contents writer.new)) }
+    ensures not_done { IfErr result (IsNotDone (execution_of options order.entry
+        (S.state store.old) (S.state store.new)) (W.contents writer.old) (W.contents writer.new)) }
+    ensures frame { CarriesOut order.entry (S.state store.old) (S.state store.new) result }
 {
     let layout = layout_of(&options, order);
     match run(alloc, order, options, store) {
@@ -153,19 +135,11 @@ fn follow_and_print<S: Store, W: Write>(
     writer: &mut W,
 ) -> Result<u8, RunFault>
     requires { IsFollow order }
-    ensures done { IfOk result (IsDone (IsKnown (S.state store.old)) options order.entry
-        (S.state store.old).files (S.state store.new).files (W.contents writer.old)
-        (W.contents writer.new)) }
-    ensures not_done { IfErr result (IsNotDone (IsKnown (S.state store.old)) options order.entry
-        (S.state store.old).files (S.state store.new).files (S.state store.old).failures
-        (S.state store.new).failures (W.contents writer.old) (W.contents writer.new)) }
-    ensures untouched { IsKnown (S.state store.old) → (name : List ℕ) → IsUntouched order.entry name
-        → (S.state store.new).files name ≡ (S.state store.old).files name }
-    ensures known { (S.state store.new).is_known ≡ (S.state store.old).is_known }
-    ensures left { OnOk result
-        (Spends (calls_of order.entry) (S.state store.old).left (S.state store.new).left) }
-    ensures left_after { Spends 0 (S.state store.old).left (S.state store.new).left }
-    ensures kept { (S.state store.old).failures ≤ (S.state store.new).failures }
+    ensures done { IfOk result (IsDone (execution_of options order.entry
+        (S.state store.old) (S.state store.new)) (W.contents writer.old) (W.contents writer.new)) }
+    ensures not_done { IfErr result (IsNotDone (execution_of options order.entry
+        (S.state store.old) (S.state store.new)) (W.contents writer.old) (W.contents writer.new)) }
+    ensures frame { CarriesOut order.entry (S.state store.old) (S.state store.new) result }
 {
     let layout = layout_of(&options, order);
     match follow(alloc, order, options, store) {
@@ -242,13 +216,7 @@ fn run<S: Store>(
         (S.state store.old).files (S.state store.new).files) }
     ensures device { IfErr result
         (Blames (S.state store.old).failures (S.state store.new).failures) }
-    ensures untouched { IsKnown (S.state store.old) → (name : List ℕ) → IsUntouched order.entry name
-        → (S.state store.new).files name ≡ (S.state store.old).files name }
-    ensures known { (S.state store.new).is_known ≡ (S.state store.old).is_known }
-    ensures left { OnOk result
-        (Spends (calls_of order.entry) (S.state store.old).left (S.state store.new).left) }
-    ensures left_after { Spends 0 (S.state store.old).left (S.state store.new).left }
-    ensures kept { (S.state store.old).failures ≤ (S.state store.new).failures }
+    ensures frame { CarriesOut order.entry (S.state store.old) (S.state store.new) result }
 {
     match order {
         Order::Publish { dir, changes, now } => publish_run(alloc, store, dir, changes, now),
@@ -283,8 +251,8 @@ fn follow<S: Store>(
     store: &mut S,
 ) -> Result<Progress, RunFault>
     requires { IsFollow order }
-    ensures followed { IfOk result (HasFollowed (IsKnown (S.state store.old)) options order.entry
-        (S.state store.old).files (S.state store.new).files) }
+    ensures followed { IfOk result (HasFollowed
+        (execution_of options order.entry (S.state store.old) (S.state store.new))) }
     ensures stops { IfErr result (RunStops (IsKnown (S.state store.old)) options order.entry
         (S.state store.old).files (S.state store.new).files) }
     ensures refuses { IfErr result (λ fault. IsKnown (S.state store.old)
@@ -293,13 +261,7 @@ fn follow<S: Store>(
         (S.state store.old).files (S.state store.new).files) }
     ensures device { IfErr result
         (Blames (S.state store.old).failures (S.state store.new).failures) }
-    ensures untouched { IsKnown (S.state store.old) → (name : List ℕ) → IsUntouched order.entry name
-        → (S.state store.new).files name ≡ (S.state store.old).files name }
-    ensures known { (S.state store.new).is_known ≡ (S.state store.old).is_known }
-    ensures left { OnOk result
-        (Spends (calls_of order.entry) (S.state store.old).left (S.state store.new).left) }
-    ensures left_after { Spends 0 (S.state store.old).left (S.state store.new).left }
-    ensures kept { (S.state store.old).failures ≤ (S.state store.new).failures }
+    ensures frame { CarriesOut order.entry (S.state store.old) (S.state store.new) result }
 {
     match order {
         Order::Follow { dir, save } => follow_round(alloc, store, dir, save, &options),
