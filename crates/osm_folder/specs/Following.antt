@@ -38,6 +38,10 @@ use Rattle.osm_json.specs.declared.line.Standing.{Standing}
 abbrev pub plainly : FilterValue → FollowOptions
 plainly given = record { filter = given; limit = None; layout = Lines }
 
+-- the same with that limit
+abbrev pub limited : ℕ → FollowOptions → FollowOptions
+limited count options = record { filter = options.filter; limit = Some count; layout = options.layout }
+
 -- the last number that a run from that number goes to: the top, or as many numbers further on as it
 -- may take
 abbrev pub last_number : Option ℕ → ℕ → ℕ → ℕ
@@ -83,6 +87,20 @@ is_lost files dir k =
 abbrev pub AreChanges : Option (List ℕ) → Option (List ℕ) → PublishedValue → Type 0
 AreChanges (Some bytes) opl p = IsFile O5c p bytes
 AreChanges None opl p = IsThere opl (IsFile Opl p)
+
+-- how many bytes the change file that is read has: the o5c file, or if there is none, the OPL file
+abbrev pub size_in : Option (List ℕ) → Option (List ℕ) → ℕ
+size_in (Some bytes) opl = length bytes
+size_in None (Some bytes) = length bytes
+size_in None None = 0
+
+abbrev pub size_of : Files → List ℕ → ℕ → ℕ
+size_of files dir k = size_in (files (file_name_of dir k O5c)) (files (file_name_of dir k Opl))
+
+-- how many bytes those of the numbers n + 1 to n + count have
+pub bytes_of : Files → List ℕ → ℕ → ℕ → ℕ
+bytes_of files dir n zero = 0
+bytes_of files dir n (suc count) = bytes_of files dir n count + size_of files dir (n + count + 1)
 
 -- the files of the sequence's number are there: its state and its changes
 pub record HasFiles (files : Files) (dir : List ℕ) (p : PublishedValue) : Type 0 where

@@ -1,10 +1,10 @@
 //! A sequence of a folder, read from its files.
 
-ghost use Rattle.std.specs.Prelude.{◌≡◌, ℕ, ◌≤◌, true, IfErr, IfOk, MatchOption, length};
+ghost use Rattle.std.specs.Prelude.{◌≡◌, ℕ, ◌≤◌, true, IfErr, IfOk, IfSome, MatchOption, length};
 ghost use Rattle.osm_model.specs.Batch.{IsBatch};
 ghost use Rattle.osm_model.specs.Limits.{max_file, max_sequence};
 ghost use Rattle.osm_store.specs.Frames.{IsKnown};
-ghost use Rattle.osm_folder.specs.Following.{IsNumber, NumberStops, is_lost};
+ghost use Rattle.osm_folder.specs.Following.{IsNumber, NumberStops, is_lost, size_of};
 ghost use Rattle.osm_folder.specs.Forms.{place_of, spells_of};
 ghost use Rattle.osm_folder.specs.Runs.{ReadsUpTo};
 ghost use Rattle.osm_folder.specs.Steps.Following.{DeliverStops, suffix_of};
@@ -25,6 +25,8 @@ pub struct Numbered {
     pub time: u32,
     /// Its changes, in their order.
     pub changes: Vec<Change>,
+    /// How many bytes its change file has.
+    pub size: u64,
 }
 
 /// Reads the files of a number: its state, and its changes from the o5c file or, if there is none,
@@ -40,6 +42,8 @@ pub fn read_number<S: Store>(
         (IsKnown (S.state store.old) → is_lost (S.state store.old).files dir.now number ≡ true)
         (λ a. IsNumber (IsKnown (S.state store.old)) (S.state store.old).files dir.now number
         a.time a.changes.items)) }
+    ensures size { IfOk result (λ o. IfSome o (λ a. IsKnown (S.state store.old)
+        → a.size ≡ size_of (S.state store.old).files dir.now number)) }
     ensures stops { IfErr result
         (NumberStops (IsKnown (S.state store.old)) dir.now (S.state store.old).files number) }
     ensures frame { ReadsUpTo 3 (S.state store.old) (S.state store.new) result }
@@ -48,8 +52,13 @@ pub fn read_number<S: Store>(
         return Ok(None);
     };
     let time = fetched.time;
+    let size = fetched.changes.len() as u64;
     let changes = changes_of(alloc, number, &fetched)?;
-    Ok(Some(Numbered { time, changes }))
+    Ok(Some(Numbered {
+        time,
+        changes,
+        size,
+    }))
 }
 
 // The changes of a file of a number.

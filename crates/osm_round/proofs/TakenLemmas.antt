@@ -1,6 +1,6 @@
 -- The numbers that a run takes, one after the other.
 use Rattle.std.proofs.Common.{◌≡◌, ℕ, zero, suc, ◌+◌, ◌<◌, ◌≤◌, List, [], ◌++◌, length, length-append, Option, Some, None}
-use Rattle.std.proofs.Common.{true, inl, inr, arith, refl, sym, ap, subst, ◌∙◌}
+use Rattle.std.proofs.Common.{Some, inl, inr, arith, refl, sym, ap, subst, ◌∙◌}
 use Rattle.std.specs.Prelude.{Result, Ok, Err, IfErr, IfOk, unwrap_or}
 use Rattle.std.proofs.lemmas.Bool.{cases_lt}
 use Rattle.osm_model.specs.Change.{ChangeValue}
@@ -74,10 +74,10 @@ takes_nothing known files dir f taken none = record {
   advances = λ sure. (refl, none);
 }
 
-pub takes_more : (known : Type 0) (files : Files) (dir : List ℕ) (f : FilterValue) (start : Head) (number : ℕ) (old new : Taken)
+pub takes_more : (known : Type 0) (files : Files) (dir : List ℕ) (f : FilterValue) (start : Head) (number size : ℕ) (old new : Taken)
     → number ≡ old.head.number + 1 → HasTaken known files dir f start old
-    → TakesNumber known files dir number f old new true → (new.head.number ≡ number) × HasTaken known files dir f start new
-takes_more known files dir f start number old new next has (time, changes, is, head, takes, widens) =
+    → TakesNumber known files dir number f old new (Some size) → (new.head.number ≡ number) × HasTaken known files dir f start new
+takes_more known files dir f start number size old new next has (time, changes, is, head, takes, widens, sized) =
     let t = has.is in
     let at : new.head.number ≡ number = ap (λ (h : Head). h.number) head in
     let count_is = t.number in
@@ -110,6 +110,17 @@ takes_more known files dir f start number old new next has (time, changes, is, h
         );
       },
     )
+
+-- the bytes of one more number
+pub bytes_more : (files : Files) (dir : List ℕ) (from before size more sum : ℕ) → from ≤ before → size ≤ bytes_of files dir from (before - from)
+    → more ≡ size_of files dir (before + 1) → sum ≤ size + more → sum ≤ bytes_of files dir from (before + 1 - from)
+bytes_more files dir from before size more sum above fits is within =
+    let count = before - from in
+    let next : before + 1 - from ≡ suc count = omega (arith, above) in
+    let at : from + count + 1 ≡ before + 1 = omega (arith, above) in
+    let last : more ≡ size_of files dir (from + count + 1) = subst (λ k. more ≡ size_of files dir k) (sym at) is in
+    let fact : sum ≤ bytes_of files dir from (suc count) = omega (arith, fits, last, within) in
+    subst (λ k. sum ≤ bytes_of files dir from k) (sym next) fact
 
 -- ---- room
 
