@@ -1,6 +1,6 @@
 -- The numbers that a run takes, one after the other.
 use Rattle.std.proofs.Common.{◌≡◌, ℕ, zero, suc, ◌+◌, ◌<◌, ◌≤◌, List, [], ◌++◌, length, length-append, Option, Some, None}
-use Rattle.std.proofs.Common.{Some, inl, inr, arith, refl, sym, ap, subst, ◌∙◌}
+use Rattle.std.proofs.Common.{◌-◌, inl, inr, arith, refl, sym, ap, subst, ◌∙◌}
 use Rattle.std.specs.Prelude.{Result, Ok, Err, IfErr, IfOk, unwrap_or}
 use Rattle.std.proofs.lemmas.Bool.{cases_lt}
 use Rattle.osm_model.specs.Change.{ChangeValue}
@@ -18,7 +18,7 @@ use Rattle.osm_save.specs.Save.{saved_with}
 use Rattle.osm_save.specs.declared.head.Head.{Head}
 use Rattle.osm_save.specs.declared.save.Saved.{Saved}
 use Rattle.osm_store.specs.Files.{Files}
-use Rattle.osm_folder.specs.Following.{AddsAll, IsReadable, NumberStops}
+use Rattle.osm_folder.specs.Following.{AddsAll, IsReadable, NumberStops, bytes_of, size_of}
 use Rattle.osm_folder.specs.Progress.{IsOfContent}
 use Rattle.osm_state.specs.declared.paths.Suffix.TheVariants.{O5c, Opl, State}
 use Rattle.osm_folder.specs.declared.fault.FileName.TheVariants.{Sequence}
