@@ -98,7 +98,7 @@ abbrev pub size_of : Files → List ℕ → ℕ → ℕ
 size_of files dir k = size_in (files (file_name_of dir k O5c)) (files (file_name_of dir k Opl))
 
 -- how many bytes those of the numbers n + 1 to n + count have
-pub bytes_of : Files → List ℕ → ℕ → ℕ → ℕ
+abbrev pub bytes_of : Files → List ℕ → ℕ → ℕ → ℕ
 bytes_of files dir n zero = 0
 bytes_of files dir n (suc count) = bytes_of files dir n count + size_of files dir (n + count + 1)
 
