@@ -63,7 +63,7 @@ abbrev pub KeepsOthers : StoreState → StoreState → List ℕ → Type 0
 KeepsOthers old new dir =
     IsKnown old → (name : List ℕ) → IsApart dir name → new.files name ≡ old.files name
 
--- if it is known what the files hold, this holds of the published sequences whose folder it is
+-- if it is known what the files hold, this holds of any published sequences whose folder it is
 abbrev pub OverFolder : StoreState → List ℕ → (List PublishedValue → Type 0) → Type 0
 OverFolder store dir holds =
     IsKnown store → (published : List PublishedValue) → IsFolderOf published store.files dir

@@ -222,11 +222,11 @@ pub record IsTopBehind (given : FilterValue) (dir save : List ℕ) (files : File
   pub started : IsStarted given dir save files start top
   pub below : top.sequence < start.number
 
--- the top state is there
+-- the file is there, and holds that top state
 abbrev pub IsTopState : Option (List ℕ) → StateValue → Type 0
 IsTopState told s = IsThere told (IsStateFile s.sequence s.time)
 
--- the top state, or none if there is no such file
+-- the top state that the file holds, or none if there is no such file
 abbrev pub FindsTop : Option (List ℕ) → Option StateValue → Type 0
 FindsTop told o = MatchOption o (told ≡ None) (IsTopState told)
 
