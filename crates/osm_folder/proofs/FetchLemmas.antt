@@ -1,12 +1,12 @@
 -- Reading the files of a number.
-use Rattle.std.proofs.Common.{◌≡◌, ℕ, ◌≤◌, List, length, Some, refl}
+use Rattle.std.proofs.Common.{◌≡◌, ℕ, ◌≤◌, List, length, Option, Some, None, refl}
 use Rattle.osm_model.specs.Change.{ChangeValue}
 use Rattle.osm_model.specs.Limits.{max_file}
 use Rattle.osm_state.specs.declared.paths.Suffix.TheVariants.{O5c, Opl, State}
 use Rattle.osm_follow.specs.Published.{PublishedValue}
 use Rattle.osm_store.specs.Files.{Files}
 use Rattle.osm_folder.specs.Folder.{IsStateFile, IsThere, max_state}
-use Rattle.osm_folder.specs.Following.{AreChanges, HasFiles, HasState, NumberStops}
+use Rattle.osm_folder.specs.Following.{AreChanges, HasFiles, HasState, NumberStops, size_in}
 use Rattle.osm_folder.specs.Forms.{place_of, spells_of}
 use Rattle.osm_folder.specs.Names.{file_name_of}
 use Rattle.osm_folder.specs.Steps.Following.{DeliverStops, IsFetched, IsFileOf, StateTextStops, suffix_of}
@@ -70,3 +70,8 @@ has_files known dir files number time form bytes changes has spelled sure = reco
   changes = has_changes files dir number form bytes (record { number = number; changes = changes; time = time })
       has.small spelled (has.changes_are sure);
 }
+
+-- how many bytes the file that was read has
+pub size_is : (form : Form) (o5c opl : Option (List ℕ)) (bytes : List ℕ) → IsFileOf form o5c opl bytes → length bytes ≡ size_in o5c opl
+size_is forms.O5c o5c opl bytes is = rw is refl
+size_is forms.Opl o5c opl bytes is = rw (is.0, is.1) refl

@@ -52,6 +52,10 @@ abbrev pub follow_report_of : List (ℕ × ℕ) → List ℕ → ℕ → ReportV
 follow_report_of applied missing number =
     record { status = gap_status missing; text = follow_text applied missing number }
 
+-- the same without the number, if nothing is missing
+abbrev pub applied_report_of : List (ℕ × ℕ) → ReportValue
+applied_report_of applied = record { status = 0; text = flat_map applied_line applied }
+
 -- what a run of the follower came to: where it stands, the ranges that it applied, and the numbers
 -- that are missing
 pub record Outcome : Type 0 where

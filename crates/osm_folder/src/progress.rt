@@ -13,6 +13,14 @@ pub enum Progress {
     /// It followed up to the newest number, to its limit, or to the number before the first lost
     /// one.
     Whole(Report),
+    /// It followed as far as a run takes change files at once, and no further number was looked at.
+    /// The report is that of a run with the limit `count`, which is how many numbers were taken, and
+    /// `applied` has its lines without the last one, which names the number.
+    Part {
+        report: Report,
+        applied: Report,
+        count: u32,
+    },
     /// It followed up to the number before a faulty one, whose fault this is.
     Before(Report, RunFault),
 }

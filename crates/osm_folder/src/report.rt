@@ -5,7 +5,8 @@ ghost use Rattle.std.specs.Prelude.{option_map};
 ghost use Rattle.std.specs.List.{flat_map};
 ghost use Rattle.osm_reading.specs.NumberLines.{applied_line};
 ghost use Rattle.osm_folder.specs.Faults.{status_of};
-ghost use Rattle.osm_folder.specs.Reports.{begin_report_of, convert_report_of, fault_report_of};
+ghost use Rattle.osm_folder.specs.Reports.{applied_report_of, begin_report_of, convert_report_of};
+ghost use Rattle.osm_folder.specs.Reports.{fault_report_of};
 ghost use Rattle.osm_folder.specs.Reports.{follow_report_of, follow_text, gap_status};
 ghost use Rattle.osm_folder.specs.Reports.{lag_report_of, lag_told, publish_report_of, report_of};
 ghost use Rattle.osm_folder.specs.Reports.{seconds_line};
@@ -140,8 +141,7 @@ pub fn follow_report(
     missing: &[u32],
     number: u32,
 ) -> Result<Report, WantOfMemory>
-    ensures { IfOk result
-        (λ report. report ≡ follow_report_of applied.now missing.now number) }
+    ensures { IfOk result (λ report. report ≡ follow_report_of applied.now missing.now number) }
 {
     let mut text = Vec::new(alloc);
     write_ranges(applied, &mut text)?;
@@ -149,6 +149,15 @@ pub fn follow_report(
     write_numbered(b"number ", number as u64, &mut text)?;
     let status = status_of_gap(missing);
     Ok(Report { status, text })
+}
+
+/// `applied LOW..HIGH` for each applied delivery in order.
+pub fn applied_report(alloc: Global, applied: &[(u32, u32)]) -> Result<Report, WantOfMemory>
+    ensures { IfOk result (λ report. report ≡ applied_report_of applied.now) }
+{
+    let mut text = Vec::new(alloc);
+    write_ranges(applied, &mut text)?;
+    Ok(Report { status: 0, text })
 }
 
 /// The report of a run of the follower, and of the text of its fault if it has one: by
@@ -163,11 +172,8 @@ pub fn follow_in(
 ) -> Result<Report, WantOfMemory>
     requires { standing.number ≤ standing.top }
     ensures { IfOk result (λ report.
-        report ≡ report_of layout (option_map (λ said. said.now) fault.entry) (record {
-          standing = standing;
-          applied = applied.now;
-          missing = missing.now;
-        })) }
+        report ≡ report_of layout (option_map (λ said. said.now) fault.entry)
+        (record { standing = standing; applied = applied.now; missing = missing.now })) }
 {
     match layout {
         Layout::Lines => follow_report(alloc, applied, missing, standing.number),

@@ -2,14 +2,26 @@
 use Rattle.std.proofs.Common.{◌≡◌, ℕ, ◌∙◌, Bool, true, false, Option, Some, None, inl, inr, arith, refl, subst, sym}
 use Rattle.std.specs.Prelude.{not, Result, Ok, Err, IfErr, IfOk, IsSome, OnOk}
 use Rattle.osm_store.proofs.FileLemmas.{spends_both}
-use Rattle.osm_store.specs.Files.{HasFailed, HasFewer}
-use Rattle.osm_store.specs.Frames.{ReadsBetween, StoreState}
+use Rattle.osm_store.specs.Files.{HasFailed, HasFewer, SpendsAtMost}
+use Rattle.osm_store.specs.Frames.{MakesAtMost, ReadsBetween, StoreState}
+use Rattle.osm_folder.specs.declared.fault.RunFault.{RunFault}
+use Rattle.osm_folder.specs.declared.fault.RunFault.TheVariants.{WantOfMemory}
 use Rattle.osm_blocks.specs.Frames.{ReadsOften}
 use Rattle.osm_merge.specs.Frames.{ReplacesOften}
 
 pub on_ok_map : {T E P Q : Type 0} → (r : Result T E) → OnOk r P → (P → Q) → OnOk r Q
 on_ok_map (Ok x) p f = f p
 on_ok_map (Err e) p f = tt
+
+pub ok_two : {T E : Type 0} (P Q S : T → Type 0) (r : Result T E) → IfOk r P → IfOk r Q → ((x : T) → P x → Q x → S x) → IfOk r S
+ok_two P Q S (Ok x) p q f = f x p q
+ok_two P Q S (Err e) p q f = tt
+
+-- calls that were made before one that only memory refuses
+pub only_memory : {T : Type 0} (blames : RunFault → Type 0) (most : ℕ) (a b : StoreState) (r : Result T RunFault) → SpendsAtMost most a.left b.left
+    → (blames WantOfMemory → ⊥) → IfErr r (λ fault. fault ≡ WantOfMemory) → MakesAtMost blames most a b r
+only_memory blames most a b (Ok x) spent never is = record { spent = spent; lacks = tt }
+only_memory blames most a b (Err fault) spent never is = record { spent = tt; lacks = λ sure blamed. absurd (never (subst blames is blamed)) }
 
 pub ok_three : {T E : Type 0} (P Q R S : T → Type 0) (r : Result T E) → IfOk r P → IfOk r Q → IfOk r R
     → ((x : T) → P x → Q x → R x → S x) → IfOk r S

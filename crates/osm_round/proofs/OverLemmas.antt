@@ -11,7 +11,7 @@ use Rattle.osm_store.specs.Files.{Files}
 use Rattle.osm_store.specs.Frames.{IsKnown, MakesAtMost, StoreState}
 use Rattle.osm_merge.specs.Checking.{IsHugeFile, IsNoSave}
 use Rattle.osm_folder.specs.Folder.{IsFolderOf}
-use Rattle.osm_folder.specs.Following.{IsInStep, IsInStepAfter, IsSaveOf, IsSaved, MissingStops, NumberStops}
+use Rattle.osm_folder.specs.Following.{IsInStep, IsInStepAfter, IsSaveOf, IsSaved, MissingStops, NumberStops, limited}
 use Rattle.osm_folder.specs.Names.{file_name_of, top_name_of}
 use Rattle.osm_folder.specs.Progress as progress
 use Rattle.osm_folder.specs.Progress.{IsOfContent}
@@ -23,7 +23,7 @@ use Rattle.osm_folder.specs.declared.fault.RunFault.TheVariants.{Absent, BadChan
 use Rattle.osm_folder.specs.declared.fault.RunFault.TheVariants.{OtherFilter, ReadFault, TooLarge, TopBehind, WantOfMemory, WriteFault}
 use Rattle.osm_folder.specs.declared.options.FollowOptions.{FollowOptions}
 use Rattle.osm_folder.specs.declared.progress.Progress.{Progress}
-use Rattle.osm_folder.specs.declared.progress.Progress.TheVariants.{Before, Whole}
+use Rattle.osm_folder.specs.declared.progress.Progress.TheVariants.{Before, Part, Whole}
 use Rattle.osm_folder.proofs.InStepLemmas.{all_in_step, last_within, not_bad, not_faulty, not_faulty_opl, not_other, not_over}
 use Rattle.osm_folder.proofs.InStepLemmas.{one_saved, reached_of, top_number}
 use Rattle.osm_folder.proofs.RefusalLemmas.{good_top, none_published, small_top}
@@ -176,9 +176,14 @@ pub over : NoFaultBesideState → (options : FollowOptions) (ps : List Published
     (r : Result Progress RunFault) → IsKnown old → IsFolderOf ps old.files dir → IsSaveOf ps options.filter base number (old.files save)
     → IfOk r (IsProgress (IsKnown old) options dir save old.files new.files) → IfErr r (RoundStops (IsKnown old) options dir save old.files)
     → MakesAtMost IsDeviceFault (follow_calls ps number (old.files save)) old new r
-    → progress.IsWhole r (FollowsOver ps options base number dir save old new)
+    → progress.IsWhole options r (λ under. FollowsOver ps under base number dir save old new)
 over law options ps base number dir save old new (Ok (Whole report)) sure folder saved done stops calls = record {
   in_step = in_step_after options ps base number dir save old.files new.files report folder saved (done sure);
+  refuses = tt;
+  calls = record { spent = calls.spent; lacks = tt };
+}
+over law options ps base number dir save old new (Ok (Part report applied count)) sure folder saved done stops calls = record {
+  in_step = in_step_after (limited count options) ps base number dir save old.files new.files report folder saved (done sure).followed;
   refuses = tt;
   calls = record { spent = calls.spent; lacks = tt };
 }

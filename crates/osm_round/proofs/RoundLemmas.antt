@@ -1,7 +1,7 @@
 -- What a run does, and why it is refused.
-use Rattle.std.proofs.Common.{◌≡◌, ℕ, ◌+◌, ◌<◌, ◌≤◌, List, [], Option, Some, None, inl, inr}
+use Rattle.std.proofs.Common.{◌≡◌, ℕ, ◌+◌, ◌-◌, ◌<◌, ◌≤◌, List, [], Option, Some, None, inl, inr}
 use Rattle.std.proofs.Common.{arith, refl, sym, ap, subst, ◌∙◌}
-use Rattle.std.specs.Prelude.{◌⊎◌}
+use Rattle.std.specs.Prelude.{◌⊎◌, min}
 use Rattle.std.proofs.lemmas.Option.{same_Some}
 use Rattle.osm_model.specs.Filter.{FilterValue}
 use Rattle.osm_mirror.specs.Mirror.{IsOrderly}
@@ -14,27 +14,32 @@ use Rattle.osm_store.specs.Files.{Files, Puts}
 use Rattle.osm_merge.specs.Merging.{HasTooMany}
 use Rattle.osm_folder.specs.Folder.{IsStateFile, IsThere}
 use Rattle.osm_model.specs.Limits.{max_sequence}
-use Rattle.osm_folder.specs.Following.{AddsAll, HasSave, IsReached, IsSaved, IsStarted, MissingStops, FindTopStops, last_number, no_save}
+use Rattle.osm_folder.specs.Following.{AddsAll, HasSave, IsReached, IsSaved, IsStarted, MissingStops, FindTopStops, bytes_of, last_number}
+use Rattle.osm_folder.specs.Following.{lost_numbers, no_save, ranges}
 use Rattle.osm_folder.specs.Names.{top_name_of}
 use Rattle.osm_folder.specs.Progress.{IsProgressReport}
-use Rattle.osm_folder.specs.Reports.{report_of}
+use Rattle.osm_folder.specs.Reports.{ReportValue, applied_report_of, report_of}
 use Rattle.osm_folder.specs.declared.fault.RunFault.{RunFault}
 use Rattle.osm_folder.specs.declared.fault.RunFault.TheVariants.{Absent, BadSave, BadState, Changed}
 use Rattle.osm_folder.specs.declared.fault.RunFault.TheVariants.{OtherFilter, ReadFault, TooLarge, WantOfMemory, WriteFault}
 use Rattle.osm_folder.specs.declared.fault.FileName.TheVariants.{Save}
 use Rattle.osm_folder.specs.declared.options.FollowOptions.{FollowOptions}
+use Rattle.osm_folder.specs.declared.options.Layout.{Layout}
+use Rattle.osm_folder.specs.declared.options.Layout.TheVariants.{Json, Lines}
 use Rattle.osm_folder.specs.declared.progress.Progress.{Progress}
-use Rattle.osm_folder.specs.declared.progress.Progress.TheVariants.{Before, Whole}
+use Rattle.osm_folder.specs.declared.progress.Progress.TheVariants.{Before, Part, Whole}
 use Rattle.osm_folder.proofs.InStepLemmas.{last_within}
 use Rattle.osm_round.specs.Putting.{PutsTaken, saved_after}
-use Rattle.osm_round.specs.Rounds.{BeforeStops, IsFirst, IsPrepared, IsProgress, IsReport, IsUnpublished, IsWhole, PrepareStops, UpToStops}
-use Rattle.osm_round.specs.Rounds.{HasManyObjects, RoundStops, StartStops, StopsLooking, StopsTaking, outcome_of, progress_of}
+use Rattle.osm_round.specs.Rounds.{BeforeStops, IsFirst, IsLess, IsPrepared, IsProgress, IsReport, IsUnpublished, IsWhole, PrepareStops, UpToStops}
+use Rattle.osm_round.specs.Rounds.{HasManyObjects, RoundStops, StartStops, StopsLooking, StopsTaking, max_round, outcome_of, progress_of, room_of}
 use Rattle.osm_round.specs.Starting.{BeginStops, BeginsOther, IsBegun, IsBegunAt, IsOtherSave, PutStops}
 use Rattle.osm_checked.specs.Checking.{IsTooLarge}
-use Rattle.osm_round.specs.Taking.{AdvancesAll, HasTaken, StopsOnTheWay, TakesUp}
+use Rattle.osm_round.specs.Taking.{AdvancesAll, Fills, HasTaken, StopsOnTheWay, TakesUp}
+use Rattle.osm_round.specs.declared.round.Ending.{Ending}
+use Rattle.osm_round.specs.declared.round.Ending.TheVariants as endings
 use Rattle.osm_round.specs.declared.round.Prepared.{Prepared}
 use Rattle.osm_round.specs.declared.start.Start.{Start}
-use Rattle.osm_round.specs.declared.taken.End.TheVariants.{Faulty, Reached}
+use Rattle.osm_round.specs.declared.taken.End.TheVariants.{Faulty, Full, Reached}
 use Rattle.osm_round.specs.declared.taken.Taken.{Taken}
 use Rattle.osm_round.proofs.PutLemmas.{orderly_nothing}
 use Rattle.osm_round.proofs.TakenLemmas.{adds_all}
@@ -45,11 +50,22 @@ saves_orderly given (Some bytes) v s = s.savable.mirror.orderly
 
 -- ---- what is done
 
+min_is : (a b : ℕ) → b ≤ a → min a b ≡ b
+min_is a b below = grind (arith)
+
+-- the limit of a run that might take more than it took is the last number that it comes to
+limit_is : (count number top : ℕ) → number + count ≤ top → last_number (Some count) number top ≡ number + count
+limit_is count number top below = min_is top (number + count) below
+
+-- none is lost up to the number itself
+none_lost : (files : Files) (dir : List ℕ) (n : ℕ) → lost_numbers files dir n n ≡ []
+none_lost files dir n = let none : n - n ≡ 0 = omega arith in rw none refl
+
 module _ (known : Type 0) (options : FollowOptions) (dir save : List ℕ) (old new : Files) where
   done_by : (v : Saved) (p : Prepared) → known → IsSaved options.filter (old save) v → v.filter ≡ options.filter → (text : List ℕ)
       → SpellsSave text (saved_after v p.taken) → Puts old save (Some text) new
-      → IsPrepared known options dir old (head_of v) p → IsProgress known options dir save old new (progress_of p.report p.fault)
-  done_by v p sure saved filter_is text spelled put is = by_fault p.fault is.report
+      → IsPrepared known options dir old (head_of v) p → IsProgress known options dir save old new (progress_of p.report p.ending)
+  done_by v p sure saved filter_is text spelled put is = by_ending p.ending is.report
     where
       started : IsStarted options.filter dir save old v is.top
       started = record { saved = saved; filter_is = filter_is; top_is = is.top_is sure }
@@ -58,10 +74,16 @@ module _ (known : Type 0) (options : FollowOptions) (dir save : List ℕ) (old n
       added = adds_all old dir options.filter v is.taken.count p.taken filter_is (saves_orderly options.filter (old save) v saved)
           (is.taken.advances sure)
 
-      by_fault : (o : Option RunFault) → IsReport known options.layout old dir (head_of v) is.top
-          (last_number options.limit v.number is.top.sequence) is.taken.count p.taken.head o p.report
-          → IsProgress known options dir save old new (progress_of p.report o)
-      by_fault None (missing, reached, named, gap, report) = λ yes. record {
+      number_is : p.taken.head.number ≡ v.number + is.taken.count
+      number_is = is.taken.is.number
+
+      within : last_number options.limit v.number is.top.sequence ≤ is.top.sequence
+      within = last_within options.limit v.number is.top.sequence
+
+      by_ending : (e : Ending) → IsReport known options.layout old dir (head_of v) is.top
+          (last_number options.limit v.number is.top.sequence) is.taken.count p.taken.head e p.report
+          → IsProgress known options dir save old new (progress_of p.report e)
+      by_ending endings.Whole (missing, reached, named, gap, report) = λ yes. record {
         text = text;
         following = record {
           start = v;
@@ -75,7 +97,35 @@ module _ (known : Type 0) (options : FollowOptions) (dir save : List ℕ) (old n
         };
         put = put;
       }
-      by_fault (Some fault) (said, some, below, content, stops, report) = λ yes. record {
+      by_ending (endings.Part applied count) (count_is, some, in_lines, below, enough, applied_is, report) = λ yes.
+          rw count_is (record {
+            followed = record {
+              text = text;
+              following = record {
+                start = v;
+                top = is.top;
+                started = started;
+                count = is.taken.count;
+                reached = saved_after v p.taken;
+                goes_on = record {
+                  added = added;
+                  number = number_is;
+                  until = rw (limit_is is.taken.count v.number is.top.sequence (omega (arith, below, within, number_is))) (omega (arith, number_is));
+                  far = inl (number_is
+                      ∙ sym (limit_is is.taken.count v.number is.top.sequence (omega (arith, below, within, number_is))));
+                };
+                spelled = spelled;
+                report_is = report ∙ ap (λ (ms : List ℕ). report_of options.layout None (outcome_of p.taken.head is.top (head_of v) is.taken.count ms))
+                    (sym (rw (limit_is is.taken.count v.number is.top.sequence (omega (arith, below, within, number_is)), number_is)
+                    (none_lost old dir (v.number + is.taken.count))));
+              };
+              put = put;
+            };
+            count_is = refl;
+            below = omega (arith, below, number_is);
+            enough = enough yes;
+          })
+      by_ending (endings.Before fault) (said, some, below, content, stops, report) = λ yes. record {
         text = text;
         before = record {
           start = v;
@@ -96,15 +146,15 @@ module _ (known : Type 0) (options : FollowOptions) (dir save : List ℕ) (old n
       }
 
   pub done : (start : Head) (p : Prepared) → known → IsPrepared known options dir old start p
-      → PutsTaken options.filter save start p.taken old new → IsProgress known options dir save old new (progress_of p.report p.fault)
+      → PutsTaken options.filter save start p.taken old new → IsProgress known options dir save old new (progress_of p.report p.ending)
   done start p sure is put = done_by put.before p sure put.saved put.filter put.text put.spelled put.put
       (subst (λ (h : Head). IsPrepared known options dir old h p) (sym put.head) is)
 
 -- ---- its report, whatever is known
 
 pub reports : (known : Type 0) (options : FollowOptions) (dir : List ℕ) (files : Files) (start : Head) (p : Prepared)
-    → IsPrepared known options dir files start p → IsProgressReport options.layout (progress_of p.report p.fault)
-reports known options dir files start p is = by_fault p.fault is.report
+    → IsPrepared known options dir files start p → IsProgressReport options.layout (progress_of p.report p.ending)
+reports known options dir files start p is = by_ending p.ending is.report
   where
     within : last_number options.limit start.number is.top.sequence ≤ is.top.sequence
     within = last_within options.limit start.number is.top.sequence
@@ -112,10 +162,10 @@ reports known options dir files start p is = by_fault p.fault is.report
     number_is : p.taken.head.number ≡ start.number + is.taken.count
     number_is = is.taken.is.number
 
-    by_fault : (o : Option RunFault) → IsReport known options.layout files dir start is.top
-        (last_number options.limit start.number is.top.sequence) is.taken.count p.taken.head o p.report
-        → IsProgressReport options.layout (progress_of p.report o)
-    by_fault None (missing, reached, named, gap, report) = record {
+    by_ending : (e : Ending) → IsReport known options.layout files dir start is.top
+        (last_number options.limit start.number is.top.sequence) is.taken.count p.taken.head e p.report
+        → IsProgressReport options.layout (progress_of p.report e)
+    by_ending endings.Whole (missing, reached, named, gap, report) = record {
       start = start.number;
       count = is.taken.count;
       last = last_number options.limit start.number is.top.sequence;
@@ -128,7 +178,26 @@ reports known options dir files start p is = by_fault p.fault is.report
       report_is = rw (← number_is) report;
       gap = rw (← number_is) gap;
     }
-    by_fault (Some fault) (said, some, below, content, stops, report) = (
+    by_ending (endings.Part applied count) (count_is, some, in_lines, below, enough, applied_is, report) = rw count_is (record {
+      whole = record {
+        start = start.number;
+        count = is.taken.count;
+        last = p.taken.head.number;
+        missing = [];
+        time = p.taken.head.time;
+        base = p.taken.head.base;
+        top = is.top;
+        until = omega (arith, number_is);
+        below = omega (arith, below, within);
+        report_is = rw (← number_is) report;
+        gap = (λ e. sym number_is, λ e. refl);
+      };
+      in_lines = in_lines;
+      some = some;
+      count_is = refl;
+      applied_is = applied_is;
+    })
+    by_ending (endings.Before fault) (said, some, below, content, stops, report) = (
       (
         said,
         record {
@@ -147,6 +216,28 @@ reports known options dir files start p is = by_fault p.fault is.report
       ),
       (p.taken.head.number + 1, content),
     )
+
+-- a part is less than the run may take
+pub less : (known : Type 0) (options : FollowOptions) (dir : List ℕ) (files : Files) (start : Head) (p : Prepared)
+    → IsPrepared known options dir files start p → IsLess options.limit (progress_of p.report p.ending)
+less known options dir files start p is = by_ending p.ending options.limit is.report
+  where
+    number_is : p.taken.head.number ≡ start.number + is.taken.count
+    number_is = is.taken.is.number
+
+    min_right : (a b : ℕ) → min a b ≤ b
+    min_right a b = grind (arith)
+
+    by_ending : (e : Ending) (limit : Option ℕ) → IsReport known options.layout files dir start is.top
+        (last_number limit start.number is.top.sequence) is.taken.count p.taken.head e p.report → IsLess limit (progress_of p.report e)
+    by_ending (endings.Part applied count) None (count_is, some, in_lines, below, rest) =
+        let most = is.most in omega (arith, count_is, below, number_is, most)
+    by_ending (endings.Part applied count) (Some limit) (count_is, some, in_lines, below, rest) =
+        let end = min_right is.top.sequence (start.number + limit) in omega (arith, count_is, below, number_is, end)
+    by_ending endings.Whole None h = tt
+    by_ending endings.Whole (Some limit) h = tt
+    by_ending (endings.Before fault) None h = tt
+    by_ending (endings.Before fault) (Some limit) h = tt
 
 -- ---- why it is refused
 
@@ -312,40 +403,68 @@ module _ (known : Type 0) (options : FollowOptions) (dir save : List ℕ) (files
 
 -- ---- what is prepared
 
+-- only the room of a report in lines is filled
+filled : (known : Type 0) (layout : Layout) (size : ℕ) → Fills known (room_of layout) size → (layout ≡ Lines) × (known → max_round ≤ size)
+filled known Lines size h = (refl, h)
+filled known Json size h = absurd h
+
 module _ (known : Type 0) (options : FollowOptions) (dir : List ℕ) (files : Files) (start : Head) (top : StateValue)
     (top_is : known → IsThere (files (top_name_of dir)) (IsStateFile top.sequence top.time)) (most : top.sequence ≤ max_sequence)
     (last : ℕ) (last_is : last ≡ last_number options.limit start.number top.sequence) (taken : Taken) where
-  prepared_by : (o : Option RunFault) (p : Prepared) → HasTaken known files dir options.filter start taken → taken.head.number ≤ last
-      → p.taken ≡ taken → p.fault ≡ o
-      → ((count : ℕ) → taken.head.number ≡ start.number + count → IsReport known options.layout files dir start top last count taken.head o p.report)
+  prepared_by : (e : Ending) (p : Prepared) → HasTaken known files dir options.filter start taken → taken.head.number ≤ last
+      → p.taken ≡ taken → p.ending ≡ e
+      → ((count : ℕ) → taken.head.number ≡ start.number + count → IsReport known options.layout files dir start top last count taken.head e p.report)
       → IsPrepared known options dir files start p
-  prepared_by o p has until is fault report =
+  prepared_by e p has until is ending report =
       let own : HasTaken known files dir options.filter start p.taken = subst (HasTaken known files dir options.filter start) (sym is) has in
       let number : taken.head.number ≡ start.number + own.count = ap (λ (t : Taken). t.head.number) (sym is) ∙ own.is.number in
-      let of_taken : IsReport known options.layout files dir start top last own.count p.taken.head o p.report =
-      subst (λ (t : Taken). IsReport known options.layout files dir start top last own.count t.head o p.report) (sym is) (report own.count number) in
-      let of_fault : IsReport known options.layout files dir start top last own.count p.taken.head p.fault p.report =
-      subst (λ (x : Option RunFault). IsReport known options.layout files dir start top last own.count p.taken.head x p.report) (sym fault) of_taken in
+      let of_taken : IsReport known options.layout files dir start top last own.count p.taken.head e p.report =
+      subst (λ (t : Taken). IsReport known options.layout files dir start top last own.count t.head e p.report) (sym is) (report own.count number) in
+      let of_ending : IsReport known options.layout files dir start top last own.count p.taken.head p.ending p.report =
+      subst (λ (x : Ending). IsReport known options.layout files dir start top last own.count p.taken.head x p.report) (sym ending) of_taken in
       record {
         top = top;
         top_is = top_is;
         most = most;
         taken = own;
         until = subst (λ (n : ℕ). p.taken.head.number ≤ n) last_is (subst (λ (t : Taken). t.head.number ≤ last) (sym is) until);
-        report = subst (λ (n : ℕ). IsReport known options.layout files dir start top n own.count p.taken.head p.fault p.report) last_is of_fault;
+        report = subst (λ (n : ℕ). IsReport known options.layout files dir start top n own.count p.taken.head p.ending p.report) last_is of_ending;
       }
 
-  pub prepared_whole : (p : Prepared) → TakesUp known files dir options.filter last start taken Reached → p.taken ≡ taken → p.fault ≡ None
-      → ((count : ℕ) → taken.head.number ≡ start.number + count → IsReport known options.layout files dir start top last count taken.head None p.report)
+  pub prepared_whole : (p : Prepared) → TakesUp known files dir options.filter last start taken Reached → p.taken ≡ taken → p.ending ≡ endings.Whole
+      → ((count : ℕ) → taken.head.number ≡ start.number + count
+      → IsReport known options.layout files dir start top last count taken.head endings.Whole p.report)
       → IsPrepared known options dir files start p
-  prepared_whole p takes is none report = prepared_by None p takes.taken_are takes.until is none report
+  prepared_whole p takes is whole report = prepared_by endings.Whole p takes.taken_are takes.until is whole report
+
+  pub prepared_part : (p : Prepared) → TakesUp known files dir options.filter last start taken Full → p.taken ≡ taken → start.number < taken.head.number
+      → Fills known (room_of options.layout) (bytes_of files dir start.number (taken.head.number - start.number))
+      → ((count : ℕ) → taken.head.number ≡ start.number + count → (applied : ReportValue) × (p.ending ≡ endings.Part applied count)
+      × (applied ≡ applied_report_of (ranges start.number count)) × (p.report ≡ report_of Lines None (outcome_of taken.head top start count [])))
+      → IsPrepared known options dir files start p
+  prepared_part p takes is above fills reports =
+      let number = takes.taken_are.is.number in
+      let r = reports takes.taken_are.count number in
+      let f = filled known options.layout _ fills in
+      prepared_by (endings.Part r.0 takes.taken_are.count) p takes.taken_are takes.until is r.1
+      (λ count at. (let same : takes.taken_are.count ≡ count = omega (arith, at, number) in
+      let sum : taken.head.number - start.number ≡ count = omega (arith, at) in (
+        same,
+        omega (arith, at, above),
+        f.0,
+        takes.ends,
+        λ yes. subst (λ n. max_round ≤ bytes_of files dir start.number n) sum (f.1 yes),
+        subst (λ n. r.0 ≡ applied_report_of (ranges start.number n)) same r.2,
+        subst (λ (l : Layout). p.report ≡ report_of l None (outcome_of taken.head top start count [])) (sym f.0)
+            (subst (λ n. p.report ≡ report_of Lines None (outcome_of taken.head top start n [])) same r.3),
+      )))
 
   pub prepared_before : (fault : RunFault) (p : Prepared) → TakesUp known files dir options.filter last start taken (Faulty fault) → p.taken ≡ taken
-      → p.fault ≡ Some fault → start.number < taken.head.number
+      → p.ending ≡ endings.Before fault → start.number < taken.head.number
       → ((count : ℕ) → taken.head.number ≡ start.number + count
       → (said : List ℕ) × (p.report ≡ report_of options.layout (Some said) (outcome_of taken.head top start count [])))
       → IsPrepared known options dir files start p
-  prepared_before fault p takes is some above report = prepared_by (Some fault) p takes.taken_are takes.until is some
+  prepared_before fault p takes is some above report = prepared_by (endings.Before fault) p takes.taken_are takes.until is some
       (λ count number. (let r = report count number in (r.0, omega (arith, above, number), takes.ends.0, takes.ends.1, takes.ends.2, r.1)))
 
   pub taking_prepare : (fault : RunFault) → StopsOnTheWay known files dir options.filter last start fault → UpToStops known options dir files start fault
@@ -393,4 +512,5 @@ module _ (known : Type 0) (options : FollowOptions) (dir : List ℕ) (files : Fi
 pub done_if : (known : Type 0) (options : FollowOptions) (dir save : List ℕ) (old new : Files) (progress : Progress)
     → (known → IsProgress known options dir save old new progress) → IsProgress known options dir save old new progress
 done_if known options dir save old new (Whole report) h = λ sure. h sure sure
+done_if known options dir save old new (Part report applied count) h = λ sure. h sure sure
 done_if known options dir save old new (Before report fault) h = λ sure. h sure sure

@@ -14,13 +14,13 @@ use Rattle.osm_folder.specs.Folder.{IsStateFile, IsThere, max_state}
 use Rattle.osm_folder.specs.Following.{AddsAll, ComesTo, GoesOn, HasSave, IsFollowing, IsReached}
 use Rattle.osm_folder.specs.Following.{IsReadable, IsStarted, IsTopBehind, MissingStops}
 use Rattle.osm_folder.specs.Following.{NumberStops}
-use Rattle.osm_folder.specs.Following.{FindTopStops, end_of, last_number}
+use Rattle.osm_folder.specs.Following.{FindTopStops, bytes_of, end_of, last_number, limited}
 use Rattle.osm_folder.specs.Following.{lost_numbers, ranges, standing_of}
 use Rattle.osm_folder.specs.Lagging.{standing_from}
 use Rattle.osm_folder.specs.Names.{top_name_of}
 use Rattle.osm_folder.specs.Progress.{IsOfContent}
 use Rattle.osm_folder.specs.Publication.{IsBadState}
-use Rattle.osm_folder.specs.Reports.{Outcome, ReportValue, report_of}
+use Rattle.osm_folder.specs.Reports.{Outcome, ReportValue, applied_report_of, report_of}
 use Rattle.osm_folder.specs.declared.fault.FileName.TheVariants.{Save, Top}
 use Rattle.osm_folder.specs.declared.fault.RunFault.{RunFault}
 use Rattle.osm_folder.specs.declared.fault.RunFault.TheVariants.{Absent, BadSave, BadState, Changed}
@@ -29,13 +29,16 @@ use Rattle.osm_folder.specs.declared.fault.RunFault.TheVariants.{TopBehind, Want
 use Rattle.osm_folder.specs.declared.fault.RunFault.TheVariants.{WriteFault}
 use Rattle.osm_folder.specs.declared.options.FollowOptions.{FollowOptions}
 use Rattle.osm_folder.specs.declared.options.Layout.{Layout}
+use Rattle.osm_folder.specs.declared.options.Layout.TheVariants.{Json, Lines}
 use Rattle.osm_folder.specs.declared.progress.Progress.{Progress}
-use Rattle.osm_folder.specs.declared.progress.Progress.TheVariants.{Before, Whole}
+use Rattle.osm_folder.specs.declared.progress.Progress.TheVariants.{Before, Part, Whole}
 use Rattle.osm_checked.specs.Checking.{IsSaveText}
 use Rattle.osm_round.specs.Starting.{IsOtherSave}
 use Rattle.osm_checked.specs.Checking.{IsTooLarge}
 use Rattle.osm_round.specs.Taking.{HasTaken}
 use Rattle.osm_round.specs.declared.taken.Taken.{Taken}
+use Rattle.osm_round.specs.declared.round.Ending.{Ending}
+use Rattle.osm_round.specs.declared.round.Ending.TheVariants as endings
 use Rattle.osm_round.specs.declared.round.Prepared.{Prepared}
 
 -- ---- what it saves and prints
@@ -74,13 +77,40 @@ pub record IsFollowedBefore (known : Type 0) (options : FollowOptions) (dir save
   pub before : ComesBefore known options dir save old fault text report
   pub put : Puts old save (Some text) new
 
+-- the bytes of change files after which a run that reports in lines takes no further number: 16 MiB
+abbrev pub max_round : ℕ
+max_round = 16777216
+
+-- the bytes that a run takes at once: a report in JSON is of all that there is
+abbrev pub room_of : Layout → Option ℕ
+room_of Lines = Some max_round
+room_of Json = None
+
+-- a run that came to a part did what one does that may take so many numbers. It might have taken
+-- more, and the change files of those that it took have as many bytes as are taken at once
+pub record IsFollowedPart (options : FollowOptions) (dir save : List ℕ) (old new : Files)
+    (report : ReportValue) (count : ℕ) : Type 0 where
+  pub followed : IsFollowed (limited count options) dir save old new report
+  pub count_is : followed.following.count ≡ count
+  pub below : followed.following.start.number + count
+      < end_of options followed.following.start followed.following.top
+  pub enough : max_round ≤ bytes_of old dir followed.following.start.number count
+
 -- what a run does
 abbrev pub IsProgress :
     Type 0 → FollowOptions → List ℕ → List ℕ → Files → Files → Progress → Type 0
 IsProgress known options dir save old new (Whole report) =
     known → IsFollowed options dir save old new report
+IsProgress known options dir save old new (Part report applied count) =
+    known → IsFollowedPart options dir save old new report count
 IsProgress known options dir save old new (Before report fault) =
     known → IsFollowedBefore known options dir save old new fault report
+
+-- a part is less than the run may take, whatever is known of the files
+abbrev pub IsLess : Option ℕ → Progress → Type 0
+IsLess None (Part report applied count) = count ≤ max_sequence
+IsLess (Some limit) (Part report applied count) = count < limit
+IsLess limit progress = Unit {0}
 
 -- ---- why it is refused
 
@@ -185,15 +215,20 @@ outcome_of head top start count missing = record {
   missing = missing;
 }
 
--- the report of a run that reached that head, and has no fault or that one
+-- the report of a run that reached that head, and how it ends
 abbrev pub IsReport : Type 0 → Layout → Files → List ℕ → Head → StateValue → ℕ → ℕ → Head
-    → Option RunFault → ReportValue → Type 0
-IsReport known layout files dir start top last count head None report =
+    → Ending → ReportValue → Type 0
+IsReport known layout files dir start top last count head endings.Whole report =
     (missing : List ℕ) × (known → IsReached files dir head.number last)
     × (known → missing ≡ lost_numbers files dir head.number last)
     × ((missing ≡ []) ↔ (head.number ≡ last))
     × (report ≡ report_of layout None (outcome_of head top start count missing))
-IsReport known layout files dir start top last count head (Some fault) report =
+IsReport known layout files dir start top last count head (endings.Part applied taken) report =
+    (taken ≡ count) × (0 < count) × (layout ≡ Lines) × (head.number < last)
+    × (known → max_round ≤ bytes_of files dir start.number count)
+    × (applied ≡ applied_report_of (ranges start.number count))
+    × (report ≡ report_of layout None (outcome_of head top start count []))
+IsReport known layout files dir start top last count head (endings.Before fault) report =
     (said : List ℕ) × (0 < count) × (head.number < last) × IsOfContent fault (head.number + 1)
     × NumberStops known dir files (head.number + 1) fault
     × (report ≡ report_of layout (Some said) (outcome_of head top start count []))
@@ -207,7 +242,7 @@ pub record IsPrepared (known : Type 0) (options : FollowOptions) (dir : List ℕ
   pub taken : HasTaken known files dir options.filter start p.taken
   pub until : p.taken.head.number ≤ last_number options.limit start.number top.sequence
   pub report : IsReport known options.layout files dir start top
-      (last_number options.limit start.number top.sequence) taken.count p.taken.head p.fault
+      (last_number options.limit start.number top.sequence) taken.count p.taken.head p.ending
       p.report
 
 -- the top state is below the head
@@ -262,7 +297,8 @@ abbrev pub BeforeStops : Head → Head → RunFault → RunFault → Type 0
 BeforeStops start head fault refused =
     (refused ≡ WantOfMemory) ⊎ ((refused ≡ fault) × (head.number ≡ start.number))
 
--- a run is done with that report, and that fault if it has one
-abbrev pub progress_of : ReportValue → Option RunFault → Progress
-progress_of report None = Whole report
-progress_of report (Some fault) = Before report fault
+-- what a run came to that ends so
+abbrev pub progress_of : ReportValue → Ending → Progress
+progress_of report endings.Whole = Whole report
+progress_of report (endings.Part applied count) = Part report applied count
+progress_of report (endings.Before fault) = Before report fault

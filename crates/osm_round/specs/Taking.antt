@@ -1,7 +1,7 @@
 -- What a run takes of a folder: the numbers after a head, one after the other, as net changes.
 -- `known` says that it is known what the files hold.
-use Rattle.std.specs.Prelude.{◌≡◌, ℕ, zero, suc, ◌+◌, ◌*◌, ◌<◌, ◌≤◌, List, length, Bool, true}
-use Rattle.std.specs.Prelude.{false, Some}
+use Rattle.std.specs.Prelude.{◌≡◌, ℕ, zero, suc, ◌+◌, ◌*◌, ◌<◌, ◌≤◌, List, length, Option, true}
+use Rattle.std.specs.Prelude.{None, Some}
 use Rattle.osm_model.specs.Change.{ChangeValue}
 use Rattle.osm_model.specs.Filter.{FilterValue}
 use Rattle.osm_model.specs.Limits.{max_changes}
@@ -13,11 +13,11 @@ use Rattle.osm_save.specs.declared.head.Head.{Head}
 use Rattle.osm_follow.specs.Published.{PublishedValue}
 use Rattle.osm_store.specs.Files.{Files}
 use Rattle.osm_folder.specs.Following.{HasFiles, IsNumber, IsReached, IsReadable, NumberStops}
-use Rattle.osm_folder.specs.Following.{is_lost}
+use Rattle.osm_folder.specs.Following.{is_lost, size_of}
 use Rattle.osm_folder.specs.Progress.{IsOfContent}
 use Rattle.osm_folder.specs.declared.fault.RunFault.{RunFault}
 use Rattle.osm_round.specs.declared.taken.End.{End}
-use Rattle.osm_round.specs.declared.taken.End.TheVariants.{Faulty, Reached}
+use Rattle.osm_round.specs.declared.taken.End.TheVariants.{Faulty, Full, Reached}
 use Rattle.osm_round.specs.declared.taken.Taken.{Taken}
 
 -- the head after a sequence
@@ -67,18 +67,30 @@ pub record HasTaken (known : Type 0) (files : Files) (dir : List ℕ) (f : Filte
 
 -- a number was taken, or is lost
 abbrev pub TakesNumber :
-    Type 0 → Files → List ℕ → ℕ → FilterValue → Taken → Taken → Bool → Type 0
-TakesNumber known files dir number f old new true =
+    Type 0 → Files → List ℕ → ℕ → FilterValue → Taken → Taken → Option ℕ → Type 0
+TakesNumber known files dir number f old new (Some size) =
     (time : ℕ) × (changes : List ChangeValue) × IsNumber known files dir number time changes
     × (new.head ≡ head_after old.head number time) × Takes f old.net changes new.net
     × WidensBy (length changes) old.net new.net
-TakesNumber known files dir number f old new false =
+    × (known → size ≡ size_of files dir number)
+TakesNumber known files dir number f old new None =
     (known → is_lost files dir number ≡ true) × (new ≡ old)
 
--- why no further number is taken: all that may be are, or the next one is lost; or a file of the
--- next one is faulty
+-- so many bytes fill the room, if it is known what the files hold; nothing fills one without an end
+abbrev pub Fills : Type 0 → Option ℕ → ℕ → Type 0
+Fills known None size = ⊥
+Fills known (Some room) size = known → room ≤ size
+
+-- no file of the next number is faulty
+abbrev pub IsRight : End → Type 0
+IsRight (Faulty fault) = ⊥
+IsRight end = Unit {0}
+
+-- why no further number is taken: all that may be are, or the next one is lost; there is no room
+-- for one that may be; or a file of the next one is faulty
 abbrev pub EndsAt : Type 0 → Files → List ℕ → ℕ → ℕ → End → Type 0
 EndsAt known files dir last number Reached = known → IsReached files dir number last
+EndsAt known files dir last number Full = number < last
 EndsAt known files dir last number (Faulty fault) =
     (number < last) × IsOfContent fault (number + 1)
     × NumberStops known dir files (number + 1) fault

@@ -18,13 +18,15 @@ ghost use Rattle.osm_folder.specs.Names.{top_name_of};
 ghost use Rattle.osm_folder.specs.Progress as progress;
 ghost use Rattle.osm_folder.specs.Progress.{IsProgressReport};
 ghost use Rattle.osm_folder.specs.Runs.{IsDeviceFault, ReadsUpTo};
-ghost use Rattle.osm_folder.specs.Reports.{report_of};
+ghost use Rattle.osm_folder.specs.Reports.{ReportValue, applied_report_of, report_of};
 ghost use Rattle.osm_folder.specs.declared.fault.FileName.TheVariants.{Top};
 ghost use Rattle.osm_folder.specs.declared.fault.RunFault.TheVariants.{Absent};
+ghost use Rattle.osm_folder.specs.declared.options.Layout.TheVariants.{Lines};
 ghost use Rattle.osm_round.specs.Over.{FollowsOver, follow_calls};
-ghost use Rattle.osm_round.specs.Rounds.{BeforeStops, IsFirst, IsPrepared, IsProgress, IsReport};
+ghost use Rattle.osm_round.specs.Rounds.{BeforeStops, IsFirst, IsLess, IsPrepared, IsProgress};
+ghost use Rattle.osm_round.specs.Rounds.{IsReport};
 ghost use Rattle.osm_round.specs.Rounds.{IsUnpublished, IsWhole, PrepareStops, UpToStops};
-ghost use Rattle.osm_round.specs.Rounds.{RoundStops, outcome_of, progress_of};
+ghost use Rattle.osm_round.specs.Rounds.{RoundStops, outcome_of, progress_of, room_of};
 ghost use Rattle.osm_round.specs.Starting.{WholeStops};
 
 use crate::put::put;
@@ -35,7 +37,7 @@ use osm_folder::fault::{FileName, RunFault};
 use osm_folder::missing::missing;
 use osm_folder::options::{FollowOptions, Layout, last_number};
 use osm_folder::progress::Progress;
-use osm_folder::report::{Report, fault_text, follow_in};
+use osm_folder::report::{Report, applied_report, fault_text, follow_in};
 use osm_folder::top::find_top;
 use osm_json::line::Standing;
 use osm_merge::check::check_save;
@@ -47,17 +49,34 @@ use osm_state::state::State;
 use osm_store::store::Store;
 use std::alloc::Global;
 
-// What a run saves and prints, and the fault of the number at which it stops taking.
+/// The bytes of change files after which a run that reports in lines takes no further number. What is
+/// new is in memory, so this bounds what a run holds. A report in JSON is of all that there is.
+pub const MAX_ROUND: u64 = 16_777_216;
+
+// How a run ends.
+#[derive(Drop)]
+enum Ending {
+    /// At the last number, or before a lost one.
+    Whole,
+    /// With as many bytes as are taken at once, after so many numbers. These are their lines.
+    Part { applied: Report, count: u32 },
+    /// Before a number with this fault.
+    Before(RunFault),
+}
+
+// What a run saves and prints, and how it ends.
 #[derive(Drop)]
 struct Prepared {
     taken: Taken,
     report: Report,
-    fault: Option<RunFault>,
+    ending: Ending,
 }
 
 /// Follows a folder from a save, or from the start if there is none, up to the folder's newest
 /// number, the limit, or the number before a lost or a faulty one, and writes the save if something
-/// is new or there was none. Of the objects it keeps those that the filter keeps; the edits of all
+/// is new or there was none. A run that reports in lines takes no further number after those whose
+/// change files have `MAX_ROUND` bytes: it has followed a part, and the next run goes on there. Of
+/// the objects it keeps those that the filter keeps; the edits of all
 /// others are counted too. A save of another filter is refused as `OtherFilter`. A number is lost
 /// if its state isn't there, or its changes in neither form. The lost numbers are named, up to 64
 /// after the one that was reached: of those beyond the first it is asked only which files are
@@ -73,13 +92,14 @@ pub fn follow_round<S: Store>(
     ensures done { IfOk result (IsProgress (IsKnown (S.state store.old)) options.now
         dir.now save.now (S.state store.old).files (S.state store.new).files) }
     ensures report { IfOk result (IsProgressReport options.now.layout) }
+    ensures less { IfOk result (IsLess options.now.limit) }
     ensures stops { IfErr result (RoundStops (IsKnown (S.state store.old)) options.now
         dir.now save.now (S.state store.old).files) }
     ensures over { IsKnown (S.state store.old) → (published : List PublishedValue) (base number : ℕ)
         → IsFolderOf published (S.state store.old).files dir.now
         → IsSaveOf published options.now.filter base number ((S.state store.old).files save.now)
-        → progress.IsWhole result (FollowsOver published options.now base number dir.now save.now
-        (S.state store.old) (S.state store.new)) }
+        → progress.IsWhole options.now result (λ under. FollowsOver published under base number
+        dir.now save.now (S.state store.old) (S.state store.new)) }
     ensures spends { OnOk result (Spends 3 (S.state store.old).left (S.state store.new).left) }
     ensures frame { ReplacesOften IsDeviceFault (S.state store.old) (S.state store.new) result }
 {
@@ -98,6 +118,7 @@ fn follow_whole<S: Store>(
     ensures done { IfOk result (IsProgress (IsKnown (S.state store.old)) options.now
         dir.now save.now (S.state store.old).files (S.state store.new).files) }
     ensures report { IfOk result (IsProgressReport options.now.layout) }
+    ensures less { IfOk result (IsLess options.now.limit) }
     ensures stops { IfErr result (RoundStops (IsKnown (S.state store.old)) options.now
         dir.now save.now (S.state store.old).files) }
     ensures spends { OnOk result (Spends 3 (S.state store.old).left (S.state store.new).left) }
@@ -152,6 +173,7 @@ fn follow<S: Store>(
     ensures done { IfOk result (λ o. IfSome o (IsProgress (IsKnown (S.state store.old)) options.now
         dir.now save.now (S.state store.old).files (S.state store.new).files)) }
     ensures report { IfOk result (λ o. IfSome o (IsProgressReport options.now.layout)) }
+    ensures less { IfOk result (λ o. IfSome o (IsLess options.now.limit)) }
     ensures none { IfOk result (λ o. o ≡ None
         → IsUnpublished (IsKnown (S.state store.old)) options.now dir.now save.now
         (S.state store.old).files (S.state store.new).files) }
@@ -184,24 +206,39 @@ fn follow<S: Store>(
     let Prepared {
         taken,
         report,
-        fault,
+        ending,
     } = match prepare(alloc, store, dir, start.head, options) {
         Ok(Some(prepared)) => prepared,
         Ok(None) => return Ok(None),
         Err(fault) => return Err(fault),
     };
     match put(alloc, store, save, &options.filter, start, taken) {
-        Ok(()) => Ok(Some(progress_of(report, fault))),
+        Ok(()) => Ok(Some(progress_of(report, ending))),
         Err(fault) => Err(fault),
     }
 }
 
-fn progress_of(report: Report, fault: Option<RunFault>) -> Progress
-    ensures { result ≡ progress_of report fault }
+fn progress_of(report: Report, ending: Ending) -> Progress
+    ensures { result ≡ progress_of report ending }
 {
-    match fault {
-        None => Progress::Whole(report),
-        Some(fault) => Progress::Before(report, fault),
+    match ending {
+        Ending::Whole => Progress::Whole(report),
+        Ending::Part { applied, count } => Progress::Part {
+            report,
+            applied,
+            count,
+        },
+        Ending::Before(fault) => Progress::Before(report, fault),
+    }
+}
+
+// The bytes that a run takes at once.
+fn room_of(layout: Layout) -> Option<u64>
+    ensures { result ≡ room_of layout }
+{
+    match layout {
+        Layout::Lines => Some(MAX_ROUND),
+        Layout::Json => None,
     }
 }
 
@@ -282,8 +319,10 @@ fn prepare_up_to<S: Store>(
     }
     let last = last_number(options.limit, start.number, top.sequence());
     let mut taken = Taken::after(alloc, start);
-    match take_numbers(alloc, store, dir, last, &options.filter, &mut taken)? {
+    let room = room_of(options.layout);
+    match take_numbers(alloc, store, dir, last, room, &options.filter, &mut taken)? {
         End::Reached => reached(alloc, store, dir, last, start, options.layout, top, taken),
+        End::Full => part(alloc, start, top, taken),
         End::Faulty(fault) => before(alloc, start, options.layout, top, taken, fault),
     }
 }
@@ -306,10 +345,10 @@ fn reached<S: Store>(
     requires reached { IsKnown (S.state store.old)
         → IsReached (S.state store.old).files dir.now taken.head.number last }
     ensures taken { IfOk result (λ p. p.taken ≡ taken) }
-    ensures whole { IfOk result (λ p. p.fault ≡ None) }
+    ensures whole { IfOk result (λ p. p.ending ≡ Ending.Whole) }
     ensures report { IfOk result (λ p. (count : ℕ) → taken.head.number ≡ start.number + count
         → IsReport (IsKnown (S.state store.old)) layout (S.state store.old).files dir.now start
-        top.now last count taken.head None p.report) }
+        top.now last count taken.head Ending.Whole p.report) }
     ensures stops { IfErr result (MissingStops (IsKnown (S.state store.old)) dir.now
         (S.state store.old).files taken.head.number last) }
     ensures frame { ReadsUpTo (3 * (last - (taken.head.number + 1)))
@@ -329,7 +368,32 @@ fn reached<S: Store>(
     Ok(Prepared {
         taken,
         report,
-        fault: None,
+        ending: Ending::Whole,
+    })
+}
+
+// The reports of a run that takes no further number: of a run with what it took as the limit, and of
+// what it applied alone.
+fn part(alloc: Global, start: Head, top: &State, taken: Taken) -> Result<Prepared, RunFault>
+    requires from { start.number < taken.head.number }
+    requires below { taken.head.number ≤ top.now.sequence }
+    requires most { taken.head.number ≤ max_sequence }
+    ensures taken { IfOk result (λ p. p.taken ≡ taken) }
+    ensures part { IfOk result (λ p. (count : ℕ) → taken.head.number ≡ start.number + count
+        → (applied : ReportValue) × (p.ending ≡ Ending.Part applied count)
+        × (applied ≡ applied_report_of (ranges start.number count))
+        × (p.report ≡ report_of Lines None (outcome_of taken.head top.now start count []))) }
+    ensures memory { IfErr result (λ fault. fault ≡ RunFault.WantOfMemory) }
+{
+    let ranges = ranges(alloc, start.number, taken.head.number)?;
+    let applied = applied_report(alloc, ranges.as_slice())?;
+    let count = taken.head.number - start.number;
+    let standing = standing_from(taken.head, top);
+    let report = follow_in(alloc, Layout::Lines, standing, ranges.as_slice(), &[], None)?;
+    Ok(Prepared {
+        taken,
+        report,
+        ending: Ending::Part { applied, count },
     })
 }
 
@@ -346,7 +410,7 @@ fn before(
     requires below { taken.head.number ≤ top.now.sequence }
     requires most { taken.head.number ≤ max_sequence }
     ensures taken { IfOk result (λ p. p.taken ≡ taken) }
-    ensures fault { IfOk result (λ p. p.fault ≡ Some fault) }
+    ensures fault { IfOk result (λ p. p.ending ≡ Ending.Before fault) }
     ensures some { IfOk result (λ p. start.number < taken.head.number) }
     ensures report { IfOk result (λ p. (count : ℕ) → taken.head.number ≡ start.number + count
         → (said : List ℕ) × (p.report
@@ -370,7 +434,7 @@ fn before(
     Ok(Prepared {
         taken,
         report,
-        fault: Some(fault),
+        ending: Ending::Before(fault),
     })
 }
 

@@ -1,16 +1,17 @@
 //! What a run takes of a folder: the numbers after a head, as net changes.
 
-ghost use Rattle.std.specs.Prelude.{◌≡◌, ℕ, ◌+◌, ◌-◌, ◌*◌, ◌≤◌, IfErr, IfOk, min};
+ghost use Rattle.std.specs.Prelude.{◌≡◌, ℕ, ◌+◌, ◌-◌, ◌*◌, ◌<◌, ◌≤◌, IfErr, IfOk, IsTrue, min, true};
 ghost use Rattle.osm_model.specs.Limits.{max_changes, max_sequence};
 ghost use Rattle.osm_store.specs.Files.{HasFewer, SpendsAtMost};
 ghost use Rattle.osm_store.specs.Frames.{IsKnown};
 ghost use Rattle.osm_net.specs.Net.{HasRoomFor, no_net};
-ghost use Rattle.osm_folder.specs.Following.{NumberStops};
+ghost use Rattle.osm_folder.specs.Following.{NumberStops, bytes_of};
 ghost use Rattle.osm_folder.specs.Progress.{IsOfContent};
 ghost use Rattle.osm_blocks.specs.Frames.{ReadsOften};
 ghost use Rattle.osm_folder.specs.Runs.{IsDeviceFault, ReadsUpTo};
-ghost use Rattle.osm_round.specs.Taking.{HasTaken, TakesNumber, TakesUp, StopsOnTheWay};
-ghost use Rattle.osm_round.specs.declared.taken.End.TheVariants.{Reached};
+ghost use Rattle.osm_round.specs.Taking.{Fills, HasTaken, IsRight, TakesNumber, TakesUp};
+ghost use Rattle.osm_round.specs.Taking.{StopsOnTheWay};
+ghost use Rattle.osm_round.specs.declared.taken.End.TheVariants.{Full};
 
 use osm_folder::fault::RunFault;
 use osm_folder::number::read_number;
@@ -33,6 +34,8 @@ pub(crate) struct Taken {
 pub(crate) enum End {
     /// At the last number that it may take, or before a lost one.
     Reached,
+    /// Before the last number, with as many bytes of change files as it takes at once.
+    Full,
     /// Before a number of which a file is faulty.
     Faulty(RunFault),
 }
@@ -49,13 +52,15 @@ impl Taken {
     }
 }
 
-/// Takes the numbers after the head, up to the last one, to one before a lost one, or to one before
-/// one of which a file is faulty.
+/// Takes the numbers after the head, up to the last one, to one before a lost one, to one before one
+/// of which a file is faulty, or to the first with which their change files have so many bytes as
+/// there is room for.
 pub(crate) fn take_numbers<S: Store>(
     alloc: Global,
     store: &mut S,
     dir: &str,
     last: u32,
+    room: Option<u64>,
     filter: &Filter,
     taken: &mut Taken,
 ) -> Result<End, RunFault>
@@ -67,23 +72,49 @@ pub(crate) fn take_numbers<S: Store>(
     ensures stops { IfErr result (StopsOnTheWay (IsKnown (S.state store.old))
         (S.state store.old).files dir.now filter.now last taken.old.head) }
     ensures frame { ReadsOften IsDeviceFault (S.state store.old) (S.state store.new) result }
-    ensures spent { IfOk result (λ end. end ≡ Reached → SpendsAtMost
+    ensures full { IfOk result (λ end. end ≡ Full
+        → (taken.old.head.number < taken.new.head.number)
+        × Fills (IsKnown (S.state store.old)) room (bytes_of (S.state store.old).files dir.now
+        taken.old.head.number (taken.new.head.number - taken.old.head.number))) }
+    ensures spent { IfOk result (λ end. IsRight end → SpendsAtMost
         (3 * (min last (taken.new.head.number + 1) - taken.old.head.number))
         (S.state store.old).left (S.state store.new).left) }
     ensures lacks { IfErr result (λ fault. IsKnown (S.state store.old) → IsDeviceFault fault
         → HasFewer (3 * (last - taken.old.head.number)) (S.state store.old).left) }
 {
+    let mut size = 0;
     for before in taken.head.number..last {
         match take_number(alloc, store, dir, before + 1, filter, taken) {
-            Ok(true) => {}
-            Ok(false) => return Ok(End::Reached),
+            Ok(Some(more)) => {
+                size = add(size, more);
+                if is_full(room, size) && before + 1 < last {
+                    return Ok(End::Full);
+                }
+            }
+            Ok(None) => return Ok(End::Reached),
             Err(fault) => return end_at(fault),
         }
     }
     Ok(End::Reached)
 }
 
-// Takes a number's changes, unless it is lost. Tells whether they were taken.
+// The sum, or the greatest number that 64 bits count.
+fn add(size: u64, more: u64) -> u64
+    ensures { result ≤ size + more }
+{
+    size.saturating_add(more)
+}
+
+fn is_full(room: Option<u64>, size: u64) -> bool
+    ensures { IsTrue result → Fills (IsTrue true) room size }
+{
+    match room {
+        Some(room) => room <= size,
+        None => false,
+    }
+}
+
+// Takes a number's changes, unless it is lost, and gives the bytes of its change file.
 fn take_number<S: Store>(
     alloc: Global,
     store: &mut S,
@@ -91,7 +122,7 @@ fn take_number<S: Store>(
     number: u32,
     filter: &Filter,
     taken: &mut Taken,
-) -> Result<bool, RunFault>
+) -> Result<Option<u64>, RunFault>
     requires most { number ≤ max_sequence }
     requires room { HasRoomFor max_changes taken.old.net }
     ensures taken { IfOk result (TakesNumber (IsKnown (S.state store.old)) (S.state store.old).files
@@ -103,15 +134,16 @@ fn take_number<S: Store>(
     ensures frame { ReadsUpTo 3 (S.state store.old) (S.state store.new) result }
 {
     let Some(numbered) = read_number(alloc, store, dir, number)? else {
-        return Ok(false);
+        return Ok(None);
     };
+    let size = numbered.size;
     taken.net.take(filter, numbered.changes)?;
     taken.head = Head {
         number,
         base: taken.head.base,
         time: Some(numbered.time),
     };
-    Ok(true)
+    Ok(Some(size))
 }
 
 // A fault of what a file of a number holds is where a run stops taking. Any other refuses the run.

@@ -1,6 +1,7 @@
+use Rattle.std.proofs.Common.{◌∙◌}
 use Rattle.osm_store.specs.Frames.{IsKnown}
 use Rattle.osm_folder.specs.Steps.Following.{IsFetched}
-use Rattle.osm_folder.proofs.FetchLemmas.{deliver_stops, has_files}
+use Rattle.osm_folder.proofs.FetchLemmas.{deliver_stops, has_files, size_is}
 use Rattle.osm_folder.proofs.ResultLemmas.{same_err}
 use Rattle.osm_folder.proofs.number.read_number.Goals as goal
 
@@ -23,3 +24,10 @@ returns-clause-read g c =
           c.args.number c.in-Some.fetched.time c.in-Some.fetched.form c.in-Some.fetched.changes.items
           c.in_ok-changes.changes.items fetched c.in_ok-changes.ensures.spelled;
     }
+
+pub returns-clause-size : goal.returns-clause-size
+returns-clause-size g c = λ yes.
+    let fetched : IsFetched (IsKnown (g.S.Store.state c.args.store.now)) (g.S.Store.state c.args.store.now).files c.args.dir.now
+    c.args.number c.in-Some.fetched.time c.in-Some.fetched.form c.in-Some.fetched.changes.items =
+    rw c.in-Some.is at c.in_ok-fetched.ensures.fetched in
+    c.len-size.ensures ∙ (c.in-Some.fetched.changes.ok.0 ∙ size_is c.in-Some.fetched.form _ _ c.in-Some.fetched.changes.items (fetched.changes_are yes))

@@ -1,15 +1,15 @@
 use Rattle.std.proofs.Common.{◌≡◌, ◌+◌, ◌-◌, ◌*◌, arith, length}
 use Rattle.std.specs.Prelude.{min}
 use Rattle.osm_store.specs.Frames.{IsKnown, MakesAtMost}
-use Rattle.osm_store.proofs.FrameLemmas.{at_most_both, fewer_more}
+use Rattle.osm_store.proofs.FrameLemmas.{at_most_both, fewer_more, most_more}
 use Rattle.osm_folder.specs.Runs.{IsDeviceFault}
 use Rattle.osm_folder.specs.Following.{last_number}
 use Rattle.osm_folder.proofs.ResultLemmas.{same_err, same_result}
 use Rattle.osm_round.proofs.CallLemmas.{never_faulty, way_is}
 use Rattle.osm_round.specs.Taking.{StopsOnTheWay, TakesUp}
-use Rattle.osm_round.specs.declared.taken.End.TheVariants.{Faulty, Reached}
-use Rattle.osm_round.proofs.FrameLemmas.{ok_four, ok_three}
-use Rattle.osm_round.proofs.RoundLemmas.{prepared_before, prepared_whole, taking_prepare}
+use Rattle.osm_round.specs.declared.taken.End.TheVariants.{Faulty, Full, Reached}
+use Rattle.osm_round.proofs.FrameLemmas.{ok_four, ok_three, ok_two, only_memory}
+use Rattle.osm_round.proofs.RoundLemmas.{prepared_before, prepared_part, prepared_whole, taking_prepare}
 use Rattle.osm_round.proofs.round.prepare_up_to.Goals as goal
 
 pub returns-in_err-take_numbers-clause-stops : goal.returns-in_err-take_numbers-clause-stops
@@ -37,6 +37,19 @@ returns-in-Reached-clause-prepared g c =
     at c.reached.ensures.report)
     (λ p taken whole report. prepared_whole known c.args.options.now c.args.dir.now files c.args.start c.args.top.now c.requires.top
     c.sequence.ensures.limits.sequence c.last_number-last.result last_is c.take_numbers.new.taken p takes taken whole report)
+
+pub returns-in-Full-clause-prepared : goal.returns-in-Full-clause-prepared
+returns-in-Full-clause-prepared g c =
+    let known = IsKnown (g.S.Store.state c.args.store.now) in
+    let files = (g.S.Store.state c.args.store.now).files in
+    let last_is : c.last_number-last.result ≡ last_number c.args.options.now.limit c.args.start.number c.args.top.now.sequence =
+    rw (c.sequence-2.ensures.sequence) at c.last_number-last.ensures in
+    let takes : TakesUp known files c.args.dir.now c.args.options.now.filter c.last_number-last.result c.args.start c.take_numbers.new.taken Full =
+    rw (c.after-taken.ensures, c.in-Full.is) at c.in_ok-take_numbers.ensures.taken in
+    let full = (rw (c.after-taken.ensures, c.room_of-room.ensures) at c.in_ok-take_numbers.ensures.full) c.in-Full.is in
+    ok_two _ _ _ c.part-in-Full.result c.part-in-Full.ensures.taken c.part-in-Full.ensures.part
+    (λ p taken reports. prepared_part known c.args.options.now c.args.dir.now files c.args.start c.args.top.now c.requires.top
+    c.sequence.ensures.limits.sequence c.last_number-last.result last_is c.take_numbers.new.taken p takes taken full.0 full.1 reports)
 
 pub returns-in-Faulty-clause-prepared : goal.returns-in-Faulty-clause-prepared
 returns-in-Faulty-clause-prepared g c =
@@ -78,11 +91,27 @@ returns-in-Reached-clause-calls g c = λ yes p folder.
     rw (c.after-taken.ensures, c.in-Reached.is) at c.in_ok-take_numbers.ensures.taken in
     let number = takes.taken_are.is.number in
     let until = takes.until in
-    let spent = (rw (c.after-taken.ensures) at c.in_ok-take_numbers.ensures.spent) c.in-Reached.is in
+    let spent = (rw (c.after-taken.ensures, c.in-Reached.is) at c.in_ok-take_numbers.ensures.spent) tt in
     at_most_both IsDeviceFault (3 * (min c.last_number-last.result (c.take_numbers.new.taken.head.number + 1) - c.args.start.number))
     (3 * (c.last_number-last.result - (c.take_numbers.new.taken.head.number + 1))) (3 * (length p - c.args.start.number)) a
     (g.S.Store.state c.take_numbers.new.store) (g.S.Store.state c.reached.new.store) Reached c.reached.result (omega (arith, within, number, until))
     c.take_numbers.ensures.frame.known (record { spent = spent; lacks = tt }) c.reached.ensures.frame.at_most
+
+pub returns-in-Full-clause-calls : goal.returns-in-Full-clause-calls
+returns-in-Full-clause-calls g c = λ yes p folder.
+    let a = g.S.Store.state c.args.store.now in
+    let last_is : c.last_number-last.result ≡ last_number c.args.options.now.limit c.args.start.number c.args.top.now.sequence =
+    rw (c.sequence-2.ensures.sequence) at c.last_number-last.ensures in
+    let within = way_is p c.args.dir.now a.files c.args.top.now c.args.options.now.limit c.args.start.number c.last_number-last.result folder
+    (c.requires.top yes) last_is in
+    let takes : TakesUp (IsKnown a) a.files c.args.dir.now c.args.options.now.filter c.last_number-last.result c.args.start c.take_numbers.new.taken Full =
+    rw (c.after-taken.ensures, c.in-Full.is) at c.in_ok-take_numbers.ensures.taken in
+    let number = takes.taken_are.is.number in
+    let until = takes.until in
+    let spent = (rw (c.after-taken.ensures, c.in-Full.is) at c.in_ok-take_numbers.ensures.spent) tt in
+    only_memory IsDeviceFault (3 * (length p - c.args.start.number)) a (g.S.Store.state c.take_numbers.new.store) c.part-in-Full.result
+    (most_more (3 * (min c.last_number-last.result (c.take_numbers.new.taken.head.number + 1) - c.args.start.number)) (3 * (length p - c.args.start.number))
+    _ _ (omega (arith, within, number, until)) spent) (λ never. never) c.part-in-Full.ensures.memory
 
 pub returns-in-Faulty-clause-calls : goal.returns-in-Faulty-clause-calls
 returns-in-Faulty-clause-calls g c = λ yes p folder.

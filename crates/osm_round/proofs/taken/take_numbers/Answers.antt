@@ -7,9 +7,10 @@ use Rattle.osm_store.proofs.FrameLemmas.{fewer_after, most_both, most_more, read
 use Rattle.osm_folder.proofs.ResultLemmas.{err_map}
 use Rattle.osm_round.specs.declared.taken.Taken.{Taken}
 use Rattle.osm_folder.specs.Runs.{IsDeviceFault}
-use Rattle.osm_round.specs.Taking.{TakesNumber}
+use Rattle.osm_folder.specs.Following.{bytes_of}
+use Rattle.osm_round.specs.Taking.{Fills, TakesNumber}
 use Rattle.osm_round.proofs.FrameLemmas.{often_of, often_told}
-use Rattle.osm_round.proofs.TakenLemmas.{end_stops, end_taken, room_for_more, takes_more, takes_nothing}
+use Rattle.osm_round.proofs.TakenLemmas.{bytes_more, end_stops, end_taken, fills_more, room_for_more, takes_more, takes_nothing}
 use Rattle.osm_round.proofs.taken.take_numbers.Goals as goal
 
 pub loop-before-init : goal.loop-before-init
@@ -19,6 +20,7 @@ loop-before-init g c = record {
   until = c.requires.from;
   frame = often_none IsDeviceFault (g.S.Store.state c.args.store.now) _;
   most = (reads_none IsDeviceFault (3 * (c.args.taken.now.head.number - c.args.taken.now.head.number)) (g.S.Store.state c.args.store.now) _).at_most;
+  bytes = λ yes. omega arith;
   taken = takes_nothing (IsKnown (g.S.Store.state c.args.store.now)) (g.S.Store.state c.args.store.now).files c.args.dir.now c.args.filter.now
       c.args.taken.now c.requires.none;
 }
@@ -67,35 +69,37 @@ loop-before-preserved g c =
     let b = g.S.Store.state c.loop-before.store in
     let d = g.S.Store.state c.take_number.new.store in
     let took = subst (λ t. TakesNumber (IsKnown a) a.files c.args.dir.now (c.loop-before.before + 1) c.args.filter.now c.loop-before.taken
-    c.take_number.new.taken t) c.in-Ok-true.field-0-test (rw (i.frame.known, i.frame.files) at c.in-Ok-true.ensures.taken) in
-    let more = takes_more (IsKnown a) a.files c.args.dir.now c.args.filter.now c.args.taken.now.head (c.loop-before.before + 1) c.loop-before.taken
+    c.take_number.new.taken t) c.in-Ok-Some.field-0-is (rw (i.frame.known, i.frame.files) at c.in-Ok-Some.ensures.taken) in
+    let more = takes_more (IsKnown a) a.files c.args.dir.now c.args.filter.now c.args.taken.now.head (c.loop-before.before + 1) c.in-Ok-Some.more c.loop-before.taken
     c.take_number.new.taken (omega (arith, at)) i.taken took in
     record {
       at = more.0;
       from = omega (arith, from);
       until = grind (arith, common_steps);
-      frame = often_then IsDeviceFault a b d _ _ _ i.frame (often_of IsDeviceFault 0 3 b d _ c.in-Ok-true.ensures.frame);
+      frame = often_then IsDeviceFault a b d _ _ _ i.frame (often_of IsDeviceFault 0 3 b d _ c.in-Ok-Some.ensures.frame);
       most = record {
         spent = most_both (3 * (c.loop-before.before - c.args.taken.now.head.number)) 3 (3 * (c.loop-before.before + 1 - c.args.taken.now.head.number))
-            a.left b.left d.left (omega (arith, from)) i.most.spent c.in-Ok-true.ensures.frame.at_most.spent;
+            a.left b.left d.left (omega (arith, from)) i.most.spent c.in-Ok-Some.ensures.frame.at_most.spent;
         lacks = tt;
       };
+      bytes = λ yes. bytes_more a.files c.args.dir.now c.args.taken.now.head.number c.loop-before.before c.loop-before.size c.in-Ok-Some.more
+          c.add-size.result from (i.bytes yes) (took.6 yes) c.add-size.ensures;
       taken = more.1;
     }
 
-pub returns-in-Ok-false-clause-spent : goal.returns-in-Ok-false-clause-spent
-returns-in-Ok-false-clause-spent g c = λ end.
+pub returns-in-Ok-None-clause-spent : goal.returns-in-Ok-None-clause-spent
+returns-in-Ok-None-clause-spent g c = λ end.
     let i = c.loop-before.invariant in
     let at = i.at in
     let from = i.from in
     let below : c.loop-before.before < c.args.last = grind (arith, common_steps) in
     let a = g.S.Store.state c.args.store.now in
     let took = subst (λ t. TakesNumber (IsKnown a) a.files c.args.dir.now (c.loop-before.before + 1) c.args.filter.now c.loop-before.taken
-    c.take_number.new.taken t) c.in-Ok-false.field-0-test (rw (i.frame.known, i.frame.files) at c.in-Ok-false.ensures.taken) in
+    c.take_number.new.taken t) c.in-Ok-None.field-0-is (rw (i.frame.known, i.frame.files) at c.in-Ok-None.ensures.taken) in
     let same : c.take_number.new.taken.head.number ≡ c.loop-before.taken.head.number = ap (λ (t : Taken). t.head.number) took.1 in
     most_both (3 * (c.loop-before.before - c.args.taken.now.head.number)) 3
     (3 * (min c.args.last (c.take_number.new.taken.head.number + 1) - c.args.taken.now.head.number)) _ _ _ (omega (arith, below, from, at, same))
-    i.most.spent c.in-Ok-false.ensures.frame.at_most.spent
+    i.most.spent c.in-Ok-None.ensures.frame.at_most.spent
 
 pub returns-in-Err-clause-lacks : goal.returns-in-Err-clause-lacks
 returns-in-Err-clause-lacks g c =
@@ -115,3 +119,38 @@ returns-clause-spent g c = λ end.
     let past = c.loop-before-test.false in
     most_more (3 * (c.loop-before.before - c.args.taken.now.head.number))
     (3 * (min c.args.last (c.loop-before.taken.head.number + 1) - c.args.taken.now.head.number)) _ _ (omega (arith, at, until, past)) i.most.spent
+
+-- there is no room for more
+pub returns-then-before-last-clause-taken : goal.returns-then-before-last-clause-taken
+returns-then-before-last-clause-taken g c =
+    let i = c.loop-before.invariant in
+    let at = i.at in
+    let from = i.from in
+    let a = g.S.Store.state c.args.store.now in
+    let took = subst (λ t. TakesNumber (IsKnown a) a.files c.args.dir.now (c.loop-before.before + 1) c.args.filter.now c.loop-before.taken
+    c.take_number.new.taken t) c.in-Ok-Some.field-0-is (rw (i.frame.known, i.frame.files) at c.in-Ok-Some.ensures.taken) in
+    let more = takes_more (IsKnown a) a.files c.args.dir.now c.args.filter.now c.args.taken.now.head (c.loop-before.before + 1) c.in-Ok-Some.more
+    c.loop-before.taken c.take_number.new.taken (omega (arith, at)) i.taken took in
+    let number = more.0 in
+    let below = c.if-before-last.true in
+    record { taken_are = more.1; until = omega (arith, number, below); ends = omega (arith, number, below) }
+
+pub returns-then-before-last-clause-full : goal.returns-then-before-last-clause-full
+returns-then-before-last-clause-full g c = λ end.
+    let i = c.loop-before.invariant in
+    let at = i.at in
+    let from = i.from in
+    let a = g.S.Store.state c.args.store.now in
+    let took = subst (λ t. TakesNumber (IsKnown a) a.files c.args.dir.now (c.loop-before.before + 1) c.args.filter.now c.loop-before.taken
+    c.take_number.new.taken t) c.in-Ok-Some.field-0-is (rw (i.frame.known, i.frame.files) at c.in-Ok-Some.ensures.taken) in
+    let more = takes_more (IsKnown a) a.files c.args.dir.now c.args.filter.now c.args.taken.now.head (c.loop-before.before + 1) c.in-Ok-Some.more
+    c.loop-before.taken c.take_number.new.taken (omega (arith, at)) i.taken took in
+    let number = more.0 in
+    let below = c.if-before-last.true in
+    (
+      omega (arith, number, from),
+      subst (λ n. Fills (IsKnown a) c.args.room (bytes_of a.files c.args.dir.now c.args.taken.now.head.number (n - c.args.taken.now.head.number))) (sym number)
+          (fills_more (IsKnown a) c.args.room c.add-size.result _ (c.is_full.ensures c.if-is_full.true)
+          (λ yes. bytes_more a.files c.args.dir.now c.args.taken.now.head.number c.loop-before.before c.loop-before.size c.in-Ok-Some.more
+          c.add-size.result from (i.bytes yes) (took.6 yes) c.add-size.ensures)),
+    )

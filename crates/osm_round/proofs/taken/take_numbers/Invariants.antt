@@ -1,6 +1,7 @@
 use Rattle.std.proofs.Common.{◌≡◌, ◌≤◌, ◌-◌, ◌*◌, Ok}
 use Rattle.osm_store.specs.Frames.{IsKnown, MakesAtMost}
 use Rattle.osm_blocks.specs.Frames.{ReadsOften}
+use Rattle.osm_folder.specs.Following.{bytes_of}
 use Rattle.osm_folder.specs.Runs.{IsDeviceFault}
 use Rattle.osm_round.specs.Taking.{HasTaken}
 use Rattle.osm_round.proofs.taken.take_numbers.Given as goal
@@ -12,5 +13,7 @@ invariant-loop-before g l = record {
   until : l.before ≤ l.fn.last;
   frame : ReadsOften IsDeviceFault (g.S.Store.state l.fn.store) (g.S.Store.state l.store) (Ok l.before);
   most : MakesAtMost IsDeviceFault (3 * (l.before - l.fn.taken.head.number)) (g.S.Store.state l.fn.store) (g.S.Store.state l.store) (Ok l.before);
+  bytes : IsKnown (g.S.Store.state l.fn.store)
+      → l.size ≤ bytes_of (g.S.Store.state l.fn.store).files l.fn.dir l.fn.taken.head.number (l.before - l.fn.taken.head.number);
   taken : HasTaken (IsKnown (g.S.Store.state l.fn.store)) (g.S.Store.state l.fn.store).files l.fn.dir l.fn.filter l.fn.taken.head l.taken;
 }
