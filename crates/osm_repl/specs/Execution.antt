@@ -3,10 +3,12 @@
 -- hold; `options` has the filter of the saves that `follow` and `begin` write, the limit of
 -- `follow`, and the layout of what `follow`, `lag` and `audit` print. `printed` is what was printed
 -- before, and `after` what is printed then.
-use Rattle.std.specs.Prelude.{◌≡◌, ℕ, ◌<◌, ◌≤◌, ◌⊎◌, List, None, OnOk, Option, Result, take}
+use Rattle.std.specs.Prelude.{◌≡◌, ℕ, zero, suc, ◌-◌, ◌<◌, ◌≤◌, ◌⊎◌, List, None, OnOk, Option}
+use Rattle.std.specs.Prelude.{Result, Some, take}
 use Rattle.std.specs.Io.KnownBytes.{Appends}
 use Rattle.osm_json.specs.Line.{fault_data, json_line}
 use Rattle.osm_model.specs.Filter.{FilterValue}
+use Rattle.osm_model.specs.Limits.{max_sequence}
 use Rattle.osm_follow.specs.Published.{PublishedValue}
 use Rattle.osm_reading.specs.Sequence.{SpellsSequence}
 use Rattle.osm_beginning.specs.Beginning.{BeginStops, IsBaseOf, IsBegunFrom}
@@ -15,10 +17,10 @@ use Rattle.osm_exporting.specs.Exporting.{ExportStops, IsExported, IsExportOf}
 use Rattle.osm_store.specs.Files.{Files, HasFailed, Spends}
 use Rattle.osm_store.specs.Frames.{IsKnown, StoreState}
 use Rattle.osm_folder.specs.Folder.{IsApart, IsFolderOf}
-use Rattle.osm_folder.specs.Following.{IsFollowReport, IsInStepAfter, IsSaveOf}
+use Rattle.osm_folder.specs.Following.{IsFollowReport, IsInStepAfter, IsSaveOf, limited}
 use Rattle.osm_folder.specs.Lagging.{IsLag, IsLagOf, IsLagReport, LagStopsOver, LagStops}
 use Rattle.osm_folder.specs.Numbered.{IsAddedAs, IsPublishedAs, NumberedStopsOver, NumberedStops}
-use Rattle.osm_folder.specs.Progress.{IsProgressReport}
+use Rattle.osm_folder.specs.Progress.{IsPartReport, IsProgressReport}
 use Rattle.osm_folder.specs.Publication.{PublishStopsOver, IsAdded, IsPublished, PublishStops}
 use Rattle.osm_folder.specs.Reports.{ReportValue, begin_report_of, convert_report_of}
 use Rattle.osm_folder.specs.Reports.{publish_report_of}
@@ -30,11 +32,11 @@ use Rattle.osm_folder.specs.declared.options.FollowOptions.{FollowOptions}
 use Rattle.osm_folder.specs.declared.options.Layout.{Layout}
 use Rattle.osm_folder.specs.declared.options.Layout.TheVariants.{Json, Lines}
 use Rattle.osm_folder.specs.declared.progress.Progress.{Progress}
-use Rattle.osm_folder.specs.declared.progress.Progress.TheVariants.{Whole, Before}
+use Rattle.osm_folder.specs.declared.progress.Progress.TheVariants.{Whole, Part, Before}
 use Rattle.osm_printing.specs.Printing.{CopyStops, IsReadFault, IsShowReport, IsShown, IsShownOf}
 use Rattle.osm_checked.specs.Checking.{ReadStops}
 use Rattle.osm_round.specs.Over.{FollowStopsOver}
-use Rattle.osm_round.specs.Rounds.{IsFollowed, IsFollowedBefore, RoundStops}
+use Rattle.osm_round.specs.Rounds.{IsFollowed, IsFollowedBefore, IsFollowedPart, RoundStops}
 use Rattle.osm_script.specs.Replay.{ReplayFault, ReplayLeaves, Replays}
 use Rattle.osm_repl.specs.declared.orders.Order.{Order}
 use Rattle.osm_repl.specs.declared.orders.Order.TheVariants.{Replay, Publish, Follow, Lag, Show}
@@ -303,10 +305,87 @@ abbrev pub Keeps : Execution → RunFault → ReportValue → Type 0
 Keeps e fault report =
     KeepsBefore (IsKnown e.old) e.options e.order e.old.files e.new.files fault report
 
--- what the word `follow` did
+-- ---- the word `follow`, part after part
+
+-- where a run goes on: under which options, over which store, and after what was printed
+pub record Place : Type 0 where
+  pub options : FollowOptions
+  pub store : StoreState
+  pub printed : Option (List ℕ)
+
+-- what is left of a limit after so many numbers; no limit is that of all numbers that there can be
+abbrev pub left_of : Option ℕ → ℕ → ℕ
+left_of None count = max_sequence - count
+left_of (Some limit) count = limit - count
+
+-- the same options for what is left
+abbrev pub options_after : FollowOptions → ℕ → FollowOptions
+options_after options count = limited (left_of options.limit count) options
+
+-- the word `follow` came to a part of what there is
+pub record IsPart (options : FollowOptions) (dir save : List ℕ) (old new : StoreState)
+    (report applied : ReportValue) (count : ℕ) : Type 0 where
+  pub part : IsKnown old → IsFollowedPart options dir save old.files new.files report count
+  pub over : IsKnown old → (published : List PublishedValue) (base number : ℕ)
+      → IsFolderOf published old.files dir
+      → IsSaveOf published options.filter base number (old.files save)
+      → IsInStepAfter published (limited count options) base number dir save old.files new.files
+      report
+  pub form : IsPartReport options.layout report applied count
+
+abbrev pub IsPartOf :
+    FollowOptions → Order → StoreState → StoreState → ReportValue → ReportValue → ℕ → Type 0
+IsPartOf options (Follow dir save) old new report applied count =
+    IsPart options dir.now save.now old new report applied count
+IsPartOf options order old new report applied count = ⊥
+
+-- it did so, and its lines were printed
+pub record TakesPart (dir save : List ℕ) (from to : Place) : Type 0 where
+  pub report : ReportValue
+  pub applied : ReportValue
+  pub count : ℕ
+  pub part : IsPart from.options dir save from.store to.store report applied count
+  pub all : Appends from.printed to.printed applied.text
+  pub options_are : to.options ≡ options_after from.options count
+  pub known : to.store.is_known ≡ from.store.is_known
+
+-- it did so that many times, one after the other
+abbrev pub TakesParts : List ℕ → List ℕ → ℕ → Place → Place → Type 0
+TakesParts dir save zero from to = to ≡ from
+TakesParts dir save (suc parts) from to =
+    (between : Place) × TakesParts dir save parts from between × TakesPart dir save between to
+
+-- only the word `follow` takes parts
+abbrev pub ComesFrom : Order → ℕ → Place → Place → Type 0
+ComesFrom (Follow dir save) parts from to = TakesParts dir.now save.now parts from to
+ComesFrom order parts from to = to ≡ from
+
+-- this holds of the run that is left after some parts, and of what was printed before it
+pub record AfterParts (e : Execution) (printed : Option (List ℕ))
+    (holds : Execution → Option (List ℕ) → Type 0) : Type 0 where
+  pub parts : ℕ
+  pub place : Place
+  pub comes : ComesFrom e.order parts
+      (record { options = e.options; store = e.old; printed = printed }) place
+  pub rest : holds (execution_of place.options e.order place.store e.new) place.printed
+
+-- what the word `follow` did in one of its parts, or in the last one
 abbrev pub HasFollowed : Execution → Progress → Type 0
 HasFollowed e (Whole report) = IsRun e report
+HasFollowed e (Part report applied count) =
+    IsPartOf e.options e.order e.old e.new report applied count
 HasFollowed e (Before report fault) = Keeps e fault report
+
+-- it took a part, but standard output didn't take all of its lines: no further one was begun
+pub record IsCutInPart (e : Execution) (printed after : Option (List ℕ)) (fault : RunFault) : Type 0
+  where
+    pub report : ReportValue
+    pub applied : ReportValue
+    pub count : ℕ
+    pub part : IsPartOf e.options e.order e.old e.new report applied count
+    pub fault_is : fault ≡ WriteFault Output
+    pub length : ℕ
+    pub some : Appends printed after (take length applied.text)
 
 -- it kept what comes before a faulty number, that was printed, and the fault is that number's
 pub record IsPrintedBefore (e : Execution) (printed after : Option (List ℕ)) (fault : RunFault)
@@ -343,13 +422,14 @@ pub record IsShownInPart (e : Execution) (printed after : Option (List ℕ)) (fa
   pub some : Appends printed after (take count report.text)
 
 -- why an order over the files isn't done: its run stops, or its report isn't printed, or it is done
--- up to a faulty number; the files that the run wrote then stay
+-- up to a faulty number or to a part; the files that the run wrote then stay
 abbrev pub IsNotDone : Execution → Option (List ℕ) → Option (List ℕ) → RunFault → Type 0
 IsNotDone e printed after fault =
     IsStopped e printed after fault
     ⊎ IsCutShort e printed after fault
     ⊎ IsPrintedBefore e printed after fault
     ⊎ IsCutBefore e printed after fault
+    ⊎ IsCutInPart e printed after fault
     ⊎ IsShownInPart e printed after fault
 
 -- a replay was done: the replies were printed, and the status is 0
