@@ -1,6 +1,7 @@
 //! What a follower answers to a delivery.
 
 use osm_model::form::FormError;
+use osm_state::state::State;
 use osm_state::state_text::StateError;
 use thiserror::Error;
 
@@ -41,4 +42,12 @@ pub enum DeliverError {
     /// Memory was refused part-way through the application: the follower is now broken.
     #[error("Broke")]
     Broke,
+}
+
+/// What is due of a delivery before its bytes are read.
+pub(crate) enum Due {
+    /// The bytes are read: they are of the sequence of this state.
+    Read(State),
+    /// This answer, whatever the bytes are.
+    Answer(Result<Delivered, DeliverError>),
 }

@@ -10,7 +10,7 @@ ghost use Rattle.osm_model.specs.Data.{IsData};
 ghost use Rattle.osm_model.specs.Filter.{AreKept, IsFilter, everything};
 ghost use Rattle.osm_model.specs.Limits.{max_sequence};
 ghost use Rattle.osm_follow.specs.Begin.{Begins, begun_of};
-ghost use Rattle.osm_follow.specs.Delivery.{AnswersUnread, Delivers, Holds, IsDue, sequence_of};
+ghost use Rattle.osm_follow.specs.Delivery.{AnswersUnread, Delivers, Holds, sequence_of};
 ghost use Rattle.osm_follow.specs.Follower.{held_at, is_held, most_edits, new_follower};
 ghost use Rattle.osm_follow.specs.Follower.{new_follower_of};
 ghost use Rattle.osm_follow.specs.Lag.{Lags, MissingStops};
@@ -22,13 +22,15 @@ ghost use Rattle.osm_follow.specs.Reach.{missing_numbers};
 ghost use Rattle.osm_save.specs.declared.save.Saved.{Saved};
 ghost use Rattle.osm_follow.specs.Restart.{ReadingStops, Restarts, SavingStops};
 ghost use Rattle.osm_follow.specs.Restart.{follower_of, saved_of};
+ghost use Rattle.osm_follow.specs.Steps.Reading.{IsDueOf};
 ghost use Rattle.osm_follow.specs.Steps.Taking.{TakeAnswers};
 ghost use Rattle.osm_follow.specs.View.{ViewStops, view_of};
 ghost use Rattle.osm_follow.specs.declared.delivery.Delivered.{Delivered};
 ghost use Rattle.osm_follow.specs.declared.delivery.DeliverError.{DeliverError};
+ghost use Rattle.osm_follow.specs.declared.delivery.Due as Due;
 
 use crate::begin::{BeginError, mirror_of};
-use crate::delivery::{DeliverError, Delivered};
+use crate::delivery::{DeliverError, Delivered, Due};
 use crate::drain::drain;
 use crate::lag::{Lag, LagError, lag_from};
 use crate::restart::RestartError;
@@ -173,8 +175,8 @@ impl Follower {
             AnswersUnread self.old state.now answer → (result ≡ answer) × (self.new ≡ self.old) }
     {
         let state = match self.due(state) {
-            Ok(state) => state,
-            Err(answer) => return answer,
+            Due::Read(state) => state,
+            Due::Answer(answer) => return answer,
         };
         let batch = match F::read(alloc, bytes) {
             Ok(batch) => batch,
@@ -188,35 +190,33 @@ impl Follower {
         self.take(&state, batch)
     }
 
-    // The state of a sequence whose bytes have to be read, or the answer that is due before that.
-    fn due(&self, state: &[u8]) -> Result<State, Result<Delivered, DeliverError>>
-        ensures due { IfOk result (λ s. IsDue self.now state.now s) }
-        ensures most { IfOk result (λ s. s.sequence ≤ max_sequence) }
-        ensures before_reading { IfErr result (λ answer. AnswersUnread self.now state.now answer) }
+    // What is due of a delivery before its bytes are read.
+    fn due(&self, state: &[u8]) -> Due
+        ensures due { IsDueOf self.now state.now result }
         ensures only { (answer : Result Delivered DeliverError) →
-            AnswersUnread self.now state.now answer → result ≡ Err answer }
+            AnswersUnread self.now state.now answer → result ≡ Due.Answer answer }
     {
         if self.is_broken {
-            return Err(Err(DeliverError::Broken));
+            return Due::Answer(Err(DeliverError::Broken));
         }
         let state = match state_read(state) {
             Ok(state) => state,
-            Err(fault) => return Err(Err(DeliverError::BadState(fault))),
+            Err(fault) => return Due::Answer(Err(DeliverError::BadState(fault))),
         };
         let number = state.sequence();
         if number == 0 {
-            return Err(Err(DeliverError::BadSequence));
+            return Due::Answer(Err(DeliverError::BadSequence));
         }
         if number <= self.number {
-            return Err(Ok(Delivered::Old));
+            return Due::Answer(Ok(Delivered::Old));
         }
         if self.holding.is_held(number) {
-            return Err(Ok(Delivered::Again));
+            return Due::Answer(Ok(Delivered::Again));
         }
         if number > self.number + WINDOW {
-            return Err(Err(DeliverError::TooEarly));
+            return Due::Answer(Err(DeliverError::TooEarly));
         }
-        Ok(state)
+        Due::Read(state)
     }
 
     // Keeps a sequence until the sequences before it are applied. Takes no memory.
