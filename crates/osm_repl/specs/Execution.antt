@@ -38,12 +38,13 @@ use Rattle.osm_checked.specs.Checking.{ReadStops}
 use Rattle.osm_round.specs.Over.{FollowStopsOver}
 use Rattle.osm_round.specs.Rounds.{IsFollowed, IsFollowedBefore, IsFollowedPart, RoundStops}
 use Rattle.osm_script.specs.Replay.{ReplayFault, ReplayLeaves, Replays}
+use Rattle.osm_script.specs.declared.fault.ScriptFault.{ScriptFault}
 use Rattle.osm_repl.specs.declared.orders.Order.{Order}
 use Rattle.osm_repl.specs.declared.orders.Order.TheVariants.{Replay, Publish, Follow, Lag, Show}
 use Rattle.osm_repl.specs.declared.orders.Order.TheVariants.{Audit, Begin, Convert, Export}
 use Rattle.osm_repl.specs.declared.orders.Order.TheVariants.{PublishAs}
 use Rattle.osm_repl.specs.declared.order_fault.OrderFault.{OrderFault}
-use Rattle.osm_repl.specs.declared.order_fault.OrderFault.TheVariants.{BadRange, Run}
+use Rattle.osm_repl.specs.declared.order_fault.OrderFault.TheVariants.{BadRange, Run, Script}
 
 -- the order is a run over the files: each is, except a replay
 abbrev pub IsOverFiles : Order → Type 0
@@ -60,6 +61,13 @@ GivesReport order = Unit {0}
 abbrev pub IsRunFault : (RunFault → Type 0) → OrderFault → Type 0
 IsRunFault P BadRange = ⊥
 IsRunFault P (Run fault) = P fault
+IsRunFault P (Script fault) = ⊥
+
+-- the fault is that of a replay
+abbrev pub IsScriptFault : (ScriptFault → Type 0) → OrderFault → Type 0
+IsScriptFault P BadRange = ⊥
+IsScriptFault P (Run fault) = ⊥
+IsScriptFault P (Script fault) = P fault
 
 -- the order is the word `follow`, which may be done up to a faulty number
 abbrev pub IsFollow : Order → Type 0
@@ -438,6 +446,6 @@ IsReplayed input printed after status = (status ≡ 0) × Replays input printed 
 
 -- why a replay isn't done, and what it leaves printed
 abbrev pub IsNotReplayed :
-    Option (List ℕ) → Option (List ℕ) → Option (List ℕ) → Option (List ℕ) → RunFault → Type 0
+    Option (List ℕ) → Option (List ℕ) → Option (List ℕ) → Option (List ℕ) → ScriptFault → Type 0
 IsNotReplayed input rest printed after fault =
     ReplayFault input rest fault × ReplayLeaves input printed after fault

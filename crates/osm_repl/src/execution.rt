@@ -6,12 +6,12 @@ ghost use Rattle.std.specs.Io.KnownBytes.{Appends};
 ghost use Rattle.osm_store.specs.Frames.{IsKnown};
 ghost use Rattle.osm_folder.specs.Runs.{Blames};
 ghost use Rattle.osm_folder.specs.Writing.{WritingFault};
-ghost use Rattle.osm_repl.specs.Auditing.{IsAudited, IsNotAudited, audit_fault_of};
+ghost use Rattle.osm_repl.specs.Auditing.{IsAuditFault, IsAudited, IsNotAudited};
 ghost use Rattle.osm_repl.specs.Execution.{CarriesOut, Does, DoesOver, GivesReport, HasFollowed};
 ghost use Rattle.osm_repl.specs.Execution.{IsDone, IsFaultLine, IsFollow, IsNotDone, IsNotReplayed};
 ghost use Rattle.osm_repl.specs.Execution.{IsOtherRun, IsOverFiles, IsReplayed, IsReportOf};
-ghost use Rattle.osm_repl.specs.Execution.{IsRunFault, Leaves, RunStops, StopsOver, TellsFault};
-ghost use Rattle.osm_repl.specs.Execution.{execution_of, layout_of};
+ghost use Rattle.osm_repl.specs.Execution.{IsRunFault, IsScriptFault, Leaves, RunStops, StopsOver};
+ghost use Rattle.osm_repl.specs.Execution.{TellsFault, execution_of, layout_of};
 
 use crate::auditing::audit_and_print;
 use crate::order_fault::OrderFault;
@@ -29,6 +29,7 @@ use osm_folder::report::{Report, fault_report};
 use osm_folder::writing::write_text;
 use osm_printing::show::show_in_blocks;
 use osm_round::round::follow_round;
+use osm_script::fault::ScriptFault;
 use osm_script::replay::replay_run;
 use osm_store::store::Store;
 use std::alloc::Global;
@@ -40,8 +41,9 @@ use std::io::{Read, Write};
 /// every other order runs over the files of the store, and then writes its report to `writer`,
 /// except `show`, which checks its save first and then writes while it reads the save again.
 ///
-/// Only an audit has the fault `BadRange`. On a fault nothing was written to `writer`, with four
-/// exceptions. On `WriteFault(Output)` a prefix of the report was, and the files that a run wrote
+/// Only an audit has the fault `BadRange`, and only a replay that of a script. On a fault nothing
+/// was written to `writer`, with four exceptions. On `WriteFault(Output)`, or a replay's
+/// `WriteFault`, a prefix of the report or of the replies was, and the files that a run wrote
 /// stay. If `show` can't read its save again, a prefix was too. The word `follow` may end with the
 /// fault of a faulty number, after it saved and reported the numbers before. In JSON the line of
 /// `fault_report`, or for an audit of `audit_fault_line`, is written, as far as `writer` takes it,
@@ -65,9 +67,9 @@ pub fn execute<S: Store, R: Read, W: Write>(
         (S.state store.new) options.layout dir.now from to (W.contents writer.old)
         (W.contents writer.new)) }
     ensures not_audited { (dir : Bor (List ℕ)) → (from to : Option (Bor (List ℕ)))
-        → order.entry ≡ Order.Audit dir from to → IfErr result (λ fault. IsNotAudited
+        → order.entry ≡ Order.Audit dir from to → IfErr result (IsAuditFault (IsNotAudited
         (S.state store.old) (S.state store.new) options.layout dir.now from to
-        (W.contents writer.old) (W.contents writer.new) (audit_fault_of fault)) }
+        (W.contents writer.old) (W.contents writer.new))) }
     ensures unchanged { (dir : Bor (List ℕ)) → (from to : Option (Bor (List ℕ)))
         → order.entry ≡ Order.Audit dir from to
         → (S.state store.new).files ≡ (S.state store.old).files }
@@ -75,7 +77,7 @@ pub fn execute<S: Store, R: Read, W: Write>(
     ensures replayed { order.entry ≡ Order.Replay → IfOk result (IsReplayed (R.remaining reader.old)
         (W.contents writer.old) (W.contents writer.new)) }
     ensures not_replayed { order.entry ≡ Order.Replay → IfErr result
-        (IsRunFault (IsNotReplayed (R.remaining reader.old) (R.remaining reader.new)
+        (IsScriptFault (IsNotReplayed (R.remaining reader.old) (R.remaining reader.new)
         (W.contents writer.old) (W.contents writer.new))) }
     ensures idle { order.entry ≡ Order.Replay → store.new ≡ store.old }
     ensures frame { CarriesOut order.entry (S.state store.old) (S.state store.new) result }
@@ -95,7 +97,11 @@ pub fn execute<S: Store, R: Read, W: Write>(
     }
 }
 
-fn replay<R: Read, W: Write>(alloc: Global, reader: &mut R, writer: &mut W) -> Result<u8, RunFault>
+fn replay<R: Read, W: Write>(
+    alloc: Global,
+    reader: &mut R,
+    writer: &mut W,
+) -> Result<u8, ScriptFault>
     ensures done { IfOk result (IsReplayed (R.remaining reader.old)
         (W.contents writer.old) (W.contents writer.new)) }
     ensures not_done { IfErr result
