@@ -39,6 +39,8 @@ use Rattle.osm_round.specs.Over.{FollowStopsOver}
 use Rattle.osm_round.specs.Rounds.{IsFollowed, IsFollowedBefore, IsFollowedPart, RoundStops}
 use Rattle.osm_script.specs.Replay.{ReplayFault, ReplayLeaves, Replays}
 use Rattle.osm_script.specs.declared.fault.ScriptFault.{ScriptFault}
+use Rattle.osm_repl.specs.declared.execution.Step.{Step}
+use Rattle.osm_repl.specs.declared.execution.Step.TheVariants.{Done, PartDone}
 use Rattle.osm_repl.specs.declared.orders.Order.{Order}
 use Rattle.osm_repl.specs.declared.orders.Order.TheVariants.{Replay, Publish, Follow, Lag, Show}
 use Rattle.osm_repl.specs.declared.orders.Order.TheVariants.{Audit, Begin, Convert, Export}
@@ -383,6 +385,15 @@ HasFollowed e (Whole report) = IsRun e report
 HasFollowed e (Part report applied count) =
     IsPartOf e.options e.order e.old e.new report applied count
 HasFollowed e (Before report fault) = Keeps e fault report
+
+-- what a step of it came to: all, with its status, or a part of so many numbers, whose lines were
+-- printed
+abbrev pub IsStep : Execution → Option (List ℕ) → Option (List ℕ) → Step → Type 0
+IsStep e printed after (Done status) = IsDone e printed after status
+IsStep e printed after (PartDone count) =
+    (report : ReportValue) × (applied : ReportValue)
+    × IsPartOf e.options e.order e.old e.new report applied count
+    × Appends printed after applied.text
 
 -- it took a part, but standard output didn't take all of its lines: no further one was begun
 pub record IsCutInPart (e : Execution) (printed after : Option (List ℕ)) (fault : RunFault) : Type 0

@@ -39,10 +39,12 @@ use std::io::{Read, Write};
 /// their save under the filter of the options; `follow` goes by their limit, and `follow`, `lag`
 /// and `audit` by their layout. A replay reads from `reader` and writes its replies to `writer`;
 /// every other order runs over the files of the store, and then writes its report to `writer`,
-/// except `show`, which checks its save first and then writes while it reads the save again.
+/// except `show`, which checks its save first and then writes while it reads the save again, and
+/// `follow`, which takes a part of what there is after another: each is saved, and what it applied
+/// is written, before the next one begins.
 ///
 /// Only an audit has the fault `BadRange`, and only a replay that of a script. On a fault nothing
-/// was written to `writer`, with four exceptions. On `WriteFault(Output)`, or a replay's
+/// was written to `writer`, with five exceptions. On `WriteFault(Output)`, or a replay's
 /// `WriteFault`, a prefix of the report or of the replies was, and the files that a run wrote
 /// stay. If `show` can't read its save again, a prefix was too. The word `follow` may end with the
 /// fault of a faulty number, after it saved and reported the numbers before. In JSON the line of
@@ -56,12 +58,13 @@ pub fn execute<S: Store, R: Read, W: Write>(
     reader: &mut R,
     writer: &mut W,
 ) -> Result<u8, OrderFault>
-    ensures done { GivesReport order.entry
-        → IfOk result (IsDone (execution_of options order.entry
-        (S.state store.old) (S.state store.new)) (W.contents writer.old) (W.contents writer.new)) }
-    ensures not_done { GivesReport order.entry
-        → IfErr result (IsRunFault (IsNotDone (execution_of options order.entry
-        (S.state store.old) (S.state store.new)) (W.contents writer.old) (W.contents writer.new))) }
+    ensures done { GivesReport order.entry → IfOk result (λ status. AfterParts (execution_of
+        options order.entry (S.state store.old) (S.state store.new)) (W.contents writer.old)
+        (λ rest printed. IsDone rest printed (W.contents writer.new) status)) }
+    ensures not_done { GivesReport order.entry → IfErr result (IsRunFault (λ fault.
+        AfterParts (execution_of options order.entry (S.state store.old) (S.state store.new))
+        (W.contents writer.old)
+        (λ rest printed. IsNotDone rest printed (W.contents writer.new) fault))) }
     ensures audited { (dir : Bor (List ℕ)) → (from to : Option (Bor (List ℕ)))
         → order.entry ≡ Order.Audit dir from to → IfOk result (IsAudited (S.state store.old)
         (S.state store.new) options.layout dir.now from to (W.contents writer.old)
@@ -133,6 +136,15 @@ fn run_and_print<S: Store, W: Write>(
     }
 }
 
+// What a step of the word `follow` came to.
+enum Step {
+    /// All that there was to take, with this status.
+    Done(u8),
+    /// A part of so many numbers.
+    PartDone(u32),
+}
+
+// Follows part after part, each of which is saved and printed before the next one begins.
 fn follow_and_print<S: Store, W: Write>(
     alloc: Global,
     order: Order<'_>,
@@ -141,20 +153,62 @@ fn follow_and_print<S: Store, W: Write>(
     writer: &mut W,
 ) -> Result<u8, RunFault>
     requires { IsFollow order }
-    ensures done { IfOk result (IsDone (execution_of options order.entry
+    ensures done { IfOk result (λ status. AfterParts (execution_of options order.entry
+        (S.state store.old) (S.state store.new)) (W.contents writer.old)
+        (λ rest printed. IsDone rest printed (W.contents writer.new) status)) }
+    ensures not_done { IfErr result (λ fault. AfterParts (execution_of options order.entry
+        (S.state store.old) (S.state store.new)) (W.contents writer.old)
+        (λ rest printed. IsNotDone rest printed (W.contents writer.new) fault)) }
+    ensures frame { CarriesOut order.entry (S.state store.old) (S.state store.new) result }
+{
+    let mut options = options;
+    'parts: loop {
+        match follow_step(alloc, order, &options, store, writer) {
+            Ok(Step::Done(status)) => return Ok(status),
+            Ok(Step::PartDone(count)) => options.limit = Some(left_of(options.limit, count)),
+            Err(fault) => return Err(fault),
+        }
+    }
+}
+
+// What is left of a limit after so many numbers.
+fn left_of(limit: Option<u32>, count: u32) -> u32
+    requires { IsLess limit (Progress.Part none none count) }
+    ensures { result ≡ left_of limit count }
+{
+    match limit {
+        Some(limit) => limit - count,
+        None => MAX_SEQUENCE - count,
+    }
+}
+
+// Follows all that there is, or a part of it, and prints that.
+fn follow_step<S: Store, W: Write>(
+    alloc: Global,
+    order: Order<'_>,
+    options: &FollowOptions,
+    store: &mut S,
+    writer: &mut W,
+) -> Result<Step, RunFault>
+    requires { IsFollow order }
+    ensures step { IfOk result (IsStep (execution_of options.now order.entry
         (S.state store.old) (S.state store.new)) (W.contents writer.old) (W.contents writer.new)) }
-    ensures not_done { IfErr result (IsNotDone (execution_of options order.entry
+    ensures less { IfOk result (IsStepLess options.now.limit) }
+    ensures not_done { IfErr result (IsNotDone (execution_of options.now order.entry
         (S.state store.old) (S.state store.new)) (W.contents writer.old) (W.contents writer.new)) }
     ensures frame { CarriesOut order.entry (S.state store.old) (S.state store.new) result }
 {
-    let layout = layout_of(&options, order);
     match follow(alloc, order, options, store) {
-        Ok(Progress::Whole(report)) => print(writer, &report),
+        Ok(Progress::Whole(report)) => Ok(Step::Done(print(writer, &report)?)),
+        Ok(Progress::Part { applied, count, .. }) => {
+            write_text(writer, applied.text())?;
+            Ok(Step::PartDone(count))
+        }
         Ok(Progress::Before(report, fault)) => {
             write_text(writer, report.text())?;
             Err(fault)
         }
-        Err(fault) => Err(tell_fault(alloc, layout, fault, writer)),
+        Err(fault) => Err(tell_fault(alloc, layout_of(options, order), fault, writer)),
     }
 }
 
@@ -253,16 +307,17 @@ fn run<S: Store>(
 fn follow<S: Store>(
     alloc: Global,
     order: Order<'_>,
-    options: FollowOptions,
+    options: &FollowOptions,
     store: &mut S,
 ) -> Result<Progress, RunFault>
     requires { IsFollow order }
     ensures followed { IfOk result (HasFollowed
-        (execution_of options order.entry (S.state store.old) (S.state store.new))) }
-    ensures stops { IfErr result (RunStops (IsKnown (S.state store.old)) options order.entry
+        (execution_of options.now order.entry (S.state store.old) (S.state store.new))) }
+    ensures less { IfOk result (IsLess options.now.limit) }
+    ensures stops { IfErr result (RunStops (IsKnown (S.state store.old)) options.now order.entry
         (S.state store.old).files (S.state store.new).files) }
     ensures refuses { IfErr result (λ fault. IsKnown (S.state store.old)
-        → StopsOver options order.entry (S.state store.old).files (S.state store.new).files fault) }
+        → StopsOver options.now order.entry (S.state store.old).files (S.state store.new).files fault) }
     ensures leaves { OnErr result (Leaves (IsKnown (S.state store.old)) order.entry
         (S.state store.old).files (S.state store.new).files) }
     ensures device { IfErr result
@@ -270,7 +325,7 @@ fn follow<S: Store>(
     ensures frame { CarriesOut order.entry (S.state store.old) (S.state store.new) result }
 {
     match order {
-        Order::Follow { dir, save } => follow_round(alloc, store, dir, save, &options),
+        Order::Follow { dir, save } => follow_round(alloc, store, dir, save, options),
         _ => unreachable!(),
     }
 }
