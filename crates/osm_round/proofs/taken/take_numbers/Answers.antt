@@ -146,8 +146,7 @@ returns-then-before-last-clause-full g c = λ end.
     let more = takes_more (IsKnown a) a.files c.args.dir.now c.args.filter.now c.args.taken.now.head (c.loop-before.before + 1) c.in-Ok-Some.more
     c.loop-before.taken c.take_number.new.taken (omega (arith, at)) i.taken took in
     let number = more.0 in
-    let below = c.if-before-last.true in
-    (
+    let below = c.if-before-last.true in (
       omega (arith, number, from),
       subst (λ n. Fills (IsKnown a) c.args.room (bytes_of a.files c.args.dir.now c.args.taken.now.head.number (n - c.args.taken.now.head.number))) (sym number)
           (fills_more (IsKnown a) c.args.room c.add-size.result _ (c.is_full.ensures c.if-is_full.true)
