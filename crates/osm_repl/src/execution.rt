@@ -7,7 +7,9 @@ ghost use Rattle.osm_store.specs.Frames.{IsKnown};
 ghost use Rattle.osm_folder.specs.Runs.{Blames};
 ghost use Rattle.osm_folder.specs.Writing.{WritingFault};
 ghost use Rattle.osm_repl.specs.Auditing.{IsAuditFault, IsAudited, IsNotAudited};
-ghost use Rattle.osm_repl.specs.Execution.{CarriesOut, Does, DoesOver, GivesReport, HasFollowed};
+ghost use Rattle.osm_round.specs.Rounds.{IsBelow, IsLess};
+ghost use Rattle.osm_repl.specs.Execution.{AfterParts, CarriesOut, Does, DoesOver, GivesReport};
+ghost use Rattle.osm_repl.specs.Execution.{HasFollowed, IsStep, IsStepLess, left_of};
 ghost use Rattle.osm_repl.specs.Execution.{IsDone, IsFaultLine, IsFollow, IsNotDone, IsNotReplayed};
 ghost use Rattle.osm_repl.specs.Execution.{IsOtherRun, IsOverFiles, IsReplayed, IsReportOf};
 ghost use Rattle.osm_repl.specs.Execution.{IsRunFault, IsScriptFault, Leaves, RunStops, StopsOver};
@@ -27,6 +29,7 @@ use osm_folder::publish::publish_run;
 use osm_folder::publish_as::publish_as_run;
 use osm_folder::report::{Report, fault_report};
 use osm_folder::writing::write_text;
+use osm_model::limits::MAX_SEQUENCE;
 use osm_printing::show::show_in_blocks;
 use osm_round::round::follow_round;
 use osm_script::fault::ScriptFault;
@@ -173,7 +176,7 @@ fn follow_and_print<S: Store, W: Write>(
 
 // What is left of a limit after so many numbers.
 fn left_of(limit: Option<u32>, count: u32) -> u32
-    requires { IsLess limit (Progress.Part none none count) }
+    requires { IsBelow limit count }
     ensures { result ≡ left_of limit count }
 {
     match limit {
