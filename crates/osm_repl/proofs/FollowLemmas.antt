@@ -13,28 +13,33 @@ use Rattle.osm_folder.specs.Reports.{ReportValue}
 use Rattle.osm_folder.specs.declared.fault.RunFault.{RunFault}
 use Rattle.osm_folder.specs.declared.options.FollowOptions.{FollowOptions}
 use Rattle.osm_folder.specs.declared.progress.Progress.{Progress}
-use Rattle.osm_folder.specs.declared.progress.Progress.TheVariants.{Whole, Before}
+use Rattle.osm_folder.specs.declared.progress.Progress.TheVariants.{Whole, Part, Before}
 use Rattle.osm_round.specs.Over.{FollowsOver}
 use Rattle.osm_round.specs.Rounds.{IsProgress}
-use Rattle.osm_repl.specs.Execution.{DoesOver, HasFollowed, StopsOver}
+use Rattle.osm_repl.specs.Execution.{DoesOver, HasFollowed, StopsOver, execution_of}
 use Rattle.osm_repl.specs.declared.orders.Order.TheVariants.{Follow, Lag}
 
 pub has_followed : (options : FollowOptions) (dir save : Bor (List ℕ)) (old new : StoreState) (r : Result Progress RunFault)
     → IfOk r (IsProgress (IsKnown old) options dir.now save.now old.files new.files) → IfOk r (IsProgressReport options.layout)
     → (IsKnown old → (p : List PublishedValue) (b n : ℕ) → IsFolderOf p old.files dir.now → IsSaveOf p options.filter b n (old.files save.now)
-    → IsWhole r (FollowsOver p options b n dir.now save.now old new))
-    → IfOk r (HasFollowed (IsKnown old) options (Follow dir save) old.files new.files)
+    → IsWhole options r (λ under. FollowsOver p under b n dir.now save.now old new))
+    → IfOk r (HasFollowed (execution_of options (Follow dir save) old new))
 has_followed options dir save old new (Ok (Whole report)) done is over = record {
   does = done;
   over = λ sure p b n folder saved. (over sure p b n folder saved).in_step;
   report_is = is;
+}
+has_followed options dir save old new (Ok (Part report applied count)) done is over = record {
+  part = done;
+  over = λ sure p b n folder saved. (over sure p b n folder saved).in_step;
+  form = is;
 }
 has_followed options dir save old new (Ok (Before report fault)) done is over = (done, is)
 has_followed options dir save old new (Err fault) done is over = tt
 
 pub stops_over : (options : FollowOptions) (dir save : Bor (List ℕ)) (old new : StoreState) (r : Result Progress RunFault)
     → (IsKnown old → (p : List PublishedValue) (b n : ℕ) → IsFolderOf p old.files dir.now → IsSaveOf p options.filter b n (old.files save.now)
-    → IsWhole r (FollowsOver p options b n dir.now save.now old new))
+    → IsWhole options r (λ under. FollowsOver p under b n dir.now save.now old new))
     → IfErr r (λ fault. IsKnown old → StopsOver options (Follow dir save) old.files new.files fault)
 stops_over options dir save old new (Ok progress) over = tt
 stops_over options dir save old new (Err fault) over = λ sure p b n folder saved. (over sure p b n folder saved).refuses

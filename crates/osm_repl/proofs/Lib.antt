@@ -4,5 +4,7 @@ pub mod EchoLemmas
 pub mod WordLemmas
 pub mod CommandLemmas
 pub mod FaultLineLemmas
+pub mod FrameLemmas
 pub mod FollowLemmas
+pub mod PartLemmas
 pub mod AuditLemmas

@@ -3,7 +3,8 @@ use Rattle.std.proofs.Common.{◌≡◌, ℕ, List, Option, inl, inr}
 use Rattle.std.specs.Prelude.{Result, IfErr}
 use Rattle.std.specs.Result.{IsErrAnd}
 use Rattle.std.specs.Borrow.{Bor}
-use Rattle.osm_store.specs.Files.{Files, HasFailed}
+use Rattle.osm_store.specs.Files.{HasFailed}
+use Rattle.osm_store.specs.Frames.{IsKnown, StoreState}
 use Rattle.osm_folder.specs.Reports.{ReportValue}
 use Rattle.osm_folder.specs.Runs.{Blames}
 use Rattle.osm_folder.specs.declared.fault.RunFault.{RunFault}
@@ -12,15 +13,16 @@ use Rattle.osm_folder.specs.declared.options.FollowOptions.{FollowOptions}
 use Rattle.osm_printing.specs.Printing.{IsCutOff, IsNotPrinted, IsReadFault, IsRefused, IsShowOf}
 use Rattle.osm_checked.specs.Checking.{ReadStops}
 use Rattle.osm_folder.proofs.ResultLemmas.{same_err}
-use Rattle.osm_repl.specs.Execution.{IsNotDone, IsRun, IsRunFault}
+use Rattle.osm_repl.proofs.PartLemmas.{at_once}
+use Rattle.osm_repl.specs.Execution.{AfterParts, IsNotDone, IsRun, IsRunFault, execution_of}
 use Rattle.osm_repl.specs.declared.orders.Order.{Order}
 use Rattle.osm_repl.specs.declared.order_fault.OrderFault.{OrderFault}
 use Rattle.osm_repl.specs.declared.order_fault.OrderFault.TheVariants.{Run}
 use Rattle.osm_repl.specs.declared.orders.Order.TheVariants.{Show}
 
-is_run : (known : Type 0) (options : FollowOptions) (save : Bor (List ℕ)) (old new : Files) (report : ReportValue)
-    → IsShowOf known (old save.now) report → IsRun known options (Show save) old new report
-is_run known options save old new report is = record {
+is_run : (options : FollowOptions) (save : Bor (List ℕ)) (old new : StoreState) (report : ReportValue)
+    → IsShowOf (IsKnown old) (old.files save.now) report → IsRun (execution_of options (Show save) old new) report
+is_run options save old new report is = record {
   does = is.shown;
   over = is.in_step;
   report_is = is.form;
@@ -32,30 +34,34 @@ blames known told failed fails (ReadFault file) stops h = h
 blames known told failed fails (WriteFault file) stops h = absurd stops
 blames known told failed fails fault stops h = λ bad. absurd bad
 
-pub show_not_done : (known : Type 0) (options : FollowOptions) (save : Bor (List ℕ)) (old new : Files) (failed fails : ℕ) (printed after : Option (List ℕ))
-    (fault : RunFault) → IsNotPrinted known (old save.now) printed after fault → new ≡ old → (IsReadFault fault → HasFailed failed fails)
-    → IsNotDone known options (Show save) old new failed fails printed after fault
-show_not_done known options save old new failed fails printed after fault (inl refused) same h = inl (record {
-  stops = refused.stops;
-  over = λ sure. tt;
-  leaves = same;
-  device = blames known (old save.now) failed fails fault refused.stops h;
+pub show_not_done : (options : FollowOptions) (save : Bor (List ℕ)) (old new : StoreState) (printed after : Option (List ℕ)) (fault : RunFault)
+    → IsNotPrinted (IsKnown old) (old.files save.now) printed after fault → new.files ≡ old.files
+    → (IsReadFault fault → HasFailed old.failures new.failures) → IsNotDone (execution_of options (Show save) old new) printed after fault
+show_not_done options save old new printed after fault (inl refused) same h = inl (record {
+  stopped = record {
+    stops = refused.stops;
+    over = λ sure. tt;
+    leaves = same;
+    device = blames (IsKnown old) (old.files save.now) old.failures new.failures fault refused.stops h;
+  };
   told = refused.nothing;
 })
-show_not_done known options save old new failed fails printed after fault (inr cut) same h = inr (inr (inr (inr (record {
+show_not_done options save old new printed after fault (inr cut) same h = inr (inr (inr (inr (inr (record {
   report = cut.report;
-  run = is_run known options save old new cut.report cut.is;
+  run = is_run options save old new cut.report cut.is;
   stops = cut.stops;
   leaves = same;
   device = h;
   count = cut.count;
   some = cut.some;
-}))))
+})))))
 
-pub show_refused : {T : Type 0} (known : Type 0) (options : FollowOptions) (order : Order) (save : Bor (List ℕ)) (old new : Files) (failed fails : ℕ)
-    (printed after : Option (List ℕ)) (fault : RunFault) (r : Result T OrderFault) → order ≡ Show save → IsErrAnd r (λ e. e ≡ Run fault)
-    → IsNotPrinted known (old save.now) printed after fault → new ≡ old → (IsReadFault fault → HasFailed failed fails)
-    → IfErr r (IsRunFault (IsNotDone known options order old new failed fails printed after))
-show_refused known options order save old new failed fails printed after fault r is err not same h =
-    same_err (IsRunFault (IsNotDone known options order old new failed fails printed after)) r (Run fault) err
-    (rw is (show_not_done known options save old new failed fails printed after fault not same h))
+pub show_refused : {T : Type 0} (options : FollowOptions) (order : Order) (save : Bor (List ℕ)) (old new : StoreState) (printed after : Option (List ℕ))
+    (fault : RunFault) (r : Result T OrderFault) → order ≡ Show save → IsErrAnd r (λ e. e ≡ Run fault)
+    → IsNotPrinted (IsKnown old) (old.files save.now) printed after fault → new.files ≡ old.files
+    → (IsReadFault fault → HasFailed old.failures new.failures)
+    → IfErr r (IsRunFault (λ x. AfterParts (execution_of options order old new) printed (λ rest before. IsNotDone rest before after x)))
+show_refused options order save old new printed after fault r is err not same h =
+    same_err (IsRunFault (λ x. AfterParts (execution_of options order old new) printed (λ rest before. IsNotDone rest before after x))) r (Run fault) err
+    (rw is (at_once options (Show save) old new printed (λ rest before. IsNotDone rest before after fault)
+    (show_not_done options save old new printed after fault not same h)))

@@ -1,0 +1,162 @@
+-- The word `follow`, part after part.
+use Rattle.std.proofs.Common.{◌≡◌, ℕ, zero, suc, ◌-◌, ◌+◌, ◌<◌, ◌≤◌, List, Option, Some, None, arith, refl, sym, ap, subst, ◌∙◌}
+use Rattle.std.specs.Prelude.{Result, Ok, Err, IfErr, IfOk, IsTrue, OnOk, Bool}
+use Rattle.osm_model.specs.Limits.{max_sequence}
+use Rattle.osm_store.proofs.FileLemmas.{spends_both}
+use Rattle.osm_store.specs.Files.{Spends}
+use Rattle.osm_store.specs.Frames.{IsKnown, StoreState}
+use Rattle.osm_folder.specs.Reports.{ReportValue}
+use Rattle.osm_folder.specs.declared.options.FollowOptions.{FollowOptions}
+use Rattle.osm_round.specs.Rounds.{IsBelow}
+use Rattle.osm_repl.specs.Execution.{AfterParts, CarriesOut, ComesFrom, Execution, IsFollow, IsPartOf, IsStep, IsUntouched, Place, calls_of}
+use Rattle.osm_repl.specs.Execution.{execution_of, left_of, options_after}
+use Rattle.osm_repl.specs.declared.execution.Step.TheVariants.{Done, PartDone}
+use Rattle.osm_repl.specs.declared.orders.Order.{Order}
+use Rattle.osm_repl.specs.declared.orders.Order.TheVariants.{Replay, Publish, PublishAs, Follow, Lag, Show}
+use Rattle.osm_repl.specs.declared.orders.Order.TheVariants.{Audit, Begin, Convert, Export}
+
+comes_at_once : (order : Order) (from : Place) → ComesFrom order zero from from
+comes_at_once (Follow dir save) from = refl
+comes_at_once Replay from = refl
+comes_at_once (Publish dir changes now) from = refl
+comes_at_once (PublishAs dir changes now sequence) from = refl
+comes_at_once (Lag dir save) from = refl
+comes_at_once (Show save) from = refl
+comes_at_once (Audit dir from to) place = refl
+comes_at_once (Begin base state save) from = refl
+comes_at_once (Convert input output) from = refl
+comes_at_once (Export save output) from = refl
+
+-- a run that isn't one part after another
+pub at_once : (options : FollowOptions) (order : Order) (old new : StoreState) (printed : Option (List ℕ)) (holds : Execution → Option (List ℕ) → Type 0)
+    → holds (execution_of options order old new) printed → AfterParts (execution_of options order old new) printed holds
+at_once options order old new printed holds h = record {
+  parts = zero;
+  place = record { options = options; store = old; printed = printed };
+  comes = comes_at_once order (record { options = options; store = old; printed = printed });
+  rest = h;
+}
+
+-- ---- frames
+
+-- calls before others
+pub carries_then : {T E : Type 0} (order : Order) (a b c : StoreState) (r : Result T E) → CarriesOut {T = Unit {0}} {E = Unit {0}} order a b (Err tt)
+    → CarriesOut order b c r → CarriesOut order a c r
+carries_then order a b c r first last = record {
+  untouched = λ sure name own. last.untouched (subst (λ (t : Bool). IsTrue t) (sym first.known) sure) name own ∙ first.untouched sure name own;
+  known = last.known ∙ first.known;
+  left = spent r last.left;
+  left_after = spends_both 0 0 0 a.left b.left c.left (omega arith) first.left_after last.left_after;
+  kept = (let early = first.kept in let late = last.kept in omega (arith, early, late));
+}
+  where
+    spent : (r : Result T E) → OnOk r (Spends (calls_of order) b.left c.left) → OnOk r (Spends (calls_of order) a.left c.left)
+    spent (Ok x) h = spends_both 0 (calls_of order) (calls_of order) a.left b.left c.left (omega arith) first.left_after h
+    spent (Err e) h = tt
+
+-- of calls that weren't all
+pub carries_some : {T E : Type 0} (order : Order) (a b : StoreState) (r : Result T E) → CarriesOut order a b r
+    → CarriesOut {T = Unit {0}} {E = Unit {0}} order a b (Err tt)
+carries_some order a b r h = record {
+  untouched = h.untouched;
+  known = h.known;
+  left = tt;
+  left_after = h.left_after;
+  kept = h.kept;
+}
+
+-- no call
+pub carries_none : {T E : Type 0} (order : Order) (a : StoreState) (r : Result T E) → (OnOk r (calls_of order ≡ 0)) → CarriesOut order a a r
+carries_none order a r none = record {
+  untouched = λ sure name own. refl;
+  known = refl;
+  left = spent r none;
+  left_after = same 0 a.left refl;
+  kept = omega arith;
+}
+  where
+    same : (n : ℕ) (left : Option ℕ) → n ≡ 0 → Spends n left left
+    same n None is = refl
+    same n (Some m) is = (m, refl, omega (arith, is))
+
+    spent : (r : Result T E) → OnOk r (calls_of order ≡ 0) → OnOk r (Spends (calls_of order) a.left a.left)
+    spent (Ok x) is = same (calls_of order) a.left is
+    spent (Err e) is = tt
+
+-- ---- parts
+
+-- some parts were taken, one after the other
+pub record Follows (order : Order) (options : FollowOptions) (old : StoreState) (printed : Option (List ℕ)) (here : Place) : Type 0 where
+  pub parts : ℕ
+  pub comes : ComesFrom order parts (record { options = options; store = old; printed = printed }) here
+  pub frame : CarriesOut {T = Unit {0}} {E = Unit {0}} order old here.store (Err tt)
+
+pub begins : (order : Order) (options : FollowOptions) (old : StoreState) (printed : Option (List ℕ))
+    → Follows order options old printed (record { options = options; store = old; printed = printed })
+begins order options old printed = record {
+  parts = zero;
+  comes = comes_at_once order (record { options = options; store = old; printed = printed });
+  frame = carries_none order old (Err tt) tt;
+}
+
+-- and one more
+comes_more : (order : Order) (parts : ℕ) (start here : Place) (new : StoreState) (after : Option (List ℕ)) (count : ℕ) → IsFollow order
+    → ComesFrom order parts start here → IsStep (execution_of here.options order here.store new) here.printed after (PartDone count)
+    → new.is_known ≡ here.store.is_known
+    → ComesFrom order (suc parts) start (record { options = options_after here.options count; store = new; printed = after })
+comes_more (Follow dir save) parts start here new after count is comes (report, applied, part, all) known = (
+  here,
+  comes,
+  record {
+    report = report;
+    applied = applied;
+    count = count;
+    part = part;
+    all = all;
+    options_are = refl;
+    known = known;
+  },
+)
+comes_more order parts start here new after count is comes step known = absurd is
+
+pub goes_on : (order : Order) (options : FollowOptions) (old : StoreState) (printed : Option (List ℕ)) (here : Place) (new : StoreState)
+    (after : Option (List ℕ)) (count : ℕ) → IsFollow order → Follows order options old printed here
+    → IsStep (execution_of here.options order here.store new) here.printed after (PartDone count)
+    → CarriesOut {T = Unit {0}} {E = Unit {0}} order here.store new (Err tt)
+    → Follows order options old printed (record { options = options_after here.options count; store = new; printed = after })
+goes_on order options old printed here new after count is f step frame = record {
+  parts = suc f.parts;
+  comes = comes_more order f.parts _ here new after count is f.comes step frame.known;
+  frame = carries_then order old here.store new (Err tt) f.frame frame;
+}
+
+-- and then the rest
+pub at_end : (order : Order) (options : FollowOptions) (old : StoreState) (printed : Option (List ℕ)) (here : Place) (new : StoreState)
+    (holds : Execution → Option (List ℕ) → Type 0) → Follows order options old printed here
+    → holds (execution_of here.options order here.store new) here.printed → AfterParts (execution_of options order old new) printed holds
+at_end order options old printed here new holds f h = record {
+  parts = f.parts;
+  place = here;
+  comes = f.comes;
+  rest = h;
+}
+
+-- ---- a part makes what is left smaller
+
+pub measure : Option ℕ → ℕ
+measure None = suc max_sequence
+measure (Some limit) = limit
+
+some_taken : (e : Execution) (order : Order) (report applied : ReportValue) (count : ℕ) → IsPartOf e.options order e.old e.new report applied count → 0 < count
+some_taken e (Follow dir save) report applied count part = part.form.some
+some_taken e order report applied count part = absurd part
+
+pub falls : (options : FollowOptions) (order : Order) (old new : StoreState) (printed after : Option (List ℕ)) (count : ℕ)
+    → IsStep (execution_of options order old new) printed after (PartDone count) → IsBelow options.limit count
+    → measure (Some (left_of options.limit count)) < measure options.limit
+falls options order old new printed after count (report, applied, part, all) below =
+    by_limit options.limit (some_taken (execution_of options order old new) order report applied count part) below
+  where
+    by_limit : (limit : Option ℕ) → 0 < count → IsBelow limit count → measure (Some (left_of limit count)) < measure limit
+    by_limit None some below = omega (arith, some, below)
+    by_limit (Some limit) some below = omega (arith, some, below)
