@@ -7,7 +7,7 @@ use Rattle.osm_store.specs.Files.{Spends}
 use Rattle.osm_store.specs.Frames.{IsKnown, StoreState}
 use Rattle.osm_folder.specs.Reports.{ReportValue}
 use Rattle.osm_folder.specs.declared.options.FollowOptions.{FollowOptions}
-use Rattle.osm_round.specs.Rounds.{IsBelow}
+use Rattle.osm_round.specs.Rounds.{MayTakeMore}
 use Rattle.osm_repl.specs.Execution.{AfterParts, CarriesOut, ComesFrom, Execution, IsFollow, IsPartOf, IsStep, IsUntouched, Place, calls_of}
 use Rattle.osm_repl.specs.Execution.{execution_of, left_of, options_after}
 use Rattle.osm_repl.specs.declared.execution.Step.TheVariants.{Done, PartDone}
@@ -152,11 +152,11 @@ some_taken e (Follow dir save) report applied count part = part.form.some
 some_taken e order report applied count part = absurd part
 
 pub falls : (options : FollowOptions) (order : Order) (old new : StoreState) (printed after : Option (List ℕ)) (count : ℕ)
-    → IsStep (execution_of options order old new) printed after (PartDone count) → IsBelow options.limit count
+    → IsStep (execution_of options order old new) printed after (PartDone count) → MayTakeMore options.limit count
     → measure (Some (left_of options.limit count)) < measure options.limit
 falls options order old new printed after count (report, applied, part, all) below =
     by_limit options.limit (some_taken (execution_of options order old new) order report applied count part) below
   where
-    by_limit : (limit : Option ℕ) → 0 < count → IsBelow limit count → measure (Some (left_of limit count)) < measure limit
+    by_limit : (limit : Option ℕ) → 0 < count → MayTakeMore limit count → measure (Some (left_of limit count)) < measure limit
     by_limit None some below = omega (arith, some, below)
     by_limit (Some limit) some below = omega (arith, some, below)

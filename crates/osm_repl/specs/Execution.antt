@@ -36,7 +36,7 @@ use Rattle.osm_folder.specs.declared.progress.Progress.TheVariants.{Whole, Part,
 use Rattle.osm_printing.specs.Printing.{CopyStops, IsReadFault, IsShowReport, IsShown, IsShownOf}
 use Rattle.osm_checked.specs.Checking.{ReadStops}
 use Rattle.osm_round.specs.Over.{FollowStopsOver}
-use Rattle.osm_round.specs.Rounds.{IsBelow, IsFollowed, IsFollowedBefore, IsFollowedPart}
+use Rattle.osm_round.specs.Rounds.{MayTakeMore, IsFollowed, IsFollowedBefore, IsFollowedPart}
 use Rattle.osm_round.specs.Rounds.{RoundStops}
 use Rattle.osm_script.specs.Replay.{ReplayFault, ReplayLeaves, Replays}
 use Rattle.osm_script.specs.declared.fault.ScriptFault.{ScriptFault}
@@ -398,7 +398,7 @@ IsStep e printed after (PartDone count) =
 
 -- a part is less than it may take
 abbrev pub IsStepLess : Option ℕ → Step → Type 0
-IsStepLess limit (PartDone count) = IsBelow limit count
+IsStepLess limit (PartDone count) = MayTakeMore limit count
 IsStepLess limit (Done status) = Unit {0}
 
 -- it took a part, but standard output didn't take all of its lines: no further one was begun

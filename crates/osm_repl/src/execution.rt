@@ -7,7 +7,7 @@ ghost use Rattle.osm_store.specs.Frames.{IsKnown};
 ghost use Rattle.osm_folder.specs.Runs.{Blames};
 ghost use Rattle.osm_folder.specs.Writing.{WritingFault};
 ghost use Rattle.osm_repl.specs.Auditing.{IsAuditFault, IsAudited, IsNotAudited};
-ghost use Rattle.osm_round.specs.Rounds.{IsBelow, IsLess};
+ghost use Rattle.osm_round.specs.Rounds.{MayTakeMore, IsLess};
 ghost use Rattle.osm_repl.specs.Execution.{AfterParts, CarriesOut, Does, DoesOver, GivesReport};
 ghost use Rattle.osm_repl.specs.Execution.{HasFollowed, IsStep, IsStepLess, left_of};
 ghost use Rattle.osm_repl.specs.Execution.{IsDone, IsFaultLine, IsFollow, IsNotDone, IsNotReplayed};
@@ -176,7 +176,7 @@ fn follow_and_print<S: Store, W: Write>(
 
 // What is left of a limit after so many numbers.
 fn left_of(limit: Option<u32>, count: u32) -> u32
-    requires { IsBelow limit count }
+    requires { MayTakeMore limit count }
     ensures { result ≡ left_of limit count }
 {
     match limit {
