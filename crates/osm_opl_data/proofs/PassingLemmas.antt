@@ -14,13 +14,12 @@ use Rattle.osm_reading.proofs.PieceLemmas.{pieces_whole}
 use Rattle.osm_blocks.specs.Places.{IsLine, Place, Opens, ReadStops, left_of, max_block, past}
 use Rattle.osm_blocks.specs.declared.fault.BlockFault.{BlockFault}
 use Rattle.osm_blocks.specs.declared.fault.BlockFault.TheVariants as blocks
-use Rattle.osm_data.specs.Reading.{NextStops}
+use Rattle.osm_data.specs.Reading.{NextStops, blocks_fault_of}
 use Rattle.osm_data.specs.declared.fault.DataFault.{DataFault}
 use Rattle.osm_data.specs.declared.fault.DataFault.TheVariants.{Device, WantOfMemory, NoFile, BadData, LongPart, TooLarge}
 use Rattle.osm_opl.specs.File.{DataFaultLine, SpellsData, SpellsLines, none, skipped, change}
 use Rattle.osm_opl.proofs.FileLaws.{lines_append}
 use Rattle.osm_opl_data.specs.Reading.{EndsOrStands, HasLongLine, HasPassed, HasRead, Stands, last_key}
-use Rattle.osm_opl_data.specs.Steps.Faults.{lines_fault_of}
 use Rattle.osm_opl_data.specs.Steps.Objects.{AddStops, Adds, GivesObject, Keeps, LineStops}
 use Rattle.osm_opl_data.specs.Steps.Passing.{Begins, IsLast, PassesLine, RestStops, line_of}
 use Rattle.osm_opl_data.specs.declared.opl_data.OplData.{OplData}
@@ -246,7 +245,7 @@ line_unread mid file left count objects fault within p same found is stop =
 
 -- why no line is found
 pub unfound : (reader : OplData) (file : List ℕ) (objects : List ChangeValue) (fault : BlockFault) → Stands reader file objects
-    → ReadStops file reader.reader fault → NextStops DataFaultLine HasLongLine file (lines_fault_of fault)
+    → ReadStops file reader.reader fault → NextStops DataFaultLine HasLongLine file (blocks_fault_of fault)
 unfound reader file objects blocks.Device s stop = tt
 unfound reader file objects blocks.WantOfMemory s stop = tt
 unfound reader file objects blocks.TooLarge s stop = stop

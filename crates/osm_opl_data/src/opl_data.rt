@@ -14,11 +14,11 @@ ghost use Rattle.osm_opl_data.specs.Steps.Objects.{AddStops};
 ghost use Rattle.osm_opl_data.specs.Steps.Passing.{Begins, Goes, IsLast, PassesLine, RestStops};
 ghost use Rattle.osm_opl_data.specs.Steps.Passing.{line_of};
 
-use crate::fault::{fault_of_lines, fault_of_store};
+use crate::fault::fault_of_store;
 use crate::so_far::SoFar;
 use osm_blocks::line_reader::LineReader;
 use osm_data::data_reader::DataReader;
-use osm_data::fault::DataFault;
+use osm_data::fault::{DataFault, fault_of_blocks};
 use osm_model::change::Change;
 use osm_opl::data::laws_of_data;
 use osm_reading::lines::split_line;
@@ -66,7 +66,7 @@ impl DataReader for OplData {
         match LineReader::open(alloc, store, name) {
             Ok(Some(reader)) => Ok(OplData::begin(reader)),
             Ok(None) => Err(DataFault::NoFile),
-            Err(fault) => Err(fault_of_lines(fault)),
+            Err(fault) => Err(fault_of_blocks(fault)),
         }
     }
 
@@ -182,7 +182,7 @@ impl OplData {
                 Ok(is_more) => Ok(is_more),
                 Err(fault) => Err(fault),
             },
-            Err(fault) => Err(fault_of_lines(fault)),
+            Err(fault) => Err(fault_of_blocks(fault)),
         }
     }
 

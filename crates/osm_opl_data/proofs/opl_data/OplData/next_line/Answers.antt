@@ -99,4 +99,4 @@ returns-in-Err-clause-stops g c = λ file done has read.
     let old : OplData = c.args.self.now in
     let stands : Stands old file (done ++ c.args.objects.now.items) =
     subst (λ (t : Bool). EndsOrStands t old file (done ++ c.args.objects.now.items)) c.if-self.false read.reads in
-    rw c.fault_of_lines.ensures (unfound old file (done ++ c.args.objects.now.items) c.in-Err.fault stands (c.in-Err.ensures.found file has))
+    rw c.fault_of_blocks.ensures (unfound old file (done ++ c.args.objects.now.items) c.in-Err.fault stands (c.in-Err.ensures.found file has))
