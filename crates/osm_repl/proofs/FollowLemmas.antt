@@ -1,11 +1,12 @@
 -- What the words `follow` and `lag` do, as their orders ask for.
-use Rattle.std.proofs.Common.{ℕ, List}
+use Rattle.std.proofs.Common.{◌≡◌, ℕ, List}
 use Rattle.std.specs.Prelude.{Result, Ok, Err, IfErr, IfOk}
 use Rattle.std.specs.Borrow.{Bor}
 use Rattle.osm_model.specs.Filter.{FilterValue}
 use Rattle.osm_follow.specs.Published.{PublishedValue}
 use Rattle.osm_folder.specs.Folder.{IsFolderOf}
 use Rattle.osm_folder.specs.Following.{IsSaveOf}
+use Rattle.osm_store.specs.Files.{Files}
 use Rattle.osm_store.specs.Frames.{IsKnown, StoreState}
 use Rattle.osm_folder.specs.Lagging.{LagsOver}
 use Rattle.osm_folder.specs.Progress.{IsProgressReport, IsWhole}
@@ -57,3 +58,10 @@ pub lag_stops : (options : FollowOptions) (dir save : Bor (List ℕ)) (old new :
     → IfErr r (λ fault. IsKnown old → StopsOver options (Lag dir save) old.files new.files fault)
 lag_stops options dir save old new (Ok report) over = tt
 lag_stops options dir save old new (Err fault) over = λ sure p own b n folder saved. (over sure p own b n folder saved).refuses
+
+-- a run changes no file but its save
+pub follow_others : (known : Type 0) (options : FollowOptions) (dir save : List ℕ) (old new : Files) (progress : Progress) → known
+    → IsProgress known options dir save old new progress → (name : List ℕ) → (name ≡ save → ⊥) → new name ≡ old name
+follow_others known options dir save old new (Whole report) sure done = (done sure).put.others
+follow_others known options dir save old new (Part report applied count) sure done = (done sure).followed.put.others
+follow_others known options dir save old new (Before report fault) sure done = (done sure).put.others

@@ -1,7 +1,9 @@
+use Rattle.std.proofs.Common.{refl}
 use Rattle.std.specs.Prelude.{Result, Ok, Err, IfOk, OnOk}
 use Rattle.osm_folder.proofs.OverLemmas.{number_adds}
 use Rattle.osm_folder.proofs.OverLemmas.{number_keeps, number_refuses, publish_adds, publish_keeps, publish_refuses}
 use Rattle.osm_repl.proofs.FollowLemmas.{lag_does, lag_stops}
+use Rattle.osm_repl.proofs.FrameLemmas.{others_of, reads, replaces, replaces_once, writes}
 use Rattle.osm_repl.proofs.execution.run.Goals as goal
 
 -- what each run ensures is what its order asks for
@@ -48,3 +50,31 @@ of_any P (Err e) p = tt
 
 pub returns-in-Export-clause-over : goal.returns-in-Export-clause-over
 returns-in-Export-clause-over g c = rw c.in-Export.is (of_any _ c.export_run.result c.export_run.ensures.in_step)
+
+-- ---- what it leaves as it was
+
+pub returns-in-Publish-clause-frame : goal.returns-in-Publish-clause-frame
+returns-in-Publish-clause-frame g c = rw c.in-Publish.is
+    (writes _ _ _ _ _ _ c.publish_run.result refl c.publish_run.ensures.frame c.publish_run.ensures.others)
+
+pub returns-in-PublishAs-clause-frame : goal.returns-in-PublishAs-clause-frame
+returns-in-PublishAs-clause-frame g c = rw c.in-PublishAs.is
+    (writes _ _ _ _ _ _ c.publish_as_run.result refl c.publish_as_run.ensures.frame c.publish_as_run.ensures.others)
+
+pub returns-in-Begin-clause-frame : goal.returns-in-Begin-clause-frame
+returns-in-Begin-clause-frame g c = rw c.in-Begin.is
+    (replaces _ _ c.in-Begin.save.now _ _ c.begin_run.result (λ name own. own) c.begin_run.ensures.frame c.begin_run.ensures.spends
+    (others_of _ _ c.begin_run.result c.begin_run.ensures.begun (λ report begun. λ sure. (begun sure).put.others)))
+
+pub returns-in-Lag-clause-frame : goal.returns-in-Lag-clause-frame
+returns-in-Lag-clause-frame g c = rw c.in-Lag.is (reads _ _ _ _ _ _ c.lag_run.result refl c.lag_run.ensures.frame)
+
+pub returns-in-Export-clause-frame : goal.returns-in-Export-clause-frame
+returns-in-Export-clause-frame g c = rw c.in-Export.is
+    (replaces _ _ c.in-Export.output.now _ _ c.export_run.result (λ name own. own) c.export_run.ensures.frame c.export_run.ensures.spends
+    (others_of _ _ c.export_run.result (of_any _ c.export_run.result c.export_run.ensures.exported) (λ report made. λ sure. (made sure).put.others)))
+
+pub returns-in-Convert-clause-frame : goal.returns-in-Convert-clause-frame
+returns-in-Convert-clause-frame g c = rw c.in-Convert.is
+    (replaces_once _ _ c.in-Convert.output.now _ _ _ _ c.convert_run.result refl (λ name own. own) c.convert_run.ensures.frame
+    (others_of _ _ c.convert_run.result (of_any _ c.convert_run.result c.convert_run.ensures.converted) (λ report made. λ sure. (made sure).put.others)))

@@ -7,10 +7,12 @@ use Rattle.osm_repl.proofs.execution.run_and_print.Goals as goal
 pub returns-in-Err-clause-not_done : goal.returns-in-Err-clause-not_done
 returns-in-Err-clause-not_done g c =
     rw c.tell_fault.ensures.stands (inl (record {
-      stops = c.in-Err.ensures.stops;
-      over = c.in-Err.ensures.refuses;
-      leaves = c.in-Err.ensures.leaves;
-      device = c.in-Err.ensures.device;
+      stopped = record {
+        stops = c.in-Err.ensures.stops;
+        over = c.in-Err.ensures.refuses;
+        leaves = c.in-Err.ensures.leaves;
+        device = c.in-Err.ensures.device;
+      };
       told = subst (λ (layout : Layout). TellsFault layout c.in-Err.fault (g.W.Write.contents c.args.writer.now)
           (g.W.Write.contents c.tell_fault.new.writer)) c.layout_of-layout.ensures c.tell_fault.ensures.told;
     }))
