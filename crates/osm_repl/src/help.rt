@@ -106,10 +106,14 @@ pub(crate) const FOLLOWING: &str = "As in
 Each number after the save's is taken from its .o5c file, or if there is none, from its .opl file.
 A number is missing if it has no state file, or neither change file: SAVE goes up to the number
 before the first missing one. After that one it is only asked which files are there.
-At the end, after SAVE is written if anything is new, this is printed:
+After SAVE is written if anything is new, this is printed:
   applied LOW..HIGH  for each step
+and at the end:
   missing K          for each missing number, up to N + 64; the status is then 1
   number N           the number that SAVE is at
+
+A run goes part by part: once the change files that it took have 16 MiB, it writes SAVE, prints what
+it applied, and goes on. What a run that is stopped has printed as applied is in SAVE.
 
 A file that is there but faulty stops the run at its number, with the place and the cause: SAVE and
 what was printed are those of the numbers before it. Put the right file there, or remove it, and
@@ -119,7 +123,8 @@ With --limit N the run takes at most N numbers, from 1 to 999999999, as if the f
 the numbers after them aren't looked at, and the status isn't 1 because of them. Any other limit is
 refused: 'bad limit'.
 
-With --json one line is printed instead, an object of JSON, also after a fault:
+With --json one line is printed instead, an object of JSON, also after a fault, and all numbers are
+taken at once:
   applied  [[LOW,HIGH],..], the ranges that were applied
   base     the number after which edits are counted
   behind   how many numbers SAVE is behind the folder

@@ -283,6 +283,6 @@ fn is_followed<S: Files>(
     let options = FollowOptions::new(Filter::all(alloc));
     match follow_round(alloc, store, folder, save, &options) {
         Ok(Progress::Whole(report)) => report.text() == text,
-        Ok(Progress::Before(_, _)) | Err(_) => false,
+        Ok(Progress::Part { .. } | Progress::Before(_, _)) | Err(_) => false,
     }
 }
