@@ -1,0 +1,5 @@
+use Rattle.osm_journal.proofs.JournalLemmas.{one_journal}
+use Rattle.osm_journal.proofs.journal.laws_of_journals.Goals as goal
+
+pub returns-clause-one_journal : goal.returns-clause-one_journal
+returns-clause-one_journal c = one_journal
