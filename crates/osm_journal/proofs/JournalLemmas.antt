@@ -4,6 +4,16 @@ use Rattle.std.proofs.Common.{true, Some, None, Option, subst, arith}
 use Rattle.std.specs.Prelude.{◌==◌, nat_lt, if◌then◌else◌, codes, decimal, IfOk, IfErr, Result, Ok, Err}
 use Rattle.std.proofs.lemmas.Bool.Decides.{nat_tests}
 use Rattle.std.proofs.lemmas.List.{append_assoc}
+use Rattle.std.specs.Io.{StartsWith}
+use Rattle.std.proofs.Math.Seq.{take-append_seam}
+use Rattle.osm_opl.specs.Written.{line_text}
+use Rattle.osm_save.specs.declared.save.Saved.{Saved}
+use Rattle.osm_save.specs.Head.{head_of}
+use Rattle.osm_save.specs.Lines.{list_lines}
+use Rattle.osm_save.specs.Save.{count_text, save_text}
+use Rattle.osm_save.proofs.TextLemmas.{mirror_text, save_text_is}
+use Rattle.osm_journal.specs.Journal.{save_start}
+use Rattle.std.proofs.Common.{map, take}
 use Rattle.std.proofs.lemmas.Option.{same_Some}
 use Rattle.osm_model.specs.CivilTime.{time_text}
 use Rattle.osm_model.specs.Filter.{FilterValue, IsFilter}
@@ -259,12 +269,15 @@ opening_parts : (j : JournalValue) (many last : ℕ) (rest : List ℕ) → lengt
     → codes "osmrepl-journal 1" ++ 10 ∷ before (head_lines j.version j.head j.kept_by)
     (before ((codes "objects " ++ decimal j.objects) ∷ reach_lines j.head.number many last) rest) ≡ ended (opening_lines j) ++ rest
 opening_parts j many last rest count number time =
-    let after : List (List ℕ) = (codes "objects " ++ decimal j.objects) ∷ (codes "sequence " ++ decimal (last_number j.head.number j.batches))
+    let head : List (List ℕ) = head_lines j.version j.head j.kept_by in
+    let objects : List ℕ = codes "objects " ++ decimal j.objects in
+    let after : List (List ℕ) = (codes "sequence " ++ decimal (last_number j.head.number j.batches))
     ∷ (codes "time " ++ maybe_time_text (last_time j.head.time j.batches)) ∷ (codes "batches " ++ decimal (length j.batches)) ∷ [] in
-    let same : (codes "objects " ++ decimal j.objects) ∷ reach_lines j.head.number many last ≡ after = rw (count, number, time) refl in
-    ap (λ (l : List (List ℕ)). codes "osmrepl-journal 1" ++ 10 ∷ before (head_lines j.version j.head j.kept_by) (before l rest)) same
-    ∙ (ap (λ (l : List ℕ). codes "osmrepl-journal 1" ++ 10 ∷ l) (sym (before-append (head_lines j.version j.head j.kept_by) after rest))
-    ∙ sym (ended_before (opening_lines j) rest))
+    let same : reach_lines j.head.number many last ≡ after = rw (count, number, time) refl in
+    let parts : before ((head ++ objects ∷ []) ++ after) rest ≡ before head (before (objects ∷ after) rest) =
+    before-append (head ++ objects ∷ []) after rest ∙ before-append head (objects ∷ []) (before after rest) in
+    ap (λ (l : List (List ℕ)). codes "osmrepl-journal 1" ++ 10 ∷ before head (before (objects ∷ l) rest)) same
+    ∙ (ap (λ (l : List ℕ). codes "osmrepl-journal 1" ++ 10 ∷ l) (sym parts) ∙ sym (ended_before (opening_lines j) rest))
 
 nothing_left : (bytes : List ℕ) → (length bytes == 0) ≡ true → bytes ≡ []
 nothing_left [] e = refl
@@ -370,12 +383,29 @@ journal_stops bytes o rest (Err WantOfMemory) e gives =
     record { rest = before (head_lines o.version o.head o.filter) (before (last_lines o) rest); parts = front.text }
 journal_stops bytes o rest (Err (BadLine line)) e gives = no_journal bytes (rest_of bytes o rest e ∙ gives)
 
+-- ---- the save
+
+-- what a save text begins with
+pub save_starts : (version : Version) (v : Saved)
+    → StartsWith (save_text version v) (ended (save_start version (head_of v) v.filter (length v.mirror.objects)))
+save_starts version v =
+    let head : List (List ℕ) = head_lines version (head_of v) v.filter in
+    let line : List ℕ = codes "objects " ++ decimal (length v.mirror.objects) in
+    let objects : List (List ℕ) = map line_text v.mirror.objects in
+    let after : List ℕ = ended (list_lines (codes "users ") count_text v.mirror.users)
+    ++ (ended (list_lines (codes "changesets ") count_text v.mirror.changesets) ++ (codes "end" ++ 10 ∷ [])) in
+    let parts : before head (mirror_text v.mirror) ≡ ended (head ++ line ∷ []) ++ (ended objects ++ after) =
+    ap (before head) (append_assoc line (10 ∷ ended objects) after)
+    ∙ sym (ended_before (head ++ line ∷ []) (ended objects ++ after) ∙ before-append head (line ∷ []) (ended objects ++ after)) in
+    ap (take (length (ended (head ++ line ∷ [])))) (save_text_is version v ∙ parts)
+    ∙ take-append_seam (ended (head ++ line ∷ [])) (ended objects ++ after)
+
 -- ---- what is written
 
 same_lines : (first : List ℕ) (head : List (List ℕ)) (o s t b : List ℕ)
-    → ended ((((first ∷ []) ++ head) ++ (o ∷ [])) ++ (s ∷ t ∷ []) ++ (b ∷ [])) ≡ ended (first ∷ (head ++ o ∷ s ∷ t ∷ b ∷ []))
-same_lines first head o s t b = ap (λ (l : List (List ℕ)). ended (first ∷ l))
-    (append_assoc (head ++ o ∷ []) (s ∷ t ∷ []) (b ∷ []) ∙ append_assoc head (o ∷ []) (s ∷ t ∷ b ∷ []))
+    → ended ((((first ∷ []) ++ head) ++ (o ∷ [])) ++ (s ∷ t ∷ []) ++ (b ∷ [])) ≡ ended (first ∷ ((head ++ o ∷ []) ++ (s ∷ t ∷ b ∷ [])))
+same_lines first head o s t b =
+    ap (λ (l : List (List ℕ)). ended (first ∷ l)) (append_assoc (head ++ o ∷ []) (s ∷ t ∷ []) (b ∷ []))
 
 -- what is written, part after part, is the text
 pub journal_written : (j : JournalValue) (first head objects place many batches end : List ℕ) (number count : ℕ) (time : Option ℕ)
@@ -398,7 +428,7 @@ journal_written j first head objects place many batches end number count time is
     lines_more [] objects place ((codes "osmrepl-journal 1" ∷ []) ++ lines ++ (o ∷ [])) (n ∷ m ∷ []) two s in
     let four : many ≡ ended ((codes "osmrepl-journal 1" ∷ []) ++ lines ++ (o ∷ []) ++ (n ∷ m ∷ []) ++ (k ∷ [])) =
     lines_more [] place many ((codes "osmrepl-journal 1" ∷ []) ++ lines ++ (o ∷ []) ++ (n ∷ m ∷ [])) (k ∷ []) three t in
-    let same : ended (codes "osmrepl-journal 1" ∷ (lines ++ o ∷ n ∷ m ∷ k ∷ [])) ≡ ended (opening_lines j) = rw (is_number, is_time, is_count) refl in
+    let same : ended (codes "osmrepl-journal 1" ∷ ((lines ++ o ∷ []) ++ (n ∷ m ∷ k ∷ []))) ≡ ended (opening_lines j) = rw (is_number, is_time, is_count) refl in
     let all : many ≡ ended (opening_lines j) = four ∙ (same_lines (codes "osmrepl-journal 1") lines o n m k ∙ same) in
     v ∙ (ap (λ (l : List ℕ). l ++ codes "end\n") (u ∙ ap (λ (l : List ℕ). l ++ batches_text j.batches) all)
     ∙ append_assoc (ended (opening_lines j)) (batches_text j.batches) (codes "end\n"))

@@ -53,14 +53,18 @@ abbrev pub last_time : Option ℕ → List BatchValue → Option ℕ
 last_time time [] = time
 last_time time (b ∷ bs) = last_time (Some b.time) bs
 
--- the lines before the batches, without their ends: after the first those of the save, from its
--- first line through that of its number of objects
+-- what a save text begins with, through the line with the number of its objects, as lines without
+-- their ends
+abbrev pub save_start : Version → Head → FilterValue → ℕ → List (List ℕ)
+save_start version head f objects =
+    head_lines version head f ++ (codes "objects " ++ decimal objects) ∷ []
+
+-- the lines before the batches, without their ends
 abbrev pub opening_lines : JournalValue → List (List ℕ)
 opening_lines j =
     codes "osmrepl-journal 1"
-    ∷ head_lines j.version j.head j.kept_by
-    ++ (codes "objects " ++ decimal j.objects)
-    ∷ (codes "sequence " ++ decimal (last_number j.head.number j.batches))
+    ∷ save_start j.version j.head j.kept_by j.objects
+    ++ (codes "sequence " ++ decimal (last_number j.head.number j.batches))
     ∷ (codes "time " ++ maybe_time_text (last_time j.head.time j.batches))
     ∷ (codes "batches " ++ decimal (length j.batches))
     ∷ []

@@ -17,11 +17,18 @@
 //! end
 //! ```
 
-ghost use Rattle.std.specs.Prelude.{◌≡◌, ◌+◌, ◌≤◌, ℕ, List, map, IfErr, IfOk};
+ghost use Rattle.std.specs.Prelude.{◌≡◌, ◌+◌, ◌≤◌, ℕ, List, length, map, IfErr, IfOk};
+ghost use Rattle.std.specs.Io.{StartsWith};
 ghost use Rattle.osm_model.specs.Limits.{max_sequence};
+ghost use Rattle.osm_save.specs.Head.{head_of};
+ghost use Rattle.osm_save.specs.Lines.{ended};
+ghost use Rattle.osm_save.specs.Save.{save_text};
+ghost use Rattle.osm_save.specs.declared.save.Saved.{Saved};
+ghost use Rattle.osm_save.specs.declared.version.Version.{Version};
 ghost use Rattle.osm_journal.specs.Answers.{Gives};
 ghost use Rattle.osm_journal.specs.Journal.{IsJournal, JournalValue, SpellsJournal, batch_of};
 ghost use Rattle.osm_journal.specs.Journal.{journal_of, journal_text, last_number, last_time};
+ghost use Rattle.osm_journal.specs.Journal.{save_start};
 ghost use Rattle.osm_journal.specs.Reading.{end_at, rest_at};
 ghost use Rattle.osm_journal.specs.Refusal.{JournalStops};
 
@@ -152,10 +159,12 @@ fn place_reached(head: Head, batches: &[Batch<'_>]) -> (u32, Option<u32>)
     (batch.number, Some(batch.time))
 }
 
-/// Laws of journals: bytes spell at most one, and a journal is spelled by its text. Does nothing at
-/// run time.
+/// Laws of journals: bytes spell at most one, and a journal is spelled by its text. What a journal
+/// says of a save, the text of that save begins with. Does nothing at run time.
 pub fn laws_of_journals()
     ensures one_journal { (bytes : List ℕ) (a b : JournalValue)
         → SpellsJournal bytes a → SpellsJournal bytes b → a ≡ b }
     ensures written { (j : JournalValue) → IsJournal j → SpellsJournal (journal_text j) j }
+    ensures save { (version : Version) (v : Saved) → StartsWith (save_text version v)
+        (ended (save_start version (head_of v) v.filter (length v.mirror.objects))) }
 {}
