@@ -10,9 +10,9 @@ use Rattle.std.proofs.Math.Seq.{drop-append-add, take-append_seam}
 use Rattle.osm_reading.specs.Pieces.{Lacks, cut_at, with_before}
 use Rattle.osm_reading.proofs.PieceLemmas.{cut_again, cut_lacks, cut_takes, lacks_append, uncut_again}
 use Rattle.osm_store.specs.Files.{block_of}
-use Rattle.osm_blocks.specs.Places.{IsHuge, IsLine, IsLong, Place, left_of, max_line, past}
+use Rattle.osm_blocks.specs.Places.{IsGrown, IsHuge, IsLine, IsLong, Place, ReadsMore, left_of, max_line, past}
 use Rattle.std.specs.Prelude.{Ok, not}
-use Rattle.osm_blocks.specs.Steps.Reading.{IsGrown, LacksFirst, ReadsMore}
+use Rattle.osm_blocks.specs.Steps.Reading.{LacksFirst}
 
 -- ---- where bytes are cut
 
@@ -119,11 +119,16 @@ drop_long (suc n) [] zero some = absurd (omega arith)
 drop_long (suc n) [] (suc most) some = absurd (omega arith)
 drop_long (suc n) (x ∷ xs) most some = let h = drop_long n xs most some in omega (arith, h)
 
+-- a block that was read lies within the file
+pub block_within : (most : ℕ) (file block : List ℕ) (from : ℕ) → take most (drop from file) ≡ block → 0 < length block
+    → from + length block ≤ length file
+block_within most file block from e some = rw (← e) (drop_long from file most (rw e some))
+
 -- a block past the last place that 64 bits count is one of a huge file
 pub huge_file : (most : ℕ) (file block : List ℕ) (from : ℕ) → take most (drop from file) ≡ block → 0 < length block
     → 18446744073709551615 < from + length block → IsHuge file
 huge_file most file block from e some high =
-    let h : from + length block ≤ length file = rw (← e) (drop_long from file most (rw e some)) in
+    let h = block_within most file block from e some in
     omega (arith, h, high)
 
 -- ---- what is left
@@ -180,4 +185,4 @@ end_of old new file true none grown same =
     let long : length new.unread ≡ length grown.more = ap length first in
     let more : 0 < length (left_of new file) = omega (arith, some, both, long) in
     let other : (length (left_of new file) == 0) ≡ false = grind (arith, nat_tests) in
-    ap (λ (l : List ℕ). length l == 0) (sym same) ∙ other
+    ap (λ (l : List ℕ). length l == 0) (sym same.0) ∙ other

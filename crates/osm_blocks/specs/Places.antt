@@ -1,6 +1,6 @@
 -- How far a file was read.
-use Rattle.std.specs.Prelude.{◌≡◌, ℕ, ◌<◌, ◌+◌, List, ◌++◌, length, take, drop, Option, Some}
-use Rattle.std.specs.Prelude.{None, Result, Ok, Err, Bool, ◌==◌}
+use Rattle.std.specs.Prelude.{◌≡◌, ℕ, ◌<◌, ◌≤◌, ◌+◌, List, [], ◌++◌, length, take, drop, Option}
+use Rattle.std.specs.Prelude.{Some, None, Result, Ok, Err, Bool, true, false, ◌==◌}
 use Rattle.osm_reading.specs.Pieces.{Lacks, cut_at}
 use Rattle.osm_store.specs.Frames.{IsKnown, StoreState}
 use Rattle.osm_blocks.specs.declared.fault.BlockFault.{BlockFault}
@@ -39,6 +39,24 @@ Opens None told = told ≡ None
 Opens (Some place) told = (file : List ℕ) × (told ≡ Some file)
     × (place.unread ≡ take max_block file) × (left_of place file ≡ file)
 
+-- a file that is there was read up to the end of its first block
+abbrev pub IsFirst : Option Place → Type 0
+IsFirst None = Unit {0}
+IsFirst (Some place) = place.from ≡ length place.unread
+
+-- bytes were added
+pub record IsLonger (old new : Place) : Type 0 where
+  pub more : List ℕ
+  pub unread : new.unread ≡ old.unread ++ more
+  pub some : 0 < length more
+  pub from : new.from ≡ old.from + length more
+  pub fits : new.from ≤ 18446744073709551615
+
+-- bytes were added, or none were
+abbrev pub IsGrown : Bool → Place → Place → Type 0
+IsGrown true old new = IsLonger old new
+IsGrown false old new = new ≡ old
+
 -- the next line has so many bytes, and all of it was read, with its LF
 pub record IsLine (place : Place) (count : ℕ) : Type 0 where
   pub within : count < length place.unread
@@ -55,6 +73,20 @@ pub record IsLong (bytes : List ℕ) : Type 0 where
 -- a file has more bytes than 64 bits count
 abbrev pub IsHuge : List ℕ → Type 0
 IsHuge file = 18446744073709551615 < length file
+
+-- a block was read on from a known file, or nothing is left past what was read
+abbrev pub ReadsMore : List ℕ → Place → Place → Result Bool BlockFault → Type 0
+ReadsMore file old new (Ok true) = (left_of new file ≡ left_of old file) × (new.from ≤ length file)
+ReadsMore file old new (Ok false) = drop old.from file ≡ []
+ReadsMore file old new (Err TooLarge) = IsHuge file
+ReadsMore file old new (Err LongLine) = ⊥
+ReadsMore file old new (Err Device) = Unit {0}
+ReadsMore file old new (Err WantOfMemory) = Unit {0}
+
+-- what is left of a known file is as before, and all of it was read
+pub record IsAllRead (file : List ℕ) (old new : Place) : Type 0 where
+  pub same : left_of new file ≡ left_of old file
+  pub ended : drop new.from file ≡ []
 
 -- why a file isn't read on: a line is too long, or the file, only if it is
 abbrev pub ReadStops : List ℕ → Place → BlockFault → Type 0

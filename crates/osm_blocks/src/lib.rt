@@ -1,6 +1,7 @@
-//! Files in blocks: lines of a file that is read block by block, and a file that is written so.
+//! Files in blocks: how they are read, how their lines are found, and how they are written.
 #![tactic(auto)]
 
+pub mod block_reader;
 pub mod block_writer;
 pub mod fault;
 pub mod line_reader;

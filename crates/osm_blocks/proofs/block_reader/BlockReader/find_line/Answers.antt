@@ -2,13 +2,12 @@ use Rattle.std.proofs.Common.{◌≡◌, ◌+◌, ◌≤◌, List, ℕ, None, re
 use Rattle.osm_reading.specs.Pieces.{cut_at}
 use Rattle.osm_blocks.specs.Calls.{reads_ahead}
 use Rattle.osm_blocks.specs.Frames.{IsDeviceFault}
-use Rattle.osm_blocks.specs.Places.{IsLong}
-use Rattle.osm_blocks.specs.Steps.Reading.{IsLonger}
+use Rattle.osm_blocks.specs.Places.{IsLong, IsLonger}
 use Rattle.osm_blocks.proofs.CallLemmas.{down_lacks, down_of, down_then}
 use Rattle.osm_blocks.proofs.FindLemmas.{has_still}
 use Rattle.osm_blocks.proofs.OftenLemmas.{often_then}
 use Rattle.osm_blocks.proofs.PlaceLemmas.{lacks_still, left_line, left_long}
-use Rattle.osm_blocks.proofs.line_reader.LineReader.find_line.Goals as goal
+use Rattle.osm_blocks.proofs.block_reader.BlockReader.find_line.Goals as goal
 
 pub returns-in-Some-clause-found : goal.returns-in-Some-clause-found
 returns-in-Some-clause-found g c = λ file has.
@@ -23,7 +22,7 @@ returns-then-searched-gt-MAX_LINE-clause-found g c = λ file has.
 pub blocks-2-smaller : goal.blocks-2-smaller
 blocks-2-smaller g c =
     let grown : IsLonger c.blocks-2.self c.read_more.new.self = rw c.if-not-is_more.false at c.in-Ok.ensures.grown in
-    omega (arith, grown.from, grown.fits)
+    omega (arith, grown.from, grown.some, grown.fits)
 
 pub blocks-2-preserved : goal.blocks-2-preserved
 blocks-2-preserved g c =
@@ -36,7 +35,7 @@ blocks-2-preserved g c =
       stage = c.in-Ok.ensures.stage ∙ c.blocks-2.invariant.stage;
       same = λ file has.
           let known = has_still (g.S.Store.state c.args.store.now) (g.S.Store.state c.blocks-2.store) tt c.args.name.now file c.blocks-2.invariant.frame has in
-          (rw c.if-not-is_more.false at (c.in-Ok.ensures.more file known)) ∙ c.blocks-2.invariant.same file has;
+          (rw c.if-not-is_more.false at (c.in-Ok.ensures.more file known)).0 ∙ c.blocks-2.invariant.same file has;
       lacks = rw (c.unread-searched.ensures, grown.unread) (lacks_still c.blocks-2.self.unread grown.more uncut);
       calls = λ file has.
           let known = has_still (g.S.Store.state c.args.store.now) (g.S.Store.state c.blocks-2.store) tt c.args.name.now file c.blocks-2.invariant.frame has in

@@ -1,7 +1,7 @@
 use Rattle.std.proofs.Common.{◌≡◌, length, rules}
 use Rattle.osm_blocks.specs.Places.{max_block}
 use Rattle.osm_blocks.proofs.PlaceLemmas.{opened}
-use Rattle.osm_blocks.proofs.line_reader.LineReader.open.Goals as goal
+use Rattle.osm_blocks.proofs.block_reader.BlockReader.open.Goals as goal
 
 pub returns-clause-opened : goal.returns-clause-opened
 returns-clause-opened g c = λ known.

@@ -4,8 +4,8 @@ use Rattle.std.proofs.lemmas.Bool.Decides.{nat_tests}
 use Rattle.osm_store.specs.Files.{block_of}
 use Rattle.osm_blocks.specs.Places.{Place, max_block}
 use Rattle.osm_blocks.proofs.CallLemmas.{block_read}
-use Rattle.osm_blocks.proofs.PlaceLemmas.{huge_file, left_more, no_length, nothing_left}
-use Rattle.osm_blocks.proofs.line_reader.LineReader.read_more.Goals as goal
+use Rattle.osm_blocks.proofs.PlaceLemmas.{block_within, huge_file, left_more, no_length, nothing_left}
+use Rattle.osm_blocks.proofs.block_reader.BlockReader.read_more.Goals as goal
 
 pub returns-then-is_empty-clause-more : goal.returns-then-is_empty-clause-more
 returns-then-is_empty-clause-more g c = λ file has.
@@ -35,8 +35,12 @@ returns-clause-more g c = λ file has.
     let from : c.self.inside.from ≡ c.args.self.now.from = ap (λ (p : Place). p.from) c.self.view_is in
     let after : c.take_block.new.self.from ≡ c.args.self.now.from + length c.in-Some.block.items =
     c.in_ok-take_block.ensures.from ∙ (rw (c.as_slice.ensures.value, from) at c.in-Some-after_block.ensures.after) in
-    left_more c.args.self.now c.take_block.new.self file c.in-Some.block.items max_block c.in_ok-take_block.ensures.unread after
-    (subst (λ (n : ℕ). take max_block (drop n file) ≡ c.in-Some.block.items) from taken)
+    let here : take max_block (drop c.args.self.now.from file) ≡ c.in-Some.block.items =
+    subst (λ (n : ℕ). take max_block (drop n file) ≡ c.in-Some.block.items) from taken in
+    let some : 0 < length c.in-Some.block.items = grind (arith, nat_tests) in (
+      left_more c.args.self.now c.take_block.new.self file c.in-Some.block.items max_block c.in_ok-take_block.ensures.unread after here,
+      rw after (block_within max_block file c.in-Some.block.items c.args.self.now.from here some),
+    )
 
 pub returns-clause-fewer : goal.returns-clause-fewer
 returns-clause-fewer g c = λ file has yes.

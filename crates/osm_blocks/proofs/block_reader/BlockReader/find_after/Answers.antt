@@ -1,6 +1,6 @@
 use Rattle.std.proofs.lemmas.List.{take_rest}
 use Rattle.osm_blocks.proofs.PlaceLemmas.{line_after, none_after}
-use Rattle.osm_blocks.proofs.line_reader.LineReader.find_after.Goals as goal
+use Rattle.osm_blocks.proofs.block_reader.BlockReader.find_after.Goals as goal
 
 pub returns-in_default-Some-clause-found : goal.returns-in_default-Some-clause-found
 returns-in_default-Some-clause-found c =

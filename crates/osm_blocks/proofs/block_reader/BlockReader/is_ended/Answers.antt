@@ -1,7 +1,7 @@
 use Rattle.std.proofs.Common.{◌≡◌, length, arith}
 use Rattle.std.proofs.lemmas.Bool.Decides.{nat_tests}
 use Rattle.osm_blocks.proofs.PlaceLemmas.{end_of}
-use Rattle.osm_blocks.proofs.line_reader.LineReader.is_ended.Goals as goal
+use Rattle.osm_blocks.proofs.block_reader.BlockReader.is_ended.Goals as goal
 
 pub returns-in-Ok-clause-ended : goal.returns-in-Ok-clause-ended
 returns-in-Ok-clause-ended g c = λ file has.
