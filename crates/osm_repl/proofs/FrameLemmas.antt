@@ -1,12 +1,8 @@
 -- What each run leaves as it was.
-use Rattle.std.proofs.Common.{◌≡◌, ℕ, List, Option, refl, ap}
-use Rattle.std.specs.Prelude.{Result, Ok, Err, IfOk, OnOk}
-use Rattle.std.specs.Borrow.{Bor}
-use Rattle.osm_model.specs.Filter.{FilterValue}
-use Rattle.osm_store.specs.Files.{Files, Puts, Spends}
+use Rattle.std.proofs.Common.{◌≡◌, ℕ, ◌≤◌, List, ap}
+use Rattle.std.specs.Prelude.{Result, Ok, Err, IfOk, OnOk, OnErr}
+use Rattle.osm_store.specs.Files.{Files, Spends}
 use Rattle.osm_store.specs.Frames.{CallsBetween, IsKnown, ReadsBetween, ReplacesBetween, StoreState}
-use Rattle.osm_merge.specs.Frames.{ReplacesOften}
-use Rattle.osm_folder.specs.declared.fault.RunFault.{RunFault}
 use Rattle.osm_repl.specs.Execution.{CarriesOut, IsUntouched, calls_of}
 use Rattle.osm_repl.specs.declared.orders.Order.{Order}
 
@@ -38,22 +34,23 @@ writes blames order least most old new r is h untouched = record {
 }
 
 -- one that replaces a file at its end
-pub replaces : {T E : Type 0} (blames : E → Type 0) (order : Order) (target : List ℕ) (old new : StoreState) (r : Result T E)
-    → ((name : List ℕ) → IsUntouched order name → name ≡ target → ⊥) → ReplacesOften blames old new r
-    → OnOk r (Spends (calls_of order) old.left new.left) → OnOk r (IsKnown old → OthersStay target old.files new.files) → CarriesOut order old new r
-replaces blames order target old new (Ok x) own h spent others = record {
+pub replaces : {T E : Type 0} (order : Order) (target : List ℕ) (old new : StoreState) (r : Result T E)
+    → ((name : List ℕ) → IsUntouched order name → name ≡ target → ⊥) → OnErr r (new.files ≡ old.files) → new.is_known ≡ old.is_known
+    → Spends 0 old.left new.left → old.failures ≤ new.failures → OnOk r (Spends (calls_of order) old.left new.left)
+    → OnOk r (IsKnown old → OthersStay target old.files new.files) → CarriesOut order old new r
+replaces order target old new (Ok x) own files known left failures spent others = record {
   untouched = λ sure name un. others sure name (own name un);
-  known = h.known;
+  known = known;
   left = spent;
-  left_after = h.left;
-  kept = h.failures;
+  left_after = left;
+  kept = failures;
 }
-replaces blames order target old new (Err e) own h spent others = record {
-  untouched = λ sure name un. ap (λ (f : Files). f name) h.files;
-  known = h.known;
+replaces order target old new (Err e) own files known left failures spent others = record {
+  untouched = λ sure name un. ap (λ (f : Files). f name) files;
+  known = known;
   left = tt;
-  left_after = h.left;
-  kept = h.failures;
+  left_after = left;
+  kept = failures;
 }
 
 pub replaces_once : {T E : Type 0} (blames : E → Type 0) (order : Order) (target : List ℕ) (least most : ℕ) (old new : StoreState) (r : Result T E)

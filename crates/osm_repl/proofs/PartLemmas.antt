@@ -1,16 +1,16 @@
 -- The word `follow`, part after part.
-use Rattle.std.proofs.Common.{◌≡◌, ℕ, zero, suc, ◌-◌, ◌+◌, ◌<◌, ◌≤◌, List, Option, Some, None, arith, refl, sym, ap, subst, ◌∙◌}
-use Rattle.std.specs.Prelude.{Result, Ok, Err, IfErr, IfOk, IsTrue, OnOk, Bool}
+use Rattle.std.proofs.Common.{◌≡◌, ℕ, zero, suc, ◌<◌, List, Option, Some, None, arith, refl, sym, subst, ◌∙◌}
+use Rattle.std.specs.Prelude.{Result, Ok, Err, IsTrue, OnOk, Bool}
 use Rattle.osm_model.specs.Limits.{max_sequence}
 use Rattle.osm_store.proofs.FileLemmas.{spends_both}
 use Rattle.osm_store.specs.Files.{Spends}
-use Rattle.osm_store.specs.Frames.{IsKnown, StoreState}
+use Rattle.osm_store.specs.Frames.{StoreState}
 use Rattle.osm_folder.specs.Reports.{ReportValue}
 use Rattle.osm_folder.specs.declared.options.FollowOptions.{FollowOptions}
 use Rattle.osm_round.specs.Rounds.{MayTakeMore}
-use Rattle.osm_repl.specs.Execution.{AfterParts, CarriesOut, ComesFrom, Execution, IsFollow, IsPartOf, IsStep, IsUntouched, Place, calls_of}
+use Rattle.osm_repl.specs.Execution.{AfterParts, CarriesOut, ComesFrom, Execution, IsFollow, IsPartOf, IsStep, Place, calls_of}
 use Rattle.osm_repl.specs.Execution.{execution_of, left_of, options_after}
-use Rattle.osm_repl.specs.declared.execution.Step.TheVariants.{Done, PartDone}
+use Rattle.osm_repl.specs.declared.execution.Step.TheVariants.{PartDone}
 use Rattle.osm_repl.specs.declared.orders.Order.{Order}
 use Rattle.osm_repl.specs.declared.orders.Order.TheVariants.{Replay, Publish, PublishAs, Follow, Lag, Show}
 use Rattle.osm_repl.specs.declared.orders.Order.TheVariants.{Audit, Begin, Convert, Export}
@@ -39,20 +39,29 @@ at_once options order old new printed holds h = record {
 
 -- ---- frames
 
+spent_then : {T E : Type 0} (calls : ℕ) (a b c : Option ℕ) (r : Result T E) → Spends 0 a b → OnOk r (Spends calls b c) → OnOk r (Spends calls a c)
+spent_then calls a b c (Ok x) first h = spends_both 0 calls calls a b c (omega arith) first h
+spent_then calls a b c (Err e) first h = tt
+
+spent_none : {T E : Type 0} (calls : ℕ) (left : Option ℕ) (r : Result T E) → OnOk r (calls ≡ 0) → OnOk r (Spends calls left left)
+spent_none calls None (Ok x) is = refl
+spent_none calls (Some m) (Ok x) is = (m, refl, omega (arith, is))
+spent_none calls left (Err e) is = tt
+
+none_spent : (left : Option ℕ) → Spends 0 left left
+none_spent None = refl
+none_spent (Some m) = (m, refl, omega arith)
+
 -- calls before others
 pub carries_then : {T E : Type 0} (order : Order) (a b c : StoreState) (r : Result T E) → CarriesOut {T = Unit {0}} {E = Unit {0}} order a b (Err tt)
     → CarriesOut order b c r → CarriesOut order a c r
 carries_then order a b c r first last = record {
   untouched = λ sure name own. last.untouched (subst (λ (t : Bool). IsTrue t) (sym first.known) sure) name own ∙ first.untouched sure name own;
   known = last.known ∙ first.known;
-  left = spent r last.left;
+  left = spent_then (calls_of order) a.left b.left c.left r first.left_after last.left;
   left_after = spends_both 0 0 0 a.left b.left c.left (omega arith) first.left_after last.left_after;
   kept = (let early = first.kept in let late = last.kept in omega (arith, early, late));
 }
-  where
-    spent : (r : Result T E) → OnOk r (Spends (calls_of order) b.left c.left) → OnOk r (Spends (calls_of order) a.left c.left)
-    spent (Ok x) h = spends_both 0 (calls_of order) (calls_of order) a.left b.left c.left (omega arith) first.left_after h
-    spent (Err e) h = tt
 
 -- of calls that weren't all
 pub carries_some : {T E : Type 0} (order : Order) (a b : StoreState) (r : Result T E) → CarriesOut order a b r
@@ -70,18 +79,10 @@ pub carries_none : {T E : Type 0} (order : Order) (a : StoreState) (r : Result T
 carries_none order a r none = record {
   untouched = λ sure name own. refl;
   known = refl;
-  left = spent r none;
-  left_after = same 0 a.left refl;
+  left = spent_none (calls_of order) a.left r none;
+  left_after = none_spent a.left;
   kept = omega arith;
 }
-  where
-    same : (n : ℕ) (left : Option ℕ) → n ≡ 0 → Spends n left left
-    same n None is = refl
-    same n (Some m) is = (m, refl, omega (arith, is))
-
-    spent : (r : Result T E) → OnOk r (calls_of order ≡ 0) → OnOk r (Spends (calls_of order) a.left a.left)
-    spent (Ok x) is = same (calls_of order) a.left is
-    spent (Err e) is = tt
 
 -- ---- parts
 
@@ -143,7 +144,7 @@ at_end order options old printed here new holds f h = record {
 
 -- ---- a part makes what is left smaller
 
-pub measure : Option ℕ → ℕ
+abbrev pub measure : Option ℕ → ℕ
 measure None = suc max_sequence
 measure (Some limit) = limit
 

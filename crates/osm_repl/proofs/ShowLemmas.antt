@@ -1,5 +1,5 @@
 -- What the word `show` does, as its order asks for.
-use Rattle.std.proofs.Common.{◌≡◌, ℕ, List, Option, inl, inr}
+use Rattle.std.proofs.Common.{◌≡◌, ℕ, List, Option, inl, inr, ap, sym}
 use Rattle.std.specs.Prelude.{Result, IfErr}
 use Rattle.std.specs.Result.{IsErrAnd}
 use Rattle.std.specs.Borrow.{Bor}
@@ -10,11 +10,11 @@ use Rattle.osm_folder.specs.Runs.{Blames}
 use Rattle.osm_folder.specs.declared.fault.RunFault.{RunFault}
 use Rattle.osm_folder.specs.declared.fault.RunFault.TheVariants.{ReadFault, WriteFault}
 use Rattle.osm_folder.specs.declared.options.FollowOptions.{FollowOptions}
-use Rattle.osm_printing.specs.Printing.{IsCutOff, IsNotPrinted, IsReadFault, IsRefused, IsShowOf}
+use Rattle.osm_printing.specs.Printing.{IsNotPrinted, IsPrinted, IsReadFault, IsShowOf}
 use Rattle.osm_checked.specs.Checking.{ReadStops}
 use Rattle.osm_folder.proofs.ResultLemmas.{same_err}
 use Rattle.osm_repl.proofs.PartLemmas.{at_once}
-use Rattle.osm_repl.specs.Execution.{AfterParts, IsNotDone, IsRun, IsRunFault, execution_of}
+use Rattle.osm_repl.specs.Execution.{AfterParts, IsDone, IsNotDone, IsRun, IsRunFault, execution_of}
 use Rattle.osm_repl.specs.declared.orders.Order.{Order}
 use Rattle.osm_repl.specs.declared.order_fault.OrderFault.{OrderFault}
 use Rattle.osm_repl.specs.declared.order_fault.OrderFault.TheVariants.{Run}
@@ -65,3 +65,14 @@ show_refused options order save old new printed after fault r is err not same h 
     same_err (IsRunFault (λ x. AfterParts (execution_of options order old new) printed (λ rest before. IsNotDone rest before after x))) r (Run fault) err
     (rw is (at_once options (Show save) old new printed (λ rest before. IsNotDone rest before after fault)
     (show_not_done options save old new printed after fault not same h)))
+
+pub show_done : (options : FollowOptions) (order : Order) (save : Bor (List ℕ)) (old new : StoreState) (printed after : Option (List ℕ)) → order ≡ Show save
+    → IsPrinted (IsKnown old) (old.files save.now) printed after
+    → AfterParts (execution_of options order old new) printed (λ rest before. IsDone rest before after 0)
+show_done options order save old new printed after is shown =
+    rw is (at_once options (Show save) old new printed (λ rest before. IsDone rest before after 0) (record {
+      report = shown.report;
+      run = is_run options save old new shown.report shown.is;
+      all = shown.all;
+      status_is = sym (ap (λ (r : ReportValue). r.status) shown.is.form.report_is);
+    }))

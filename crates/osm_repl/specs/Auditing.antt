@@ -1,6 +1,6 @@
 -- What the program does for the word `audit`: it looks whether a folder is whole, and prints what
 -- is wrong. `old` and `new` are what is seen of the store, `from` and `to` the words of the range.
-use Rattle.std.specs.Prelude.{◌≡◌, ℕ, ◌↔◌, ◌⊎◌, List, [], None, Option, Some, take, unwrap_or}
+use Rattle.std.specs.Prelude.{◌≡◌, ℕ, ◌↔◌, ◌⊎◌, List, [], Option, take, unwrap_or}
 use Rattle.std.specs.Borrow.{Bor}
 use Rattle.std.specs.Io.KnownBytes.{Appends}
 use Rattle.osm_json.specs.Line.{json_line}

@@ -15,5 +15,6 @@ returns-clause-refuses g c =
 
 pub returns-clause-frame : goal.returns-clause-frame
 returns-clause-frame g c = rw c.in-Follow.is
-    (replaces _ _ c.in-Follow.save.now _ _ c.follow_round.result (λ name own. own) c.follow_round.ensures.frame c.follow_round.ensures.spends
+    (replaces _ c.in-Follow.save.now _ _ c.follow_round.result (λ name own. own) c.follow_round.ensures.frame.files c.follow_round.ensures.frame.known
+    c.follow_round.ensures.frame.left c.follow_round.ensures.frame.failures c.follow_round.ensures.spends
     (others_of _ _ c.follow_round.result c.follow_round.ensures.done (λ progress done. λ sure. follow_others _ _ _ _ _ _ progress sure done)))

@@ -4,8 +4,8 @@ use Rattle.osm_repl.specs.Execution.{TellsFault}
 use Rattle.osm_repl.proofs.execution.follow_step.Goals as goal
 
 -- of a run that isn't done, nothing is printed but the line of its fault
-pub returns-in-Err-clause-not_done : goal.returns-in-Err-clause-not_done
-returns-in-Err-clause-not_done g c =
+pub returns-clause-not_done : goal.returns-clause-not_done
+returns-clause-not_done g c =
     rw c.tell_fault.ensures.stands (inl (record {
       stopped = record {
         stops = c.in-Err.ensures.stops;

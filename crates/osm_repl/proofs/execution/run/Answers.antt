@@ -63,7 +63,8 @@ returns-in-PublishAs-clause-frame g c = rw c.in-PublishAs.is
 
 pub returns-in-Begin-clause-frame : goal.returns-in-Begin-clause-frame
 returns-in-Begin-clause-frame g c = rw c.in-Begin.is
-    (replaces _ _ c.in-Begin.save.now _ _ c.begin_run.result (λ name own. own) c.begin_run.ensures.frame c.begin_run.ensures.spends
+    (replaces _ c.in-Begin.save.now _ _ c.begin_run.result (λ name own. own) c.begin_run.ensures.frame.files c.begin_run.ensures.frame.known
+    c.begin_run.ensures.frame.left c.begin_run.ensures.frame.failures c.begin_run.ensures.spends
     (others_of _ _ c.begin_run.result c.begin_run.ensures.begun (λ report begun. λ sure. (begun sure).put.others)))
 
 pub returns-in-Lag-clause-frame : goal.returns-in-Lag-clause-frame
@@ -71,7 +72,8 @@ returns-in-Lag-clause-frame g c = rw c.in-Lag.is (reads _ _ _ _ _ _ c.lag_run.re
 
 pub returns-in-Export-clause-frame : goal.returns-in-Export-clause-frame
 returns-in-Export-clause-frame g c = rw c.in-Export.is
-    (replaces _ _ c.in-Export.output.now _ _ c.export_run.result (λ name own. own) c.export_run.ensures.frame c.export_run.ensures.spends
+    (replaces _ c.in-Export.output.now _ _ c.export_run.result (λ name own. own) c.export_run.ensures.frame.files c.export_run.ensures.frame.known
+    c.export_run.ensures.frame.left c.export_run.ensures.frame.failures c.export_run.ensures.spends
     (others_of _ _ c.export_run.result (of_any _ c.export_run.result c.export_run.ensures.exported) (λ report made. λ sure. (made sure).put.others)))
 
 pub returns-in-Convert-clause-frame : goal.returns-in-Convert-clause-frame
