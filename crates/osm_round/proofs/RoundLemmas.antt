@@ -30,7 +30,7 @@ use Rattle.osm_folder.specs.declared.progress.Progress.{Progress}
 use Rattle.osm_folder.specs.declared.progress.Progress.TheVariants.{Before, Part, Whole}
 use Rattle.osm_folder.proofs.InStepLemmas.{last_within}
 use Rattle.osm_round.specs.Putting.{PutsTaken, saved_after}
-use Rattle.osm_round.specs.Rounds.{BeforeStops, IsFirst, IsPrepared, IsProgress, IsReport, IsUnpublished, IsWhole, PrepareStops, UpToStops}
+use Rattle.osm_round.specs.Rounds.{BeforeStops, IsFirst, IsLess, IsPrepared, IsProgress, IsReport, IsUnpublished, IsWhole, PrepareStops, UpToStops}
 use Rattle.osm_round.specs.Rounds.{HasManyObjects, RoundStops, StartStops, StopsLooking, StopsTaking, max_round, outcome_of, progress_of, room_of}
 use Rattle.osm_round.specs.Starting.{BeginStops, BeginsOther, IsBegun, IsBegunAt, IsOtherSave, PutStops}
 use Rattle.osm_checked.specs.Checking.{IsTooLarge}
@@ -216,6 +216,28 @@ reports known options dir files start p is = by_ending p.ending is.report
       ),
       (p.taken.head.number + 1, content),
     )
+
+-- a part is less than the run may take
+pub less : (known : Type 0) (options : FollowOptions) (dir : List ℕ) (files : Files) (start : Head) (p : Prepared)
+    → IsPrepared known options dir files start p → IsLess options.limit (progress_of p.report p.ending)
+less known options dir files start p is = by_ending p.ending options.limit is.report
+  where
+    number_is : p.taken.head.number ≡ start.number + is.taken.count
+    number_is = is.taken.is.number
+
+    min_right : (a b : ℕ) → min a b ≤ b
+    min_right a b = grind (arith)
+
+    by_ending : (e : Ending) (limit : Option ℕ) → IsReport known options.layout files dir start is.top
+        (last_number limit start.number is.top.sequence) is.taken.count p.taken.head e p.report → IsLess limit (progress_of p.report e)
+    by_ending (endings.Part applied count) None (count_is, some, in_lines, below, rest) =
+        let most = is.most in omega (arith, count_is, below, number_is, most)
+    by_ending (endings.Part applied count) (Some limit) (count_is, some, in_lines, below, rest) =
+        let end = min_right is.top.sequence (start.number + limit) in omega (arith, count_is, below, number_is, end)
+    by_ending endings.Whole None h = tt
+    by_ending endings.Whole (Some limit) h = tt
+    by_ending (endings.Before fault) None h = tt
+    by_ending (endings.Before fault) (Some limit) h = tt
 
 -- ---- why it is refused
 

@@ -106,6 +106,12 @@ IsProgress known options dir save old new (Part report applied count) =
 IsProgress known options dir save old new (Before report fault) =
     known → IsFollowedBefore known options dir save old new fault report
 
+-- a part is less than the run may take, whatever is known of the files
+abbrev pub IsLess : Option ℕ → Progress → Type 0
+IsLess None (Part report applied count) = count ≤ max_sequence
+IsLess (Some limit) (Part report applied count) = count < limit
+IsLess limit progress = Unit {0}
+
 -- ---- why it is refused
 
 -- after what was taken up to some number there are more objects than a save can have

@@ -23,7 +23,8 @@ ghost use Rattle.osm_folder.specs.declared.fault.FileName.TheVariants.{Top};
 ghost use Rattle.osm_folder.specs.declared.fault.RunFault.TheVariants.{Absent};
 ghost use Rattle.osm_folder.specs.declared.options.Layout.TheVariants.{Lines};
 ghost use Rattle.osm_round.specs.Over.{FollowsOver, follow_calls};
-ghost use Rattle.osm_round.specs.Rounds.{BeforeStops, IsFirst, IsPrepared, IsProgress, IsReport};
+ghost use Rattle.osm_round.specs.Rounds.{BeforeStops, IsFirst, IsLess, IsPrepared, IsProgress};
+ghost use Rattle.osm_round.specs.Rounds.{IsReport};
 ghost use Rattle.osm_round.specs.Rounds.{IsUnpublished, IsWhole, PrepareStops, UpToStops};
 ghost use Rattle.osm_round.specs.Rounds.{RoundStops, outcome_of, progress_of, room_of};
 ghost use Rattle.osm_round.specs.Starting.{WholeStops};
@@ -91,6 +92,7 @@ pub fn follow_round<S: Store>(
     ensures done { IfOk result (IsProgress (IsKnown (S.state store.old)) options.now
         dir.now save.now (S.state store.old).files (S.state store.new).files) }
     ensures report { IfOk result (IsProgressReport options.now.layout) }
+    ensures less { IfOk result (IsLess options.now.limit) }
     ensures stops { IfErr result (RoundStops (IsKnown (S.state store.old)) options.now
         dir.now save.now (S.state store.old).files) }
     ensures over { IsKnown (S.state store.old) → (published : List PublishedValue) (base number : ℕ)
@@ -116,6 +118,7 @@ fn follow_whole<S: Store>(
     ensures done { IfOk result (IsProgress (IsKnown (S.state store.old)) options.now
         dir.now save.now (S.state store.old).files (S.state store.new).files) }
     ensures report { IfOk result (IsProgressReport options.now.layout) }
+    ensures less { IfOk result (IsLess options.now.limit) }
     ensures stops { IfErr result (RoundStops (IsKnown (S.state store.old)) options.now
         dir.now save.now (S.state store.old).files) }
     ensures spends { OnOk result (Spends 3 (S.state store.old).left (S.state store.new).left) }
@@ -170,6 +173,7 @@ fn follow<S: Store>(
     ensures done { IfOk result (λ o. IfSome o (IsProgress (IsKnown (S.state store.old)) options.now
         dir.now save.now (S.state store.old).files (S.state store.new).files)) }
     ensures report { IfOk result (λ o. IfSome o (IsProgressReport options.now.layout)) }
+    ensures less { IfOk result (λ o. IfSome o (IsLess options.now.limit)) }
     ensures none { IfOk result (λ o. o ≡ None
         → IsUnpublished (IsKnown (S.state store.old)) options.now dir.now save.now
         (S.state store.old).files (S.state store.new).files) }

@@ -8,7 +8,7 @@ use Rattle.osm_round.proofs.CallLemmas.{begun_number}
 use Rattle.osm_round.specs.Putting.{PutsTaken}
 use Rattle.osm_round.specs.Rounds.{IsPrepared, PrepareStops}
 use Rattle.osm_round.specs.Starting.{PutStops}
-use Rattle.osm_round.proofs.RoundLemmas.{begin_stops, done, done_if, prepare_stops, put_first, put_stops, reports, unpublished}
+use Rattle.osm_round.proofs.RoundLemmas.{begin_stops, done, done_if, less, prepare_stops, put_first, put_stops, reports, unpublished}
 use Rattle.osm_round.proofs.round.follow.Goals as goal
 
 pub returns-in-Err-clause-stops : goal.returns-in-Err-clause-stops
@@ -45,6 +45,14 @@ returns-in-Ok-put-clause-report g c =
     let is : IsPrepared known c.args.options.now c.args.dir.now files c.in-Ok.start.head c.in-Ok-Some.prepared =
     rw (c.in-Ok.ensures.frame.known, c.in-Ok.ensures.frame.files) at (rw c.in-Ok-Some.field-0-is at c.in-Ok-Some.ensures.prepared) in
     rw c.progress_of.ensures (reports known c.args.options.now c.args.dir.now files c.in-Ok.start.head c.in-Ok-Some.prepared is)
+
+pub returns-in-Ok-put-clause-less : goal.returns-in-Ok-put-clause-less
+returns-in-Ok-put-clause-less g c =
+    let known = IsKnown (g.S.Store.state c.args.store.now) in
+    let files = (g.S.Store.state c.args.store.now).files in
+    let is : IsPrepared known c.args.options.now c.args.dir.now files c.in-Ok.start.head c.in-Ok-Some.prepared =
+    rw (c.in-Ok.ensures.frame.known, c.in-Ok.ensures.frame.files) at (rw c.in-Ok-Some.field-0-is at c.in-Ok-Some.ensures.prepared) in
+    rw c.progress_of.ensures (less known c.args.options.now c.args.dir.now files c.in-Ok.start.head c.in-Ok-Some.prepared is)
 
 pub returns-in-Err-put-clause-stops : goal.returns-in-Err-put-clause-stops
 returns-in-Err-put-clause-stops g c = λ whole.
