@@ -7,10 +7,10 @@
 
 ghost use Rattle.std.specs.Prelude.{◌<◌, length};
 
-use osm_folder::fault::RunFault;
 use osm_judge::judge::may_answer;
 use osm_model::filter::Filter;
 use osm_opl::texts::read_text;
+use osm_script::fault::ScriptFault;
 use std::alloc::Global;
 use std::env;
 use std::io::Read;
@@ -37,7 +37,7 @@ enum Unjudged {
     NoFilter,
     Input,
     NoSeparator,
-    NoScript(RunFault),
+    NoScript(ScriptFault),
 }
 
 fn judged(rt: &HostRuntime) -> Result<bool, Unjudged> {

@@ -7,11 +7,20 @@ use Rattle.osm_blocks.specs.Places.{IsHuge}
 use Rattle.osm_data.specs.declared.fault.DataFault.{DataFault}
 use Rattle.osm_data.specs.declared.fault.DataFault.TheVariants.{Device, WantOfMemory, NoFile}
 use Rattle.osm_data.specs.declared.fault.DataFault.TheVariants.{BadData, LongPart, TooLarge}
+use Rattle.osm_blocks.specs.declared.fault.BlockFault.{BlockFault}
+use Rattle.osm_blocks.specs.declared.fault.BlockFault.TheVariants as blocks
 
 -- the device is the reason
 abbrev pub IsDeviceFault : DataFault → Type 0
 IsDeviceFault Device = Unit {0}
 IsDeviceFault fault = ⊥
+
+-- why a data file isn't read, from why its blocks or lines aren't
+abbrev pub blocks_fault_of : BlockFault → DataFault
+blocks_fault_of blocks.Device = Device
+blocks_fault_of blocks.LongLine = LongPart
+blocks_fault_of blocks.TooLarge = TooLarge
+blocks_fault_of blocks.WantOfMemory = WantOfMemory
 
 -- nothing comes, or something
 abbrev pub EndsOrGoesOn : {T : Type 0} → Type 0 → (T → Type 0) → Option T → Type 0

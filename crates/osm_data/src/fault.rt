@@ -1,5 +1,9 @@
 //! Why the objects of a data file aren't read.
 
+ghost use Rattle.std.specs.Prelude.{◌≡◌};
+ghost use Rattle.osm_data.specs.Reading.{blocks_fault_of};
+
+use osm_blocks::fault::BlockFault;
 use osm_model::form::Why;
 use thiserror::Error;
 
@@ -25,4 +29,16 @@ pub enum DataFault {
     /// The file has more bytes than 64 bits count.
     #[error("TooLarge")]
     TooLarge,
+}
+
+/// The fault of a data file that isn't read in blocks for that reason.
+pub fn fault_of_blocks(fault: BlockFault) -> DataFault
+    ensures { result ≡ blocks_fault_of fault }
+{
+    match fault {
+        BlockFault::Device => DataFault::Device,
+        BlockFault::LongLine => DataFault::LongPart,
+        BlockFault::TooLarge => DataFault::TooLarge,
+        BlockFault::WantOfMemory => DataFault::WantOfMemory,
+    }
 }

@@ -1,7 +1,9 @@
--- A conversion of one file into another. `known` says that it is known what the files hold.
+-- A conversion of one file into another. `known` says that it is known what the files hold, and a
+-- word that ends in `In` takes the state of a store in place of `known` and the files.
 use Rattle.std.specs.Prelude.{◌≡◌, ℕ, ◌≤◌, ◌⊎◌, List, Some, None, length}
 use Rattle.osm_model.specs.Limits.{max_file}
 use Rattle.osm_store.specs.Files.{Files, IsOver, Puts}
+use Rattle.osm_store.specs.Frames.{IsKnown, StoreState}
 use Rattle.osm_folder.specs.Forms.{Converts, HasEnd, IsFaulty, IsOutputTooLarge}
 use Rattle.osm_folder.specs.declared.fault.FileName.TheVariants.{Input, Output}
 use Rattle.osm_folder.specs.declared.fault.RunFault.{RunFault}
@@ -67,3 +69,7 @@ ConvertStops known input output files (WriteFault file) =
     (file ≡ Output) × HaveForms input output × (known → IsConvertible input output files)
 ConvertStops known input output files WantOfMemory = HaveForms input output
 ConvertStops known input output files fault = ⊥
+
+-- the same in a store
+abbrev pub ConvertStopsIn : StoreState → List ℕ → List ℕ → RunFault → Type 0
+ConvertStopsIn store input output = ConvertStops (IsKnown store) input output store.files

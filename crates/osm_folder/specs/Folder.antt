@@ -8,6 +8,7 @@ use Rattle.osm_state.specs.StateText.{StateOf}
 use Rattle.osm_state.specs.declared.paths.Suffix.{Suffix}
 use Rattle.osm_state.specs.declared.paths.Suffix.TheVariants.{O5c, Opl, State}
 use Rattle.osm_store.specs.Files.{Files}
+use Rattle.osm_store.specs.Frames.{IsKnown, StoreState}
 use Rattle.osm_folder.specs.Names.{file_name_of, top_name_of}
 
 -- the most bytes of a state file: 64 KiB
@@ -56,3 +57,14 @@ pub record IsFolderOf (published : List PublishedValue) (files : Files)
 pub record IsApart (dir name : List ℕ) : Type 0 where
   pub top : name ≡ top_name_of dir → ⊥
   pub each : (k : ℕ) (suffix : Suffix) → k ≤ max_sequence → name ≡ file_name_of dir k suffix → ⊥
+
+-- if it is known what the files hold, all that are apart from the folder stay as they were
+abbrev pub KeepsOthers : StoreState → StoreState → List ℕ → Type 0
+KeepsOthers old new dir =
+    IsKnown old → (name : List ℕ) → IsApart dir name → new.files name ≡ old.files name
+
+-- if it is known what the files hold, this holds of any published sequences whose folder it is
+abbrev pub OverFolder : StoreState → List ℕ → (List PublishedValue → Type 0) → Type 0
+OverFolder store dir holds =
+    IsKnown store → (published : List PublishedValue) → IsFolderOf published store.files dir
+    → holds published

@@ -1,9 +1,10 @@
 -- A follower that goes on from its save over a folder. `known` says that it is known what the files
--- hold, `given` is the filter that the run was given, and `options` are the filter, the limit and
--- the layout of a run.
+-- hold, and a word that ends in `In` takes the state of a store in place of `known` and the files;
+-- `given` is the filter that the run was given, and `options` are the filter, the limit and the
+-- layout of a run.
 use Rattle.std.specs.Prelude.{◌≡◌, ◌≢◌, ℕ, zero, suc, ◌+◌, ◌-◌, ◌<◌, ◌≤◌, ◌⊎◌, ◌↔◌, List}
 use Rattle.std.specs.Prelude.{[], length, map, filter, min, Bool, true, false, ◌||◌, ◌&&◌, Option}
-use Rattle.std.specs.Prelude.{Some, None, is_none}
+use Rattle.std.specs.Prelude.{Some, None, is_none, IfSome, MatchOption, Vec}
 use Rattle.osm_model.specs.Batch.{IsBatch}
 use Rattle.osm_model.specs.Change.{ChangeValue}
 use Rattle.osm_model.specs.Filter.{FilterValue}
@@ -18,6 +19,7 @@ use Rattle.osm_follow.specs.Published.{PublishedValue, changes_after, changes_up
 use Rattle.osm_follow.specs.Published.{time_at}
 use Rattle.osm_follow.specs.Reach.{numbers}
 use Rattle.osm_store.specs.Files.{Files, IsOver}
+use Rattle.osm_store.specs.Frames.{IsKnown, StoreState}
 use Rattle.osm_folder.specs.Folder.{IsFile, IsStateFile, IsThere, max_state}
 use Rattle.osm_folder.specs.Forms.{IsFaulty}
 use Rattle.osm_folder.specs.Names.{file_name_of, top_name_of}
@@ -29,6 +31,7 @@ use Rattle.osm_folder.specs.declared.fault.RunFault.TheVariants.{WantOfMemory, R
 use Rattle.osm_folder.specs.declared.fault.RunFault.TheVariants.{TooLarge, Absent}
 use Rattle.osm_folder.specs.declared.fault.RunFault.TheVariants.{BadState, Mismatch, BadChange}
 use Rattle.osm_folder.specs.declared.form.Form.TheVariants as forms
+use Rattle.osm_folder.specs.declared.number.Numbered.{Numbered}
 use Rattle.osm_folder.specs.declared.options.FollowOptions.{FollowOptions}
 use Rattle.osm_folder.specs.declared.options.Layout.{Layout}
 use Rattle.osm_folder.specs.declared.options.Layout.TheVariants.{Lines}
@@ -98,7 +101,7 @@ abbrev pub size_of : Files → List ℕ → ℕ → ℕ
 size_of files dir k = size_in (files (file_name_of dir k O5c)) (files (file_name_of dir k Opl))
 
 -- how many bytes those of the numbers n + 1 to n + count have
-pub bytes_of : Files → List ℕ → ℕ → ℕ → ℕ
+abbrev pub bytes_of : Files → List ℕ → ℕ → ℕ → ℕ
 bytes_of files dir n zero = 0
 bytes_of files dir n (suc count) = bytes_of files dir n count + size_of files dir (n + count + 1)
 
@@ -122,6 +125,12 @@ pub record IsNumber (known : Type 0) (files : Files) (dir : List ℕ) (number ti
     changes = changes;
     time = time;
   })
+
+-- what reading a number in a store gives: its time and its changes, or none if it is lost
+abbrev pub FindsNumberIn : StoreState → List ℕ → ℕ → Option Numbered → Type 0
+FindsNumberIn store dir number o =
+    MatchOption o (IsKnown store → is_lost store.files dir number ≡ true)
+    (λ a. IsNumber (IsKnown store) store.files dir number a.time a.changes.items)
 
 -- the next number's changes are applied under the filter, which stays
 pub record Adds (files : Files) (dir : List ℕ) (old new : Saved) : Type 0 where
@@ -151,6 +160,17 @@ lost_numbers files dir n top = filter (is_lost files dir) (numbers n (min 64 (to
 -- a number is the top, or comes before a lost one
 abbrev pub IsReached : Files → List ℕ → ℕ → ℕ → Type 0
 IsReached files dir number top = (number ≡ top) ⊎ (is_lost files dir (number + 1) ≡ true)
+
+-- how many bytes its change file has
+abbrev pub SizesNumberIn : StoreState → List ℕ → ℕ → Option Numbered → Type 0
+SizesNumberIn store dir number o =
+    IfSome o (λ a. IsKnown store → a.size ≡ size_of store.files dir number)
+
+-- they are the lost numbers after one that was reached
+abbrev pub AreLostIn : {Z : Type 0} → StoreState → List ℕ → ℕ → ℕ → Vec ℕ Z → Type 0
+AreLostIn store dir reached top missing =
+    IsKnown store → IsReached store.files dir reached top
+    → missing.items ≡ lost_numbers store.files dir reached top
 
 -- what was reached from the start: the changes of `count` numbers after it are applied, up to the
 -- top or to a lost number. Nothing is asked of the files beyond that one
@@ -225,6 +245,14 @@ pub record IsTopBehind (given : FilterValue) (dir save : List ℕ) (files : File
   pub started : IsStarted given dir save files start top
   pub below : top.sequence < start.number
 
+-- the file is there, and holds that top state
+abbrev pub IsTopState : Option (List ℕ) → StateValue → Type 0
+IsTopState told s = IsThere told (IsStateFile s.sequence s.time)
+
+-- the top state that the file holds, or none if there is no such file
+abbrev pub FindsTop : Option (List ℕ) → Option StateValue → Type 0
+FindsTop told o = MatchOption o (told ≡ None) (IsTopState told)
+
 -- why the top state isn't read
 abbrev pub TopStateStops : Type 0 → Option (List ℕ) → RunFault → Type 0
 TopStateStops known told WantOfMemory = Unit {0}
@@ -254,6 +282,10 @@ pub record ComesTo (options : FollowOptions) (dir save : List ℕ) (files : File
 abbrev pub HasState : Files → List ℕ → ℕ → Type 0
 HasState files dir number =
     (time : ℕ) × IsThere (files (file_name_of dir number State)) (IsStateFile number time)
+
+-- the same in a store
+abbrev pub HasStateIn : StoreState → List ℕ → ℕ → Type 0
+HasStateIn store dir number = IsKnown store → HasState store.files dir number
 
 -- when a file of a number is read: a change file only if the state is right, and the OPL file only
 -- if there is no o5c file
@@ -294,6 +326,10 @@ NumberStops known dir files number (BadChange (Sequence k Opl) place why) =
     × IsThere (files (file_name_of dir number Opl)) (λ bytes. IsFaulty forms.Opl bytes place))
 NumberStops known dir files number fault = ⊥
 
+-- the same in a store
+abbrev pub NumberStopsIn : StoreState → List ℕ → ℕ → RunFault → Type 0
+NumberStopsIn store dir number = NumberStops (IsKnown store) dir store.files number
+
 -- when a file of a number is looked for: a change file only if the state is there, and the OPL file
 -- only if there is no o5c file
 abbrev pub IsLookedFor : Files → List ℕ → ℕ → Suffix → Type 0
@@ -315,6 +351,10 @@ MissingStops known dir files reached top WantOfMemory = Unit {0}
 MissingStops known dir files reached top (ReadFault (Sequence number suffix)) =
     IsBeyond reached top number × (known → IsLookedFor files dir number suffix)
 MissingStops known dir files reached top fault = ⊥
+
+-- the same in a store
+abbrev pub MissingStopsIn : StoreState → List ℕ → ℕ → ℕ → RunFault → Type 0
+MissingStopsIn store dir reached top = MissingStops (IsKnown store) dir store.files reached top
 
 -- exactly what the filter keeps of the mirror of published sequences 1 to the number, its time, and
 -- the counts of all edits of those after the base

@@ -1,4 +1,5 @@
--- How far a saved follower is behind a folder. `known` says that it is known what the files hold.
+-- How far a saved follower is behind a folder. `known` says that it is known what the files hold,
+-- and a word that ends in `In` takes the state of a store in place of `known` and the files.
 use Rattle.std.specs.Prelude.{◌≡◌, ℕ, ◌+◌, ◌<◌, ◌≤◌, List, length, Option, Some, None}
 use Rattle.std.specs.Prelude.{Result, IfErr, IfOk}
 use Rattle.osm_model.specs.Filter.{FilterValue}
@@ -9,6 +10,7 @@ use Rattle.osm_state.specs.State.{StateValue}
 use Rattle.osm_follow.specs.Lag.{AreSeconds}
 use Rattle.osm_follow.specs.Published.{PublishedValue, sequence_at, time_at}
 use Rattle.osm_store.specs.Files.{Files, IsOver}
+use Rattle.osm_store.specs.Frames.{IsKnown, StoreState}
 use Rattle.osm_folder.specs.Folder.{IsStateFile, IsThere, max_state}
 use Rattle.osm_folder.specs.Following.{IsSaved, standing_at}
 use Rattle.osm_folder.specs.Names.{top_name_of}
@@ -61,6 +63,10 @@ pub record IsLag (layout : Layout) (dir save : List ℕ) (files : Files) (report
   pub seconds_are : AreSeconds start.time top.time seconds
   pub report_is : report ≡ lag_told layout (standing_from start top) behind seconds
 
+-- the same in a store
+abbrev pub IsLagIn : StoreState → Layout → List ℕ → List ℕ → ReportValue → Type 0
+IsLagIn store layout dir save report = IsKnown store → IsLag layout dir save store.files report
+
 -- a report of a lag, whatever is known of the files
 abbrev pub IsLagReport : Layout → ReportValue → Type 0
 IsLagReport layout report =
@@ -109,6 +115,10 @@ LagStops known dir save files (BadState Top cause) =
 LagStops known dir save files TopBehind = known → IsBelowHead dir save files
 LagStops known dir save files TimeBehind = known → IsTimeBehind dir save files
 LagStops known dir save files fault = ⊥
+
+-- the same in a store
+abbrev pub LagStopsIn : StoreState → List ℕ → List ℕ → RunFault → Type 0
+LagStopsIn store dir save = LagStops (IsKnown store) dir save store.files
 
 -- the lag of a follower that is in step with what was published, at that number
 pub record IsLagOf (layout : Layout) (published : List PublishedValue) (base number : ℕ)

@@ -11,6 +11,7 @@ use Rattle.osm_reading.specs.Sequence.{SpellsSequence}
 use Rattle.osm_state.specs.declared.paths.Suffix.{Suffix}
 use Rattle.osm_state.specs.declared.paths.Suffix.TheVariants.{O5c, Opl, State}
 use Rattle.osm_store.specs.Files.{Files, IsOver, Spends, SpendsAtMost}
+use Rattle.osm_store.specs.Frames.{IsKnown, StoreState}
 use Rattle.osm_folder.specs.Folder.{IsAbsentOr, IsFile, IsFolderOf, IsThere, max_state}
 use Rattle.osm_folder.specs.Following.{is_lost}
 use Rattle.osm_folder.specs.Names.{file_name_of, top_name_of}
@@ -252,6 +253,13 @@ numbered_calls number top = if number == top + 1 then 6 else (if number == top t
 -- exactly that many calls were made
 abbrev pub SpendsExactly : ℕ → Option ℕ → Option ℕ → Type 0
 SpendsExactly calls old new = Spends calls old new × SpendsAtMost calls old new
+
+-- if it is known what the files hold, as many calls were made as that number takes
+abbrev pub SpendsNumbered : StoreState → StoreState → List ℕ → List ℕ → Type 0
+SpendsNumbered old new dir sequence =
+    IsKnown old → (number top time : ℕ) → SpellsSequence sequence number
+    → GoesOnFrom (old.files (top_name_of dir)) top time
+    → SpendsExactly (numbered_calls number top) old.left new.left
 
 -- how many calls come before the first write
 abbrev pub calls_before : ℕ → ℕ → ℕ

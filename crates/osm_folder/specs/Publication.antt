@@ -1,4 +1,5 @@
--- Publishing one more sequence in a folder. `known` says that it is known what the files hold.
+-- Publishing one more sequence in a folder. `known` says that it is known what the files hold, and
+-- a word that ends in `In` takes the state of a store in place of `known` and the files.
 use Rattle.std.specs.Prelude.{◌≡◌, ℕ, zero, suc, ◌+◌, ◌<◌, ◌≤◌, ◌⊎◌, List, [], ◌∷◌, ◌++◌}
 use Rattle.std.specs.Prelude.{length, take, Option, Some, None, Result, IfErr, IfOk, OnErr}
 use Rattle.osm_model.specs.Limits.{max_file, max_sequence}
@@ -11,6 +12,7 @@ use Rattle.osm_state.specs.StateFault.{FaultOf}
 use Rattle.osm_state.specs.declared.paths.Suffix.TheVariants.{O5c, Opl, State}
 use Rattle.osm_state.specs.declared.state_text.StateError.{StateError}
 use Rattle.osm_store.specs.Files.{Files, IsOver, Puts}
+use Rattle.osm_store.specs.Frames.{IsKnown, StoreState}
 use Rattle.osm_folder.specs.Folder.{IsFolderOf, IsStateFile, IsThere, max_state}
 use Rattle.osm_folder.specs.Forms.{IsFaulty}
 use Rattle.osm_folder.specs.Names.{file_name_of, top_name_of}
@@ -158,6 +160,10 @@ NotReady known dir changes now files TimeBack =
     HasTime now × (known → IsReadWith dir changes now files IsBack)
 NotReady known dir changes now files WantOfMemory = HasTime now
 NotReady known dir changes now files fault = ⊥
+
+-- the same in a store
+abbrev pub NotReadyIn : StoreState → List ℕ → List ℕ → List ℕ → RunFault → Type 0
+NotReadyIn store dir changes now = NotReady (IsKnown store) dir changes now store.files
 
 -- a publication stops before its first write, and all files are as they were, or it is cut off
 abbrev pub PublishStops :

@@ -1,8 +1,8 @@
 -- What all runs over a store have in common.
-use Rattle.std.specs.Prelude.{◌≡◌, ℕ, Option, Result}
-use Rattle.osm_store.specs.Files.{HasFailed, HasFewer}
-use Rattle.osm_store.specs.Frames.{CallsBetween, Makes, MakesAtMost, ReadsBetween, StoreState}
-use Rattle.osm_store.specs.Frames.{ReplacesBetween}
+use Rattle.std.specs.Prelude.{◌≡◌, ℕ, List, Option, Result, IfErr}
+use Rattle.osm_store.specs.Files.{Files, HasFailed, HasFewer}
+use Rattle.osm_store.specs.Frames.{CallsBetween, IsKnown, Makes, MakesAtMost, ReadsBetween}
+use Rattle.osm_store.specs.Frames.{ReplacesBetween, StoreState}
 use Rattle.osm_folder.specs.declared.fault.RunFault.{RunFault}
 use Rattle.osm_folder.specs.declared.fault.RunFault.TheVariants.{ReadFault, WriteFault}
 
@@ -49,3 +49,22 @@ pub record ReadsAtLeast {T : Type 0} (least : ℕ) (old new : StoreState)
 -- that many calls, and no file changes unless all is done
 abbrev pub Replaces : {T : Type 0} → ℕ → StoreState → StoreState → Result T RunFault → Type 0
 Replaces calls old new result = ReplacesBetween IsDeviceFault calls calls old new result
+
+-- if it is known what the files hold, this holds of the file of that name and of a value
+abbrev pub IfFileKnown : {T : Type 0} → StoreState → List ℕ → (Option (List ℕ) → T → Type 0) → T
+    → Type 0
+IfFileKnown store name holds value = IsKnown store → holds (store.files name) value
+
+-- if it is known what the files hold, this holds of what they held and of what they hold now
+abbrev pub IfFilesKnown : StoreState → StoreState → (Files → Files → Type 0) → Type 0
+IfFilesKnown old new holds = IsKnown old → holds old.files new.files
+
+-- why a run stops at the file of that name, by whether the files are known and by what it holds
+abbrev pub StopsAt : StoreState → List ℕ → (Type 0 → Option (List ℕ) → RunFault → Type 0) → RunFault
+    → Type 0
+StopsAt store name stops = stops (IsKnown store) (store.files name)
+
+-- if it is known what the files hold, this holds of how many calls were left and of the fault
+abbrev pub RunsOut : {T : Type 0} → StoreState → Result T RunFault
+    → (Option ℕ → RunFault → Type 0) → Type 0
+RunsOut store result out = IfErr result (λ fault. IsKnown store → out store.left fault)

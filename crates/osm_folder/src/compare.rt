@@ -1,20 +1,20 @@
 //! Comparing the files of a published sequence with what it should be.
 
-ghost use Rattle.std.specs.Prelude.{◌≡◌, ◌<◌, ◌≤◌, ◌↔◌, IsTrue, IfErr, IfOk, OnOk, length};
+ghost use Rattle.std.specs.Prelude.{◌≡◌, ◌≤◌, ◌↔◌, IsTrue, IfErr, IfOk, OnOk, length};
 ghost use Rattle.std.specs.List.{AllByRecursion};
-ghost use Rattle.osm_model.specs.Batch.{IsBatch};
 ghost use Rattle.osm_model.specs.Change.{IsChange};
 ghost use Rattle.osm_model.specs.Limits.{max_file, max_sequence};
 ghost use Rattle.osm_opl.specs.Written.{line_text};
-ghost use Rattle.osm_store.specs.Files.{IsWithin, Tells};
+ghost use Rattle.osm_store.specs.Files.{IsWithin};
 ghost use Rattle.osm_folder.specs.Folder.{IsAbsentOr, IsStateFile, IsThere, max_state};
 ghost use Rattle.osm_store.specs.Frames.{IsKnown};
 ghost use Rattle.osm_folder.specs.Names.{file_name_of};
-ghost use Rattle.osm_folder.specs.Numbered.{AreFilesOf};
-ghost use Rattle.osm_folder.specs.Runs.{Reads};
+ghost use Rattle.osm_folder.specs.Runs.{Reads, RunsOut};
 ghost use Rattle.osm_folder.specs.Steps.Following.{suffix_of};
-ghost use Rattle.osm_folder.specs.Steps.Numbering.{BytesDiffer, CheckOut, CheckStops, FileDiffers};
-ghost use Rattle.osm_folder.specs.Steps.Numbering.{HoldsChanges, IsCompared, OverDiffers};
+ghost use Rattle.osm_folder.specs.Steps.Numbering.{AreFilesIn, BytesDiffer, CheckOut, CheckStops};
+ghost use Rattle.osm_folder.specs.Steps.Numbering.{FileDiffersIn, HoldsChanges, IsComparedIn};
+ghost use Rattle.osm_folder.specs.Steps.Numbering.{IsStateIn, OverDiffersIn};
+ghost use Rattle.osm_folder.specs.Steps.Reading.{TellsIn};
 
 use crate::fault::{FileName, RunFault};
 use crate::files::{MAX_STATE, read_file};
@@ -46,13 +46,11 @@ pub(crate) fn check_published<S: Store>(
     batch: &Batch,
 ) -> Result<(), RunFault>
     requires { number ≤ max_sequence }
-    ensures published { OnOk result (IsKnown (S.state store.old)
-        → AreFilesOf (S.state store.old).files dir.now
+    ensures published { OnOk result (AreFilesIn (S.state store.old) dir.now
         (record { number = number; changes = batch.now; time = time })) }
     ensures stops { IfErr result (CheckStops (IsKnown (S.state store.old)) dir.now
         (S.state store.old).files (record { number = number; changes = batch.now; time = time })) }
-    ensures out { IfErr result
-        (λ fault. IsKnown (S.state store.old) → CheckOut number (S.state store.old).left fault) }
+    ensures out { RunsOut (S.state store.old) result (CheckOut number) }
     ensures frame { Reads 3 (S.state store.old) (S.state store.new) result }
 {
     check_state(alloc, store, dir, number, time)?;
@@ -73,13 +71,9 @@ fn check_state<S: Store>(
     time: u32,
 ) -> Result<(), RunFault>
     requires { number ≤ max_sequence }
-    ensures there { OnOk result (IsKnown (S.state store.old)
-        → IsThere ((S.state store.old).files (file_name_of dir.now number Suffix.State))
-        (IsStateFile number time)) }
-    ensures stops { IfErr result (FileDiffers (IsKnown (S.state store.old))
-        (FileName.Sequence number Suffix.State) number
-        (IsThere ((S.state store.old).files (file_name_of dir.now number Suffix.State))
-        (IsStateFile number time))) }
+    ensures there { OnOk result (IsStateIn (S.state store.old) dir.now number time) }
+    ensures stops { IfErr result (FileDiffersIn (S.state store.old) dir.now number Suffix.State
+        (λ told. IsThere told (IsStateFile number time))) }
     ensures frame { Reads 1 (S.state store.old) (S.state store.new) result }
 {
     match read_of(alloc, store, dir, number, Suffix::State, MAX_STATE) {
@@ -121,14 +115,9 @@ fn check_changes<S: Store>(
     batch: &Batch,
 ) -> Result<bool, RunFault>
     requires { number ≤ max_sequence }
-    ensures there { IfOk result (λ is_there. IsKnown (S.state store.old)
-        → IsCompared is_there
-        ((S.state store.old).files (file_name_of dir.now number (suffix_of form)))
-        (HoldsChanges form batch.now)) }
-    ensures stops { IfErr result (FileDiffers (IsKnown (S.state store.old))
-        (FileName.Sequence number (suffix_of form)) number
-        (IsAbsentOr ((S.state store.old).files (file_name_of dir.now number (suffix_of form)))
-        (HoldsChanges form batch.now))) }
+    ensures there { IfOk result (IsComparedIn (S.state store.old) dir.now number form batch.now) }
+    ensures stops { IfErr result (FileDiffersIn (S.state store.old) dir.now number (suffix_of form)
+        (λ told. IsAbsentOr told (HoldsChanges form batch.now))) }
     ensures frame { Reads 1 (S.state store.old) (S.state store.new) result }
 {
     let suffix = suffix(form);
@@ -181,12 +170,9 @@ fn read_of<S: Store>(
     limit: u64,
 ) -> Result<Option<Vec<u8>>, RunFault>
     requires { number ≤ max_sequence }
-    ensures read { IfOk result (λ o. IsKnown (S.state store.old)
-        → Tells o ((S.state store.old).files (file_name_of dir.now number suffix))) }
+    ensures read { IfOk result (TellsIn (S.state store.old) (file_name_of dir.now number suffix)) }
     ensures within { IfOk result (IsWithin limit) }
-    ensures stops { IfErr result (OverDiffers (IsKnown (S.state store.old))
-        (FileName.Sequence number suffix) number limit
-        ((S.state store.old).files (file_name_of dir.now number suffix))) }
+    ensures stops { IfErr result (OverDiffersIn (S.state store.old) dir.now number suffix limit) }
     ensures frame { Reads 1 (S.state store.old) (S.state store.new) result }
 {
     let name = file_name(alloc, dir, number, suffix)?;

@@ -1,10 +1,9 @@
 //! Converting a file.
 
 ghost use Rattle.std.specs.Prelude.{◌≡◌, IfErr, IfOk, OnOk};
-ghost use Rattle.osm_folder.specs.Conversion.{ConvertStops, IsConverted};
-ghost use Rattle.osm_store.specs.Frames.{IsKnown};
+ghost use Rattle.osm_folder.specs.Conversion.{ConvertStopsIn, IsConverted};
 ghost use Rattle.osm_folder.specs.Reports.{convert_report_of};
-ghost use Rattle.osm_folder.specs.Runs.{Replaces};
+ghost use Rattle.osm_folder.specs.Runs.{IfFilesKnown, Replaces};
 
 use crate::fault::{FileName, RunFault};
 use crate::files::{read_present, write_file};
@@ -23,11 +22,10 @@ pub fn convert_run<S: Store>(
     input: &str,
     output: &str,
 ) -> Result<Report, RunFault>
-    ensures converted { OnOk result (IsKnown (S.state store.old)
-        → IsConverted input.now output.now (S.state store.old).files (S.state store.new).files) }
+    ensures converted { OnOk result (IfFilesKnown (S.state store.old) (S.state store.new)
+        (IsConverted input.now output.now)) }
     ensures report { IfOk result (λ report. report ≡ convert_report_of) }
-    ensures stops { IfErr result (ConvertStops (IsKnown (S.state store.old)) input.now output.now
-        (S.state store.old).files) }
+    ensures stops { IfErr result (ConvertStopsIn (S.state store.old) input.now output.now) }
     ensures frame { Replaces 2 (S.state store.old) (S.state store.new) result }
 {
     let Some(from) = form_of(input) else {

@@ -25,7 +25,7 @@ pub enum FileName {
     State,
     /// The file of changes to publish.
     Changes,
-    /// The input of a conversion or a replay.
+    /// The input of a conversion.
     Input,
     /// The output of a conversion or an export, or standard output.
     Output,
@@ -101,9 +101,6 @@ pub enum RunFault {
     /// The save was saved under another filter.
     #[error("save: other filter")]
     OtherFilter,
-    /// A line of a script, counted from 1 over all lines, isn't an event.
-    #[error("input: line {0}")]
-    BadScript(u64),
     /// The newest sequence of the folder is below the save's.
     #[error("state.txt: older than the save")]
     TopBehind,

@@ -1,18 +1,15 @@
 //! Reading the files of a sequence.
 
-ghost use Rattle.std.specs.Prelude.{◌≡◌, ℕ, ◌≤◌, true, IfErr, IfOk, IfNone, OnOk};
-ghost use Rattle.std.specs.Prelude.{MatchOption, is_some, length};
+ghost use Rattle.std.specs.Prelude.{◌≡◌, ◌≤◌, IfErr, IfOk, length};
 ghost use Rattle.osm_model.specs.Limits.{IsPositive, max_sequence};
-ghost use Rattle.osm_store.specs.Files.{IsWithin, Tells};
+ghost use Rattle.osm_store.specs.Files.{IsWithin};
 ghost use Rattle.osm_folder.specs.Folder.{IsStateFile, max_state};
-ghost use Rattle.osm_store.specs.Frames.{IsKnown};
-ghost use Rattle.osm_folder.specs.Following.{HasState, NumberStops, is_lost, limit_of};
+ghost use Rattle.osm_folder.specs.Following.{HasStateIn, NumberStopsIn, limit_of};
 ghost use Rattle.osm_folder.specs.Names.{file_name_of};
 ghost use Rattle.osm_folder.specs.Runs.{Reads, ReadsUpTo};
-ghost use Rattle.osm_folder.specs.Steps.Following.{AreChangesRead, IsFetched, IsStateRead};
-ghost use Rattle.osm_folder.specs.Steps.Following.{StateTextStops};
-ghost use Rattle.osm_folder.specs.Steps.Following.{LookStops};
-ghost use Rattle.osm_folder.specs.Steps.Reading.{FileStops, PrefixStops};
+ghost use Rattle.osm_folder.specs.Steps.Following.{AreChangesReadIn, FetchesIn, IsStateReadIn};
+ghost use Rattle.osm_folder.specs.Steps.Following.{LookStopsIn, StateTextStops, TellsIfLost};
+ghost use Rattle.osm_folder.specs.Steps.Reading.{FileStopsIn, PrefixStops, TellsIfThere, TellsIn};
 
 use crate::fault::{FileName, RunFault};
 use crate::files::{MAX_STATE, is_there, read_file};
@@ -41,12 +38,8 @@ pub(crate) fn fetch<S: Store>(
     number: u32,
 ) -> Result<Option<Fetched>, RunFault>
     requires { number ≤ max_sequence }
-    ensures fetched { IfOk result (λ o. MatchOption o
-        (IsKnown (S.state store.old) → is_lost (S.state store.old).files dir.now number ≡ true)
-        (λ a. IsFetched (IsKnown (S.state store.old)) (S.state store.old).files dir.now number
-        a.time a.form a.changes.items)) }
-    ensures stops { IfErr result
-        (NumberStops (IsKnown (S.state store.old)) dir.now (S.state store.old).files number) }
+    ensures fetched { IfOk result (FetchesIn (S.state store.old) dir.now number) }
+    ensures stops { IfErr result (NumberStopsIn (S.state store.old) dir.now number) }
     ensures frame { ReadsUpTo 3 (S.state store.old) (S.state store.new) result }
 {
     let Some(time) = read_state(alloc, store, dir, number)? else {
@@ -71,10 +64,8 @@ fn read_state<S: Store>(
     number: u32,
 ) -> Result<Option<u32>, RunFault>
     requires { number ≤ max_sequence }
-    ensures read { IfOk result (IsStateRead (IsKnown (S.state store.old))
-        ((S.state store.old).files (file_name_of dir.now number Suffix.State)) number) }
-    ensures stops { IfErr result
-        (NumberStops (IsKnown (S.state store.old)) dir.now (S.state store.old).files number) }
+    ensures read { IfOk result (IsStateReadIn (S.state store.old) dir.now number) }
+    ensures stops { IfErr result (NumberStopsIn (S.state store.old) dir.now number) }
     ensures frame { Reads 1 (S.state store.old) (S.state store.new) result }
 {
     let Some(text) = read_numbered(alloc, store, dir, number, Suffix::State)? else {
@@ -107,13 +98,9 @@ fn read_changes<S: Store>(
     number: u32,
 ) -> Result<Option<(Form, Vec<u8>)>, RunFault>
     requires { number ≤ max_sequence }
-    ensures read { IfOk result (AreChangesRead (IsKnown (S.state store.old))
-        ((S.state store.old).files (file_name_of dir.now number Suffix.O5c))
-        ((S.state store.old).files (file_name_of dir.now number Suffix.Opl))) }
-    ensures stops { IfErr result
-        (λ fault. (IsKnown (S.state store.old) → HasState (S.state store.old).files dir.now number)
-        → NumberStops (IsKnown (S.state store.old)) dir.now (S.state store.old).files
-        number fault) }
+    ensures read { IfOk result (AreChangesReadIn (S.state store.old) dir.now number) }
+    ensures stops { IfErr result (λ fault. HasStateIn (S.state store.old) dir.now number
+        → NumberStopsIn (S.state store.old) dir.now number fault) }
     ensures frame { ReadsUpTo 2 (S.state store.old) (S.state store.new) result }
 {
     if let Some(bytes) = read_numbered(alloc, store, dir, number, Suffix::O5c)? {
@@ -134,12 +121,10 @@ fn read_numbered<S: Store>(
     suffix: Suffix,
 ) -> Result<Option<Vec<u8>>, RunFault>
     requires { number ≤ max_sequence }
-    ensures read { IfOk result (λ o. IsKnown (S.state store.old)
-        → Tells o ((S.state store.old).files (file_name_of dir.now number suffix))) }
+    ensures read { IfOk result (TellsIn (S.state store.old) (file_name_of dir.now number suffix)) }
     ensures within { IfOk result (IsWithin (limit_of suffix)) }
-    ensures stops { IfErr result (FileStops (IsKnown (S.state store.old))
-        (FileName.Sequence number suffix) (limit_of suffix)
-        ((S.state store.old).files (file_name_of dir.now number suffix))) }
+    ensures stops { IfErr result (FileStopsIn (S.state store.old)
+        (file_name_of dir.now number suffix) (FileName.Sequence number suffix) (limit_of suffix)) }
     ensures frame { Reads 1 (S.state store.old) (S.state store.new) result }
 {
     let name = file_name(alloc, dir, number, suffix)?;
@@ -156,10 +141,8 @@ pub(crate) fn lacks_files<S: Store>(
     number: u32,
 ) -> Result<bool, RunFault>
     requires { number ≤ max_sequence }
-    ensures lost { IfOk result (λ lost. IsKnown (S.state store.old)
-        → lost ≡ is_lost (S.state store.old).files dir.now number) }
-    ensures stops { IfErr result
-        (LookStops (IsKnown (S.state store.old)) dir.now (S.state store.old).files number) }
+    ensures lost { IfOk result (TellsIfLost (S.state store.old) dir.now number) }
+    ensures stops { IfErr result (LookStopsIn (S.state store.old) dir.now number) }
     ensures frame { ReadsUpTo 3 (S.state store.old) (S.state store.new) result }
 {
     let has_state = has_file(alloc, store, dir, number, Suffix::State)?;
@@ -183,8 +166,8 @@ fn has_file<S: Store>(
     suffix: Suffix,
 ) -> Result<bool, RunFault>
     requires { number ≤ max_sequence }
-    ensures there { IfOk result (λ is_there. IsKnown (S.state store.old)
-        → is_there ≡ is_some ((S.state store.old).files (file_name_of dir.now number suffix))) }
+    ensures there { IfOk result (TellsIfThere (S.state store.old)
+        (file_name_of dir.now number suffix)) }
     ensures stops { IfErr result (PrefixStops (FileName.Sequence number suffix)) }
     ensures frame { Reads 1 (S.state store.old) (S.state store.new) result }
 {

@@ -1,10 +1,11 @@
 //! Reading and writing the files of a run.
 
-ghost use Rattle.std.specs.Prelude.{◌≡◌, ◌≤◌, Some, IfErr, IfOk, OnOk, is_some, length};
-ghost use Rattle.osm_store.specs.Files.{IsWithin, Puts, Tells, prefix_of};
+ghost use Rattle.std.specs.Prelude.{◌≤◌, Some, IfErr, IfOk, OnOk, length};
+ghost use Rattle.osm_store.specs.Files.{IsWithin, Puts};
 ghost use Rattle.osm_store.specs.Frames.{IsKnown};
 ghost use Rattle.osm_folder.specs.Runs.{Reads, Replaces};
-ghost use Rattle.osm_folder.specs.Steps.Reading.{FileStops, PrefixStops, PresentStops, PutStops};
+ghost use Rattle.osm_folder.specs.Steps.Reading.{FileStopsIn, HoldsIn, PrefixStops, PresentStopsIn};
+ghost use Rattle.osm_folder.specs.Steps.Reading.{PutStops, TellsIfThere, TellsIn, TellsPrefixIn};
 
 use crate::fault::{FileName, RunFault};
 use osm_store::store::{Store, StoreError};
@@ -21,11 +22,9 @@ pub(crate) fn read_file<S: Store>(
     name: &str,
     limit: u64,
 ) -> Result<Option<Vec<u8>>, RunFault>
-    ensures read { IfOk result
-        (λ o. IsKnown (S.state store.old) → Tells o ((S.state store.old).files name.now)) }
+    ensures read { IfOk result (TellsIn (S.state store.old) name.now) }
     ensures within { IfOk result (IsWithin limit) }
-    ensures stops { IfErr result
-        (FileStops (IsKnown (S.state store.old)) file limit ((S.state store.old).files name.now)) }
+    ensures stops { IfErr result (FileStopsIn (S.state store.old) name.now file limit) }
     ensures frame { Reads 1 (S.state store.old) (S.state store.new) result }
 {
     match store.read(alloc, name, limit) {
@@ -44,8 +43,7 @@ pub(crate) fn read_prefix<S: Store>(
     name: &str,
     most: u64,
 ) -> Result<Option<Vec<u8>>, RunFault>
-    ensures read { IfOk result (λ o. IsKnown (S.state store.old)
-        → Tells o (prefix_of most ((S.state store.old).files name.now))) }
+    ensures read { IfOk result (TellsPrefixIn (S.state store.old) name.now most) }
     ensures stops { IfErr result (PrefixStops file) }
     ensures frame { Reads 1 (S.state store.old) (S.state store.new) result }
 {
@@ -65,11 +63,9 @@ pub fn read_present<S: Store>(
     name: &str,
     limit: u64,
 ) -> Result<Vec<u8>, RunFault>
-    ensures read { IfOk result (λ bytes. IsKnown (S.state store.old)
-        → (S.state store.old).files name.now ≡ Some bytes.items) }
+    ensures read { IfOk result (λ bytes. HoldsIn (S.state store.old) name.now bytes.items) }
     ensures within { IfOk result (λ bytes. length bytes.items ≤ limit) }
-    ensures stops { IfErr result (PresentStops (IsKnown (S.state store.old)) file limit
-        ((S.state store.old).files name.now)) }
+    ensures stops { IfErr result (PresentStopsIn (S.state store.old) name.now file limit) }
     ensures frame { Reads 1 (S.state store.old) (S.state store.new) result }
 {
     match read_file(alloc, store, file, name, limit) {
@@ -85,8 +81,7 @@ pub(crate) fn is_there<S: Store>(
     file: FileName,
     name: &str,
 ) -> Result<bool, RunFault>
-    ensures there { IfOk result (λ is_there. IsKnown (S.state store.old)
-        → is_there ≡ is_some ((S.state store.old).files name.now)) }
+    ensures there { IfOk result (TellsIfThere (S.state store.old) name.now) }
     ensures stops { IfErr result (PrefixStops file) }
     ensures frame { Reads 1 (S.state store.old) (S.state store.new) result }
 {

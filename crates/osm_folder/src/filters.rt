@@ -64,8 +64,7 @@ fn kinds_of(letters: &str) -> Option<Kinds>
 
 // The keys as texts, rising by their bytes, each once.
 fn sorted_keys(alloc: Global, keys: &[&str]) -> Result<Vec<Text>, RunFault>
-    ensures keys { IfOk result
-        (λ texts. AreKeysOf (map (λ key. key.now) keys.now) texts.items) }
+    ensures keys { IfOk result (λ texts. AreKeysOf (map (λ key. key.now) keys.now) texts.items) }
     ensures stops { IfErr result (TextStops (map (λ key. key.now) keys.now)) }
 {
     let mut texts = texts_of(alloc, keys)?;

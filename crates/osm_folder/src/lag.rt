@@ -7,9 +7,9 @@ ghost use Rattle.osm_follow.specs.Published.{PublishedValue};
 ghost use Rattle.osm_folder.specs.Folder.{IsFolderOf};
 ghost use Rattle.osm_store.specs.Frames.{IsKnown};
 ghost use Rattle.osm_folder.specs.Following.{IsSaveOf};
-ghost use Rattle.osm_folder.specs.Lagging.{IsHead, IsLag, IsLagReport, LagStops, LagsOver};
+ghost use Rattle.osm_folder.specs.Lagging.{IsHead, IsLagIn, IsLagReport, LagStopsIn, LagsOver};
 ghost use Rattle.osm_folder.specs.Lagging.{standing_from};
-ghost use Rattle.osm_folder.specs.Runs.{Reads};
+ghost use Rattle.osm_folder.specs.Runs.{IfFileKnown, Reads, StopsAt};
 ghost use Rattle.osm_folder.specs.Steps.Lagging.{HeadStops, HeadTextStops, IsTold, ToldStops};
 
 use crate::fault::{FileName, RunFault};
@@ -39,11 +39,9 @@ pub fn lag_run<S: Store>(
     save: &str,
     layout: Layout,
 ) -> Result<Report, RunFault>
-    ensures lag { IfOk result (λ report. IsKnown (S.state store.old)
-        → IsLag layout dir.now save.now (S.state store.old).files report) }
+    ensures lag { IfOk result (IsLagIn (S.state store.old) layout dir.now save.now) }
     ensures report { IfOk result (IsLagReport layout) }
-    ensures stops { IfErr result
-        (LagStops (IsKnown (S.state store.old)) dir.now save.now (S.state store.old).files) }
+    ensures stops { IfErr result (LagStopsIn (S.state store.old) dir.now save.now) }
     ensures over { IsKnown (S.state store.old)
         → (published : List PublishedValue) (given : FilterValue) (base number : ℕ)
         → IsFolderOf published (S.state store.old).files dir.now
@@ -59,10 +57,8 @@ pub fn lag_run<S: Store>(
 
 // The head of a save, or that of the start if there is none.
 fn read_start<S: Store>(alloc: Global, store: &mut S, save: &str) -> Result<Head, RunFault>
-    ensures head { IfOk result (λ head. IsKnown (S.state store.old)
-        → IsHead ((S.state store.old).files save.now) head) }
-    ensures stops { IfErr result
-        (HeadStops (IsKnown (S.state store.old)) ((S.state store.old).files save.now)) }
+    ensures head { IfOk result (IfFileKnown (S.state store.old) save.now IsHead) }
+    ensures stops { IfErr result (StopsAt (S.state store.old) save.now HeadStops) }
     ensures frame { Reads 1 (S.state store.old) (S.state store.new) result }
 {
     match read_prefix(alloc, store, FileName::Save, save, HEAD) {

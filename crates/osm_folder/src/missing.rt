@@ -1,12 +1,12 @@
 //! The numbers that are lost after the one that a follower reached.
 
-ghost use Rattle.std.specs.Prelude.{◌≡◌, ◌+◌, ◌-◌, ◌*◌, ◌≤◌, ◌↔◌, ◌++◌, ◌∷◌, [], IfErr, IfOk};
-ghost use Rattle.std.specs.Prelude.{OnOk, cond, filter, length, min};
+ghost use Rattle.std.specs.Prelude.{◌≡◌, ◌+◌, ◌-◌, ◌*◌, ◌≤◌, ◌↔◌, ◌++◌, ◌∷◌, [], IfErr, IfOk, OnOk};
+ghost use Rattle.std.specs.Prelude.{cond, filter, length, min};
 ghost use Rattle.osm_model.specs.Limits.{max_sequence};
 ghost use Rattle.osm_store.specs.Frames.{IsKnown};
-ghost use Rattle.osm_folder.specs.Following.{IsReached, MissingStops, is_lost, lost_numbers};
+ghost use Rattle.osm_folder.specs.Following.{AreLostIn, MissingStopsIn, is_lost};
 ghost use Rattle.osm_folder.specs.Runs.{ReadsUpTo};
-ghost use Rattle.osm_folder.specs.Steps.Following.{LookStops};
+ghost use Rattle.osm_folder.specs.Steps.Following.{LookStopsIn};
 
 use crate::fault::RunFault;
 use crate::fetch::lacks_files;
@@ -28,12 +28,9 @@ pub fn missing<S: Store>(
 ) -> Result<Vec<u32>, RunFault>
     requires until { reached ≤ top }
     requires most { top ≤ max_sequence }
-    ensures missing { IfOk result (λ missing. IsKnown (S.state store.old)
-        → IsReached (S.state store.old).files dir.now reached top
-        → missing.items ≡ lost_numbers (S.state store.old).files dir.now reached top) }
+    ensures missing { IfOk result (AreLostIn (S.state store.old) dir.now reached top) }
     ensures gap { IfOk result (λ missing. (missing.items ≡ []) ↔ (reached ≡ top)) }
-    ensures stops { IfErr result (MissingStops (IsKnown (S.state store.old))
-        dir.now (S.state store.old).files reached top) }
+    ensures stops { IfErr result (MissingStopsIn (S.state store.old) dir.now reached top) }
     ensures frame { ReadsUpTo (3 * (top - (reached + 1)))
         (S.state store.old) (S.state store.new) result }
 {
@@ -79,8 +76,7 @@ fn look<S: Store>(
     ensures looked { OnOk result (IsKnown (S.state store.old) → missing.new.items
         ≡ missing.old.items ++ filter (is_lost (S.state store.old).files dir.now) (number ∷ [])) }
     ensures more { OnOk result (length missing.old.items ≤ length missing.new.items) }
-    ensures stops { IfErr result
-        (LookStops (IsKnown (S.state store.old)) dir.now (S.state store.old).files number) }
+    ensures stops { IfErr result (LookStopsIn (S.state store.old) dir.now number) }
     ensures frame { ReadsUpTo 3 (S.state store.old) (S.state store.new) result }
 {
     let lost = lacks_files(alloc, store, dir, number)?;
@@ -89,8 +85,7 @@ fn look<S: Store>(
 }
 
 fn note_lost(lost: bool, number: u32, missing: &mut Vec<u32>) -> Result<(), WantOfMemory>
-    ensures { OnOk result
-        (missing.new.items ≡ missing.old.items ++ cond lost (number ∷ []) []) }
+    ensures { OnOk result (missing.new.items ≡ missing.old.items ++ cond lost (number ∷ []) []) }
 {
     if lost {
         missing.push(number)?;

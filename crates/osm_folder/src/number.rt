@@ -1,13 +1,12 @@
 //! A sequence of a folder, read from its files.
 
-ghost use Rattle.std.specs.Prelude.{◌≡◌, ℕ, ◌≤◌, true, IfErr, IfOk, IfSome, MatchOption, length};
+ghost use Rattle.std.specs.Prelude.{◌≤◌, IfErr, IfOk, length};
 ghost use Rattle.osm_model.specs.Batch.{IsBatch};
 ghost use Rattle.osm_model.specs.Limits.{max_file, max_sequence};
-ghost use Rattle.osm_store.specs.Frames.{IsKnown};
-ghost use Rattle.osm_folder.specs.Following.{IsNumber, NumberStops, is_lost, size_of};
-ghost use Rattle.osm_folder.specs.Forms.{place_of, spells_of};
+ghost use Rattle.osm_folder.specs.Following.{FindsNumberIn, NumberStopsIn, SizesNumberIn};
+ghost use Rattle.osm_folder.specs.Forms.{spells_of};
 ghost use Rattle.osm_folder.specs.Runs.{ReadsUpTo};
-ghost use Rattle.osm_folder.specs.Steps.Following.{DeliverStops, suffix_of};
+ghost use Rattle.osm_folder.specs.Steps.Following.{FormStops};
 
 use crate::compare::suffix;
 use crate::fault::{FileName, RunFault};
@@ -38,14 +37,9 @@ pub fn read_number<S: Store>(
     number: u32,
 ) -> Result<Option<Numbered>, RunFault>
     requires { number ≤ max_sequence }
-    ensures read { IfOk result (λ o. MatchOption o
-        (IsKnown (S.state store.old) → is_lost (S.state store.old).files dir.now number ≡ true)
-        (λ a. IsNumber (IsKnown (S.state store.old)) (S.state store.old).files dir.now number
-        a.time a.changes.items)) }
-    ensures size { IfOk result (λ o. IfSome o (λ a. IsKnown (S.state store.old)
-        → a.size ≡ size_of (S.state store.old).files dir.now number)) }
-    ensures stops { IfErr result
-        (NumberStops (IsKnown (S.state store.old)) dir.now (S.state store.old).files number) }
+    ensures read { IfOk result (FindsNumberIn (S.state store.old) dir.now number) }
+    ensures size { IfOk result (SizesNumberIn (S.state store.old) dir.now number) }
+    ensures stops { IfErr result (NumberStopsIn (S.state store.old) dir.now number) }
     ensures frame { ReadsUpTo 3 (S.state store.old) (S.state store.new) result }
 {
     let Some(fetched) = fetch(alloc, store, dir, number)? else {
@@ -67,9 +61,7 @@ fn changes_of(alloc: Global, number: u32, fetched: &Fetched) -> Result<Vec<Chang
     ensures spelled { IfOk result
         (λ changes. spells_of fetched.now.form fetched.now.changes.items changes.items) }
     ensures limits { IfOk result (λ changes. IsBatch changes.items) }
-    ensures stops { IfErr result (DeliverStops
-        (spells_of fetched.now.form) (place_of fetched.now.form) fetched.now.changes.items
-        (FileName.Sequence number (suffix_of fetched.now.form))) }
+    ensures stops { IfErr result (FormStops number fetched.now.form fetched.now.changes.items) }
 {
     match read_form(alloc, fetched.form, fetched.changes.as_slice()) {
         Ok(batch) => Ok(batch.into_changes()),

@@ -1,23 +1,22 @@
 //! Publishing one more sequence in a folder.
 
-ghost use Rattle.std.specs.Prelude.{◌≡◌, ℕ, ◌≤◌, [], List, IfErr, IfOk};
-ghost use Rattle.std.specs.Prelude.{OnOk, length};
-ghost use Rattle.osm_follow.specs.Published.{PublishedValue, written_of};
+ghost use Rattle.std.specs.Prelude.{◌≡◌, ℕ, ◌≤◌, [], IfErr, IfOk, OnOk, length};
+ghost use Rattle.osm_follow.specs.Published.{written_of};
 ghost use Rattle.osm_follow.specs.Publisher.{CanClose, IsSmall, closing};
 ghost use Rattle.osm_model.specs.Limits.{max_sequence};
 ghost use Rattle.osm_opl.specs.File.{SpellsOpl};
-ghost use Rattle.osm_folder.specs.Folder.{IsApart, IsFolderOf, IsStateFile, max_state};
+ghost use Rattle.osm_folder.specs.Folder.{IsStateFile, KeepsOthers, OverFolder, max_state};
 ghost use Rattle.osm_store.specs.Frames.{IsKnown};
 ghost use Rattle.osm_folder.specs.Names.{top_name_of};
-ghost use Rattle.osm_folder.specs.Publication.{GoesOnFrom, IsPublished, NotReady, PublishOut};
+ghost use Rattle.osm_folder.specs.Publication.{GoesOnFrom, IsPublished, NotReadyIn, PublishOut};
 ghost use Rattle.osm_folder.specs.Publication.{PublishStops, PublishesOver, Writes};
 ghost use Rattle.osm_folder.specs.Reports.{publish_report_of};
-ghost use Rattle.osm_folder.specs.Runs.{Calls, Reads};
+ghost use Rattle.osm_folder.specs.Runs.{Calls, IfFileKnown, IfFilesKnown, Reads, RunsOut, StopsAt};
 ghost use Rattle.osm_folder.specs.Steps.Following.{TopTextStops};
-ghost use Rattle.osm_folder.specs.Steps.Publishing.{AreNames, ChangesStop, CloseStops};
-ghost use Rattle.osm_folder.specs.Steps.Publishing.{IsChangesOf, IsCut, IsMade, IsMadeOf};
-ghost use Rattle.osm_folder.specs.Steps.Publishing.{ParseStops, ReadsOut, TopStops, WritesOut};
-ghost use Rattle.osm_folder.specs.Steps.Publishing.{from_top, writes_to};
+ghost use Rattle.osm_folder.specs.Steps.Publishing.{AreNames, ChangesStop, CloseStops, IsChangesOf};
+ghost use Rattle.osm_folder.specs.Steps.Publishing.{IsCut, IsMadeIn, IsMadeOf, ParseStops};
+ghost use Rattle.osm_folder.specs.Steps.Publishing.{ReadsOut, TopStops, WritesOut, from_top};
+ghost use Rattle.osm_folder.specs.Steps.Publishing.{writes_to};
 
 use crate::fault::{FileName, RunFault};
 use crate::files::{MAX_STATE, read_file, read_present, write_file};
@@ -65,20 +64,16 @@ pub fn publish_run<S: Store>(
     changes: &str,
     now: &str,
 ) -> Result<Report, RunFault>
-    ensures published { IfOk result (λ report. IsKnown (S.state store.old)
-        → IsPublished dir.now changes.now now.now (S.state store.old).files
-        (S.state store.new).files report) }
+    ensures published { IfOk result (λ report. IfFilesKnown (S.state store.old) (S.state store.new)
+        (λ old new. IsPublished dir.now changes.now now.now old new report)) }
     ensures report { IfOk result (λ report. (n : ℕ) × (report ≡ publish_report_of n)) }
     ensures stops { IfErr result (PublishStops (IsKnown (S.state store.old))
         dir.now changes.now now.now (S.state store.old).files (S.state store.new).files) }
-    ensures over { IsKnown (S.state store.old) → (published : List PublishedValue)
-        → IsFolderOf published (S.state store.old).files dir.now
-        → PublishesOver published dir.now changes.now now.now
-        (S.state store.old).files (S.state store.new).files result }
-    ensures out { IfErr result (λ fault. IsKnown (S.state store.old)
-        → PublishOut dir.now (S.state store.old).files (S.state store.old).left fault) }
-    ensures others { IsKnown (S.state store.old) → (name : List ℕ) → IsApart dir.now name
-        → (S.state store.new).files name ≡ (S.state store.old).files name }
+    ensures over { OverFolder (S.state store.old) dir.now (λ published. PublishesOver published
+        dir.now changes.now now.now (S.state store.old).files (S.state store.new).files result) }
+    ensures out { RunsOut (S.state store.old) result
+        (PublishOut dir.now (S.state store.old).files) }
+    ensures others { KeepsOthers (S.state store.old) (S.state store.new) dir.now }
     ensures frame { Calls 6 (S.state store.old) (S.state store.new) result }
 {
     laws_of_state();
@@ -95,12 +90,9 @@ fn prepare<S: Store>(
     changes: &str,
     now: &str,
 ) -> Result<Publication, RunFault>
-    ensures made { IfOk result (IsMade (IsKnown (S.state store.old))
-        dir.now changes.now now.now (S.state store.old).files) }
-    ensures stops { IfErr result (NotReady (IsKnown (S.state store.old))
-        dir.now changes.now now.now (S.state store.old).files) }
-    ensures out { IfErr result
-        (λ fault. IsKnown (S.state store.old) → ReadsOut (S.state store.old).left fault) }
+    ensures made { IfOk result (IsMadeIn (S.state store.old) dir.now changes.now now.now) }
+    ensures stops { IfErr result (NotReadyIn (S.state store.old) dir.now changes.now now.now) }
+    ensures out { RunsOut (S.state store.old) result ReadsOut }
     ensures frame { Reads 2 (S.state store.old) (S.state store.new) result }
 {
     let Some(time) = time_read(now.as_bytes()) else {
@@ -152,11 +144,9 @@ pub(crate) fn newest<S: Store>(
     store: &mut S,
     dir: &str,
 ) -> Result<Option<State>, RunFault>
-    ensures goes_on { IfOk result (λ top. IsKnown (S.state store.old)
-        → GoesOnFrom ((S.state store.old).files (top_name_of dir.now))
-        (from_top top).number (from_top top).time) }
-    ensures stops { IfErr result
-        (TopStops (IsKnown (S.state store.old)) ((S.state store.old).files (top_name_of dir.now))) }
+    ensures goes_on { IfOk result (IfFileKnown (S.state store.old) (top_name_of dir.now)
+        (λ told top. GoesOnFrom told (from_top top).number (from_top top).time)) }
+    ensures stops { IfErr result (StopsAt (S.state store.old) (top_name_of dir.now) TopStops) }
     ensures frame { Reads 1 (S.state store.old) (S.state store.new) result }
 {
     let name = top_name(alloc, dir)?;
@@ -182,10 +172,8 @@ pub(crate) fn read_changes<S: Store>(
     store: &mut S,
     name: &str,
 ) -> Result<Batch, RunFault>
-    ensures read { IfOk result (λ batch. IsKnown (S.state store.old)
-        → IsChangesOf ((S.state store.old).files name.now) batch) }
-    ensures stops { IfErr result
-        (ChangesStop (IsKnown (S.state store.old)) ((S.state store.old).files name.now)) }
+    ensures read { IfOk result (IfFileKnown (S.state store.old) name.now IsChangesOf) }
+    ensures stops { IfErr result (StopsAt (S.state store.old) name.now ChangesStop) }
     ensures frame { Reads 1 (S.state store.old) (S.state store.new) result }
 {
     let bytes = read_present(alloc, store, FileName::Changes, name, MAX_FILE as u64)?;
@@ -256,13 +244,11 @@ pub(crate) fn write_files<S: Store>(
     names: &FolderNames,
     published: &Published,
 ) -> Result<(), RunFault>
-    ensures written { OnOk result (IsKnown (S.state store.old)
-        → Writes (writes_to names.now published.now) (S.state store.old).files
-        (S.state store.new).files) }
+    ensures written { OnOk result (IfFilesKnown (S.state store.old) (S.state store.new)
+        (Writes (writes_to names.now published.now))) }
     ensures cut { IfErr result (IsCut (IsKnown (S.state store.old))
         names.now published.now (S.state store.old).files (S.state store.new).files) }
-    ensures out { IfErr result (λ fault. IsKnown (S.state store.old)
-        → WritesOut published.now.number (S.state store.old).left fault) }
+    ensures out { RunsOut (S.state store.old) result (WritesOut published.now.number) }
     ensures frame { Calls 4 (S.state store.old) (S.state store.new) result }
 {
     let number = published.number();

@@ -1,21 +1,16 @@
 //! Publishing as a number that is asked for, so that the same words never publish twice.
 
-ghost use Rattle.std.specs.Prelude.{◌≡◌, ℕ, ◌+◌, ◌-◌, ◌<◌, ◌≤◌, [], List, IsTrue, IfErr, IfOk};
-ghost use Rattle.std.specs.Prelude.{OnOk, OnErr};
+ghost use Rattle.std.specs.Prelude.{◌≡◌, ℕ, ◌-◌, ◌<◌, ◌≤◌, [], IsTrue, IfErr, IfOk, OnOk};
 ghost use Rattle.osm_model.specs.Limits.{IsPositive, max_sequence};
-ghost use Rattle.osm_follow.specs.Published.{PublishedValue};
 ghost use Rattle.osm_reading.specs.Sequence.{SpellsSequence};
-ghost use Rattle.osm_folder.specs.Folder.{IsApart, IsFolderOf};
+ghost use Rattle.osm_folder.specs.Folder.{KeepsOthers, OverFolder};
 ghost use Rattle.osm_store.specs.Frames.{IsKnown};
-ghost use Rattle.osm_folder.specs.Names.{top_name_of};
-ghost use Rattle.osm_folder.specs.Numbered.{IsAsked, IsPublishedAs, NotNumbered, NumberedOut};
-ghost use Rattle.osm_folder.specs.Numbered.{NumberedStops, PublishesAsOver, SpendsExactly};
-ghost use Rattle.osm_folder.specs.Numbered.{numbered_calls};
-ghost use Rattle.osm_folder.specs.Publication.{GoesOnFrom};
+ghost use Rattle.osm_folder.specs.Numbered.{IsPublishedAs, NotNumbered, NumberedOut, NumberedStops};
+ghost use Rattle.osm_folder.specs.Numbered.{PublishesAsOver, SpendsNumbered};
 ghost use Rattle.osm_folder.specs.Reports.{publish_report_of};
-ghost use Rattle.osm_folder.specs.Runs.{CallsFromTo, Reads};
-ghost use Rattle.osm_folder.specs.Steps.Numbering.{AreReadWords, CheckOut, IsPrepared};
-ghost use Rattle.osm_folder.specs.Steps.Numbering.{PrepareStops, asked_for, check_calls};
+ghost use Rattle.osm_folder.specs.Runs.{CallsFromTo, IfFilesKnown, Reads, RunsOut};
+ghost use Rattle.osm_folder.specs.Steps.Numbering.{AreReadWords, CheckOut, IsAskedIn, IsPreparedIn};
+ghost use Rattle.osm_folder.specs.Steps.Numbering.{PrepareStopsIn, asked_calls};
 ghost use Rattle.osm_folder.specs.Steps.Publishing.{ReadsOut, from_top};
 
 use crate::compare::check_published;
@@ -53,28 +48,21 @@ pub fn publish_as_run<S: Store>(
     now: &str,
     sequence: &str,
 ) -> Result<Report, RunFault>
-    ensures published { IfOk result (λ report. IsKnown (S.state store.old)
-        → IsPublishedAs dir.now changes.now now.now sequence.now
-        (S.state store.old).files (S.state store.new).files report) }
+    ensures published { IfOk result (λ report. IfFilesKnown (S.state store.old) (S.state store.new)
+        (λ old new. IsPublishedAs dir.now changes.now now.now sequence.now old new report)) }
     ensures report { IfOk result (λ report. (n : ℕ) × SpellsSequence sequence.now n
         × (report ≡ publish_report_of n)) }
     ensures stops { IfErr result
         (NumberedStops (IsKnown (S.state store.old)) dir.now changes.now now.now sequence.now
         (S.state store.old).files (S.state store.new).files) }
-    ensures over { IsKnown (S.state store.old) → (published : List PublishedValue)
-        → IsFolderOf published (S.state store.old).files dir.now
-        → PublishesAsOver published dir.now changes.now now.now sequence.now
-        (S.state store.old).files (S.state store.new).files result }
-    ensures out { IfErr result (λ fault. IsKnown (S.state store.old)
-        → NumberedOut dir.now sequence.now (S.state store.old).files (S.state store.old).left
-        fault) }
-    ensures others { IsKnown (S.state store.old) → (name : List ℕ) → IsApart dir.now name
-        → (S.state store.new).files name ≡ (S.state store.old).files name }
-    ensures exact { OnOk result (IsKnown (S.state store.old) → (number top time : ℕ)
-        → SpellsSequence sequence.now number
-        → GoesOnFrom ((S.state store.old).files (top_name_of dir.now)) top time
-        → SpendsExactly (numbered_calls number top) (S.state store.old).left
-        (S.state store.new).left) }
+    ensures over { OverFolder (S.state store.old) dir.now (λ published. PublishesAsOver published
+        dir.now changes.now now.now sequence.now
+        (S.state store.old).files (S.state store.new).files result) }
+    ensures out { RunsOut (S.state store.old) result
+        (NumberedOut dir.now sequence.now (S.state store.old).files) }
+    ensures others { KeepsOthers (S.state store.old) (S.state store.new) dir.now }
+    ensures exact { OnOk result
+        (SpendsNumbered (S.state store.old) (S.state store.new) dir.now sequence.now) }
     ensures frame { CallsFromTo 5 9 (S.state store.old) (S.state store.new) result }
 {
     laws_of_state();
@@ -96,14 +84,12 @@ fn read_asked<S: Store>(
     now: &str,
     sequence: &str,
 ) -> Result<Asked, RunFault>
-    ensures asked { IfOk result (λ a. IsKnown (S.state store.old)
-        → IsAsked dir.now changes.now now.now sequence.now (S.state store.old).files
-        (from_top a.top).number (from_top a.top).time (asked_for a)) }
+    ensures asked { IfOk result
+        (IsAskedIn (S.state store.old) dir.now changes.now now.now sequence.now) }
     ensures words { IfOk result (AreReadWords now.now sequence.now) }
     ensures stops { IfErr result (NotNumbered (IsKnown (S.state store.old))
         dir.now changes.now now.now sequence.now (S.state store.old).files) }
-    ensures out { IfErr result
-        (λ fault. IsKnown (S.state store.old) → ReadsOut (S.state store.old).left fault) }
+    ensures out { RunsOut (S.state store.old) result ReadsOut }
     ensures frame { Reads 2 (S.state store.old) (S.state store.new) result }
 {
     let Some(time) = time_read(now.as_bytes()) else {
@@ -131,16 +117,10 @@ fn prepare<S: Store>(
 ) -> Result<Option<Publication>, RunFault>
     requires most { asked.number ≤ max_sequence }
     requires time { IsPositive asked.time }
-    ensures made { IfOk result (IsPrepared (IsKnown (S.state store.old)) dir.now
-        (S.state store.old).files (from_top asked.top).number (from_top asked.top).time
-        (asked_for asked)) }
-    ensures stops { IfErr result (PrepareStops (IsKnown (S.state store.old)) dir.now
-        (S.state store.old).files (from_top asked.top).number (from_top asked.top).time
-        (asked_for asked)) }
-    ensures out { IfErr result (λ fault. IsKnown (S.state store.old)
-        → CheckOut asked.number (S.state store.old).left fault) }
-    ensures frame { Reads (check_calls asked.number (from_top asked.top).number) (S.state store.old)
-        (S.state store.new) result }
+    ensures made { IfOk result (IsPreparedIn (S.state store.old) dir.now asked) }
+    ensures stops { IfErr result (PrepareStopsIn (S.state store.old) dir.now asked) }
+    ensures out { RunsOut (S.state store.old) result (CheckOut asked.number) }
+    ensures frame { Reads (asked_calls asked) (S.state store.old) (S.state store.new) result }
 {
     let (number, time) = (asked.number, asked.time);
     let next = publisher_from(alloc, asked.top);

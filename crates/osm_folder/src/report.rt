@@ -141,8 +141,7 @@ pub fn follow_report(
     missing: &[u32],
     number: u32,
 ) -> Result<Report, WantOfMemory>
-    ensures { IfOk result
-        (λ report. report ≡ follow_report_of applied.now missing.now number) }
+    ensures { IfOk result (λ report. report ≡ follow_report_of applied.now missing.now number) }
 {
     let mut text = Vec::new(alloc);
     write_ranges(applied, &mut text)?;
@@ -173,11 +172,8 @@ pub fn follow_in(
 ) -> Result<Report, WantOfMemory>
     requires { standing.number ≤ standing.top }
     ensures { IfOk result (λ report.
-        report ≡ report_of layout (option_map (λ said. said.now) fault.entry) (record {
-          standing = standing;
-          applied = applied.now;
-          missing = missing.now;
-        })) }
+        report ≡ report_of layout (option_map (λ said. said.now) fault.entry)
+        (record { standing = standing; applied = applied.now; missing = missing.now })) }
 {
     match layout {
         Layout::Lines => follow_report(alloc, applied, missing, standing.number),

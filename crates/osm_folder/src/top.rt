@@ -1,11 +1,10 @@
 //! The newest state of a folder.
 
-ghost use Rattle.std.specs.Prelude.{◌≡◌, ◌≤◌, IfErr, IfOk, MatchOption, None, length};
-ghost use Rattle.osm_store.specs.Frames.{IsKnown};
-ghost use Rattle.osm_folder.specs.Folder.{IsStateFile, IsThere, max_state};
-ghost use Rattle.osm_folder.specs.Following.{FindTopStops, TopStateStops};
+ghost use Rattle.std.specs.Prelude.{◌≤◌, IfErr, IfOk, length};
+ghost use Rattle.osm_folder.specs.Folder.{IsStateFile, max_state};
+ghost use Rattle.osm_folder.specs.Following.{FindTopStops, FindsTop, IsTopState, TopStateStops};
 ghost use Rattle.osm_folder.specs.Names.{top_name_of};
-ghost use Rattle.osm_folder.specs.Runs.{Reads};
+ghost use Rattle.osm_folder.specs.Runs.{IfFileKnown, Reads, StopsAt};
 ghost use Rattle.osm_folder.specs.Steps.Following.{TopTextStops};
 
 use crate::fault::{FileName, RunFault};
@@ -18,12 +17,8 @@ use std::alloc::Global;
 
 /// The newest state of a folder.
 pub fn read_top<S: Store>(alloc: Global, store: &mut S, dir: &str) -> Result<State, RunFault>
-    ensures top { IfOk result (λ s. IsKnown (S.state store.old)
-        → IsThere ((S.state store.old).files (top_name_of dir.now))
-        (IsStateFile s.sequence s.time)) }
-    ensures stops { IfErr result
-        (TopStateStops (IsKnown (S.state store.old))
-        ((S.state store.old).files (top_name_of dir.now))) }
+    ensures top { IfOk result (IfFileKnown (S.state store.old) (top_name_of dir.now) IsTopState) }
+    ensures stops { IfErr result (StopsAt (S.state store.old) (top_name_of dir.now) TopStateStops) }
     ensures frame { Reads 1 (S.state store.old) (S.state store.new) result }
 {
     match find_top(alloc, store, dir) {
@@ -39,12 +34,8 @@ pub fn find_top<S: Store>(
     store: &mut S,
     dir: &str,
 ) -> Result<Option<State>, RunFault>
-    ensures top { IfOk result (λ o. IsKnown (S.state store.old)
-        → MatchOption o ((S.state store.old).files (top_name_of dir.now) ≡ None)
-        (λ s. IsThere ((S.state store.old).files (top_name_of dir.now))
-        (IsStateFile s.sequence s.time))) }
-    ensures stops { IfErr result (FindTopStops (IsKnown (S.state store.old))
-        ((S.state store.old).files (top_name_of dir.now))) }
+    ensures top { IfOk result (IfFileKnown (S.state store.old) (top_name_of dir.now) FindsTop) }
+    ensures stops { IfErr result (StopsAt (S.state store.old) (top_name_of dir.now) FindTopStops) }
     ensures frame { Reads 1 (S.state store.old) (S.state store.new) result }
 {
     let name = top_name(alloc, dir)?;

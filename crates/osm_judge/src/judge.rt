@@ -10,9 +10,9 @@ use crate::breaks::are_breaks_needed;
 use crate::history::Pair;
 use crate::legal::is_legal;
 use crate::reading::{NotAReply, read_reply};
-use osm_folder::fault::RunFault;
 use osm_model::filter::Filter;
 use osm_model::memory::WantOfMemory;
+use osm_script::fault::ScriptFault;
 use osm_script::replies::write_replies;
 use osm_script::script::parse_script;
 use osm_world::event::{Event, Reply};
@@ -26,7 +26,7 @@ pub fn may_answer(
     filter: &Filter,
     script: &[u8],
     text: &[u8],
-) -> Result<bool, RunFault>
+) -> Result<bool, ScriptFault>
     requires { length script.now < 2 ^ 63 }
     ensures { IfOk result (λ b. IsTrue b → MayAnswer filter.now script.now text.now) }
 {
@@ -34,13 +34,13 @@ pub fn may_answer(
     let replies = match read_replies(alloc, text, events.len()) {
         Ok(replies) => replies,
         Err(NotAReply::NoReply) => return Ok(false),
-        Err(NotAReply::WantOfMemory) => return Err(RunFault::WantOfMemory),
+        Err(NotAReply::WantOfMemory) => return Err(ScriptFault::WantOfMemory),
     };
     if replies.len() != events.len() {
         return Ok(false);
     }
     let Ok(written) = write_replies(alloc, replies.as_slice()) else {
-        return Err(RunFault::WantOfMemory);
+        return Err(ScriptFault::WantOfMemory);
     };
     if written.as_slice() != text {
         return Ok(false);
@@ -48,7 +48,7 @@ pub fn may_answer(
     let history = pair_up(alloc, events, replies)?;
     match is_right(alloc, filter, history.as_slice()) {
         Ok(is_right) => Ok(is_right),
-        Err(WantOfMemory) => Err(RunFault::WantOfMemory),
+        Err(WantOfMemory) => Err(ScriptFault::WantOfMemory),
     }
 }
 
@@ -71,13 +71,13 @@ fn read_replies(alloc: Global, text: &[u8], count: usize) -> Result<Vec<Reply>, 
 }
 
 // The events with their replies, the newest pair first.
-fn pair_up(alloc: Global, events: Vec<Event>, replies: Vec<Reply>) -> Result<Vec<Pair>, RunFault>
+fn pair_up(alloc: Global, events: Vec<Event>, replies: Vec<Reply>) -> Result<Vec<Pair>, ScriptFault>
     ensures { IfOk result (λ pairs. pairs.items ≡ history_of events.items replies.items) }
 {
     let mut pairs = Vec::new(alloc);
     for pair in events.into_iter().zip(replies) {
         let Ok(()) = pairs.push(pair) else {
-            return Err(RunFault::WantOfMemory);
+            return Err(ScriptFault::WantOfMemory);
         };
     }
     pairs.reverse();

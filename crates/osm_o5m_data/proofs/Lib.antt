@@ -2,5 +2,4 @@ pub mod StringsLemmas
 pub mod ExtentLemmas
 pub mod PartLemmas
 pub mod ReadingLemmas
-pub mod UnreadLemmas
 pub mod ObjectsLemmas

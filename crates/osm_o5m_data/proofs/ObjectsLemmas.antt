@@ -13,11 +13,15 @@ use Rattle.osm_model.specs.Data.{IsData}
 use Rattle.osm_store.specs.Files.{Files}
 use Rattle.osm_store.specs.Frames.{StoreState}
 use Rattle.osm_blocks.specs.Calls.{SpendsDown, blocks_in, reads_ahead}
+use Rattle.osm_blocks.specs.Frames as blocks
 use Rattle.osm_blocks.specs.Frames.{ReadsOften}
-use Rattle.osm_blocks.specs.Places.{HasFile, Opens, Place, left_of, max_block, past}
+use Rattle.osm_blocks.specs.declared.fault.BlockFault.{BlockFault}
+use Rattle.osm_blocks.specs.declared.fault.BlockFault.TheVariants as faults
+use Rattle.osm_blocks.specs.Places.{HasFile, IsLonger, Opens, Place, left_of, max_block, past}
 use Rattle.osm_blocks.proofs.CallLemmas.{down_none, opened_ahead}
 use Rattle.osm_blocks.proofs.OftenLemmas.{often_none}
-use Rattle.osm_data.specs.Reading.{IsDeviceFault, read_calls}
+use Rattle.osm_data.specs.Reading.{IsDeviceFault, blocks_fault_of, read_calls}
+use Rattle.osm_data.specs.declared.fault.DataFault.{DataFault}
 use Rattle.osm_o5c.specs.File.{DataFaultPlace, SpellsData, data_beginning}
 use Rattle.osm_o5c.specs.Steps.FileReading.{Position, Stops, new_reader, position, step}
 use Rattle.osm_o5c.proofs.FrontLemmas.{IsReached}
@@ -29,7 +33,6 @@ use Rattle.osm_o5m_data.specs.declared.o5m_data.O5mData.{O5mData}
 use Rattle.osm_o5m_data.specs.Steps.Extents.{extent_at}
 use Rattle.osm_o5m_data.specs.Steps.Objects.{HasRead, Keeps, ahead_of, calls_of, left_in}
 use Rattle.osm_o5m_data.specs.Steps.Reading.{HasReadTo, begins, reader_in}
-use Rattle.osm_o5m_data.specs.Steps.Unread.{IsLonger}
 use Rattle.osm_o5m_data.proofs.ExtentLemmas.{cut_end, long, step_cut, trailing}
 use Rattle.osm_o5m_data.proofs.ReadingLemmas.{reached}
 
@@ -46,22 +49,22 @@ first_more [] more some = absurd (omega (arith, some))
 first_more (b ∷ bytes) more some = refl
 
 -- what is left of a file whose end was found
-left_ended : (r : O5mData) (file : List ℕ) (done : List ChangeValue) → HasRead r file done → IsTrue r.is_ended → left_in r file ≡ r.unread.unread
+left_ended : (r : O5mData) (file : List ℕ) (done : List ChangeValue) → HasRead r file done → IsTrue r.is_ended → left_in r file ≡ r.reader.unread
 left_ended r file done has ended =
-    ap (λ (l : List ℕ). r.unread.unread ++ l) (has.ended ended) ∙ append-nil r.unread.unread
+    ap (λ (l : List ℕ). r.reader.unread ++ l) (has.ended ended) ∙ append-nil r.reader.unread
 
 read_to_end : (r : O5mData) (file : List ℕ) (done : List ChangeValue) → HasRead r file done → IsTrue r.is_ended
-    → IsReached data_beginning IsData file (position (reader_in r.held) done r.unread.unread)
+    → IsReached data_beginning IsData file (position (reader_in r.held) done r.reader.unread)
 read_to_end r file done has ended =
     subst (λ (l : List ℕ). IsReached data_beginning IsData file (position (reader_in r.held) done l)) (left_ended r file done has ended)
     (reached file (position (reader_in r.held) done (left_in r file)) has.read.reached)
 
 -- the end byte is the last
-pub ends_spelled : (r : O5mData) → extent_at r.unread.unread ≡ Cut → IsTrue r.is_ended → get_or r.unread.unread 0 0 ≡ 254
+pub ends_spelled : (r : O5mData) → extent_at r.reader.unread ≡ Cut → IsTrue r.is_ended → get_or r.reader.unread 0 0 ≡ 254
     → (file : List ℕ) (done : List ChangeValue) → HasRead r file done → SpellsData file done
 ends_spelled r cut ended first file done has =
-    exit_ok data_beginning IsData file (position (reader_in r.held) done r.unread.unread) (read_to_end r file done has ended)
-    (cut_end r.unread.unread cut first) first
+    exit_ok data_beginning IsData file (position (reader_in r.held) done r.reader.unread) (read_to_end r file done has ended)
+    (cut_end r.reader.unread cut first) first
 
 none_stops : (o : Option Position) → o ≡ None → Stops IsData o
 none_stops o none = λ q e right. absurd (never o q none e)
@@ -70,32 +73,32 @@ none_stops o none = λ q e right. absurd (never o q none e)
     never o q a b = cc
 
 -- the file ends before its end byte
-pub ends_wrong : (r : O5mData) (n : ℕ) → extent_at r.unread.unread ≡ Cut → IsTrue r.is_ended → get_or r.unread.unread 0 0 ≢ 254
-    → n + length r.unread.unread ≡ r.unread.from → (file : List ℕ) (done : List ChangeValue) → HasRead r file done → DataFaultPlace file n
+pub ends_wrong : (r : O5mData) (n : ℕ) → extent_at r.reader.unread ≡ Cut → IsTrue r.is_ended → get_or r.reader.unread 0 0 ≢ 254
+    → n + length r.reader.unread ≡ r.reader.from → (file : List ℕ) (done : List ChangeValue) → HasRead r file done → DataFaultPlace file n
 ends_wrong r n cut ended other at file done has =
-    let p : Position = position (reader_in r.held) done r.unread.unread in
+    let p : Position = position (reader_in r.held) done r.reader.unread in
     let bad = exit_bad data_beginning IsData file p (read_to_end r file done has ended)
-    (none_stops (step p) (step_cut (reader_in r.held) done r.unread.unread cut)) other in
-    let place : length file - length r.unread.unread ≡ n =
-    ap (λ (l : List ℕ). length file - length l) (sym (left_ended r file done has ended)) ∙ place_is r.unread file n at has.within in
+    (none_stops (step p) (step_cut (reader_in r.held) done r.reader.unread cut)) other in
+    let place : length file - length r.reader.unread ≡ n =
+    ap (λ (l : List ℕ). length file - length l) (sym (left_ended r file done has ended)) ∙ place_is r.reader file n at has.within in
     subst (λ (m : ℕ). DataFaultPlace file m) place bad
 
 -- bytes follow the end byte
-pub trailing_wrong : (r : O5mData) (n : ℕ) → extent_at r.unread.unread ≡ Trailing → n + length r.unread.unread ≡ r.unread.from
+pub trailing_wrong : (r : O5mData) (n : ℕ) → extent_at r.reader.unread ≡ Trailing → n + length r.reader.unread ≡ r.reader.from
     → (file : List ℕ) (done : List ChangeValue) → HasRead r file done → DataFaultPlace file (n + 1)
 trailing_wrong r n e at file done has =
-    let is = trailing r.unread.unread e in
+    let is = trailing r.reader.unread e in
     let p : Position = position (reader_in r.held) done (left_in r file) in
-    let size : 1 < length (left_in r file) = omega (arith, is.long, length-append r.unread.unread (drop r.unread.from file)) in
+    let size : 1 < length (left_in r file) = omega (arith, is.long, length-append r.reader.unread (drop r.reader.from file)) in
     let first : get_or (left_in r file) 0 0 ≡ 254 =
-    first_more r.unread.unread (drop r.unread.from file) (omega (arith, is.long)) ∙ is.first in
-    subst (λ (m : ℕ). DataFaultPlace file (m + 1)) (place_is r.unread file n at has.within)
+    first_more r.reader.unread (drop r.reader.from file) (omega (arith, is.long)) ∙ is.first in
+    subst (λ (m : ℕ). DataFaultPlace file (m + 1)) (place_is r.reader file n at has.within)
     (exit_more data_beginning IsData file p (reached file p has.read.reached) size first)
 
 -- a long dataset begins
-pub long_there : (r : O5mData) → extent_at r.unread.unread ≡ Long → (file : List ℕ) (done : List ChangeValue) → HasRead r file done → HasLong file
+pub long_there : (r : O5mData) → extent_at r.reader.unread ≡ Long → (file : List ℕ) (done : List ChangeValue) → HasRead r file done → HasLong file
 long_there r e file done has =
-    let is = long r.unread.unread e in
+    let is = long r.reader.unread e in
     let s : IsReached data_beginning IsData file (position (reader_in r.held) done (left_in r file)) =
     reached file (position (reader_in r.held) done (left_in r file)) has.read.reached in
     record {
@@ -105,14 +108,14 @@ long_there r e file done has =
       kind = is.kind;
       length_bytes = is.length_bytes;
       size = is.size;
-      after = is.after ++ drop r.unread.from file;
+      after = is.after ++ drop r.reader.from file;
       is_front = s.is_front;
       has_length = is.low;
       spells = is.spells;
       long = is.long;
       whole =
-          s.whole ∙ ap (λ (l : List ℕ). s.prefix ++ (l ++ drop r.unread.from file)) is.parts
-          ∙ ap (λ (l : List ℕ). s.prefix ++ (is.kind ∷ l)) (append_assoc is.length_bytes is.after (drop r.unread.from file));
+          s.whole ∙ ap (λ (l : List ℕ). s.prefix ++ (l ++ drop r.reader.from file)) is.parts
+          ∙ ap (λ (l : List ℕ). s.prefix ++ (is.kind ∷ l)) (append_assoc is.length_bytes is.after (drop r.reader.from file));
     }
 
 -- ---- filling
@@ -123,6 +126,28 @@ has_still a b x name file frame has = record {
   known = subst (λ (t : Bool). IsTrue t) (sym frame.known) has.known;
   there = subst (λ (f : Files). f name ≡ Some file) (sym frame.files) has.there;
 }
+
+-- what is said of a call that succeeds doesn't depend on whom a refused one blames
+pub often_ok : {T U E F : Type 0} (blames : E → Type 0) (others : F → Type 0) (a b : StoreState) (x : T) (y : U) → ReadsOften blames a b (Ok x)
+    → ReadsOften others a b (Ok y)
+often_ok blames others a b x y frame = record {
+  files = frame.files;
+  known = frame.known;
+  left = frame.left;
+  failures = frame.failures;
+  failed = tt;
+  stops = tt;
+}
+
+-- the device is the reason only if it is for the blocks
+pub blamed : (fault : BlockFault) (result : DataFault) → result ≡ blocks_fault_of fault → IsDeviceFault result → blocks.IsDeviceFault fault
+blamed fault result is blame = by_cases fault (subst (λ (f : DataFault). IsDeviceFault f) is blame)
+  where
+    by_cases : (fault : BlockFault) → IsDeviceFault (blocks_fault_of fault) → blocks.IsDeviceFault fault
+    by_cases faults.Device blame = tt
+    by_cases faults.LongLine blame = blame
+    by_cases faults.TooLarge blame = blame
+    by_cases faults.WantOfMemory blame = blame
 
 -- blocks were read, and the end wasn't found yet
 pub record Fills (begun state : StoreState) (name : List ℕ) (old new : O5mData) : Type 0 where
@@ -153,7 +178,7 @@ true_false b f t = cc
 
 -- one more block
 pub keeps_more : (file : List ℕ) (old new : O5mData) → new.held ≡ old.held → new.is_ended ≡ false → left_in new file ≡ left_in old file
-    → new.unread.from ≤ length file → Keeps file old new
+    → new.reader.from ≤ length file → Keeps file old new
 keeps_more file old new held unended left within = record {
   read = λ done h. record {
     read = rw (held, left) h.read;

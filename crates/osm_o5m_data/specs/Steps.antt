@@ -4,4 +4,3 @@ pub mod Extents
 pub mod Objects
 pub mod Reading
 pub mod Strings
-pub mod Unread

@@ -6,4 +6,3 @@ mod datasets;
 mod extents;
 mod held;
 pub mod o5m_data;
-mod unread;

@@ -18,9 +18,9 @@ ghost use Rattle.osm_o5m_data.specs.Steps.Objects.{left_in};
 use crate::datasets::{Stop, read_datasets};
 use crate::extents::{Extent, extent_of};
 use crate::held::Held;
-use crate::unread::Unread;
+use osm_blocks::block_reader::BlockReader;
 use osm_data::data_reader::DataReader;
-use osm_data::fault::DataFault;
+use osm_data::fault::{DataFault, fault_of_blocks};
 use osm_model::change::Change;
 use osm_model::form::Why;
 use osm_o5c::datasets::END;
@@ -35,7 +35,7 @@ const DATA_BEGINNING: [u8; 7] = [0xff, 0xe0, 4, 0x6f, 0x35, 0x6d, 0x32];
 /// byte their offset.
 #[derive(Drop)]
 pub struct O5mData {
-    unread: Unread,
+    reader: BlockReader,
     is_ended: bool,
     held: Held,
 }
@@ -56,22 +56,22 @@ impl DataReader for O5mData {
     ghost calls_ahead = { calls_of };
 
     fn open<S: Store>(alloc: Global, store: &mut S, name: &str) -> Result<O5mData, DataFault> {
-        let unread = match Unread::open(alloc, store, name) {
-            Ok(unread) => unread,
-            Err(fault) => return Err(fault),
+        let reader = match BlockReader::open(alloc, store, name) {
+            Ok(reader) => reader,
+            Err(fault) => return Err(fault_of_blocks(fault)),
         };
-        let Some(mut unread) = unread else {
+        let Some(mut reader) = reader else {
             return Err(DataFault::NoFile);
         };
-        if !has_beginning(unread.bytes()) {
+        if !has_beginning(reader.unread()) {
             return Err(DataFault::BadData {
                 place: 0,
                 why: Why::BadHeader,
             });
         }
-        unread.pass(DATA_BEGINNING.len());
+        reader.pass(DATA_BEGINNING.len());
         Ok(O5mData {
-            unread,
+            reader,
             is_ended: false,
             held: Held::new(alloc),
         })
@@ -101,7 +101,7 @@ impl O5mData {
         store: &mut S,
         name: &str,
     ) -> Result<Extent, DataFault>
-        ensures extent { IfOk result (λ extent. extent ≡ extent_at self.new.unread.unread) }
+        ensures extent { IfOk result (λ extent. extent ≡ extent_at self.new.reader.unread) }
         ensures ended { IfOk result (λ extent. extent ≡ extents.Cut → IsTrue self.new.is_ended) }
         ensures ahead { OnOk result (ahead_of self.new ≡ ahead_of self.old) }
         ensures keeps { OnOk result ((file : List ℕ) → HasFile (S.state store.old) name.now file
@@ -115,16 +115,16 @@ impl O5mData {
             (S.state store.old) (S.state store.new) result }
     {
         'blocks: loop {
-            let extent = extent_of(self.unread.bytes());
+            let extent = extent_of(self.reader.unread());
             let Extent::Cut = extent else {
                 return Ok(extent);
             };
             if self.is_ended {
                 return Ok(Extent::Cut);
             }
-            let is_more = match self.unread.read_more(alloc, store, name) {
+            let is_more = match self.reader.read_more(alloc, store, name) {
                 Ok(is_more) => is_more,
-                Err(fault) => return Err(fault),
+                Err(fault) => return Err(fault_of_blocks(fault)),
             };
             if !is_more {
                 self.is_ended = true;
@@ -135,7 +135,7 @@ impl O5mData {
 
     // Reads on where a dataset of that extent begins.
     fn go_on(&mut self, alloc: Global, extent: Extent) -> Result<Option<Vec<Change>>, DataFault>
-        requires extent { extent ≡ extent_at self.old.unread.unread }
+        requires extent { extent ≡ extent_at self.old.reader.unread }
         requires ended { extent ≡ extents.Cut → IsTrue self.old.is_ended }
         ensures read { IfOk result (λ next. (file : List ℕ) (done : List ChangeValue)
             → HasRead self.old file done → EndsOrGoesOn (SpellsData file done)
@@ -162,7 +162,7 @@ impl O5mData {
             },
             Extent::Long => Err(DataFault::LongPart),
             Extent::Trailing => Err(DataFault::BadData {
-                place: self.unread.place() + 1,
+                place: self.reader.place() + 1,
                 why: Why::TrailingBytes,
             }),
         }
@@ -170,27 +170,27 @@ impl O5mData {
 
     // Reads the datasets that are whole, at least the first.
     fn read_datasets(&mut self, alloc: Global) -> Result<Vec<Change>, DataFault>
-        requires { extent_at self.old.unread.unread ≡ extents.Whole }
+        requires { extent_at self.old.reader.unread ≡ extents.Whole }
         ensures read { IfOk result (λ objects. (file : List ℕ) (done : List ChangeValue)
             → HasRead self.old file done → HasRead self.new file (done ++ objects.items)) }
         ensures fewer { OnOk result
-            (length self.new.unread.unread < length self.old.unread.unread) }
-        ensures from { self.new.unread.from ≡ self.old.unread.from }
+            (length self.new.reader.unread < length self.old.reader.unread) }
+        ensures from { self.new.reader.from ≡ self.old.reader.from }
         ensures ended { self.new.is_ended ≡ self.old.is_ended }
         ensures stops { IfErr result (λ fault. (file : List ℕ) (done : List ChangeValue)
             → HasRead self.old file done
             → NextStops (λ bytes place. DataFaultPlace bytes place) HasLong file fault) }
         ensures no_device { IfErr result (λ fault. IsDeviceFault fault → ⊥) }
     {
-        match read_datasets(alloc, &self.held, self.unread.bytes()) {
+        match read_datasets(alloc, &self.held, self.reader.unread()) {
             Ok(found) => {
-                self.unread.pass(found.passed);
+                self.reader.pass(found.passed);
                 self.held = found.held;
                 Ok(found.objects)
             }
             Err(Stop::WantOfMemory) => Err(DataFault::WantOfMemory),
             Err(Stop::Fault { passed, why }) => {
-                let place = self.unread.place() + passed as u64;
+                let place = self.reader.place() + passed as u64;
                 Err(DataFault::BadData { place, why })
             }
         }
@@ -198,7 +198,7 @@ impl O5mData {
 
     // Whether the file ends as it should, if nothing is left but a cut dataset.
     fn check_end(&self) -> Result<(), DataFault>
-        requires cut { extent_at self.now.unread.unread ≡ extents.Cut }
+        requires cut { extent_at self.now.reader.unread ≡ extents.Cut }
         requires ended { IsTrue self.now.is_ended }
         ensures spelled { OnOk result ((file : List ℕ) (done : List ChangeValue)
             → HasRead self.now file done → SpellsData file done) }
@@ -207,11 +207,11 @@ impl O5mData {
             → NextStops (λ bytes place. DataFaultPlace bytes place) HasLong file fault) }
         ensures no_device { IfErr result (λ fault. IsDeviceFault fault → ⊥) }
     {
-        if begins_with_end(self.unread.bytes()) {
+        if begins_with_end(self.reader.unread()) {
             return Ok(());
         }
         Err(DataFault::BadData {
-            place: self.unread.place(),
+            place: self.reader.place(),
             why: Why::Truncated,
         })
     }

@@ -4,12 +4,12 @@ use Rattle.std.specs.Prelude.{Bool, IsTrue, true, false, Ok, ◌==◌}
 use Rattle.std.proofs.lemmas.Bool.Decides.{nat_tests}
 use Rattle.std.proofs.lemmas.List.{length-drop}
 use Rattle.osm_model.specs.Change.{ChangeValue}
-use Rattle.osm_store.specs.Files.{Files, HasFewer, SpendsAtMost}
+use Rattle.osm_store.specs.Files.{Files}
 use Rattle.osm_store.specs.Frames.{StoreState}
 use Rattle.osm_blocks.specs.Calls.{SpendsDown, blocks_in, reads_ahead}
 use Rattle.osm_blocks.specs.Frames.{ReadsOften}
 use Rattle.osm_blocks.specs.Places.{HasFile, Place, left_of, max_block}
-use Rattle.osm_blocks.proofs.CallLemmas.{block_read, down_lacks, down_none, down_of, down_then}
+use Rattle.osm_blocks.proofs.CallLemmas.{block_read}
 use Rattle.osm_data.specs.Reading.{read_calls}
 use Rattle.osm_opl_data.specs.Reading.{calls_after, calls_before_end}
 use Rattle.osm_opl_data.specs.Steps.Passing.{Begins, PassesLine}
@@ -53,28 +53,19 @@ begun_ahead place reader file unread left is =
 
 -- ---- a line
 
--- the call that reads what follows the last LF is ahead still
 pub line_calls : (old mid new : OplData) (file : List ℕ) (count : ℕ) (xs ys : List ChangeValue) (a b : Option ℕ) → old.is_ended ≡ false
     → mid.is_ended ≡ false → PassesLine count mid new xs ys → SpendsDown (reads_ahead old.reader file) (reads_ahead mid.reader file) a b
     → SpendsDown (calls_after old file) (calls_after new file) a b
 line_calls old mid new file count xs ys a b is_open still p spent =
-    let before : calls_after old file ≡ reads_ahead old.reader file + 1 = ap (λ (t : Bool). calls_before_end t old file) is_open in
-    let after : calls_after new file ≡ reads_ahead new.reader file + 1 = ap (λ (t : Bool). calls_before_end t new file) (p.open_still ∙ still) in
+    let before : calls_after old file ≡ reads_ahead old.reader file = ap (λ (t : Bool). calls_before_end t old file) is_open in
+    let after : calls_after new file ≡ reads_ahead new.reader file = ap (λ (t : Bool). calls_before_end t new file) (p.open_still ∙ still) in
     let same : reads_ahead new.reader file ≡ reads_ahead mid.reader file = ap (λ (r : Place). reads_ahead r file) p.passed in
-    down_then (reads_ahead old.reader file) (reads_ahead mid.reader file) 0 0 (calls_after old file) (calls_after new file) a b b
-    (omega (arith, before, after, same)) spent (down_none 0 b)
+    rw (before, after, same) spent
 
--- it was made
-pub rest_calls : (old new : OplData) (file : List ℕ) (a b c : Option ℕ) → old.is_ended ≡ false → new.is_ended ≡ true
-    → SpendsDown (reads_ahead old.reader file) 0 a b → SpendsAtMost 1 b c → SpendsDown (calls_after old file) (calls_after new file) a c
-rest_calls old new file a b c is_open ended spent last =
-    let before : calls_after old file ≡ reads_ahead old.reader file + 1 = ap (λ (t : Bool). calls_before_end t old file) is_open in
+-- the end was found
+pub rest_calls : (old new : OplData) (file : List ℕ) (a b : Option ℕ) → old.is_ended ≡ false → new.is_ended ≡ true
+    → SpendsDown (reads_ahead old.reader file) 0 a b → SpendsDown (calls_after old file) (calls_after new file) a b
+rest_calls old new file a b is_open ended spent =
+    let before : calls_after old file ≡ reads_ahead old.reader file = ap (λ (t : Bool). calls_before_end t old file) is_open in
     let after : calls_after new file ≡ 0 = ap (λ (t : Bool). calls_before_end t new file) ended in
-    down_then (reads_ahead old.reader file) 0 1 0 (calls_after old file) (calls_after new file) a b c
-    (omega (arith, before, after)) spent (down_of 1 b c last)
-
-pub rest_lacks : (old : OplData) (file : List ℕ) (a b : Option ℕ) → old.is_ended ≡ false → SpendsDown (reads_ahead old.reader file) 0 a b → HasFewer 1 b
-    → HasFewer (calls_after old file) a
-rest_lacks old file a b is_open spent few =
-    let before : calls_after old file ≡ reads_ahead old.reader file + 1 = ap (λ (t : Bool). calls_before_end t old file) is_open in
-    down_lacks (reads_ahead old.reader file) 0 1 (calls_after old file) a b (omega (arith, before)) spent few
+    rw (before, after) spent

@@ -1,6 +1,6 @@
 -- The lines of what is left of a file.
-use Rattle.std.proofs.Common.{◌≡◌, ℕ, zero, suc, ◌+◌, ◌-◌, ◌<◌, ◌≤◌, Bool, true, false, List, [], ◌∷◌, ◌++◌, length, map, take, drop}
-use Rattle.std.proofs.Common.{Some, None, refl, sym, ap, ◌∙◌, arith, cond, length-append}
+use Rattle.std.proofs.Common.{◌≡◌, ℕ, ◌+◌, ◌-◌, ◌<◌, ◌≤◌, Bool, true, false, List, [], ◌∷◌, ◌++◌, length, map, take, drop}
+use Rattle.std.proofs.Common.{Some, None, sym, ap, ◌∙◌, arith, cond, length-append}
 use Rattle.std.specs.Prelude.{◌==◌, min}
 use Rattle.std.proofs.lemmas.List.{drop-drop, length-drop, length-take}
 use Rattle.std.proofs.Math.Seq.{drop-append-add}
@@ -87,33 +87,3 @@ long_first bytes is =
       parts = ap (map without_cr) first;
       long = omega (arith, both, short, long);
     }
-
-pub long_rest : (bytes : List ℕ) → cut_at 10 bytes ≡ None → 67108866 ≤ length bytes → LongFirst bytes
-long_rest bytes uncut many =
-    let short = trimmed_length bytes in
-    record {
-      line = without_cr bytes;
-      more = [];
-      parts = lines_uncut bytes uncut;
-      long = omega (arith, short, many);
-    }
-
--- ---- blocks
-
--- fewer bytes than were asked for are all that is left
-pub taken_all : (most : ℕ) (bytes rest : List ℕ) → take most bytes ≡ rest → length rest < most → rest ≡ bytes
-taken_all most bytes rest e few = sym e ∙ all_of most bytes (subst_length e few)
-  where
-    subst_length : take most bytes ≡ rest → length rest < most → length (take most bytes) < most
-    subst_length is few = let same : length (take most bytes) ≡ length rest = ap length is in omega (arith, same, few)
-
-    all_of : (n : ℕ) (xs : List ℕ) → length (take n xs) < n → take n xs ≡ xs
-    all_of zero xs few = absurd (omega (arith, few))
-    all_of (suc n) [] few = refl
-    all_of (suc n) (x ∷ xs) few = ap (λ (l : List ℕ). x ∷ l) (all_of n xs (omega (arith, few)))
-
-pub taken_many : (most : ℕ) (bytes rest : List ℕ) → take most bytes ≡ rest → most ≤ length rest → most ≤ length bytes
-taken_many most bytes rest e many =
-    let same : length (take most bytes) ≡ length rest = ap length e in
-    let long : length (take most bytes) ≡ min most (length bytes) = length-take most bytes in
-    omega (arith, same, long, many)

@@ -11,21 +11,20 @@ use Rattle.osm_model.proofs.DataLemmas.{no_objects}
 use Rattle.osm_reading.specs.Lines.{lines_of, without_cr}
 use Rattle.osm_reading.specs.Pieces.{cut_at, pieces}
 use Rattle.osm_reading.proofs.PieceLemmas.{pieces_whole}
-use Rattle.osm_blocks.specs.Places.{IsLine, Place, Opens, ReadStops, left_of, max_block, past}
+use Rattle.osm_blocks.specs.Places.{IsAllRead, IsLine, Place, Opens, ReadStops, left_of, max_block, past}
 use Rattle.osm_blocks.specs.declared.fault.BlockFault.{BlockFault}
 use Rattle.osm_blocks.specs.declared.fault.BlockFault.TheVariants as blocks
-use Rattle.osm_data.specs.Reading.{NextStops}
+use Rattle.osm_data.specs.Reading.{NextStops, blocks_fault_of}
 use Rattle.osm_data.specs.declared.fault.DataFault.{DataFault}
 use Rattle.osm_data.specs.declared.fault.DataFault.TheVariants.{Device, WantOfMemory, NoFile, BadData, LongPart, TooLarge}
 use Rattle.osm_opl.specs.File.{DataFaultLine, SpellsData, SpellsLines, none, skipped, change}
 use Rattle.osm_opl.proofs.FileLaws.{lines_append}
 use Rattle.osm_opl_data.specs.Reading.{EndsOrStands, HasLongLine, HasPassed, HasRead, Stands, last_key}
-use Rattle.osm_opl_data.specs.Steps.Faults.{lines_fault_of}
 use Rattle.osm_opl_data.specs.Steps.Objects.{AddStops, Adds, GivesObject, Keeps, LineStops}
-use Rattle.osm_opl_data.specs.Steps.Passing.{Begins, IsLast, PassesLine, RestStops, line_of}
+use Rattle.osm_opl_data.specs.Steps.Passing.{Begins, IsLast, PassesLine, line_of}
 use Rattle.osm_opl_data.specs.declared.opl_data.OplData.{OplData}
 use Rattle.osm_opl_data.specs.declared.so_far.SoFar.{SoFar}
-use Rattle.osm_opl_data.proofs.LineLemmas.{LongFirst, after_cut, cut_within, lines_cut, lines_uncut, long_first, long_rest, taken_length, trimmed, within_file}
+use Rattle.osm_opl_data.proofs.LineLemmas.{LongFirst, after_cut, cut_within, lines_cut, lines_uncut, long_first, taken_length, trimmed, within_file}
 use Rattle.osm_opl_data.proofs.OrderLemmas.{last_key-push}
 
 -- ---- a line more
@@ -246,7 +245,7 @@ line_unread mid file left count objects fault within p same found is stop =
 
 -- why no line is found
 pub unfound : (reader : OplData) (file : List ℕ) (objects : List ChangeValue) (fault : BlockFault) → Stands reader file objects
-    → ReadStops file reader.reader fault → NextStops DataFaultLine HasLongLine file (lines_fault_of fault)
+    → ReadStops file reader.reader fault → NextStops DataFaultLine HasLongLine file (blocks_fault_of fault)
 unfound reader file objects blocks.Device s stop = tt
 unfound reader file objects blocks.WantOfMemory s stop = tt
 unfound reader file objects blocks.TooLarge s stop = stop
@@ -256,42 +255,36 @@ unfound reader file objects blocks.LongLine s stop =
 
 -- ---- what follows the last LF
 
-pub is_last : (reader : OplData) (file : List ℕ) (objects : List ChangeValue) → reader.so_far.bytes ≤ length file → Stands reader file objects
-    → cut_at 10 (left_of reader.reader file) ≡ None → IsLast reader.so_far file objects
-is_last reader file objects within s uncut = record {
-  within = within;
-  uncut = subst (λ (l : List ℕ). cut_at 10 l ≡ None) s.left uncut;
-  passed = s.passed;
-}
-
-pub rest_unread : (reader : OplData) (file : List ℕ) (objects : List ChangeValue) (fault : DataFault) → IsLast reader.so_far file objects
-    → RestStops (drop reader.so_far.bytes file) fault → NextStops DataFaultLine HasLongLine file fault
-rest_unread reader file objects Device l stop = tt
-rest_unread reader file objects WantOfMemory l stop = tt
-rest_unread reader file objects NoFile l stop = stop
-rest_unread reader file objects (BadData place why) l stop = absurd stop
-rest_unread reader file objects TooLarge l stop = absurd stop
-rest_unread reader file objects LongPart l stop =
-    long_fault file reader.so_far objects (drop reader.so_far.bytes file) l.passed (long_rest (drop reader.so_far.bytes file) l.uncut stop)
+-- it is unread where no LF was found
+pub is_last : (old : OplData) (place : Place) (file : List ℕ) (objects : List ChangeValue) → old.so_far.bytes ≤ length file → Stands old file objects
+    → cut_at 10 (left_of old.reader file) ≡ None → IsAllRead file old.reader place
+    → IsLast (record { reader = place; so_far = old.so_far; is_ended = old.is_ended }) file objects
+is_last old place file objects within s uncut read =
+    let whole : place.unread ≡ left_of old.reader file =
+    sym (append-nil place.unread) ∙ ap (λ (l : List ℕ). place.unread ++ l) (sym read.ended) ∙ read.same in
+    let rest : place.unread ≡ drop old.so_far.bytes file = whole ∙ s.left in
+    record {
+      within = within;
+      rest = rest;
+      uncut = subst (λ (l : List ℕ). cut_at 10 l ≡ None) (sym whole) uncut;
+      passed = subst (λ (l : List ℕ). HasPassed file (lines_of l) objects old.so_far) (sym rest) s.passed;
+    }
 
 -- its only line
-pub rest_line : (so_far : SoFar) (file rest line : List ℕ) (after : List (List ℕ)) (objects : List ChangeValue) → rest ≡ drop so_far.bytes file
-    → IsLast so_far file objects → lines_of rest ≡ line ∷ after → line ≡ without_cr rest
-rest_line so_far file rest line after objects is l lines =
-    trimmed rest line after (pieces_whole 10 rest (subst (λ (b : List ℕ). cut_at 10 b ≡ None) (sym is) l.uncut)) lines
+pub rest_line : (rest line : List ℕ) (after : List (List ℕ)) → cut_at 10 rest ≡ None → lines_of rest ≡ line ∷ after → line ≡ without_cr rest
+rest_line rest line after uncut lines = trimmed rest line after (pieces_whole 10 rest uncut) lines
 
-rest_passed : (so_far : SoFar) (file rest : List ℕ) (objects : List ChangeValue) → rest ≡ drop so_far.bytes file
-    → IsLast so_far file objects → HasPassed file (without_cr rest ∷ []) objects so_far
-rest_passed so_far file rest objects is l =
-    subst (λ (x : List (List ℕ)). HasPassed file x objects so_far)
-    (lines_uncut (drop so_far.bytes file) l.uncut ∙ ap (λ (b : List ℕ). without_cr b ∷ []) (sym is)) l.passed
+rest_passed : (reader : OplData) (file : List ℕ) (objects : List ChangeValue) → IsLast reader file objects
+    → HasPassed file (without_cr reader.reader.unread ∷ []) objects reader.so_far
+rest_passed reader file objects l =
+    subst (λ (x : List (List ℕ)). HasPassed file x objects reader.so_far) (lines_uncut reader.reader.unread l.uncut) l.passed
 
 -- an empty one is skipped
-pub rest_empty : (so_far : SoFar) (file rest : List ℕ) (objects : List ChangeValue) → rest ≡ drop so_far.bytes file → rest ≡ []
-    → IsLast so_far file objects → SpellsData file objects
-rest_empty so_far file rest objects is empty l =
-    let p : HasPassed file ([] ∷ []) objects so_far =
-    subst (λ (b : List ℕ). HasPassed file (without_cr b ∷ []) objects so_far) empty (rest_passed so_far file rest objects is l) in
+pub rest_empty : (reader : OplData) (file : List ℕ) (objects : List ChangeValue) → reader.reader.unread ≡ [] → IsLast reader file objects
+    → SpellsData file objects
+rest_empty reader file objects empty l =
+    let p : HasPassed file ([] ∷ []) objects reader.so_far =
+    subst (λ (b : List ℕ). HasPassed file (without_cr b ∷ []) objects reader.so_far) empty (rest_passed reader file objects l) in
     let whole : lines_of file ≡ p.before ++ [] ∷ [] = p.parts in
     let spelled : SpellsLines (p.before ++ [] ∷ []) objects =
     subst (λ (o : List ChangeValue). SpellsLines (p.before ++ [] ∷ []) o) (append-nil objects)
@@ -302,29 +295,24 @@ pub record RestRead (file : List ℕ) (new : SoFar) (objects : List ChangeValue)
   pub within : new.bytes ≤ length file
   pub spelled : SpellsData file objects
 
-rest_within : (so_far : SoFar) (file rest : List ℕ) (objects : List ChangeValue) → rest ≡ drop so_far.bytes file
-    → IsLast so_far file objects → so_far.bytes + length rest ≤ length file
-rest_within so_far file rest objects is l =
-    let same : length rest ≡ length (drop so_far.bytes file) = ap length is in
-    within_file file so_far.bytes (length rest) l.within (omega (arith, same))
+rest_within : (reader : OplData) (file : List ℕ) (objects : List ChangeValue) → IsLast reader file objects
+    → reader.so_far.bytes + length reader.reader.unread ≤ length file
+rest_within reader file objects l =
+    let same : length reader.reader.unread ≡ length (drop reader.so_far.bytes file) = ap length l.rest in
+    within_file file reader.so_far.bytes (length reader.reader.unread) l.within (omega (arith, same))
 
-pub rest_read : (so_far : SoFar) (new : SoFar) (file rest : List ℕ) (done xs ys : List ChangeValue) → rest ≡ drop so_far.bytes file
-    → 0 < length rest → IsLast so_far file (done ++ xs) → Adds (without_cr rest) (length rest) so_far new xs ys → RestRead file new (done ++ ys)
-rest_read so_far new file rest done xs ys is some l adds =
-    let inside = rest_within so_far file rest (done ++ xs) is l in
-    let bytes : new.bytes ≡ so_far.bytes + length rest = adds.bytes in
+pub rest_read : (reader : OplData) (new : SoFar) (file : List ℕ) (done xs ys : List ChangeValue) → 0 < length reader.reader.unread
+    → IsLast reader file (done ++ xs) → Adds (without_cr reader.reader.unread) (length reader.reader.unread) reader.so_far new xs ys
+    → RestRead file new (done ++ ys)
+rest_read reader new file done xs ys some l adds =
+    let rest : List ℕ = reader.reader.unread in
+    let inside = rest_within reader file (done ++ xs) l in
+    let bytes : new.bytes ≡ reader.so_far.bytes + length rest = adds.bytes in
     record {
       within = omega (arith, inside, bytes);
       spelled = all_passed file (done ++ ys) new
-          (passes file (without_cr rest) [] so_far new (length rest) done xs ys (rest_passed so_far file rest (done ++ xs) is l) some adds);
+          (passes file (without_cr rest) [] reader.so_far new (length rest) done xs ys (rest_passed reader file (done ++ xs) l) some adds);
     }
-
-pub rest_wrong : (so_far : SoFar) (file rest : List ℕ) (objects : List ChangeValue) (fault : DataFault) → rest ≡ drop so_far.bytes file
-    → 0 < length rest → IsLast so_far file objects → AddStops (without_cr rest) (length rest) so_far fault
-    → NextStops DataFaultLine HasLongLine file fault
-rest_wrong so_far file rest objects fault is some l stop =
-    add_fault file (without_cr rest) [] so_far (length rest) objects fault (rest_passed so_far file rest objects is l) some
-    (rest_within so_far file rest objects is l) stop
 
 -- ---- the end
 

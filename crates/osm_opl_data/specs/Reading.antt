@@ -1,5 +1,5 @@
 -- How far a data file in the form OPL was read.
-use Rattle.std.specs.Prelude.{◌≡◌, ℕ, ◌+◌, ◌<◌, ◌≤◌, Bool, true, false, List, [], ◌∷◌, ◌++◌}
+use Rattle.std.specs.Prelude.{◌≡◌, ℕ, ◌<◌, ◌≤◌, Bool, true, false, List, [], ◌∷◌, ◌++◌}
 use Rattle.std.specs.Prelude.{drop, length, Option, None, Some}
 use Rattle.osm_model.specs.Change.{ChangeValue}
 use Rattle.osm_model.specs.Data.{IsData}
@@ -62,11 +62,10 @@ pub record HasRead (reader : OplData) (file : List ℕ) (objects : List ChangeVa
 abbrev pub bytes_after : OplData → List ℕ → ℕ
 bytes_after reader file = length (drop reader.so_far.bytes file)
 
--- the calls that are ahead at most: those that find the lines, and one that reads what follows the
--- last LF
+-- the calls that are ahead at most: those that find the lines
 abbrev pub calls_before_end : Bool → OplData → List ℕ → ℕ
 calls_before_end true reader file = 0
-calls_before_end false reader file = reads_ahead reader.reader file + 1
+calls_before_end false reader file = reads_ahead reader.reader file
 
 abbrev pub calls_after : OplData → List ℕ → ℕ
 calls_after reader file = calls_before_end reader.is_ended reader file

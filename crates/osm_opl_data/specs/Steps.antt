@@ -1,4 +1,3 @@
 -- Definitions that only clauses of private functions cite.
-pub mod Faults
 pub mod Objects
 pub mod Passing

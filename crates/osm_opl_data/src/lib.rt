@@ -1,7 +1,6 @@
 //! Data files of any size in the form OPL, read a block after the other.
 #![tactic(auto)]
 
-mod fault;
 mod objects;
 pub mod opl_data;
 mod so_far;

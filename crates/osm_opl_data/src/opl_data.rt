@@ -1,9 +1,8 @@
 //! Data files of any size in the form OPL: one line for each object, by rising keys.
 
 ghost use Rattle.std.specs.Prelude.{◌≡◌, ℕ, ◌+◌, ◌++◌, ◌<◌, ◌≤◌, List, [], length, IfErr, IfOk};
-ghost use Rattle.std.specs.Prelude.{IsTrue, OnOk, drop, false, true};
+ghost use Rattle.std.specs.Prelude.{IsTrue, OnOk, false, true};
 ghost use Rattle.osm_model.specs.Change.{ChangeValue};
-ghost use Rattle.osm_store.specs.Frames.{IsKnown, MakesAtMost};
 ghost use Rattle.osm_blocks.specs.Calls.{Advances};
 ghost use Rattle.osm_blocks.specs.Frames.{ReadsOften};
 ghost use Rattle.osm_blocks.specs.Places.{HasFile, IsLine, Place};
@@ -11,14 +10,13 @@ ghost use Rattle.osm_data.specs.Reading.{IsDeviceFault, NextStops};
 ghost use Rattle.osm_opl.specs.File.{DataFaultLine, SpellsData};
 ghost use Rattle.osm_opl_data.specs.Reading.{HasLongLine, HasRead, bytes_after, calls_after};
 ghost use Rattle.osm_opl_data.specs.Steps.Objects.{AddStops};
-ghost use Rattle.osm_opl_data.specs.Steps.Passing.{Begins, Goes, IsLast, PassesLine, RestStops};
+ghost use Rattle.osm_opl_data.specs.Steps.Passing.{Begins, Goes, IsLast, PassesLine};
 ghost use Rattle.osm_opl_data.specs.Steps.Passing.{line_of};
 
-use crate::fault::{fault_of_lines, fault_of_store};
 use crate::so_far::SoFar;
 use osm_blocks::line_reader::LineReader;
 use osm_data::data_reader::DataReader;
-use osm_data::fault::DataFault;
+use osm_data::fault::{DataFault, fault_of_blocks};
 use osm_model::change::Change;
 use osm_opl::data::laws_of_data;
 use osm_reading::lines::split_line;
@@ -30,9 +28,6 @@ const MAX_OBJECTS: usize = 8_192;
 
 // Lines are read at once until they have so many bytes.
 const MAX_BYTES: u64 = 1_048_576;
-
-// The most bytes that are read of what follows the last LF: no line within the limit has as many.
-const MAX_REST: u64 = 67_108_866;
 
 /// A data file in the form OPL. The place of a fault is the number of its line, counted from 1 over
 /// all lines. A line has at most 64 MiB, without its line end, and the last one needs no line end.
@@ -66,7 +61,7 @@ impl DataReader for OplData {
         match LineReader::open(alloc, store, name) {
             Ok(Some(reader)) => Ok(OplData::begin(reader)),
             Ok(None) => Err(DataFault::NoFile),
-            Err(fault) => Err(fault_of_lines(fault)),
+            Err(fault) => Err(fault_of_blocks(fault)),
         }
     }
 
@@ -178,11 +173,11 @@ impl OplData {
                 Ok(()) => Ok(true),
                 Err(fault) => Err(fault),
             },
-            Ok(None) => match self.add_rest(alloc, store, name, objects) {
+            Ok(None) => match self.add_rest(alloc, objects) {
                 Ok(is_more) => Ok(is_more),
                 Err(fault) => Err(fault),
             },
-            Err(fault) => Err(fault_of_lines(fault)),
+            Err(fault) => Err(fault_of_blocks(fault)),
         }
     }
 
@@ -210,68 +205,29 @@ impl OplData {
         Ok(())
     }
 
-    // Adds the object of what follows the last LF of the file, unless that is skipped; false if
-    // it is empty. Nothing is left then.
-    fn add_rest<S: Store>(
-        &mut self,
-        alloc: Global,
-        store: &mut S,
-        name: &str,
-        objects: &mut Vec<Change>,
-    ) -> Result<bool, DataFault>
+    // Adds the object of what follows the last LF of the file, which is unread, unless that is
+    // skipped; false if it is empty. Nothing is left then.
+    fn add_rest(&mut self, alloc: Global, objects: &mut Vec<Change>) -> Result<bool, DataFault>
         ensures read { OnOk result ((file : List ℕ) (done : List ChangeValue)
-            → HasFile (S.state store.old) name.now file
-            → IsLast self.old.so_far file (done ++ objects.old.items)
+            → IsLast self.old file (done ++ objects.old.items)
             → HasRead self.new file (done ++ objects.new.items)) }
         ensures goes { IfOk result (λ is_more. Goes is_more self.old self.new
             objects.old.items objects.new.items) }
         ensures ended { OnOk result (self.new.is_ended ≡ true) }
         ensures stops { IfErr result (λ fault. (file : List ℕ) (done : List ChangeValue)
-            → HasFile (S.state store.old) name.now file
-            → IsLast self.old.so_far file (done ++ objects.old.items)
+            → IsLast self.old file (done ++ objects.old.items)
             → NextStops DataFaultLine HasLongLine file fault) }
-        ensures stage { (S.state store.new).stage ≡ (S.state store.old).stage }
-        ensures frame { ReadsOften IsDeviceFault (S.state store.old) (S.state store.new) result }
-        ensures calls { MakesAtMost IsDeviceFault 1 (S.state store.old) (S.state store.new) result }
+        ensures no_device { IfErr result (λ fault. IsDeviceFault fault → ⊥) }
     {
-        let rest = match read_rest(alloc, store, name, self.so_far.bytes) {
-            Ok(rest) => rest,
-            Err(fault) => return Err(fault),
-        };
         self.is_ended = true;
+        let rest = self.reader.unread();
         if rest.is_empty() {
             return Ok(false);
         }
-        let (line, _rest) = split_line(rest.as_slice());
+        let (line, _rest) = split_line(rest);
         match self.so_far.add(alloc, line, rest.len(), objects) {
             Ok(()) => Ok(true),
             Err(fault) => Err(fault),
         }
     }
-}
-
-// The bytes of a file from a place on, which follow its last LF.
-fn read_rest<S: Store>(
-    alloc: Global,
-    store: &mut S,
-    name: &str,
-    from: u64,
-) -> Result<Vec<u8>, DataFault>
-    ensures read { IfOk result (λ rest. (file : List ℕ)
-        → HasFile (S.state store.old) name.now file → rest.items ≡ drop from file) }
-    ensures stops { IfErr result (λ fault. (file : List ℕ)
-        → HasFile (S.state store.old) name.now file → RestStops (drop from file) fault) }
-    ensures stage { (S.state store.new).stage ≡ (S.state store.old).stage }
-    ensures frame { ReadsOften IsDeviceFault (S.state store.old) (S.state store.new) result }
-    ensures calls { MakesAtMost IsDeviceFault 1 (S.state store.old) (S.state store.new) result }
-{
-    let rest = match store.read_at(alloc, name, from, MAX_REST) {
-        Ok(Some(rest)) => rest,
-        Ok(None) => return Err(DataFault::NoFile),
-        Err(error) => return Err(fault_of_store(error)),
-    };
-    if rest.len() as u64 >= MAX_REST {
-        return Err(DataFault::LongPart);
-    }
-    Ok(rest)
 }

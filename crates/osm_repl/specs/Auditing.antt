@@ -26,10 +26,11 @@ abbrev pub fault_of_audit : AuditFault → OrderFault
 fault_of_audit BadRange = orders.BadRange
 fault_of_audit (Stops fault) = orders.Run fault
 
--- a fault of an order, as the fault of an audit
-abbrev pub audit_fault_of : OrderFault → AuditFault
-audit_fault_of orders.BadRange = BadRange
-audit_fault_of (orders.Run fault) = Stops fault
+-- the fault is that of an audit
+abbrev pub IsAuditFault : (AuditFault → Type 0) → OrderFault → Type 0
+IsAuditFault P orders.BadRange = P BadRange
+IsAuditFault P (orders.Run fault) = P (Stops fault)
+IsAuditFault P (orders.Script fault) = ⊥
 
 -- the audit, as it is told in that layout
 abbrev pub IsToldIn : Layout → AuditValue → List ℕ → Type 0

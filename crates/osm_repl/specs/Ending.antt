@@ -9,7 +9,7 @@ use Rattle.clap.specs.declared.error.kind.ErrorKind.{ErrorKind}
 use Rattle.clap.specs.declared.error.kind.ErrorKind.TheVariants as kinds
 use Rattle.osm_repl.specs.declared.ending.Ending.{Ending}
 use Rattle.osm_repl.specs.declared.ending.Message.{Message}
-use Rattle.osm_repl.specs.declared.ending.Message.TheVariants.{ByClap, Fault, NotText}
+use Rattle.osm_repl.specs.declared.ending.Message.TheVariants.{ByClap, Fault, NotText, Script}
 use Rattle.osm_repl.specs.declared.ending.Message.TheVariants as messages
 use Rattle.osm_repl.specs.declared.ending.Stream.TheVariants.{Output, Error}
 use Rattle.osm_repl.specs.declared.refusal.Refusal.{Refusal}
@@ -17,6 +17,7 @@ use Rattle.osm_repl.specs.declared.refusal.Refusal.TheVariants.{BadRange, Folder
 use Rattle.osm_folder.specs.Faults.{status_of}
 use Rattle.osm_folder.specs.declared.fault.RunFault.{RunFault}
 use Rattle.osm_folder.specs.declared.fault.RunFault.TheVariants.{WantOfMemory}
+use Rattle.osm_script.specs.declared.fault.ScriptFault.{ScriptFault}
 
 -- words that aren't taken end the program with status 2
 abbrev pub refused_words : Message → Ending
@@ -25,6 +26,10 @@ refused_words message = record { message = message; stream = Error; status = 2 }
 -- a fault is said on standard error, and the status is that of the fault
 abbrev pub ending_of_fault : RunFault → Ending
 ending_of_fault fault = record { message = Fault fault; stream = Error; status = status_of fault }
+
+-- a fault of a replay is said on standard error, and the status is 3
+abbrev pub ending_of_script : ScriptFault → Ending
+ending_of_script fault = record { message = Script fault; stream = Error; status = 3 }
 
 -- 2 for a range that is none, 4 if another run is at work there, 3 for any other refusal
 abbrev pub status_of_refusal : Refusal → ℕ

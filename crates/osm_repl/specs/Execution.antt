@@ -1,8 +1,9 @@
 -- What the program does for an order: it replays standard input, or it runs over the files and
 -- prints a report, or it audits a folder (Auditing). `known` says that it is known what the files
 -- hold; `options` has the filter of the saves that `follow` and `begin` write, the limit of
--- `follow`, and the layout of what `follow`, `lag` and `audit` print.
-use Rattle.std.specs.Prelude.{◌≡◌, ℕ, ◌<◌, ◌⊎◌, List, None, Option, take}
+-- `follow`, and the layout of what `follow`, `lag` and `audit` print. `printed` is what was printed
+-- before, and `after` what is printed then.
+use Rattle.std.specs.Prelude.{◌≡◌, ℕ, ◌<◌, ◌≤◌, ◌⊎◌, List, None, OnOk, Option, Result, take}
 use Rattle.std.specs.Io.KnownBytes.{Appends}
 use Rattle.osm_json.specs.Line.{fault_data, json_line}
 use Rattle.osm_model.specs.Filter.{FilterValue}
@@ -11,7 +12,8 @@ use Rattle.osm_reading.specs.Sequence.{SpellsSequence}
 use Rattle.osm_beginning.specs.Beginning.{BeginStops, IsBaseOf, IsBegunFrom}
 use Rattle.osm_folder.specs.Conversion.{ConvertStops, IsConverted}
 use Rattle.osm_exporting.specs.Exporting.{ExportStops, IsExported, IsExportOf}
-use Rattle.osm_store.specs.Files.{Files, HasFailed}
+use Rattle.osm_store.specs.Files.{Files, HasFailed, Spends}
+use Rattle.osm_store.specs.Frames.{IsKnown, StoreState}
 use Rattle.osm_folder.specs.Folder.{IsApart, IsFolderOf}
 use Rattle.osm_folder.specs.Following.{IsFollowReport, IsInStepAfter, IsSaveOf}
 use Rattle.osm_folder.specs.Lagging.{IsLag, IsLagOf, IsLagReport, LagStopsOver, LagStops}
@@ -34,12 +36,13 @@ use Rattle.osm_checked.specs.Checking.{ReadStops}
 use Rattle.osm_round.specs.Over.{FollowStopsOver}
 use Rattle.osm_round.specs.Rounds.{IsFollowed, IsFollowedBefore, RoundStops}
 use Rattle.osm_script.specs.Replay.{ReplayFault, ReplayLeaves, Replays}
+use Rattle.osm_script.specs.declared.fault.ScriptFault.{ScriptFault}
 use Rattle.osm_repl.specs.declared.orders.Order.{Order}
 use Rattle.osm_repl.specs.declared.orders.Order.TheVariants.{Replay, Publish, Follow, Lag, Show}
 use Rattle.osm_repl.specs.declared.orders.Order.TheVariants.{Audit, Begin, Convert, Export}
 use Rattle.osm_repl.specs.declared.orders.Order.TheVariants.{PublishAs}
 use Rattle.osm_repl.specs.declared.order_fault.OrderFault.{OrderFault}
-use Rattle.osm_repl.specs.declared.order_fault.OrderFault.TheVariants.{BadRange, Run}
+use Rattle.osm_repl.specs.declared.order_fault.OrderFault.TheVariants.{BadRange, Run, Script}
 
 -- the order is a run over the files: each is, except a replay
 abbrev pub IsOverFiles : Order → Type 0
@@ -56,6 +59,13 @@ GivesReport order = Unit {0}
 abbrev pub IsRunFault : (RunFault → Type 0) → OrderFault → Type 0
 IsRunFault P BadRange = ⊥
 IsRunFault P (Run fault) = P fault
+IsRunFault P (Script fault) = ⊥
+
+-- the fault is that of a replay
+abbrev pub IsScriptFault : (ScriptFault → Type 0) → OrderFault → Type 0
+IsScriptFault P BadRange = ⊥
+IsScriptFault P (Run fault) = ⊥
+IsScriptFault P (Script fault) = P fault
 
 -- the order is the word `follow`, which may be done up to a faulty number
 abbrev pub IsFollow : Order → Type 0
@@ -208,18 +218,45 @@ IsUntouched (Audit dir from to) name = Unit {0}
 IsUntouched (Export save output) name = name ≡ output.now → ⊥
 IsUntouched (Convert input output) name = name ≡ output.now → ⊥
 
+-- a run of an order: what it is asked for, and the store before and after it
+pub record Execution : Type 0 where
+  pub options : FollowOptions
+  pub order : Order
+  pub old : StoreState
+  pub new : StoreState
+
+abbrev pub execution_of : FollowOptions → Order → StoreState → StoreState → Execution
+execution_of options order old new =
+    record { options = options; order = order; old = old; new = new }
+
+-- what holds of the store however a run ends: no name changes that isn't the order's to change, and
+-- a run that is done makes its calls
+pub record CarriesOut {T E : Type 0} (order : Order) (old new : StoreState) (result : Result T E)
+    : Type 0 where
+  pub untouched :
+      IsKnown old → (name : List ℕ) → IsUntouched order name → new.files name ≡ old.files name
+  pub known : new.is_known ≡ old.is_known
+  pub left : OnOk result (Spends (calls_of order) old.left new.left)
+  pub left_after : Spends 0 old.left new.left
+  pub kept : old.failures ≤ new.failures
+
 -- a run was done, and gave that report
-pub record IsRun (known : Type 0) (options : FollowOptions) (order : Order) (old new : Files)
-    (report : ReportValue) : Type 0 where
-  pub does : known → Does options order old new report
-  pub over : known → DoesOver options order old new report
-  pub report_is : IsReportOf options order report
+pub record IsRun (e : Execution) (report : ReportValue) : Type 0 where
+  pub does : IsKnown e.old → Does e.options e.order e.old.files e.new.files report
+  pub over : IsKnown e.old → DoesOver e.options e.order e.old.files e.new.files report
+  pub report_is : IsReportOf e.options e.order report
+
+-- a run stopped for that fault
+pub record HasStopped (e : Execution) (fault : RunFault) : Type 0 where
+  pub stops : RunStops (IsKnown e.old) e.options e.order e.old.files e.new.files fault
+  pub over : IsKnown e.old → StopsOver e.options e.order e.old.files e.new.files fault
+  pub leaves : Leaves (IsKnown e.old) e.order e.old.files e.new.files
+  pub device : Blames e.old.failures e.new.failures fault
 
 -- a run was done, its report was printed, and its status is the program's
-pub record IsDone (known : Type 0) (options : FollowOptions) (order : Order) (old new : Files)
-    (printed after : Option (List ℕ)) (status : ℕ) : Type 0 where
+pub record IsDone (e : Execution) (printed after : Option (List ℕ)) (status : ℕ) : Type 0 where
   pub report : ReportValue
-  pub run : IsRun known options order old new report
+  pub run : IsRun e report
   pub all : Appends printed after report.text
   pub status_is : status ≡ report.status
 
@@ -248,52 +285,53 @@ TellsFault Json fault printed after =
     (after ≡ printed) ⊎ (IsTold fault × IsFaultLine printed after)
 
 -- a run stopped, and nothing was printed but perhaps the line of its fault
-pub record IsStopped (known : Type 0) (options : FollowOptions) (order : Order) (old new : Files)
-    (failed fails : ℕ) (printed after : Option (List ℕ)) (fault : RunFault) : Type 0 where
-  pub stops : RunStops known options order old new fault
-  pub over : known → StopsOver options order old new fault
-  pub leaves : Leaves known order old new
-  pub device : Blames failed fails fault
-  pub told : TellsFault (layout_of options order) fault printed after
+pub record IsStopped (e : Execution) (printed after : Option (List ℕ)) (fault : RunFault) : Type 0
+  where
+    pub stopped : HasStopped e fault
+    pub told : TellsFault (layout_of e.options e.order) fault printed after
 
 -- a run was done, but standard output didn't take all of its report
-pub record IsCutShort (known : Type 0) (options : FollowOptions) (order : Order) (old new : Files)
-    (printed after : Option (List ℕ)) (fault : RunFault) : Type 0 where
-  pub report : ReportValue
-  pub run : IsRun known options order old new report
-  pub fault_is : fault ≡ WriteFault Output
-  pub count : ℕ
-  pub some : Appends printed after (take count report.text)
+pub record IsCutShort (e : Execution) (printed after : Option (List ℕ)) (fault : RunFault) : Type 0
+  where
+    pub report : ReportValue
+    pub run : IsRun e report
+    pub fault_is : fault ≡ WriteFault Output
+    pub count : ℕ
+    pub some : Appends printed after (take count report.text)
 
 -- the word `follow` kept what comes before a faulty number, and gave that report
-abbrev pub Keeps : Type 0 → FollowOptions → Order → Files → Files → RunFault → ReportValue → Type 0
-Keeps known options (Follow dir save) old new fault report =
+abbrev pub KeepsBefore :
+    Type 0 → FollowOptions → Order → Files → Files → RunFault → ReportValue → Type 0
+KeepsBefore known options (Follow dir save) old new fault report =
     (known → IsFollowedBefore known options dir.now save.now old new fault report)
     × IsProgressReport options.layout (Before report fault)
-Keeps known options order old new fault report = ⊥
+KeepsBefore known options order old new fault report = ⊥
+
+abbrev pub Keeps : Execution → RunFault → ReportValue → Type 0
+Keeps e fault report =
+    KeepsBefore (IsKnown e.old) e.options e.order e.old.files e.new.files fault report
 
 -- what the word `follow` did
-abbrev pub HasFollowed : Type 0 → FollowOptions → Order → Files → Files → Progress → Type 0
-HasFollowed known options order old new (Whole report) = IsRun known options order old new report
-HasFollowed known options order old new (Before report fault) =
-    Keeps known options order old new fault report
+abbrev pub HasFollowed : Execution → Progress → Type 0
+HasFollowed e (Whole report) = IsRun e report
+HasFollowed e (Before report fault) = Keeps e fault report
 
 -- it kept what comes before a faulty number, that was printed, and the fault is that number's
-pub record IsPrintedBefore (known : Type 0) (options : FollowOptions) (order : Order)
-    (old new : Files) (printed after : Option (List ℕ)) (fault : RunFault) : Type 0 where
+pub record IsPrintedBefore (e : Execution) (printed after : Option (List ℕ)) (fault : RunFault)
+    : Type 0 where
   pub report : ReportValue
-  pub keeps : Keeps known options order old new fault report
+  pub keeps : Keeps e fault report
   pub all : Appends printed after report.text
 
 -- it kept that, but standard output didn't take all of the report
-pub record IsCutBefore (known : Type 0) (options : FollowOptions) (order : Order) (old new : Files)
-    (printed after : Option (List ℕ)) (fault : RunFault) : Type 0 where
-  pub report : ReportValue
-  pub first : RunFault
-  pub keeps : Keeps known options order old new first report
-  pub fault_is : fault ≡ WriteFault Output
-  pub count : ℕ
-  pub some : Appends printed after (take count report.text)
+pub record IsCutBefore (e : Execution) (printed after : Option (List ℕ)) (fault : RunFault) : Type 0
+  where
+    pub report : ReportValue
+    pub first : RunFault
+    pub keeps : Keeps e first report
+    pub fault_is : fault ≡ WriteFault Output
+    pub count : ℕ
+    pub some : Appends printed after (take count report.text)
 
 -- why the word `show` stops while it prints
 abbrev pub StopsPrinting : Type 0 → Order → Files → RunFault → Type 0
@@ -302,27 +340,25 @@ StopsPrinting known order old fault = ⊥
 
 -- the word `show` stopped while it printed: the save is a save text, and a prefix of its report was
 -- printed
-pub record IsShownInPart (known : Type 0) (options : FollowOptions) (order : Order)
-    (old new : Files) (failed fails : ℕ) (printed after : Option (List ℕ)) (fault : RunFault)
+pub record IsShownInPart (e : Execution) (printed after : Option (List ℕ)) (fault : RunFault)
     : Type 0 where
   pub report : ReportValue
-  pub run : IsRun known options order old new report
-  pub stops : StopsPrinting known order old fault
-  pub leaves : Leaves known order old new
-  pub device : IsReadFault fault → HasFailed failed fails
+  pub run : IsRun e report
+  pub stops : StopsPrinting (IsKnown e.old) e.order e.old.files fault
+  pub leaves : Leaves (IsKnown e.old) e.order e.old.files e.new.files
+  pub device : IsReadFault fault → HasFailed e.old.failures e.new.failures
   pub count : ℕ
   pub some : Appends printed after (take count report.text)
 
 -- why an order over the files isn't done: its run stops, or its report isn't printed, or it is done
 -- up to a faulty number; the files that the run wrote then stay
-abbrev pub IsNotDone : Type 0 → FollowOptions → Order → Files → Files → ℕ → ℕ
-    → Option (List ℕ) → Option (List ℕ) → RunFault → Type 0
-IsNotDone known options order old new failed fails printed after fault =
-    IsStopped known options order old new failed fails printed after fault
-    ⊎ IsCutShort known options order old new printed after fault
-    ⊎ IsPrintedBefore known options order old new printed after fault
-    ⊎ IsCutBefore known options order old new printed after fault
-    ⊎ IsShownInPart known options order old new failed fails printed after fault
+abbrev pub IsNotDone : Execution → Option (List ℕ) → Option (List ℕ) → RunFault → Type 0
+IsNotDone e printed after fault =
+    IsStopped e printed after fault
+    ⊎ IsCutShort e printed after fault
+    ⊎ IsPrintedBefore e printed after fault
+    ⊎ IsCutBefore e printed after fault
+    ⊎ IsShownInPart e printed after fault
 
 -- a replay was done: the replies were printed, and the status is 0
 abbrev pub IsReplayed : Option (List ℕ) → Option (List ℕ) → Option (List ℕ) → ℕ → Type 0
@@ -330,6 +366,6 @@ IsReplayed input printed after status = (status ≡ 0) × Replays input printed 
 
 -- why a replay isn't done, and what it leaves printed
 abbrev pub IsNotReplayed :
-    Option (List ℕ) → Option (List ℕ) → Option (List ℕ) → Option (List ℕ) → RunFault → Type 0
+    Option (List ℕ) → Option (List ℕ) → Option (List ℕ) → Option (List ℕ) → ScriptFault → Type 0
 IsNotReplayed input rest printed after fault =
     ReplayFault input rest fault × ReplayLeaves input printed after fault

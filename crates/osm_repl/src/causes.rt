@@ -12,6 +12,7 @@ use crate::orders::Order;
 use osm_folder::fault::{FileName, RunFault};
 use osm_folder::form::form_of;
 use osm_model::form::Why;
+use osm_script::fault::ScriptFault;
 use osm_state::paths::Suffix;
 use std::alloc::{AllocError, Global};
 use std::io;
@@ -103,11 +104,20 @@ fn file_of(fault: RunFault) -> Option<FileName> {
         RunFault::Differs(number) => Some(FileName::Sequence(number, Suffix::State)),
         RunFault::ZeroBase => Some(FileName::State),
         RunFault::BadSave(_) | RunFault::OtherFilter => Some(FileName::Save),
-        RunFault::BadScript(_) => Some(FileName::Input),
         RunFault::TopBehind | RunFault::TimeBehind => Some(FileName::Top),
         RunFault::TimeBack | RunFault::SequenceFull => Some(FileName::Top),
         RunFault::TopAt(_) => Some(FileName::Top),
         _ => None,
+    }
+}
+
+/// The stream that a fault of a replay is about, or nothing.
+pub fn stream_of(fault: ScriptFault) -> &'static str {
+    match fault {
+        ScriptFault::WantOfMemory => "",
+        ScriptFault::ReadFault | ScriptFault::TooLarge => Order::Replay.input(),
+        ScriptFault::BadScript(_) => Order::Replay.input(),
+        ScriptFault::WriteFault => Order::Replay.output(),
     }
 }
 

@@ -2,12 +2,13 @@
 
 ghost use Rattle.std.specs.Prelude.{◌≡◌};
 ghost use Rattle.osm_repl.specs.Ending.{ending_of_error, ending_of_fault, ending_of_refusal};
-ghost use Rattle.osm_repl.specs.Ending.{ending_of_unread};
+ghost use Rattle.osm_repl.specs.Ending.{ending_of_script, ending_of_unread};
 
 use crate::refusal::Refusal;
 use clap::Error;
 use clap::error::ErrorKind;
 use osm_folder::fault::RunFault;
+use osm_script::fault::ScriptFault;
 use std::io;
 
 /// Where the last text goes.
@@ -24,6 +25,8 @@ pub enum Message<'a> {
     ByClap(&'a Error),
     /// One line, `osmrepl: ` and the fault.
     Fault(RunFault),
+    /// One line, `osmrepl: ` and why the script isn't replayed.
+    Script(ScriptFault),
     /// One line, `osmrepl: ` and why the run isn't begun.
     Refusal(Refusal),
     /// One line: the words of the command line aren't text.
@@ -81,6 +84,17 @@ pub fn ending_of_fault<'a>(fault: RunFault) -> Ending<'a>
         message: Message::Fault(fault),
         stream: Stream::Error,
         status: fault.status(),
+    }
+}
+
+/// The ending after the fault of a replay.
+pub fn ending_of_script<'a>(fault: ScriptFault) -> Ending<'a>
+    ensures { result ≡ ending_of_script fault }
+{
+    Ending {
+        message: Message::Script(fault),
+        stream: Stream::Error,
+        status: 3,
     }
 }
 

@@ -1,19 +1,17 @@
 //! Carrying out what the words of the command line ask for.
 
-ghost use Rattle.std.specs.Prelude.{◌≡◌, ℕ, ◌≤◌, ◌⊎◌, List, Option, IfOk, IfErr, OnOk, OnErr};
+ghost use Rattle.std.specs.Prelude.{◌≡◌, ℕ, ◌⊎◌, List, Option, IfOk, IfErr, OnErr};
 ghost use Rattle.std.specs.Borrow.{Bor};
 ghost use Rattle.std.specs.Io.KnownBytes.{Appends};
-ghost use Rattle.osm_store.specs.Files.{Spends};
 ghost use Rattle.osm_store.specs.Frames.{IsKnown};
 ghost use Rattle.osm_folder.specs.Runs.{Blames};
 ghost use Rattle.osm_folder.specs.Writing.{WritingFault};
-ghost use Rattle.osm_repl.specs.Auditing.{IsAudited, IsNotAudited, audit_fault_of};
-ghost use Rattle.osm_repl.specs.Execution.{Does, DoesOver, IsDone, IsNotDone, IsNotReplayed};
-ghost use Rattle.osm_repl.specs.Execution.{GivesReport, IsRunFault};
-ghost use Rattle.osm_repl.specs.Execution.{HasFollowed, IsFollow, IsOtherRun, IsOverFiles};
-ghost use Rattle.osm_repl.specs.Execution.{IsReplayed, IsReportOf, IsUntouched};
-ghost use Rattle.osm_repl.specs.Execution.{IsFaultLine, Leaves, RunStops, StopsOver, TellsFault};
-ghost use Rattle.osm_repl.specs.Execution.{calls_of, layout_of};
+ghost use Rattle.osm_repl.specs.Auditing.{IsAuditFault, IsAudited, IsNotAudited};
+ghost use Rattle.osm_repl.specs.Execution.{CarriesOut, Does, DoesOver, GivesReport, HasFollowed};
+ghost use Rattle.osm_repl.specs.Execution.{IsDone, IsFaultLine, IsFollow, IsNotDone, IsNotReplayed};
+ghost use Rattle.osm_repl.specs.Execution.{IsOtherRun, IsOverFiles, IsReplayed, IsReportOf};
+ghost use Rattle.osm_repl.specs.Execution.{IsRunFault, IsScriptFault, Leaves, RunStops, StopsOver};
+ghost use Rattle.osm_repl.specs.Execution.{TellsFault, execution_of, layout_of};
 
 use crate::auditing::audit_and_print;
 use crate::order_fault::OrderFault;
@@ -31,6 +29,7 @@ use osm_folder::report::{Report, fault_report};
 use osm_folder::writing::write_text;
 use osm_printing::show::show_in_blocks;
 use osm_round::round::follow_round;
+use osm_script::fault::ScriptFault;
 use osm_script::replay::replay_run;
 use osm_store::store::Store;
 use std::alloc::Global;
@@ -42,8 +41,9 @@ use std::io::{Read, Write};
 /// every other order runs over the files of the store, and then writes its report to `writer`,
 /// except `show`, which checks its save first and then writes while it reads the save again.
 ///
-/// Only an audit has the fault `BadRange`. On a fault nothing was written to `writer`, with four
-/// exceptions. On `WriteFault(Output)` a prefix of the report was, and the files that a run wrote
+/// Only an audit has the fault `BadRange`, and only a replay that of a script. On a fault nothing
+/// was written to `writer`, with four exceptions. On `WriteFault(Output)`, or a replay's
+/// `WriteFault`, a prefix of the report or of the replies was, and the files that a run wrote
 /// stay. If `show` can't read its save again, a prefix was too. The word `follow` may end with the
 /// fault of a faulty number, after it saved and reported the numbers before. In JSON the line of
 /// `fault_report`, or for an audit of `audit_fault_line`, is written, as far as `writer` takes it,
@@ -57,21 +57,19 @@ pub fn execute<S: Store, R: Read, W: Write>(
     writer: &mut W,
 ) -> Result<u8, OrderFault>
     ensures done { GivesReport order.entry
-        → IfOk result (IsDone (IsKnown (S.state store.old)) options order.entry
-        (S.state store.old).files (S.state store.new).files (W.contents writer.old)
-        (W.contents writer.new)) }
-    ensures not_done { GivesReport order.entry → IfErr result
-        (IsRunFault (IsNotDone (IsKnown (S.state store.old)) options order.entry
-        (S.state store.old).files (S.state store.new).files (S.state store.old).failures
-        (S.state store.new).failures (W.contents writer.old) (W.contents writer.new))) }
+        → IfOk result (IsDone (execution_of options order.entry
+        (S.state store.old) (S.state store.new)) (W.contents writer.old) (W.contents writer.new)) }
+    ensures not_done { GivesReport order.entry
+        → IfErr result (IsRunFault (IsNotDone (execution_of options order.entry
+        (S.state store.old) (S.state store.new)) (W.contents writer.old) (W.contents writer.new))) }
     ensures audited { (dir : Bor (List ℕ)) → (from to : Option (Bor (List ℕ)))
         → order.entry ≡ Order.Audit dir from to → IfOk result (IsAudited (S.state store.old)
         (S.state store.new) options.layout dir.now from to (W.contents writer.old)
         (W.contents writer.new)) }
     ensures not_audited { (dir : Bor (List ℕ)) → (from to : Option (Bor (List ℕ)))
-        → order.entry ≡ Order.Audit dir from to → IfErr result (λ fault. IsNotAudited
+        → order.entry ≡ Order.Audit dir from to → IfErr result (IsAuditFault (IsNotAudited
         (S.state store.old) (S.state store.new) options.layout dir.now from to
-        (W.contents writer.old) (W.contents writer.new) (audit_fault_of fault)) }
+        (W.contents writer.old) (W.contents writer.new))) }
     ensures unchanged { (dir : Bor (List ℕ)) → (from to : Option (Bor (List ℕ)))
         → order.entry ≡ Order.Audit dir from to
         → (S.state store.new).files ≡ (S.state store.old).files }
@@ -79,16 +77,10 @@ pub fn execute<S: Store, R: Read, W: Write>(
     ensures replayed { order.entry ≡ Order.Replay → IfOk result (IsReplayed (R.remaining reader.old)
         (W.contents writer.old) (W.contents writer.new)) }
     ensures not_replayed { order.entry ≡ Order.Replay → IfErr result
-        (IsRunFault (IsNotReplayed (R.remaining reader.old) (R.remaining reader.new)
+        (IsScriptFault (IsNotReplayed (R.remaining reader.old) (R.remaining reader.new)
         (W.contents writer.old) (W.contents writer.new))) }
     ensures idle { order.entry ≡ Order.Replay → store.new ≡ store.old }
-    ensures untouched { IsKnown (S.state store.old) → (name : List ℕ) → IsUntouched order.entry name
-        → (S.state store.new).files name ≡ (S.state store.old).files name }
-    ensures known { (S.state store.new).is_known ≡ (S.state store.old).is_known }
-    ensures left { OnOk result
-        (Spends (calls_of order.entry) (S.state store.old).left (S.state store.new).left) }
-    ensures left_after { Spends 0 (S.state store.old).left (S.state store.new).left }
-    ensures kept { (S.state store.old).failures ≤ (S.state store.new).failures }
+    ensures frame { CarriesOut order.entry (S.state store.old) (S.state store.new) result }
 {
     match order {
         Order::Replay => Ok(replay(alloc, reader, writer)?),
@@ -105,7 +97,11 @@ pub fn execute<S: Store, R: Read, W: Write>(
     }
 }
 
-fn replay<R: Read, W: Write>(alloc: Global, reader: &mut R, writer: &mut W) -> Result<u8, RunFault>
+fn replay<R: Read, W: Write>(
+    alloc: Global,
+    reader: &mut R,
+    writer: &mut W,
+) -> Result<u8, ScriptFault>
     ensures done { IfOk result (IsReplayed (R.remaining reader.old)
         (W.contents writer.old) (W.contents writer.new)) }
     ensures not_done { IfErr result
@@ -124,19 +120,11 @@ fn run_and_print<S: Store, W: Write>(
     writer: &mut W,
 ) -> Result<u8, RunFault>
     requires { IsOtherRun order }
-    ensures done { IfOk result (IsDone (IsKnown (S.state store.old)) options order.entry
-        (S.state store.old).files (S.state store.new).files (W.contents writer.old)
-        (W.contents writer.new)) }
-    ensures not_done { IfErr result (IsNotDone (IsKnown (S.state store.old)) options order.entry
-        (S.state store.old).files (S.state store.new).files (S.state store.old).failures
-        (S.state store.new).failures (W.contents writer.old) (W.contents writer.new)) }
-    ensures untouched { IsKnown (S.state store.old) → (name : List ℕ) → IsUntouched order.entry name
-        → (S.state store.new).files name ≡ (S.state store.old).files name }
-    ensures known { (S.state store.new).is_known ≡ (S.state store.old).is_known }
-    ensures left { OnOk result
-        (Spends (calls_of order.entry) (S.state store.old).left (S.state store.new).left) }
-    ensures left_after { Spends 0 (S.state store.old).left (S.state store.new).left }
-    ensures kept { (S.state store.old).failures ≤ (S.state store.new).failures }
+    ensures done { IfOk result (IsDone (execution_of options order.entry
+        (S.state store.old) (S.state store.new)) (W.contents writer.old) (W.contents writer.new)) }
+    ensures not_done { IfErr result (IsNotDone (execution_of options order.entry
+        (S.state store.old) (S.state store.new)) (W.contents writer.old) (W.contents writer.new)) }
+    ensures frame { CarriesOut order.entry (S.state store.old) (S.state store.new) result }
 {
     let layout = layout_of(&options, order);
     match run(alloc, order, options, store) {
@@ -153,19 +141,11 @@ fn follow_and_print<S: Store, W: Write>(
     writer: &mut W,
 ) -> Result<u8, RunFault>
     requires { IsFollow order }
-    ensures done { IfOk result (IsDone (IsKnown (S.state store.old)) options order.entry
-        (S.state store.old).files (S.state store.new).files (W.contents writer.old)
-        (W.contents writer.new)) }
-    ensures not_done { IfErr result (IsNotDone (IsKnown (S.state store.old)) options order.entry
-        (S.state store.old).files (S.state store.new).files (S.state store.old).failures
-        (S.state store.new).failures (W.contents writer.old) (W.contents writer.new)) }
-    ensures untouched { IsKnown (S.state store.old) → (name : List ℕ) → IsUntouched order.entry name
-        → (S.state store.new).files name ≡ (S.state store.old).files name }
-    ensures known { (S.state store.new).is_known ≡ (S.state store.old).is_known }
-    ensures left { OnOk result
-        (Spends (calls_of order.entry) (S.state store.old).left (S.state store.new).left) }
-    ensures left_after { Spends 0 (S.state store.old).left (S.state store.new).left }
-    ensures kept { (S.state store.old).failures ≤ (S.state store.new).failures }
+    ensures done { IfOk result (IsDone (execution_of options order.entry
+        (S.state store.old) (S.state store.new)) (W.contents writer.old) (W.contents writer.new)) }
+    ensures not_done { IfErr result (IsNotDone (execution_of options order.entry
+        (S.state store.old) (S.state store.new)) (W.contents writer.old) (W.contents writer.new)) }
+    ensures frame { CarriesOut order.entry (S.state store.old) (S.state store.new) result }
 {
     let layout = layout_of(&options, order);
     match follow(alloc, order, options, store) {
@@ -242,13 +222,7 @@ fn run<S: Store>(
         (S.state store.old).files (S.state store.new).files) }
     ensures device { IfErr result
         (Blames (S.state store.old).failures (S.state store.new).failures) }
-    ensures untouched { IsKnown (S.state store.old) → (name : List ℕ) → IsUntouched order.entry name
-        → (S.state store.new).files name ≡ (S.state store.old).files name }
-    ensures known { (S.state store.new).is_known ≡ (S.state store.old).is_known }
-    ensures left { OnOk result
-        (Spends (calls_of order.entry) (S.state store.old).left (S.state store.new).left) }
-    ensures left_after { Spends 0 (S.state store.old).left (S.state store.new).left }
-    ensures kept { (S.state store.old).failures ≤ (S.state store.new).failures }
+    ensures frame { CarriesOut order.entry (S.state store.old) (S.state store.new) result }
 {
     match order {
         Order::Publish { dir, changes, now } => publish_run(alloc, store, dir, changes, now),
@@ -283,8 +257,8 @@ fn follow<S: Store>(
     store: &mut S,
 ) -> Result<Progress, RunFault>
     requires { IsFollow order }
-    ensures followed { IfOk result (HasFollowed (IsKnown (S.state store.old)) options order.entry
-        (S.state store.old).files (S.state store.new).files) }
+    ensures followed { IfOk result (HasFollowed
+        (execution_of options order.entry (S.state store.old) (S.state store.new))) }
     ensures stops { IfErr result (RunStops (IsKnown (S.state store.old)) options order.entry
         (S.state store.old).files (S.state store.new).files) }
     ensures refuses { IfErr result (λ fault. IsKnown (S.state store.old)
@@ -293,13 +267,7 @@ fn follow<S: Store>(
         (S.state store.old).files (S.state store.new).files) }
     ensures device { IfErr result
         (Blames (S.state store.old).failures (S.state store.new).failures) }
-    ensures untouched { IsKnown (S.state store.old) → (name : List ℕ) → IsUntouched order.entry name
-        → (S.state store.new).files name ≡ (S.state store.old).files name }
-    ensures known { (S.state store.new).is_known ≡ (S.state store.old).is_known }
-    ensures left { OnOk result
-        (Spends (calls_of order.entry) (S.state store.old).left (S.state store.new).left) }
-    ensures left_after { Spends 0 (S.state store.old).left (S.state store.new).left }
-    ensures kept { (S.state store.old).failures ≤ (S.state store.new).failures }
+    ensures frame { CarriesOut order.entry (S.state store.old) (S.state store.new) result }
 {
     match order {
         Order::Follow { dir, save } => follow_round(alloc, store, dir, save, &options),

@@ -4,6 +4,7 @@ ghost use Rattle.std.specs.Prelude.{◌≡◌};
 
 use osm_audit::fault::AuditFault;
 use osm_folder::fault::RunFault;
+use osm_script::fault::ScriptFault;
 use thiserror::Error;
 
 /// Why an order isn't done.
@@ -15,6 +16,9 @@ pub enum OrderFault {
     /// The run stopped, or what it printed wasn't taken.
     #[error("{0}")]
     Run(RunFault),
+    /// The script isn't replayed.
+    #[error("{0}")]
+    Script(ScriptFault),
 }
 
 impl From<RunFault> for OrderFault {
@@ -25,6 +29,17 @@ impl From<RunFault> for OrderFault {
 
     fn from(fault: RunFault) -> OrderFault {
         OrderFault::Run(fault)
+    }
+}
+
+impl From<ScriptFault> for OrderFault {
+    ghost use Rattle.std.specs.Prelude.{◌≡◌};
+    ghost use Rattle.osm_repl.specs.declared.order_fault.OrderFault.TheVariants.{Script};
+
+    ghost from_gives = { λ given fault. fault ≡ Script given };
+
+    fn from(fault: ScriptFault) -> OrderFault {
+        OrderFault::Script(fault)
     }
 }
 

@@ -9,8 +9,6 @@ use Rattle.osm_state.specs.StateLaws.{NoFaultBesideState}
 use Rattle.osm_follow.specs.Published.{PublishedValue}
 use Rattle.osm_store.specs.Files.{Files}
 use Rattle.osm_store.specs.Frames.{MakesAtMost, StoreState}
-use Rattle.osm_merge.specs.Faults as merge
-use Rattle.osm_merge.specs.declared.fault.MergeFault.TheVariants as merges
 use Rattle.osm_folder.specs.Folder.{IsFolderOf, IsStateFile, IsThere}
 use Rattle.osm_folder.specs.Following.{IsSaveOf, IsSaved, NumberStops, last_number}
 use Rattle.osm_folder.specs.Names.{top_name_of}

@@ -230,9 +230,9 @@ less known options dir files start p is = by_ending p.ending options.limit is.re
 
     by_ending : (e : Ending) (limit : Option ℕ) → IsReport known options.layout files dir start is.top
         (last_number limit start.number is.top.sequence) is.taken.count p.taken.head e p.report → IsLess limit (progress_of p.report e)
-    by_ending (endings.Part applied count) None (count_is, some, in_lines, below, rest) =
+    by_ending (endings.Part applied count) None (count_is, some, in_lines, below, enough, applied_is, report) =
         let most = is.most in omega (arith, count_is, below, number_is, most)
-    by_ending (endings.Part applied count) (Some limit) (count_is, some, in_lines, below, rest) =
+    by_ending (endings.Part applied count) (Some limit) (count_is, some, in_lines, below, enough, applied_is, report) =
         let end = min_right is.top.sequence (start.number + limit) in omega (arith, count_is, below, number_is, end)
     by_ending endings.Whole None h = tt
     by_ending endings.Whole (Some limit) h = tt

@@ -1,6 +1,7 @@
 -- The numbers that a run takes, one after the other.
 use Rattle.std.proofs.Common.{◌≡◌, ℕ, zero, suc, ◌+◌, ◌<◌, ◌≤◌, List, [], ◌++◌, length, length-append, Option, Some, None}
-use Rattle.std.proofs.Common.{◌-◌, inl, inr, arith, refl, sym, ap, subst, ◌∙◌}
+use Rattle.std.specs.Prelude.{IsTrue}
+use Rattle.std.proofs.Common.{◌-◌, true, inl, inr, arith, refl, sym, ap, subst, ◌∙◌}
 use Rattle.std.specs.Prelude.{Result, Ok, Err, IfErr, IfOk, unwrap_or}
 use Rattle.std.proofs.lemmas.Bool.{cases_lt}
 use Rattle.osm_model.specs.Change.{ChangeValue}
@@ -24,7 +25,7 @@ use Rattle.osm_state.specs.declared.paths.Suffix.TheVariants.{O5c, Opl, State}
 use Rattle.osm_folder.specs.declared.fault.FileName.TheVariants.{Sequence}
 use Rattle.osm_folder.specs.declared.fault.RunFault.{RunFault}
 use Rattle.osm_folder.specs.declared.fault.RunFault.TheVariants.{BadChange, BadState, Mismatch, TooLarge}
-use Rattle.osm_round.specs.Taking.{AdvancesAll, EndsAt, HasTaken, IsTaken, StopsOnTheWay, TakesNumber, TakesUp}
+use Rattle.osm_round.specs.Taking.{AdvancesAll, EndsAt, Fills, HasTaken, IsTaken, StopsOnTheWay, TakesNumber, TakesUp}
 use Rattle.osm_round.specs.declared.taken.End.{End}
 use Rattle.osm_round.specs.declared.taken.End.TheVariants.{Faulty}
 use Rattle.osm_round.specs.declared.taken.Taken.{Taken}
@@ -119,8 +120,14 @@ bytes_more files dir from before size more sum above fits is within =
     let next : before + 1 - from ≡ suc count = omega (arith, above) in
     let at : from + count + 1 ≡ before + 1 = omega (arith, above) in
     let last : more ≡ size_of files dir (from + count + 1) = subst (λ k. more ≡ size_of files dir k) (sym at) is in
-    let fact : sum ≤ bytes_of files dir from (suc count) = omega (arith, fits, last, within) in
+    let step : bytes_of files dir from (suc count) ≡ bytes_of files dir from count + size_of files dir (from + count + 1) = refl in
+    let fact : sum ≤ bytes_of files dir from (suc count) = omega (arith, fits, last, within, step) in
     subst (λ k. sum ≤ bytes_of files dir from k) (sym next) fact
+
+-- what fills the room fills it with more bytes too
+pub fills_more : (known : Type 0) (room : Option ℕ) (size more : ℕ) → Fills (IsTrue true) room size → (known → size ≤ more) → Fills known room more
+fills_more known None size more h fits = absurd h
+fills_more known (Some room) size more h fits = λ sure. (let full = h refl in let least = fits sure in omega (arith, full, least))
 
 -- ---- room
 

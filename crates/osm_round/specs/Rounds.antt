@@ -106,10 +106,14 @@ IsProgress known options dir save old new (Part report applied count) =
 IsProgress known options dir save old new (Before report fault) =
     known → IsFollowedBefore known options dir save old new fault report
 
+-- a run with that limit that took so many numbers may take more; none can have more than there are
+abbrev pub MayTakeMore : Option ℕ → ℕ → Type 0
+MayTakeMore None count = count ≤ max_sequence
+MayTakeMore (Some limit) count = count < limit
+
 -- a part is less than the run may take, whatever is known of the files
 abbrev pub IsLess : Option ℕ → Progress → Type 0
-IsLess None (Part report applied count) = count ≤ max_sequence
-IsLess (Some limit) (Part report applied count) = count < limit
+IsLess limit (Part report applied count) = MayTakeMore limit count
 IsLess limit progress = Unit {0}
 
 -- ---- why it is refused

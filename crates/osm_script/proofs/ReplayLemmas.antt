@@ -6,7 +6,7 @@ use Rattle.std.specs.List.{AllZip}
 use Rattle.std.specs.Prelude.{not, IfSome}
 use Rattle.osm_model.specs.Filter.{FilterValue, everything}
 use Rattle.osm_reading.specs.Lines.{lines_of, is_skipped}
-use Rattle.osm_script.specs.Replay.{IsWriteFault, ReplayFault, ReplayLeaves}
+use Rattle.osm_script.specs.Replay.{ReplayFault, ReplayLeaves}
 use Rattle.osm_script.specs.Replies.{reply_text}
 use Rattle.osm_script.specs.Steps.Replaying.{IsAnswered, AnswerStops}
 use Rattle.osm_script.specs.Script.{IsEventLine, ScriptOf, IsBadLine, unskipped}
@@ -16,8 +16,8 @@ use Rattle.osm_world.specs.Step.{Step}
 use Rattle.osm_world.specs.World.{WorldValue, new_world, new_world_of}
 use Rattle.osm_world.specs.declared.event.Event.{Event}
 use Rattle.osm_world.specs.declared.event.Reply.{Reply}
-use Rattle.osm_folder.specs.declared.fault.RunFault.{RunFault}
-use Rattle.osm_folder.specs.declared.fault.RunFault.TheVariants.{WantOfMemory, WriteFault, BadScript}
+use Rattle.osm_script.specs.declared.fault.ScriptFault.{ScriptFault}
+use Rattle.osm_script.specs.declared.fault.ScriptFault.TheVariants.{WantOfMemory, WriteFault, BadScript}
 
 -- each line that isn't skipped is an event
 at_line : (ls after : List (List ℕ)) (line : List ℕ) (es : List Event) → AllZip IsEventLine (ls ++ line ∷ after) es → (e : Event) × IsEventLine line e
@@ -43,7 +43,7 @@ all_read (Some xs) (Some ys) bytes P c e p =
     subst P (sym all) p
 
 -- what a fault says about the bytes that were read, it says about all of them
-pub script_fault : (old new : Option (List ℕ)) (script : List ℕ) (fault : RunFault) → Consumes old new script
+pub script_fault : (old new : Option (List ℕ)) (script : List ℕ) (fault : ScriptFault) → Consumes old new script
     → IsAtEnd new → AnswerStops script fault → ReplayFault old new fault
 script_fault old new script WantOfMemory c e h = tt
 script_fault old new script (BadScript line) c e h =
@@ -52,8 +52,8 @@ script_fault old new script (BadScript line) c e h =
 script_fault old new script fault c e h = absurd h
 
 -- every fault but a failed write leaves nothing written
-pub silent : (input old new : Option (List ℕ)) (fault : RunFault) → ReplayLeaves input old new fault → (IsWriteFault fault → ⊥) → new ≡ old
-silent input old new (WriteFault file) h not_written = absurd (not_written tt)
+pub silent : (input old new : Option (List ℕ)) (fault : ScriptFault) → ReplayLeaves input old new fault → (fault ≡ WriteFault → ⊥) → new ≡ old
+silent input old new WriteFault h not_written = absurd (not_written refl)
 silent input old new fault h not_written = h
 
 -- what the laws of runs say about one more step

@@ -9,10 +9,9 @@ use Rattle.osm_world.specs.declared.event.Event.{Event}
 use Rattle.osm_world.specs.declared.event.Reply.{Reply}
 use Rattle.osm_script.specs.Replies.{replies_text}
 use Rattle.osm_script.specs.Script.{ScriptOf, IsBadLine}
-use Rattle.osm_folder.specs.declared.fault.FileName.TheVariants.{Input, Output}
-use Rattle.osm_folder.specs.declared.fault.RunFault.{RunFault}
-use Rattle.osm_folder.specs.declared.fault.RunFault.TheVariants.{WantOfMemory, ReadFault}
-use Rattle.osm_folder.specs.declared.fault.RunFault.TheVariants.{WriteFault, TooLarge, BadScript}
+use Rattle.osm_script.specs.declared.fault.ScriptFault.{ScriptFault}
+use Rattle.osm_script.specs.declared.fault.ScriptFault.TheVariants.{WantOfMemory, ReadFault}
+use Rattle.osm_script.specs.declared.fault.ScriptFault.TheVariants.{TooLarge, BadScript, WriteFault}
 
 -- the text is the reply text of a run over the events of the script, with no filter
 pub record RepliesTo (script text : List ℕ) : Type 0 where
@@ -31,24 +30,19 @@ Replays input old new = IfSome input (λ script.
 
 -- what a fault of a replay says about the reader's bytes, before and after; memory may be refused
 -- whatever they are, since a new world makes room for what it may hold
-abbrev pub ReplayFault : Option (List ℕ) → Option (List ℕ) → RunFault → Type 0
+abbrev pub ReplayFault : Option (List ℕ) → Option (List ℕ) → ScriptFault → Type 0
 ReplayFault input rest WantOfMemory = Unit {0}
-ReplayFault input rest (ReadFault file) = file ≡ Input
-ReplayFault input rest (WriteFault file) = file ≡ Output
-ReplayFault input rest (TooLarge file) =
-    (file ≡ Input) × ((bytes : List ℕ) × Consumes input rest bytes × (max_file < length bytes))
+ReplayFault input rest ReadFault = Unit {0}
+ReplayFault input rest TooLarge =
+    (bytes : List ℕ) × Consumes input rest bytes × (max_file < length bytes)
 ReplayFault input rest (BadScript line) = IfSome input (λ script.
     IsBadLine script line × ((events : List Event) → ScriptOf script events → ⊥))
-ReplayFault input rest fault = ⊥
+ReplayFault input rest WriteFault = Unit {0}
 
 -- what a fault of a replay leaves written: a prefix of the reply text if writing failed, else
 -- nothing
-abbrev pub ReplayLeaves : Option (List ℕ) → Option (List ℕ) → Option (List ℕ) → RunFault → Type 0
-ReplayLeaves input old new (WriteFault file) = IfSome input (λ script.
+abbrev pub ReplayLeaves :
+    Option (List ℕ) → Option (List ℕ) → Option (List ℕ) → ScriptFault → Type 0
+ReplayLeaves input old new WriteFault = IfSome input (λ script.
     (text : List ℕ) × RepliesTo script text × ((n : ℕ) × Appends old new (take n text)))
 ReplayLeaves input old new fault = new ≡ old
-
--- a write failed
-abbrev pub IsWriteFault : RunFault → Type 0
-IsWriteFault (WriteFault file) = Unit {0}
-IsWriteFault fault = ⊥

@@ -11,8 +11,8 @@ use Rattle.osm_world.specs.declared.event.Event.TheVariants.{Edit, Close, Delive
 use Rattle.osm_world.specs.declared.event.Event.TheVariants.{Save, Restart, Begin}
 use Rattle.osm_world.specs.declared.event.Form.{Form}
 use Rattle.osm_world.specs.declared.event.Form.TheVariants.{Opl, O5c}
-use Rattle.osm_folder.specs.declared.fault.RunFault.{RunFault}
-use Rattle.osm_folder.specs.declared.fault.RunFault.TheVariants.{WantOfMemory, BadScript}
+use Rattle.osm_script.specs.declared.fault.ScriptFault.{ScriptFault}
+use Rattle.osm_script.specs.declared.fault.ScriptFault.TheVariants.{WantOfMemory, BadScript}
 
 -- a blank and the name of a form
 abbrev pub form_text : Form → List ℕ
@@ -84,7 +84,7 @@ pub record IsBadLine (script : List ℕ) (number : ℕ) : Type 0 where
 
 -- a script with a line that isn't skipped may be refused for memory, and any script at its first
 -- line that is no event
-abbrev pub ScriptStops : List ℕ → RunFault → Type 0
+abbrev pub ScriptStops : List ℕ → ScriptFault → Type 0
 ScriptStops script WantOfMemory = HasUnskipped script
 ScriptStops script (BadScript line) = IsBadLine script line
 ScriptStops script fault = ⊥

@@ -2,6 +2,8 @@
 #![tactic(auto)]
 
 mod asks;
+pub mod fault;
 pub mod replay;
 pub mod replies;
 pub mod script;
+mod writing;

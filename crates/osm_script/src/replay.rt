@@ -3,17 +3,15 @@
 ghost use Rattle.std.specs.Prelude.{◌≡◌, ℕ, ◌≤◌, List, Option, length, IfOk, OnOk, IfErr};
 ghost use Rattle.std.specs.Io.KnownBytes.{Appends, Consumes, IsAtEnd};
 ghost use Rattle.osm_model.specs.Limits.{max_file};
-ghost use Rattle.osm_script.specs.Replay.{IsWriteFault, ReplayFault, ReplayLeaves, Replays};
-ghost use Rattle.osm_script.specs.Replay.{RepliesTo};
-ghost use Rattle.osm_script.specs.Steps.Replaying.{AnswerStops, ReadingFault};
-ghost use Rattle.osm_script.specs.Steps.Replaying.{most_reads};
-ghost use Rattle.osm_folder.specs.declared.fault.RunFault.{RunFault};
+ghost use Rattle.osm_script.specs.Replay.{ReplayFault, ReplayLeaves, Replays, RepliesTo};
+ghost use Rattle.osm_script.specs.Steps.Replaying.{AnswerStops, ReadingFault, most_reads};
+ghost use Rattle.osm_script.specs.declared.fault.ScriptFault.{ScriptFault};
 
 use crate::asks::Asks;
+use crate::fault::ScriptFault;
 use crate::replies::write_reply;
 use crate::script::{EventSink, send_events};
-use osm_folder::fault::{FileName, RunFault};
-use osm_folder::writing::write_text;
+use crate::writing::write_text;
 use osm_model::limits::MAX_FILE;
 use osm_model::memory::WantOfMemory;
 use osm_world::event::Event;
@@ -33,7 +31,7 @@ pub fn replay_run<R: Read, W: Write>(
     alloc: Global,
     reader: &mut R,
     writer: &mut W,
-) -> Result<(), RunFault>
+) -> Result<(), ScriptFault>
     ensures replays { OnOk result
         (Replays (R.remaining reader.old) (W.contents writer.old) (W.contents writer.new)) }
     ensures fault { IfErr result (ReplayFault (R.remaining reader.old) (R.remaining reader.new)) }
@@ -48,12 +46,16 @@ pub fn replay_run<R: Read, W: Write>(
 /// A law of the definitions of a replay: a fault other than a failed write leaves nothing written.
 /// Does nothing at run time.
 pub fn laws_of_replays()
-    ensures silent { (input old new : Option (List ℕ)) (fault : RunFault)
-        → ReplayLeaves input old new fault → (IsWriteFault fault → ⊥) → new ≡ old }
+    ensures silent { (input old new : Option (List ℕ)) (fault : ScriptFault)
+        → ReplayLeaves input old new fault → (fault ≡ ScriptFault.WriteFault → ⊥) → new ≡ old }
 {}
 
 // All that the reader has, or `TooLarge` past the largest script. No other function asks a reader.
-fn read_script<R: Read>(alloc: Global, reader: &mut R, asks: &mut Asks) -> Result<Vec<u8>, RunFault>
+fn read_script<R: Read>(
+    alloc: Global,
+    reader: &mut R,
+    asks: &mut Asks,
+) -> Result<Vec<u8>, ScriptFault>
     requires { asks.old ≡ 0 }
     ensures asked { asks.new ≤ most_reads }
     ensures script { IfOk result
@@ -66,19 +68,19 @@ fn read_script<R: Read>(alloc: Global, reader: &mut R, asks: &mut Asks) -> Resul
     let mut block = [0u8; 16384];
     for _ in 0..MOST_READS {
         let Ok(count) = asks.ask(reader, &mut block) else {
-            return Err(RunFault::ReadFault(FileName::Input));
+            return Err(ScriptFault::ReadFault);
         };
         if count == 0 {
             return Ok(script);
         }
         if script.len() + count > MAX_FILE {
-            return Err(RunFault::TooLarge(FileName::Input));
+            return Err(ScriptFault::TooLarge);
         }
         let Ok(()) = script.extend_from_slice(&block[..count]) else {
-            return Err(RunFault::WantOfMemory);
+            return Err(ScriptFault::WantOfMemory);
         };
     }
-    Err(RunFault::TooLarge(FileName::Input))
+    Err(ScriptFault::TooLarge)
 }
 
 // A world that takes the events of a script, and the text of its replies so far. Each event is
@@ -103,14 +105,14 @@ impl EventSink for Answering {
 }
 
 // The reply text of a script.
-fn reply_text_of(alloc: Global, script: &[u8]) -> Result<Vec<u8>, RunFault>
+fn reply_text_of(alloc: Global, script: &[u8]) -> Result<Vec<u8>, ScriptFault>
     requires { length script.now ≤ max_file }
     ensures text { IfOk result (λ text. RepliesTo script.now text.items) }
     ensures fault { IfErr result (AnswerStops script.now) }
 {
     laws_of_runs();
     let Ok(world) = World::new(alloc) else {
-        return Err(RunFault::WantOfMemory);
+        return Err(ScriptFault::WantOfMemory);
     };
     let mut answering = Answering {
         world,

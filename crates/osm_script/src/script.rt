@@ -10,7 +10,7 @@ ghost use Rattle.osm_world.specs.declared.event.Form.{Form};
 ghost use Rattle.osm_script.specs.Steps.Parsing.{AllAreTaken, IsBeginOf, IsCloseOf, IsDeliverOf};
 ghost use Rattle.osm_script.specs.Steps.Parsing.{IsEditOf, IsTakenAs, LineStops, EventStops};
 
-use osm_folder::fault::RunFault;
+use crate::fault::ScriptFault;
 use osm_model::memory::WantOfMemory;
 use osm_model::time::time_read;
 use osm_opl::lines::{LineError, read_line};
@@ -49,7 +49,7 @@ impl EventSink for Vec<Event> {
 
 /// The events of a script. Refused as `BadScript`, with the line's number from 1 over all lines, at
 /// the first line that is neither skipped nor an event, or for memory.
-pub fn parse_script(alloc: Global, script: &[u8]) -> Result<Vec<Event>, RunFault>
+pub fn parse_script(alloc: Global, script: &[u8]) -> Result<Vec<Event>, ScriptFault>
     requires { length script.now < 2 ^ 63 }
     ensures events { IfOk result (λ events. ScriptOf script.now events.items) }
     ensures refused { IfErr result (ScriptStops script.now) }
@@ -66,7 +66,7 @@ pub(crate) fn send_events<S: EventSink>(
     alloc: Global,
     script: &[u8],
     sink: &mut S,
-) -> Result<(), RunFault>
+) -> Result<(), ScriptFault>
     requires short { length script.now < 2 ^ 63 }
     requires empty { S.took sink.old [] }
     ensures sent { OnOk result (AllAreTaken (S.took sink.new) script.now) }
@@ -81,7 +81,7 @@ pub(crate) fn send_events<S: EventSink>(
             Ok(None) => {}
             Ok(Some(event)) => {
                 let Ok(()) = sink.take(event) else {
-                    return Err(RunFault::WantOfMemory);
+                    return Err(ScriptFault::WantOfMemory);
                 };
             }
             Err(fault) => return Err(fault),
@@ -92,7 +92,7 @@ pub(crate) fn send_events<S: EventSink>(
 }
 
 // The event of the line with that number; None if it is skipped.
-fn line_event(alloc: Global, line: &[u8], number: u64) -> Result<Option<Event>, RunFault>
+fn line_event(alloc: Global, line: &[u8], number: u64) -> Result<Option<Event>, ScriptFault>
     ensures taken { IfOk result (IsTakenAs line.now) }
     ensures refused { IfErr result (LineStops line.now number) }
 {
@@ -101,8 +101,8 @@ fn line_event(alloc: Global, line: &[u8], number: u64) -> Result<Option<Event>, 
     }
     match parse_event(alloc, line) {
         Ok(event) => Ok(Some(event)),
-        Err(LineFault::WantOfMemory) => Err(RunFault::WantOfMemory),
-        Err(LineFault::NoEvent) => Err(RunFault::BadScript(number)),
+        Err(LineFault::WantOfMemory) => Err(ScriptFault::WantOfMemory),
+        Err(LineFault::NoEvent) => Err(ScriptFault::BadScript(number)),
     }
 }
 

@@ -6,7 +6,7 @@ mod saying;
 mod watching;
 
 use crate::locking::{locked, seconds};
-use crate::saying::{end, explain, refuse, report, report_of_run};
+use crate::saying::{end, explain, refuse, report, report_of_replay, report_of_run};
 use crate::watching::{Screen, Shown};
 use osm_disk::disk_store::DiskStore;
 use osm_folder::fault::RunFault;
@@ -90,6 +90,7 @@ fn done(rt: &HostRuntime, asked: &Asked<'_>, options: FollowOptions, is_alone: b
     match result {
         Ok(status) => status,
         Err(OrderFault::Run(fault)) => report_of_run(rt, asked.order, fault, disk.said()),
+        Err(OrderFault::Script(fault)) => report_of_replay(rt, fault),
         Err(OrderFault::BadRange) => {
             let hint = "--from is at least 1, and at most --to or the folder's newest number";
             refuse(rt, Refusal::BadRange, "", None, hint)

@@ -6,16 +6,17 @@ use osm_folder::fault::{FileName, RunFault};
 use osm_json::line::fault_line;
 use osm_model::memory::WantOfMemory;
 use osm_repl::causes::{
-    Cause, cause_text, hint_of, is_of_content, line_of_field, look_of, path_of,
+    Cause, cause_text, hint_of, is_of_content, line_of_field, look_of, path_of, stream_of,
 };
 use osm_repl::command_line::asked;
 use osm_repl::echo::echoes;
 use osm_repl::ending::{
-    Ending, Message, Stream, ending_of_error, ending_of_fault, ending_of_refusal,
+    Ending, Message, Stream, ending_of_error, ending_of_fault, ending_of_refusal, ending_of_script,
 };
 use osm_repl::fields::field_text;
 use osm_repl::orders::Order;
 use osm_repl::refusal::Refusal;
+use osm_script::fault::ScriptFault;
 use std::alloc::{AllocError, Global};
 use std::io::{self, Write};
 
@@ -63,6 +64,12 @@ pub(crate) fn report_of_run(
         Ok(cause) => end(rt, ending_of_fault(fault), cause.as_str()),
         Err(_) => report(rt, fault),
     }
+}
+
+// Reports the fault of a replay with the stream that it is about.
+pub(crate) fn report_of_replay(rt: &HostRuntime, fault: ScriptFault) -> u8 {
+    let (path, said, hint) = (stream_of(fault), None, "");
+    end_with(rt, ending_of_script(fault), Cause { path, said, hint })
 }
 
 // The cause of a fault. What the system said last belongs to it only if a call on files failed.
@@ -133,7 +140,7 @@ fn refusal_line(alloc: Global, refusal: Refusal) -> Result<Vec<u8>, WantOfMemory
     fault_line(alloc, fault.as_str())
 }
 
-// Says why the run isn't begun. If there is no memory for the cause, it is left out.
+// Says why the run isn't begun.
 pub(crate) fn refuse(
     rt: &HostRuntime,
     refusal: Refusal,
@@ -141,9 +148,13 @@ pub(crate) fn refuse(
     said: Option<io::Error>,
     hint: &str,
 ) -> u8 {
-    let ending = ending_of_refusal(refusal);
-    match cause_text(rt.alloc(), Cause { path, said, hint }) {
-        Ok(cause) => end(rt, ending, cause.as_str()),
+    end_with(rt, ending_of_refusal(refusal), Cause { path, said, hint })
+}
+
+// Ends with a cause. If there is no memory for its text, it is left out.
+fn end_with(rt: &HostRuntime, ending: Ending<'_>, cause: Cause<'_>) -> u8 {
+    match cause_text(rt.alloc(), cause) {
+        Ok(text) => end(rt, ending, text.as_str()),
         Err(_) => end(rt, ending, ""),
     }
 }
@@ -167,6 +178,8 @@ fn say(rt: &HostRuntime, message: Message<'_>, stream: Stream, cause: &str) -> i
         (Message::ByClap(error), Stream::Error) => eprint!(rt; "{error}"),
         (Message::Fault(fault), Stream::Output) => println!(rt; "osmrepl: {fault}{cause}"),
         (Message::Fault(fault), Stream::Error) => eprintln!(rt; "osmrepl: {fault}{cause}"),
+        (Message::Script(fault), Stream::Output) => println!(rt; "osmrepl: {fault}{cause}"),
+        (Message::Script(fault), Stream::Error) => eprintln!(rt; "osmrepl: {fault}{cause}"),
         (Message::Refusal(refusal), Stream::Output) => println!(rt; "osmrepl: {refusal}{cause}"),
         (Message::Refusal(refusal), Stream::Error) => eprintln!(rt; "osmrepl: {refusal}{cause}"),
         (Message::NotText, Stream::Output) => println!(rt; "osmrepl: {NOT_TEXT}"),

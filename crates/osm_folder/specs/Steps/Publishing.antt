@@ -1,4 +1,5 @@
--- Steps of a publication. `known` says that it is known what the files hold.
+-- Steps of a publication. `known` says that it is known what the files hold, and a word that ends
+-- in `In` takes the state of a store in place of `known` and the files.
 use Rattle.std.specs.Prelude.{◌≡◌, ℕ, ◌+◌, ◌<◌, ◌≤◌, ◌⊎◌, List, [], ◌∷◌, length, take}
 use Rattle.std.specs.Prelude.{Option, Some, None, string_bytes}
 use Rattle.osm_model.specs.Change.{ChangeValue}
@@ -10,6 +11,7 @@ use Rattle.osm_opl.specs.File.{SpellsOpl}
 use Rattle.osm_state.specs.State.{StateValue}
 use Rattle.osm_state.specs.declared.paths.Suffix.TheVariants.{O5c, Opl, State}
 use Rattle.osm_store.specs.Files.{Files, IsOver}
+use Rattle.osm_store.specs.Frames.{IsKnown, StoreState}
 use Rattle.osm_folder.specs.Folder.{max_state}
 use Rattle.osm_folder.specs.Forms.{IsFaulty}
 use Rattle.osm_folder.specs.Names.{file_name_of, top_name_of}
@@ -100,6 +102,10 @@ pub record IsMade (known : Type 0) (dir changes now : List ℕ) (files : Files) 
   pub published_is : made.published ≡ written_of (closing publisher time)
   pub names_are : AreNames dir (publisher.number + 1) made.names
   pub report_is : made.report ≡ publish_report_of (publisher.number + 1)
+
+-- the same in a store
+abbrev pub IsMadeIn : StoreState → List ℕ → List ℕ → List ℕ → Publication → Type 0
+IsMadeIn store dir changes now = IsMade (IsKnown store) dir changes now store.files
 
 -- a write fails after some of the others were made
 pub record IsCut (known : Type 0) (names : FolderNames) (p : PublishedTexts) (old new : Files)

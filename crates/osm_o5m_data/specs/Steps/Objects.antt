@@ -12,21 +12,21 @@ use Rattle.osm_o5m_data.specs.declared.o5m_data.O5mData.{O5mData}
 
 -- what is left of a file
 abbrev pub left_in : O5mData → List ℕ → List ℕ
-left_in reader file = left_of reader.unread file
+left_in reader file = left_of reader.reader file
 
 -- those objects of a file were read; if the end was found, nothing of it is left but what was read
 pub record HasRead (reader : O5mData) (file : List ℕ) (done : List ChangeValue) : Type 0 where
   pub read : HasReadTo file done reader.held (left_in reader file)
-  pub within : reader.unread.from ≤ length file
-  pub ended : IsTrue reader.is_ended → drop reader.unread.from file ≡ []
+  pub within : reader.reader.from ≤ length file
+  pub ended : IsTrue reader.is_ended → drop reader.reader.from file ≡ []
 
 -- the bytes that weren't passed, and those that 64 bits still count
 abbrev pub ahead_of : O5mData → ℕ
-ahead_of reader = length reader.unread.unread + (18446744073709551615 - reader.unread.from)
+ahead_of reader = length reader.reader.unread + (18446744073709551615 - reader.reader.from)
 
 -- the calls of the store that are ahead, none if the end was found
 abbrev pub calls_of : O5mData → List ℕ → ℕ
-calls_of reader file = if reader.is_ended then 0 else reads_ahead reader.unread file
+calls_of reader file = if reader.is_ended then 0 else reads_ahead reader.reader file
 
 -- more of a file was read, and nothing was passed
 pub record Keeps (file : List ℕ) (old new : O5mData) : Type 0 where

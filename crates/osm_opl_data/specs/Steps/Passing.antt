@@ -5,12 +5,9 @@ use Rattle.osm_model.specs.Change.{ChangeValue}
 use Rattle.osm_reading.specs.Lines.{lines_of, without_cr}
 use Rattle.osm_reading.specs.Pieces.{cut_at}
 use Rattle.osm_blocks.specs.Places.{Place, past}
-use Rattle.osm_data.specs.declared.fault.DataFault.{DataFault}
-use Rattle.osm_data.specs.declared.fault.DataFault.TheVariants.{Device, WantOfMemory, LongPart}
-use Rattle.osm_opl_data.specs.Reading.{HasPassed, max_line}
+use Rattle.osm_opl_data.specs.Reading.{HasPassed}
 use Rattle.osm_opl_data.specs.Steps.Objects.{Adds}
 use Rattle.osm_opl_data.specs.declared.opl_data.OplData.{OplData}
-use Rattle.osm_opl_data.specs.declared.so_far.SoFar.{SoFar}
 
 -- before the first line of a file; nothing is left of an empty one
 pub record Begins (place : Place) (reader : OplData) : Type 0 where
@@ -38,16 +35,9 @@ Goes true old new before after =
 Goes false old new before after =
     (new.is_ended ≡ true) × (new.so_far ≡ old.so_far) × (after ≡ before)
 
--- what follows the last LF is next
-pub record IsLast (so_far : SoFar) (file : List ℕ) (objects : List ChangeValue) : Type 0 where
-  pub within : so_far.bytes ≤ length file
-  pub uncut : cut_at 10 (drop so_far.bytes file) ≡ None
-  pub passed : HasPassed file (lines_of (drop so_far.bytes file)) objects so_far
-
--- why what is left of a known file isn't read: it is too long only if its line is, even if a CR
--- ends that
-abbrev pub RestStops : List ℕ → DataFault → Type 0
-RestStops rest Device = Unit {0}
-RestStops rest WantOfMemory = Unit {0}
-RestStops rest LongPart = max_line + 2 ≤ length rest
-RestStops rest fault = ⊥
+-- what follows the last LF is next, and all of it was read
+pub record IsLast (reader : OplData) (file : List ℕ) (objects : List ChangeValue) : Type 0 where
+  pub within : reader.so_far.bytes ≤ length file
+  pub rest : reader.reader.unread ≡ drop reader.so_far.bytes file
+  pub uncut : cut_at 10 reader.reader.unread ≡ None
+  pub passed : HasPassed file (lines_of reader.reader.unread) objects reader.so_far

@@ -8,8 +8,8 @@ use Rattle.osm_script.specs.Script.{IsEventLine, ScriptOf, form_text}
 use Rattle.osm_world.specs.declared.event.Event.{Event}
 use Rattle.osm_world.specs.declared.event.Event.TheVariants.{Edit, Close, Deliver, Begin}
 use Rattle.osm_world.specs.declared.event.Form.{Form}
-use Rattle.osm_folder.specs.declared.fault.RunFault.{RunFault}
-use Rattle.osm_folder.specs.declared.fault.RunFault.TheVariants as faults
+use Rattle.osm_script.specs.declared.fault.ScriptFault.{ScriptFault}
+use Rattle.osm_script.specs.declared.fault.ScriptFault.TheVariants as faults
 use Rattle.osm_script.specs.declared.script.LineFault.{LineFault}
 use Rattle.osm_script.specs.declared.script.LineFault.TheVariants.{WantOfMemory, NoEvent}
 
@@ -50,7 +50,7 @@ IsTakenAs line None = is_skipped line ≡ true
 IsTakenAs line (Some event) = (is_skipped line ≡ false) × IsEventLine line event
 
 -- a line that isn't skipped is no event, or memory was refused
-abbrev pub LineStops : List ℕ → ℕ → RunFault → Type 0
+abbrev pub LineStops : List ℕ → ℕ → ScriptFault → Type 0
 LineStops line number faults.WantOfMemory = is_skipped line ≡ false
 LineStops line number (faults.BadScript n) =
     (n ≡ number) × (is_skipped line ≡ false) × ((e : Event) → IsEventLine line e → ⊥)

@@ -1,6 +1,5 @@
 //! Tests of osm_judge: which texts it judges, and its definitions on lists worked out by hand.
 
-use osm_folder::fault::RunFault;
 use osm_judge::judge::may_answer;
 use osm_judge::plain::{plain_content_of, plain_edits_by_changeset, plain_edits_by_user};
 use osm_model::change::Change;
@@ -9,6 +8,7 @@ use osm_model::form::ChangeForm;
 use osm_model::kind::{Key, Kind};
 use osm_opl::lines::write_line;
 use osm_opl::opl::Opl;
+use osm_script::fault::ScriptFault;
 use std::alloc::Global;
 
 // Lines of changes, the line of node 1 that they leave (empty if they leave none), and how many
@@ -117,11 +117,11 @@ fn the_definitions_say_what_a_person_expects(rt: HostRuntime) {
     }
 }
 
-fn refusal(alloc: Global) -> Option<RunFault> {
+fn refusal(alloc: Global) -> Option<ScriptFault> {
     may_answer(alloc, &Filter::all(alloc), b"show\nx\n", b"old\n").err()
 }
 
 #[test]
 fn what_is_no_script_is_not_judged(rt: HostRuntime) {
-    assert!(rt; refusal(rt.alloc()) == Some(RunFault::BadScript(2)));
+    assert!(rt; refusal(rt.alloc()) == Some(ScriptFault::BadScript(2)));
 }

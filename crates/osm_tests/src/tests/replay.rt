@@ -1,6 +1,6 @@
 //! Tests of replays: readers and writers that fail, and the flush at the end.
 
-use osm_folder::fault::{FileName, RunFault};
+use osm_script::fault::ScriptFault;
 use osm_script::replay::replay_run;
 use std::alloc::Global;
 use std::io::{self, Read, Write};
@@ -89,7 +89,7 @@ impl Write for Buffered {
 }
 
 // Whether a replay from the reader ends in that fault, and writes nothing.
-fn is_refused<R: Read>(alloc: Global, reader: &mut R, fault: RunFault) -> bool {
+fn is_refused<R: Read>(alloc: Global, reader: &mut R, fault: ScriptFault) -> bool {
     let mut written = Vec::new(alloc);
     let refused = replay_run(alloc, reader, &mut written).err();
     refused == Some(fault) && written.is_empty()
@@ -99,7 +99,7 @@ fn is_refused<R: Read>(alloc: Global, reader: &mut R, fault: RunFault) -> bool {
 fn a_reader_that_fails_is_a_fault_after_each_byte(rt: HostRuntime) {
     for length in 0..SCRIPT.len() {
         let rest = &SCRIPT.as_bytes()[..length];
-        let fault = RunFault::ReadFault(FileName::Input);
+        let fault = ScriptFault::ReadFault;
         assert!(rt;
             is_refused(rt.alloc(), &mut Cut { rest }, fault),
             "{length}"
@@ -111,7 +111,7 @@ fn a_reader_that_fails_is_a_fault_after_each_byte(rt: HostRuntime) {
 fn is_full_after(alloc: Global, room: usize) -> bool {
     let mut writer = Full { room, taken: 0 };
     let refused = replay_run(alloc, &mut SCRIPT.as_bytes(), &mut writer).err();
-    refused == Some(RunFault::WriteFault(FileName::Output)) && writer.taken == room
+    refused == Some(ScriptFault::WriteFault) && writer.taken == room
 }
 
 #[test]
@@ -122,7 +122,7 @@ fn a_writer_that_takes_nothing_is_a_fault_after_each_byte(rt: HostRuntime) {
 }
 
 // Whether a replay ends with that answer, flushes that many bytes and leaves none waiting.
-fn flushes(alloc: Global, is_failing: bool, answer: Result<(), RunFault>, count: usize) -> bool {
+fn flushes(alloc: Global, is_failing: bool, answer: Result<(), ScriptFault>, count: usize) -> bool {
     let mut writer = Buffered {
         waiting: 0,
         flushed: 0,
@@ -134,7 +134,7 @@ fn flushes(alloc: Global, is_failing: bool, answer: Result<(), RunFault>, count:
 
 #[test]
 fn the_replies_are_flushed_before_a_replay_is_done(rt: HostRuntime) {
-    let fault = Err(RunFault::WriteFault(FileName::Output));
+    let fault = Err(ScriptFault::WriteFault);
     assert!(rt; flushes(rt.alloc(), false, Ok(()), REPLIES.len()));
     assert!(rt; flushes(rt.alloc(), true, fault, 0));
 }

@@ -47,7 +47,7 @@ returns-in-Full-clause-prepared g c =
     let takes : TakesUp known files c.args.dir.now c.args.options.now.filter c.last_number-last.result c.args.start c.take_numbers.new.taken Full =
     rw (c.after-taken.ensures, c.in-Full.is) at c.in_ok-take_numbers.ensures.taken in
     let full = (rw (c.after-taken.ensures, c.room_of-room.ensures) at c.in_ok-take_numbers.ensures.full) c.in-Full.is in
-    ok_two _ _ _ c.part-in-Full.result c.part-in-Full.ensures.taken c.part-in-Full.ensures.part
+    ok_two _ _ _ c.part.result c.part.ensures.taken c.part.ensures.part
     (λ p taken reports. prepared_part known c.args.options.now c.args.dir.now files c.args.start c.args.top.now c.requires.top
     c.sequence.ensures.limits.sequence c.last_number-last.result last_is c.take_numbers.new.taken p takes taken full.0 full.1 reports)
 
@@ -109,9 +109,9 @@ returns-in-Full-clause-calls g c = λ yes p folder.
     let number = takes.taken_are.is.number in
     let until = takes.until in
     let spent = (rw (c.after-taken.ensures, c.in-Full.is) at c.in_ok-take_numbers.ensures.spent) tt in
-    only_memory IsDeviceFault (3 * (length p - c.args.start.number)) a (g.S.Store.state c.take_numbers.new.store) c.part-in-Full.result
+    only_memory IsDeviceFault (3 * (length p - c.args.start.number)) a (g.S.Store.state c.take_numbers.new.store) c.part.result
     (most_more (3 * (min c.last_number-last.result (c.take_numbers.new.taken.head.number + 1) - c.args.start.number)) (3 * (length p - c.args.start.number))
-    _ _ (omega (arith, within, number, until)) spent) (λ never. never) c.part-in-Full.ensures.memory
+    _ _ (omega (arith, within, number, until)) spent) (λ never. never) c.part.ensures.memory
 
 pub returns-in-Faulty-clause-calls : goal.returns-in-Faulty-clause-calls
 returns-in-Faulty-clause-calls g c = λ yes p folder.

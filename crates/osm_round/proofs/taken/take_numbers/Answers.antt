@@ -7,9 +7,10 @@ use Rattle.osm_store.proofs.FrameLemmas.{fewer_after, most_both, most_more, read
 use Rattle.osm_folder.proofs.ResultLemmas.{err_map}
 use Rattle.osm_round.specs.declared.taken.Taken.{Taken}
 use Rattle.osm_folder.specs.Runs.{IsDeviceFault}
-use Rattle.osm_round.specs.Taking.{TakesNumber}
+use Rattle.osm_folder.specs.Following.{bytes_of}
+use Rattle.osm_round.specs.Taking.{Fills, TakesNumber}
 use Rattle.osm_round.proofs.FrameLemmas.{often_of, often_told}
-use Rattle.osm_round.proofs.TakenLemmas.{bytes_more, end_stops, end_taken, room_for_more, takes_more, takes_nothing}
+use Rattle.osm_round.proofs.TakenLemmas.{bytes_more, end_stops, end_taken, fills_more, room_for_more, takes_more, takes_nothing}
 use Rattle.osm_round.proofs.taken.take_numbers.Goals as goal
 
 pub loop-before-init : goal.loop-before-init
@@ -118,3 +119,37 @@ returns-clause-spent g c = λ end.
     let past = c.loop-before-test.false in
     most_more (3 * (c.loop-before.before - c.args.taken.now.head.number))
     (3 * (min c.args.last (c.loop-before.taken.head.number + 1) - c.args.taken.now.head.number)) _ _ (omega (arith, at, until, past)) i.most.spent
+
+-- there is no room for more
+pub returns-then-before-last-clause-taken : goal.returns-then-before-last-clause-taken
+returns-then-before-last-clause-taken g c =
+    let i = c.loop-before.invariant in
+    let at = i.at in
+    let from = i.from in
+    let a = g.S.Store.state c.args.store.now in
+    let took = subst (λ t. TakesNumber (IsKnown a) a.files c.args.dir.now (c.loop-before.before + 1) c.args.filter.now c.loop-before.taken
+    c.take_number.new.taken t) c.in-Ok-Some.field-0-is (rw (i.frame.known, i.frame.files) at c.in-Ok-Some.ensures.taken) in
+    let more = takes_more (IsKnown a) a.files c.args.dir.now c.args.filter.now c.args.taken.now.head (c.loop-before.before + 1) c.in-Ok-Some.more
+    c.loop-before.taken c.take_number.new.taken (omega (arith, at)) i.taken took in
+    let number = more.0 in
+    let below = c.if-before-last.true in
+    record { taken_are = more.1; until = omega (arith, number, below); ends = omega (arith, number, below) }
+
+pub returns-then-before-last-clause-full : goal.returns-then-before-last-clause-full
+returns-then-before-last-clause-full g c = λ end.
+    let i = c.loop-before.invariant in
+    let at = i.at in
+    let from = i.from in
+    let a = g.S.Store.state c.args.store.now in
+    let took = subst (λ t. TakesNumber (IsKnown a) a.files c.args.dir.now (c.loop-before.before + 1) c.args.filter.now c.loop-before.taken
+    c.take_number.new.taken t) c.in-Ok-Some.field-0-is (rw (i.frame.known, i.frame.files) at c.in-Ok-Some.ensures.taken) in
+    let more = takes_more (IsKnown a) a.files c.args.dir.now c.args.filter.now c.args.taken.now.head (c.loop-before.before + 1) c.in-Ok-Some.more
+    c.loop-before.taken c.take_number.new.taken (omega (arith, at)) i.taken took in
+    let number = more.0 in
+    let below = c.if-before-last.true in (
+      omega (arith, number, from),
+      subst (λ n. Fills (IsKnown a) c.args.room (bytes_of a.files c.args.dir.now c.args.taken.now.head.number (n - c.args.taken.now.head.number))) (sym number)
+          (fills_more (IsKnown a) c.args.room c.add-size.result _ (c.is_full.ensures c.if-is_full.true)
+          (λ yes. bytes_more a.files c.args.dir.now c.args.taken.now.head.number c.loop-before.before c.loop-before.size c.in-Ok-Some.more
+          c.add-size.result from (i.bytes yes) (took.6 yes) c.add-size.ensures)),
+    )

@@ -7,8 +7,8 @@ use Rattle.osm_o5m_data.proofs.o5m_data.O5mData.go_on.Goals as goal
 
 pub overflow_add-result : goal.overflow_add-result
 overflow_add-result c =
-    let is : extent_at c.args.self.now.unread.unread ≡ Trailing = sym c.requires.extent ∙ c.in-Trailing.is in
-    omega (arith, c.place.ensures.place, c.place.ensures.fits, (trailing c.args.self.now.unread.unread is).long)
+    let is : extent_at c.args.self.now.reader.unread ≡ Trailing = sym c.requires.extent ∙ c.in-Trailing.is in
+    omega (arith, c.place.ensures.place, c.place.ensures.fits, (trailing c.args.self.now.reader.unread is).long)
 
 pub returns-in-Long-clause-stops : goal.returns-in-Long-clause-stops
 returns-in-Long-clause-stops c = long_there c.args.self.now (sym c.requires.extent ∙ c.in-Long.is)

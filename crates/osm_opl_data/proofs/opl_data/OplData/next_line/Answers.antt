@@ -5,7 +5,7 @@ use Rattle.osm_blocks.specs.Calls.{SpendsDown, reads_ahead}
 use Rattle.osm_blocks.specs.Places.{IsLine, left_of, past}
 use Rattle.osm_opl_data.specs.Reading.{EndsOrStands, Stands}
 use Rattle.osm_opl_data.specs.declared.opl_data.OplData.{OplData}
-use Rattle.osm_opl_data.proofs.CallLemmas.{has_still, line_calls, rest_calls, rest_lacks}
+use Rattle.osm_opl_data.proofs.CallLemmas.{line_calls, rest_calls}
 use Rattle.osm_opl_data.proofs.PassingLemmas.{is_last, line_read, line_unread, unfound}
 use Rattle.osm_opl_data.proofs.opl_data.OplData.next_line.Goals as goal
 
@@ -55,9 +55,8 @@ returns-in-Ok-add_rest-clause-read g c = λ file done has read.
     let stands : Stands old file (done ++ c.args.objects.now.items) =
     subst (λ (t : Bool). EndsOrStands t old file (done ++ c.args.objects.now.items)) c.if-self.false read.reads in
     let uncut : cut_at 10 (left_of old.reader file) ≡ None = rw c.in-Ok-None.field-0-is at (c.in-Ok-None.ensures.found file has) in
-    let known = has_still (g.S.Store.state c.args.store.now) (g.S.Store.state c.find_line.new.store) c.in-Ok-None.field-0 c.args.name.now file
-    c.in-Ok-None.ensures.frame has in
-    c.in-Ok-add_rest.ensures.read file done known (is_last old file (done ++ c.args.objects.now.items) read.within stands uncut)
+    c.in-Ok-add_rest.ensures.read file done (is_last old c.find_line.new.self file (done ++ c.args.objects.now.items) read.within stands uncut
+    (c.in-Ok-None.ensures.ended file has c.in-Ok-None.field-0-is))
 
 pub returns-in-Ok-add_rest-clause-calls : goal.returns-in-Ok-add_rest-clause-calls
 returns-in-Ok-add_rest-clause-calls g c = λ file has.
@@ -66,8 +65,7 @@ returns-in-Ok-add_rest-clause-calls g c = λ file has.
     let b : Option ℕ = (g.S.Store.state c.find_line.new.store).left in
     let spent : SpendsDown (reads_ahead old.reader file) 0 a b = rw c.in-Ok-None.field-0-is at ((c.in-Ok-None.ensures.calls file has).spent) in
     record {
-      spent = rest_calls old c.add_rest.new.self file a b (g.S.Store.state c.add_rest.new.store).left c.if-self.false
-          c.in-Ok-add_rest.ensures.ended spent c.in-Ok-add_rest.ensures.calls.spent;
+      spent = rest_calls old c.add_rest.new.self file a b c.if-self.false c.in-Ok-add_rest.ensures.ended spent;
       lacks = tt;
     }
 
@@ -77,26 +75,12 @@ returns-in-Err-add_rest-clause-stops g c = λ file done has read.
     let stands : Stands old file (done ++ c.args.objects.now.items) =
     subst (λ (t : Bool). EndsOrStands t old file (done ++ c.args.objects.now.items)) c.if-self.false read.reads in
     let uncut : cut_at 10 (left_of old.reader file) ≡ None = rw c.in-Ok-None.field-0-is at (c.in-Ok-None.ensures.found file has) in
-    let known = has_still (g.S.Store.state c.args.store.now) (g.S.Store.state c.find_line.new.store) c.in-Ok-None.field-0 c.args.name.now file
-    c.in-Ok-None.ensures.frame has in
-    c.in-Err-add_rest.ensures.stops file done known (is_last old file (done ++ c.args.objects.now.items) read.within stands uncut)
-
-pub returns-in-Err-add_rest-clause-calls : goal.returns-in-Err-add_rest-clause-calls
-returns-in-Err-add_rest-clause-calls g c = λ file has.
-    let old : OplData = c.args.self.now in
-    let a : Option ℕ = (g.S.Store.state c.args.store.now).left in
-    let b : Option ℕ = (g.S.Store.state c.find_line.new.store).left in
-    let spent : SpendsDown (reads_ahead old.reader file) 0 a b = rw c.in-Ok-None.field-0-is at ((c.in-Ok-None.ensures.calls file has).spent) in
-    let known = has_still (g.S.Store.state c.args.store.now) (g.S.Store.state c.find_line.new.store) c.in-Ok-None.field-0 c.args.name.now file
-    c.in-Ok-None.ensures.frame has in
-    record {
-      spent = tt;
-      lacks = λ blame. rest_lacks old file a b c.if-self.false spent (c.in-Err-add_rest.ensures.calls.lacks known.known blame);
-    }
+    c.in-Err-add_rest.ensures.stops file done (is_last old c.find_line.new.self file (done ++ c.args.objects.now.items) read.within stands uncut
+    (c.in-Ok-None.ensures.ended file has c.in-Ok-None.field-0-is))
 
 pub returns-in-Err-clause-stops : goal.returns-in-Err-clause-stops
 returns-in-Err-clause-stops g c = λ file done has read.
     let old : OplData = c.args.self.now in
     let stands : Stands old file (done ++ c.args.objects.now.items) =
     subst (λ (t : Bool). EndsOrStands t old file (done ++ c.args.objects.now.items)) c.if-self.false read.reads in
-    rw c.fault_of_lines.ensures (unfound old file (done ++ c.args.objects.now.items) c.in-Err.fault stands (c.in-Err.ensures.found file has))
+    rw c.fault_of_blocks.ensures (unfound old file (done ++ c.args.objects.now.items) c.in-Err.fault stands (c.in-Err.ensures.found file has))
