@@ -241,7 +241,6 @@ size_by p lost k =
 
 sizes_same : (files : Files) (dir : List ℕ) (size : ℕ → ℕ) (n count : ℕ) → ((k : ℕ) → n < k → k ≤ n + count → size_of files dir k ≡ size k)
     → bytes_of files dir n count ≡ sum_from size n count
-unfolding bytes_of
 sizes_same files dir size n zero same = refl
 sizes_same files dir size n (suc count) same =
     rw (
@@ -249,12 +248,8 @@ sizes_same files dir size n (suc count) same =
       same (n + count + 1) (omega arith) (omega arith),
     ) refl
 
-no_bytes : (files : Files) (dir : List ℕ) (n : ℕ) → bytes_of files dir n 0 ≡ 0
-unfolding bytes_of
-no_bytes files dir n = refl
-
 some_taken : (files : Files) (dir : List ℕ) (n count least : ℕ) → 0 < least → least ≤ bytes_of files dir n count → 0 < count
-some_taken files dir n zero least some enough = absurd (let none = no_bytes files dir n in omega (arith, some, enough, none))
+some_taken files dir n zero least some enough = absurd (omega (arith, some, enough))
 some_taken files dir n (suc count) least some enough = omega arith
 
 none_missing : (files : Files) (dir : List ℕ) (n top : ℕ) → top ≤ n → lost_numbers files dir n top ≡ []

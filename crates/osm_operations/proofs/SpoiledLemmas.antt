@@ -212,7 +212,6 @@ size_alike dir k s old new p is most h = elim (cases_eq p.number k) [
 -- those of numbers that were taken over the spoiled files
 pub bytes_alike : (dir : List ℕ) (k : ℕ) (s : Suffix) (old new : Files) (count : ℕ) (a b : Saved) → IsSpoiled dir k s old new
     → a.number + count ≤ max_sequence → AddsAll new dir count a b → bytes_of new dir a.number count ≡ bytes_of old dir a.number count
-unfolding bytes_of
 bytes_alike dir k s old new zero a b is most h = refl
 bytes_alike dir k s old new (suc count) a b is most (between, before, last) =
     let at = adds_number new dir count a between before in

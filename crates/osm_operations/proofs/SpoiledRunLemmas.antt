@@ -15,7 +15,7 @@ use Rattle.osm_state.specs.declared.paths.Suffix.{Suffix}
 use Rattle.osm_state.specs.declared.paths.Suffix.TheVariants.{O5c, Opl, State}
 use Rattle.osm_follow.specs.Published.{PublishedValue, sequence_at}
 use Rattle.osm_follow.specs.Reach.{numbers}
-use Rattle.osm_store.specs.Files.{Files, IsOver}
+use Rattle.osm_store.specs.Files.{Files, IsOver, Puts}
 use Rattle.osm_folder.specs.Folder.{IsAbsentOr, IsApart, IsFile, IsFolderOf, IsStateFile, IsThere}
 use Rattle.osm_folder.specs.Following.{AddsAll, HasState, IsFollowing, IsInStep, IsReached, IsSaveOf, IsStarted, MissingStops}
 use Rattle.osm_folder.specs.Following.{NamesOther, NumberStops, bytes_of, is_lost, last_number, limit_of, plainly, ranges}
@@ -33,7 +33,7 @@ use Rattle.osm_folder.proofs.NameLemmas.{top_is_no_file}
 use Rattle.osm_folder.proofs.TakingLemmas.{adds_has, adds_number, has_not_lost}
 use Rattle.osm_merge.specs.Checking.{IsHugeFile}
 use Rattle.osm_round.specs.Over.{FollowStopsOver, HasMany}
-use Rattle.osm_round.specs.Rounds.{ComesBefore, HasManyObjects, RoundStops, StartStops}
+use Rattle.osm_round.specs.Rounds.{ComesBefore, HasManyObjects, IsFollowedPart, RoundStops, StartStops, max_round}
 use Rattle.osm_checked.specs.Checking.{IsTooLarge}
 use Rattle.osm_round.proofs.OverLemmas.{no_bad_save, start_refuses}
 use Rattle.osm_operations.specs.Spoiling.{IsSpoiledFault, spoiled}
@@ -221,11 +221,25 @@ module _ (given : FilterValue) (ps : List PublishedValue) (base number : ℕ) (d
       unread_among dir k s old new run.count run.start run.reached o.is (few_taken limit text report run) run.goes_on.added
       (omega (arith, from, above)) (omega (arith, from, until))
 
-  -- nor are the bytes that it takes any others
-  pub same_bytes : (limit : Option ℕ) (text : List ℕ) (report : ReportValue) (run : IsFollowing (up_to given limit) dir save new text report)
-      → bytes_of new dir run.start.number run.count ≡ bytes_of old dir run.start.number run.count
-  same_bytes limit text report run =
-      bytes_alike dir k s old new run.count run.start run.reached o.is (few_taken limit text report run) run.goes_on.added
+  -- a run that came to a part takes no other bytes
+  pub same_part : (after g : Files) (report : ReportValue) (count : ℕ) (run : IsFollowedPart (plainly given) dir save new after report count)
+      → Puts old save (Some run.followed.text) g → IsFollowedPart (plainly given) dir save old g report count
+  unfolding same_run
+  same_part after g report count run put =
+      let of = run.followed.following in
+      let bytes : bytes_of new dir of.start.number of.count ≡ bytes_of old dir of.start.number of.count =
+      bytes_alike dir k s old new of.count of.start of.reached o.is (few_taken (Some count) run.followed.text report of) of.goes_on.added in
+      record {
+        followed = record {
+          text = run.followed.text;
+          following = same_run (Some count) run.followed.text report of;
+          put = put;
+        };
+        count_is = run.count_is;
+        below = run.below;
+        enough = subst (λ sum. max_round ≤ sum)
+            (subst (λ c. bytes_of new dir of.start.number c ≡ bytes_of old dir of.start.number c) run.count_is bytes) run.enough;
+      }
 
   -- ---- faults in files
 

@@ -12,14 +12,14 @@ use Rattle.osm_state.specs.declared.paths.Suffix.{Suffix}
 use Rattle.osm_state.specs.declared.paths.Suffix.TheVariants.{O5c, Opl, State}
 use Rattle.osm_follow.specs.Published.{PublishedValue, sequence_at}
 use Rattle.osm_store.specs.Files.{Files, Puts}
-use Rattle.osm_folder.specs.Following.{IsSaveOf, IsSaved, bytes_of, ranges}
+use Rattle.osm_folder.specs.Following.{IsSaveOf, IsSaved, ranges}
 use Rattle.osm_folder.specs.Names.{file_name_of, top_name_of}
 use Rattle.osm_folder.specs.Reports.{ReportValue, follow_report_of}
 use Rattle.osm_folder.specs.declared.fault.FileName.TheVariants.{Sequence}
 use Rattle.osm_folder.specs.declared.fault.RunFault.{RunFault}
 use Rattle.osm_folder.specs.declared.fault.RunFault.TheVariants.{BadState, BadChange}
 use Rattle.osm_folder.proofs.InStepLemmas.{one_saved}
-use Rattle.osm_round.specs.Rounds.{IsFollowed, IsFollowedBefore, IsFollowedPart, max_round}
+use Rattle.osm_round.specs.Rounds.{IsFollowed, IsFollowedBefore, IsFollowedPart}
 use Rattle.osm_operations.specs.Allowed.{IsReadIn}
 use Rattle.osm_operations.specs.Correct.{AreApart, IsExtractOf}
 use Rattle.osm_operations.specs.History as hist
@@ -27,7 +27,7 @@ use Rattle.osm_operations.specs.History.{Standing, count_from, text_of, unless_l
 use Rattle.osm_operations.specs.Spoiling.{IsSpoiledFault, number_before, spoiled}
 use Rattle.osm_operations.proofs.AgreeLemmas.{Agrees, few, folder_same, untouched}
 use Rattle.osm_operations.proofs.FollowLemmas.{count_least, lost_same, number_lost}
-use Rattle.osm_operations.proofs.SpoiledRunLemmas.{IsReadAt, IsSpoiledFolder, before, number_is, same_bytes, same_run, unread, up_to}
+use Rattle.osm_operations.proofs.SpoiledRunLemmas.{IsReadAt, IsSpoiledFolder, before, number_is, same_part, same_run, unread, up_to}
 use Rattle.osm_folder.specs.Following.{plainly}
 
 -- ---- the files after the run
@@ -126,16 +126,9 @@ module _ (p : List PublishedValue) (lost : ℕ → Suffix → Bool) (m : Standin
   pub spoiled_part : (k : ℕ) (t : Suffix) (during after g : Files) (report : ReportValue) (count : ℕ)
       → IsSpoiledFolder given p m.base m.number dir save k t f during → IsFollowedPart (plainly given) dir save during after report count
       → IsMended save f after g → IsFollowedPart (plainly given) dir save f g report count
-  unfolding spoiled_followed same_run
   spoiled_part k t during after g report count o run is =
-      let same = same_bytes given p m.base m.number dir save k t f during o (Some count) run.followed.text report run.followed.following in
-      record {
-        followed = spoiled_followed (Some count) k t during after g report o run.followed is;
-        count_is = run.count_is;
-        below = run.below;
-        enough = subst (λ bytes. max_round ≤ bytes) (subst (λ c. bytes_of during dir run.followed.following.start.number c
-            ≡ bytes_of f dir run.followed.following.start.number c) run.count_is same) run.enough;
-      }
+      same_part given p m.base m.number dir save k t f during o after g report count run
+      (record { there = is.save_is ∙ run.followed.put.there; others = is.others })
 
   pub not_read_part : (k : ℕ) (t : Suffix) (during after : Files) (report : ReportValue) (count : ℕ)
       → IsSpoiledFolder given p m.base m.number dir save k t f during → IsFollowedPart (plainly given) dir save during after report count
