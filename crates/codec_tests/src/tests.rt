@@ -1,6 +1,7 @@
 mod data;
 mod filters;
 mod forms;
+mod journals;
 mod lines;
 mod model;
 mod shown;

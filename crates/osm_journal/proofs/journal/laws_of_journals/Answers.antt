@@ -1,0 +1,8 @@
+use Rattle.osm_journal.proofs.JournalLemmas.{one_journal, save_starts}
+use Rattle.osm_journal.proofs.journal.laws_of_journals.Goals as goal
+
+pub returns-clause-one_journal : goal.returns-clause-one_journal
+returns-clause-one_journal c = one_journal
+
+pub returns-clause-save : goal.returns-clause-save
+returns-clause-save c = save_starts

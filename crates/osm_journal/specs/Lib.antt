@@ -1,0 +1,4 @@
+pub mod Journal
+pub mod Refusal
+pub mod Answers
+pub mod Reading

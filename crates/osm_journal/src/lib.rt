@@ -1,0 +1,7 @@
+//! The text of a journal: the batches that a follower has taken since its save was written. A text
+//! spells one journal at most.
+#![tactic(auto)]
+
+pub mod batch;
+pub mod journal;
+mod opening;
