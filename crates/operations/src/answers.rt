@@ -25,14 +25,19 @@ pub(crate) fn write_outcome<W: Write>(alloc: Global, outcome: &Outcome, out: &mu
     Ok(())
 }
 
-// A line for the reply. After `done STATUS LENGTH`, and after `before STATUS LENGTH FAULT`, comes
-// the text of the report.
+// A line for the reply. After `done STATUS LENGTH`, after `part STATUS LENGTH COUNT`, and after
+// `before STATUS LENGTH FAULT`, comes the text of the report.
 fn write_reply<W: Write>(reply: &Reply, out: &mut W) -> io::Result<()> {
     match reply {
         Reply::Published(report)
         | Reply::Followed(report)
         | Reply::Exported(report)
         | Reply::Begun(report) => write_report(report, out),
+        Reply::FollowedPart { report, count } => {
+            let (status, text) = (report.status(), report.text());
+            writeln!(out, "part {status} {} {count}", text.len())?;
+            out.write_all(text)
+        }
         Reply::FollowedBefore { report, fault } => {
             let (status, text) = (fault.status(), report.text());
             writeln!(out, "before {status} {} {fault}", text.len())?;

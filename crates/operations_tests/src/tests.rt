@@ -90,6 +90,7 @@ fn text_of(reply: &Reply) -> &[u8] {
         | Reply::Followed(report)
         | Reply::Exported(report)
         | Reply::Begun(report)
+        | Reply::FollowedPart { report, count: _ }
         | Reply::FollowedBefore { report, fault: _ } => report.text(),
         Reply::Refused(_) => b"refused",
         Reply::CutOff { fault: _, back: _ } => b"cut off",

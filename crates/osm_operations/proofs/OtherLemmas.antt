@@ -13,7 +13,7 @@ use Rattle.osm_folder.specs.declared.fault.RunFault.{RunFault}
 use Rattle.osm_folder.specs.declared.fault.RunFault.TheVariants.{WantOfMemory, ReadFault, WriteFault, TooLarge, Absent}
 use Rattle.osm_folder.specs.declared.fault.RunFault.TheVariants.{BadState, BadSave, Changed, OtherFilter, TopBehind}
 use Rattle.osm_folder.proofs.InStepLemmas.{one_saved}
-use Rattle.osm_round.specs.Rounds.{HasManyObjects, IsFollowed, IsFollowedBefore, RoundStops, StartStops}
+use Rattle.osm_round.specs.Rounds.{HasManyObjects, IsFollowed, IsFollowedBefore, IsFollowedPart, RoundStops, StartStops}
 use Rattle.osm_checked.specs.Checking.{IsTooLarge}
 use Rattle.osm_round.proofs.OverLemmas.{no_bad_save}
 use Rattle.osm_operations.specs.Allowed.{OtherStopsIn}
@@ -41,6 +41,9 @@ module _ (given other : FilterValue) (p : List PublishedValue) (base number : �
 
   pub not_followed : (g : Files) (report : ReportValue) → IsFollowed (plainly other) dir save f g report → ⊥
   not_followed g report run = not_started run.following.start run.following.top run.following.started
+
+  pub not_part : (g : Files) (report : ReportValue) (count : ℕ) → IsFollowedPart (plainly other) dir save f g report count → ⊥
+  not_part g report count run = not_started run.followed.following.start run.followed.following.top run.followed.following.started
 
   pub not_before : (g : Files) (fault : RunFault) (report : ReportValue) → IsFollowedBefore (IsTrue true) (plainly other) dir save f g fault report → ⊥
   not_before g fault report run = not_started run.before.start run.before.top run.before.started

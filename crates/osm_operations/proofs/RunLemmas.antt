@@ -18,10 +18,10 @@ use Rattle.osm_store.specs.Frames.{IsKnown, MakesAtMost, StoreState}
 use Rattle.osm_merge.specs.Calls.{bytes_in}
 use Rattle.osm_folder.specs.Progress.{IsWhole}
 use Rattle.osm_round.specs.Over.{FollowStopsOver, FollowsOver, follow_calls}
-use Rattle.osm_round.specs.Rounds.{IsFollowed, IsProgress}
+use Rattle.osm_round.specs.Rounds.{IsFollowed, IsFollowedPart, IsProgress}
 use Rattle.osm_folder.specs.Runs.{IsDeviceFault, LacksCalls}
 use Rattle.osm_folder.specs.declared.progress.Progress.{Progress}
-use Rattle.osm_folder.specs.declared.progress.Progress.TheVariants.{Whole, Before}
+use Rattle.osm_folder.specs.declared.progress.Progress.TheVariants.{Whole, Part, Before}
 use Rattle.osm_folder.specs.declared.fault.RunFault.TheVariants.{ReadFault}
 use Rattle.osm_state.specs.declared.paths.Suffix.TheVariants.{O5c, Opl}
 use Rattle.osm_store.specs.Stores.{files_of}
@@ -32,10 +32,11 @@ use Rattle.osm_folder.specs.Reports.{ReportValue, convert_report_of}
 use Rattle.osm_folder.specs.declared.fault.FileName.TheVariants as names
 use Rattle.osm_folder.specs.declared.fault.RunFault.{RunFault}
 use Rattle.osm_operations.specs.Steps.Stepping.{BeginStep, ExportStep, Exports, LacksCallsToBegin, StopsBeginning, state_name_of}
-use Rattle.osm_operations.specs.Steps.Stepping.{AreChangesPut, FollowStep, HasCalls, IsNumberText, IsReportOf, NumberedStep}
+use Rattle.osm_operations.specs.Steps.Stepping.{AreChangesPut, FollowStep, HasCalls, IsNumberText, IsStretchOf, NumberedStep}
 use Rattle.osm_operations.specs.Steps.Stepping.{PublishAsTo, PublishStep, ReturnBoth, ReturnForms, SettleTo, named}
 use Rattle.osm_operations.specs.Steps.Stepping.{stopped_reply}
 use Rattle.osm_operations.specs.declared.operation.Reply.{Reply}
+use Rattle.osm_operations.specs.declared.runs.Stretch.{Stretch}
 use Rattle.osm_operations.specs.declared.world.World.{World}
 
 -- what the contract of a run says of its answer
@@ -187,13 +188,16 @@ answer_to left dir changes batch time n answer r a m b o5c_name opl_name first s
 
 -- what a run of the follower answers, as a step
 pub follow_step : (given : FilterValue) (dir save : List ℕ) (f f' g g' : Files) (w : Result Progress RunFault)
-    (r : Result ReportValue RunFault) → IsReportOf w r → f' ≡ f → g' ≡ g
+    (r : Result Stretch RunFault) → IsStretchOf w r → f' ≡ f → g' ≡ g
     → IfOk w (IsProgress (IsTrue true) (plainly given) dir save f' g)
     → (IsTrue true → (p : List PublishedValue) (base n : ℕ) → IsFolderOf p f' dir → IsSaveOf p given base n (f' save)
-    → IsWhole w (λ x. IfErr x (FollowStopsOver p given (f' save)))) → OnErr w (g ≡ f') → FollowStep given dir save r f g'
+    → IsWhole (plainly given) w (λ under x. IfErr x (FollowStopsOver p given (f' save)))) → OnErr w (g ≡ f') → FollowStep given dir save r f g'
 follow_step given dir save f f' g g' (Ok (Whole report)) r is same same_after done over unchanged =
     rw is (subst (λ (x : Files). IsFollowed (plainly given) dir save f x report) (sym same_after)
     (subst (λ (x : Files). IsFollowed (plainly given) dir save x g report) same (done refl)))
+follow_step given dir save f f' g g' (Ok (Part report applied count)) r is same same_after done over unchanged =
+    rw is (subst (λ (x : Files). IsFollowedPart (plainly given) dir save f x report count) (sym same_after)
+    (subst (λ (x : Files). IsFollowedPart (plainly given) dir save x g report count) same (done refl)))
 follow_step given dir save f f' g g' (Ok (Before report fault)) r is same same_after done over unchanged =
     rw is (λ p base n folder saved. absurd (over refl p base n (subst (λ (x : Files). IsFolderOf p x dir) (sym same) folder)
     (subst (λ (x : Files). IsSaveOf p given base n (x save)) (sym same) saved)))
@@ -208,19 +212,21 @@ follow_step given dir save f f' g g' (Err fault) r is same same_after done over 
 -- what the word says over the folder of what was published
 pub progress_over_refuses : (given : FilterValue) (dir save : List ℕ) (a b : StoreState) (w : Result Progress RunFault)
     → (IsKnown a → (p : List PublishedValue) (base n : ℕ) → IsFolderOf p a.files dir → IsSaveOf p given base n (a.files save)
-    → IsWhole w (FollowsOver p (plainly given) base n dir save a b))
+    → IsWhole (plainly given) w (λ under. FollowsOver p under base n dir save a b))
     → IsKnown a → (p : List PublishedValue) (base n : ℕ) → IsFolderOf p a.files dir → IsSaveOf p given base n (a.files save)
-    → IsWhole w (λ x. IfErr x (FollowStopsOver p given (a.files save)))
+    → IsWhole (plainly given) w (λ under x. IfErr x (FollowStopsOver p given (a.files save)))
 progress_over_refuses given dir save a b (Ok (Whole report)) over sure p base n folder saved = tt
+progress_over_refuses given dir save a b (Ok (Part report applied count)) over sure p base n folder saved = tt
 progress_over_refuses given dir save a b (Ok (Before report fault)) over sure p base n folder saved = over sure p base n folder saved
 progress_over_refuses given dir save a b (Err fault) over sure p base n folder saved = (over sure p base n folder saved).refuses
 
-pub progress_lacks : (given : FilterValue) (dir save : List ℕ) (a b : StoreState) (w : Result Progress RunFault) (r : Result ReportValue RunFault)
-    → IsReportOf w r → (IsKnown a → (p : List PublishedValue) (base n : ℕ) → IsFolderOf p a.files dir
-    → IsSaveOf p given base n (a.files save) → IsWhole w (FollowsOver p (plainly given) base n dir save a b))
+pub progress_lacks : (given : FilterValue) (dir save : List ℕ) (a b : StoreState) (w : Result Progress RunFault) (r : Result Stretch RunFault)
+    → IsStretchOf w r → (IsKnown a → (p : List PublishedValue) (base n : ℕ) → IsFolderOf p a.files dir
+    → IsSaveOf p given base n (a.files save) → IsWhole (plainly given) w (λ under. FollowsOver p under base n dir save a b))
     → IfErr r (λ fault. IsKnown a → (p : List PublishedValue) (base n : ℕ) → IsFolderOf p a.files dir
     → IsSaveOf p given base n (a.files save) → LacksCalls (follow_calls p n (a.files save)) a.left fault)
 progress_lacks given dir save a b (Ok (Whole report)) r is over = rw is tt
+progress_lacks given dir save a b (Ok (Part report applied count)) r is over = rw is tt
 progress_lacks given dir save a b (Ok (Before report fault)) r is over = rw is (λ sure p base n folder saved. absurd (over sure p base n folder saved))
 progress_lacks given dir save a b (Err fault) r is over = rw is (λ sure p base n folder saved. (over sure p base n folder saved).calls.lacks sure)
 

@@ -1,7 +1,7 @@
 -- The file of a published sequence that is spoiled for a while: it holds the one byte `x`, which is no state, no o5c
 -- file and no line of OPL.
 use Rattle.std.proofs.Common.{◌≡◌, ℕ, zero, suc, ◌+◌, ◌<◌, ◌≤◌, List, [], ◌∷◌, ◌++◌}
-use Rattle.std.proofs.Common.{false, Option, Some, None, inl, inr, arith, refl, sym, ap, ◌∙◌, append_assoc}
+use Rattle.std.proofs.Common.{true, false, Option, Some, None, inl, inr, arith, refl, sym, ap, subst, ◌∙◌, append_assoc}
 use Rattle.std.specs.Prelude.{◌⊎◌, is_none}
 use Rattle.std.proofs.lemmas.Bool.{cases_eq, cases_lt}
 use Rattle.osm_model.specs.Batch.{IsBatch}
@@ -23,7 +23,7 @@ use Rattle.osm_state.specs.declared.paths.Suffix.TheVariants.{O5c, Opl, State}
 use Rattle.osm_follow.specs.Published.{PublishedValue}
 use Rattle.osm_store.specs.Files.{Files, Puts}
 use Rattle.osm_folder.specs.Folder.{IsFile}
-use Rattle.osm_folder.specs.Following.{AddsAll, AreChanges, HasFiles, is_lost}
+use Rattle.osm_folder.specs.Following.{AddsAll, AreChanges, HasFiles, bytes_of, is_lost, size_in, size_of}
 use Rattle.osm_folder.specs.Names.{file_name_of}
 use Rattle.osm_folder.proofs.NameLemmas.{one_file}
 use Rattle.osm_folder.proofs.TakingLemmas.{adds_number}
@@ -191,3 +191,32 @@ unread_among dir k s old new (suc count) a b is most (between, before, last) abo
       | inl past ↦ absurd (apart (omega (arith, e, h, past)))
       | inr within ↦ within
     ]
+
+-- ---- the sizes of the change files that are read
+
+size_there : (o5c opl other : Option (List ℕ)) → is_none o5c ≡ false → size_in o5c opl ≡ size_in o5c other
+size_there None opl other there = absurd (let bad : true ≡ false = there in cc)
+size_there (Some bytes) opl other there = refl
+
+pub size_alike : (dir : List ℕ) (k : ℕ) (s : Suffix) (old new : Files) (p : PublishedValue) → IsSpoiled dir k s old new
+    → p.number ≤ max_sequence → HasFiles new dir p → size_of new dir p.number ≡ size_of old dir p.number
+size_alike dir k s old new p is most h = elim (cases_eq p.number k) [
+  | inr apart ↦ rw (other_number dir k p.number s O5c old new is most apart, other_number dir k p.number s Opl old new is most apart) refl
+  | inl same ↦ (let read = (unspoiled dir k s old new p is most h).unread same in
+      let o5c : new (file_name_of dir p.number O5c) ≡ old (file_name_of dir p.number O5c) =
+      other_suffix dir k p.number s O5c old new is most (λ e. let bad : O5c ≡ Opl = e ∙ read.0 in cc) in
+      rw o5c (size_there (old (file_name_of dir p.number O5c)) (new (file_name_of dir p.number Opl)) (old (file_name_of dir p.number Opl))
+      (rw same read.1)))
+]
+
+-- those of numbers that were taken over the spoiled files
+pub bytes_alike : (dir : List ℕ) (k : ℕ) (s : Suffix) (old new : Files) (count : ℕ) (a b : Saved) → IsSpoiled dir k s old new
+    → a.number + count ≤ max_sequence → AddsAll new dir count a b → bytes_of new dir a.number count ≡ bytes_of old dir a.number count
+bytes_alike dir k s old new zero a b is most h = refl
+bytes_alike dir k s old new (suc count) a b is most (between, before, last) =
+    let at = adds_number new dir count a between before in
+    let next = last.number_is in
+    let number : last.next.number ≡ a.number + count + 1 = omega (arith, at, next) in
+    let size : size_of new dir (a.number + count + 1) ≡ size_of old dir (a.number + count + 1) =
+    subst (λ j. size_of new dir j ≡ size_of old dir j) number (size_alike dir k s old new last.next is (omega (arith, at, next, most)) last.there) in
+    rw (bytes_alike dir k s old new count a between is (omega (arith, most)) before, size) refl

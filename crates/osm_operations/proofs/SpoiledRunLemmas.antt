@@ -15,10 +15,10 @@ use Rattle.osm_state.specs.declared.paths.Suffix.{Suffix}
 use Rattle.osm_state.specs.declared.paths.Suffix.TheVariants.{O5c, Opl, State}
 use Rattle.osm_follow.specs.Published.{PublishedValue, sequence_at}
 use Rattle.osm_follow.specs.Reach.{numbers}
-use Rattle.osm_store.specs.Files.{Files, IsOver}
+use Rattle.osm_store.specs.Files.{Files, IsOver, Puts}
 use Rattle.osm_folder.specs.Folder.{IsAbsentOr, IsApart, IsFile, IsFolderOf, IsStateFile, IsThere}
 use Rattle.osm_folder.specs.Following.{AddsAll, HasState, IsFollowing, IsInStep, IsReached, IsSaveOf, IsStarted, MissingStops}
-use Rattle.osm_folder.specs.Following.{NamesOther, NumberStops, is_lost, limit_of, plainly, ranges}
+use Rattle.osm_folder.specs.Following.{NamesOther, NumberStops, bytes_of, is_lost, last_number, limit_of, plainly, ranges}
 use Rattle.osm_folder.specs.Names.{file_name_of, top_name_of}
 use Rattle.osm_folder.specs.Progress.{IsNextAfter, IsOfContent}
 use Rattle.osm_folder.specs.Reports.{ReportValue, follow_report_of}
@@ -26,17 +26,19 @@ use Rattle.osm_folder.specs.declared.fault.FileName.TheVariants.{Top, Sequence, 
 use Rattle.osm_folder.specs.declared.fault.RunFault.{RunFault}
 use Rattle.osm_folder.specs.declared.fault.RunFault.TheVariants.{WantOfMemory, ReadFault, WriteFault, TooLarge, Absent}
 use Rattle.osm_folder.specs.declared.fault.RunFault.TheVariants.{BadState, Changed, Mismatch, BadChange, BadSave, OtherFilter, TopBehind}
-use Rattle.osm_folder.proofs.InStepLemmas.{all_in_step, not_bad, not_faulty, not_faulty_opl, not_other, not_over, one_saved, stops_number, top_number}
+use Rattle.osm_folder.specs.declared.options.FollowOptions.{FollowOptions}
+use Rattle.osm_folder.specs.declared.options.Layout.TheVariants.{Lines}
+use Rattle.osm_folder.proofs.InStepLemmas.{all_in_step, last_within, not_bad, not_faulty, not_faulty_opl, not_other, not_over, one_saved, stops_number, top_number}
 use Rattle.osm_folder.proofs.NameLemmas.{top_is_no_file}
 use Rattle.osm_folder.proofs.TakingLemmas.{adds_has, adds_number, has_not_lost}
 use Rattle.osm_merge.specs.Checking.{IsHugeFile}
 use Rattle.osm_round.specs.Over.{FollowStopsOver, HasMany}
-use Rattle.osm_round.specs.Rounds.{ComesBefore, HasManyObjects, RoundStops, StartStops}
+use Rattle.osm_round.specs.Rounds.{ComesBefore, HasManyObjects, IsFollowedPart, RoundStops, StartStops, max_round}
 use Rattle.osm_checked.specs.Checking.{IsTooLarge}
 use Rattle.osm_round.proofs.OverLemmas.{no_bad_save, start_refuses}
 use Rattle.osm_operations.specs.Spoiling.{IsSpoiledFault, spoiled}
 use Rattle.osm_operations.proofs.SpoiledLemmas.{IsSpoiled, lost_alike, no_state, other_number, other_suffix, suffix_cases, there_same}
-use Rattle.osm_operations.proofs.SpoiledLemmas.{unread_among, unspoiled_all}
+use Rattle.osm_operations.proofs.SpoiledLemmas.{bytes_alike, unread_among, unspoiled_all}
 
 -- when a file of number k is read, if its turn comes: a change file only if the state is there, and the OPL file only if
 -- there is no o5c file
@@ -63,6 +65,10 @@ short Opl told e over =
 there_some : (told : Option (List ℕ)) (holds : List ℕ → Type 0) → IsThere told holds → is_none told ≡ false
 there_some None holds h = absurd h
 there_some (Some bytes) holds h = refl
+
+-- a run under the filter that reports in lines, up to that limit, if it has one
+abbrev pub up_to : FilterValue → Option ℕ → FollowOptions
+up_to given limit = record { filter = given; limit = limit; layout = Lines }
 
 -- what a run saved that came to the number before the spoiled file, and what it reports
 pub record IsSpoiledBefore (given : FilterValue) (ps : List PublishedValue) (base number : ℕ) (dir : List ℕ) (k : ℕ) (s : Suffix) (old : Files)
@@ -164,15 +170,29 @@ module _ (given : FilterValue) (ps : List PublishedValue) (base number : ℕ) (d
         lost_alike dir k (n + suc count) s old new o.is (omega (arith, most)),
       ) refl
 
-  pub same_run : (text : List ℕ) (report : ReportValue) → IsFollowing (plainly given) dir save new text report
-      → IsFollowing (plainly given) dir save old text report
-  same_run text report run =
+  -- no number that a run took is past the last one
+  few_taken : (limit : Option ℕ) (text : List ℕ) (report : ReportValue) (run : IsFollowing (up_to given limit) dir save new text report)
+      → run.start.number + run.count ≤ max_sequence
+  few_taken limit text report run =
+      let most = few_over o in
+      let top = top_is run.start run.top run.started in
+      let until = run.goes_on.until in
+      let sum = run.goes_on.number in
+      let end = last_within limit run.start.number run.top.sequence in
+      omega (arith, sum, until, end, top, most)
+
+  -- a run up to that limit, if it has one
+  pub same_run : (limit : Option ℕ) (text : List ℕ) (report : ReportValue) → IsFollowing (up_to given limit) dir save new text report
+      → IsFollowing (up_to given limit) dir save old text report
+  same_run limit text report run =
       let most = few_over o in
       let top = top_is run.start run.top run.started in
       let until = run.goes_on.until in
       let sum = run.goes_on.number in
       let n = run.reached.number in
-      let last = min_within n run.top.sequence in
+      let last = last_number limit run.start.number run.top.sequence in
+      let end = last_within limit run.start.number run.top.sequence in
+      let low = min_within n last in
       record {
         start = run.start;
         top = run.top;
@@ -180,30 +200,46 @@ module _ (given : FilterValue) (ps : List PublishedValue) (base number : ℕ) (d
         count = run.count;
         reached = run.reached;
         goes_on = record {
-          added = unspoiled_all dir k s old new run.count run.start run.reached o.is (omega (arith, sum, until, top, most)) run.goes_on.added;
+          added = unspoiled_all dir k s old new run.count run.start run.reached o.is (few_taken limit text report run) run.goes_on.added;
           number = sum;
           until = until;
-          far = reached_same n run.top.sequence until (omega (arith, top, most)) run.goes_on.far;
+          far = reached_same n last until (omega (arith, end, top, most)) run.goes_on.far;
         };
         spelled = run.spelled;
         report_is = run.report_is ∙ ap (λ xs. follow_report_of (ranges run.start.number run.count) xs n)
-            (lost_same n (min 64 (run.top.sequence - n)) (omega (arith, last, until, top, most)));
+            (lost_same n (min 64 (last - n)) (omega (arith, low, until, end, top, most)));
       }
     where
       min_within : (a b : ℕ) → min 64 (b - a) ≤ b - a
       min_within a b = grind (arith)
 
   -- the spoiled file isn't one that such a run reads
-  pub unread : (text : List ℕ) (report : ReportValue) (run : IsFollowing (plainly given) dir save new text report) → number < k → k ≤ number + run.count
-      → (s ≡ Opl) × (is_none (old (file_name_of dir k O5c)) ≡ false)
-  unread text report run above until =
-      let most = few_over o in
-      let top = top_is run.start run.top run.started in
+  pub unread : (limit : Option ℕ) (text : List ℕ) (report : ReportValue) (run : IsFollowing (up_to given limit) dir save new text report)
+      → number < k → k ≤ number + run.count → (s ≡ Opl) × (is_none (old (file_name_of dir k O5c)) ≡ false)
+  unread limit text report run above until =
       let from = number_is run.start run.top run.started in
-      let below = run.goes_on.until in
-      let sum = run.goes_on.number in
-      unread_among dir k s old new run.count run.start run.reached o.is (omega (arith, sum, below, top, most)) run.goes_on.added
+      unread_among dir k s old new run.count run.start run.reached o.is (few_taken limit text report run) run.goes_on.added
       (omega (arith, from, above)) (omega (arith, from, until))
+
+  -- a run that came to a part takes no other bytes
+  pub same_part : (after g : Files) (report : ReportValue) (count : ℕ) (run : IsFollowedPart (plainly given) dir save new after report count)
+      → Puts old save (Some run.followed.text) g → IsFollowedPart (plainly given) dir save old g report count
+  unfolding same_run
+  same_part after g report count run put =
+      let of = run.followed.following in
+      let bytes : bytes_of new dir of.start.number of.count ≡ bytes_of old dir of.start.number of.count =
+      bytes_alike dir k s old new of.count of.start of.reached o.is (few_taken (Some count) run.followed.text report of) of.goes_on.added in
+      record {
+        followed = record {
+          text = run.followed.text;
+          following = same_run (Some count) run.followed.text report of;
+          put = put;
+        };
+        count_is = run.count_is;
+        below = run.below;
+        enough = subst (λ sum. max_round ≤ sum)
+            (subst (λ c. bytes_of new dir of.start.number c ≡ bytes_of old dir of.start.number c) run.count_is bytes) run.enough;
+      }
 
   -- ---- faults in files
 

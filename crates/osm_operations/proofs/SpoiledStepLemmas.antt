@@ -1,5 +1,5 @@
 -- What a run of the follower over a spoiled file leaves, and why it stops.
-use Rattle.std.proofs.Common.{◌≡◌, ℕ, zero, suc, ◌+◌, ◌-◌, ◌<◌, ◌≤◌, List, [], length, Bool, true, false, Some, inl, inr}
+use Rattle.std.proofs.Common.{◌≡◌, ℕ, ◌+◌, ◌-◌, ◌<◌, ◌≤◌, List, [], length, Bool, true, false, Option, Some, None, inl, inr}
 use Rattle.std.proofs.Common.{arith, refl, sym, ap, ◌∙◌, subst}
 use Rattle.std.specs.Prelude.{IsTrue, is_none, is_some}
 use Rattle.std.specs.Str.{bytes_eq}
@@ -19,15 +19,15 @@ use Rattle.osm_folder.specs.declared.fault.FileName.TheVariants.{Sequence}
 use Rattle.osm_folder.specs.declared.fault.RunFault.{RunFault}
 use Rattle.osm_folder.specs.declared.fault.RunFault.TheVariants.{BadState, BadChange}
 use Rattle.osm_folder.proofs.InStepLemmas.{one_saved}
-use Rattle.osm_round.specs.Rounds.{IsFollowed, IsFollowedBefore}
+use Rattle.osm_round.specs.Rounds.{IsFollowed, IsFollowedBefore, IsFollowedPart}
 use Rattle.osm_operations.specs.Allowed.{IsReadIn}
 use Rattle.osm_operations.specs.Correct.{AreApart, IsExtractOf}
 use Rattle.osm_operations.specs.History as hist
 use Rattle.osm_operations.specs.History.{Standing, count_from, text_of, unless_lost}
 use Rattle.osm_operations.specs.Spoiling.{IsSpoiledFault, number_before, spoiled}
 use Rattle.osm_operations.proofs.AgreeLemmas.{Agrees, few, folder_same, untouched}
-use Rattle.osm_operations.proofs.FollowLemmas.{lost_same, number_lost}
-use Rattle.osm_operations.proofs.SpoiledRunLemmas.{IsReadAt, IsSpoiledFolder, before, number_is, same_run, unread}
+use Rattle.osm_operations.proofs.FollowLemmas.{count_least, lost_same, number_lost}
+use Rattle.osm_operations.proofs.SpoiledRunLemmas.{IsReadAt, IsSpoiledFolder, before, number_is, same_part, same_run, unread, up_to}
 use Rattle.osm_folder.specs.Following.{plainly}
 
 -- ---- the files after the run
@@ -57,15 +57,6 @@ number_of_fault k t (BadState (Sequence j State) cause) h = ap (λ (i : ℕ). i 
 number_of_fault k t (BadChange (Sequence j O5c) place why) h = ap (λ (i : ℕ). i - 1) h.0
 number_of_fault k t (BadChange (Sequence j Opl) place why) h = ap (λ (i : ℕ). i - 1) h.0
 number_of_fault k t fault h = absurd h
-
--- so many numbers come before the first that is lost, at least
-count_least : (is_gone : ℕ → Bool) (n most count : ℕ) → count ≤ most → ((k : ℕ) → n < k → k ≤ n + count → is_gone k ≡ false)
-    → count ≤ count_from is_gone n most
-count_least is_gone n most zero within each = omega arith
-count_least is_gone n zero (suc count) within each = absurd (omega (arith, within))
-count_least is_gone n (suc most) (suc count) within each =
-    let rest = count_least is_gone (n + 1) most count (omega (arith, within)) (λ k above until. each k (omega (arith, above)) (omega (arith, until))) in
-    rw (each (n + 1) (omega arith) (omega arith)) (omega (arith, rest))
 
 -- ---- over the folder of what was published
 
@@ -100,16 +91,23 @@ module _ (p : List PublishedValue) (lost : ℕ → Suffix → Bool) (m : Standin
 
   -- ---- a run that is done as over the right file
 
-  pub spoiled_followed : (k : ℕ) (t : Suffix) (during after g : Files) (report : ReportValue)
-      → IsSpoiledFolder given p m.base m.number dir save k t f during → IsFollowed (plainly given) dir save during after report
-      → IsMended save f after g → IsFollowed (plainly given) dir save f g report
-  spoiled_followed k t during after g report o run is = record {
+  pub spoiled_followed : (limit : Option ℕ) (k : ℕ) (t : Suffix) (during after g : Files) (report : ReportValue)
+      → IsSpoiledFolder given p m.base m.number dir save k t f during → IsFollowed (up_to given limit) dir save during after report
+      → IsMended save f after g → IsFollowed (up_to given limit) dir save f g report
+  spoiled_followed limit k t during after g report o run is = record {
     text = run.text;
-    following = same_run given p m.base m.number dir save k t f during o run.text report run.following;
+    following = same_run given p m.base m.number dir save k t f during o limit run.text report run.following;
     put = record { there = is.save_is ∙ run.put.there; others = is.others };
   }
 
   -- it didn't read the spoiled file
+  not_among : (limit : Option ℕ) (k : ℕ) (t : Suffix) (during after : Files) (report : ReportValue)
+      → IsSpoiledFolder given p m.base m.number dir save k t f during → (run : IsFollowed (up_to given limit) dir save during after report)
+      → m.number < k → k ≤ m.number + run.following.count → (t ≡ Opl) × (lost k O5c ≡ false)
+  not_among limit k t during after report o run above until =
+      let u = unread given p m.base m.number dir save k t f during o limit run.text report run.following above until in
+      (u.0, sym (lost_is k O5c o.above o.within) ∙ u.1)
+
   pub not_read : (k : ℕ) (t : Suffix) (during after g : Files) (report : ReportValue) (count : ℕ)
       → IsSpoiledFolder given p m.base m.number dir save k t f during → IsFollowed (plainly given) dir save during after report → IsMended save f after g
       → IsSaveOf p given m.base (m.number + count) (g save) → m.number < k → k ≤ m.number + count
@@ -121,8 +119,22 @@ module _ (p : List PublishedValue) (lost : ℕ → Suffix → Bool) (m : Standin
       let at = run.following.goes_on.number in
       let number = saved.number_is in
       let counts : run.following.count ≡ count = omega (arith, same, at, number, from) in
-      let u = unread given p m.base m.number dir save k t f during o run.text report run.following above (rw counts until) in
-      (u.0, sym (lost_is k O5c o.above o.within) ∙ u.1)
+      not_among None k t during after report o run above (rw counts until)
+
+  -- ---- a run that came to a part, as over the right file
+
+  pub spoiled_part : (k : ℕ) (t : Suffix) (during after g : Files) (report : ReportValue) (count : ℕ)
+      → IsSpoiledFolder given p m.base m.number dir save k t f during → IsFollowedPart (plainly given) dir save during after report count
+      → IsMended save f after g → IsFollowedPart (plainly given) dir save f g report count
+  spoiled_part k t during after g report count o run is =
+      same_part given p m.base m.number dir save k t f during o after g report count run
+      (record { there = is.save_is ∙ run.followed.put.there; others = is.others })
+
+  pub not_read_part : (k : ℕ) (t : Suffix) (during after : Files) (report : ReportValue) (count : ℕ)
+      → IsSpoiledFolder given p m.base m.number dir save k t f during → IsFollowedPart (plainly given) dir save during after report count
+      → m.number < k → k ≤ m.number + count → (t ≡ Opl) × (lost k O5c ≡ false)
+  not_read_part k t during after report count o run above until =
+      not_among (Some count) k t during after report o run.followed above (rw run.count_is until)
 
   -- ---- a run that comes to the number before the spoiled file
 

@@ -28,12 +28,12 @@ use Rattle.osm_folder.specs.Runs.{LacksCalls}
 use Rattle.osm_store.specs.Stores.{files_of}
 use Rattle.osm_folder.specs.declared.fault.RunFault.{RunFault}
 use Rattle.osm_folder.specs.declared.fault.RunFault.TheVariants.{WantOfMemory, ReadFault, WriteFault, TooLarge, Absent}
-use Rattle.osm_folder.specs.declared.progress.Progress.TheVariants.{Whole, Before}
+use Rattle.osm_folder.specs.declared.progress.Progress.TheVariants.{Whole, Part, Before}
 use Rattle.osm_operations.specs.Allowed.{AreAllowed, CutsAfter, IsNoNumber, IsRepeat, KilledFollowingStopsIn}
 use Rattle.osm_operations.specs.Allowed.{KilledNumberedStopsIn, KilledPublicationStopsIn, NumberedCut, NumberedDone}
 use Rattle.osm_operations.specs.Allowed.{HasBeginning, HasExport, KilledBeginStopsIn, KilledExportStopsIn, following_report}
 use Rattle.osm_operations.specs.Allowed.{AllowedFollowOther, IsFileThere, IsReadIn, KilledSpoiledStopsIn, NothingToSpoil}
-use Rattle.osm_operations.specs.Allowed.{SpoiledBefore, SpoiledDone, SpoiledStopsIn}
+use Rattle.osm_operations.specs.Allowed.{IsPart, SpoiledBefore, SpoiledDone, SpoiledPart, SpoiledStopsIn}
 use Rattle.osm_operations.specs.Correct.{AreApart, IsNew, IsRun}
 use Rattle.osm_operations.specs.History as hist
 use Rattle.osm_operations.specs.Reported.{applied_in}
@@ -48,7 +48,7 @@ use Rattle.osm_operations.specs.declared.operation.Operation.TheVariants.{PutBac
 use Rattle.osm_operations.specs.declared.operation.Operation.TheVariants.{FollowOther}
 use Rattle.osm_operations.specs.declared.operation.Reply.{Reply}
 use Rattle.osm_operations.specs.declared.operation.Reply.TheVariants.{Published, Followed, Refused, CutOff, Lost, IsBack, NotThere}
-use Rattle.osm_operations.specs.declared.operation.Reply.TheVariants.{Exported, Begun, FollowedBefore}
+use Rattle.osm_operations.specs.declared.operation.Reply.TheVariants.{Exported, Begun, FollowedBefore, FollowedPart}
 use Rattle.osm_operations.specs.declared.world.World.{World}
 use Rattle.osm_opl.specs.Written.{opl_text}
 use Rattle.osm_operations.proofs.AgreeLemmas.{Agrees, changes_put, few, published_agrees, stopped_agrees}
@@ -57,14 +57,14 @@ use Rattle.osm_operations.proofs.CutLemmas.{StayOrReturn, number_stopped, unrun_
 use Rattle.osm_operations.proofs.NumberLemmas.{AreGone, lost_alike, named_least, named_most, none_back}
 use Rattle.osm_operations.proofs.NumberRows.{cut_unlimited, cuts_after, number_not_killed, number_unlimited, stopped_number, unwritten_number}
 use Rattle.osm_operations.proofs.NumberedLemmas.{IsAgain, number_published, value_of, wrote_not}
-use Rattle.osm_operations.proofs.FollowLemmas.{followed, gone_on, not_killed_follow, stopped_follow}
+use Rattle.osm_operations.proofs.FollowLemmas.{followed, followed_part, gone_on, not_killed_follow, stopped_follow}
 use Rattle.osm_operations.proofs.ReportedLemmas.{reports_before, reports_more}
 use Rattle.osm_operations.proofs.ExtractLemmas.{begin_agrees, begin_row, export_agrees, export_row, has_export, not_killed_begin}
 use Rattle.osm_operations.proofs.ExtractLemmas.{is_absent_not, not_killed_export, saved_head, state_name, state_there}
-use Rattle.osm_operations.proofs.OtherLemmas.{not_before, not_followed, other_refused}
+use Rattle.osm_operations.proofs.OtherLemmas.{not_before, not_followed, not_part, other_refused}
 use Rattle.osm_operations.proofs.SpoiledRunLemmas.{progress_stops}
-use Rattle.osm_operations.proofs.SpoiledStepLemmas.{as_before, came_before, file_there, mended, not_read, over_spoiled, read_in, same_agrees}
-use Rattle.osm_operations.proofs.SpoiledStepLemmas.{save_apart, spoiled_followed}
+use Rattle.osm_operations.proofs.SpoiledStepLemmas.{as_before, came_before, file_there, mended, not_read, not_read_part, over_spoiled, read_in, same_agrees}
+use Rattle.osm_operations.proofs.SpoiledStepLemmas.{save_apart, spoiled_followed, spoiled_part}
 use Rattle.osm_operations.proofs.MoveLemmas.{back_agrees, kept_none, lost_agrees, not_false, not_true}
 
 -- the files are those of the history, each reply is allowed, and the reports say each number once
@@ -192,6 +192,33 @@ follow_more h given dir save changes extract start a b report apart s step =
       saved_within (hist.published_of h) given (hist.base_of h) (hist.number_of h + hist.count_after h (hist.number_of h)) (files_of b.store save)
           done.0.saved.save_is,
     )
+
+-- it came to a part
+follow_part : (h : hist.History) (given : FilterValue) (dir save changes extract : List ℕ) (start : Files) (a b : World) (report : ReportValue)
+    (count : ℕ) → AreApart dir save changes extract → AgreesIn (hist.published_of h) (hist.is_file_lost h) (hist.standing_of h) given dir save
+    changes extract start a → FollowTo given dir save (FollowedPart report count) a b → AgreesIn (hist.published_of h ++ [])
+    (hist.is_file_lost h) (gone_on (hist.standing_of h) count) given dir save changes extract start b × IsPart h report count
+follow_part h given dir save changes extract start a b report count apart s step =
+    let done = followed_part (hist.published_of h) (hist.is_file_lost h) (hist.standing_of h) given dir save changes extract start
+    (files_of a.store) (files_of b.store) (files_of a.lost) a.published report count apart s step.0 in (
+      quiet (hist.published_of h) (hist.is_file_lost h) (gone_on (hist.standing_of h) count) given dir save changes extract start
+          (files_of b.store) (files_of b.lost) b.published
+          (renewed (hist.published_of h) (hist.is_file_lost h) (gone_on (hist.standing_of h) count) given dir save changes extract start
+          (files_of b.store) (files_of a.lost) (files_of b.store) (files_of b.lost) a.published b.published refl (ap files_of step.1) step.2
+          done.agrees),
+      record { some = done.some; within = done.within; below = done.below; report_is = done.report_is; enough = done.enough },
+    )
+
+-- what it reports
+part_reports : (h : hist.History) (given : FilterValue) (dir save changes extract : List ℕ) (start : Files) (a : World) (report : ReportValue)
+    (count : ℕ) → AgreesIn (hist.published_of h) (hist.is_file_lost h) (hist.standing_of h) given dir save changes extract start a
+    → hist.reported_of h ≡ numbers (hist.base_of h) (hist.number_of h - hist.base_of h) → IsPart h report count
+    → hist.reported_of h ++ applied_in report.text ≡ numbers (hist.base_of h) (hist.number_of h + count - hist.base_of h)
+part_reports h given dir save changes extract start a report count s so_far part =
+    let most = few (hist.published_of h) s.folder.sequences in
+    let below = part.below in
+    reports_before h report count (hist.number_of h + count) refl (omega (arith, below, most))
+    (base_below (hist.published_of h) given (hist.base_of h) (hist.number_of h) (files_of a.store save) s.saved.save_is) part.report_is so_far
 
 follow_stopped : (p : List PublishedValue) (lost : ℕ → Suffix → Bool) (m : hist.Standing) (given : FilterValue) (dir save changes extract : List ℕ)
     (start : Files) (a b : World) (calls : ℕ) (fault : RunFault) → LacksCalls (follow_calls p m.number (files_of a.store save)) (Some calls) fault
@@ -541,7 +568,7 @@ spoiled_more h given dir save changes extract start a b k t report apart s to = 
         let is = mended (file_name_of dir k t) save run.bytes f run.during run.after (files_of b.store)
         (save_apart p lost m given dir save changes extract start f (files_of a.lost) a.published apart s k t within) run.there run.put
         followed_it.put.others run.back in
-        let right = spoiled_followed p lost m given dir save changes extract start f (files_of a.lost) a.published apart s k t run.during run.after
+        let right = spoiled_followed p lost m given dir save changes extract start f (files_of a.lost) a.published apart s None k t run.during run.after
         (files_of b.store) report o followed_it is in
         let done = follow_more h given dir save changes extract start a b report apart s (right, to.lost, to.published) in
         let on = followed p lost m given dir save changes extract start f (files_of b.store) (files_of a.lost) a.published report apart s right in (
@@ -556,6 +583,55 @@ spoiled_more h given dir save changes extract start a b k t report apart s to = 
                 let bad : true ≡ false = sym read.1 ∙ u.1 in cc),
           ),
           done.2,
+        )
+
+-- it came to a part as over the right file
+spoiled_some : (h : hist.History) (given : FilterValue) (dir save changes extract : List ℕ) (start : Files) (a b : World)
+    (k : ℕ) (t : Suffix) (report : ReportValue) (count : ℕ)
+    → AreApart dir save changes extract → AgreesIn (hist.published_of h) (hist.is_file_lost h) (hist.standing_of h) given dir save
+    changes extract start a → SpoiledTo given dir save k t (FollowedPart report count) a b → AgreesIn (hist.published_of h ++ [])
+    (hist.is_file_lost h) (gone_on (hist.standing_of h) count) given dir save changes extract start b × SpoiledPart h k t report count
+spoiled_some h given dir save changes extract start a b k t report count apart s (applied, to) = by_step to.step
+  where
+    p : List PublishedValue
+    p = hist.published_of h
+
+    lost : ℕ → Suffix → Bool
+    lost = hist.is_file_lost h
+
+    m : hist.Standing
+    m = hist.standing_of h
+
+    f : Files
+    f = files_of a.store
+
+    within : k ≤ length p
+    within = let n_is = s.number in omega (arith, n_is, to.number.1)
+
+    by_step : SpoiledStep given dir save (file_name_of dir k t) (Ok (Part report applied count)) f (files_of b.store)
+        → AgreesIn (p ++ []) lost (gone_on m count) given dir save changes extract start b × SpoiledPart h k t report count
+    by_step (inl want) = absurd (let bad : Ok (Part report applied count) ≡ Err WantOfMemory = want.0 in cc)
+    by_step (inr run) =
+        let above = to.number.0 in
+        let o = over_spoiled p lost m given dir save changes extract start f (files_of a.lost) a.published apart s k t run.bytes run.during
+        above within run.there run.put in
+        let came = run.done refl in
+        let is = mended (file_name_of dir k t) save run.bytes f run.during run.after (files_of b.store)
+        (save_apart p lost m given dir save changes extract start f (files_of a.lost) a.published apart s k t within) run.there run.put
+        came.followed.put.others run.back in
+        let right = spoiled_part p lost m given dir save changes extract start f (files_of a.lost) a.published apart s k t run.during run.after
+        (files_of b.store) report count o came is in
+        let done = follow_part h given dir save changes extract start a b report count apart s (right, to.lost, to.published) in (
+          done.0,
+          (
+            file_is_there h given dir save changes extract start a k t run.bytes apart s to.number run.there,
+            done.1,
+            λ among. (
+                let u = not_read_part p lost m given dir save changes extract start f (files_of a.lost) a.published apart s k t run.during run.after
+                report count o came among.0 among.1 in
+                let read = subst (IsReadIn h k) u.0 among.2 in
+                let bad : true ≡ false = sym read.1 ∙ u.1 in cc),
+          ),
         )
 
 -- it is done up to the number before the file's
@@ -834,6 +910,14 @@ step_holds h Follow (Followed report) given dir save changes extract start a b a
           (base_below (hist.published_of h) given (hist.base_of h) (hist.number_of h) (files_of a.store save) s.agrees.saved.save_is) done.1 s.reported;
       exported = x ∙ s.exported;
     }
+step_holds h Follow (FollowedPart report count) given dir save changes extract start a b apart s t x =
+    let done = follow_part h given dir save changes extract start a b report count apart s.agrees t.0 in
+    record {
+      agrees = done.0;
+      allowed = (done.1, s.allowed);
+      reported = part_reports h given dir save changes extract start a report count s.agrees s.reported done.1;
+      exported = x ∙ s.exported;
+    }
 step_holds h Follow (Refused fault) given dir save changes extract start a b apart s t x =
     let done = follow_stopped (hist.published_of h) (hist.is_file_lost h) (hist.standing_of h) given dir save changes extract start a b
     0 fault (no_device_lacks (follow_calls (hist.published_of h) (hist.number_of h) (files_of a.store save)) (Some 0) fault t.1) s.agrees
@@ -858,6 +942,14 @@ step_holds h (KilledFollow calls) (Followed report) given dir save changes extra
           (base_below (hist.published_of h) given (hist.base_of h) (hist.number_of h) (files_of a.store save) s.agrees.saved.save_is) done.1 s.reported;
       exported = x ∙ s.exported;
     }
+step_holds h (KilledFollow calls) (FollowedPart report count) given dir save changes extract start a b apart s t x =
+    let done = follow_part h given dir save changes extract start a b report count apart s.agrees t.0 in
+    record {
+      agrees = done.0;
+      allowed = ((done.1, t.1), s.allowed);
+      reported = part_reports h given dir save changes extract start a report count s.agrees s.reported done.1;
+      exported = x ∙ s.exported;
+    }
 step_holds h (KilledFollow calls) (Refused fault) given dir save changes extract start a b apart s t x =
     let done = follow_stopped (hist.published_of h) (hist.is_file_lost h) (hist.standing_of h) given dir save changes extract start a b
     calls fault (t.1 (hist.published_of h) (hist.base_of h) (hist.number_of h) s.agrees.folder s.agrees.saved.save_is) s.agrees t.0 in
@@ -867,6 +959,10 @@ step_holds h (FollowOther other) (Followed report) given dir save changes extrac
     let run = t.answered in
     absurd (not_followed given other (hist.published_of h) (hist.base_of h) (hist.number_of h) dir save (files_of a.store) run.there
     s.agrees.saved.save_is run.differs (files_of b.store) report (run.done refl))
+step_holds h (FollowOther other) (FollowedPart report count) given dir save changes extract start a b apart s (applied, t) x =
+    let run = t.answered in
+    absurd (not_part given other (hist.published_of h) (hist.base_of h) (hist.number_of h) dir save (files_of a.store) run.there
+    s.agrees.saved.save_is run.differs (files_of b.store) report count (run.done refl))
 step_holds h (FollowOther other) (FollowedBefore report fault) given dir save changes extract start a b apart s t x =
     let run = t.answered in
     absurd (not_before given other (hist.published_of h) (hist.base_of h) (hist.number_of h) dir save (files_of a.store) run.there
@@ -886,6 +982,14 @@ step_holds h (FollowSpoiled k suffix) (Followed report) given dir save changes e
       reported =
           reports_more h report done.2 (few (hist.published_of h) s.agrees.folder.sequences)
           (base_below (hist.published_of h) given (hist.base_of h) (hist.number_of h) (files_of a.store save) s.agrees.saved.save_is) done.1.1 s.reported;
+      exported = x ∙ s.exported;
+    }
+step_holds h (FollowSpoiled k suffix) (FollowedPart report count) given dir save changes extract start a b apart s t x =
+    let done = spoiled_some h given dir save changes extract start a b k suffix report count apart s.agrees t.0 in
+    record {
+      agrees = done.0;
+      allowed = (done.1, s.allowed);
+      reported = part_reports h given dir save changes extract start a report count s.agrees s.reported done.1.1;
       exported = x ∙ s.exported;
     }
 step_holds h (FollowSpoiled k suffix) (FollowedBefore report fault) given dir save changes extract start a b apart s t x =
@@ -911,6 +1015,14 @@ step_holds h (KilledFollowSpoiled k suffix calls) (Followed report) given dir sa
       reported =
           reports_more h report done.2 (few (hist.published_of h) s.agrees.folder.sequences)
           (base_below (hist.published_of h) given (hist.base_of h) (hist.number_of h) (files_of a.store save) s.agrees.saved.save_is) done.1.1 s.reported;
+      exported = x ∙ s.exported;
+    }
+step_holds h (KilledFollowSpoiled k suffix calls) (FollowedPart report count) given dir save changes extract start a b apart s t x =
+    let done = spoiled_some h given dir save changes extract start a b k suffix report count apart s.agrees t.0 in
+    record {
+      agrees = done.0;
+      allowed = ((done.1, t.1), s.allowed);
+      reported = part_reports h given dir save changes extract start a report count s.agrees s.reported done.1.1;
       exported = x ∙ s.exported;
     }
 step_holds h (KilledFollowSpoiled k suffix calls) (FollowedBefore report fault) given dir save changes extract start a b apart s t x =

@@ -34,9 +34,10 @@ use Rattle.osm_merge.specs.Checking.{IsHugeFile}
 use Rattle.osm_beginning.specs.Beginning.{IsLargeBase, begin_calls}
 use Rattle.osm_exporting.specs.Exporting.{IsExportOf, export_calls}
 use Rattle.osm_round.specs.Over.{HasMany, follow_calls}
+use Rattle.osm_round.specs.Rounds.{max_round}
 use Rattle.osm_operations.specs.History.{History, published_of, is_file_lost, number_of}
 use Rattle.osm_operations.specs.History.{is_number_lost, count_after, lost_after, is_saved}
-use Rattle.osm_operations.specs.History.{beginning_of}
+use Rattle.osm_operations.specs.History.{beginning_of, bytes_after}
 use Rattle.osm_operations.specs.Spoiling.{IsSpoiledFault}
 use Rattle.osm_operations.specs.declared.operation.Operation.{Operation}
 use Rattle.osm_operations.specs.declared.operation.Operation.TheVariants.{Publish, KilledPublish}
@@ -51,7 +52,7 @@ use Rattle.osm_operations.specs.declared.operation.Operation.TheVariants.{Begin,
 use Rattle.osm_operations.specs.declared.operation.Operation.TheVariants.{Lose, PutBack}
 use Rattle.osm_operations.specs.declared.operation.Reply.{Reply}
 use Rattle.osm_operations.specs.declared.operation.Reply.TheVariants.{Published, Followed}
-use Rattle.osm_operations.specs.declared.operation.Reply.TheVariants.{FollowedBefore}
+use Rattle.osm_operations.specs.declared.operation.Reply.TheVariants.{FollowedPart, FollowedBefore}
 use Rattle.osm_operations.specs.declared.operation.Reply.TheVariants.{Exported, Begun}
 use Rattle.osm_operations.specs.declared.operation.Reply.TheVariants.{Refused, CutOff, Lost, IsBack}
 use Rattle.osm_operations.specs.declared.operation.Reply.TheVariants.{NotThere}
@@ -317,17 +318,34 @@ AllowedKilledPublishAs h changes time n calls (CutOff fault s) =
     (count : ℕ) × CutsAfter n calls count fault × NumberedCut h changes time n fault s count
 AllowedKilledPublishAs h changes time n calls r = ⊥
 
--- a run of the follower is done or refused
+-- what a run of the follower prints that takes so many numbers at once
+abbrev pub part_report : History → ℕ → ReportValue
+part_report h count =
+    follow_report_of (ranges (number_of h) count) [] (number_of h + count)
+
+-- a run of the follower came to a part: it took some of the numbers that it can take, not up to the
+-- last published one, and their change files have as many bytes as a run takes at once
+pub record IsPart (h : History) (report : ReportValue) (count : ℕ) : Type 0 where
+  pub some : 0 < count
+  pub within : count ≤ count_after h (number_of h)
+  pub below : number_of h + count < length (published_of h)
+  pub report_is : report ≡ part_report h count
+  pub enough : max_round ≤ bytes_after h (number_of h) count
+
+-- a run of the follower is done, came to a part, or is refused
 abbrev pub AllowedFollow : FilterValue → History → Reply → Type 0
 AllowedFollow given h (Followed report) = report ≡ following_report h
+AllowedFollow given h (FollowedPart report count) = IsPart h report count
 AllowedFollow given h (Refused fault) = FollowingStopsIn (published_of h) given fault
 AllowedFollow given h r = ⊥
 
--- a killed run that is done had at least as many calls as the fewest that it makes; one that the
--- device refused had fewer than it may make
+-- a killed run that is done or came to a part had at least as many calls as the fewest that it
+-- makes; one that the device refused had fewer than it may make
 abbrev pub AllowedKilledFollow : FilterValue → History → ℕ → Reply → Type 0
 AllowedKilledFollow given h calls (Followed report) =
     (report ≡ following_report h) × (3 ≤ calls)
+AllowedKilledFollow given h calls (FollowedPart report count) =
+    IsPart h report count × (3 ≤ calls)
 AllowedKilledFollow given h calls (Refused fault) =
     KilledFollowingStopsIn (published_of h) given (number_of h) calls fault
 AllowedKilledFollow given h calls r = ⊥
@@ -358,10 +376,13 @@ IsReadIn h n State = Unit {0}
 IsReadIn h n O5c = is_file_lost h n State ≡ false
 IsReadIn h n Opl = (is_file_lost h n State ≡ false) × (is_file_lost h n O5c ≡ true)
 
+-- a run of the follower that takes so many numbers reads the file, which is that of one of them
+abbrev pub IsReadAmong : History → ℕ → ℕ → Suffix → Type 0
+IsReadAmong h count n s = (number_of h < n) × (n ≤ number_of h + count) × IsReadIn h n s
+
 -- a run of the follower reads the file, which is one of the numbers that it can take
 abbrev pub IsOnTheWay : History → ℕ → Suffix → Type 0
-IsOnTheWay h n s =
-    (number_of h < n) × (n ≤ number_of h + count_after h (number_of h)) × IsReadIn h n s
+IsOnTheWay h n s = IsReadAmong h (count_after h (number_of h)) n s
 
 -- it may read the file: that, or the number is the next one, whose state may be read though its
 -- changes are lost
@@ -377,6 +398,12 @@ before_report h n = follow_report_of (ranges (number_of h) (n - 1 - number_of h)
 abbrev pub SpoiledDone : History → ℕ → Suffix → ReportValue → Type 0
 SpoiledDone h n s report =
     IsFileThere h n s × (report ≡ following_report h) × (IsOnTheWay h n s → ⊥)
+
+-- it came to a part as over the right file: it didn't read the file, and no number after those that
+-- it took was looked at
+abbrev pub SpoiledPart : History → ℕ → Suffix → ReportValue → ℕ → Type 0
+SpoiledPart h n s report count =
+    IsFileThere h n s × IsPart h report count × (IsReadAmong h count n s → ⊥)
 
 -- it is done up to the number before the file's, which isn't the follower's own
 abbrev pub SpoiledBefore : History → ℕ → Suffix → ReportValue → RunFault → Type 0
@@ -402,18 +429,21 @@ abbrev pub NothingToSpoil : History → ℕ → Suffix → Type 0
 NothingToSpoil h n s =
     (n ≡ 0) ⊎ (length (published_of h) < n) ⊎ (is_file_lost h n s ≡ true)
 
--- a run of the follower over a spoiled file is done, done up to it, or refused
+-- a run of the follower over a spoiled file is done, came to a part, is done up to it, or refused
 abbrev pub AllowedSpoiled : FilterValue → History → ℕ → Suffix → Reply → Type 0
 AllowedSpoiled given h n s (Followed report) = SpoiledDone h n s report
+AllowedSpoiled given h n s (FollowedPart report count) = SpoiledPart h n s report count
 AllowedSpoiled given h n s (FollowedBefore report fault) = SpoiledBefore h n s report fault
 AllowedSpoiled given h n s (Refused fault) = SpoiledStopsIn given h n s fault
 AllowedSpoiled given h n s NotThere = NothingToSpoil h n s
 AllowedSpoiled given h n s r = ⊥
 
--- a killed one that is done had at least as many calls as the fewest that it makes
+-- a killed one that is done, all or a part, had at least as many calls as the fewest that it makes
 abbrev pub AllowedKilledSpoiled : FilterValue → History → ℕ → Suffix → ℕ → Reply → Type 0
 AllowedKilledSpoiled given h n s calls (Followed report) =
     SpoiledDone h n s report × (3 ≤ calls)
+AllowedKilledSpoiled given h n s calls (FollowedPart report count) =
+    SpoiledPart h n s report count × (3 ≤ calls)
 AllowedKilledSpoiled given h n s calls (FollowedBefore report fault) =
     SpoiledBefore h n s report fault × (3 ≤ calls)
 AllowedKilledSpoiled given h n s calls (Refused fault) = KilledSpoiledStopsIn given h n s fault

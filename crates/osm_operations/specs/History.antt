@@ -6,6 +6,7 @@ use Rattle.std.specs.Prelude.{Option, Some, None, unwrap_or}
 use Rattle.std.specs.List.{zip}
 use Rattle.osm_follow.specs.Published.{PublishedValue, sequence_at, written_of}
 use Rattle.osm_follow.specs.Reach.{numbers}
+use Rattle.osm_folder.specs.Following.{size_in}
 use Rattle.osm_state.specs.declared.paths.Suffix.{Suffix}
 use Rattle.osm_state.specs.declared.paths.Suffix.TheVariants.{O5c, Opl, State}
 use Rattle.osm_operations.specs.Reported.{applied_in}
@@ -17,7 +18,7 @@ use Rattle.osm_operations.specs.declared.operation.Operation.TheVariants.{Killed
 use Rattle.osm_operations.specs.declared.operation.Operation.TheVariants.{Lose, PutBack}
 use Rattle.osm_operations.specs.declared.operation.Reply.{Reply}
 use Rattle.osm_operations.specs.declared.operation.Reply.TheVariants.{Published, Followed}
-use Rattle.osm_operations.specs.declared.operation.Reply.TheVariants.{FollowedBefore}
+use Rattle.osm_operations.specs.declared.operation.Reply.TheVariants.{FollowedPart, FollowedBefore}
 use Rattle.osm_operations.specs.declared.operation.Reply.TheVariants.{Exported, Begun}
 use Rattle.osm_operations.specs.declared.operation.Reply.TheVariants.{CutOff, Lost, IsBack}
 
@@ -115,6 +116,20 @@ count_from is_lost n (suc most) =
 abbrev pub count_after : History → ℕ → ℕ
 count_after h n = count_from (is_number_lost h) n (length (published_of h) - n)
 
+-- the sum of the sizes of the numbers n + 1 to n + count
+abbrev pub sum_from : (ℕ → ℕ) → ℕ → ℕ → ℕ
+sum_from size n zero = 0
+sum_from size n (suc count) = sum_from size n count + size (n + count + 1)
+
+-- how many bytes the change file of a number has that a follower reads: the o5c file, or if that is
+-- lost, the OPL file
+abbrev pub change_bytes : History → ℕ → ℕ
+change_bytes h k = size_in (file_of h k O5c) (file_of h k Opl)
+
+-- how many bytes those of the numbers n + 1 to n + count have
+abbrev pub bytes_after : History → ℕ → ℕ → ℕ
+bytes_after h n count = sum_from (change_bytes h) n count
+
 -- what a history says of the save: the number that the follower is at, the base after which its
 -- edits are counted, whether a save is there, and the number that was exported last, if any was
 pub record Standing : Type 0 where
@@ -132,11 +147,17 @@ abbrev pub begins_at : Standing → ℕ
 begins_at s = unwrap_or s.exported 0
 
 -- the same after a reply to an operation after that history. A run of the follower adds the
--- numbers that it can take, or those before a faulty one; a beginning begins with what was
--- exported last; an export exports the follower's number
+-- numbers that it can take, as many of them as it says, or those before a faulty one; a beginning
+-- begins with what was exported last; an export exports the follower's number
 abbrev pub standing_after : History → Reply → Standing → Standing
 standing_after h (Followed report) s = record {
   number = s.number + count_after h s.number;
+  base = s.base;
+  is_saved = true;
+  exported = s.exported;
+}
+standing_after h (FollowedPart report count) s = record {
+  number = s.number + count;
   base = s.base;
   is_saved = true;
   exported = s.exported;
@@ -189,6 +210,7 @@ beginning_of h = begins_at (standing_of h)
 -- report are added, and a beginning begins anew
 abbrev pub reported_after : Reply → List ℕ → List ℕ
 reported_after (Followed report) so_far = so_far ++ applied_in report.text
+reported_after (FollowedPart report count) so_far = so_far ++ applied_in report.text
 reported_after (FollowedBefore report fault) so_far = so_far ++ applied_in report.text
 reported_after (Begun report) so_far = []
 reported_after r so_far = so_far

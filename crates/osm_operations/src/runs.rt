@@ -14,7 +14,7 @@ ghost use Rattle.osm_save.specs.Head.{BeginsSave};
 ghost use Rattle.osm_save.specs.declared.head.Head.{Head};
 ghost use Rattle.osm_operations.specs.Steps.Stepping.{AreChangesPut, BeginStep, ChangesStop};
 ghost use Rattle.osm_operations.specs.Steps.Stepping.{ExportStep, FollowStep, IsNoDevice};
-ghost use Rattle.osm_operations.specs.Steps.Stepping.{IsNumberOfSave, IsReportOf, IsSpoiledNow};
+ghost use Rattle.osm_operations.specs.Steps.Stepping.{IsNumberOfSave, IsSpoiledNow, IsStretchOf};
 ghost use Rattle.osm_operations.specs.Steps.Stepping.{OtherAnswer, SpoiledAnswer};
 ghost use Rattle.osm_operations.specs.Steps.Stepping.{LacksCallsToBegin, LacksFollowCalls};
 ghost use Rattle.osm_operations.specs.Steps.Stepping.{Moves, NumberedStep};
@@ -143,6 +143,15 @@ fn number_text(alloc: Global, number: u32) -> Result<String, WantOfMemory>
     Ok(format!(in alloc; "{number}")?)
 }
 
+// What a run of the follower took over a folder where no number is faulty.
+#[derive(Drop)]
+pub(crate) enum Stretch {
+    /// All that it can take.
+    Whole(Report),
+    /// As much as a run takes at once: so many numbers.
+    Part { report: Report, count: u32 },
+}
+
 // The word `follow`.
 pub(crate) fn follow(
     alloc: Global,
@@ -150,13 +159,13 @@ pub(crate) fn follow(
     dir: &str,
     save: &str,
     filter: &Filter,
-) -> Result<Report, RunFault>
+) -> Result<Stretch, RunFault>
     ensures step { FollowStep filter.now dir.now save.now result
         (files_of store.old) (files_of store.new) }
     ensures device { IfErr result IsNoDevice }
 {
     let options = FollowOptions::new(filter.copy(alloc)?);
-    report_of(follow_round(alloc, store, dir, save, &options))
+    stretch_of(follow_round(alloc, store, dir, save, &options))
 }
 
 // The same, by a run that is killed after that many calls.
@@ -167,7 +176,7 @@ pub(crate) fn follow_killed(
     save: &str,
     filter: &Filter,
     calls: u64,
-) -> Result<Report, RunFault>
+) -> Result<Stretch, RunFault>
     ensures step { FollowStep filter.now dir.now save.now result
         (files_of store.old) (files_of store.new) }
     ensures left { OnOk result (3 ≤ calls) }
@@ -178,7 +187,7 @@ pub(crate) fn follow_killed(
     let mut stopping = stopping_over(alloc, store, calls);
     let progress = follow_round(alloc, &mut stopping, dir, save, &options);
     *store = stopping.into_inner();
-    report_of(progress)
+    stretch_of(progress)
 }
 
 // The word `follow` under another filter. None if nothing is saved, or if the filter is no other.
@@ -416,13 +425,14 @@ fn state_name(alloc: Global, dir: &str, number: u32) -> Result<String, WantOfMem
     file_name(alloc, dir, number.min(MAX_SEQUENCE), Suffix::State)
 }
 
-// The report of the word, or its fault: no number of a folder of published sequences is faulty, so
+// What the word took, or its fault: no number of a folder of published sequences is faulty, so
 // nothing is reported before a fault.
-fn report_of(progress: Result<Progress, RunFault>) -> Result<Report, RunFault>
-    ensures { IsReportOf progress result }
+fn stretch_of(progress: Result<Progress, RunFault>) -> Result<Stretch, RunFault>
+    ensures { IsStretchOf progress result }
 {
     match progress {
-        Ok(Progress::Whole(report)) => Ok(report),
+        Ok(Progress::Whole(report)) => Ok(Stretch::Whole(report)),
+        Ok(Progress::Part { report, count, .. }) => Ok(Stretch::Part { report, count }),
         Ok(Progress::Before(_, fault)) => Err(fault),
         Err(fault) => Err(fault),
     }

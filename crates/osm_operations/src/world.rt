@@ -18,9 +18,9 @@ ghost use Rattle.osm_operations.specs.Steps.Stepping.{stopped_reply as settled};
 
 use crate::operation::{Operation, Reply};
 use crate::runs::{
-    FormNames, begin, begin_killed, export, export_killed, follow, follow_killed, follow_other,
-    follow_spoiled, follow_spoiled_killed, form_names, move_file, publish, publish_as,
-    publish_as_killed, publish_killed, returns, saved_number,
+    FormNames, Stretch, begin, begin_killed, export, export_killed, follow, follow_killed,
+    follow_other, follow_spoiled, follow_spoiled_killed, form_names, move_file, publish,
+    publish_as, publish_as_killed, publish_killed, returns, saved_number,
 };
 use osm_folder::fault::RunFault;
 use osm_folder::progress::Progress;
@@ -302,7 +302,8 @@ impl World {
         ensures exported { self.new.exported ≡ self.old.exported }
     {
         match follow(self.alloc, &mut self.store, dir, save, filter) {
-            Ok(report) => Reply::Followed(report),
+            Ok(Stretch::Whole(report)) => Reply::Followed(report),
+            Ok(Stretch::Part { report, count }) => Reply::FollowedPart { report, count },
             Err(fault) => Reply::Refused(fault),
         }
     }
@@ -314,7 +315,8 @@ impl World {
         ensures exported { self.new.exported ≡ self.old.exported }
     {
         match follow_killed(self.alloc, &mut self.store, dir, save, filter, calls) {
-            Ok(report) => Reply::Followed(report),
+            Ok(Stretch::Whole(report)) => Reply::Followed(report),
+            Ok(Stretch::Part { report, count }) => Reply::FollowedPart { report, count },
             Err(fault) => Reply::Refused(fault),
         }
     }
@@ -526,6 +528,7 @@ fn progress_reply(answer: Option<Result<Progress, RunFault>>) -> Reply
     match answer {
         None => Reply::NotThere,
         Some(Ok(Progress::Whole(report))) => Reply::Followed(report),
+        Some(Ok(Progress::Part { report, count, .. })) => Reply::FollowedPart { report, count },
         Some(Ok(Progress::Before(report, fault))) => Reply::FollowedBefore { report, fault },
         Some(Err(fault)) => Reply::Refused(fault),
     }

@@ -30,12 +30,12 @@ use Rattle.osm_folder.specs.Reports.{ReportValue, convert_report_of}
 use Rattle.osm_folder.specs.Runs.{LacksCalls}
 use Rattle.osm_store.specs.Stores.{files_of}
 use Rattle.osm_round.specs.Over.{FollowStopsOver, follow_calls}
-use Rattle.osm_round.specs.Rounds.{IsFollowed, IsProgress, RoundStops}
+use Rattle.osm_round.specs.Rounds.{IsFollowed, IsFollowedPart, IsProgress, RoundStops}
 use Rattle.osm_folder.specs.declared.fault.FileName.TheVariants as names
 use Rattle.osm_folder.specs.declared.fault.FileName.TheVariants.{Changes}
 use Rattle.osm_folder.specs.declared.fault.RunFault.{RunFault}
 use Rattle.osm_folder.specs.declared.progress.Progress.{Progress}
-use Rattle.osm_folder.specs.declared.progress.Progress.TheVariants.{Whole, Before}
+use Rattle.osm_folder.specs.declared.progress.Progress.TheVariants.{Whole, Part, Before}
 use Rattle.osm_folder.specs.declared.fault.RunFault.TheVariants.{WantOfMemory, ReadFault}
 use Rattle.osm_folder.specs.declared.fault.RunFault.TheVariants.{WriteFault, TooLarge}
 use Rattle.osm_operations.specs.Spoiling.{spoiled}
@@ -52,11 +52,13 @@ use Rattle.osm_operations.specs.declared.operation.Operation.TheVariants.{Begin,
 use Rattle.osm_operations.specs.declared.operation.Operation.TheVariants.{Lose, PutBack}
 use Rattle.osm_operations.specs.declared.operation.Reply.{Reply}
 use Rattle.osm_operations.specs.declared.operation.Reply.TheVariants.{Published, Followed}
-use Rattle.osm_operations.specs.declared.operation.Reply.TheVariants.{FollowedBefore}
+use Rattle.osm_operations.specs.declared.operation.Reply.TheVariants.{FollowedPart, FollowedBefore}
 use Rattle.osm_operations.specs.declared.operation.Reply.TheVariants.{Exported, Begun}
 use Rattle.osm_operations.specs.declared.operation.Reply.TheVariants.{Refused, CutOff, Lost, IsBack}
 use Rattle.osm_operations.specs.declared.operation.Reply.TheVariants.{NotThere}
 use Rattle.osm_operations.specs.declared.runs.Spoiled.{Spoiled}
+use Rattle.osm_operations.specs.declared.runs.Stretch.{Stretch}
+use Rattle.osm_operations.specs.declared.runs.Stretch.TheVariants as stretches
 use Rattle.osm_operations.specs.declared.world.World.{World}
 
 -- the file holds the batch in OPL
@@ -153,16 +155,20 @@ IsNoDevice (ReadFault file) = ⊥
 IsNoDevice (WriteFault file) = ⊥
 IsNoDevice fault = Unit {0}
 
--- the report of the word `follow`, or its fault
-abbrev pub IsReportOf : Result Progress RunFault → Result ReportValue RunFault → Type 0
-IsReportOf (Ok (Whole report)) result = result ≡ Ok report
-IsReportOf (Ok (Before report fault)) result = result ≡ Err fault
-IsReportOf (Err fault) result = result ≡ Err fault
+-- what the word `follow` took, or its fault
+abbrev pub IsStretchOf : Result Progress RunFault → Result Stretch RunFault → Type 0
+IsStretchOf (Ok (Whole report)) result = result ≡ Ok (stretches.Whole report)
+IsStretchOf (Ok (Part report applied count)) result = result ≡ Ok (stretches.Part report count)
+IsStretchOf (Ok (Before report fault)) result = result ≡ Err fault
+IsStretchOf (Err fault) result = result ≡ Err fault
 
 -- what the word `follow` did: over the folder of what was published nothing is faulty
 abbrev pub FollowStep :
-    FilterValue → List ℕ → List ℕ → Result ReportValue RunFault → Files → Files → Type 0
-FollowStep given dir save (Ok report) old new = IsFollowed (plainly given) dir save old new report
+    FilterValue → List ℕ → List ℕ → Result Stretch RunFault → Files → Files → Type 0
+FollowStep given dir save (Ok (stretches.Whole report)) old new =
+    IsFollowed (plainly given) dir save old new report
+FollowStep given dir save (Ok (stretches.Part report count)) old new =
+    IsFollowedPart (plainly given) dir save old new report count
 FollowStep given dir save (Err fault) old new =
     (published : List PublishedValue) (base number : ℕ) → IsFolderOf published old dir
     → IsSaveOf published given base number (old save)
@@ -321,8 +327,11 @@ PublishAsTo left dir changes batch time n r a b = ⊥
 
 abbrev pub FollowTo : FilterValue → List ℕ → List ℕ → Reply → World → World → Type 0
 FollowTo given dir save (Followed report) a b =
-    FollowStep given dir save (Ok report) (files_of a.store) (files_of b.store)
+    FollowStep given dir save (Ok (stretches.Whole report)) (files_of a.store) (files_of b.store)
     × (b.lost ≡ a.lost) × (b.published ≡ a.published)
+FollowTo given dir save (FollowedPart report count) a b =
+    FollowStep given dir save (Ok (stretches.Part report count)) (files_of a.store)
+    (files_of b.store) × (b.lost ≡ a.lost) × (b.published ≡ a.published)
 FollowTo given dir save (Refused fault) a b =
     FollowStep given dir save (Err fault) (files_of a.store) (files_of b.store)
     × (b.lost ≡ a.lost) × (b.published ≡ a.published)
@@ -339,6 +348,9 @@ abbrev pub OtherTo :
     FilterValue → FilterValue → List ℕ → List ℕ → Reply → World → World → Type 0
 OtherTo given other dir save (Followed report) a b =
     IsOtherTo given other dir save (Some (Ok (Whole report))) a b
+OtherTo given other dir save (FollowedPart report count) a b =
+    (applied : ReportValue)
+    × IsOtherTo given other dir save (Some (Ok (Part report applied count))) a b
 OtherTo given other dir save (FollowedBefore report fault) a b =
     IsOtherTo given other dir save (Some (Ok (Before report fault))) a b
 OtherTo given other dir save (Refused fault) a b =
@@ -385,6 +397,7 @@ SpoiledAnswer given dir save name (Some w) old new = SpoiledStep given dir save 
 abbrev pub progress_reply : Option (Result Progress RunFault) → Reply
 progress_reply None = NotThere
 progress_reply (Some (Ok (Whole report))) = Followed report
+progress_reply (Some (Ok (Part report applied count))) = FollowedPart report count
 progress_reply (Some (Ok (Before report fault))) = FollowedBefore report fault
 progress_reply (Some (Err fault)) = Refused fault
 
@@ -401,6 +414,8 @@ abbrev pub SpoiledTo :
     FilterValue → List ℕ → List ℕ → ℕ → Suffix → Reply → World → World → Type 0
 SpoiledTo given dir save n s (Followed report) a b =
     IsSpoiledTo given dir save n s (Ok (Whole report)) a b
+SpoiledTo given dir save n s (FollowedPart report count) a b =
+    (applied : ReportValue) × IsSpoiledTo given dir save n s (Ok (Part report applied count)) a b
 SpoiledTo given dir save n s (FollowedBefore report fault) a b =
     IsSpoiledTo given dir save n s (Ok (Before report fault)) a b
 SpoiledTo given dir save n s (Refused fault) a b = IsSpoiledTo given dir save n s (Err fault) a b
@@ -413,6 +428,7 @@ SpoiledTo given dir save n s r a b = ⊥
 -- what a reply says about the calls that a killed run over a spoiled file had
 abbrev pub HasSpoiledCalls : ℕ → Reply → Type 0
 HasSpoiledCalls calls (Followed report) = 3 ≤ calls
+HasSpoiledCalls calls (FollowedPart report count) = 3 ≤ calls
 HasSpoiledCalls calls (FollowedBefore report fault) = 3 ≤ calls
 HasSpoiledCalls calls r = Unit {0}
 
@@ -488,6 +504,7 @@ LacksFollowCalls given dir save calls files fault =
 -- what a reply says about the calls that a killed run of the follower had
 abbrev pub HasFollowCalls : FilterValue → List ℕ → List ℕ → ℕ → Reply → Files → Type 0
 HasFollowCalls given dir save calls (Followed report) files = 3 ≤ calls
+HasFollowCalls given dir save calls (FollowedPart report count) files = 3 ≤ calls
 HasFollowCalls given dir save calls (Refused fault) files =
     LacksFollowCalls given dir save calls files fault
 HasFollowCalls given dir save calls r files = Unit {0}

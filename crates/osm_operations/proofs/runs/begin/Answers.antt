@@ -1,5 +1,5 @@
 use Rattle.std.proofs.Common.{refl, ◌∙◌}
-use Rattle.osm_store.specs.Stores.{files_of, memory_state}
+use Rattle.osm_store.specs.Stores.{files_of}
 use Rattle.osm_operations.proofs.RunLemmas.{begin_step}
 use Rattle.osm_operations.proofs.runs.begin.Goals as goal
 

@@ -11,7 +11,7 @@ pub returns-clause-step : goal.returns-clause-step
 returns-clause-step c =
     follow_step c.args.filter.now c.args.dir.now c.args.save.now (files_of c.args.store.now) (files_of c.stopping_over-stopping.result.inner)
     (files_of c.follow_round-progress.new.store.inner) (files_of c.into_inner.result) c.follow_round-progress.result
-    c.report_of.result c.report_of.ensures c.stopping_over-stopping.ensures.inner (ap files_of c.into_inner.ensures)
+    c.stretch_of.result c.stretch_of.ensures c.stopping_over-stopping.ensures.inner (ap files_of c.into_inner.ensures)
     (rw (← c.in_ok-copy.ensures.ok) (rw c.new-options.ensures at c.follow_round-progress.ensures.done))
     (progress_over_refuses c.args.filter.now c.args.dir.now c.args.save.now (stopping_state memory_state c.stopping_over-stopping.result)
     (stopping_state memory_state c.follow_round-progress.new.store) c.follow_round-progress.result
@@ -20,10 +20,10 @@ returns-clause-step c =
 
 pub returns-clause-lacks : goal.returns-clause-lacks
 returns-clause-lacks c =
-    err_map _ _ c.report_of.result (progress_lacks c.args.filter.now c.args.dir.now c.args.save.now
+    err_map _ _ c.stretch_of.result (progress_lacks c.args.filter.now c.args.dir.now c.args.save.now
     (stopping_state memory_state c.stopping_over-stopping.result) (stopping_state memory_state c.follow_round-progress.new.store)
-    c.follow_round-progress.result c.report_of.result
-    c.report_of.ensures (rw (← c.in_ok-copy.ensures.ok) (rw c.new-options.ensures at c.follow_round-progress.ensures.over)))
+    c.follow_round-progress.result c.stretch_of.result
+    c.stretch_of.ensures (rw (← c.in_ok-copy.ensures.ok) (rw c.new-options.ensures at c.follow_round-progress.ensures.over)))
     (λ fault lacks p base n folder saved.
     lacks_at p n c.args.save.now _ _ _ _ fault c.stopping_over-stopping.ensures.inner c.stopping_over-stopping.ensures.calls
     (lacks refl p base n (subst (λ (f : Files). IsFolderOf p f c.args.dir.now) (sym c.stopping_over-stopping.ensures.inner) folder)
