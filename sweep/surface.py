@@ -34,7 +34,7 @@ TAKE_NO_MEMORY = set("""
     next_line fixed_line numbered_line line_number read_number read_count is_key_above is_number_above is_text_above
     objects_limit
     Objects::new Objects::get Objects::len Objects::iter Objects::limits
-    Publisher::new Publisher::resume Publisher::number Publisher::pending Publisher::check_close
+    Publisher::new Publisher::resume Publisher::number Publisher::pending Publisher::take Publisher::check_close
     Published::number Published::state Published::o5c Published::opl
     Follower::is_broken Follower::filter Follower::number Follower::base Follower::time Follower::get
     Follower::user_count Follower::changeset_count Follower::is_held Follower::lag lag_from

@@ -24,7 +24,7 @@ use crate::names::{file_name, top_name};
 use crate::report::{Report, publish_report};
 use crate::top::top_state;
 use osm_follow::published::Published;
-use osm_follow::publisher::{CloseError, EditError, Publisher};
+use osm_follow::publisher::{CloseError, Publisher};
 use osm_model::batch::Batch;
 use osm_model::form::{ChangeForm, FormError};
 use osm_model::limits::MAX_FILE;
@@ -117,7 +117,7 @@ pub(crate) fn make(
     ensures can_close { OnOk result (CanClose (record publisher { pending = batch }) time) }
     ensures stops { IfErr result (CloseStops (record publisher { pending = batch }) time) }
 {
-    edit_all(&mut publisher, batch)?;
+    publisher.take(batch);
     let published = close(alloc, &mut publisher, time)?;
     let names = names_of(alloc, dir, published.number())?;
     let report = publish_report(alloc, published.number())?;
@@ -192,22 +192,6 @@ fn parse(alloc: Global, bytes: &[u8]) -> Result<Batch, RunFault>
             Err(RunFault::BadChange(FileName::Changes, place, why))
         }
     }
-}
-
-// Gives the changes of the batch to the publisher as edits.
-fn edit_all(publisher: &mut Publisher, batch: Batch) -> Result<(), RunFault>
-    requires { publisher.old.pending ≡ [] }
-    ensures taken { OnOk result (publisher.new ≡ record publisher.old { pending = batch }) }
-    ensures refused { IfErr result (λ fault. fault ≡ RunFault.WantOfMemory) }
-{
-    for change in batch.into_changes() {
-        match publisher.edit(change) {
-            Ok(()) => {}
-            Err(EditError::WantOfMemory(_)) => return Err(RunFault::WantOfMemory),
-            Err(EditError::BatchFull(_)) => unreachable!(),
-        }
-    }
-    Ok(())
 }
 
 fn close(alloc: Global, publisher: &mut Publisher, time: u32) -> Result<Published, RunFault>

@@ -130,6 +130,14 @@ impl Publisher {
         }
     }
 
+    /// Takes a batch as the pending edits, as a whole, where none are pending.
+    pub fn take(&mut self, batch: Batch)
+        requires { self.old.pending ≡ [] }
+        ensures { self.new ≡ record self.old { pending = batch } }
+    {
+        self.pending = batch;
+    }
+
     /// Whether a close at that time may succeed: an error if it can't, whatever is pending.
     pub fn check_close(&self, time: u32) -> Result<(), CloseError>
         ensures open { OnOk result (CanClose self.now time) }
