@@ -67,7 +67,9 @@ impl<'a> Screen<'a> {
 
     fn note(&mut self, said: Said, last: Option<u32>) {
         match said {
-            Said::Top(number) => self.begin(last.unwrap_or(number)),
+            // Each further part of a run reads it again.
+            Said::Top(number) if self.start.is_none() => self.begin(last.unwrap_or(number)),
+            Said::Top(_) => {}
             Said::Number(number) => {
                 if let Some((done, all)) = self.course.note_number(number) {
                     self.show(done, all);
