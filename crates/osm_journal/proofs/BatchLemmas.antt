@@ -58,7 +58,8 @@ moment_lacks m =
     let day : List ℕ = 45 ∷ (two_digits m.day ++ hour) in
     let in_hour : Lacks 32 hour = marked 84 m.hour minute (λ e. omega (arith, e)) (marked 58 m.minute second (λ e. omega (arith, e))
     (marked 58 m.second end (λ e. omega (arith, e)) ((λ e. omega (arith, e)), tt))) in
-    let in_month : Lacks 32 (45 ∷ (two_digits m.month ++ day)) = marked 45 m.month day (λ e. omega (arith, e)) (marked 45 m.day hour (λ e. omega (arith, e)) in_hour) in
+    let in_month : Lacks 32 (45 ∷ (two_digits m.month ++ day)) = marked 45 m.month day (λ e. omega (arith, e))
+    (marked 45 m.day hour (λ e. omega (arith, e)) in_hour) in
     (digit_isnt (m.year / 1000), (digit_isnt (m.year / 100), (digit_isnt (m.year / 10), (digit_isnt m.year, in_month))))
 
 no_blank : (t : ℕ) → t < 2 ^ 32 → Lacks 32 (time_text t)
@@ -388,4 +389,6 @@ pub last_is : (bs : List Batch) (b : Batch) (number : ℕ) (time : Option ℕ) �
     → (b.number ≡ last_number number (map batch_of bs)) × (Some b.time ≡ last_time time (map batch_of bs))
 last_is [] b number time e = absurd cc
 last_is (c ∷ []) b number time e = let same : b ≡ c = same_Some b c e in (ap (λ (x : Batch). x.number) same, ap (λ (x : Batch). Some x.time) same)
-last_is (c ∷ d ∷ bs) b number time e = last_is (d ∷ bs) b c.number (Some c.time) (let place : length (c ∷ d ∷ bs) - 1 ≡ suc (length (d ∷ bs) - 1) = omega arith in rw place at e)
+last_is (c ∷ d ∷ bs) b number time e =
+    let place : length (c ∷ d ∷ bs) - 1 ≡ suc (length (d ∷ bs) - 1) = omega arith in
+    last_is (d ∷ bs) b c.number (Some c.time) (rw place at e)

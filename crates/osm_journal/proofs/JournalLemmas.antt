@@ -43,7 +43,8 @@ use Rattle.osm_journal.specs.declared.journal.Journal.{Journal}
 use Rattle.osm_journal.specs.declared.journal.JournalError.{JournalError}
 use Rattle.osm_journal.specs.declared.journal.JournalError.TheVariants.{BadLine, WantOfMemory}
 use Rattle.osm_journal.specs.declared.opening.Opening.{Opening}
-use Rattle.osm_journal.proofs.BatchLemmas.{TakesBatches, TakesText, batches_again, batches_take, number_reached, text_again, text_takes, time_reached, within_limits}
+use Rattle.osm_journal.proofs.BatchLemmas.{TakesBatches, TakesText, batches_again, batches_take, number_reached, text_again, text_takes}
+use Rattle.osm_journal.proofs.BatchLemmas.{time_reached, within_limits}
 
 -- ---- how far the batches reach
 

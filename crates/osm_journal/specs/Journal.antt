@@ -1,6 +1,6 @@
 -- The text of a journal: what batches a follower has taken since its save was written (our choice).
-use Rattle.std.specs.Prelude.{◌≡◌, ℕ, ◌+◌, ◌<◌, ◌≤◌, List, [], ◌∷◌, ◌++◌, length, map, codes, decimal}
-use Rattle.std.specs.Prelude.{Option, Some}
+use Rattle.std.specs.Prelude.{◌≡◌, ℕ, ◌+◌, ◌<◌, ◌≤◌, List, [], ◌∷◌, ◌++◌, length, map, codes}
+use Rattle.std.specs.Prelude.{decimal, Option, Some}
 use Rattle.std.specs.List.{AllByRecursion}
 use Rattle.osm_model.specs.CivilTime.{time_text}
 use Rattle.osm_model.specs.Filter.{FilterValue, IsFilter}

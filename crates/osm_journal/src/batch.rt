@@ -171,7 +171,8 @@ pub(crate) fn write_batches(batches: &[Batch], out: &mut Vec<u8>) -> Result<(), 
 
 // Appends the line of a batch and its bytes.
 fn write_batch(batch: &Batch, out: &mut Vec<u8>) -> Result<(), WantOfMemory>
-    ensures { OnOk result (out.new.items ≡ out.old.items ++ batches_text (batch_of batch.now ∷ [])) }
+    ensures { OnOk result
+        (out.new.items ≡ out.old.items ++ batches_text (batch_of batch.now ∷ [])) }
 {
     write_batch_line(batch, out)?;
     write_bytes(b"\n", out)?;

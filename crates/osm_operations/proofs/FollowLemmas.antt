@@ -303,7 +303,10 @@ followed_part p lost m given dir save changes extract start f g l n report count
     until = let low = min_below (length p) (m.number + count) in omega (arith, low, same)
 
     sizes : (k : ℕ) → m.number < k → k ≤ m.number + count → size_of f dir k ≡ size_by p lost k
-    sizes k above within = rw (s.each k O5c (omega (arith, above)) (omega (arith, within, below)), s.each k Opl (omega (arith, above)) (omega (arith, within, below))) refl
+    sizes k above within = rw (
+      s.each k O5c (omega (arith, above)) (omega (arith, within, below)),
+      s.each k Opl (omega (arith, above)) (omega (arith, within, below)),
+    ) refl
 
 -- a run that stopped
 pub stopped_follow : (p : List PublishedValue) (given : FilterValue) (base m calls : ℕ) (told : Option (List ℕ)) (fault : RunFault)

@@ -28,7 +28,8 @@ use Rattle.osm_folder.specs.declared.fault.RunFault.TheVariants.{WantOfMemory, R
 use Rattle.osm_folder.specs.declared.fault.RunFault.TheVariants.{BadState, Changed, Mismatch, BadChange, BadSave, OtherFilter, TopBehind}
 use Rattle.osm_folder.specs.declared.options.FollowOptions.{FollowOptions}
 use Rattle.osm_folder.specs.declared.options.Layout.TheVariants.{Lines}
-use Rattle.osm_folder.proofs.InStepLemmas.{all_in_step, last_within, not_bad, not_faulty, not_faulty_opl, not_other, not_over, one_saved, stops_number, top_number}
+use Rattle.osm_folder.proofs.InStepLemmas.{all_in_step, last_within, not_bad, not_faulty, not_faulty_opl, not_other, not_over}
+use Rattle.osm_folder.proofs.InStepLemmas.{one_saved, stops_number, top_number}
 use Rattle.osm_folder.proofs.NameLemmas.{top_is_no_file}
 use Rattle.osm_folder.proofs.TakingLemmas.{adds_has, adds_number, has_not_lost}
 use Rattle.osm_merge.specs.Checking.{IsHugeFile}

@@ -453,7 +453,8 @@ export_more h given dir save changes extract start a b report apart s (done, los
 -- an export is refused
 export_stopped : (h : hist.History) (given : FilterValue) (dir save changes extract : List ℕ) (start : Files) (a b : World) (calls : ℕ) (fault : RunFault)
     → LacksCalls (export_calls (bytes_in (files_of a.store save))) (Some calls) fault
-    → AgreesIn (hist.published_of h) (hist.is_file_lost h) (hist.standing_of h) given dir save changes extract start a → ExportTo save extract (Refused fault) a b
+    → AgreesIn (hist.published_of h) (hist.is_file_lost h) (hist.standing_of h) given dir save changes extract start a
+    → ExportTo save extract (Refused fault) a b
     → AgreesIn (hist.published_of h ++ []) (hist.is_file_lost h) (hist.standing_of h) given dir save changes extract start b
     × KilledExportStopsIn given h extract calls fault
 export_stopped h given dir save changes extract start a b calls fault lacks s (stops, lost, count) = (

@@ -92,8 +92,8 @@ pub enum Reply {
     Published(Report),
     /// A run of the follower is done, and this is what it prints.
     Followed(Report),
-    /// A run of the follower took as much as it takes at once, which are `count` numbers, and looked
-    /// at no further one: this is what it prints.
+    /// A run of the follower took as much as it takes at once, which are `count` numbers, and
+    /// looked at no further one: this is what it prints.
     FollowedPart { report: Report, count: u32 },
     /// A run of the follower is done up to the number before a spoiled file: this is what it
     /// prints, and then it ends with this fault.

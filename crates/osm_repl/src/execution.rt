@@ -43,16 +43,17 @@ use std::io::{Read, Write};
 /// and `audit` by their layout. A replay reads from `reader` and writes its replies to `writer`;
 /// every other order runs over the files of the store, and then writes its report to `writer`,
 /// except `show`, which checks its save first and then writes while it reads the save again, and
-/// `follow`, which takes a part of what there is after another: each is saved, and what it applied
-/// is written, before the next one begins.
+/// `follow`, which goes part by part: each part is saved, and what it applied is written, before
+/// the next one begins.
 ///
 /// Only an audit has the fault `BadRange`, and only a replay that of a script. On a fault nothing
-/// was written to `writer`, with five exceptions. On `WriteFault(Output)`, or a replay's
+/// was written to `writer`, with these exceptions. On `WriteFault(Output)`, or a replay's
 /// `WriteFault`, a prefix of the report or of the replies was, and the files that a run wrote
-/// stay. If `show` can't read its save again, a prefix was too. The word `follow` may end with the
-/// fault of a faulty number, after it saved and reported the numbers before. In JSON the line of
-/// `fault_report`, or for an audit of `audit_fault_line`, is written, as far as `writer` takes it,
-/// unless memory was wanted for the run or for the line.
+/// stay. If `show` can't read its save again, a prefix was too. What the word `follow` applied in
+/// the parts before was written, and is in its save; and it may end with the fault of a faulty
+/// number, after it saved and reported the numbers before. In JSON the line of `fault_report`, or
+/// for an audit of `audit_fault_line`, is written, as far as `writer` takes it, unless memory was
+/// wanted for the run or for the line.
 pub fn execute<S: Store, R: Read, W: Write>(
     alloc: Global,
     order: Order<'_>,
@@ -319,8 +320,8 @@ fn follow<S: Store>(
     ensures less { IfOk result (IsLess options.now.limit) }
     ensures stops { IfErr result (RunStops (IsKnown (S.state store.old)) options.now order.entry
         (S.state store.old).files (S.state store.new).files) }
-    ensures refuses { IfErr result (λ fault. IsKnown (S.state store.old)
-        → StopsOver options.now order.entry (S.state store.old).files (S.state store.new).files fault) }
+    ensures refuses { IfErr result (λ fault. IsKnown (S.state store.old) → StopsOver options.now
+        order.entry (S.state store.old).files (S.state store.new).files fault) }
     ensures leaves { OnErr result (Leaves (IsKnown (S.state store.old)) order.entry
         (S.state store.old).files (S.state store.new).files) }
     ensures device { IfErr result

@@ -49,8 +49,8 @@ use osm_state::state::State;
 use osm_store::store::Store;
 use std::alloc::Global;
 
-/// The bytes of change files after which a run that reports in lines takes no further number. What is
-/// new is in memory, so this bounds what a run holds. A report in JSON is of all that there is.
+/// The bytes of change files after which a run that reports in lines takes no further number. What
+/// is new is in memory, so this bounds what a run holds. A report in JSON is of all that there is.
 pub const MAX_ROUND: u64 = 16_777_216;
 
 // How a run ends.
@@ -76,11 +76,10 @@ struct Prepared {
 /// number, the limit, or the number before a lost or a faulty one, and writes the save if something
 /// is new or there was none. A run that reports in lines takes no further number after those whose
 /// change files have `MAX_ROUND` bytes: it has followed a part, and the next run goes on there. Of
-/// the objects it keeps those that the filter keeps; the edits of all
-/// others are counted too. A save of another filter is refused as `OtherFilter`. A number is lost
-/// if its state isn't there, or its changes in neither form. The lost numbers are named, up to 64
-/// after the one that was reached: of those beyond the first it is asked only which files are
-/// there, so a faulty file there is no fault of the run. A save of any size is taken, and what is
+/// the objects it keeps those that the filter keeps; the edits of all others are counted too. A save
+/// of another filter is refused as `OtherFilter`. A number is lost if its state isn't there, or its
+/// changes in neither form. The lost numbers are named, up to 64 after the one that was reached: of
+/// those beyond the first it is asked only which files are there, so a faulty file there is no fault of the run. A save of any size is taken, and what is
 /// in memory doesn't grow with it. A refusal leaves all files as they were.
 pub fn follow_round<S: Store>(
     alloc: Global,
@@ -372,8 +371,8 @@ fn reached<S: Store>(
     })
 }
 
-// The reports of a run that takes no further number: of a run with what it took as the limit, and of
-// what it applied alone.
+// The reports of a run that takes no further number: that of a run with what it took as the limit,
+// and that of what it applied alone.
 fn part(alloc: Global, start: Head, top: &State, taken: Taken) -> Result<Prepared, RunFault>
     requires from { start.number < taken.head.number }
     requires below { taken.head.number ≤ top.now.sequence }

@@ -1,6 +1,7 @@
 //! What a run takes of a folder: the numbers after a head, as net changes.
 
-ghost use Rattle.std.specs.Prelude.{◌≡◌, ℕ, ◌+◌, ◌-◌, ◌*◌, ◌<◌, ◌≤◌, IfErr, IfOk, IsTrue, min, true};
+ghost use Rattle.std.specs.Prelude.{◌≡◌, ℕ, ◌+◌, ◌-◌, ◌*◌, ◌<◌, ◌≤◌, IfErr, IfOk, IsTrue};
+ghost use Rattle.std.specs.Prelude.{min, true};
 ghost use Rattle.osm_model.specs.Limits.{max_changes, max_sequence};
 ghost use Rattle.osm_store.specs.Files.{HasFewer, SpendsAtMost};
 ghost use Rattle.osm_store.specs.Frames.{IsKnown};
@@ -52,9 +53,8 @@ impl Taken {
     }
 }
 
-/// Takes the numbers after the head, up to the last one, to one before a lost one, to one before one
-/// of which a file is faulty, or to the first with which their change files have so many bytes as
-/// there is room for.
+/// Takes the numbers after the head, up to the last one, to the one before a lost one or before one
+/// that has a faulty file, or to the first with which their change files fill the room.
 pub(crate) fn take_numbers<S: Store>(
     alloc: Global,
     store: &mut S,

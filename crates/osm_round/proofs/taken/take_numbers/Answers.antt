@@ -70,8 +70,8 @@ loop-before-preserved g c =
     let d = g.S.Store.state c.take_number.new.store in
     let took = subst (λ t. TakesNumber (IsKnown a) a.files c.args.dir.now (c.loop-before.before + 1) c.args.filter.now c.loop-before.taken
     c.take_number.new.taken t) c.in-Ok-Some.field-0-is (rw (i.frame.known, i.frame.files) at c.in-Ok-Some.ensures.taken) in
-    let more = takes_more (IsKnown a) a.files c.args.dir.now c.args.filter.now c.args.taken.now.head (c.loop-before.before + 1) c.in-Ok-Some.more c.loop-before.taken
-    c.take_number.new.taken (omega (arith, at)) i.taken took in
+    let more = takes_more (IsKnown a) a.files c.args.dir.now c.args.filter.now c.args.taken.now.head (c.loop-before.before + 1) c.in-Ok-Some.more
+    c.loop-before.taken c.take_number.new.taken (omega (arith, at)) i.taken took in
     record {
       at = more.0;
       from = omega (arith, from);
