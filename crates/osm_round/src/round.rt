@@ -76,11 +76,12 @@ struct Prepared {
 /// number, the limit, or the number before a lost or a faulty one, and writes the save if something
 /// is new or there was none. A run that reports in lines takes no further number after those whose
 /// change files have `MAX_ROUND` bytes: it has followed a part, and the next run goes on there. Of
-/// the objects it keeps those that the filter keeps; the edits of all others are counted too. A save
-/// of another filter is refused as `OtherFilter`. A number is lost if its state isn't there, or its
-/// changes in neither form. The lost numbers are named, up to 64 after the one that was reached: of
-/// those beyond the first it is asked only which files are there, so a faulty file there is no fault of the run. A save of any size is taken, and what is
-/// in memory doesn't grow with it. A refusal leaves all files as they were.
+/// the objects it keeps those that the filter keeps; the edits of all others are counted too. A
+/// save of another filter is refused as `OtherFilter`. A number is lost if its state isn't there,
+/// or its changes in neither form. The lost numbers are named, up to 64 after the one that was
+/// reached: of those beyond the first it is asked only which files are there, so a faulty file
+/// there is no fault of the run. A save of any size is taken, and what is in memory doesn't grow
+/// with it. A refusal leaves all files as they were.
 pub fn follow_round<S: Store>(
     alloc: Global,
     store: &mut S,
