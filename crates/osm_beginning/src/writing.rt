@@ -15,7 +15,7 @@ ghost use Rattle.osm_merge.specs.Frames.{ReplacesOften};
 ghost use Rattle.osm_merge.specs.Laying.{Writes};
 ghost use Rattle.osm_data.specs.Reading.{read_calls};
 ghost use Rattle.osm_folder.specs.Runs.{IsDeviceFault};
-ghost use Rattle.osm_folder.specs.Steps.Reading.{PutStops};
+ghost use Rattle.osm_folder.specs.Writing.{PutStops};
 ghost use Rattle.osm_folder.specs.declared.fault.FileName.TheVariants.{Save};
 ghost use Rattle.osm_follow.specs.Begin.{kept_objects};
 ghost use Rattle.osm_beginning.specs.Steps.Passes.{AreWritten, IsKept, IsStaged, WriteStops};

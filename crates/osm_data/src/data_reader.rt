@@ -56,8 +56,8 @@ pub trait DataReader: Sized {
             (OpenStops goes_wrong is_long (S.state store.old) name.now) }
         ensures stage { (S.state store.new).stage ≡ (S.state store.old).stage }
         ensures frame { ReadsOften IsDeviceFault (S.state store.old) (S.state store.new) result }
-        ensures spends { OnOk result (Spends 1 (S.state store.old).left (S.state store.new).left) }
-        ensures calls { MakesAtMost IsDeviceFault 1 (S.state store.old) (S.state store.new) result };
+        ensures calls { MakesAtMost IsDeviceFault 1 (S.state store.old) (S.state store.new) result }
+        ensures spends { OnOk result (Spends 1 (S.state store.old).left (S.state store.new).left) };
 
     /// Reads the next objects; None at the end of the file.
     fn next<S: Store>(

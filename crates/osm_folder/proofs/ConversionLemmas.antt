@@ -4,7 +4,7 @@ use Rattle.osm_model.specs.Limits.{max_file}
 use Rattle.osm_folder.specs.Conversion.{HaveForms, IsConvertible, ConvertStops}
 use Rattle.osm_store.specs.Files.{Files}
 use Rattle.osm_folder.specs.Forms.{BytesStop, HasEnd}
-use Rattle.osm_folder.specs.Steps.Reading.{PutStops}
+use Rattle.osm_folder.specs.Writing.{PutStops}
 use Rattle.osm_folder.specs.declared.fault.FileName.TheVariants.{Input, Output}
 use Rattle.osm_folder.specs.declared.fault.RunFault.{RunFault}
 use Rattle.osm_folder.specs.declared.fault.RunFault.TheVariants.{WantOfMemory, WriteFault, TooLarge, BadChange}

@@ -13,7 +13,7 @@ use Rattle.osm_folder.specs.Names.{top_name_of}
 use Rattle.osm_folder.specs.Publication.{CutsOff, GoesOnFrom, IsAdded, IsRead, IsReady, NotReady, Writes, file_after, writes_of}
 use Rattle.osm_folder.specs.Reports.{ReportValue, publish_report_of}
 use Rattle.osm_folder.specs.Steps.Publishing.{AreNames, CloseStops, IsChangesOf, IsMade, IsMadeOf, from_top, writes_to}
-use Rattle.osm_folder.specs.Steps.Reading.{PutStops}
+use Rattle.osm_folder.specs.Writing.{PutStops}
 use Rattle.osm_folder.specs.declared.fault.RunFault.{RunFault}
 use Rattle.osm_folder.specs.declared.fault.RunFault.TheVariants.{WantOfMemory, WriteFault, TooLarge, TimeBack, SequenceFull}
 use Rattle.osm_folder.specs.declared.publish.FolderNames.{FolderNames}

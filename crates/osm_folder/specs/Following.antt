@@ -43,7 +43,8 @@ plainly given = record { filter = given; limit = None; layout = Lines }
 
 -- the same with that limit
 abbrev pub limited : ℕ → FollowOptions → FollowOptions
-limited count options = record { filter = options.filter; limit = Some count; layout = options.layout }
+limited count options =
+    record { filter = options.filter; limit = Some count; layout = options.layout }
 
 -- the last number that a run from that number goes to: the top, or as many numbers further on as it
 -- may take

@@ -1,5 +1,5 @@
--- What a run of the follower came to: all that it was asked for, a part of it, or the numbers before
--- a faulty one.
+-- What a run of the follower came to: all that it was asked for, a part of it, or the numbers
+-- before a faulty one.
 use Rattle.std.specs.Prelude.{◌≡◌, ℕ, ◌+◌, ◌<◌, List, None, Some, Result}
 use Rattle.std.specs.Prelude.{Ok, Err}
 use Rattle.osm_model.specs.Filter.{FilterValue}

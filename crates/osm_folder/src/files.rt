@@ -5,7 +5,8 @@ ghost use Rattle.osm_store.specs.Files.{IsWithin, Puts};
 ghost use Rattle.osm_store.specs.Frames.{IsKnown};
 ghost use Rattle.osm_folder.specs.Runs.{Reads, Replaces};
 ghost use Rattle.osm_folder.specs.Steps.Reading.{FileStopsIn, HoldsIn, PrefixStops, PresentStopsIn};
-ghost use Rattle.osm_folder.specs.Steps.Reading.{PutStops, TellsIfThere, TellsIn, TellsPrefixIn};
+ghost use Rattle.osm_folder.specs.Steps.Reading.{TellsIfThere, TellsIn, TellsPrefixIn};
+ghost use Rattle.osm_folder.specs.Writing.{PutStops};
 
 use crate::fault::{FileName, RunFault};
 use osm_store::store::{Store, StoreError};

@@ -14,8 +14,8 @@ pub enum Progress {
     /// one.
     Whole(Report),
     /// It followed as far as a run takes change files at once, and no further number was looked at.
-    /// The report is that of a run with the limit `count`, which is how many numbers were taken, and
-    /// `applied` has its lines without the last one, which names the number.
+    /// The report is that of a run with the limit `count`, which is how many numbers were taken,
+    /// and `applied` has its lines without the last one, which names the number.
     Part {
         report: Report,
         applied: Report,

@@ -1,10 +1,11 @@
-//! Writing a whole text.
+//! Writing a whole text to the standard output.
 
 ghost use Rattle.std.specs.Prelude.{OnOk, IfErr};
 ghost use Rattle.std.specs.Io.KnownBytes.{Appends};
 ghost use Rattle.osm_folder.specs.Writing.{WritingFault};
 
 use crate::fault::{FileName, RunFault};
+use osm_reading::writing::{NotWritten, write_whole};
 use std::io::Write;
 
 /// Writes the whole text, and flushes it. On a fault a prefix of it was written.
@@ -14,16 +15,8 @@ pub fn write_text<W: Write>(writer: &mut W, text: &[u8]) -> Result<(), RunFault>
     ensures fault { IfErr result
         (WritingFault (W.contents writer.old) (W.contents writer.new) text.now) }
 {
-    let mut at = 0usize;
-    while at < text.len() {
-        match writer.write(&text[at..]) {
-            Ok(0) => return Err(RunFault::WriteFault(FileName::Output)),
-            Ok(count) => at += count,
-            Err(_) => return Err(RunFault::WriteFault(FileName::Output)),
-        }
-    }
-    match writer.flush() {
+    match write_whole(writer, text) {
         Ok(()) => Ok(()),
-        Err(_) => Err(RunFault::WriteFault(FileName::Output)),
+        Err(NotWritten) => Err(RunFault::WriteFault(FileName::Output)),
     }
 }

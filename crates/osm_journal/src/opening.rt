@@ -18,8 +18,7 @@ use crate::batch::read_time;
 use osm_model::filter::Filter;
 use osm_model::limits::MAX_SEQUENCE;
 use osm_model::memory::WantOfMemory;
-use osm_model::time::time_write;
-use osm_save::head::{Head, read_head, write_head};
+use osm_save::head::{Head, read_head, write_head, write_time_line};
 use osm_save::lines::{fixed_line, next_line, numbered_line, write_numbered};
 use osm_save::save::objects_limit;
 use osm_save::stop::Stop;
@@ -169,22 +168,4 @@ pub(crate) fn write_place(
 {
     write_numbered(b"sequence ", number as u64, out)?;
     write_time_line(time, out)
-}
-
-fn write_time_line(time: Option<u32>, out: &mut Vec<u8>) -> Result<(), WantOfMemory>
-    ensures { OnOk result (out.new.items ≡ out.old.items
-        ++ ended ((codes "time " ++ maybe_time_text time) ∷ [])) }
-{
-    match time {
-        None => {
-            out.extend_from_slice(b"time none\n")?;
-            Ok(())
-        }
-        Some(time) => {
-            out.extend_from_slice(b"time ")?;
-            out.extend_from_slice(&time_write(time))?;
-            out.push(b'\n')?;
-            Ok(())
-        }
-    }
 }

@@ -6,8 +6,8 @@ use Rattle.std.proofs.lemmas.Option.{same_Some}
 use Rattle.osm_model.specs.Limits.{IsId, IsLongitude, IsLatitude, IsPositive}
 use Rattle.osm_o5c.specs.Number.{SpellsSigned}
 use Rattle.osm_o5c.specs.Context.{total, SpellsSum, SpellsWrapped}
-use Rattle.osm_o5c.specs.Steps.NumberReading.{wrapped_of, signed_at, id_at, positive_sum_at, longitude_at, latitude_at}
-use Rattle.osm_o5c.specs.Steps.NumberReading.{is_id, is_positive, is_longitude, is_latitude, natural}
+use Rattle.osm_o5c.specs.NumberReading.{wrapped_of, signed_at, id_at, positive_sum_at, longitude_at, latitude_at}
+use Rattle.osm_o5c.specs.NumberReading.{is_id, is_positive, is_longitude, is_latitude, natural}
 use Rattle.osm_reading.specs.Answers.{when}
 use Rattle.osm_reading.proofs.StepLemmas.{some_then, some_when}
 use Rattle.osm_o5c.proofs.TakenLemmas.{TakenTo}

@@ -6,11 +6,11 @@ use Rattle.osm_model.specs.Change.{ChangeValue}
 use Rattle.osm_model.specs.declared.kind.Kind.{Kind}
 use Rattle.osm_model.specs.declared.kind.Kind.TheVariants.{Node, Way, Relation}
 use Rattle.osm_o5c.specs.Context.{Context, fresh}
-use Rattle.osm_o5c.specs.Steps.NumberReading.{wrapped_of, part_at}
+use Rattle.osm_o5c.specs.NumberReading.{wrapped_of, part_at}
 use Rattle.osm_o5c.specs.File.{kind_byte, Dataset, object, skipped, lone, reset, changes_with}
-use Rattle.osm_o5c.specs.Steps.ObjectReading.{object_at}
-use Rattle.osm_o5c.specs.Steps.FileReading.{new_reader, kind_of_byte, object_dataset_at, other_dataset_at, dataset_of}
-use Rattle.osm_o5c.specs.Steps.FileReading.{dataset_at, Position, position, with_found, step}
+use Rattle.osm_o5c.specs.ObjectReading.{object_at}
+use Rattle.osm_o5c.specs.Datasets.{new_reader, kind_of_byte, object_dataset_at, other_dataset_at, dataset_of}
+use Rattle.osm_o5c.specs.Datasets.{dataset_at, Position, position, with_found, step}
 use Rattle.osm_reading.specs.Answers.{and_then}
 use Rattle.osm_o5c.specs.declared.reader.Reader.{Reader}
 use Rattle.osm_reading.proofs.StepLemmas.{some_then, chosen}

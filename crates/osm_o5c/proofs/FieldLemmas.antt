@@ -18,9 +18,9 @@ use Rattle.osm_o5c.specs.Entries.{SpellsPair, SpellsSingle}
 use Rattle.osm_o5c.specs.Context.{Context, total, SpellsSum, members_of, with_members, with_strings, kind_digit}
 use Rattle.osm_o5c.specs.Written.{member_counter, with_member_counter}
 use Rattle.osm_o5c.specs.Object.{SpellsUser, SpellsMeta, SpellsTag, SpellsMember}
-use Rattle.osm_o5c.specs.Steps.NumberReading.{varint_at, unsigned_at, signed_at, is_positive, positive_at, positive_sum_at, id_at, is_id}
-use Rattle.osm_o5c.specs.Steps.StringReading.{pair_at, single_at, text_of, uid_of, user_at, tag_at}
-use Rattle.osm_o5c.specs.Steps.ObjectReading.{ref_at, kind_of_digit, role_of, member_at, meta_at}
+use Rattle.osm_o5c.specs.NumberReading.{varint_at, unsigned_at, signed_at, is_positive, positive_at, positive_sum_at, id_at, is_id}
+use Rattle.osm_o5c.specs.StringReading.{pair_at, single_at, text_of, uid_of, user_at, tag_at}
+use Rattle.osm_o5c.specs.ObjectReading.{ref_at, kind_of_digit, role_of, member_at, meta_at}
 use Rattle.osm_reading.specs.Answers.{and_then, when}
 use Rattle.osm_o5c.specs.declared.counters.Counters.{Counters}
 use Rattle.osm_o5c.specs.declared.reader.Reader.{Reader}

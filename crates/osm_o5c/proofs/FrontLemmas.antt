@@ -11,7 +11,7 @@ use Rattle.osm_model.specs.declared.kind.Kind.TheVariants.{Node, Way, Relation}
 use Rattle.osm_o5c.specs.Context.{Context, fresh}
 use Rattle.osm_o5c.specs.File.{beginning, kind_byte, Dataset, object, skipped, lone, reset, changes_with, Front, begin, next}
 use Rattle.osm_o5c.specs.File.{SpellsFile, SpellsO5c, Longest}
-use Rattle.osm_o5c.specs.Steps.FileReading.{new_reader, Position, position, dataset_at, with_found, step, Stops}
+use Rattle.osm_o5c.specs.Datasets.{new_reader, Position, position, dataset_at, with_found, step, Stops}
 use Rattle.osm_o5c.specs.Steps.Files.{AreLimits}
 use Rattle.osm_reading.specs.Answers.{and_then}
 use Rattle.osm_reading.proofs.StepLemmas.{some_then}

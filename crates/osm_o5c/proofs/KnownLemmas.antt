@@ -13,7 +13,7 @@ use Rattle.osm_o5c.specs.Written.{number_text, pair_in_line, single_in_line, ref
 use Rattle.osm_o5c.specs.Written.{pair_text, after_pair, single_text, after_single}
 use Rattle.osm_o5c.specs.Shortest.{IsShortestPair, IsShortestSingle, HasNoName, IsLeastName}
 use Rattle.osm_o5c.specs.Steps.Index.{string_named, IsLeast}
-use Rattle.osm_o5c.specs.Steps.StringReading.{until_nul_at}
+use Rattle.osm_o5c.specs.StringReading.{until_nul_at}
 use Rattle.osm_o5c.specs.declared.strings.Entry.{Entry}
 use Rattle.osm_o5c.specs.declared.strings.Entry.TheVariants.{Pair, Single}
 use Rattle.osm_o5c.proofs.IndexLemmas.{Names, names, reference_least}

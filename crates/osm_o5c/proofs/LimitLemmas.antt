@@ -14,10 +14,10 @@ use Rattle.osm_model.specs.declared.change.What.TheVariants.{Deleted}
 use Rattle.osm_model.specs.declared.lists.Member.{Member}
 use Rattle.osm_model.specs.declared.lists.Tag.{Tag}
 use Rattle.osm_o5c.specs.Written.{member_counter}
-use Rattle.osm_o5c.specs.Steps.NumberReading.{wrapped_of, signed_at, part_at, id_at, longitude_at, latitude_at, is_id, is_longitude, is_latitude}
-use Rattle.osm_o5c.specs.Steps.StringReading.{pair_at, single_at, text_of, tag_at}
-use Rattle.osm_o5c.specs.Steps.ObjectReading.{many_at, ref_at, kind_of_digit, role_of, member_at, tags_at, refs_at}
-use Rattle.osm_o5c.specs.Steps.ObjectReading.{members_at, node_at, way_at, relation_at, what_at}
+use Rattle.osm_o5c.specs.NumberReading.{wrapped_of, signed_at, part_at, id_at, longitude_at, latitude_at, is_id, is_longitude, is_latitude}
+use Rattle.osm_o5c.specs.StringReading.{pair_at, single_at, text_of, tag_at}
+use Rattle.osm_o5c.specs.ObjectReading.{many_at, ref_at, kind_of_digit, role_of, member_at, tags_at, refs_at}
+use Rattle.osm_o5c.specs.ObjectReading.{members_at, node_at, way_at, relation_at, what_at}
 use Rattle.osm_reading.specs.Answers.{and_then, when}
 use Rattle.osm_o5c.specs.declared.reader.Reader.{Reader}
 use Rattle.osm_o5c.specs.declared.strings.Entry.{Entry}

@@ -6,9 +6,9 @@ use Rattle.std.proofs.lemmas.List.{length-append}
 use Rattle.osm_model.specs.declared.lists.Member.{Member}
 use Rattle.osm_model.specs.declared.lists.Tag.{Tag}
 use Rattle.osm_o5c.specs.Written.{member_counter}
-use Rattle.osm_o5c.specs.Steps.NumberReading.{unsigned_at, signed_at, id_at, is_id}
-use Rattle.osm_o5c.specs.Steps.StringReading.{until_nul_at, latest, entered, pair_of, single_of, pair_at, single_at, text_of, tag_at}
-use Rattle.osm_o5c.specs.Steps.ObjectReading.{ref_at, role_of, member_at}
+use Rattle.osm_o5c.specs.NumberReading.{unsigned_at, signed_at, id_at, is_id}
+use Rattle.osm_o5c.specs.StringReading.{until_nul_at, latest, entered, pair_of, single_of, pair_at, single_at, text_of, tag_at}
+use Rattle.osm_o5c.specs.ObjectReading.{ref_at, role_of, member_at}
 use Rattle.osm_reading.specs.Answers.{and_then, when}
 use Rattle.osm_o5c.specs.declared.reader.Reader.{Reader}
 use Rattle.osm_o5c.specs.declared.strings.Entry.{Entry}

@@ -4,7 +4,7 @@ use Rattle.std.specs.List.{AllByRecursion}
 use Rattle.std.proofs.lemmas.Option.{same_Some}
 use Rattle.std.proofs.lemmas.List.{length-append, append-nil}
 use Rattle.osm_o5c.specs.Many.{SpellsMany, none, more}
-use Rattle.osm_o5c.specs.Steps.ObjectReading.{many_at}
+use Rattle.osm_o5c.specs.ObjectReading.{many_at}
 use Rattle.osm_reading.specs.Answers.{and_then, Stops}
 use Rattle.osm_reading.specs.declared.refusal.Refusal.{Refusal}
 use Rattle.osm_reading.specs.declared.refusal.Refusal.TheVariants.{WantOfMemory, Fault}

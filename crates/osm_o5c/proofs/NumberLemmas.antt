@@ -7,7 +7,7 @@ use Rattle.std.proofs.lemmas.Option.{same_Some}
 use Rattle.std.proofs.lemmas.List.{take_at, drop_at, take-append-drop, length-take, length-append}
 use Rattle.osm_model.specs.Limits.{IsPositive}
 use Rattle.osm_o5c.specs.Number.{IsVarint, varint_value, SpellsNumber, SpellsSigned, zigzag}
-use Rattle.osm_o5c.specs.Steps.NumberReading.{varint_at, unsigned_at, signed_at, from_zigzag, part_at, positive_at, is_positive}
+use Rattle.osm_o5c.specs.NumberReading.{varint_at, unsigned_at, signed_at, from_zigzag, part_at, positive_at, is_positive}
 use Rattle.osm_reading.specs.Answers.{when}
 use Rattle.osm_reading.proofs.StepLemmas.{some_then, some_when, chosen, both_held}
 use Rattle.osm_o5c.proofs.TakenLemmas.{Taken, parts_then}

@@ -17,10 +17,10 @@ use Rattle.osm_model.specs.declared.lists.Tag.{Tag}
 use Rattle.osm_o5c.specs.Context.{Context, total, SpellsSum, SpellsWrapped, with_strings}
 use Rattle.osm_o5c.specs.Object.{SpellsTag, SpellsTags, SpellsRefs, SpellsMember, SpellsMembers, SpellsNode, SpellsWay}
 use Rattle.osm_o5c.specs.Object.{SpellsRelation, SpellsWhat, SpellsObject}
-use Rattle.osm_o5c.specs.Steps.NumberReading.{part_at, id_at, longitude_at, latitude_at}
-use Rattle.osm_o5c.specs.Steps.StringReading.{tag_at}
-use Rattle.osm_o5c.specs.Steps.ObjectReading.{ref_at, member_at, tags_at, refs_at, members_at, meta_at, node_at, way_at}
-use Rattle.osm_o5c.specs.Steps.ObjectReading.{relation_at, shape_at, what_at, object_at}
+use Rattle.osm_o5c.specs.NumberReading.{part_at, id_at, longitude_at, latitude_at}
+use Rattle.osm_o5c.specs.StringReading.{tag_at}
+use Rattle.osm_o5c.specs.ObjectReading.{ref_at, member_at, tags_at, refs_at, members_at, meta_at, node_at, way_at}
+use Rattle.osm_o5c.specs.ObjectReading.{relation_at, shape_at, what_at, object_at}
 use Rattle.osm_reading.specs.Answers.{and_then}
 use Rattle.osm_o5c.specs.declared.reader.Reader.{Reader}
 use Rattle.osm_o5c.specs.declared.strings.Entry.{Entry}

@@ -19,11 +19,11 @@ use Rattle.osm_model.specs.declared.kind.Kind.{Kind}
 use Rattle.osm_o5c.specs.Context.{Context}
 use Rattle.osm_o5c.specs.File.{Dataset, object, skipped, lone, reset, changes_with, Front, SpellsFile, Longest}
 use Rattle.osm_o5c.specs.File.{FaultIn, no_beginning, after_end, no_dataset, beginning, data_beginning, SpellsO5c, SpellsData}
-use Rattle.osm_o5c.specs.Steps.FileReading.{new_reader, Position, position, step, dataset_at, object_dataset_at}
-use Rattle.osm_o5c.specs.Steps.FileReading.{other_dataset_at, dataset_of, with_found, kind_of_byte, BeginsObject, Stops}
+use Rattle.osm_o5c.specs.Datasets.{new_reader, Position, position, step, dataset_at, object_dataset_at}
+use Rattle.osm_o5c.specs.Datasets.{other_dataset_at, dataset_of, with_found, kind_of_byte, BeginsObject, Stops}
 use Rattle.osm_o5c.specs.Steps.Files.{AreLimits}
-use Rattle.osm_o5c.specs.Steps.NumberReading.{part_at}
-use Rattle.osm_o5c.specs.Steps.ObjectReading.{object_at}
+use Rattle.osm_o5c.specs.NumberReading.{part_at}
+use Rattle.osm_o5c.specs.ObjectReading.{object_at}
 use Rattle.osm_reading.specs.Answers.{and_then}
 use Rattle.osm_o5c.specs.declared.reader.Reader.{Reader}
 use Rattle.osm_reading.proofs.StepLemmas.{some_then}

@@ -11,8 +11,8 @@ use Rattle.std.proofs.lemmas.Str.{IsUtf8-from_is_utf8, is_utf8-from_IsUtf8}
 use Rattle.osm_model.specs.Text.{IsText}
 use Rattle.osm_o5c.specs.Number.{SpellsNumber}
 use Rattle.osm_o5c.specs.Entries.{SpellsPair, in_line, reference, SpellsSingle, in_line_single, reference_single, entries_of, named}
-use Rattle.osm_o5c.specs.Steps.NumberReading.{unsigned_at}
-use Rattle.osm_o5c.specs.Steps.StringReading.{until_nul_at, latest, entered, pair_of, single_of, pair_at, single_at, has_nul, is_text, text_of}
+use Rattle.osm_o5c.specs.NumberReading.{unsigned_at}
+use Rattle.osm_o5c.specs.StringReading.{until_nul_at, latest, entered, pair_of, single_of, pair_at, single_at, has_nul, is_text, text_of}
 use Rattle.osm_reading.specs.Pieces.{cut_at, with_before}
 use Rattle.osm_reading.specs.Answers.{and_then}
 use Rattle.osm_o5c.specs.declared.strings.Entry.{Entry}

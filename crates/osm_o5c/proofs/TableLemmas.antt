@@ -6,7 +6,7 @@ use Rattle.std.proofs.lemmas.Bool.Decides.{nat_tests}
 use Rattle.std.proofs.lemmas.List.{drop-drop, drop-append-le, length-drop, length-append}
 use Rattle.circular_buffer.specs.Buffer.{keep_last}
 use Rattle.osm_o5c.specs.Entries.{size_of, entries_of, named}
-use Rattle.osm_o5c.specs.Steps.StringReading.{latest, entered}
+use Rattle.osm_o5c.specs.StringReading.{latest, entered}
 use Rattle.osm_o5c.specs.declared.strings.Entry.{Entry}
 
 -- the table of the strings in line

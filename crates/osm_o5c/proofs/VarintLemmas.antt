@@ -2,7 +2,7 @@
 use Rattle.std.proofs.Common.{◌≡◌, ℕ, zero, suc, ◌+◌, ◌-◌, ◌*◌, ◌%◌, ◌^◌, ◌<◌, ◌≤◌, true, false, ltb, List, [], ◌∷◌}
 use Rattle.std.proofs.Common.{length, get_or, take, drop, Option, Some, None, refl, arith}
 use Rattle.std.proofs.lemmas.Bool.Decides.{nat_tests}
-use Rattle.osm_o5c.specs.Steps.NumberReading.{varint_at}
+use Rattle.osm_o5c.specs.NumberReading.{varint_at}
 use Rattle.osm_reading.specs.Answers.{and_then, when}
 
 -- what is read of a byte and the higher bits, and the bytes after them

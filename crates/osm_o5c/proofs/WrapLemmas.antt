@@ -4,7 +4,7 @@ use Rattle.std.specs.Prelude.{ℤ, pos, negsuc, neg_ℤ, ◌+ℤ◌, ◌*ℤ◌,
 use Rattle.std.specs.Int.{int_rem_euclid}
 use Rattle.std.proofs.lemmas.Int.{ints}
 use Rattle.osm_o5c.specs.Context.{IsWrapped}
-use Rattle.osm_o5c.specs.Steps.NumberReading.{wrapped_of}
+use Rattle.osm_o5c.specs.NumberReading.{wrapped_of}
 
 -- a number and its remainder differ by a multiple of 2^32
 multiple_of : (z : ℤ) → (t : ℤ) × (z ≡ int_rem_euclid z (pos 4294967296) +ℤ pos 4294967296 *ℤ t)

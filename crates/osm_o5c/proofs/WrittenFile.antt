@@ -15,7 +15,7 @@ use Rattle.osm_o5c.specs.Written.{no_counters, new_state, number_text, dataset_t
 use Rattle.osm_o5c.specs.Written.{is_other, reset_text, state_before, change_text, after_change, objects_text, file_text}
 use Rattle.osm_o5c.specs.Written.{o5c_text, o5m_text}
 use Rattle.osm_o5c.specs.Shortest.{last_kind, ends_in_reset, IsShortestFront, IsShortest}
-use Rattle.osm_o5c.specs.Steps.NumberReading.{wrapped_of}
+use Rattle.osm_o5c.specs.NumberReading.{wrapped_of}
 use Rattle.osm_o5c.specs.File.{beginning, data_beginning, object, reset, Front, begin, next, SpellsFile, SpellsO5c, SpellsData}
 use Rattle.osm_o5c.specs.Steps.Files.{AreLimits}
 use Rattle.osm_o5c.specs.declared.writer.State.{State}

@@ -6,4 +6,8 @@ pub mod Object
 pub mod File
 pub mod Written
 pub mod Shortest
+pub mod NumberReading
+pub mod StringReading
+pub mod ObjectReading
+pub mod Datasets
 pub mod Steps

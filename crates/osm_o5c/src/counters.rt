@@ -3,8 +3,8 @@
 ghost use Rattle.std.specs.Prelude.{◌≡◌, ◌≤◌, ◌+ℤ◌, IfOk};
 ghost use Rattle.osm_model.specs.Limits.{IsId};
 ghost use Rattle.osm_o5c.specs.Written.{no_counters, member_counter, with_member_counter};
-ghost use Rattle.osm_o5c.specs.Steps.NumberReading.{wrapped_of, positive_sum_at, id_at};
-ghost use Rattle.osm_o5c.specs.Steps.NumberReading.{longitude_at, latitude_at};
+ghost use Rattle.osm_o5c.specs.NumberReading.{wrapped_of, positive_sum_at, id_at};
+ghost use Rattle.osm_o5c.specs.NumberReading.{longitude_at, latitude_at};
 ghost use Rattle.osm_reading.specs.Answers.{Finds};
 
 use crate::numbers::signed;
@@ -69,7 +69,7 @@ impl Counters {
 }
 
 /// The id that the counter and the difference at the start add up to, and the bytes after it.
-#[tactic(auto, unfolding(crate::specs::Steps::NumberReading::id_at))]
+#[tactic(auto, unfolding(crate::specs::NumberReading::id_at))]
 pub fn id(counter: i64, bytes: &[u8]) -> Result<(i64, &[u8]), Why>
     ensures limits { IfOk result (λ r. IsId r.0) }
     ensures finds { Finds (λ r. (r.0, r.1.now)) result (id_at counter bytes.now) }
@@ -84,7 +84,7 @@ pub fn id(counter: i64, bytes: &[u8]) -> Result<(i64, &[u8]), Why>
 
 /// The time or changeset that the counter and the difference at the start add up to, and the bytes
 /// after it.
-#[tactic(auto, unfolding(crate::specs::Steps::NumberReading::positive_sum_at))]
+#[tactic(auto, unfolding(crate::specs::NumberReading::positive_sum_at))]
 pub fn positive_sum(counter: i64, bytes: &[u8]) -> Result<(u32, &[u8]), Why>
     ensures finds { Finds (λ r. (r.0, r.1.now)) result (positive_sum_at counter bytes.now) }
     ensures limits { IfOk result (λ r. 1 ≤ r.0) }
@@ -99,7 +99,7 @@ pub fn positive_sum(counter: i64, bytes: &[u8]) -> Result<(u32, &[u8]), Why>
 
 /// The longitude that the counter and the difference at the start add up to in 32 bits, and the
 /// bytes after it.
-#[tactic(auto, unfolding(crate::specs::Steps::NumberReading::longitude_at))]
+#[tactic(auto, unfolding(crate::specs::NumberReading::longitude_at))]
 pub fn longitude(counter: i32, bytes: &[u8]) -> Result<(i32, &[u8]), Why>
     ensures { Finds (λ r. (r.0, r.1.now)) result (longitude_at counter bytes.now) }
 {
@@ -114,7 +114,7 @@ pub fn longitude(counter: i32, bytes: &[u8]) -> Result<(i32, &[u8]), Why>
 
 /// The latitude that the counter and the difference at the start add up to in 32 bits, and the
 /// bytes after it.
-#[tactic(auto, unfolding(crate::specs::Steps::NumberReading::latitude_at))]
+#[tactic(auto, unfolding(crate::specs::NumberReading::latitude_at))]
 pub fn latitude(counter: i32, bytes: &[u8]) -> Result<(i32, &[u8]), Why>
     ensures { Finds (λ r. (r.0, r.1.now)) result (latitude_at counter bytes.now) }
 {

@@ -1,10 +1,10 @@
 //! Datasets: objects with their lengths, resets, and datasets that are skipped.
 
 ghost use Rattle.std.specs.Prelude.{◌≡◌, ◌∷◌, [], ◌++◌, Option, OnOk, IfOk, IfErr};
-ghost use Rattle.osm_o5c.specs.Steps.FileReading.{kind_of_byte, object_dataset_at};
-ghost use Rattle.osm_o5c.specs.Steps.FileReading.{other_dataset_at};
-ghost use Rattle.osm_o5c.specs.Steps.FileReading.{position, with_found, step};
-ghost use Rattle.osm_o5c.specs.Steps.FileReading.{ChangeStops, ObjectStops, StepStops};
+ghost use Rattle.osm_o5c.specs.Datasets.{kind_of_byte, object_dataset_at};
+ghost use Rattle.osm_o5c.specs.Datasets.{other_dataset_at};
+ghost use Rattle.osm_o5c.specs.Datasets.{position, with_found, step};
+ghost use Rattle.osm_o5c.specs.Datasets.{ChangeStops, ObjectStops, StepStops};
 ghost use Rattle.osm_o5c.specs.Written.{is_other, reset_text, state_before, dataset_text};
 ghost use Rattle.osm_o5c.specs.Written.{after_object, change_text, after_change};
 ghost use Rattle.osm_o5c.specs.File.{kind_byte};
@@ -63,7 +63,7 @@ fn add<F: FileLimits>(change: Change, changes: &mut Vec<Change>) -> Result<(), R
 
 impl<'a> Reader<'a> {
     // Reads an object, adds its change to the others, and returns what follows it.
-    #[tactic(auto, unfolding(crate::specs::Steps::FileReading::object_dataset_at))]
+    #[tactic(auto, unfolding(crate::specs::Datasets::object_dataset_at))]
     fn object_dataset<F: FileLimits>(
         &mut self,
         alloc: Global,
@@ -89,7 +89,7 @@ impl<'a> Reader<'a> {
     }
 
     // Skips a dataset that isn't an object; a reset also resets the reader. Returns what follows.
-    #[tactic(auto, unfolding(crate::specs::Steps::FileReading::other_dataset_at))]
+    #[tactic(auto, unfolding(crate::specs::Datasets::other_dataset_at))]
     fn other_dataset(&mut self, first: u8, bytes: &'a [u8]) -> Result<&'a [u8], Why>
         ensures { Finds (λ r. (Option.None, self.new, r.now)) result
             (other_dataset_at first self.old bytes.now) }
@@ -109,7 +109,7 @@ impl<'a> Reader<'a> {
     }
 
     /// Reads one dataset, adds its change to the others if it has one, and returns what follows it.
-    #[tactic(auto, unfolding(crate::specs::Steps::FileReading::dataset_at, crate::specs::Steps::FileReading::step))]
+    #[tactic(auto, unfolding(crate::specs::Datasets::dataset_at), unfolding(crate::specs::Datasets::step))]
     pub fn next<F: FileLimits>(
         &mut self,
         alloc: Global,

@@ -2,7 +2,7 @@
 
 ghost use Rattle.std.specs.Prelude.{◌≡◌, ◌↔◌, Contains, IsTrue, IfSome, IsNone};
 ghost use Rattle.osm_model.specs.Text.{IsText};
-ghost use Rattle.osm_o5c.specs.Steps.StringReading.{text_of};
+ghost use Rattle.osm_o5c.specs.StringReading.{text_of};
 ghost use Rattle.osm_reading.specs.Answers.{Gives};
 
 use osm_model::form::Why;

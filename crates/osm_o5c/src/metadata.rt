@@ -2,9 +2,9 @@
 
 ghost use Rattle.std.specs.Prelude.{◌≡◌, ◌≤◌, ◌++◌, OnOk, IfOk};
 ghost use Rattle.osm_model.specs.Meta.{IsMeta};
-ghost use Rattle.osm_o5c.specs.Steps.ObjectReading.{meta_at};
+ghost use Rattle.osm_o5c.specs.ObjectReading.{meta_at};
 ghost use Rattle.osm_reading.specs.Answers.{Gives, Finds};
-ghost use Rattle.osm_o5c.specs.Steps.StringReading.{uid_of, user_at};
+ghost use Rattle.osm_o5c.specs.StringReading.{uid_of, user_at};
 ghost use Rattle.osm_o5c.specs.Written.{number_text, pair_in_line, pair_text, after_pair};
 ghost use Rattle.osm_o5c.specs.Written.{meta_text};
 
@@ -23,7 +23,7 @@ use osm_reading::refusal::Refusal;
 use std::alloc::Global;
 
 // The user id, which takes up all of these bytes.
-#[tactic(auto, unfolding(crate::specs::Steps::StringReading::uid_of))]
+#[tactic(auto, unfolding(crate::specs::StringReading::uid_of))]
 fn uid(bytes: &[u8]) -> Result<u32, Why>
     ensures finds { Finds (λ n. n) result (uid_of bytes.now) }
     ensures limits { IfOk result (λ n. 1 ≤ n) }
@@ -47,7 +47,7 @@ fn uid(bytes: &[u8]) -> Result<u32, Why>
 }
 
 // The user id and the user's name at the start, and the bytes after them.
-#[tactic(auto, unfolding(crate::specs::Steps::StringReading::user_at))]
+#[tactic(auto, unfolding(crate::specs::StringReading::user_at))]
 fn user<'a>(
     strings: &mut StringTable<'a>,
     alloc: Global,
@@ -65,7 +65,7 @@ fn user<'a>(
 
 impl<'a> Reader<'a> {
     /// The metadata at the start, and the bytes after it.
-    #[tactic(auto, unfolding(crate::specs::Steps::ObjectReading::meta_at))]
+    #[tactic(auto, unfolding(crate::specs::ObjectReading::meta_at))]
     pub fn meta(&mut self, alloc: Global, bytes: &'a [u8]) -> Result<(Meta, &'a [u8]), Refusal>
         ensures gives { Gives (λ r. (r.0, self.new, r.1.now)) result (meta_at self.old bytes.now) }
         ensures limits { IfOk result (λ r. IsMeta r.0) }

@@ -3,8 +3,8 @@
 ghost use Rattle.std.specs.Prelude.{◌≡◌, ◌++◌, ◌<◌, ◌≤◌, ◌^◌, ◌-ℤ◌, OnOk, IfOk, IsErr, IfSome};
 ghost use Rattle.std.specs.Prelude.{None};
 ghost use Rattle.osm_o5c.specs.Number.{zigzag};
-ghost use Rattle.osm_o5c.specs.Steps.NumberReading.{varint_at, unsigned_at, signed_at, part_at};
-ghost use Rattle.osm_o5c.specs.Steps.NumberReading.{positive_at, EndsVarint};
+ghost use Rattle.osm_o5c.specs.NumberReading.{varint_at, unsigned_at, signed_at, part_at};
+ghost use Rattle.osm_o5c.specs.NumberReading.{positive_at, EndsVarint};
 ghost use Rattle.osm_reading.specs.Answers.{Finds};
 ghost use Rattle.osm_o5c.specs.Written.{varint_text, number_text, difference_text};
 
@@ -17,7 +17,7 @@ const MAX_BYTES: usize = 10;
 /// The unsigned number at the start, at most 10 bytes long, and the bytes after it.
 // Not inlined, since reading was slower with a copy of it in each of its callers.
 #[inline(never)]
-#[tactic(auto, unfolding(crate::specs::Steps::NumberReading::varint_at))]
+#[tactic(auto, unfolding(crate::specs::NumberReading::varint_at))]
 pub fn unsigned(bytes: &[u8]) -> Result<(u64, &[u8]), Why>
     ensures { Finds (λ r. (r.0, r.1.now)) result (unsigned_at bytes.now) }
 {
@@ -68,7 +68,7 @@ fn varint(bytes: &[u8]) -> Result<(u64, &[u8]), Why>
 }
 
 /// The signed number at the start, and the bytes after it.
-#[tactic(auto, unfolding(crate::specs::Steps::NumberReading::signed_at))]
+#[tactic(auto, unfolding(crate::specs::NumberReading::signed_at))]
 pub fn signed(bytes: &[u8]) -> Result<(i64, &[u8]), Why>
     ensures { Finds (λ r. (r.0, r.1.now)) result (signed_at bytes.now) }
 {
@@ -83,7 +83,7 @@ pub fn signed(bytes: &[u8]) -> Result<(i64, &[u8]), Why>
 
 /// The part at the start, which is a length and that many bytes, and the bytes after it; `past` is
 /// the cause if there are fewer.
-#[tactic(auto, unfolding(crate::specs::Steps::NumberReading::part_at))]
+#[tactic(auto, unfolding(crate::specs::NumberReading::part_at))]
 pub fn part(bytes: &[u8], past: Why) -> Result<(&[u8], &[u8]), Why>
     ensures { Finds (λ r. (r.0.now, r.1.now)) result (part_at bytes.now) }
 {
@@ -99,7 +99,7 @@ pub fn part(bytes: &[u8], past: Why) -> Result<(&[u8], &[u8]), Why>
 }
 
 /// The version at the start, an unsigned number from 1 to 4,294,967,295, and the bytes after it.
-#[tactic(auto, unfolding(crate::specs::Steps::NumberReading::positive_at))]
+#[tactic(auto, unfolding(crate::specs::NumberReading::positive_at))]
 pub fn positive(bytes: &[u8]) -> Result<(u32, &[u8]), Why>
     ensures finds { Finds (λ r. (r.0, r.1.now)) result (positive_at bytes.now) }
     ensures limits { IfOk result (λ r. 1 ≤ r.0) }

@@ -1,8 +1,8 @@
 //! Objects: nodes, ways, relations, and their deletions.
 
 ghost use Rattle.std.specs.Prelude.{◌≡◌, ◌++◌, OnOk};
-ghost use Rattle.osm_o5c.specs.Steps.ObjectReading.{node_at, way_at, relation_at, what_at};
-ghost use Rattle.osm_o5c.specs.Steps.ObjectReading.{object_at};
+ghost use Rattle.osm_o5c.specs.ObjectReading.{node_at, way_at, relation_at, what_at};
+ghost use Rattle.osm_o5c.specs.ObjectReading.{object_at};
 ghost use Rattle.osm_reading.specs.Answers.{Gives};
 ghost use Rattle.osm_o5c.specs.Written.{part_text, what_text, after_what};
 ghost use Rattle.osm_o5c.specs.Written.{object_text, after_object};
@@ -24,7 +24,7 @@ use std::alloc::Global;
 
 impl<'a> Reader<'a> {
     // `longitude latitude tags`
-    #[tactic(auto, unfolding(crate::specs::Steps::ObjectReading::node_at))]
+    #[tactic(auto, unfolding(crate::specs::ObjectReading::node_at))]
     fn node(&mut self, alloc: Global, bytes: &'a [u8]) -> Result<What, Refusal>
         ensures { Gives (λ w. (w, self.new)) result (node_at self.old bytes.now) }
     {
@@ -37,7 +37,7 @@ impl<'a> Reader<'a> {
     }
 
     // `length references tags`
-    #[tactic(auto, unfolding(crate::specs::Steps::ObjectReading::way_at))]
+    #[tactic(auto, unfolding(crate::specs::ObjectReading::way_at))]
     fn way(&mut self, alloc: Global, bytes: &'a [u8]) -> Result<What, Refusal>
         ensures { Gives (λ w. (w, self.new)) result (way_at self.old bytes.now) }
     {
@@ -48,7 +48,7 @@ impl<'a> Reader<'a> {
     }
 
     // `length members tags`
-    #[tactic(auto, unfolding(crate::specs::Steps::ObjectReading::relation_at))]
+    #[tactic(auto, unfolding(crate::specs::ObjectReading::relation_at))]
     fn relation(&mut self, alloc: Global, bytes: &'a [u8]) -> Result<What, Refusal>
         ensures { Gives (λ w. (w, self.new)) result (relation_at self.old bytes.now) }
     {
@@ -59,7 +59,7 @@ impl<'a> Reader<'a> {
     }
 
     // What an object of this kind is; a deletion if no bytes are left.
-    #[tactic(auto, unfolding(crate::specs::Steps::ObjectReading::what_at))]
+    #[tactic(auto, unfolding(crate::specs::ObjectReading::what_at))]
     fn what(&mut self, alloc: Global, kind: Kind, bytes: &'a [u8]) -> Result<What, Refusal>
         ensures { Gives (λ w. (w, self.new)) result (what_at kind self.old bytes.now) }
     {
@@ -74,7 +74,7 @@ impl<'a> Reader<'a> {
     }
 
     /// The change, which takes up all of these bytes.
-    #[tactic(auto, unfolding(crate::specs::Steps::ObjectReading::object_at))]
+    #[tactic(auto, unfolding(crate::specs::ObjectReading::object_at))]
     pub fn object(&mut self, alloc: Global, kind: Kind, bytes: &'a [u8]) -> Result<Change, Refusal>
         ensures { Gives (λ c. (c, self.new)) result (object_at kind self.old bytes.now) }
     {

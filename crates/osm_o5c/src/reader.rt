@@ -1,7 +1,7 @@
 //! What a reader keeps between datasets.
 
 ghost use Rattle.std.specs.Prelude.{◌≡◌};
-ghost use Rattle.osm_o5c.specs.Steps.FileReading.{new_reader};
+ghost use Rattle.osm_o5c.specs.Datasets.{new_reader};
 
 use crate::counters::Counters;
 use crate::strings::StringTable;

@@ -3,9 +3,9 @@
 ghost use Rattle.std.specs.Prelude.{◌≡◌, ◌≤◌, [], ◌++◌, ◌+ℤ◌, true, false, length, IfOk, OnOk};
 ghost use Rattle.std.specs.Prelude.{OnErr, vec_capacity};
 ghost use Rattle.osm_o5c.specs.Context.{kind_digit};
-ghost use Rattle.osm_o5c.specs.Steps.ObjectReading.{refs_at, ref_at, role_of, member_at};
-ghost use Rattle.osm_o5c.specs.Steps.ObjectReading.{members_at};
-ghost use Rattle.osm_o5c.specs.Steps.NumberReading.{is_id};
+ghost use Rattle.osm_o5c.specs.ObjectReading.{refs_at, ref_at, role_of, member_at};
+ghost use Rattle.osm_o5c.specs.ObjectReading.{members_at};
+ghost use Rattle.osm_o5c.specs.NumberReading.{is_id};
 ghost use Rattle.osm_reading.specs.Answers.{Gives, Finds};
 ghost use Rattle.osm_o5c.specs.Written.{difference_text, refs_text, last_ref, member_text};
 ghost use Rattle.osm_o5c.specs.Written.{after_member, members_text, after_members};
@@ -26,7 +26,7 @@ use osm_reading::refusal::Refusal;
 use std::alloc::Global;
 
 // The reference at the start, which becomes the counter of way nodes, and the bytes after it.
-#[tactic(auto, unfolding(crate::specs::Steps::ObjectReading::ref_at))]
+#[tactic(auto, unfolding(crate::specs::ObjectReading::ref_at))]
 fn reference<'b>(counters: &mut Counters, bytes: &'b [u8]) -> Result<(i64, &'b [u8]), Why>
     ensures finds { Finds (λ r. (r.0, counters.new.way_node, r.1.now)) result
         (ref_at counters.old.way_node bytes.now) }
@@ -83,7 +83,7 @@ pub fn refs(counters: &mut Counters, alloc: Global, part: &[u8]) -> Result<Refs,
 }
 
 // The kind that the digit before a role names, and the role.
-#[tactic(auto, unfolding(crate::specs::Steps::ObjectReading::role_of))]
+#[tactic(auto, unfolding(crate::specs::ObjectReading::role_of))]
 fn role(alloc: Global, bytes: &[u8]) -> Result<(Kind, Text), Refusal>
     ensures { Gives (λ r. (r.0, r.1)) result (role_of bytes.now) }
 {
@@ -113,7 +113,7 @@ fn moved(counter: i64, difference: i64) -> Result<i64, Why>
 
 impl<'a> Reader<'a> {
     // The member at the start, and the bytes after it.
-    #[tactic(auto, unfolding(crate::specs::Steps::ObjectReading::member_at))]
+    #[tactic(auto, unfolding(crate::specs::ObjectReading::member_at))]
     fn member(&mut self, alloc: Global, bytes: &'a [u8]) -> Result<(Member, &'a [u8]), Refusal>
         ensures { Gives (λ r. (r.0, self.new, r.1.now)) result (member_at self.old bytes.now) }
     {

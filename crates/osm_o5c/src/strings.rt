@@ -5,8 +5,8 @@ ghost use Rattle.std.specs.Prelude.{Contains, IfOk};
 ghost use Rattle.std.specs.Prelude.{option_copied};
 ghost use Rattle.circular_buffer.specs.Buffer.{keep_last};
 ghost use Rattle.osm_reading.specs.Answers.{Gives, Finds};
-ghost use Rattle.osm_o5c.specs.Steps.StringReading.{entered, latest, until_nul_at, pair_at};
-ghost use Rattle.osm_o5c.specs.Steps.StringReading.{single_at};
+ghost use Rattle.osm_o5c.specs.StringReading.{entered, latest, until_nul_at, pair_at};
+ghost use Rattle.osm_o5c.specs.StringReading.{single_at};
 ghost use Rattle.osm_o5c.specs.Written.{pair_in_line, single_in_line, reference_of, by_reference};
 ghost use Rattle.osm_o5c.specs.Written.{entered_by, pair_text, after_pair, single_text};
 ghost use Rattle.osm_o5c.specs.Written.{after_single};
@@ -107,7 +107,7 @@ impl<'a> StringTable<'a> {
     }
 
     /// The k-th most recent entry, counted from 1.
-    #[tactic(auto, unfolding(crate::specs::Steps::StringReading::latest))]
+    #[tactic(auto, unfolding(crate::specs::StringReading::latest))]
     pub fn get(&self, k: u64) -> Option<&Entry<'a>>
         ensures { option_copied result ≡ latest self.now k }
     {
@@ -122,7 +122,7 @@ impl<'a> StringTable<'a> {
 
     // Enters a pair, unless it is too long.
     #[inline(always)]
-    #[tactic(auto, unfolding(crate::specs::Steps::StringReading::entered))]
+    #[tactic(auto, unfolding(crate::specs::StringReading::entered))]
     fn enter_pair(
         &mut self,
         alloc: Global,
@@ -140,7 +140,7 @@ impl<'a> StringTable<'a> {
     }
 
     // Enters a single string, unless it is too long.
-    #[tactic(auto, unfolding(crate::specs::Steps::StringReading::entered))]
+    #[tactic(auto, unfolding(crate::specs::StringReading::entered))]
     fn enter_single(&mut self, alloc: Global, text: &'a [u8]) -> Result<(), WantOfMemory>
         requires { ¬ Contains text.now 0 }
         ensures { OnOk result (self.new ≡ entered self.old (Entry.Single text.now)) }
@@ -155,7 +155,7 @@ impl<'a> StringTable<'a> {
     /// The pair of strings at the start, and the bytes after it.
     // Inlined, so that the strings stay in registers.
     #[inline(always)]
-    #[tactic(auto, unfolding(crate::specs::Steps::StringReading::pair_at))]
+    #[tactic(auto, unfolding(crate::specs::StringReading::pair_at))]
     pub fn pair(
         &mut self,
         alloc: Global,
@@ -183,7 +183,7 @@ impl<'a> StringTable<'a> {
     }
 
     /// The single string at the start, and the bytes after it.
-    #[tactic(auto, unfolding(crate::specs::Steps::StringReading::single_at))]
+    #[tactic(auto, unfolding(crate::specs::StringReading::single_at))]
     pub fn single(
         &mut self,
         alloc: Global,

@@ -1,9 +1,9 @@
 //! Tags up to the end of an object.
 
 ghost use Rattle.std.specs.Prelude.{◌≡◌, ◌≤◌, [], ◌++◌, IfOk, OnOk, vec_capacity};
-ghost use Rattle.osm_o5c.specs.Steps.ObjectReading.{tags_at};
+ghost use Rattle.osm_o5c.specs.ObjectReading.{tags_at};
 ghost use Rattle.osm_reading.specs.Answers.{Gives};
-ghost use Rattle.osm_o5c.specs.Steps.StringReading.{tag_at};
+ghost use Rattle.osm_o5c.specs.StringReading.{tag_at};
 ghost use Rattle.osm_o5c.specs.Written.{tags_text, after_tags};
 
 use crate::file_string::text;
@@ -17,7 +17,7 @@ use osm_reading::refusal::Refusal;
 use std::alloc::Global;
 
 // The tag at the start, and the bytes after it.
-#[tactic(auto, unfolding(crate::specs::Steps::StringReading::tag_at))]
+#[tactic(auto, unfolding(crate::specs::StringReading::tag_at))]
 fn tag<'a>(
     strings: &mut StringTable<'a>,
     alloc: Global,

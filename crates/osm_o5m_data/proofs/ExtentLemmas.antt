@@ -11,10 +11,10 @@ use Rattle.osm_reading.specs.Answers.{and_then}
 use Rattle.osm_reading.proofs.StepLemmas.{chosen, some_then}
 use Rattle.osm_o5c.specs.File.{changes_with}
 use Rattle.osm_o5c.specs.Number.{SpellsNumber}
-use Rattle.osm_o5c.specs.Steps.FileReading.{Position, dataset_at, dataset_of, kind_of_byte, new_reader, object_dataset_at}
-use Rattle.osm_o5c.specs.Steps.FileReading.{other_dataset_at, position, step, with_found}
-use Rattle.osm_o5c.specs.Steps.NumberReading.{part_at, unsigned_at}
-use Rattle.osm_o5c.specs.Steps.ObjectReading.{object_at}
+use Rattle.osm_o5c.specs.Datasets.{Position, dataset_at, dataset_of, kind_of_byte, new_reader, object_dataset_at}
+use Rattle.osm_o5c.specs.Datasets.{other_dataset_at, position, step, with_found}
+use Rattle.osm_o5c.specs.NumberReading.{part_at, unsigned_at}
+use Rattle.osm_o5c.specs.ObjectReading.{object_at}
 use Rattle.osm_o5c.specs.declared.reader.Reader.{Reader}
 use Rattle.osm_o5c.proofs.NumberLemmas.{part_takes, unsigned_again, unsigned_takes}
 use Rattle.osm_o5m_data.specs.declared.extents.Extent.{Extent}

@@ -23,7 +23,7 @@ use Rattle.osm_blocks.proofs.OftenLemmas.{often_none}
 use Rattle.osm_data.specs.Reading.{IsDeviceFault, blocks_fault_of, read_calls}
 use Rattle.osm_data.specs.declared.fault.DataFault.{DataFault}
 use Rattle.osm_o5c.specs.File.{DataFaultPlace, SpellsData, data_beginning}
-use Rattle.osm_o5c.specs.Steps.FileReading.{Position, Stops, new_reader, position, step}
+use Rattle.osm_o5c.specs.Datasets.{Position, Stops, new_reader, position, step}
 use Rattle.osm_o5c.proofs.FrontLemmas.{IsReached}
 use Rattle.osm_o5c.proofs.PlaceLemmas.{exit_bad, exit_more, exit_ok, unbegun_place}
 use Rattle.osm_o5m_data.specs.Long.{HasLong}

@@ -6,7 +6,7 @@ use Rattle.std.proofs.lemmas.Bool.Decides.{nat_tests}
 use Rattle.std.proofs.lemmas.Option.{same_Some}
 use Rattle.std.proofs.lemmas.List.{append-nil, length-append, length-drop, drop-append-le, take-append-le, take_at, drop_at}
 use Rattle.circular_buffer.specs.Buffer.{keep_last}
-use Rattle.osm_o5c.specs.Steps.StringReading.{latest}
+use Rattle.osm_o5c.specs.StringReading.{latest}
 use Rattle.osm_o5c.specs.declared.strings.Entry.{Entry}
 use Rattle.osm_o5c.specs.declared.strings.Entry.TheVariants as entries
 use Rattle.osm_o5m_data.specs.declared.carried.Sizes.{Sizes}

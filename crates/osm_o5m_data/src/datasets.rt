@@ -3,7 +3,7 @@
 ghost use Rattle.std.specs.Prelude.{◌≡◌, ◌++◌, ◌<◌, ◌≤◌, ℕ, List, Some, drop, length};
 ghost use Rattle.std.specs.Prelude.{IfErr, IfOk, IsTrue, OnOk, false};
 ghost use Rattle.osm_model.specs.Change.{ChangeValue};
-ghost use Rattle.osm_o5c.specs.Steps.FileReading.{position, step};
+ghost use Rattle.osm_o5c.specs.Datasets.{position, step};
 ghost use Rattle.osm_o5m_data.specs.declared.extents.Extent.TheVariants as extents;
 ghost use Rattle.osm_o5m_data.specs.Steps.Extents.{extent_at};
 ghost use Rattle.osm_o5m_data.specs.Steps.Reading.{HasReadTo, IsPart, PartStops};

@@ -1,7 +1,7 @@
 //! What a reader knows between two blocks of a file.
 
 ghost use Rattle.std.specs.Prelude.{◌≡◌, ◌↔◌, IfOk, IsTrue, None};
-ghost use Rattle.osm_o5c.specs.Steps.FileReading.{new_reader};
+ghost use Rattle.osm_o5c.specs.Datasets.{new_reader};
 ghost use Rattle.osm_o5m_data.specs.Steps.Reading.{Follows, last_after, reader_in};
 
 use crate::carried::Carried;

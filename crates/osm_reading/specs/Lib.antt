@@ -4,3 +4,4 @@ pub mod NumberLines
 pub mod Sequence
 pub mod Refusal
 pub mod Answers
+pub mod Writing

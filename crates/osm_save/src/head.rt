@@ -166,7 +166,8 @@ pub fn write_head(head: Head, filter: &Filter, out: &mut Vec<u8>) -> Result<(), 
     Ok(())
 }
 
-fn write_time_line(time: Option<u32>, out: &mut Vec<u8>) -> Result<(), WantOfMemory>
+/// Appends the line with the time of a number.
+pub fn write_time_line(time: Option<u32>, out: &mut Vec<u8>) -> Result<(), WantOfMemory>
     ensures { OnOk result (out.new.items ≡ out.old.items
         ++ ended ((codes "time " ++ maybe_time_text time) ∷ [])) }
 {

@@ -6,4 +6,3 @@ pub mod fault;
 pub mod replay;
 pub mod replies;
 pub mod script;
-mod writing;

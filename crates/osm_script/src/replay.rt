@@ -11,9 +11,9 @@ use crate::asks::Asks;
 use crate::fault::ScriptFault;
 use crate::replies::write_reply;
 use crate::script::{EventSink, send_events};
-use crate::writing::write_text;
 use osm_model::limits::MAX_FILE;
 use osm_model::memory::WantOfMemory;
+use osm_reading::writing::{NotWritten, write_whole};
 use osm_world::event::Event;
 use osm_world::laws::laws_of_runs;
 use osm_world::world::World;
@@ -40,7 +40,10 @@ pub fn replay_run<R: Read, W: Write>(
 {
     let script = read_script(alloc, reader, &mut Asks::none())?;
     let text = reply_text_of(alloc, script.as_slice())?;
-    write_text(writer, text.as_slice())
+    match write_whole(writer, text.as_slice()) {
+        Ok(()) => Ok(()),
+        Err(NotWritten) => Err(ScriptFault::WriteFault),
+    }
 }
 
 /// A law of the definitions of a replay: a fault other than a failed write leaves nothing written.

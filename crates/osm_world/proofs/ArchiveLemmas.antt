@@ -106,19 +106,6 @@ replies_under_it spells fp f state bytes (Applied low high) g t = delivers_under
 replies_under_it spells fp f state bytes Broke g t = delivers_under_it spells fp f g state bytes (Err errors.Broke) t
 replies_under_it spells fp f state bytes r g t = absurd t
 
--- what was saved last is never refused as a bad save
-pub no_bad_save : (text : Option (List ℕ)) (f g : FollowerValue) (line : ℕ) → IfSome text (IsSaveUnder f.filter)
-    → Restarts f text (Err (BadSave line)) g → ⊥
-no_bad_save None f g line is t = t
-no_bad_save (Some text) f g line is t = t.0 is.0 is.1
-
--- nor as that of another filter
-pub no_other_filter : OneSave → (text : Option (List ℕ)) (f g : FollowerValue) → IfSome text (IsSaveUnder f.filter)
-    → Restarts f text (Err OtherFilter) g → ⊥
-no_other_filter one None f g is t = t
-no_other_filter one (Some text) f g is t =
-    let same : t.0 ≡ is.0 = one text t.0 is.0 t.1 is.1 in t.2 (ap (λ (v : Saved). v.filter) same ∙ is.2)
-
 -- one more sequence was given
 pub fed_more : (filter : FilterValue) (archive : List PublishedTexts) (i low high : ℕ) (e f : FollowerValue) (p : PublishedTexts)
     → i < length archive → p ≡ get_or archive i p → IsFed filter archive i e

@@ -3,6 +3,7 @@ pub mod StateLemmas
 pub mod StepLemmas
 pub mod LegalLemmas
 pub mod ArchiveLemmas
+pub mod SaveLemmas
 pub mod RunLemmas
 pub mod ReportLemmas
 pub mod LawLemmas

@@ -216,7 +216,7 @@ impl World {
 
     // What was saved last is a save text under the follower's filter, so it is never refused as a
     // bad one or as another filter's.
-    #[tactic(auto, using(crate::proofs::ArchiveLemmas::no_bad_save, crate::proofs::ArchiveLemmas::no_other_filter))]
+    #[tactic(auto, using(crate::proofs::SaveLemmas::no_bad, crate::proofs::SaveLemmas::no_other))]
     fn restart(&mut self) -> Reply
         ensures { RestartStep self.old result self.new }
     {

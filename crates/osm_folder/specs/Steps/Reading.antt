@@ -1,4 +1,4 @@
--- Reading and writing one file of a run. `known` says that it is known what the files hold, and a
+-- Reading one file of a run. `known` says that it is known what the files hold, and a
 -- word that ends in `In` takes the state of a store in place of `known` and the files.
 use Rattle.std.specs.Prelude.{◌≡◌, ℕ, Bool, List, Option, Some, None, Vec, is_some}
 use Rattle.osm_store.specs.Files.{IsOver, Tells, prefix_of}
@@ -6,7 +6,7 @@ use Rattle.osm_store.specs.Frames.{IsKnown, StoreState}
 use Rattle.osm_folder.specs.declared.fault.FileName.{FileName}
 use Rattle.osm_folder.specs.declared.fault.RunFault.{RunFault}
 use Rattle.osm_folder.specs.declared.fault.RunFault.TheVariants.{WantOfMemory, ReadFault}
-use Rattle.osm_folder.specs.declared.fault.RunFault.TheVariants.{WriteFault, TooLarge, Absent}
+use Rattle.osm_folder.specs.declared.fault.RunFault.TheVariants.{TooLarge, Absent}
 
 -- the answer of a read is what the file of that name holds
 abbrev pub TellsIn : {Z : Type 0} → StoreState → List ℕ → Option (Vec ℕ Z) → Type 0
@@ -49,9 +49,3 @@ PresentStops known file limit told fault = FileStops known file limit told fault
 -- the same for the file of that name in a store
 abbrev pub PresentStopsIn : StoreState → List ℕ → FileName → ℕ → RunFault → Type 0
 PresentStopsIn store name file limit = PresentStops (IsKnown store) file limit (store.files name)
-
--- why a file isn't written
-abbrev pub PutStops : FileName → RunFault → Type 0
-PutStops file WantOfMemory = Unit {0}
-PutStops file (WriteFault named) = named ≡ file
-PutStops file fault = ⊥

@@ -1,7 +1,7 @@
 -- How far the dataset at the start of bytes reaches.
 use Rattle.std.specs.Prelude.{ℕ, ◌==◌, List, [], ◌∷◌, length, Option, Some, None, nat_lt}
 use Rattle.std.specs.Prelude.{if◌then◌else◌}
-use Rattle.osm_o5c.specs.Steps.NumberReading.{unsigned_at}
+use Rattle.osm_o5c.specs.NumberReading.{unsigned_at}
 use Rattle.osm_o5m_data.specs.declared.extents.Extent.{Extent}
 use Rattle.osm_o5m_data.specs.declared.extents.Extent.TheVariants.{Whole, Cut, Long, Trailing}
 

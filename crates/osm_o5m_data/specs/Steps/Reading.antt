@@ -7,7 +7,7 @@ use Rattle.osm_model.specs.Data.{IsData}
 use Rattle.osm_model.specs.KeyOrder.{key_cmp}
 use Rattle.osm_model.specs.declared.kind.Key.{Key}
 use Rattle.osm_o5c.specs.File.{data_beginning}
-use Rattle.osm_o5c.specs.Steps.FileReading.{Position, Stops, new_reader, position, step}
+use Rattle.osm_o5c.specs.Datasets.{Position, Stops, new_reader, position, step}
 use Rattle.osm_o5c.specs.declared.reader.Reader.{Reader}
 use Rattle.osm_reading.specs.declared.refusal.Refusal.{Refusal}
 use Rattle.osm_reading.specs.declared.refusal.Refusal.TheVariants.{WantOfMemory, Fault}

@@ -1,6 +1,6 @@
--- What the parts of a replay do: reading the script, answering an event, and writing the text.
-use Rattle.std.specs.Prelude.{◌≡◌, ℕ, ◌<◌, List, length, Option, take}
-use Rattle.std.specs.Io.KnownBytes.{Appends, Consumes}
+-- What the parts of a replay do: reading the script, and answering an event.
+use Rattle.std.specs.Prelude.{◌≡◌, ℕ, ◌<◌, List, length, Option}
+use Rattle.std.specs.Io.KnownBytes.{Consumes}
 use Rattle.osm_model.specs.Filter.{everything}
 use Rattle.osm_model.specs.Limits.{max_file}
 use Rattle.osm_world.specs.Correct.{IsRun}
@@ -11,7 +11,7 @@ use Rattle.osm_script.specs.Replies.{replies_text}
 use Rattle.osm_script.specs.Script.{IsBadLine}
 use Rattle.osm_script.specs.declared.fault.ScriptFault.{ScriptFault}
 use Rattle.osm_script.specs.declared.fault.ScriptFault.TheVariants.{WantOfMemory, ReadFault}
-use Rattle.osm_script.specs.declared.fault.ScriptFault.TheVariants.{TooLarge, BadScript, WriteFault}
+use Rattle.osm_script.specs.declared.fault.ScriptFault.TheVariants.{TooLarge, BadScript}
 
 -- how often a reader is asked at most: for each byte of the largest script, for one byte too many,
 -- and once more
@@ -38,8 +38,3 @@ abbrev pub AnswerStops : List ℕ → ScriptFault → Type 0
 AnswerStops script WantOfMemory = Unit {0}
 AnswerStops script (BadScript line) = IsBadLine script line
 AnswerStops script fault = ⊥
-
--- writing failed, and a prefix of the text was written
-abbrev pub WritingFault : Option (List ℕ) → Option (List ℕ) → List ℕ → ScriptFault → Type 0
-WritingFault old new text WriteFault = (n : ℕ) × Appends old new (take n text)
-WritingFault old new text fault = ⊥

@@ -2,7 +2,7 @@ use Rattle.std.proofs.Common.{subst, sym, arith}
 use Rattle.std.specs.Prelude.{IsTrue}
 use Rattle.osm_store.specs.Frames.{IsKnown}
 use Rattle.osm_folder.specs.Steps.Publishing.{IsCut}
-use Rattle.osm_folder.specs.Steps.Reading.{PutStops}
+use Rattle.osm_folder.specs.Writing.{PutStops}
 use Rattle.osm_folder.specs.declared.fault.FileName.TheVariants.{Top}
 use Rattle.osm_folder.proofs.PublishLemmas.{cut_at, err_both, renamed}
 use Rattle.osm_folder.proofs.ResultLemmas.{same_err}

@@ -1,5 +1,5 @@
 use Rattle.std.proofs.Common.{rules, arith}
-use Rattle.osm_o5c.specs.Steps.FileReading.{position}
+use Rattle.osm_o5c.specs.Datasets.{position}
 use Rattle.osm_o5c.proofs.FrontLemmas.{reached_more, step_shorter}
 use Rattle.osm_o5c.proofs.PlaceLemmas.{begun_reached, exit_bad, exit_empty, exit_more, faulty, unbegun_place}
 use Rattle.osm_o5c.proofs.PlaceLemmas.{wanted_at_object}

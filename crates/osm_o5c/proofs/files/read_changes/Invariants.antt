@@ -1,5 +1,5 @@
 use Rattle.std.proofs.Common.{length}
-use Rattle.osm_o5c.specs.Steps.FileReading.{position}
+use Rattle.osm_o5c.specs.Datasets.{position}
 use Rattle.osm_o5c.proofs.FrontLemmas.{IsReached}
 use Rattle.osm_o5c.proofs.files.read_changes.Given as goal
 

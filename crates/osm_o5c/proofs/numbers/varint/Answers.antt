@@ -1,6 +1,6 @@
 use Rattle.std.proofs.Common.{arith, ◌≡◌, ◌+◌, ◌-◌, ◌*◌, ◌%◌, ◌<◌, length, take, get_or, drop, Some, refl}
 use Rattle.std.proofs.lemmas.List.{take_rest}
-use Rattle.osm_o5c.specs.Steps.NumberReading.{varint_at}
+use Rattle.osm_o5c.specs.NumberReading.{varint_at}
 use Rattle.osm_o5c.proofs.VarintLemmas.{with_lows, varint_is, lows_back, no_lows, lows_none, low_fits, low_none}
 use Rattle.osm_o5c.proofs.numbers.varint.Goals as goal
 

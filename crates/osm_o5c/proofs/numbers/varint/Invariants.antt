@@ -1,5 +1,5 @@
 use Rattle.std.proofs.Common.{◌+◌, ◌≡◌, take, drop, Some}
-use Rattle.osm_o5c.specs.Steps.NumberReading.{varint_at}
+use Rattle.osm_o5c.specs.NumberReading.{varint_at}
 use Rattle.osm_o5c.proofs.VarintLemmas.{with_lows}
 use Rattle.osm_o5c.proofs.numbers.varint.Given as goal
 

@@ -1,6 +1,6 @@
 use Rattle.std.proofs.Common.{rules, arith, ◌≡◌, ◌++◌, ◌∷◌, ◌-◌, ◌+◌, [], length}
 use Rattle.std.proofs.lemmas.List.{length-append}
-use Rattle.osm_o5c.specs.Steps.ObjectReading.{ref_at}
+use Rattle.osm_o5c.specs.ObjectReading.{ref_at}
 use Rattle.osm_reading.specs.declared.refusal.Refusal.TheVariants.{Fault}
 use Rattle.osm_o5c.proofs.LoopLemmas.{ref_shorter}
 use Rattle.osm_o5c.proofs.ManyLemmas.{loop_over, loop_wrong, loop_end, loop_more}

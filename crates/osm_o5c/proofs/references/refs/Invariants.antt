@@ -1,5 +1,5 @@
 use Rattle.std.proofs.Common.{◌≡◌, ◌-◌, ◌≤◌, length}
-use Rattle.osm_o5c.specs.Steps.ObjectReading.{many_at, ref_at}
+use Rattle.osm_o5c.specs.ObjectReading.{many_at, ref_at}
 use Rattle.osm_o5c.proofs.ManyLemmas.{behind}
 use Rattle.osm_o5c.proofs.references.refs.Given as goal
 

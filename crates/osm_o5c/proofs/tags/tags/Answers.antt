@@ -1,6 +1,6 @@
 use Rattle.std.proofs.Common.{rules, arith, ◌≡◌, ◌++◌, ◌∷◌, ◌-◌, ◌+◌, [], length}
 use Rattle.std.proofs.lemmas.List.{length-append}
-use Rattle.osm_o5c.specs.Steps.StringReading.{tag_at}
+use Rattle.osm_o5c.specs.StringReading.{tag_at}
 use Rattle.osm_o5c.proofs.LoopLemmas.{tag_shorter}
 use Rattle.osm_o5c.proofs.ManyLemmas.{loop_over, loop_wrong, loop_end, loop_more}
 use Rattle.osm_o5c.proofs.tags.tags.Goals as goal

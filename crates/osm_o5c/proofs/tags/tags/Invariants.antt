@@ -1,6 +1,6 @@
 use Rattle.std.proofs.Common.{◌≡◌, ◌-◌, ◌≤◌, length}
-use Rattle.osm_o5c.specs.Steps.ObjectReading.{many_at}
-use Rattle.osm_o5c.specs.Steps.StringReading.{tag_at}
+use Rattle.osm_o5c.specs.ObjectReading.{many_at}
+use Rattle.osm_o5c.specs.StringReading.{tag_at}
 use Rattle.osm_o5c.proofs.ManyLemmas.{behind}
 use Rattle.osm_o5c.proofs.tags.tags.Given as goal
 

@@ -1,5 +1,5 @@
 use Rattle.std.proofs.Common.{◌≡◌, rules, arith}
-use Rattle.osm_o5c.specs.Steps.FileReading.{position}
+use Rattle.osm_o5c.specs.Datasets.{position}
 use Rattle.osm_o5m_data.specs.declared.extents.Extent.TheVariants.{Whole}
 use Rattle.osm_o5m_data.specs.Steps.Extents.{extent_at}
 use Rattle.osm_o5m_data.proofs.ExtentLemmas.{step_passes}

@@ -1,6 +1,6 @@
 use Rattle.std.proofs.Common.{rules, arith, ◌≡◌, ◌++◌, ◌∷◌, ◌-◌, ◌+◌, [], length}
 use Rattle.std.proofs.lemmas.List.{length-append}
-use Rattle.osm_o5c.specs.Steps.ObjectReading.{member_at}
+use Rattle.osm_o5c.specs.ObjectReading.{member_at}
 use Rattle.osm_o5c.proofs.LoopLemmas.{member_shorter}
 use Rattle.osm_o5c.proofs.ManyLemmas.{loop_over, loop_wrong, loop_end, loop_more}
 use Rattle.osm_o5c.proofs.reader.Reader.members.Goals as goal

@@ -1,5 +1,5 @@
 use Rattle.std.proofs.Common.{◌≡◌, ◌-◌, ◌≤◌, length}
-use Rattle.osm_o5c.specs.Steps.ObjectReading.{many_at, member_at}
+use Rattle.osm_o5c.specs.ObjectReading.{many_at, member_at}
 use Rattle.osm_o5c.proofs.ManyLemmas.{behind}
 use Rattle.osm_o5c.proofs.reader.Reader.members.Given as goal
 

@@ -6,8 +6,8 @@ use Rattle.osm_model.specs.declared.kind.Kind.{Kind}
 use Rattle.osm_model.specs.declared.kind.Kind.TheVariants as kinds
 use Rattle.osm_reading.specs.Answers.{and_then}
 use Rattle.osm_o5c.specs.Written.{no_counters}
-use Rattle.osm_o5c.specs.Steps.NumberReading.{part_at}
-use Rattle.osm_o5c.specs.Steps.ObjectReading.{object_at}
+use Rattle.osm_o5c.specs.NumberReading.{part_at}
+use Rattle.osm_o5c.specs.ObjectReading.{object_at}
 use Rattle.osm_o5c.specs.File.{changes_with}
 use Rattle.osm_reading.specs.declared.refusal.Refusal.{Refusal}
 use Rattle.osm_reading.specs.declared.refusal.Refusal.TheVariants.{WantOfMemory, Fault}

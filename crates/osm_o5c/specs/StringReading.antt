@@ -5,7 +5,7 @@ use Rattle.std.specs.Str.{is_utf8}
 use Rattle.circular_buffer.specs.Buffer.{keep_last}
 use Rattle.osm_model.specs.declared.lists.Tag.{Tag}
 use Rattle.osm_reading.specs.Answers.{and_then, when}
-use Rattle.osm_o5c.specs.Steps.NumberReading.{unsigned_at, is_positive}
+use Rattle.osm_o5c.specs.NumberReading.{unsigned_at, is_positive}
 use Rattle.osm_o5c.specs.Entries.{size_of, max_size, max_entries}
 use Rattle.osm_o5c.specs.declared.strings.Entry.{Entry}
 use Rattle.osm_o5c.specs.declared.strings.Entry.TheVariants.{Pair, Single}

@@ -12,9 +12,9 @@ use Rattle.osm_model.specs.declared.lists.Member.{Member}
 use Rattle.osm_model.specs.declared.lists.Tag.{Tag}
 use Rattle.osm_reading.specs.Answers.{and_then, when}
 use Rattle.osm_o5c.specs.Written.{member_counter, with_member_counter}
-use Rattle.osm_o5c.specs.Steps.NumberReading.{signed_at, positive_at, positive_sum_at, id_at}
-use Rattle.osm_o5c.specs.Steps.NumberReading.{longitude_at, latitude_at, part_at, is_id}
-use Rattle.osm_o5c.specs.Steps.StringReading.{single_at, user_at, tag_at, text_of}
+use Rattle.osm_o5c.specs.NumberReading.{signed_at, positive_at, positive_sum_at, id_at}
+use Rattle.osm_o5c.specs.NumberReading.{longitude_at, latitude_at, part_at, is_id}
+use Rattle.osm_o5c.specs.StringReading.{single_at, user_at, tag_at, text_of}
 use Rattle.osm_o5c.specs.declared.reader.Reader.{Reader}
 use Rattle.osm_o5c.specs.declared.strings.Entry.{Entry}
 
