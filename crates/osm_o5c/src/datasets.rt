@@ -109,7 +109,7 @@ impl<'a> Reader<'a> {
     }
 
     /// Reads one dataset, adds its change to the others if it has one, and returns what follows it.
-    #[tactic(auto, unfolding(crate::specs::Datasets::dataset_at), unfolding(crate::specs::Datasets::step))]
+    #[tactic(auto, unfolding(crate::specs::Datasets::dataset_at, crate::specs::Datasets::step))]
     pub fn next<F: FileLimits>(
         &mut self,
         alloc: Global,
