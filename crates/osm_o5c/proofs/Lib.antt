@@ -24,3 +24,4 @@ pub mod WriteLemmas
 pub mod StandardFacts
 pub mod IndexLemmas
 pub mod LatestLemmas
+pub mod ForgetLemmas

@@ -160,8 +160,8 @@ impl Chains {
         head
     }
 
-    // The string at an index.
-    fn string(&self, index: usize) -> &[u8]
+    /// The string at an index.
+    pub fn string(&self, index: usize) -> &[u8]
         requires { index < length self.now.strings }
         ensures { result.now ≡ string_at self.now.strings index }
     {

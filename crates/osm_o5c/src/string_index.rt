@@ -4,7 +4,7 @@
 //! least number. A chain has at most 8 links, so that strings chosen to fall into one bucket are
 //! found as well: those for which there is no link are kept in a map.
 
-ghost use Rattle.std.specs.Prelude.{◌≡◌, [], ◌∷◌, ◌++◌, ◌<◌, ◌≤◌, length, IfOk, OnOk};
+ghost use Rattle.std.specs.Prelude.{◌≡◌, ◌-◌, [], ◌∷◌, ◌++◌, ◌<◌, ◌≤◌, drop, length, IfOk, OnOk};
 ghost use Rattle.osm_o5c.specs.Steps.Index.{IsLeast};
 ghost use Rattle.osm_o5c.specs.Written.{reference_of, entered_by};
 
@@ -54,6 +54,27 @@ impl StringIndex {
     {
         self.chains.clear();
         self.latest.clear();
+    }
+
+    /// How many strings there are.
+    pub fn len(&self) -> usize
+        ensures { result ≡ length self.now }
+    {
+        self.chains.len()
+    }
+
+    /// An index of the strings that can still be named, without the older ones.
+    pub fn of_recent(&self, alloc: Global, room: usize) -> Result<StringIndex, WantOfMemory>
+        requires { room ≤ 200000 }
+        ensures { IfOk result (λ i. i ≡ drop (length self.now - 15000) self.now) }
+    {
+        let mut recent = StringIndex::new(alloc, room)?;
+        let count = self.len();
+        for index in count.saturating_sub(MAX_ENTRIES)..count {
+            let text = HashedString::new(self.chains.string(index));
+            recent.enter(&text)?;
+        }
+        Ok(recent)
     }
 
     /// The least number that names the string, or `None` if no number does.

@@ -1,8 +1,10 @@
 //! What a writer keeps between datasets.
 
-ghost use Rattle.std.specs.Prelude.{◌≡◌, ◌≤◌, ◌*◌, [], Option, IfOk, vec_capacity};
+ghost use Rattle.std.specs.Prelude.{◌≡◌, ◌≤◌, ◌*◌, List, [], Option, IfOk, OnErr, OnOk, length};
+ghost use Rattle.std.specs.Prelude.{vec_capacity};
+ghost use Rattle.osm_model.specs.Change.{ChangeValue};
 ghost use Rattle.osm_model.specs.Limits.{max_file};
-ghost use Rattle.osm_o5c.specs.Written.{new_state};
+ghost use Rattle.osm_o5c.specs.Written.{new_state, objects_text};
 
 use crate::counters::Counters;
 use crate::string_index::StringIndex;
@@ -34,6 +36,10 @@ pub struct Buffers {
     pub content: Vec<u8>,
     pub part: Vec<u8>,
 }
+
+// With more strings than this, those that can't be named any more are forgotten: often enough that
+// they take little memory, and seldom enough that entering the others again takes little time.
+const MOST_STRINGS: usize = 65_536;
 
 impl State {
     /// The state after a reset, with room for `room` strings.
@@ -79,6 +85,24 @@ impl Writer {
             state: State::new(alloc, 2 * changes.min(MAX_CHANGES))?,
             kind: None,
         })
+    }
+
+    /// Forgets the strings that can't be named any more, if more than 65,536 are kept. What is
+    /// written from here on stays the same, so that a file of any length can be written. After a
+    /// refusal nothing has changed.
+    pub fn forget_old(&mut self, alloc: Global) -> Result<(), WantOfMemory>
+        ensures out { self.new.out ≡ self.old.out }
+        ensures same { (objects : List ChangeValue)
+            → objects_text self.new.kind self.new.state objects
+            ≡ objects_text self.old.kind self.old.state objects }
+        ensures few { OnOk result (length self.new.state.strings ≤ 65536) }
+        ensures unchanged { OnErr result (self.new ≡ self.old) }
+    {
+        if self.state.strings.len() <= MOST_STRINGS {
+            return Ok(());
+        }
+        self.state.strings = self.state.strings.of_recent(alloc, MOST_STRINGS)?;
+        Ok(())
     }
 }
 
