@@ -28,13 +28,13 @@ use Rattle.osm_folder.specs.declared.options.Layout.{Layout}
 use Rattle.osm_folder.specs.declared.options.Layout.TheVariants.{Json, Lines}
 use Rattle.osm_folder.specs.declared.progress.Progress.{Progress}
 use Rattle.osm_folder.specs.declared.progress.Progress.TheVariants.{Before, Part, Whole}
-use Rattle.osm_folder.proofs.InStepLemmas.{last_within}
+use Rattle.osm_folder.proofs.InStepLemmas.{last_within, one_saved}
 use Rattle.osm_round.specs.Putting.{PutsTaken, saved_after}
-use Rattle.osm_round.specs.Rounds.{BeforeStops, IsFirst, IsLess, IsPrepared, IsProgress, IsReport, IsUnpublished, IsWhole, PrepareStops, UpToStops}
-use Rattle.osm_round.specs.Rounds.{HasManyObjects, RoundStops, StartStops, StopsLooking, StopsTaking, max_round, outcome_of, progress_of, room_of}
+use Rattle.osm_round.specs.Rounds.{BeforeStops, IsFirst, IsLess, IsPrepared, IsProgress, IsReport, IsUnpublished, IsWhole, IsWithinRoom, PrepareStops}
+use Rattle.osm_round.specs.Rounds.{HasManyObjects, RoundStops, StartStops, StopsLooking, StopsTaking, UpToStops, max_round, outcome_of, progress_of, room_of}
 use Rattle.osm_round.specs.Starting.{BeginStops, BeginsOther, IsBegun, IsBegunAt, IsOtherSave, PutStops}
 use Rattle.osm_checked.specs.Checking.{IsTooLarge}
-use Rattle.osm_round.specs.Taking.{AdvancesAll, Fills, HasTaken, StopsOnTheWay, TakesUp}
+use Rattle.osm_round.specs.Taking.{AdvancesAll, Fills, HasTaken, LeavesRoom, StopsOnTheWay, TakesUp}
 use Rattle.osm_round.specs.declared.round.Ending.{Ending}
 use Rattle.osm_round.specs.declared.round.Ending.TheVariants as endings
 use Rattle.osm_round.specs.declared.round.Prepared.{Prepared}
@@ -149,6 +149,23 @@ module _ (known : Type 0) (options : FollowOptions) (dir save : List ℕ) (old n
       → PutsTaken options.filter save start p.taken old new → IsProgress known options dir save old new (progress_of p.report p.ending)
   done start p sure is put = done_by put.before p sure put.saved put.filter put.text put.spelled put.put
       (subst (λ (h : Head). IsPrepared known options dir old h p) (sym put.head) is)
+
+  -- the numbers between its saves are those that it took
+  pub within_room : (start : Head) (p : Prepared) → known → IsPrepared known options dir old start p
+      → PutsTaken options.filter save start p.taken old new → IsWithinRoom options dir save old new
+  within_room start p sure is put =
+      let number_is = is.taken.is.number in
+      record {
+        room = λ before reached saved now_saved.
+            let at : before.number ≡ start.number = ap (λ (v : Saved). v.number) (one_saved options.filter (old save) before put.before saved put.saved)
+            ∙ ap (λ (h : Head). h.number) put.head in
+            let put_saved : IsSaved options.filter (new save) (saved_after put.before p.taken) = rw put.put.there put.spelled in
+            let end : reached.number ≡ p.taken.head.number =
+            ap (λ (v : Saved). v.number) (one_saved options.filter (new save) reached (saved_after put.before p.taken) now_saved put_saved) in
+            let count_is : reached.number - before.number - 1 ≡ is.taken.count - 1 = omega (arith, at, end, number_is) in
+            subst (λ (n : ℕ). LeavesRoom (room_of options.layout) (bytes_of old dir n (reached.number - before.number - 1))) (sym at)
+            (subst (λ (n : ℕ). LeavesRoom (room_of options.layout) (bytes_of old dir start.number n)) (sym count_is) (is.room sure));
+      }
 
 -- ---- its report, whatever is known
 
@@ -403,6 +420,11 @@ module _ (known : Type 0) (options : FollowOptions) (dir save : List ℕ) (files
 
 -- ---- what is prepared
 
+-- there is room for some
+pub some_room : (layout : Layout) → LeavesRoom (room_of layout) 0
+some_room Lines = omega arith
+some_room Json = tt
+
 -- only the room of a report in lines is filled
 filled : (known : Type 0) (layout : Layout) (size : ℕ) → Fills known (room_of layout) size → (layout ≡ Lines) × (known → max_round ≤ size)
 filled known Lines size h = (refl, h)
@@ -411,13 +433,18 @@ filled known Json size h = absurd h
 module _ (known : Type 0) (options : FollowOptions) (dir : List ℕ) (files : Files) (start : Head) (top : StateValue)
     (top_is : known → IsThere (files (top_name_of dir)) (IsStateFile top.sequence top.time)) (most : top.sequence ≤ max_sequence)
     (last : ℕ) (last_is : last ≡ last_number options.limit start.number top.sequence) (taken : Taken) where
-  prepared_by : (e : Ending) (p : Prepared) → HasTaken known files dir options.filter start taken → taken.head.number ≤ last
+  -- what was taken leaves room, all but its last number
+  abbrev pub ButLast : Type 0
+  ButLast = known → LeavesRoom (room_of options.layout) (bytes_of files dir start.number (taken.head.number - start.number - 1))
+
+  prepared_by : (e : Ending) (p : Prepared) → HasTaken known files dir options.filter start taken → ButLast → taken.head.number ≤ last
       → p.taken ≡ taken → p.ending ≡ e
       → ((count : ℕ) → taken.head.number ≡ start.number + count → IsReport known options.layout files dir start top last count taken.head e p.report)
       → IsPrepared known options dir files start p
-  prepared_by e p has until is ending report =
+  prepared_by e p has room until is ending report =
       let own : HasTaken known files dir options.filter start p.taken = subst (HasTaken known files dir options.filter start) (sym is) has in
       let number : taken.head.number ≡ start.number + own.count = ap (λ (t : Taken). t.head.number) (sym is) ∙ own.is.number in
+      let but_last : taken.head.number - start.number - 1 ≡ own.count - 1 = omega (arith, number) in
       let of_taken : IsReport known options.layout files dir start top last own.count p.taken.head e p.report =
       subst (λ (t : Taken). IsReport known options.layout files dir start top last own.count t.head e p.report) (sym is) (report own.count number) in
       let of_ending : IsReport known options.layout files dir start top last own.count p.taken.head p.ending p.report =
@@ -429,24 +456,26 @@ module _ (known : Type 0) (options : FollowOptions) (dir : List ℕ) (files : Fi
         taken = own;
         until = subst (λ (n : ℕ). p.taken.head.number ≤ n) last_is (subst (λ (t : Taken). t.head.number ≤ last) (sym is) until);
         report = subst (λ (n : ℕ). IsReport known options.layout files dir start top n own.count p.taken.head p.ending p.report) last_is of_ending;
+        room = λ yes. subst (λ (n : ℕ). LeavesRoom (room_of options.layout) (bytes_of files dir start.number n)) but_last (room yes);
       }
 
-  pub prepared_whole : (p : Prepared) → TakesUp known files dir options.filter last start taken Reached → p.taken ≡ taken → p.ending ≡ endings.Whole
+  pub prepared_whole : (p : Prepared) → TakesUp known files dir options.filter last start taken Reached → ButLast → p.taken ≡ taken → p.ending ≡ endings.Whole
       → ((count : ℕ) → taken.head.number ≡ start.number + count
       → IsReport known options.layout files dir start top last count taken.head endings.Whole p.report)
       → IsPrepared known options dir files start p
-  prepared_whole p takes is whole report = prepared_by endings.Whole p takes.taken_are takes.until is whole report
+  prepared_whole p takes room is whole report = prepared_by endings.Whole p takes.taken_are room takes.until is whole report
 
-  pub prepared_part : (p : Prepared) → TakesUp known files dir options.filter last start taken Full → p.taken ≡ taken → start.number < taken.head.number
+  pub prepared_part : (p : Prepared) → TakesUp known files dir options.filter last start taken Full → ButLast → p.taken ≡ taken
+      → start.number < taken.head.number
       → Fills known (room_of options.layout) (bytes_of files dir start.number (taken.head.number - start.number))
       → ((count : ℕ) → taken.head.number ≡ start.number + count → (applied : ReportValue) × (p.ending ≡ endings.Part applied count)
       × (applied ≡ applied_report_of (ranges start.number count)) × (p.report ≡ report_of Lines None (outcome_of taken.head top start count [])))
       → IsPrepared known options dir files start p
-  prepared_part p takes is above fills reports =
+  prepared_part p takes room is above fills reports =
       let number = takes.taken_are.is.number in
       let r = reports takes.taken_are.count number in
       let f = filled known options.layout _ fills in
-      prepared_by (endings.Part r.0 takes.taken_are.count) p takes.taken_are takes.until is r.1
+      prepared_by (endings.Part r.0 takes.taken_are.count) p takes.taken_are room takes.until is r.1
       (λ count at. (let same : takes.taken_are.count ≡ count = omega (arith, at, number) in
       let sum : taken.head.number - start.number ≡ count = omega (arith, at) in (
         same,
@@ -459,12 +488,12 @@ module _ (known : Type 0) (options : FollowOptions) (dir : List ℕ) (files : Fi
             (subst (λ n. p.report ≡ report_of Lines None (outcome_of taken.head top start n [])) same r.3),
       )))
 
-  pub prepared_before : (fault : RunFault) (p : Prepared) → TakesUp known files dir options.filter last start taken (Faulty fault) → p.taken ≡ taken
+  pub prepared_before : (fault : RunFault) (p : Prepared) → TakesUp known files dir options.filter last start taken (Faulty fault) → ButLast → p.taken ≡ taken
       → p.ending ≡ endings.Before fault → start.number < taken.head.number
       → ((count : ℕ) → taken.head.number ≡ start.number + count
       → (said : List ℕ) × (p.report ≡ report_of options.layout (Some said) (outcome_of taken.head top start count [])))
       → IsPrepared known options dir files start p
-  prepared_before fault p takes is some above report = prepared_by (endings.Before fault) p takes.taken_are takes.until is some
+  prepared_before fault p takes room is some above report = prepared_by (endings.Before fault) p takes.taken_are room takes.until is some
       (λ count number. (let r = report count number in (r.0, omega (arith, above, number), takes.ends.0, takes.ends.1, takes.ends.2, r.1)))
 
   pub taking_prepare : (fault : RunFault) → StopsOnTheWay known files dir options.filter last start fault → UpToStops known options dir files start fault

@@ -2,7 +2,7 @@
 use Rattle.std.proofs.Common.{◌≡◌, ℕ, zero, suc, ◌+◌, ◌<◌, ◌≤◌, List, [], ◌++◌, length, length-append, Option, Some, None}
 use Rattle.std.specs.Prelude.{IsTrue}
 use Rattle.std.proofs.Common.{◌-◌, true, inl, inr, arith, refl, sym, ap, subst, ◌∙◌}
-use Rattle.std.specs.Prelude.{Result, Ok, Err, IfErr, IfOk, unwrap_or}
+use Rattle.std.specs.Prelude.{Result, Ok, Err, IfErr, IfOk, OnOk, unwrap_or}
 use Rattle.std.proofs.lemmas.Bool.{cases_lt}
 use Rattle.osm_model.specs.Change.{ChangeValue}
 use Rattle.osm_model.specs.Content.{last_of, over_at}
@@ -25,7 +25,7 @@ use Rattle.osm_state.specs.declared.paths.Suffix.TheVariants.{O5c, Opl, State}
 use Rattle.osm_folder.specs.declared.fault.FileName.TheVariants.{Sequence}
 use Rattle.osm_folder.specs.declared.fault.RunFault.{RunFault}
 use Rattle.osm_folder.specs.declared.fault.RunFault.TheVariants.{BadChange, BadState, Mismatch, TooLarge}
-use Rattle.osm_round.specs.Taking.{AdvancesAll, EndsAt, Fills, HasTaken, IsTaken, StopsOnTheWay, TakesNumber, TakesUp}
+use Rattle.osm_round.specs.Taking.{AdvancesAll, EndsAt, Fills, HasTaken, IsTaken, StopsOnTheWay, TakesNumber, TakesUp, counted}
 use Rattle.osm_round.specs.declared.taken.End.{End}
 use Rattle.osm_round.specs.declared.taken.End.TheVariants.{Faulty}
 use Rattle.osm_round.specs.declared.taken.Taken.{Taken}
@@ -112,17 +112,29 @@ takes_more known files dir f start number size old new next has (time, changes, 
       },
     )
 
+-- a count of one more number
+count_next : (total size more item sum : ℕ) → size ≡ counted total → more ≡ item → sum ≡ counted (size + more) → sum ≡ counted (total + item)
+count_next total size more item sum is same sum_is = omega (arith, is, same, sum_is)
+
 -- the bytes of one more number
-pub bytes_more : (files : Files) (dir : List ℕ) (from before size more sum : ℕ) → from ≤ before → size ≤ bytes_of files dir from (before - from)
-    → more ≡ size_of files dir (before + 1) → sum ≤ size + more → sum ≤ bytes_of files dir from (before + 1 - from)
-bytes_more files dir from before size more sum above fits is within =
+pub bytes_more : (files : Files) (dir : List ℕ) (from before size more sum : ℕ) → from ≤ before
+    → size ≡ counted (bytes_of files dir from (before - from)) → more ≡ size_of files dir (before + 1)
+    → sum ≡ counted (size + more) → sum ≡ counted (bytes_of files dir from (before + 1 - from))
+bytes_more files dir from before size more sum above is more_is sum_is =
     let count = before - from in
     let next : before + 1 - from ≡ suc count = omega (arith, above) in
     let at : from + count + 1 ≡ before + 1 = omega (arith, above) in
-    let last : more ≡ size_of files dir (from + count + 1) = subst (λ k. more ≡ size_of files dir k) (sym at) is in
-    let step : bytes_of files dir from (suc count) ≡ bytes_of files dir from count + size_of files dir (from + count + 1) = refl in
-    let fact : sum ≤ bytes_of files dir from (suc count) = omega (arith, fits, last, within, step) in
-    subst (λ k. sum ≤ bytes_of files dir from k) (sym next) fact
+    let last : more ≡ size_of files dir (from + count + 1) = subst (λ k. more ≡ size_of files dir k) (sym at) more_is in
+    subst (λ k. sum ≡ counted (bytes_of files dir from k)) (sym next)
+    (count_next (bytes_of files dir from count) size more (size_of files dir (from + count + 1)) sum is last sum_is)
+
+-- a count is no more than there is
+pub count_within : (total size : ℕ) → size ≡ counted total → size ≤ total
+count_within total size is = omega (arith, is)
+
+-- what doesn't fill the room by its count leaves some
+pub left_by_count : (room size total : ℕ) → room ≤ 18446744073709551615 → size < room → size ≡ counted total → total < room
+left_by_count room size total most left is = omega (arith, most, left, is)
 
 -- what fills the room fills it with more bytes too
 pub fills_more : (known : Type 0) (room : Option ℕ) (size more : ℕ) → Fills (IsTrue true) room size → (known → size ≤ more) → Fills known room more
@@ -211,6 +223,12 @@ end_taken known files dir f last start old new fault (Ok end) is content same ha
           (below, content_of known dir files (old.head.number + 1) content.0 fault stops content.1, stops);
     })
 end_taken known files dir f last start old new fault (Err e) is content same has below stops = tt
+
+-- where taking ends before a faulty file, what was taken is what it was
+pub same_at_end : (P : Taken → Type 0) (old new : Taken) (fault : RunFault) (r : Result End RunFault)
+    → IfOk r (λ end. (k : ℕ) × IsOfContent fault k) → ((k : ℕ) → IsOfContent fault k → new ≡ old) → P old → OnOk r (P new)
+same_at_end P old new fault (Ok end) content same holds = subst P (sym (same content.0 content.1)) holds
+same_at_end P old new fault (Err e) content same holds = tt
 
 -- another fault
 pub end_stops : (known : Type 0) (files : Files) (dir : List ℕ) (f : FilterValue) (last : ℕ) (start : Head) (taken : Taken) (fault : RunFault)

@@ -1,7 +1,7 @@
 -- What a run of the follower over a folder does, whatever the size of its save. `known` says that
 -- it is known what the files hold, and `options` are the filter, the limit and the layout of the
 -- run.
-use Rattle.std.specs.Prelude.{◌≡◌, ℕ, ◌+◌, ◌<◌, ◌≤◌, ◌⊎◌, ◌↔◌, List, [], length, Option}
+use Rattle.std.specs.Prelude.{◌≡◌, ℕ, ◌+◌, ◌-◌, ◌<◌, ◌≤◌, ◌⊎◌, ◌↔◌, List, [], length, Option}
 use Rattle.std.specs.Prelude.{Some, None}
 use Rattle.osm_model.specs.Limits.{max_sequence}
 use Rattle.osm_save.specs.Save.{SpellsSave}
@@ -12,7 +12,7 @@ use Rattle.osm_store.specs.Files.{Files, IsOver, Puts}
 use Rattle.osm_merge.specs.Checking.{IsNoSave}
 use Rattle.osm_folder.specs.Folder.{IsStateFile, IsThere, max_state}
 use Rattle.osm_folder.specs.Following.{AddsAll, ComesTo, GoesOn, HasSave, IsFollowing, IsReached}
-use Rattle.osm_folder.specs.Following.{IsReadable, IsStarted, IsTopBehind, MissingStops}
+use Rattle.osm_folder.specs.Following.{IsReadable, IsSaved, IsStarted, IsTopBehind, MissingStops}
 use Rattle.osm_folder.specs.Following.{NumberStops}
 use Rattle.osm_folder.specs.Following.{FindTopStops, bytes_of, end_of, last_number, limited}
 use Rattle.osm_folder.specs.Following.{lost_numbers, ranges, standing_of}
@@ -35,7 +35,7 @@ use Rattle.osm_folder.specs.declared.progress.Progress.TheVariants.{Before, Part
 use Rattle.osm_checked.specs.Checking.{IsSaveText}
 use Rattle.osm_round.specs.Starting.{IsOtherSave}
 use Rattle.osm_checked.specs.Checking.{IsTooLarge}
-use Rattle.osm_round.specs.Taking.{HasTaken}
+use Rattle.osm_round.specs.Taking.{HasTaken, LeavesRoom}
 use Rattle.osm_round.specs.declared.taken.Taken.{Taken}
 use Rattle.osm_round.specs.declared.round.Ending.{Ending}
 use Rattle.osm_round.specs.declared.round.Ending.TheVariants as endings
@@ -105,6 +105,15 @@ IsProgress known options dir save old new (Part report applied count) =
     known → IsFollowedPart options dir save old new report count
 IsProgress known options dir save old new (Before report fault) =
     known → IsFollowedBefore known options dir save old new fault report
+
+-- a run takes no number after those that fill its room: the change files of all that it took but
+-- the last leave room for more. It took the numbers after that of its old save, up to that of its
+-- new one
+pub record IsWithinRoom (options : FollowOptions) (dir save : List ℕ) (old new : Files) : Type 0
+  where
+    pub room : (start reached : Saved) → IsSaved options.filter (old save) start
+        → IsSaved options.filter (new save) reached → LeavesRoom (room_of options.layout)
+        (bytes_of old dir start.number (reached.number - start.number - 1))
 
 -- a run with that limit that took so many numbers may take more; none can have more than there are
 abbrev pub MayTakeMore : Option ℕ → ℕ → Type 0
@@ -248,6 +257,8 @@ pub record IsPrepared (known : Type 0) (options : FollowOptions) (dir : List ℕ
   pub report : IsReport known options.layout files dir start top
       (last_number options.limit start.number top.sequence) taken.count p.taken.head p.ending
       p.report
+  pub room : known → LeavesRoom (room_of options.layout)
+      (bytes_of files dir start.number (taken.count - 1))
 
 -- the top state is below the head
 pub record IsBelow (dir : List ℕ) (files : Files) (start : Head) : Type 0 where

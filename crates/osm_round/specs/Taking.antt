@@ -1,7 +1,7 @@
 -- What a run takes of a folder: the numbers after a head, one after the other, as net changes.
 -- `known` says that it is known what the files hold.
 use Rattle.std.specs.Prelude.{◌≡◌, ℕ, zero, suc, ◌+◌, ◌*◌, ◌<◌, ◌≤◌, List, length, Option, true}
-use Rattle.std.specs.Prelude.{None, Some}
+use Rattle.std.specs.Prelude.{None, Some, min}
 use Rattle.osm_model.specs.Change.{ChangeValue}
 use Rattle.osm_model.specs.Filter.{FilterValue}
 use Rattle.osm_model.specs.Limits.{max_changes}
@@ -80,6 +80,15 @@ TakesNumber known files dir number f old new None =
 abbrev pub Fills : Type 0 → Option ℕ → ℕ → Type 0
 Fills known None size = ⊥
 Fills known (Some room) size = known → room ≤ size
+
+-- so many bytes leave room for more; there always is some in a room without an end
+abbrev pub LeavesRoom : Option ℕ → ℕ → Type 0
+LeavesRoom None size = Unit {0}
+LeavesRoom (Some room) size = size < room
+
+-- what 64 bits count of so many bytes: their greatest number, if there are more
+abbrev pub counted : ℕ → ℕ
+counted total = min total 18446744073709551615
 
 -- no file of the next number is faulty
 abbrev pub IsRight : End → Type 0

@@ -25,8 +25,8 @@ ghost use Rattle.osm_folder.specs.declared.options.Layout.TheVariants.{Lines};
 ghost use Rattle.osm_round.specs.Over.{FollowsOver, follow_calls};
 ghost use Rattle.osm_round.specs.Rounds.{BeforeStops, IsFirst, IsLess, IsPrepared, IsProgress};
 ghost use Rattle.osm_round.specs.Rounds.{IsReport};
-ghost use Rattle.osm_round.specs.Rounds.{IsUnpublished, IsWhole, PrepareStops, UpToStops};
-ghost use Rattle.osm_round.specs.Rounds.{RoundStops, outcome_of, progress_of, room_of};
+ghost use Rattle.osm_round.specs.Rounds.{IsUnpublished, IsWhole, IsWithinRoom, PrepareStops};
+ghost use Rattle.osm_round.specs.Rounds.{RoundStops, UpToStops, outcome_of, progress_of, room_of};
 ghost use Rattle.osm_round.specs.Starting.{WholeStops};
 
 use crate::put::put;
@@ -91,6 +91,8 @@ pub fn follow_round<S: Store>(
 ) -> Result<Progress, RunFault>
     ensures done { IfOk result (IsProgress (IsKnown (S.state store.old)) options.now
         dir.now save.now (S.state store.old).files (S.state store.new).files) }
+    ensures room { OnOk result (IsKnown (S.state store.old) → IsWithinRoom options.now
+        dir.now save.now (S.state store.old).files (S.state store.new).files) }
     ensures report { IfOk result (IsProgressReport options.now.layout) }
     ensures less { IfOk result (IsLess options.now.limit) }
     ensures stops { IfErr result (RoundStops (IsKnown (S.state store.old)) options.now
@@ -116,6 +118,8 @@ fn follow_whole<S: Store>(
     options: &FollowOptions,
 ) -> Result<Progress, RunFault>
     ensures done { IfOk result (IsProgress (IsKnown (S.state store.old)) options.now
+        dir.now save.now (S.state store.old).files (S.state store.new).files) }
+    ensures room { OnOk result (IsKnown (S.state store.old) → IsWithinRoom options.now
         dir.now save.now (S.state store.old).files (S.state store.new).files) }
     ensures report { IfOk result (IsProgressReport options.now.layout) }
     ensures less { IfOk result (IsLess options.now.limit) }
@@ -172,6 +176,9 @@ fn follow<S: Store>(
 ) -> Result<Option<Progress>, RunFault>
     ensures done { IfOk result (λ o. IfSome o (IsProgress (IsKnown (S.state store.old)) options.now
         dir.now save.now (S.state store.old).files (S.state store.new).files)) }
+    ensures room { IfOk result (λ o. IfSome o (λ progress. IsKnown (S.state store.old)
+        → IsWithinRoom options.now dir.now save.now
+        (S.state store.old).files (S.state store.new).files)) }
     ensures report { IfOk result (λ o. IfSome o (IsProgressReport options.now.layout)) }
     ensures less { IfOk result (λ o. IfSome o (IsLess options.now.limit)) }
     ensures none { IfOk result (λ o. o ≡ None

@@ -1,7 +1,7 @@
 //! What a run takes of a folder: the numbers after a head, as net changes.
 
 ghost use Rattle.std.specs.Prelude.{◌≡◌, ℕ, ◌+◌, ◌-◌, ◌*◌, ◌<◌, ◌≤◌, IfErr, IfOk, IsTrue};
-ghost use Rattle.std.specs.Prelude.{min, true};
+ghost use Rattle.std.specs.Prelude.{OnOk, false, min, true};
 ghost use Rattle.osm_model.specs.Limits.{max_changes, max_sequence};
 ghost use Rattle.osm_store.specs.Files.{HasFewer, SpendsAtMost};
 ghost use Rattle.osm_store.specs.Frames.{IsKnown};
@@ -11,7 +11,7 @@ ghost use Rattle.osm_folder.specs.Progress.{IsOfContent};
 ghost use Rattle.osm_blocks.specs.Frames.{ReadsOften};
 ghost use Rattle.osm_folder.specs.Runs.{IsDeviceFault, ReadsUpTo};
 ghost use Rattle.osm_round.specs.Taking.{Fills, HasTaken, IsRight, TakesNumber, TakesUp};
-ghost use Rattle.osm_round.specs.Taking.{StopsOnTheWay};
+ghost use Rattle.osm_round.specs.Taking.{LeavesRoom, StopsOnTheWay, counted};
 ghost use Rattle.osm_round.specs.declared.taken.End.TheVariants.{Full};
 
 use osm_folder::fault::RunFault;
@@ -67,6 +67,7 @@ pub(crate) fn take_numbers<S: Store>(
     requires from { taken.old.head.number ≤ last }
     requires most { last ≤ max_sequence }
     requires none { taken.old.net ≡ no_net }
+    requires some { LeavesRoom room 0 }
     ensures taken { IfOk result (TakesUp (IsKnown (S.state store.old)) (S.state store.old).files
         dir.now filter.now last taken.old.head taken.new) }
     ensures stops { IfErr result (StopsOnTheWay (IsKnown (S.state store.old))
@@ -76,6 +77,9 @@ pub(crate) fn take_numbers<S: Store>(
         → (taken.old.head.number < taken.new.head.number)
         × Fills (IsKnown (S.state store.old)) room (bytes_of (S.state store.old).files dir.now
         taken.old.head.number (taken.new.head.number - taken.old.head.number))) }
+    ensures room { OnOk result (IsKnown (S.state store.old) → LeavesRoom room
+        (bytes_of (S.state store.old).files dir.now taken.old.head.number
+        (taken.new.head.number - taken.old.head.number - 1))) }
     ensures spent { IfOk result (λ end. IsRight end → SpendsAtMost
         (3 * (min last (taken.new.head.number + 1) - taken.old.head.number))
         (S.state store.old).left (S.state store.new).left) }
@@ -100,13 +104,15 @@ pub(crate) fn take_numbers<S: Store>(
 
 // The sum, or the greatest number that 64 bits count.
 fn add(size: u64, more: u64) -> u64
-    ensures { result ≤ size + more }
+    ensures { result ≡ counted (size + more) }
 {
     size.saturating_add(more)
 }
 
+// Whether so many bytes fill the room, also if they are more than 64 bits count.
 fn is_full(room: Option<u64>, size: u64) -> bool
-    ensures { IsTrue result → Fills (IsTrue true) room size }
+    ensures full { IsTrue result → Fills (IsTrue true) room size }
+    ensures left { result ≡ false → (total : ℕ) → size ≡ counted total → LeavesRoom room total }
 {
     match room {
         Some(room) => room <= size,

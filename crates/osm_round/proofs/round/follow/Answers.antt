@@ -8,7 +8,7 @@ use Rattle.osm_round.proofs.CallLemmas.{begun_number}
 use Rattle.osm_round.specs.Putting.{PutsTaken}
 use Rattle.osm_round.specs.Rounds.{IsPrepared, PrepareStops}
 use Rattle.osm_round.specs.Starting.{PutStops}
-use Rattle.osm_round.proofs.RoundLemmas.{begin_stops, done, done_if, less, prepare_stops, put_first, put_stops, reports, unpublished}
+use Rattle.osm_round.proofs.RoundLemmas.{begin_stops, done, done_if, less, prepare_stops, put_first, put_stops, reports, unpublished, within_room}
 use Rattle.osm_round.proofs.round.follow.Goals as goal
 
 pub returns-in-Err-clause-stops : goal.returns-in-Err-clause-stops
@@ -37,6 +37,19 @@ returns-in-Ok-put-clause-done g c =
     rw c.progress_of.ensures (done_if known c.args.options.now c.args.dir.now c.args.save.now files (g.S.Store.state c.put.new.store).files _
     (λ sure. done known c.args.options.now c.args.dir.now c.args.save.now files (g.S.Store.state c.put.new.store).files c.in-Ok.start.head
     c.in-Ok-Some.prepared sure is (put sure)))
+
+pub returns-in-Ok-put-clause-room : goal.returns-in-Ok-put-clause-room
+returns-in-Ok-put-clause-room g c = λ sure.
+    let known = IsKnown (g.S.Store.state c.args.store.now) in
+    let files = (g.S.Store.state c.args.store.now).files in
+    let is : IsPrepared known c.args.options.now c.args.dir.now files c.in-Ok.start.head c.in-Ok-Some.prepared =
+    rw (c.in-Ok.ensures.frame.known, c.in-Ok.ensures.frame.files) at (rw c.in-Ok-Some.field-0-is at c.in-Ok-Some.ensures.prepared) in
+    let put : known → PutsTaken c.args.options.now.filter c.args.save.now c.in-Ok.start.head c.in-Ok-Some.prepared.taken files
+    (g.S.Store.state c.put.new.store).files =
+    rw (c.in-Ok-Some.ensures.frame.known, c.in-Ok-Some.ensures.frame.files, c.in-Ok.ensures.frame.known, c.in-Ok.ensures.frame.files)
+    at c.in-Ok-put.ensures.put in
+    within_room known c.args.options.now c.args.dir.now c.args.save.now files (g.S.Store.state c.put.new.store).files c.in-Ok.start.head
+    c.in-Ok-Some.prepared sure is (put sure)
 
 pub returns-in-Ok-put-clause-report : goal.returns-in-Ok-put-clause-report
 returns-in-Ok-put-clause-report g c =

@@ -9,8 +9,12 @@ use Rattle.osm_round.proofs.CallLemmas.{never_faulty, way_is}
 use Rattle.osm_round.specs.Taking.{StopsOnTheWay, TakesUp}
 use Rattle.osm_round.specs.declared.taken.End.TheVariants.{Faulty, Full, Reached}
 use Rattle.osm_round.proofs.FrameLemmas.{ok_four, ok_three, ok_two, only_memory}
-use Rattle.osm_round.proofs.RoundLemmas.{prepared_before, prepared_part, prepared_whole, taking_prepare}
+use Rattle.osm_round.proofs.RoundLemmas.{prepared_before, prepared_part, prepared_whole, some_room, taking_prepare}
 use Rattle.osm_round.proofs.round.prepare_up_to.Goals as goal
+
+-- there is room for some
+pub take_numbers-requires-clause-some : goal.take_numbers-requires-clause-some
+take_numbers-requires-clause-some g c = rw c.room_of-room.ensures (some_room c.args.options.now.layout)
 
 pub returns-in_err-take_numbers-clause-stops : goal.returns-in_err-take_numbers-clause-stops
 returns-in_err-take_numbers-clause-stops g c =
@@ -32,11 +36,12 @@ returns-in-Reached-clause-prepared g c =
     rw (c.sequence-2.ensures.sequence) at c.last_number-last.ensures in
     let takes : TakesUp known files c.args.dir.now c.args.options.now.filter c.last_number-last.result c.args.start c.take_numbers.new.taken Reached =
     rw (c.after-taken.ensures, c.in-Reached.is) at c.in_ok-take_numbers.ensures.taken in
+    let room = rw (c.after-taken.ensures, c.room_of-room.ensures) at c.in_ok-take_numbers.ensures.room in
     ok_three _ _ _ _ c.reached.result c.reached.ensures.taken c.reached.ensures.whole
     (rw (c.take_numbers.ensures.frame.known, c.take_numbers.ensures.frame.files)
     at c.reached.ensures.report)
     (λ p taken whole report. prepared_whole known c.args.options.now c.args.dir.now files c.args.start c.args.top.now c.requires.top
-    c.sequence.ensures.limits.sequence c.last_number-last.result last_is c.take_numbers.new.taken p takes taken whole report)
+    c.sequence.ensures.limits.sequence c.last_number-last.result last_is c.take_numbers.new.taken p takes room taken whole report)
 
 pub returns-in-Full-clause-prepared : goal.returns-in-Full-clause-prepared
 returns-in-Full-clause-prepared g c =
@@ -47,9 +52,10 @@ returns-in-Full-clause-prepared g c =
     let takes : TakesUp known files c.args.dir.now c.args.options.now.filter c.last_number-last.result c.args.start c.take_numbers.new.taken Full =
     rw (c.after-taken.ensures, c.in-Full.is) at c.in_ok-take_numbers.ensures.taken in
     let full = (rw (c.after-taken.ensures, c.room_of-room.ensures) at c.in_ok-take_numbers.ensures.full) c.in-Full.is in
+    let room = rw (c.after-taken.ensures, c.room_of-room.ensures) at c.in_ok-take_numbers.ensures.room in
     ok_two _ _ _ c.part.result c.part.ensures.taken c.part.ensures.part
     (λ p taken reports. prepared_part known c.args.options.now c.args.dir.now files c.args.start c.args.top.now c.requires.top
-    c.sequence.ensures.limits.sequence c.last_number-last.result last_is c.take_numbers.new.taken p takes taken full.0 full.1 reports)
+    c.sequence.ensures.limits.sequence c.last_number-last.result last_is c.take_numbers.new.taken p takes room taken full.0 full.1 reports)
 
 pub returns-in-Faulty-clause-prepared : goal.returns-in-Faulty-clause-prepared
 returns-in-Faulty-clause-prepared g c =
@@ -60,10 +66,11 @@ returns-in-Faulty-clause-prepared g c =
     let takes : TakesUp known files c.args.dir.now c.args.options.now.filter c.last_number-last.result c.args.start c.take_numbers.new.taken
     (Faulty c.in-Faulty.fault) =
     rw (c.after-taken.ensures, c.in-Faulty.is) at c.in_ok-take_numbers.ensures.taken in
+    let room = rw (c.after-taken.ensures, c.room_of-room.ensures) at c.in_ok-take_numbers.ensures.room in
     ok_four _ _ _ _ _ c.before-in-Faulty.result c.before-in-Faulty.ensures.taken c.before-in-Faulty.ensures.fault c.before-in-Faulty.ensures.some
     c.before-in-Faulty.ensures.report
     (λ p taken fault some report. prepared_before known c.args.options.now c.args.dir.now files c.args.start c.args.top.now c.requires.top
-    c.sequence.ensures.limits.sequence c.last_number-last.result last_is c.take_numbers.new.taken c.in-Faulty.fault p takes taken fault some report)
+    c.sequence.ensures.limits.sequence c.last_number-last.result last_is c.take_numbers.new.taken c.in-Faulty.fault p takes room taken fault some report)
 
 pub returns-in_err-take_numbers-clause-calls : goal.returns-in_err-take_numbers-clause-calls
 returns-in_err-take_numbers-clause-calls g c = λ yes p folder.

@@ -1,4 +1,4 @@
-use Rattle.std.proofs.Common.{◌≡◌, ◌+◌, ◌-◌, ◌*◌, ◌<◌, ap, arith, refl, subst, sym}
+use Rattle.std.proofs.Common.{◌≡◌, ◌∙◌, ℕ, ◌+◌, ◌-◌, ◌*◌, ◌<◌, ap, arith, refl, subst, sym}
 use Rattle.std.specs.Prelude.{Bool, IsTrue, min}
 use Rattle.std.proofs.lemmas.Grind.{common_steps}
 use Rattle.osm_blocks.proofs.OftenLemmas.{often_both, often_none, often_then}
@@ -8,19 +8,22 @@ use Rattle.osm_folder.proofs.ResultLemmas.{err_map}
 use Rattle.osm_round.specs.declared.taken.Taken.{Taken}
 use Rattle.osm_folder.specs.Runs.{IsDeviceFault}
 use Rattle.osm_folder.specs.Following.{bytes_of}
-use Rattle.osm_round.specs.Taking.{Fills, TakesNumber}
+use Rattle.osm_round.specs.Taking.{Fills, LeavesRoom, TakesNumber}
 use Rattle.osm_round.proofs.FrameLemmas.{often_of, often_told}
-use Rattle.osm_round.proofs.TakenLemmas.{bytes_more, end_stops, end_taken, fills_more, room_for_more, takes_more, takes_nothing}
+use Rattle.osm_round.proofs.TakenLemmas.{bytes_more, count_within, end_stops, end_taken, fills_more, room_for_more, same_at_end, takes_more, takes_nothing}
+use Rattle.osm_round.proofs.taken.take_numbers.Goals.{else-is_full-via-then-is_full+else-before-last, else-is_full-via-else-is_full}
 use Rattle.osm_round.proofs.taken.take_numbers.Goals as goal
 
 pub loop-before-init : goal.loop-before-init
-loop-before-init g c = record {
+loop-before-init g c = let none : c.args.taken.now.head.number - c.args.taken.now.head.number ≡ 0 = omega arith in record {
   at = refl;
   from = omega arith;
   until = c.requires.from;
   frame = often_none IsDeviceFault (g.S.Store.state c.args.store.now) _;
   most = (reads_none IsDeviceFault (3 * (c.args.taken.now.head.number - c.args.taken.now.head.number)) (g.S.Store.state c.args.store.now) _).at_most;
-  bytes = λ yes. omega arith;
+  bytes = λ yes. rw none refl;
+  left = λ yes below. rw none c.requires.some;
+  but_last = λ yes. rw none c.requires.some;
   taken = takes_nothing (IsKnown (g.S.Store.state c.args.store.now)) (g.S.Store.state c.args.store.now).files c.args.dir.now c.args.filter.now
       c.args.taken.now c.requires.none;
 }
@@ -72,6 +75,7 @@ loop-before-preserved g c =
     c.take_number.new.taken t) c.in-Ok-Some.field-0-is (rw (i.frame.known, i.frame.files) at c.in-Ok-Some.ensures.taken) in
     let more = takes_more (IsKnown a) a.files c.args.dir.now c.args.filter.now c.args.taken.now.head (c.loop-before.before + 1) c.in-Ok-Some.more
     c.loop-before.taken c.take_number.new.taken (omega (arith, at)) i.taken took in
+    let under : c.loop-before.before < c.args.last = grind (arith, common_steps) in
     record {
       at = more.0;
       from = omega (arith, from);
@@ -84,6 +88,15 @@ loop-before-preserved g c =
       };
       bytes = λ yes. bytes_more a.files c.args.dir.now c.args.taken.now.head.number c.loop-before.before c.loop-before.size c.in-Ok-Some.more
           c.add-size.result from (i.bytes yes) (took.6 yes) c.add-size.ensures;
+      left = λ yes below. elim c.else-is_full.branch [
+        | else-is_full-via-then-is_full+else-before-last w ↦ (let past = w.if-before-last.false in absurd (omega (arith, below, past)))
+        | else-is_full-via-else-is_full w ↦ c.is_full.ensures.left w.if-is_full.false
+            (bytes_of a.files c.args.dir.now c.args.taken.now.head.number (c.loop-before.before + 1 - c.args.taken.now.head.number))
+            (bytes_more a.files c.args.dir.now c.args.taken.now.head.number c.loop-before.before c.loop-before.size c.in-Ok-Some.more c.add-size.result from
+            (i.bytes yes) (took.6 yes) c.add-size.ensures)
+      ];
+      but_last = λ yes. subst (λ n. LeavesRoom c.args.room (bytes_of a.files c.args.dir.now c.args.taken.now.head.number n)) (omega (arith, from))
+          (i.left yes under);
       taken = more.1;
     }
 
@@ -149,7 +162,52 @@ returns-then-before-last-clause-full g c = λ end.
     let below = c.if-before-last.true in (
       omega (arith, number, from),
       subst (λ n. Fills (IsKnown a) c.args.room (bytes_of a.files c.args.dir.now c.args.taken.now.head.number (n - c.args.taken.now.head.number))) (sym number)
-          (fills_more (IsKnown a) c.args.room c.add-size.result _ (c.is_full.ensures c.if-is_full.true)
-          (λ yes. bytes_more a.files c.args.dir.now c.args.taken.now.head.number c.loop-before.before c.loop-before.size c.in-Ok-Some.more
-          c.add-size.result from (i.bytes yes) (took.6 yes) c.add-size.ensures)),
+          (fills_more (IsKnown a) c.args.room c.add-size.result _ (c.is_full.ensures.full c.if-is_full.true)
+          (λ yes. count_within _ c.add-size.result (bytes_more a.files c.args.dir.now c.args.taken.now.head.number c.loop-before.before c.loop-before.size
+          c.in-Ok-Some.more c.add-size.result from (i.bytes yes) (took.6 yes) c.add-size.ensures))),
     )
+
+-- ---- all but the last number leave room
+
+pub returns-in-Err-clause-room : goal.returns-in-Err-clause-room
+returns-in-Err-clause-room g c =
+    let i = c.loop-before.invariant in
+    let a = g.S.Store.state c.args.store.now in
+    let from = c.args.taken.now.head.number in
+    let number : c.loop-before.before - from - 1 ≡ c.loop-before.taken.head.number - from - 1 = ap (λ (n : ℕ). n - from - 1) (sym i.at) in
+    same_at_end (λ (t : Taken). IsKnown a → LeavesRoom c.args.room (bytes_of a.files c.args.dir.now from (t.head.number - from - 1)))
+    c.loop-before.taken c.take_number.new.taken c.in-Err.fault c.end_at.result c.end_at.ensures.content c.in-Err.ensures.unchanged
+    (λ yes. subst (λ n. LeavesRoom c.args.room (bytes_of a.files c.args.dir.now from n)) number (i.but_last yes))
+
+pub returns-in-Ok-None-clause-room : goal.returns-in-Ok-None-clause-room
+returns-in-Ok-None-clause-room g c = λ yes.
+    let i = c.loop-before.invariant in
+    let a = g.S.Store.state c.args.store.now in
+    let from = c.args.taken.now.head.number in
+    let took = subst (λ t. TakesNumber (IsKnown a) a.files c.args.dir.now (c.loop-before.before + 1) c.args.filter.now c.loop-before.taken
+    c.take_number.new.taken t) c.in-Ok-None.field-0-is (rw (i.frame.known, i.frame.files) at c.in-Ok-None.ensures.taken) in
+    let same : c.take_number.new.taken.head.number ≡ c.loop-before.before = ap (λ (t : Taken). t.head.number) took.1 ∙ i.at in
+    subst (λ n. LeavesRoom c.args.room (bytes_of a.files c.args.dir.now from (n - from - 1))) (sym same) (i.but_last yes)
+
+pub returns-then-before-last-clause-room : goal.returns-then-before-last-clause-room
+returns-then-before-last-clause-room g c = λ yes.
+    let i = c.loop-before.invariant in
+    let at = i.at in
+    let above = i.from in
+    let a = g.S.Store.state c.args.store.now in
+    let from = c.args.taken.now.head.number in
+    let took = subst (λ t. TakesNumber (IsKnown a) a.files c.args.dir.now (c.loop-before.before + 1) c.args.filter.now c.loop-before.taken
+    c.take_number.new.taken t) c.in-Ok-Some.field-0-is (rw (i.frame.known, i.frame.files) at c.in-Ok-Some.ensures.taken) in
+    let more = takes_more (IsKnown a) a.files c.args.dir.now c.args.filter.now c.args.taken.now.head (c.loop-before.before + 1) c.in-Ok-Some.more
+    c.loop-before.taken c.take_number.new.taken (omega (arith, at)) i.taken took in
+    let number = more.0 in
+    let below = c.if-before-last.true in
+    let count : c.loop-before.before - from ≡ c.take_number.new.taken.head.number - from - 1 = omega (arith, number, above) in
+    subst (λ n. LeavesRoom c.args.room (bytes_of a.files c.args.dir.now from n)) count (i.left yes (omega (arith, below)))
+
+pub returns-clause-room : goal.returns-clause-room
+returns-clause-room g c = λ yes.
+    let i = c.loop-before.invariant in
+    let a = g.S.Store.state c.args.store.now in
+    let from = c.args.taken.now.head.number in
+    subst (λ n. LeavesRoom c.args.room (bytes_of a.files c.args.dir.now from (n - from - 1))) (sym i.at) (i.but_last yes)

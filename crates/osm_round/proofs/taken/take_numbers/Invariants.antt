@@ -1,9 +1,9 @@
-use Rattle.std.proofs.Common.{◌≡◌, ◌≤◌, ◌-◌, ◌*◌, Ok}
+use Rattle.std.proofs.Common.{◌≡◌, ◌<◌, ◌≤◌, ◌-◌, ◌*◌, Ok}
 use Rattle.osm_store.specs.Frames.{IsKnown, MakesAtMost}
 use Rattle.osm_blocks.specs.Frames.{ReadsOften}
 use Rattle.osm_folder.specs.Following.{bytes_of}
 use Rattle.osm_folder.specs.Runs.{IsDeviceFault}
-use Rattle.osm_round.specs.Taking.{HasTaken}
+use Rattle.osm_round.specs.Taking.{HasTaken, LeavesRoom, counted}
 use Rattle.osm_round.proofs.taken.take_numbers.Given as goal
 
 abbrev pub invariant-loop-before : goal.invariant-loop-before
@@ -14,6 +14,10 @@ invariant-loop-before g l = record {
   frame : ReadsOften IsDeviceFault (g.S.Store.state l.fn.store) (g.S.Store.state l.store) (Ok l.before);
   most : MakesAtMost IsDeviceFault (3 * (l.before - l.fn.taken.head.number)) (g.S.Store.state l.fn.store) (g.S.Store.state l.store) (Ok l.before);
   bytes : IsKnown (g.S.Store.state l.fn.store)
-      → l.size ≤ bytes_of (g.S.Store.state l.fn.store).files l.fn.dir l.fn.taken.head.number (l.before - l.fn.taken.head.number);
+      → l.size ≡ counted (bytes_of (g.S.Store.state l.fn.store).files l.fn.dir l.fn.taken.head.number (l.before - l.fn.taken.head.number));
+  left : IsKnown (g.S.Store.state l.fn.store) → l.before < l.fn.last
+      → LeavesRoom l.fn.room (bytes_of (g.S.Store.state l.fn.store).files l.fn.dir l.fn.taken.head.number (l.before - l.fn.taken.head.number));
+  but_last : IsKnown (g.S.Store.state l.fn.store)
+      → LeavesRoom l.fn.room (bytes_of (g.S.Store.state l.fn.store).files l.fn.dir l.fn.taken.head.number (l.before - l.fn.taken.head.number - 1));
   taken : HasTaken (IsKnown (g.S.Store.state l.fn.store)) (g.S.Store.state l.fn.store).files l.fn.dir l.fn.filter l.fn.taken.head l.taken;
 }
