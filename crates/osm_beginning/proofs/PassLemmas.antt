@@ -5,7 +5,6 @@ use Rattle.std.proofs.Math.Seq.{take-suc}
 use Rattle.std.specs.Prelude.{Bool, IsTrue, Ok, Err, min}
 use Rattle.std.proofs.lemmas.List.{map-append}
 use Rattle.std.proofs.lemmas.List.Elements.{filter-append}
-use Rattle.std.proofs.lemmas.Option.{same_Some}
 use Rattle.osm_model.specs.Change.{ChangeValue}
 use Rattle.osm_model.specs.Filter.{FilterValue, keeps}
 use Rattle.osm_opl.specs.Written.{line_text}
@@ -23,14 +22,15 @@ use Rattle.osm_blocks.proofs.OftenLemmas.{often_then}
 use Rattle.osm_merge.specs.Calls.{bytes_in}
 use Rattle.osm_merge.specs.Laying.{Writes}
 use Rattle.osm_merge.proofs.FrameLemmas.{has_still, often_as, writes_after, writes_both}
+use Rattle.osm_data.specs.Counting.{IsCountOf, most_counted}
 use Rattle.osm_data.specs.Reading.{NextStops, OpenStops}
 use Rattle.osm_data.specs.declared.fault.DataFault.{DataFault}
 use Rattle.osm_data.specs.declared.fault.DataFault.TheVariants as faults
 use Rattle.osm_follow.specs.Begin.{kept_objects}
 use Rattle.osm_folder.specs.declared.fault.RunFault.{RunFault}
 use Rattle.osm_beginning.specs.Beginning.{most_kept}
-use Rattle.osm_beginning.specs.Steps.Passes.{AreTooMany, AreWritten, BaseStops, IsCountOf, IsKept, IsReading, IsReplaced, IsStaged, base_fault_of}
-use Rattle.osm_beginning.specs.Steps.Passes.{begun_text, first_text, last_text, most_counted}
+use Rattle.osm_beginning.specs.Steps.Passes.{AreTooMany, AreWritten, BaseStops, IsKept, IsReading, IsReplaced, IsStaged, base_fault_of}
+use Rattle.osm_beginning.specs.Steps.Passes.{begun_text, first_text, last_text}
 
 -- ---- faults of a data file as those of a run
 
@@ -307,12 +307,3 @@ many n most low count is over = omega (arith, is, over)
 
 pub many_counted : (count : ℕ) (kept : List ChangeValue) → IsCountOf count kept → most_kept < count → AreTooMany kept
 many_counted count kept is over = many (length kept) most_counted most_kept count is over
-
--- two passes over the same bytes count the same
-pub one_count : (spells : List ℕ → List ChangeValue → Type 0) (f : FilterValue) (told : Option (List ℕ)) (count counted : ℕ)
-    → ((bytes : List ℕ) (a b : List ChangeValue) → spells bytes a → spells bytes b → a ≡ b)
-    → IsKept spells f told (IsCountOf count) → IsKept spells f told (IsCountOf counted) → counted ≡ count
-one_count spells f told count counted one_list k l =
-    let bytes : k.bytes ≡ l.bytes = same_Some k.bytes l.bytes (sym k.there ∙ l.there) in
-    let objects : k.objects ≡ l.objects = one_list l.bytes k.objects l.objects (subst (λ (b : List ℕ). spells b k.objects) bytes k.spelled) l.spelled in
-    l.holds_of ∙ (ap (λ (os : List ChangeValue). min (length (kept_objects f os)) most_counted) (sym objects) ∙ sym k.holds_of)

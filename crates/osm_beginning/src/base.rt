@@ -8,6 +8,8 @@ ghost use Rattle.osm_store.specs.Frames.{IsKnown, MakesAtMost};
 ghost use Rattle.osm_blocks.specs.Calls.{Advances};
 ghost use Rattle.osm_blocks.specs.Frames.{ReadsOften};
 ghost use Rattle.osm_blocks.specs.Places.{HasFile};
+ghost use Rattle.osm_merge.specs.Calls.{bytes_in};
+ghost use Rattle.osm_data.specs.Counting.{IsCountOf, chosen_objects};
 ghost use Rattle.osm_data.specs.Reading as reading;
 ghost use Rattle.osm_data.specs.Reading.{EndsOrGoesOn, read_calls};
 ghost use Rattle.osm_folder.specs.Runs.{IsDeviceFault};
@@ -17,6 +19,7 @@ use osm_data::data_reader::DataReader;
 use osm_data::fault::DataFault;
 use osm_folder::fault::{FileName, RunFault};
 use osm_model::change::Change;
+use osm_model::filter::Filter;
 use osm_store::store::Store;
 use std::alloc::Global;
 
@@ -78,6 +81,31 @@ pub(crate) fn next_objects<S: Store, D: DataReader>(
 {
     match reader.next(alloc, store, base) {
         Ok(next) => Ok(next),
+        Err(fault) => Err(base_fault(fault)),
+    }
+}
+
+/// Counts the objects of a data file whose kinds the filter chooses, without reading them.
+pub(crate) fn count_chosen<S: Store, D: DataReader>(
+    alloc: Global,
+    store: &mut S,
+    base: &str,
+    filter: &Filter,
+) -> Result<u64, RunFault>
+    ensures counted { IfOk result (λ count. (file : List ℕ) (objects : List ChangeValue)
+        → HasFile (S.state store.old) base.now file → D.spells file objects
+        → IsCountOf count (chosen_objects filter.now objects)) }
+    ensures stops { IfErr result (BaseStops D.goes_wrong D.is_long (IsKnown (S.state store.old))
+        ((S.state store.old).files base.now)) }
+    ensures stage { (S.state store.new).stage ≡ (S.state store.old).stage }
+    ensures frame { ReadsOften IsDeviceFault (S.state store.old) (S.state store.new) result }
+    ensures spends { OnOk result (Spends 1 (S.state store.old).left (S.state store.new).left) }
+    ensures calls { IsKnown (S.state store.old) → MakesAtMost IsDeviceFault
+        (read_calls (bytes_in ((S.state store.old).files base.now)))
+        (S.state store.old) (S.state store.new) result }
+{
+    match D::count_chosen(alloc, store, base, filter) {
+        Ok(count) => Ok(count),
         Err(fault) => Err(base_fault(fault)),
     }
 }

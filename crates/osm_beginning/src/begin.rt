@@ -1,23 +1,28 @@
 //! Beginning a save with a data file.
 
-ghost use Rattle.std.specs.Prelude.{◌≡◌, ◌<◌, ◌≤◌, ℕ, List, None, IfErr, IfOk, OnErr, OnOk};
+ghost use Rattle.std.specs.Prelude.{◌≡◌, ◌↔◌, ◌<◌, ◌≤◌, ℕ, List, None, IfErr, IfOk, IsTrue};
+ghost use Rattle.std.specs.Prelude.{OnErr, OnOk};
 ghost use Rattle.osm_model.specs.ChangeForm.{SpellsNothing};
-ghost use Rattle.osm_store.specs.Files.{HasFewer, Spends};
+ghost use Rattle.osm_store.specs.Files.{HasFewer, Spends, SpendsAtMost};
 ghost use Rattle.osm_store.specs.Frames.{IsKnown, MakesAtMost};
 ghost use Rattle.osm_merge.specs.Calls.{bytes_in};
+ghost use Rattle.osm_blocks.specs.Frames.{ReadsOften};
 ghost use Rattle.osm_merge.specs.Frames.{ReplacesOften};
 ghost use Rattle.osm_data.specs.Reading.{read_calls};
 ghost use Rattle.osm_follow.specs.Published.{PublishedValue};
 ghost use Rattle.osm_beginning.specs.Beginning.{BeginStops, IsBaseOf, IsBegunFrom};
 ghost use Rattle.osm_beginning.specs.Beginning.{begin_calls, is_long_data};
-ghost use Rattle.osm_beginning.specs.Steps.Passes.{FromStops, IsKept, IsReplaced, ReplaceStops};
-ghost use Rattle.osm_beginning.specs.Steps.Passes.{IsCountOf, from_calls, replace_calls};
+ghost use Rattle.osm_beginning.specs.Steps.Passes.{BaseStops, FromStops, IsCheckedAfter};
+ghost use Rattle.osm_beginning.specs.Steps.Passes.{IsFirstCount, IsKept, IsOfSave, IsReplaced};
+ghost use Rattle.osm_beginning.specs.Steps.Passes.{ReplaceStops, from_calls, replace_calls};
 ghost use Rattle.osm_folder.specs.DataForms.{place_of_data, spells_data};
 ghost use Rattle.osm_folder.specs.Following.{IsSaveOf};
 ghost use Rattle.osm_folder.specs.Reports.{begin_report_of};
 ghost use Rattle.osm_folder.specs.Runs.{IsDeviceFault};
+ghost use Rattle.osm_folder.specs.declared.fault.FileName.TheVariants.{Save};
+ghost use Rattle.osm_folder.specs.declared.fault.RunFault.TheVariants.{TooLarge};
 
-use crate::counting::count_kept;
+use crate::counting::{count_first, count_kept};
 use crate::start::{head_from, read_start};
 use crate::writing::{commit, write_kept};
 use osm_data::data_reader::DataReader;
@@ -116,7 +121,7 @@ fn begin_in<S: Store>(
     }
 }
 
-// The same, for the form that `D` reads.
+// The same, for the form that `D` reads. A fault of the data file comes before one of the save.
 fn begin_from<S: Store, D: DataReader + Drop>(
     alloc: Global,
     store: &mut S,
@@ -142,7 +147,82 @@ fn begin_from<S: Store, D: DataReader + Drop>(
         (S.state store.old) (S.state store.new) result }
 {
     D::laws();
-    let count = match count_kept::<S, D>(alloc, store, base, filter) {
+    let fault = match begin_counted::<S, D>(alloc, store, base, save, head, filter) {
+        Ok(()) => return Ok(()),
+        Err(fault) => fault,
+    };
+    match check_after::<S, D>(alloc, store, base, filter, &fault) {
+        Ok(()) => Err(fault),
+        Err(found) => Err(found),
+    }
+}
+
+// Reads the data file after a fault of the save, if none of its objects was read yet.
+fn check_after<S: Store, D: DataReader + Drop>(
+    alloc: Global,
+    store: &mut S,
+    base: &str,
+    filter: &Filter,
+    fault: &RunFault,
+) -> Result<(), RunFault>
+    ensures checked { OnOk result (IsCheckedAfter fault.now D.spells filter.now
+        (IsKnown (S.state store.old)) ((S.state store.old).files base.now)) }
+    ensures after { IfErr result (λ found. IsOfSave fault.now) }
+    ensures stops { IfErr result (BaseStops D.goes_wrong D.is_long (IsKnown (S.state store.old))
+        ((S.state store.old).files base.now)) }
+    ensures stage { (S.state store.new).stage ≡ (S.state store.old).stage }
+    ensures frame { ReadsOften IsDeviceFault (S.state store.old) (S.state store.new) result }
+    ensures lacks { IfErr result (λ found. IsKnown (S.state store.old) → IsDeviceFault found
+        → HasFewer (read_calls (bytes_in ((S.state store.old).files base.now)))
+        (S.state store.old).left) }
+{
+    if !is_of_save(fault) || !filter.keys().is_empty() {
+        return Ok(());
+    }
+    match count_kept::<S, D>(alloc, store, base, filter) {
+        Ok(_) => Ok(()),
+        Err(found) => Err(found),
+    }
+}
+
+fn is_of_save(fault: &RunFault) -> bool
+    ensures { IsTrue result ↔ IsOfSave fault.now }
+{
+    match fault {
+        RunFault::WriteFault(FileName::Save) | RunFault::TooLarge(FileName::Save) => true,
+        _ => false,
+    }
+}
+
+// Both passes. A fault of the save stands only over a data file that spells objects.
+fn begin_counted<S: Store, D: DataReader + Drop>(
+    alloc: Global,
+    store: &mut S,
+    base: &str,
+    save: &str,
+    head: Head,
+    filter: &Filter,
+) -> Result<(), RunFault>
+    ensures replaced { OnOk result (IsKnown (S.state store.old)
+        → IsKept D.spells filter.now ((S.state store.old).files base.now)
+        (IsReplaced head filter.now save.now (S.state store.old).files
+        (S.state store.new).files)) }
+    ensures stops { IfErr result (λ fault. IsCheckedAfter fault D.spells filter.now
+        (IsKnown (S.state store.old)) ((S.state store.old).files base.now)
+        → FromStops D.spells D.goes_wrong D.is_long filter.now
+        (IsKnown (S.state store.old)) ((S.state store.old).files base.now) fault) }
+    ensures few { IfErr result (λ fault. fault ≡ TooLarge Save → IsKnown (S.state store.old)
+        → SpendsAtMost (read_calls (bytes_in ((S.state store.old).files base.now)))
+        (S.state store.old).left (S.state store.new).left) }
+    ensures dropped { OnErr result (IsKnown (S.state store.old)
+        → (S.state store.old).stage ≡ None → (S.state store.new).stage ≡ None) }
+    ensures frame { ReplacesOften IsDeviceFault (S.state store.old) (S.state store.new) result }
+    ensures spends { OnOk result (Spends 2 (S.state store.old).left (S.state store.new).left) }
+    ensures calls { IsKnown (S.state store.old) → MakesAtMost IsDeviceFault
+        (from_calls (bytes_in ((S.state store.old).files base.now)))
+        (S.state store.old) (S.state store.new) result }
+{
+    let count = match count_first::<S, D>(alloc, store, base, filter) {
         Ok(count) => count,
         Err(fault) => return Err(fault),
     };
@@ -174,7 +254,7 @@ fn replace<S: Store, D: DataReader + Drop>(
         (IsReplaced head filter.now save.now (S.state store.old).files
         (S.state store.new).files)) }
     ensures stops { IfErr result (λ fault. (IsKnown (S.state store.old)
-        → IsKept D.spells filter.now ((S.state store.old).files base.now) (IsCountOf count))
+        → IsFirstCount D.spells filter.now ((S.state store.old).files base.now) count)
         → ReplaceStops D.goes_wrong D.is_long (IsKnown (S.state store.old))
         ((S.state store.old).files base.now) fault) }
     ensures frame { ReplacesOften IsDeviceFault (S.state store.old) (S.state store.new) result }

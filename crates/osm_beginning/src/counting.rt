@@ -5,18 +5,54 @@ ghost use Rattle.osm_store.specs.Files.{Spends};
 ghost use Rattle.osm_store.specs.Frames.{IsKnown, MakesAtMost};
 ghost use Rattle.osm_blocks.specs.Frames.{ReadsOften};
 ghost use Rattle.osm_merge.specs.Calls.{bytes_in};
+ghost use Rattle.osm_data.specs.Counting.{IsCountOf, most_counted};
 ghost use Rattle.osm_data.specs.Reading.{read_calls};
 ghost use Rattle.osm_folder.specs.Runs.{IsDeviceFault};
 ghost use Rattle.osm_follow.specs.Begin.{kept_objects};
-ghost use Rattle.osm_beginning.specs.Steps.Passes.{BaseStops, IsCountOf, IsKept, most_counted};
+ghost use Rattle.osm_beginning.specs.Steps.Passes.{BaseStops, IsFirstCount, IsKept, IsRight};
 
-use crate::base::{next_objects, open_base};
+use crate::base::{count_chosen, next_objects, open_base};
 use osm_data::data_reader::DataReader;
 use osm_folder::fault::RunFault;
 use osm_model::change::Change;
 use osm_model::filter::Filter;
 use osm_store::store::Store;
 use std::alloc::Global;
+
+/// Counts those objects of a data file that the filter keeps. If the filter has keys, all objects
+/// are read. Otherwise none is, and of a file that spells no objects the number may be any: whoever
+/// reads the objects finds its fault.
+pub(crate) fn count_first<S: Store, D: DataReader + Drop>(
+    alloc: Global,
+    store: &mut S,
+    base: &str,
+    filter: &Filter,
+) -> Result<u64, RunFault>
+    ensures counted { IfOk result (λ count. IsKnown (S.state store.old)
+        → IsFirstCount D.spells filter.now ((S.state store.old).files base.now) count) }
+    ensures read { OnOk result ((filter.now.keys ≡ [] → ⊥) → IsKnown (S.state store.old)
+        → IsRight D.spells filter.now ((S.state store.old).files base.now)) }
+    ensures stops { IfErr result (BaseStops D.goes_wrong D.is_long (IsKnown (S.state store.old))
+        ((S.state store.old).files base.now)) }
+    ensures stage { (S.state store.new).stage ≡ (S.state store.old).stage }
+    ensures frame { ReadsOften IsDeviceFault (S.state store.old) (S.state store.new) result }
+    ensures spends { OnOk result (Spends 1 (S.state store.old).left (S.state store.new).left) }
+    ensures calls { IsKnown (S.state store.old) → MakesAtMost IsDeviceFault
+        (read_calls (bytes_in ((S.state store.old).files base.now)))
+        (S.state store.old) (S.state store.new) result }
+{
+    D::laws();
+    if filter.keys().is_empty() {
+        return match count_chosen::<S, D>(alloc, store, base, filter) {
+            Ok(count) => Ok(count),
+            Err(fault) => Err(fault),
+        };
+    }
+    match count_kept::<S, D>(alloc, store, base, filter) {
+        Ok(count) => Ok(count),
+        Err(fault) => Err(fault),
+    }
+}
 
 /// Reads all objects of a data file, and counts those that the filter keeps.
 pub(crate) fn count_kept<S: Store, D: DataReader + Drop>(

@@ -10,11 +10,13 @@ ghost use Rattle.osm_store.specs.Frames.{IsKnown, MakesAtMost};
 ghost use Rattle.osm_blocks.specs.Calls.{Advances};
 ghost use Rattle.osm_blocks.specs.Frames.{ReadsOften};
 ghost use Rattle.osm_blocks.specs.Places.{HasFile};
+ghost use Rattle.osm_data.specs.Counting.{CountStops, IsCountOf, chosen_objects, count_calls};
 ghost use Rattle.osm_data.specs.Reading.{EndsOrGoesOn, IsDeviceFault, NextStops, OpenStops};
 ghost use Rattle.osm_data.specs.Reading.{read_calls};
 
 use crate::fault::DataFault;
 use osm_model::change::Change;
+use osm_model::filter::Filter;
 use osm_store::store::Store;
 use std::alloc::Global;
 
@@ -84,6 +86,25 @@ pub trait DataReader: Sized {
         ensures calls { (file : List ℕ) → HasFile (S.state store.old) name.now file
             → Advances IsDeviceFault (calls_ahead self.old file)
             (λ _. calls_ahead self.new file)
+            (S.state store.old) (S.state store.new) result };
+
+    /// Counts the objects of a whole file whose kinds the filter chooses, whatever its keys. It
+    /// doesn't read them: of a file that spells no objects it may give any number.
+    fn count_chosen<S: Store>(
+        alloc: Global,
+        store: &mut S,
+        name: &str,
+        filter: &Filter,
+    ) -> Result<u64, DataFault>
+        ensures counted { IfOk result (λ count. (file : List ℕ) (objects : List ChangeValue)
+            → HasFile (S.state store.old) name.now file → spells file objects
+            → IsCountOf count (chosen_objects filter.now objects)) }
+        ensures stops { IfErr result (CountStops (S.state store.old) name.now) }
+        ensures stage { (S.state store.new).stage ≡ (S.state store.old).stage }
+        ensures frame { ReadsOften IsDeviceFault (S.state store.old) (S.state store.new) result }
+        ensures spends { OnOk result (Spends 1 (S.state store.old).left (S.state store.new).left) }
+        ensures calls { IsKnown (S.state store.old) → MakesAtMost IsDeviceFault
+            (count_calls ((S.state store.old).files name.now))
             (S.state store.old) (S.state store.new) result };
 
     /// Tells the prover the laws of the form. Does nothing at run time.

@@ -155,7 +155,7 @@ long (t ∷ bytes) e =
 abbrev pub longer : {A : Type 0} → List ℕ → Option (A × List ℕ) → Option (A × List ℕ)
 longer more o = and_then o (λ x. Some (x.0, x.1 ++ more))
 
-no_unsigned : (bytes more : List ℕ) (o : Option (ℕ × List ℕ)) → 10 ≤ length bytes → unsigned_at bytes ≡ None
+pub no_unsigned : (bytes more : List ℕ) (o : Option (ℕ × List ℕ)) → 10 ≤ length bytes → unsigned_at bytes ≡ None
     → unsigned_at (bytes ++ more) ≡ o → o ≡ None
 no_unsigned bytes more None long none e = refl
 no_unsigned bytes more (Some x) long none e =
@@ -168,7 +168,7 @@ no_unsigned bytes more (Some x) long none e =
     ∙ unsigned_again t.prefix x.0 (drop (length t.prefix) bytes) t.spelled in
     absurd cc
 
-unsigned_more : (bytes more : List ℕ) (x : ℕ × List ℕ) → unsigned_at bytes ≡ Some x → unsigned_at (bytes ++ more) ≡ Some (x.0, x.1 ++ more)
+pub unsigned_more : (bytes more : List ℕ) (x : ℕ × List ℕ) → unsigned_at bytes ≡ Some x → unsigned_at (bytes ++ more) ≡ Some (x.0, x.1 ++ more)
 unsigned_more bytes more x e =
     let t = unsigned_takes bytes x e in
     ap (λ (l : List ℕ). unsigned_at (l ++ more)) t.parts ∙ ap unsigned_at (append_assoc t.prefix x.1 more)
@@ -262,7 +262,7 @@ lone_more t s bytes more high =
     by_type false true = refl
     by_type false false = refl
 
-no_object : (t : ℕ) → 240 ≤ t → kind_of_byte t ≡ None
+pub no_object : (t : ℕ) → 240 ≤ t → kind_of_byte t ≡ None
 no_object t high =
     let a : eqb t 16 ≡ false = grind (arith, nat_tests) in
     let b : eqb t 17 ≡ false = grind (arith, nat_tests) in

@@ -3,3 +3,4 @@ pub mod ExtentLemmas
 pub mod PartLemmas
 pub mod ReadingLemmas
 pub mod ObjectsLemmas
+pub mod CountLemmas

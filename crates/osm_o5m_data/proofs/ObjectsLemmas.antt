@@ -1,27 +1,19 @@
 -- Where a reader of a data file stands, and what it says of the file.
 use Rattle.std.proofs.Common.{◌≡◌, ℕ, zero, suc, ◌+◌, ◌-◌, ◌<◌, ◌≤◌, Bool, true, false, List, [], ◌∷◌, ◌++◌, length, get_or, take, drop}
 use Rattle.std.proofs.Common.{Option, Some, None, refl, sym, ap, subst, ◌∙◌, append_assoc, arith}
-use Rattle.std.specs.Prelude.{◌≢◌, ◌*◌, ◌/◌, IsTrue, Ok}
+use Rattle.std.specs.Prelude.{◌≢◌, IsTrue, Ok}
 use Rattle.std.specs.Str.{bytes_eq}
-use Rattle.std.proofs.Math.Nat.{div-mul-le_self}
-use Rattle.std.proofs.lemmas.Nat.{le-div}
-use Rattle.std.proofs.lemmas.Option.{same_Some}
 use Rattle.std.proofs.lemmas.Slice.Eq.{bytes_eq-Decides}
 use Rattle.std.proofs.lemmas.List.{append-nil, length-append, length-drop, take-append-drop}
 use Rattle.osm_model.specs.Change.{ChangeValue}
 use Rattle.osm_model.specs.Data.{IsData}
-use Rattle.osm_store.specs.Files.{Files}
 use Rattle.osm_store.specs.Frames.{StoreState}
-use Rattle.osm_blocks.specs.Calls.{SpendsDown, blocks_in, reads_ahead}
-use Rattle.osm_blocks.specs.Frames as blocks
+use Rattle.osm_blocks.specs.Calls.{SpendsDown}
 use Rattle.osm_blocks.specs.Frames.{ReadsOften}
-use Rattle.osm_blocks.specs.declared.fault.BlockFault.{BlockFault}
-use Rattle.osm_blocks.specs.declared.fault.BlockFault.TheVariants as faults
-use Rattle.osm_blocks.specs.Places.{HasFile, IsLonger, Opens, Place, left_of, max_block, past}
-use Rattle.osm_blocks.proofs.CallLemmas.{down_none, opened_ahead}
+use Rattle.osm_blocks.specs.Places.{HasFile, IsLonger, Place, left_of, past}
+use Rattle.osm_blocks.proofs.CallLemmas.{down_none}
 use Rattle.osm_blocks.proofs.OftenLemmas.{often_none}
-use Rattle.osm_data.specs.Reading.{IsDeviceFault, blocks_fault_of, read_calls}
-use Rattle.osm_data.specs.declared.fault.DataFault.{DataFault}
+use Rattle.osm_data.specs.Reading.{IsDeviceFault}
 use Rattle.osm_o5c.specs.File.{DataFaultPlace, SpellsData, data_beginning}
 use Rattle.osm_o5c.specs.Datasets.{Position, Stops, new_reader, position, step}
 use Rattle.osm_o5c.proofs.FrontLemmas.{IsReached}
@@ -120,35 +112,6 @@ long_there r e file done has =
 
 -- ---- filling
 
--- a file stays known, and has the same bytes
-pub has_still : {T : Type 0} (a b : StoreState) (x : T) (name file : List ℕ) → ReadsOften IsDeviceFault a b (Ok x) → HasFile a name file → HasFile b name file
-has_still a b x name file frame has = record {
-  known = subst (λ (t : Bool). IsTrue t) (sym frame.known) has.known;
-  there = subst (λ (f : Files). f name ≡ Some file) (sym frame.files) has.there;
-}
-
--- what is said of a call that succeeds doesn't depend on whom a refused one blames
-pub often_ok : {T U E F : Type 0} (blames : E → Type 0) (others : F → Type 0) (a b : StoreState) (x : T) (y : U) → ReadsOften blames a b (Ok x)
-    → ReadsOften others a b (Ok y)
-often_ok blames others a b x y frame = record {
-  files = frame.files;
-  known = frame.known;
-  left = frame.left;
-  failures = frame.failures;
-  failed = tt;
-  stops = tt;
-}
-
--- the device is the reason only if it is for the blocks
-pub blamed : (fault : BlockFault) (result : DataFault) → result ≡ blocks_fault_of fault → IsDeviceFault result → blocks.IsDeviceFault fault
-blamed fault result is blame = by_cases fault (subst (λ (f : DataFault). IsDeviceFault f) is blame)
-  where
-    by_cases : (fault : BlockFault) → IsDeviceFault (blocks_fault_of fault) → blocks.IsDeviceFault fault
-    by_cases faults.Device blame = tt
-    by_cases faults.LongLine blame = blame
-    by_cases faults.TooLarge blame = blame
-    by_cases faults.WantOfMemory blame = blame
-
 -- blocks were read, and the end wasn't found yet
 pub record Fills (begun state : StoreState) (name : List ℕ) (old new : O5mData) : Type 0 where
   pub frame : ReadsOften {T = Unit {0}} IsDeviceFault begun state (Ok tt)
@@ -232,28 +195,3 @@ left_shorter place file n left = omega (
 
 pub first_within : (place : Place) (file : List ℕ) → place.from ≡ length place.unread → left_of place file ≡ file → place.from ≤ length file
 first_within place file first left = omega (arith, first, ap length left, length-append place.unread (drop place.from file))
-
--- the file that was opened
-pub opens_file : (told : Option (List ℕ)) (place : Place) (file : List ℕ) → Opens (Some place) told → told ≡ Some file
-    → (place.unread ≡ take max_block file) × (left_of place file ≡ file)
-opens_file told place file o there =
-    let same : o.0 ≡ file = same_Some o.0 file (sym o.1 ∙ there) in
-    subst (λ (f : List ℕ). (place.unread ≡ take max_block f) × (left_of place f ≡ f)) same (o.2, o.3)
-
--- ---- the calls that are ahead
-
-few_blocks : (b n : ℕ) → n / (b + 1) ≤ (n + b) / (b + 1)
-few_blocks b n =
-    let below : n / (b + 1) * (b + 1) ≤ n = div-mul-le_self n (b + 1) in
-    le-div (n / (b + 1)) (n + b) (b + 1) (omega arith) (omega (arith, below))
-
-blocks_are : (n : ℕ) → n / 1048576 ≤ blocks_in n
-unfolding blocks_in
-blocks_are n = few_blocks 1048575 n
-
-pub opened_calls : (place : Place) (file : List ℕ) → place.unread ≡ take max_block file → left_of place file ≡ file
-    → reads_ahead (past 7 place) file + 1 ≤ read_calls (length file)
-opened_calls place file unread left =
-    let h : blocks_in (length (drop place.from file)) ≤ length file / 1048576 = opened_ahead place file unread left in
-    let k : length file / 1048576 ≤ blocks_in (length file) = blocks_are (length file) in
-    omega (arith, h, k)

@@ -1,5 +1,6 @@
 -- Definitions that only clauses of private functions cite.
 pub mod Blocks
+pub mod Counting
 pub mod Extents
 pub mod Objects
 pub mod Reading

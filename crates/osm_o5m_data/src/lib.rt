@@ -2,6 +2,7 @@
 #![tactic(auto)]
 
 mod carried;
+mod counting;
 mod datasets;
 mod extents;
 mod held;

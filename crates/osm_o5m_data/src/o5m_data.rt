@@ -15,13 +15,16 @@ ghost use Rattle.osm_o5m_data.specs.Steps.Extents.{extent_at};
 ghost use Rattle.osm_o5m_data.specs.Steps.Objects.{FillStops, HasRead, Keeps, ahead_of, calls_of};
 ghost use Rattle.osm_o5m_data.specs.Steps.Objects.{left_in};
 
+use crate::counting::O5mCounter;
 use crate::datasets::{Stop, read_datasets};
 use crate::extents::{Extent, extent_of};
 use crate::held::Held;
 use osm_blocks::block_reader::BlockReader;
+use osm_data::counting::count_objects;
 use osm_data::data_reader::DataReader;
 use osm_data::fault::{DataFault, fault_of_blocks};
 use osm_model::change::Change;
+use osm_model::filter::Filter;
 use osm_model::form::Why;
 use osm_o5c::datasets::END;
 use osm_store::store::Store;
@@ -88,6 +91,18 @@ impl DataReader for O5mData {
             Err(fault) => return Err(fault),
         };
         self.go_on(alloc, extent)
+    }
+
+    fn count_chosen<S: Store>(
+        alloc: Global,
+        store: &mut S,
+        name: &str,
+        filter: &Filter,
+    ) -> Result<u64, DataFault> {
+        match count_objects(alloc, store, name, filter, &mut O5mCounter::new()) {
+            Ok(count) => Ok(count),
+            Err(fault) => Err(fault),
+        }
     }
 
     fn laws() {}

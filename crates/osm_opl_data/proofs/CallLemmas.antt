@@ -1,27 +1,16 @@
 -- Calls of a store that come one after the other, by how many are ahead.
-use Rattle.std.proofs.Common.{◌≡◌, ℕ, ◌+◌, ◌<◌, ◌≤◌, List, length, take, drop, Option, Some, refl, sym, ap, subst, ◌∙◌, arith, length-append, zero-add}
-use Rattle.std.specs.Prelude.{Bool, IsTrue, true, false, Ok, ◌==◌}
+use Rattle.std.proofs.Common.{◌≡◌, ℕ, ◌+◌, ◌<◌, ◌≤◌, List, length, take, drop, Option, refl, sym, ap, subst, ◌∙◌, arith, length-append, zero-add}
+use Rattle.std.specs.Prelude.{Bool, true, false, ◌==◌}
 use Rattle.std.proofs.lemmas.Bool.Decides.{nat_tests}
 use Rattle.std.proofs.lemmas.List.{length-drop}
 use Rattle.osm_model.specs.Change.{ChangeValue}
-use Rattle.osm_store.specs.Files.{Files}
-use Rattle.osm_store.specs.Frames.{StoreState}
 use Rattle.osm_blocks.specs.Calls.{SpendsDown, blocks_in, reads_ahead}
-use Rattle.osm_blocks.specs.Frames.{ReadsOften}
-use Rattle.osm_blocks.specs.Places.{HasFile, Place, left_of, max_block}
+use Rattle.osm_blocks.specs.Places.{Place, left_of, max_block}
 use Rattle.osm_blocks.proofs.CallLemmas.{block_read}
 use Rattle.osm_data.specs.Reading.{read_calls}
 use Rattle.osm_opl_data.specs.Reading.{calls_after, calls_before_end}
 use Rattle.osm_opl_data.specs.Steps.Passing.{Begins, PassesLine}
 use Rattle.osm_opl_data.specs.declared.opl_data.OplData.{OplData}
-
--- a file stays known, and has the same bytes
-pub has_still : {T E : Type 0} {blames : E → Type 0} (a b : StoreState) (x : T) (name file : List ℕ) → ReadsOften blames a b (Ok x) → HasFile a name file
-    → HasFile b name file
-has_still a b x name file frame has = record {
-  known = subst (λ (t : Bool). IsTrue t) (sym frame.known) has.known;
-  there = subst (λ (f : Files). f name ≡ Some file) (sym frame.files) has.there;
-}
 
 -- the first block of a file was read
 pub first_ahead : (place : Place) (file : List ℕ) → place.unread ≡ take max_block file → left_of place file ≡ file → 0 < length place.unread

@@ -3,3 +3,4 @@ pub mod LineLemmas
 pub mod PassingLemmas
 pub mod CallLemmas
 pub mod FillLemmas
+pub mod CountLemmas

@@ -1,3 +1,4 @@
 -- Definitions that only clauses of private functions cite.
+pub mod Counting
 pub mod Objects
 pub mod Passing

@@ -13,11 +13,14 @@ ghost use Rattle.osm_opl_data.specs.Steps.Objects.{AddStops};
 ghost use Rattle.osm_opl_data.specs.Steps.Passing.{Begins, Goes, IsLast, PassesLine};
 ghost use Rattle.osm_opl_data.specs.Steps.Passing.{line_of};
 
+use crate::counting::OplCounter;
 use crate::so_far::SoFar;
 use osm_blocks::line_reader::LineReader;
+use osm_data::counting::count_objects;
 use osm_data::data_reader::DataReader;
 use osm_data::fault::{DataFault, fault_of_blocks};
 use osm_model::change::Change;
+use osm_model::filter::Filter;
 use osm_opl::data::laws_of_data;
 use osm_reading::lines::split_line;
 use osm_store::store::Store;
@@ -81,6 +84,18 @@ impl DataReader for OplData {
         }
         match self.fill(alloc, store, name, &mut objects) {
             Ok(()) => Ok(Some(objects)),
+            Err(fault) => Err(fault),
+        }
+    }
+
+    fn count_chosen<S: Store>(
+        alloc: Global,
+        store: &mut S,
+        name: &str,
+        filter: &Filter,
+    ) -> Result<u64, DataFault> {
+        match count_objects(alloc, store, name, filter, &mut OplCounter::new()) {
+            Ok(count) => Ok(count),
             Err(fault) => Err(fault),
         }
     }

@@ -1,7 +1,7 @@
 -- The two passes over a data file, and why they end early. `spells`, `goes_wrong` and `is_long` are
 -- what the form of the data file says of bytes. `told` is what the data file holds, none if there
 -- is no such file, and `known` says that this is known.
-use Rattle.std.specs.Prelude.{◌≡◌, ℕ, ◌+◌, ◌<◌, ◌≤◌, ◌⊎◌, List, [], ◌∷◌, ◌++◌, length, map, min}
+use Rattle.std.specs.Prelude.{◌≡◌, ℕ, ◌+◌, ◌<◌, ◌≤◌, ◌⊎◌, List, [], ◌∷◌, ◌++◌, length, map}
 use Rattle.std.specs.Prelude.{codes, decimal, Option, Some, None}
 use Rattle.osm_model.specs.Change.{ChangeValue}
 use Rattle.osm_model.specs.Filter.{FilterValue}
@@ -14,6 +14,7 @@ use Rattle.osm_follow.specs.Begin.{kept_objects}
 use Rattle.osm_store.specs.Files.{Files, Puts}
 use Rattle.osm_store.specs.Frames.{StoreState}
 use Rattle.osm_blocks.specs.Places.{HasFile, IsHuge}
+use Rattle.osm_data.specs.Counting.{IsCountOf}
 use Rattle.osm_data.specs.Reading.{Holds, read_calls}
 use Rattle.osm_data.specs.declared.fault.DataFault.{DataFault}
 use Rattle.osm_data.specs.declared.fault.DataFault.TheVariants as faults
@@ -62,13 +63,28 @@ pub record IsKept (spells : List ℕ → List ChangeValue → Type 0) (f : Filte
   pub spelled : spells bytes objects
   pub holds_of : holds (kept_objects f objects)
 
--- the greatest number that is counted
-abbrev pub most_counted : ℕ
-most_counted = 18446744073709551615
+-- the data file spells objects
+abbrev pub IsRight : (List ℕ → List ChangeValue → Type 0) → FilterValue → Option (List ℕ) → Type 0
+IsRight spells f told = IsKept spells f told (λ kept. Unit {0})
 
--- so many objects, or as many as are counted
-abbrev pub IsCountOf : ℕ → List ChangeValue → Type 0
-IsCountOf count kept = count ≡ min (length kept) most_counted
+-- if the data file spells objects, so many of them are kept, or as many as are counted
+pub record IsFirstCount (spells : List ℕ → List ChangeValue → Type 0) (f : FilterValue)
+    (told : Option (List ℕ)) (count : ℕ) : Type 0 where
+  pub counts : (bytes : List ℕ) (objects : List ChangeValue) → told ≡ Some bytes
+      → spells bytes objects → IsCountOf count (kept_objects f objects)
+
+-- a fault of the save
+abbrev pub IsOfSave : RunFault → Type 0
+IsOfSave (WriteFault Save) = Unit {0}
+IsOfSave (TooLarge Save) = Unit {0}
+IsOfSave fault = ⊥
+
+-- if the fault is one of the save, the data file spells objects; under a filter with keys that is
+-- known before, as all of them are read
+abbrev pub IsCheckedAfter : RunFault → (List ℕ → List ChangeValue → Type 0) → FilterValue → Type 0
+    → Option (List ℕ) → Type 0
+IsCheckedAfter fault spells f known told =
+    IsOfSave fault → f.keys ≡ [] → known → IsRight spells f told
 
 -- the lines before the objects: the head, and the number of objects
 unfoldable pub first_text : Head → FilterValue → ℕ → List ℕ

@@ -1,7 +1,7 @@
 use Rattle.std.proofs.Common.{◌≡◌, ◌+◌, length, take}
 use Rattle.std.specs.Prelude.{min}
 use Rattle.osm_follow.specs.Begin.{kept_objects}
-use Rattle.osm_beginning.specs.Steps.Passes.{most_counted}
+use Rattle.osm_data.specs.Counting.{most_counted}
 use Rattle.osm_beginning.proofs.counting.add_kept.Given as goal
 
 abbrev pub invariant-loop-object : goal.invariant-loop-object

@@ -1,6 +1,6 @@
 use Rattle.std.proofs.Common.{◌∙◌, arith}
 use Rattle.osm_beginning.proofs.PassLemmas.{calls_end, count_more, passing_more}
-use Rattle.osm_beginning.specs.Steps.Passes.{IsCountOf}
+use Rattle.osm_data.specs.Counting.{IsCountOf}
 use Rattle.osm_data.specs.Reading.{read_calls}
 use Rattle.osm_folder.specs.Runs.{IsDeviceFault}
 use Rattle.osm_follow.specs.Begin.{kept_objects}

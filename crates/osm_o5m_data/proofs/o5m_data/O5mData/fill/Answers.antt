@@ -7,7 +7,8 @@ use Rattle.osm_blocks.proofs.OftenLemmas.{often_then}
 use Rattle.osm_data.specs.Reading.{IsDeviceFault}
 use Rattle.osm_o5m_data.specs.declared.o5m_data.O5mData.{O5mData}
 use Rattle.osm_o5m_data.specs.Steps.Objects.{calls_of}
-use Rattle.osm_o5m_data.proofs.ObjectsLemmas.{ahead_more, blamed, has_still, keeps_both, keeps_more, often_ok}
+use Rattle.osm_data.proofs.FileLemmas.{blamed, has_still, often_ok}
+use Rattle.osm_o5m_data.proofs.ObjectsLemmas.{ahead_more, keeps_both, keeps_more}
 use Rattle.osm_o5m_data.proofs.o5m_data.O5mData.fill.Goals as goal
 
 pub returns-in-Err-clause-calls : goal.returns-in-Err-clause-calls

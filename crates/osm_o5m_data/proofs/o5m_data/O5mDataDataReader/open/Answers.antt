@@ -2,7 +2,8 @@ use Rattle.std.proofs.Common.{◌≡◌, ◌∙◌, true, false, sym, take, refl
 use Rattle.std.specs.Str.{bytes_eq}
 use Rattle.osm_blocks.specs.Places.{max_block}
 use Rattle.osm_o5c.specs.File.{data_beginning}
-use Rattle.osm_o5m_data.proofs.ObjectsLemmas.{begun_read, first_within, left_shorter, opened_calls, opens_file, true_false, unbegun}
+use Rattle.osm_data.proofs.FileLemmas.{opened_calls, opens_file}
+use Rattle.osm_o5m_data.proofs.ObjectsLemmas.{begun_read, first_within, left_shorter, true_false, unbegun}
 use Rattle.osm_o5m_data.proofs.o5m_data.O5mDataDataReader.open.Goals as goal
 
 pub returns-then-not-has_beginning-clause-stops : goal.returns-then-not-has_beginning-clause-stops

@@ -5,7 +5,7 @@ use Rattle.osm_data.specs.Reading.{IsDeviceFault}
 use Rattle.osm_opl_data.specs.Reading.{calls_after}
 use Rattle.osm_opl_data.specs.Steps.Passing.{Goes}
 use Rattle.std.specs.Prelude.{true}
-use Rattle.osm_opl_data.proofs.CallLemmas.{has_still}
+use Rattle.osm_data.proofs.FileLemmas.{has_still}
 use Rattle.osm_opl_data.proofs.opl_data.OplData.fill.Goals as goal
 
 pub returns-in-Err-clause-calls : goal.returns-in-Err-clause-calls

@@ -3,7 +3,7 @@ use Rattle.std.specs.Prelude.{true, false}
 use Rattle.osm_blocks.proofs.CallLemmas.{down_lacks, down_then}
 use Rattle.osm_opl_data.specs.Reading.{calls_after}
 use Rattle.osm_opl_data.specs.Steps.Passing.{Goes}
-use Rattle.osm_opl_data.proofs.CallLemmas.{has_still}
+use Rattle.osm_data.proofs.FileLemmas.{has_still}
 use Rattle.osm_opl_data.proofs.PassingLemmas.{ended, fewer_left, not_yet}
 use Rattle.osm_opl_data.proofs.opl_data.OplDataDataReader.next.Goals as goal
 
