@@ -11,15 +11,13 @@ use Rattle.osm_model.specs.Change.{ChangeValue}
 use Rattle.osm_model.specs.Filter.{FilterValue}
 use Rattle.osm_model.specs.declared.kind.Key.{Key}
 use Rattle.osm_opl.specs.Written.{line_text, opl_text}
-use Rattle.osm_reading.specs.Answers.{and_then}
-use Rattle.osm_reading.specs.Pieces.{cut_at}
 use Rattle.osm_save.specs.Reading.{object_at}
-use Rattle.osm_save.proofs.ItemLemmas.{Items, items_begun, items_cut, items_done, items_more, items_wrong}
+use Rattle.osm_save.proofs.ItemLemmas.{Items, items_begun, items_done, items_more}
 use Rattle.osm_store.specs.Frames.{MakesAtMost, StoreState}
 use Rattle.osm_merge.specs.Laying.{next_at}
 use Rattle.osm_merge.proofs.CallLemmas.{advances_fails, advances_of, advances_then, next_shorter}
 use Rattle.osm_merge.proofs.FrameLemmas.{has_still}
-use Rattle.osm_merge.proofs.ItemLemmas.{next_parts}
+use Rattle.osm_merge.proofs.ItemLemmas.{items_stop, next_parts}
 use Rattle.osm_folder.specs.Runs.{IsDeviceFault}
 use Rattle.osm_folder.specs.declared.fault.RunFault.{RunFault}
 use Rattle.osm_exporting.specs.Steps.Copying.{Copies, Fills, PassStops, copies_ahead, object_lines_at}
@@ -44,24 +42,6 @@ copying_begun a name f many begun before = record {
   spent = λ file has. down_none (copies_ahead begun file) a.left;
 }
 
--- the line of an object can't be read, so those of all can't be
-items_stop : (f : FilterValue) (many : ℕ) (bytes : List ℕ) (i : ℕ) (xs : List ChangeValue) (last : Option Key) (rest : List ℕ) → i < many
-    → Items (λ c. c.key) (object_at f) many bytes i xs last rest → next_at (object_at f) last rest ≡ None → object_lines_at f many bytes ≡ None
-unfolding next_at
-items_stop f many bytes i xs last rest lt h e = by_cut (cut_at 10 rest) refl e
-  where
-    by_item : (line after : List ℕ) (o : Option ChangeValue) → cut_at 10 rest ≡ Some (line, after) → object_at f last line ≡ o
-        → and_then {A = ChangeValue} {B = ChangeValue × List ℕ} o (λ y. Some (y, after)) ≡ None → object_lines_at f many bytes ≡ None
-    by_item line after None cut is none = items_wrong (λ c. c.key) (object_at f) many bytes i xs last rest line after lt h cut is
-    by_item line after (Some x) cut is none = absurd cc
-
-    by_cut : (o : Option (List ℕ × List ℕ)) → cut_at 10 rest ≡ o
-        → and_then {A = List ℕ × List ℕ} {B = ChangeValue × List ℕ} o
-        (λ l. and_then {A = ChangeValue} {B = ChangeValue × List ℕ} (object_at f last l.0) (λ y. Some (y, l.1))) ≡ None
-        → object_lines_at f many bytes ≡ None
-    by_cut None cut none = items_cut (λ c. c.key) (object_at f) many bytes i xs last rest lt h cut
-    by_cut (Some l) cut none = by_item l.0 l.1 (object_at f last l.0) cut refl none
-
 module _ (a b : StoreState) (name : List ℕ) (f : FilterValue) (many i : ℕ) (last : Option Key) (begun now : Place)
     (before later : List ChangeValue → List ℕ) (h : Copying a b name f many i last begun now before later) where
   pub has_now : (file : List ℕ) → HasFile a name file → HasFile b name file
@@ -75,7 +55,9 @@ module _ (a b : StoreState) (name : List ℕ) (f : FilterValue) (many i : ℕ) (
       → PassStops a name (λ file. object_lines_at f many (left_of begun file) ≡ None) fault
   copying_stops fault lt stops =
       pass_map a b name (λ file. next_at (object_at f) last (left_of now file) ≡ None) (λ file. object_lines_at f many (left_of begun file) ≡ None) fault
-      has_now (λ file has none. items_stop f many (left_of begun file) i h.values last (left_of now file) lt (h.read file has) none) stops
+      has_now
+      (λ file has none.
+      items_stop (λ c. c.key) (object_at f) many (left_of begun file) i h.values last (left_of now file) lt (h.read file has) none) stops
 
   pub copying_unread : {T U : Type 0} (new : Place) (after : U → ℕ) (c : StoreState) (fault : RunFault) (file : List ℕ) → HasFile a name file
       → Advances {T = T} IsDeviceFault (reads_ahead now file) (λ _. reads_ahead new file) b c (Err fault)

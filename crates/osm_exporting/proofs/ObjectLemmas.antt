@@ -1,43 +1,78 @@
--- Where the objects of a save text are.
-use Rattle.std.proofs.Common.{◌≡◌, ℕ, ◌≤◌, List, length, take, Option, Some, None, inl, inr, refl, sym, subst, ◌∙◌, arith, lit≤}
-use Rattle.std.specs.Prelude.{codes}
-use Rattle.std.proofs.lemmas.Option.{same_Some}
-use Rattle.osm_blocks.specs.Places.{HasFile, Opens, Place, left_of, max_block}
+-- Where the objects of a save text are, and why a part of it isn't read.
+use Rattle.std.proofs.Common.{◌≡◌, ℕ, ◌≤◌, List, length, Option, Some, None, inl, inr, refl, ◌∙◌, arith}
+use Rattle.std.specs.Prelude.{◌⊎◌, Err, Ok, codes}
+use Rattle.osm_blocks.specs.Calls.{Advances}
+use Rattle.osm_blocks.specs.Places.{HasFile, IsHuge, Place, left_of}
 use Rattle.osm_mirror.specs.Mirror.{Counted}
 use Rattle.osm_model.specs.Change.{ChangeValue}
 use Rattle.osm_model.specs.Filter.{FilterValue}
-use Rattle.osm_model.specs.declared.kind.Key.{Key}
-use Rattle.osm_reading.proofs.StepLemmas.{some_then}
 use Rattle.osm_save.specs.Head.{most_counted}
-use Rattle.osm_save.specs.Reading.{head_at, mirror_at, numbered_at, object_at, objects_at, save_at}
+use Rattle.osm_save.specs.Reading.{head_at, mirror_at, numbered_at, objects_at, save_at}
 use Rattle.osm_save.specs.Save.{SpellsSave, most_objects, saved_with}
 use Rattle.osm_save.specs.declared.head.Head.{Head}
-use Rattle.osm_save.specs.declared.save.Saved.{Saved}
 use Rattle.osm_save.specs.declared.version.Version.{Version}
-use Rattle.osm_save.proofs.SaveLemmas.{no_save, save_found}
-use Rattle.osm_store.specs.Frames.{IsKnown, StoreState}
-use Rattle.osm_merge.specs.Laying.{next_at}
+use Rattle.osm_save.proofs.SaveLemmas.{no_save, save_takes}
+use Rattle.osm_store.specs.Frames.{StoreState}
+use Rattle.osm_checked.specs.Checking.{IsTooLarge, read_fault_of}
+use Rattle.osm_merge.specs.Faults as merges
 use Rattle.osm_merge.specs.Mirrors.{both_at}
-use Rattle.osm_merge.specs.Opening.{IsOpened, ReadsOpening}
+use Rattle.osm_merge.specs.Opening.{IsOpened, OpeningStops}
+use Rattle.osm_merge.specs.Reading.{LineStops}
+use Rattle.osm_merge.specs.declared.fault.MergeFault.{MergeFault}
+use Rattle.osm_merge.specs.declared.fault.MergeFault.TheVariants as faults
 use Rattle.osm_merge.specs.declared.opening.Opening.{Opening}
 use Rattle.osm_merge.proofs.CallLemmas.{numbered_shorter}
-use Rattle.osm_merge.proofs.CheckLemmas.{mirror_none, mirror_tail}
-use Rattle.osm_merge.proofs.LineLemmas.{numbered_long, numbered_none}
-use Rattle.osm_merge.proofs.ObjectLemmas.{next_none, object_long}
-use Rattle.osm_merge.proofs.OpeningLemmas.{head_absent, head_longer, is_opened}
+use Rattle.osm_merge.proofs.CheckLemmas.{mirror_after, mirror_none, mirror_read, opening_stop}
+use Rattle.osm_merge.proofs.ListLemmas.{objects_none, objects_read}
+use Rattle.osm_merge.proofs.OpeningLemmas.{head_longer}
+use Rattle.osm_folder.specs.Runs.{IsDeviceFault}
 use Rattle.osm_folder.specs.declared.fault.RunFault.{RunFault}
-use Rattle.osm_folder.specs.declared.fault.RunFault.TheVariants.{Changed, WantOfMemory}
-use Rattle.osm_exporting.specs.Steps.Copying.{HasNoLine, HeadStops, IsAtObjects, PassStops, SavesNothing, object_lines_at}
+use Rattle.osm_folder.specs.declared.fault.RunFault.TheVariants.{Absent, BadSave, Changed, ReadFault, TooLarge, WantOfMemory, WriteFault}
+use Rattle.osm_exporting.specs.Steps.Copying.{IsAtObjects, PassStops, StageStops, object_lines_at}
 
--- ---- a reading that begins with a line
+-- ---- the faults of a save text as those of a run
 
-pub number_unread : (most : ℕ) (bytes : List ℕ) → HasNoLine bytes → numbered_at (codes "objects ") most bytes ≡ None
-number_unread most bytes (inl none) = numbered_none (codes "objects ") most bytes none
-number_unread most bytes (inr long) = numbered_long (codes "objects ") most bytes (lit≤ tt) long
+pub line_stops : {A : Type 0} (state : StoreState) (name : List ℕ) (reading : List ℕ → Option A) (fault : MergeFault)
+    → ((file : List ℕ) → HasFile state name file → LineStops file fault (reading file))
+    → PassStops state name (λ file. reading file ≡ None) (read_fault_of fault)
+line_stops state name reading faults.ReadFault r = refl
+line_stops state name reading faults.WriteFault r = refl
+line_stops state name reading faults.WantOfMemory r = tt
+line_stops state name reading faults.NoSave r = (refl, r)
+line_stops state name reading (faults.BadSave line) r = r
+line_stops state name reading faults.LongLine r = (refl, λ file has. inr (r file has))
+line_stops state name reading faults.TooLarge r = (refl, λ file has. inl (r file has))
+line_stops state name reading faults.Changed r = (refl, r)
 
-pub object_unread : (f : FilterValue) (last : Option Key) (bytes : List ℕ) → HasNoLine bytes → next_at (object_at f) last bytes ≡ None
-object_unread f last bytes (inl none) = next_none (object_at f) last bytes none
-object_unread f last bytes (inr long) = object_long f last bytes long
+pub opening_stops : (known : Type 0) (told : Option (List ℕ)) (fault : MergeFault) → (known → OpeningStops told fault)
+    → StageStops known told (read_fault_of fault)
+opening_stops known told faults.ReadFault r = refl
+opening_stops known told faults.WriteFault r = refl
+opening_stops known told faults.WantOfMemory r = tt
+opening_stops known told faults.NoSave r = (refl, r)
+opening_stops known told (faults.BadSave line) r = λ yes. opening_stop told (faults.BadSave line) (r yes)
+opening_stops known told faults.LongLine r = (refl, λ yes. absurd (r yes))
+opening_stops known told faults.TooLarge r = (refl, λ yes. absurd (r yes))
+opening_stops known told faults.Changed r = (refl, r)
+
+-- a run blames the device where the reading does
+blames_device : (fault : MergeFault) → IsDeviceFault (read_fault_of fault) → merges.IsDeviceFault fault
+blames_device faults.ReadFault blame = tt
+blames_device faults.WriteFault blame = tt
+blames_device faults.WantOfMemory blame = absurd blame
+blames_device faults.NoSave blame = absurd blame
+blames_device (faults.BadSave line) blame = absurd blame
+blames_device faults.LongLine blame = absurd blame
+blames_device faults.TooLarge blame = absurd blame
+blames_device faults.Changed blame = absurd blame
+
+pub advances_still : {T : Type 0} {before : ℕ} {after : T → ℕ} (a b : StoreState) (x : T) → Advances merges.IsDeviceFault before after a b (Ok x)
+    → Advances IsDeviceFault before after a b (Ok x)
+advances_still a b x p = record { spent = p.spent; lacks = tt }
+
+pub advances_told : {T : Type 0} {before : ℕ} {after : T → ℕ} (a b : StoreState) (fault : MergeFault)
+    → Advances {T = T} merges.IsDeviceFault before after a b (Err fault) → Advances {T = T} IsDeviceFault before after a b (Err (read_fault_of fault))
+advances_told a b fault p = record { spent = tt; lacks = λ blame. p.lacks (blames_device fault blame) }
 
 -- ---- from the head to the objects
 
@@ -46,84 +81,73 @@ save_is : (file rest : List ℕ) (version : Version) (head : Head) (f : FilterVa
 unfolding save_at
 save_is file rest version head f e = rw e refl
 
-save_none : (file : List ℕ) → head_at file ≡ None → save_at file ≡ None
-unfolding save_at
-save_none file e = rw e refl
+-- a file that was opened, of which a part can't be read only if it is the save text of nothing
+pub record IsHeld (state : StoreState) (name : List ℕ) (told : Option (List ℕ)) (Unreadable : List ℕ → Type 0) : Type 0 where
+  pub file : List ℕ
+  pub there : told ≡ Some file
+  pub has : HasFile state name file
+  pub nothing : Unreadable file → save_at file ≡ None
 
-objects_none : (f : FilterValue) (most : ℕ) (bytes : List ℕ) → numbered_at (codes "objects ") most bytes ≡ None → objects_at f most bytes ≡ None
-unfolding objects_at
-objects_none f most bytes none = rw none refl
-
-abbrev saved_of : Head → FilterValue → List ChangeValue → List Counted → List Counted → Saved
-saved_of head f os us ss = saved_with head f (record { objects = os; users = us; changesets = ss })
-
--- what is saved has the objects that are read
-objects_kept : (version : Version) (head : Head) (f : FilterValue) (bytes : List ℕ) (v : Saved) → mirror_at version head f bytes ≡ Some v
-    → (after : List ℕ) × (objects_at f (most_objects version head.number) bytes ≡ Some (v.mirror.objects, after))
-objects_kept version head f bytes v e = by_objects (objects_at f (most_objects version head.number) bytes) refl
+pub part_stops : (state : StoreState) (name : List ℕ) (known : Type 0) (told : Option (List ℕ)) (U : List ℕ → Type 0) (fault : RunFault)
+    → (known → IsHeld state name told U) → PassStops state name U fault → StageStops known told fault
+part_stops state name known told U WantOfMemory held r = tt
+part_stops state name known told U (ReadFault file) held r = r
+part_stops state name known told U (WriteFault file) held r = r
+part_stops state name known told U (BadSave line) held r = λ yes.
+    let h = held yes in record { file = h.file; there = h.there; none = no_save h.file (h.nothing (r h.file h.has)) }
+part_stops state name known told U (TooLarge file) held r = (r.0, λ yes. by_reason (held yes) (r.1 (held yes).file (held yes).has))
   where
-    by_objects : (o : Option (List ChangeValue × List ℕ)) → objects_at f (most_objects version head.number) bytes ≡ o
-        → (after : List ℕ) × (objects_at f (most_objects version head.number) bytes ≡ Some (v.mirror.objects, after))
-    by_objects None is = absurd (let bad : None ≡ Some v = sym (mirror_none version head f bytes is) ∙ e in cc)
-    by_objects (Some o) is =
-        let c = some_then (both_at (most_counted head) o.1) (λ (c : List Counted × List Counted). Some (saved_of head f o.0 c.0 c.1)) v
-        (sym (mirror_tail version head f bytes o.1 o.0 is) ∙ e) in (
-          o.1,
-          subst (λ (x : Saved). objects_at f (most_objects version head.number) bytes ≡ Some (x.mirror.objects, o.1))
-              (same_Some (saved_of head f o.0 c.0.0 c.0.1) v c.2) is,
-        )
+    by_reason : (h : IsHeld state name told U) → IsHuge h.file ⊎ U h.file → IsTooLarge told
+    by_reason h (inl huge) = inl (record { file = h.file; there = h.there; huge = huge })
+    by_reason h (inr bad) = inr (record { file = h.file; there = h.there; none = no_save h.file (h.nothing bad) })
+part_stops state name known told U (Absent file) held r = (r.0, λ yes. absurd (r.1 (held yes).file (held yes).has))
+part_stops state name known told U (Changed file) held r = (r.0, λ yes. r.1 (held yes).file (held yes).has)
+part_stops state name known told U fault held r = absurd r
 
-lines_next : (f : FilterValue) (most : ℕ) (bytes : List ℕ) (many : ℕ) (rest : List ℕ) (r : Option (List ChangeValue × List ℕ))
-    → numbered_at (codes "objects ") most bytes ≡ Some (many, rest) → objects_at f most bytes ≡ r → object_lines_at f many rest ≡ r
-unfolding objects_at
-lines_next f most bytes many rest r n e = rw n at e
+-- the number of the objects comes after the head
+module _ (told : Option (List ℕ)) (old : Place) (o : Opening) (most : ℕ) (opened : IsOpened told old o)
+    (most_is : most ≡ most_objects o.version o.head.number) where
+  pub number_nothing : numbered_at (codes "objects ") most (left_of old opened.file) ≡ None → save_at opened.file ≡ None
+  number_nothing none =
+      save_is opened.file (left_of old opened.file) o.version o.head o.filter opened.head
+      ∙ mirror_none o.version o.head o.filter (left_of old opened.file)
+      (objects_none o.filter (most_objects o.version o.head.number) (left_of old opened.file) (rw most_is at none))
 
--- a file was opened, and the number of its objects was read
-module _ (a : StoreState) (name : List ℕ) (old new : Place) (o : Opening) (most : ℕ)
-    (opens : IsKnown a → Opens (Some old) (a.files name)) (reads : ReadsOpening old new o) (most_is : most ≡ most_objects o.version o.head.number) where
-  has_opened : (file : List ℕ) → HasFile a name file → head_at file ≡ Some (o.version, o.head, o.filter, left_of new file)
-  has_opened file has =
-      let opened : IsOpened (a.files name) new o = is_opened (a.files name) old new o (opens has.known) reads in
-      let same : opened.file ≡ file = same_Some opened.file file (sym opened.there ∙ has.there) in
-      subst (λ (x : List ℕ). head_at x ≡ Some (o.version, o.head, o.filter, left_of new x)) same opened.head
+  pub at_objects : (new : Place) (many : ℕ) → numbered_at (codes "objects ") most (left_of old opened.file) ≡ Some (many, left_of new opened.file)
+      → IsAtObjects told new o many
+  at_objects new many n = record {
+    file = opened.file;
+    there = opened.there;
+    rest = left_of old opened.file;
+    head = opened.head;
+    number = rw most_is at n;
+  }
 
-  pub at_objects : (last : Place) (many : ℕ) (file : List ℕ) (saved : Saved) → HasFile a name file → SpellsSave file saved
-      → numbered_at (codes "objects ") most (left_of new file) ≡ Some (many, left_of last file)
-      → IsAtObjects file saved last o.filter many
-  at_objects last many file saved has spells n =
-      let e : mirror_at o.version o.head o.filter (left_of new file) ≡ Some saved =
-      sym (save_is file (left_of new file) o.version o.head o.filter (has_opened file has)) ∙ save_found file saved spells in
-      let k = objects_kept o.version o.head o.filter (left_of new file) saved e in
-      record {
-        after = k.0;
-        lines = lines_next o.filter (most_objects o.version o.head.number) (left_of new file) many (left_of last file) (Some (saved.mirror.objects, k.0))
-            (rw most_is at n) k.1;
-      }
-
-  pub number_saves_nothing : (file : List ℕ) → HasFile a name file → numbered_at (codes "objects ") most (left_of new file) ≡ None → SavesNothing file
-  number_saves_nothing file has none =
-      no_save file (save_is file (left_of new file) o.version o.head o.filter (has_opened file has)
-      ∙ mirror_none o.version o.head o.filter (left_of new file)
-      (objects_none o.filter (most_objects o.version o.head.number) (left_of new file) (rw most_is at none)))
-
-  pub objects_shorter : (last : Place) (many : ℕ) (file : List ℕ) → HasFile a name file
-      → numbered_at (codes "objects ") most (left_of new file) ≡ Some (many, left_of last file)
-      → length (left_of last file) ≤ length file
-  objects_shorter last many file has n =
-      let whole = head_longer file (o.version, o.head, o.filter, left_of new file) (has_opened file has) in
-      let less = numbered_shorter (codes "objects ") most (left_of new file) many (left_of last file) n in
+  pub objects_shorter : (new : Place) (many : ℕ) → numbered_at (codes "objects ") most (left_of old opened.file) ≡ Some (many, left_of new opened.file)
+      → length (left_of new opened.file) ≤ length opened.file
+  objects_shorter new many n =
+      let whole = head_longer opened.file (o.version, o.head, o.filter, left_of old opened.file) opened.head in
+      let less = numbered_shorter (codes "objects ") most (left_of old opened.file) many (left_of new opened.file) n in
       omega (arith, whole, less)
 
--- the first block has no head
-pub head_saves_nothing : (a : StoreState) (name : List ℕ) (old : Place) (fault : RunFault) → (IsKnown a → Opens (Some old) (a.files name))
-    → HeadStops old.unread fault → PassStops a name SavesNothing fault
-head_saves_nothing a name old WantOfMemory opens r = tt
-head_saves_nothing a name old (Changed file) opens r = (
-  r.0,
-  λ bytes has.
-      let o = opens has.known in
-      let same : o.0 ≡ bytes = same_Some o.0 bytes (sym o.1 ∙ has.there) in
-      let block : head_at (take max_block bytes) ≡ None = subst (λ (x : List ℕ). head_at (take max_block x) ≡ None) same (rw o.2 at r.1) in
-      no_save bytes (save_none bytes (head_absent max_block bytes (lit≤ tt) block)),
-)
-head_saves_nothing a name old fault opens r = absurd r
+-- the lines of the objects come after their number, and then both lists of counts and the end
+module _ (told : Option (List ℕ)) (place : Place) (o : Opening) (many : ℕ) (at : IsAtObjects told place o many) where
+  mirror_is : save_at at.file ≡ mirror_at o.version o.head o.filter at.rest
+  mirror_is = save_is at.file at.rest o.version o.head o.filter at.head
+
+  lines_are : objects_at o.filter (most_objects o.version o.head.number) at.rest ≡ object_lines_at o.filter many (left_of place at.file)
+  lines_are = objects_read o.filter (most_objects o.version o.head.number) at.rest (left_of place at.file) many at.number
+
+  pub lines_nothing : object_lines_at o.filter many (left_of place at.file) ≡ None → save_at at.file ≡ None
+  lines_nothing none = mirror_is ∙ mirror_none o.version o.head o.filter at.rest (lines_are ∙ none)
+
+  pub rest_nothing : (objects : List ChangeValue) (after : List ℕ) → object_lines_at o.filter many (left_of place at.file) ≡ Some (objects, after)
+      → both_at (most_counted o.head) after ≡ None → save_at at.file ≡ None
+  rest_nothing objects after lines none = mirror_is ∙ mirror_after o.version o.head o.filter at.rest after objects (lines_are ∙ lines) none
+
+  pub spells_saved : (objects : List ChangeValue) (after : List ℕ) (c : List Counted × List Counted)
+      → object_lines_at o.filter many (left_of place at.file) ≡ Some (objects, after) → both_at (most_counted o.head) after ≡ Some c
+      → SpellsSave at.file (saved_with o.head o.filter (record { objects = objects; users = c.0; changesets = c.1 }))
+  spells_saved objects after c lines both =
+      save_takes at.file (saved_with o.head o.filter (record { objects = objects; users = c.0; changesets = c.1 }))
+      (mirror_is ∙ mirror_read o.version o.head o.filter at.rest after objects c (lines_are ∙ lines) both)

@@ -1,15 +1,13 @@
--- Why the second pass over a save stops, and what calls one after the other fill of a file.
-use Rattle.std.proofs.Common.{◌≡◌, ℕ, List, [], ◌++◌, Some, inr, refl, sym, ap, subst, ◌∙◌, append_assoc}
-use Rattle.std.specs.Prelude.{Bool, IsTrue, Ok}
+-- Why a pass over a save stops, and what calls one after the other fill of a file.
+use Rattle.std.proofs.Common.{◌≡◌, ℕ, List, [], ◌++◌, Some, inl, inr, refl, sym, ap, subst, ◌∙◌, append_assoc}
+use Rattle.std.specs.Prelude.{◌⊎◌, Bool, IsTrue, Ok}
 use Rattle.std.proofs.lemmas.List.{append-nil}
 use Rattle.osm_blocks.specs.Frames.{ReadsOften}
-use Rattle.osm_blocks.specs.Places.{HasFile, Place, ReadStops, left_of}
-use Rattle.osm_blocks.specs.declared.fault.BlockFault.{BlockFault}
-use Rattle.osm_blocks.specs.declared.fault.BlockFault.TheVariants as blocks
+use Rattle.osm_blocks.specs.Places.{HasFile, IsHuge}
 use Rattle.osm_store.specs.Frames.{IsKnown, StoreState}
 use Rattle.osm_folder.specs.declared.fault.RunFault.{RunFault}
-use Rattle.osm_folder.specs.declared.fault.RunFault.TheVariants.{Changed, ReadFault, TooLarge, WantOfMemory, WriteFault}
-use Rattle.osm_exporting.specs.Steps.Copying.{Fills, HasNoLine, Lacks, PassStops, second_fault_of}
+use Rattle.osm_folder.specs.declared.fault.RunFault.TheVariants.{Absent, BadSave, Changed, ReadFault, TooLarge, WantOfMemory, WriteFault}
+use Rattle.osm_exporting.specs.Steps.Copying.{Fills, Lacks, PassStops}
 
 -- ---- why it stops
 
@@ -20,17 +18,15 @@ pub pass_map : (a b : StoreState) (name : List ℕ) (U V : List ℕ → Type 0) 
 pass_map a b name U V WantOfMemory has f r = tt
 pass_map a b name U V (ReadFault file) has f r = r
 pass_map a b name U V (WriteFault file) has f r = r
-pass_map a b name U V (TooLarge file) has f r = (r.0, λ bytes is. r.1 bytes (has bytes is))
-pass_map a b name U V (Changed file) has f r = (r.0, λ bytes is. f bytes is (r.1 bytes (has bytes is)))
+pass_map a b name U V (BadSave line) has f r = λ bytes is. f bytes is (r bytes (has bytes is))
+pass_map a b name U V (TooLarge file) has f r = (r.0, λ bytes is. by_reason bytes is (r.1 bytes (has bytes is)))
+  where
+    by_reason : (bytes : List ℕ) → HasFile a name bytes → IsHuge bytes ⊎ U bytes → IsHuge bytes ⊎ V bytes
+    by_reason bytes is (inl huge) = inl huge
+    by_reason bytes is (inr bad) = inr (f bytes is bad)
+pass_map a b name U V (Absent file) has f r = (r.0, λ bytes is. r.1 bytes (has bytes is))
+pass_map a b name U V (Changed file) has f r = (r.0, λ bytes is. r.1 bytes (has bytes is))
 pass_map a b name U V fault has f r = absurd r
-
-pub line_stops : (state : StoreState) (name : List ℕ) (place : Place) (fault : BlockFault)
-    → ((file : List ℕ) → HasFile state name file → ReadStops file place fault)
-    → PassStops state name (λ file. HasNoLine (left_of place file)) (second_fault_of fault)
-line_stops state name place blocks.Device r = refl
-line_stops state name place blocks.LongLine r = (refl, λ file has. inr (r file has))
-line_stops state name place blocks.TooLarge r = (refl, r)
-line_stops state name place blocks.WantOfMemory r = tt
 
 -- ---- what is filled
 

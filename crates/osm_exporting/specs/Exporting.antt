@@ -46,8 +46,8 @@ ExportStops known save output files (WriteFault file) =
 ExportStops known save output files fault =
     HasDataForm output × ReadStops known (files save) fault
 
--- the most calls of an export of a save of so many bytes: two readings of the save, an append for
--- each line, so for each byte at most, and three more: `begin`, the bytes that wait at the end, and
--- `commit`
+-- the most calls of an export of a save of so many bytes: two readings of the save, the second if
+-- the output isn't written, an append for each line, so for each byte at most, and three more:
+-- `begin`, the bytes that wait at the end, and `commit`
 abbrev pub export_calls : ℕ → ℕ
 export_calls bytes = 2 * check_calls bytes + bytes + 3

@@ -14,9 +14,9 @@ ghost use Rattle.osm_exporting.specs.Steps.Copying.{copies_ahead, object_lines_a
 
 use crate::data_writer::{DataWriter, OplWriter, o5m_writer};
 use crate::objects::next_object;
-use osm_blocks::line_reader::LineReader;
 use osm_folder::data_form::DataForm;
 use osm_folder::fault::{FileName, RunFault};
+use osm_merge::source::Source;
 use osm_model::change::Change;
 use osm_model::filter::Filter;
 use osm_model::memory::WantOfMemory;
@@ -31,34 +31,35 @@ pub(crate) fn copy_form<S: Store>(
     alloc: Global,
     store: &mut S,
     save: &str,
-    reader: &mut LineReader,
+    source: &mut Source,
     filter: &Filter,
     many: u64,
     form: DataForm,
 ) -> Result<(), RunFault>
     ensures copied { OnOk result (Copies (S.state store.old) (S.state store.new)
         (λ objects. (file : List ℕ) → HasFile (S.state store.old) save.now file
-        → object_lines_at filter.now many (left_of reader.old file)
-        ≡ Some (objects, left_of reader.new file))
+        → object_lines_at filter.now many (left_of source.old file)
+        ≡ Some (objects, left_of source.new file))
         (data_text_of form) []) }
     ensures stops { IfErr result (PassStops (S.state store.old) save.now
-        (λ file. object_lines_at filter.now many (left_of reader.old file) ≡ None)) }
+        (λ file. object_lines_at filter.now many (left_of source.old file) ≡ None)) }
     ensures frame { ReadsOften IsDeviceFault (S.state store.old) (S.state store.new) result }
     ensures calls { (file : List ℕ) → HasFile (S.state store.old) save.now file
-        → Advances IsDeviceFault (copies_ahead reader.old file + 1) (λ _. 0)
+        → Advances IsDeviceFault (copies_ahead source.old file + 1)
+        (λ _. copies_ahead source.new file)
         (S.state store.old) (S.state store.new) result }
 {
     match form {
         DataForm::Opl => {
             let mut writer = OplWriter::new(alloc);
-            copy_data(alloc, store, save, reader, filter, many, &mut writer)
+            copy_data(alloc, store, save, source, filter, many, &mut writer)
         }
         DataForm::O5m => {
             let mut writer = match o5m_writer(alloc) {
                 Ok(writer) => writer,
                 Err(WantOfMemory) => return Err(RunFault::WantOfMemory),
             };
-            copy_data(alloc, store, save, reader, filter, many, &mut writer)
+            copy_data(alloc, store, save, source, filter, many, &mut writer)
         }
     }
 }
@@ -68,24 +69,25 @@ fn copy_data<S: Store, W: DataWriter>(
     alloc: Global,
     store: &mut S,
     save: &str,
-    reader: &mut LineReader,
+    source: &mut Source,
     filter: &Filter,
     many: u64,
     writer: &mut W,
 ) -> Result<(), RunFault>
     ensures copied { OnOk result (Copies (S.state store.old) (S.state store.new)
         (λ objects. (file : List ℕ) → HasFile (S.state store.old) save.now file
-        → object_lines_at filter.now many (left_of reader.old file)
-        ≡ Some (objects, left_of reader.new file))
+        → object_lines_at filter.now many (left_of source.old file)
+        ≡ Some (objects, left_of source.new file))
         (W.ahead writer.old) []) }
     ensures stops { IfErr result (PassStops (S.state store.old) save.now
-        (λ file. object_lines_at filter.now many (left_of reader.old file) ≡ None)) }
+        (λ file. object_lines_at filter.now many (left_of source.old file) ≡ None)) }
     ensures frame { ReadsOften IsDeviceFault (S.state store.old) (S.state store.new) result }
     ensures calls { (file : List ℕ) → HasFile (S.state store.old) save.now file
-        → Advances IsDeviceFault (copies_ahead reader.old file + 1) (λ _. 0)
+        → Advances IsDeviceFault (copies_ahead source.old file + 1)
+        (λ _. copies_ahead source.new file)
         (S.state store.old) (S.state store.new) result }
 {
-    match copy_objects(alloc, store, save, reader, filter, many, writer) {
+    match copy_objects(alloc, store, save, source, filter, many, writer) {
         Ok(()) => {}
         Err(fault) => return Err(fault),
     }
@@ -100,28 +102,28 @@ fn copy_objects<S: Store, W: DataWriter>(
     alloc: Global,
     store: &mut S,
     save: &str,
-    reader: &mut LineReader,
+    source: &mut Source,
     filter: &Filter,
     many: u64,
     writer: &mut W,
 ) -> Result<(), RunFault>
     ensures copied { OnOk result (Copies (S.state store.old) (S.state store.new)
         (λ objects. (file : List ℕ) → HasFile (S.state store.old) save.now file
-        → object_lines_at filter.now many (left_of reader.old file)
-        ≡ Some (objects, left_of reader.new file))
+        → object_lines_at filter.now many (left_of source.old file)
+        ≡ Some (objects, left_of source.new file))
         (W.ahead writer.old) (W.ahead writer.new [])) }
     ensures stops { IfErr result (PassStops (S.state store.old) save.now
-        (λ file. object_lines_at filter.now many (left_of reader.old file) ≡ None)) }
+        (λ file. object_lines_at filter.now many (left_of source.old file) ≡ None)) }
     ensures frame { ReadsOften IsDeviceFault (S.state store.old) (S.state store.new) result }
     ensures calls { (file : List ℕ) → HasFile (S.state store.old) save.now file
-        → Advances IsDeviceFault (copies_ahead reader.old file)
-        (λ _. copies_ahead reader.new file)
+        → Advances IsDeviceFault (copies_ahead source.old file)
+        (λ _. copies_ahead source.new file)
         (S.state store.old) (S.state store.new) result }
 {
     let mut spelled = Vec::new(alloc);
     let mut last = None;
     for _ in 0..many {
-        let object = match next_object(alloc, store, save, reader, filter, last, &mut spelled) {
+        let object = match next_object(alloc, store, save, source, filter, last, &mut spelled) {
             Ok(object) => object,
             Err(fault) => return Err(fault),
         };

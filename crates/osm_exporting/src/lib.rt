@@ -4,5 +4,4 @@
 mod copy;
 mod data_writer;
 pub mod export;
-mod fault;
 mod objects;

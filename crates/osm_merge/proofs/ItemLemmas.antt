@@ -57,6 +57,24 @@ next_parts {X} {K} item last bytes after x e = by_cut (cut_at 10 bytes) e
     by_cut None e = absurd cc
     by_cut (Some l) e = by_item l.0 l.1 (item last l.0) refl e
 
+-- where a line can't be read, the list can't be
+pub items_stop : {X K : Type 0} (key : X → K) (item : Option K → List ℕ → Option X) (many : ℕ) (bytes : List ℕ) (i : ℕ) (xs : List X)
+    (last : Option K) (rest : List ℕ) → i < many → Items key item many bytes i xs last rest → next_at item last rest ≡ None
+    → items_at key item many None bytes ≡ None
+unfolding next_at
+items_stop {X} {K} key item many bytes i xs last rest lt h e = by_cut (cut_at 10 rest) refl e
+  where
+    by_item : (line after : List ℕ) (o : Option X) → cut_at 10 rest ≡ Some (line, after) → item last line ≡ o
+        → and_then {A = X} {B = X × List ℕ} o (λ y. Some (y, after)) ≡ None → items_at key item many None bytes ≡ None
+    by_item line after None cut is e = items_wrong key item many bytes i xs last rest line after lt h cut is
+    by_item line after (Some y) cut is e = absurd cc
+
+    by_cut : (o : Option (List ℕ × List ℕ)) → cut_at 10 rest ≡ o
+        → and_then {A = List ℕ × List ℕ} {B = X × List ℕ} o (λ l. and_then {A = X} {B = X × List ℕ} (item last l.0) (λ y. Some (y, l.1))) ≡ None
+        → items_at key item many None bytes ≡ None
+    by_cut None cut e = items_cut key item many bytes i xs last rest lt h cut
+    by_cut (Some l) cut e = by_item l.0 l.1 (item last l.0) cut refl e
+
 module _ {E X K : Type 0} (lay : List E → List X → List X) (text : X → List ℕ) (key : X → K) (item : Option K → List ℕ → Option X) where
   pub texts-append : (xs ys : List X) → ended (map text xs) ++ ended (map text ys) ≡ ended (map text (xs ++ ys))
   texts-append xs ys = sym (ap ended (map-append text xs ys) ∙ ended-append (map text xs) (map text ys))
@@ -97,22 +115,6 @@ module _ {E X K : Type 0} (lay : List E → List X → List X) (text : X → Lis
     frame = often_then IsDeviceFault a b c tt tt tt h.frame frame;
   }
 
-  items_stop : (many : ℕ) (bytes : List ℕ) (i : ℕ) (xs : List X) (last : Option K) (rest : List ℕ) → i < many
-      → Items key item many bytes i xs last rest → next_at item last rest ≡ None → items_at key item many None bytes ≡ None
-  unfolding next_at
-  items_stop many bytes i xs last rest lt h e = by_cut (cut_at 10 rest) refl e
-    where
-      by_item : (line after : List ℕ) (o : Option X) → cut_at 10 rest ≡ Some (line, after) → item last line ≡ o
-          → and_then {A = X} {B = X × List ℕ} o (λ y. Some (y, after)) ≡ None → items_at key item many None bytes ≡ None
-      by_item line after None cut is e = items_wrong key item many bytes i xs last rest line after lt h cut is
-      by_item line after (Some y) cut is e = absurd cc
-
-      by_cut : (o : Option (List ℕ × List ℕ)) → cut_at 10 rest ≡ o
-          → and_then {A = List ℕ × List ℕ} {B = X × List ℕ} o (λ l. and_then {A = X} {B = X × List ℕ} (item last l.0) (λ y. Some (y, l.1))) ≡ None
-          → items_at key item many None bytes ≡ None
-      by_cut None cut e = items_cut key item many bytes i xs last rest lt h cut
-      by_cut (Some l) cut e = by_item l.0 l.1 (item last l.0) cut refl e
-
   -- where a line is refused, the list is
   pub merging_stops : (many : ℕ) (es rest : List E) (i : ℕ) (last : Option K) (count : ℕ) (Has : List ℕ → Type 0) (begun now : List ℕ → List ℕ)
       (a b : StoreState) (w v : Waiting) (file : List ℕ) (fault : MergeFault) → i < many
@@ -120,7 +122,7 @@ module _ {E X K : Type 0} (lay : List E → List X → List X) (text : X → Lis
       → LineStops file fault (next_at item last (now file)) → LineStops file fault (items_at key item many None (begun file))
   merging_stops many es rest i last count Has begun now a b w v file fault lt h has refused =
       refuses_all file fault (next_at item last (now file)) (items_at key item many None (begun file)) refused
-      (items_stop many (begun file) i h.values last (now file) lt (h.read file has))
+      (items_stop key item many (begun file) i h.values last (now file) lt (h.read file has))
 
   pub merging_done : (many : ℕ) (es rest : List E) (i : ℕ) (last : Option K) (count k : ℕ) (Has : List ℕ → Type 0) (begun now : List ℕ → List ℕ)
       (a b c : StoreState) (w v u : Waiting) → many ≤ i

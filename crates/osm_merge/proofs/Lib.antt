@@ -9,4 +9,5 @@ pub mod ObjectLemmas
 pub mod CountingLemmas
 pub mod CountLemmas
 pub mod ListLemmas
+pub mod PassLemmas
 pub mod CheckLemmas

@@ -6,5 +6,6 @@ pub mod Opening
 pub mod Laying
 pub mod Counting
 pub mod Mirrors
+pub mod Passing
 pub mod Checking
 pub mod Merging

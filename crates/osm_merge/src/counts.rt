@@ -26,9 +26,9 @@ use osm_store::store::Store;
 use std::alloc::Global;
 use std::cmp::Ordering;
 
-// Passes the next line, which has to be that of a count of at most `most`, with a number above the
-// last one, and gives the count.
-fn next_count<S: Store>(
+/// Passes the next line, which has to be that of a count of at most `most`, with a number above the
+/// last one, and gives the count.
+pub(crate) fn next_count<S: Store>(
     alloc: Global,
     store: &mut S,
     name: &str,

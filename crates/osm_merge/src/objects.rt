@@ -28,9 +28,9 @@ use osm_store::store::Store;
 use std::alloc::Global;
 use std::cmp::Ordering;
 
-// Passes the next line, which has to be that of an object that the filter keeps, with a key after
-// the last one, and gives the object. Its line is in `spelled` then.
-fn next_object<S: Store>(
+/// Passes the next line, which has to be that of an object that the filter keeps, with a key after
+/// the last one, and gives the object. Its line is in `spelled` then.
+pub fn next_object<S: Store>(
     alloc: Global,
     store: &mut S,
     name: &str,

@@ -54,8 +54,8 @@ pub fn read_beginning<S: Store>(
     }
 }
 
-/// Opens a save text, and reads its head.
-pub(crate) fn open_save<S: Store>(
+/// Opens a save text, and reads its head. What follows is next.
+pub fn open_save<S: Store>(
     alloc: Global,
     store: &mut S,
     name: &str,

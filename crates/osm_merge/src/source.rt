@@ -22,7 +22,7 @@ use std::marker::Model;
 
 /// Where the reading of a save text stands, and the number of the next line.
 #[derive(Drop)]
-pub(crate) struct Source {
+pub struct Source {
     reader: LineReader,
     line: u64,
 }
@@ -37,7 +37,11 @@ impl Model for Source {
 
 impl Source {
     /// Reads the first block of a file.
-    pub fn open<S: Store>(alloc: Global, store: &mut S, name: &str) -> Result<Source, MergeFault>
+    pub(crate) fn open<S: Store>(
+        alloc: Global,
+        store: &mut S,
+        name: &str,
+    ) -> Result<Source, MergeFault>
         ensures opened { IfOk result (λ source. IsKnown (S.state store.old)
             → Opens (Some source) ((S.state store.old).files name.now)) }
         ensures refused { IfErr result (λ fault. IsKnown (S.state store.old)
@@ -57,14 +61,14 @@ impl Source {
     }
 
     /// The bytes that were read and not passed yet.
-    pub fn unread(&self) -> &[u8]
+    pub(crate) fn unread(&self) -> &[u8]
         ensures { result.now ≡ self.now.unread }
     {
         self.reader.unread()
     }
 
     /// The first bytes of those, as many as that.
-    pub fn line(&self, count: usize) -> &[u8]
+    pub(crate) fn line(&self, count: usize) -> &[u8]
         requires { count ≤ length self.now.unread }
         ensures { result.now ≡ take count self.now.unread }
     {
@@ -72,7 +76,7 @@ impl Source {
     }
 
     /// Passes a line with so many bytes, and its LF.
-    pub fn pass(&mut self, count: usize)
+    pub(crate) fn pass(&mut self, count: usize)
         requires { count < length self.old.unread }
         ensures { self.new ≡ past (count + 1) self.old }
     {
@@ -82,7 +86,7 @@ impl Source {
     }
 
     /// Passes so many bytes, whose lines are counted.
-    pub fn pass_lines(&mut self, count: usize)
+    pub(crate) fn pass_lines(&mut self, count: usize)
         requires { count ≤ length self.old.unread }
         ensures { self.new ≡ past count self.old }
     {
@@ -92,14 +96,14 @@ impl Source {
     }
 
     /// The fault of the next line.
-    pub fn wrong(&self) -> MergeFault
+    pub(crate) fn wrong(&self) -> MergeFault
         ensures { IsBadLine result }
     {
         MergeFault::BadSave { line: self.line }
     }
 
     /// The fault of the line at whose start so many of the bytes that were read are left.
-    pub fn wrong_at(&self, left: usize) -> MergeFault
+    pub(crate) fn wrong_at(&self, left: usize) -> MergeFault
         ensures { IsBadLine result }
     {
         MergeFault::BadSave {
@@ -108,7 +112,7 @@ impl Source {
     }
 
     /// Finds the next line: the count of its bytes.
-    pub fn next<S: Store>(
+    pub(crate) fn next<S: Store>(
         &mut self,
         alloc: Global,
         store: &mut S,
@@ -164,7 +168,7 @@ impl Source {
     }
 
     /// Passes the next line, which has to have this text.
-    pub fn fixed<S: Store>(
+    pub(crate) fn fixed<S: Store>(
         &mut self,
         alloc: Global,
         store: &mut S,
@@ -193,7 +197,7 @@ impl Source {
     }
 
     /// Whether nothing is left of the file.
-    pub fn is_ended<S: Store>(
+    pub(crate) fn is_ended<S: Store>(
         &mut self,
         alloc: Global,
         store: &mut S,
@@ -212,7 +216,7 @@ impl Source {
     }
 
     /// Passes the line `end`, after which nothing may be left.
-    pub fn end<S: Store>(
+    pub(crate) fn end<S: Store>(
         &mut self,
         alloc: Global,
         store: &mut S,

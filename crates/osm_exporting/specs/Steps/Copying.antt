@@ -1,37 +1,46 @@
--- How the objects of a save text are read again, and written to a file that was begun.
-use Rattle.std.specs.Prelude.{◌≡◌, ℕ, ◌+◌, ◌⊎◌, List, [], ◌∷◌, ◌++◌, length, Option, Some, None}
+-- How the objects of a save text are read, and written to a file that was begun.
+use Rattle.std.specs.Prelude.{◌≡◌, ℕ, ◌+◌, ◌⊎◌, List, [], ◌∷◌, ◌++◌, codes, length, Option, Some}
+use Rattle.std.specs.Prelude.{None}
 use Rattle.osm_blocks.specs.Calls.{reads_ahead}
-use Rattle.osm_blocks.specs.Places.{HasFile, IsHuge, IsLong, Place, left_of}
-use Rattle.osm_blocks.specs.declared.fault.BlockFault.{BlockFault}
-use Rattle.osm_blocks.specs.declared.fault.BlockFault.TheVariants as blocks
+use Rattle.osm_blocks.specs.Places.{HasFile, IsHuge, Place, left_of}
+use Rattle.osm_checked.specs.Checking.{IsSaveText, ReadStops}
+use Rattle.osm_merge.specs.declared.opening.Opening.{Opening}
 use Rattle.osm_model.specs.Change.{ChangeValue}
 use Rattle.osm_model.specs.Filter.{FilterValue}
 use Rattle.osm_o5c.specs.File.{end_byte}
 use Rattle.osm_o5c.specs.Written.{objects_text}
 use Rattle.osm_o5c.specs.declared.writer.Writer.{Writer}
-use Rattle.osm_reading.specs.Pieces.{cut_at}
-use Rattle.osm_save.specs.Reading.{head_at, items_at, object_at}
-use Rattle.osm_save.specs.Save.{SpellsSave}
-use Rattle.osm_save.specs.declared.save.Saved.{Saved}
+use Rattle.osm_save.specs.Reading.{head_at, items_at, numbered_at, object_at}
+use Rattle.osm_save.specs.Save.{most_objects}
+use Rattle.osm_store.specs.Files.{Files, Puts, Stage}
 use Rattle.osm_store.specs.Frames.{IsKnown, StoreState}
+use Rattle.osm_folder.specs.DataForms.{data_text_of}
+use Rattle.osm_folder.specs.declared.data_form.DataForm.{DataForm}
 use Rattle.osm_folder.specs.declared.fault.FileName.TheVariants.{Output, Save}
 use Rattle.osm_folder.specs.declared.fault.RunFault.{RunFault}
-use Rattle.osm_folder.specs.declared.fault.RunFault.TheVariants.{Changed, ReadFault, TooLarge}
-use Rattle.osm_folder.specs.declared.fault.RunFault.TheVariants.{WantOfMemory, WriteFault}
+use Rattle.osm_folder.specs.declared.fault.RunFault.TheVariants.{Absent, BadSave, Changed}
+use Rattle.osm_folder.specs.declared.fault.RunFault.TheVariants.{ReadFault, TooLarge, WantOfMemory}
+use Rattle.osm_folder.specs.declared.fault.RunFault.TheVariants.{WriteFault}
 
 -- the lines of so many objects, each with a key above the one before it
 abbrev pub object_lines_at : FilterValue → ℕ → List ℕ → Option (List ChangeValue × List ℕ)
 object_lines_at f many bytes = items_at (λ c. c.key) (object_at f) many None bytes
 
--- why the second pass stops. A known file changed only if the lines can't be read
+-- why a part of the pass stops. Of a known file a line is bad or too long only if the part can't be
+-- read, and a file that was opened is neither absent nor changed
 abbrev pub PassStops : StoreState → List ℕ → (List ℕ → Type 0) → RunFault → Type 0
 PassStops state name Unreadable WantOfMemory = Unit {0}
 PassStops state name Unreadable (ReadFault file) = file ≡ Save
 PassStops state name Unreadable (WriteFault file) = file ≡ Output
+PassStops state name Unreadable (BadSave line) =
+    (bytes : List ℕ) → HasFile state name bytes → Unreadable bytes
 PassStops state name Unreadable (TooLarge file) =
-    (file ≡ Save) × ((bytes : List ℕ) → HasFile state name bytes → IsHuge bytes)
+    (file ≡ Save)
+    × ((bytes : List ℕ) → HasFile state name bytes → IsHuge bytes ⊎ Unreadable bytes)
+PassStops state name Unreadable (Absent file) =
+    (file ≡ Save) × ((bytes : List ℕ) → HasFile state name bytes → ⊥)
 PassStops state name Unreadable (Changed file) =
-    (file ≡ Save) × ((bytes : List ℕ) → HasFile state name bytes → Unreadable bytes)
+    (file ≡ Save) × ((bytes : List ℕ) → HasFile state name bytes → ⊥)
 PassStops state name Unreadable fault = ⊥
 
 -- why the output isn't written
@@ -40,32 +49,36 @@ OutputStops WantOfMemory = Unit {0}
 OutputStops (WriteFault file) = file ≡ Output
 OutputStops fault = ⊥
 
--- the fault of a save that was checked and is read again: no line of it was too long
-abbrev pub second_fault_of : BlockFault → RunFault
-second_fault_of blocks.Device = ReadFault Save
-second_fault_of blocks.LongLine = Changed Save
-second_fault_of blocks.TooLarge = TooLarge Save
-second_fault_of blocks.WantOfMemory = WantOfMemory
+-- why the pass stops: for the output, whatever the save is, or for the save
+abbrev pub StageStops : Type 0 → Option (List ℕ) → RunFault → Type 0
+StageStops known told (WriteFault file) = file ≡ Output
+StageStops known told fault = ReadStops known told fault
 
--- why no head is read
-abbrev pub HeadStops : List ℕ → RunFault → Type 0
-HeadStops bytes WantOfMemory = Unit {0}
-HeadStops bytes (Changed file) = (file ≡ Save) × (head_at bytes ≡ None)
-HeadStops bytes fault = ⊥
+-- the output is the reason
+abbrev pub IsOfOutput : RunFault → Type 0
+IsOfOutput (WriteFault file) = Unit {0}
+IsOfOutput fault = ⊥
 
--- the bytes are the save text of nothing
-abbrev pub SavesNothing : List ℕ → Type 0
-SavesNothing bytes = (saved : Saved) → SpellsSave bytes saved → ⊥
+-- a file was opened: what it begins with was read, and the lines of its objects are next, so many
+pub record IsAtObjects (told : Option (List ℕ)) (place : Place) (o : Opening) (many : ℕ) : Type 0
+  where
+    pub file : List ℕ
+    pub there : told ≡ Some file
+    pub rest : List ℕ
+    pub head : head_at file ≡ Some (o.version, o.head, o.filter, rest)
+    pub number : numbered_at (codes "objects ") (most_objects o.version o.head.number) rest
+        ≡ Some (many, left_of place file)
 
--- no line of a save text is next
-abbrev pub HasNoLine : List ℕ → Type 0
-HasNoLine bytes = (cut_at 10 bytes ≡ None) ⊎ IsLong bytes
+-- the save is a save text, and all of its objects are in the file that was begun at that name
+pub record IsStaged (told : Option (List ℕ)) (output : List ℕ) (form : DataForm)
+    (stage : Option Stage) : Type 0 where
+  pub held : IsSaveText told
+  pub staged : stage ≡ Some (output, data_text_of form held.saved.mirror.objects)
 
--- the lines of the save's objects are next, so many, kept by the filter
-pub record IsAtObjects (file : List ℕ) (saved : Saved) (place : Place) (f : FilterValue) (many : ℕ)
-    : Type 0 where
-  pub after : List ℕ
-  pub lines : object_lines_at f many (left_of place file) ≡ Some (saved.mirror.objects, after)
+-- the save is a save text, and the output holds all of its objects
+pub record IsWritten (save output : List ℕ) (form : DataForm) (old new : Files) : Type 0 where
+  pub held : IsSaveText (old save)
+  pub put : Puts old output (Some (data_text_of form held.saved.mirror.objects)) new
 
 -- the calls that are ahead of a copy at most: of reads, and an append for each line that is left,
 -- so for each byte

@@ -11,7 +11,7 @@ returns-in-Ok-put_end-clause-calls g c = λ file has.
     let b = g.S.Store.state c.copy_objects.new.store in
     let d = g.S.Store.state c.put_end.new.store in
     let known = (has_still a b tt c.args.save.now file c.in-Ok.ensures.frame has).known in
-    advances_then (copies_ahead c.args.reader.now file + 1) (λ x. 0) a b d tt tt tt (c.in-Ok.ensures.calls file has)
+    advances_then (copies_ahead c.args.source.now file + 1) (λ x. copies_ahead c.copy_objects.new.source file) a b d tt tt tt (c.in-Ok.ensures.calls file has)
     (advances_of 1 b d (Ok tt) known c.in-Ok-put_end.ensures.calls) (omega arith)
 
 pub returns-in-Err-put_end-clause-calls : goal.returns-in-Err-put_end-clause-calls
@@ -20,5 +20,5 @@ returns-in-Err-put_end-clause-calls g c = λ file has.
     let b = g.S.Store.state c.copy_objects.new.store in
     let d = g.S.Store.state c.put_end.new.store in
     let known = (has_still a b tt c.args.save.now file c.in-Ok.ensures.frame has).known in
-    advances_fails (copies_ahead c.args.reader.now file + 1) (λ x. 0) a b d tt c.in-Err-put_end.fault (c.in-Ok.ensures.calls file has)
-    (advances_of 1 b d (Err c.in-Err-put_end.fault) known c.in-Err-put_end.ensures.calls) (omega arith)
+    advances_fails (copies_ahead c.args.source.now file + 1) (λ x. copies_ahead c.copy_objects.new.source file) a b d tt c.in-Err-put_end.fault
+    (c.in-Ok.ensures.calls file has) (advances_of 1 b d (Err c.in-Err-put_end.fault) known c.in-Err-put_end.ensures.calls) (omega arith)

@@ -1,37 +1,24 @@
-use Rattle.std.proofs.Common.{◌≡◌, ℕ, ◌+◌, List, Some, None, Option, take, drop, ap, refl, ◌∙◌}
+use Rattle.std.proofs.Common.{lit≤}
 use Rattle.std.specs.Prelude.{codes}
-use Rattle.osm_blocks.specs.Places.{left_of, past}
+use Rattle.osm_blocks.specs.Places.{left_of}
 use Rattle.osm_save.specs.Reading.{numbered_at}
-use Rattle.osm_merge.proofs.LineLemmas.{fails_none, numbered_same, with_rest}
-use Rattle.osm_exporting.specs.Steps.Copying.{HasNoLine}
-use Rattle.osm_exporting.proofs.ObjectLemmas.{number_unread}
-use Rattle.osm_exporting.proofs.PassLemmas.{pass_map}
+use Rattle.osm_exporting.proofs.ObjectLemmas.{advances_still, advances_told, line_stops}
 use Rattle.osm_exporting.proofs.objects.pass_number.Goals as goal
+
+pub returns-in-Ok-clause-read : goal.returns-in-Ok-clause-read
+returns-in-Ok-clause-read g c = λ file has. c.in-Ok.ensures.read file has (lit≤ tt)
+
+pub returns-in-Ok-clause-calls : goal.returns-in-Ok-clause-calls
+returns-in-Ok-clause-calls g c = λ file has.
+    advances_still (g.S.Store.state c.args.store.now) (g.S.Store.state c.numbered.new.store) c.in-Ok.many (c.in-Ok.ensures.calls file has)
 
 pub returns-in-Err-clause-stops : goal.returns-in-Err-clause-stops
 returns-in-Err-clause-stops g c =
-    let a = g.S.Store.state c.args.store.now in
-    pass_map a a c.args.save.now (λ file. HasNoLine (left_of c.args.reader.now file))
-    (λ file. numbered_at (codes "objects ") c.args.most (left_of c.args.reader.now file) ≡ None) c.in-Err.fault
-    (λ file has. has) (λ file has none. number_unread c.args.most (left_of c.args.reader.now file) none) c.in-Err.ensures.stops
+    rw c.read_fault.ensures
+    (line_stops (g.S.Store.state c.args.store.now) c.args.save.now (λ file. numbered_at (codes "objects ") c.args.most (left_of c.args.source.now file))
+    c.in-Err.fault (λ file has. c.in-Err.ensures.read file has (lit≤ tt)))
 
-pub returns-in_default-clause-stops : goal.returns-in_default-clause-stops
-returns-in_default-clause-stops g c = (
-  refl,
-  λ file has.
-      let r = c.find_line.new.reader in
-      let same = numbered_same (codes "objects ") c.args.most r.unread (left_of c.args.reader.now file) (take c.in-Ok.count r.unread)
-      (drop (c.in-Ok.count + 1) r.unread) (left_of (past (c.in-Ok.count + 1) r) file) c.in-Ok.ensures.line.cut (c.in-Ok.ensures.found file has) in
-      let none : numbered_at (codes "objects ") c.args.most r.unread ≡ None =
-      rw c.unread.ensures at (fails_none c.in_default.field-0 (numbered_at (codes "objects ") c.args.most c.unread.result.now) (c.in_default.ensures.value)) in
-      same ∙ ap (λ (o : Option (ℕ × List ℕ)). with_rest o (left_of (past (c.in-Ok.count + 1) r) file)) none,
-)
-
-pub returns-clause-read : goal.returns-clause-read
-returns-clause-read g c = λ file has.
-    let r = c.find_line.new.reader in
-    let same = numbered_same (codes "objects ") c.args.most r.unread (left_of c.args.reader.now file) (take c.in-Ok.count r.unread)
-    (drop (c.in-Ok.count + 1) r.unread) (left_of (past (c.in-Ok.count + 1) r) file) c.in-Ok.ensures.line.cut (c.in-Ok.ensures.found file has) in
-    let some : numbered_at (codes "objects ") c.args.most r.unread ≡ Some (c.in-Ok-numbered_line.many, c.in-Ok-numbered_line._rest.now) =
-    rw c.unread.ensures at c.in-Ok-numbered_line.ensures.value in
-    rw c.pass.ensures (same ∙ ap (λ (o : Option (ℕ × List ℕ)). with_rest o (left_of (past (c.in-Ok.count + 1) r) file)) some)
+pub returns-in-Err-clause-calls : goal.returns-in-Err-clause-calls
+returns-in-Err-clause-calls g c = λ file has.
+    rw c.read_fault.ensures
+    (advances_told (g.S.Store.state c.args.store.now) (g.S.Store.state c.numbered.new.store) c.in-Err.fault (c.in-Err.ensures.calls file has))
