@@ -127,7 +127,7 @@ fn copy_objects<S: Store, W: DataWriter>(
             Ok(object) => object,
             Err(fault) => return Err(fault),
         };
-        match put_object(store, writer, &object, spelled.as_slice()) {
+        match put_object(alloc, store, writer, &object, spelled.as_slice()) {
             Ok(()) => {}
             Err(fault) => return Err(fault),
         }
@@ -138,6 +138,7 @@ fn copy_objects<S: Store, W: DataWriter>(
 
 // Makes the text of an object, and appends what was made if that is a block.
 fn put_object<S: Store, W: DataWriter>(
+    alloc: Global,
     store: &mut S,
     writer: &mut W,
     object: &Change,
@@ -151,7 +152,7 @@ fn put_object<S: Store, W: DataWriter>(
     ensures frame { ReadsOften IsDeviceFault (S.state store.old) (S.state store.new) result }
     ensures calls { MakesAtMost IsDeviceFault 1 (S.state store.old) (S.state store.new) result }
 {
-    match writer.write(object, line) {
+    match writer.write(alloc, object, line) {
         Ok(()) => {}
         Err(WantOfMemory) => return Err(RunFault::WantOfMemory),
     }

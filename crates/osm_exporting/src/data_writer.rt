@@ -37,7 +37,7 @@ pub(crate) trait DataWriter {
             → ahead self.old objects ≡ made self.old ++ ahead self.new objects };
 
     /// Makes the text of an object, whose line in OPL is given too.
-    fn write(&mut self, object: &Change, line: &[u8]) -> Result<(), WantOfMemory>
+    fn write(&mut self, alloc: Global, object: &Change, line: &[u8]) -> Result<(), WantOfMemory>
         requires { line.now ≡ line_text object.now }
         ensures { OnOk result ((objects : List ChangeValue)
             → ahead self.old (object.now ∷ objects) ≡ ahead self.new objects) };
@@ -80,7 +80,7 @@ impl DataWriter for OplWriter {
         self.out.clear();
     }
 
-    fn write(&mut self, _object: &Change, line: &[u8]) -> Result<(), WantOfMemory> {
+    fn write(&mut self, _alloc: Global, _object: &Change, line: &[u8]) -> Result<(), WantOfMemory> {
         self.out.extend_from_slice(line)?;
         self.out.push(b'\n')?;
         Ok(())
@@ -114,7 +114,9 @@ impl DataWriter for Writer {
         self.out.clear();
     }
 
-    fn write(&mut self, object: &Change, _line: &[u8]) -> Result<(), WantOfMemory> {
+    // Without the strings that can't be named any more, what it holds doesn't grow with the file.
+    fn write(&mut self, alloc: Global, object: &Change, _line: &[u8]) -> Result<(), WantOfMemory> {
+        self.forget_old(alloc)?;
         self.write_change(object)
     }
 
