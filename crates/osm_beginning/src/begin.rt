@@ -42,9 +42,10 @@ use std::alloc::Global;
 /// are those of the sequences after that one. A name that ends in `.opl` or `.o5m` tells the form
 /// of the data file; any other is refused as `UnknownForm`. A state of sequence 0 is refused as
 /// `ZeroBase`. The data file is read twice, in blocks, and what is in memory doesn't grow with it.
-/// It is refused as `TooLarge` if it has a line or a dataset of more than 64 MiB, or more bytes
-/// than 64 bits count; the save is, if it would have more than 999,999,999,999,999,999 objects. A
-/// refusal leaves all files as they were.
+/// Its faults come before those of the save, for which it may be read once more. It is refused as
+/// `TooLarge` if it has a line or a dataset of more than 64 MiB, or more bytes than 64 bits count;
+/// the save is, if it would have more than 999,999,999,999,999,999 objects. A refusal leaves all
+/// files as they were.
 pub fn begin_run<S: Store>(
     alloc: Global,
     store: &mut S,
