@@ -1,0 +1,5 @@
+//! Tests of saves with journals: osm_kept.
+#![tactic(auto)]
+
+#[cfg(test)]
+mod tests;

@@ -1,0 +1,4 @@
+mod StartLemmas
+mod BatchLemmas
+mod KeptLemmas
+mod LawLemmas

@@ -1,0 +1,75 @@
+-- Laws of saves with journals.
+use Rattle.std.specs.Prelude.{◌≡◌, ℕ, ◌↔◌, List, [], ◌∷◌, ◌++◌, length, Option, Some, None}
+use Rattle.osm_save.specs.Head.{head_of}
+use Rattle.osm_save.specs.Save.{IsSavable, SpellsSave, save_text}
+use Rattle.osm_save.specs.declared.save.Saved.{Saved}
+use Rattle.osm_save.specs.declared.version.Version.{Version}
+use Rattle.osm_journal.specs.Journal.{BatchValue, IsBatch, IsJournal, JournalValue, journal_text}
+use Rattle.osm_kept.specs.Kept.{AddsBatch, AddsBatches, BelongsTo, HasJournal, IsNoJournal}
+use Rattle.osm_kept.specs.Kept.{Keeps}
+use Rattle.osm_kept.specs.Refusal.{IsBadJournal}
+
+-- two files keep at most one thing
+abbrev pub OneIsKept : Type 0
+OneIsKept = (told journal : Option (List ℕ)) (a b : Saved)
+    → Keeps told journal a → Keeps told journal b → a ≡ b
+
+-- an empty journal and none keep the same
+abbrev pub EmptyIsNone : Type 0
+EmptyIsNone = (told : Option (List ℕ)) (v : Saved)
+    → Keeps told (Some []) v ↔ Keeps told None v
+
+-- without a journal, or beside one of another save, what the save saves is kept
+abbrev pub SavedIsKept : Type 0
+SavedIsKept = (file : List ℕ) (journal : Option (List ℕ)) (v : Saved)
+    → SpellsSave file v → IsNoJournal (Some file) journal → Keeps (Some file) journal v
+
+-- of a journal that is bad nothing is kept
+abbrev pub BadKeepsNothing : Type 0
+BadKeepsNothing = (told journal : Option (List ℕ)) (line : ℕ) (v : Saved)
+    → IsBadJournal told journal line → Keeps told journal v → ⊥
+
+-- the batches of a journal of a save, as its text has them, are applied to what is saved
+abbrev pub JournalIsApplied : Type 0
+JournalIsApplied = (file : List ℕ) (j : JournalValue) (v w : Saved)
+    → SpellsSave file v → IsJournal j → BelongsTo j (Some file) → AddsBatches j.batches v w
+    → Keeps (Some file) (Some (journal_text j)) w
+
+-- the journal with one more batch
+abbrev pub with_batch : JournalValue → BatchValue → JournalValue
+with_batch j b = record {
+  version = j.version;
+  head = j.head;
+  kept_by = j.kept_by;
+  objects = j.objects;
+  batches = j.batches ++ b ∷ [];
+}
+
+-- one more batch at the end of a journal that counts is applied to what was kept
+abbrev pub MoreIsAdded : Type 0
+MoreIsAdded = (told journal : Option (List ℕ)) (j : JournalValue) (b : BatchValue) (v w : Saved)
+    → HasJournal told journal j → Keeps told journal v → IsBatch b → AddsBatch b v w
+    → Keeps told (Some (journal_text (with_batch j b))) w
+
+-- the journal of a save of that version with one batch
+abbrev pub first_journal : Version → Saved → BatchValue → JournalValue
+first_journal version v b = record {
+  version = version;
+  head = head_of v;
+  kept_by = v.filter;
+  objects = length v.mirror.objects;
+  batches = b ∷ [];
+}
+
+-- a first batch beside a save is applied to what is saved
+abbrev pub FirstIsAdded : Type 0
+FirstIsAdded = (version : Version) (b : BatchValue) (v w : Saved)
+    → IsSavable version v → IsBatch b → AddsBatch b v w
+    → Keeps (Some (save_text version v)) (Some (journal_text (first_journal version v b))) w
+
+-- once what is kept is saved, the journal is one of another save: the same is kept whether it is
+-- still there or not
+abbrev pub MergedIsKept : Type 0
+MergedIsKept = (told journal : Option (List ℕ)) (j : JournalValue) (v : Saved) (file : List ℕ)
+    → HasJournal told journal j → Keeps told journal v → SpellsSave file v
+    → Keeps (Some file) journal v

@@ -1,0 +1,5 @@
+pub mod Kept
+pub mod Finding
+pub mod Refusal
+pub mod Laws
+pub mod Steps

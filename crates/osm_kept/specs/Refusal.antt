@@ -1,0 +1,69 @@
+-- Why a save and its journal aren't read.
+use Rattle.std.specs.Prelude.{◌≡◌, ℕ, ◌+◌, ◌<◌, ◌⊎◌, List, ◌∷◌, ◌++◌, length, Option, Some}
+use Rattle.std.specs.List.{AllByRecursion}
+use Rattle.osm_model.specs.ChangeForm.{SpellsNothing}
+use Rattle.osm_model.specs.Limits.{max_file}
+use Rattle.osm_o5c.specs.File.{SpellsO5c}
+use Rattle.osm_save.specs.Save.{SpellsSave}
+use Rattle.osm_save.specs.declared.save.Saved.{Saved}
+use Rattle.osm_store.specs.Files.{HasFewer, IsOver}
+use Rattle.osm_journal.specs.Journal.{BatchValue, JournalValue, SpellsJournal, opening_lines}
+use Rattle.osm_kept.specs.Finding.{IsRightBatch}
+use Rattle.osm_kept.specs.Kept.{BelongsTo}
+use Rattle.osm_kept.specs.declared.fault.KeptFault.{KeptFault}
+use Rattle.osm_kept.specs.declared.fault.KeptFault.TheVariants.{BadJournal, BadSave, JournalFailed}
+use Rattle.osm_kept.specs.declared.fault.KeptFault.TheVariants.{JournalTooLarge, SaveFailed}
+use Rattle.osm_kept.specs.declared.fault.KeptFault.TheVariants.{WantOfMemory}
+
+-- the first batch whose bytes are no change file has the line with that number, where the bytes of
+-- batches aren't counted
+pub record IsBadBatchAt (j : JournalValue) (line : ℕ) : Type 0 where
+  pub before : List BatchValue
+  pub bad : BatchValue
+  pub after : List BatchValue
+  pub parts : j.batches ≡ before ++ bad ∷ after
+  pub right : AllByRecursion IsRightBatch before
+  pub none : SpellsNothing SpellsO5c bad.bytes
+  pub place : line ≡ length (opening_lines j) + length before + 1
+
+-- a journal of that save with such a batch
+pub record HasBadBatch (told : Option (List ℕ)) (bytes : List ℕ) (line : ℕ) : Type 0 where
+  pub value : JournalValue
+  pub spells : SpellsJournal bytes value
+  pub belongs : BelongsTo value told
+  pub batch : IsBadBatchAt value line
+
+-- the file isn't empty, and is no journal, or it is one of that save with a batch whose bytes are
+-- no change file
+pub record IsBadJournal (told journal : Option (List ℕ)) (line : ℕ) : Type 0 where
+  pub bytes : List ℕ
+  pub there : journal ≡ Some bytes
+  pub some : 0 < length bytes
+  pub bad : ((j : JournalValue) → SpellsJournal bytes j → ⊥) ⊎ HasBadBatch told bytes line
+
+-- the file is the save text of nothing
+pub record IsNoSave (told : Option (List ℕ)) : Type 0 where
+  pub file : List ℕ
+  pub there : told ≡ Some file
+  pub none : (v : Saved) → SpellsSave file v → ⊥
+
+-- why they aren't read: a line is bad only if nothing is kept
+abbrev pub KeptStops : Option (List ℕ) → Option (List ℕ) → KeptFault → Type 0
+KeptStops told journal JournalFailed = Unit {0}
+KeptStops told journal JournalTooLarge = IsOver max_file journal
+KeptStops told journal (BadJournal line) = IsBadJournal told journal line
+KeptStops told journal SaveFailed = Unit {0}
+KeptStops told journal (BadSave line) = IsNoSave told
+KeptStops told journal WantOfMemory = Unit {0}
+
+-- the device is the reason
+abbrev pub IsDeviceFault : KeptFault → Type 0
+IsDeviceFault JournalFailed = Unit {0}
+IsDeviceFault SaveFailed = Unit {0}
+IsDeviceFault fault = ⊥
+
+-- the journal is read first: if that failed, no call was left, and if the save failed, at most one
+abbrev pub LacksCalls : KeptFault → Option ℕ → Type 0
+LacksCalls JournalFailed left = HasFewer 1 left
+LacksCalls SaveFailed left = HasFewer 2 left
+LacksCalls fault left = Unit {0}

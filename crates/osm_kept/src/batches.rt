@@ -1,0 +1,109 @@
+//! The batches of a journal, as the head and the net changes that they come to.
+
+ghost use Rattle.std.specs.Prelude.{◌≡◌, ◌≤◌, length, map, IfErr, IfOk, OnOk};
+ghost use Rattle.std.specs.List.{AllByRecursion};
+ghost use Rattle.osm_model.specs.Batch as model;
+ghost use Rattle.osm_model.specs.Limits.{max_changes, max_file, max_sequence};
+ghost use Rattle.osm_net.specs.Net.{HasRoomFor, no_net};
+ghost use Rattle.osm_o5c.specs.File.{SpellsO5c};
+ghost use Rattle.osm_journal.specs.Journal.{Follow, IsBatch, batch_of};
+ghost use Rattle.osm_kept.specs.Steps.Taking.{BatchStops, BatchesStop, HasTaken, TakesBatch};
+
+use crate::fault::KeptFault;
+use osm_journal::batch::Batch;
+use osm_model::change::Change;
+use osm_model::filter::Filter;
+use osm_model::form::{ChangeForm, FormError};
+use osm_net::net::Net;
+use osm_o5c::o5c::O5c;
+use osm_save::head::Head;
+use std::alloc::Global;
+
+/// How far batches reach, and what they come to.
+#[derive(Debug, Drop)]
+pub(crate) struct Reached {
+    pub(crate) head: Head,
+    pub(crate) net: Net,
+}
+
+impl Reached {
+    /// Nothing after that head.
+    pub(crate) fn after(alloc: Global, head: Head) -> Reached
+        ensures { result ≡ record { head = head; net = no_net } }
+    {
+        Reached {
+            head,
+            net: Net::new(alloc),
+        }
+    }
+}
+
+/// Takes batches, which come after the head. The line of the first of them is `first`.
+pub(crate) fn take_batches(
+    alloc: Global,
+    filter: &Filter,
+    head: Head,
+    first: u64,
+    batches: &[Batch<'_>],
+) -> Result<Reached, KeptFault>
+    requires number { head.number ≤ max_sequence }
+    requires each { AllByRecursion IsBatch (map batch_of batches.now) }
+    requires follow { Follow head.number (map batch_of batches.now) }
+    requires first { first ≤ max_file }
+    ensures taken { IfOk result (HasTaken filter.now head (map batch_of batches.now)) }
+    ensures stops { IfErr result (BatchesStop first (map batch_of batches.now)) }
+{
+    let mut reached = Reached::after(alloc, head);
+    let mut line = first;
+    for batch in batches {
+        match take_batch(alloc, filter, line, batch, &mut reached) {
+            Ok(()) => {}
+            Err(fault) => return Err(fault),
+        }
+        line = line + 1;
+    }
+    Ok(reached)
+}
+
+// Takes the batch with that line.
+fn take_batch(
+    alloc: Global,
+    filter: &Filter,
+    line: u64,
+    batch: &Batch<'_>,
+    reached: &mut Reached,
+) -> Result<(), KeptFault>
+    requires short { length (batch_of batch.now).bytes ≤ max_file }
+    requires room { HasRoomFor max_changes reached.old.net }
+    ensures taken { OnOk result
+        (TakesBatch filter.now (batch_of batch.now) reached.old reached.new) }
+    ensures stops { IfErr result (BatchStops line (batch_of batch.now)) }
+{
+    let changes = match changes_of(alloc, line, batch) {
+        Ok(changes) => changes,
+        Err(fault) => return Err(fault),
+    };
+    reached.net.take(filter, changes)?;
+    reached.head = Head {
+        number: batch.number,
+        base: reached.head.base,
+        time: Some(batch.time),
+    };
+    Ok(())
+}
+
+// The changes of the batch with that line.
+fn changes_of(alloc: Global, line: u64, batch: &Batch<'_>) -> Result<Vec<Change>, KeptFault>
+    requires short { length (batch_of batch.now).bytes ≤ max_file }
+    ensures spelled { IfOk result
+        (λ changes. SpellsO5c (batch_of batch.now).bytes changes.items) }
+    ensures limits { IfOk result (λ changes. model.IsBatch changes.items) }
+    ensures stops { IfErr result (BatchStops line (batch_of batch.now)) }
+{
+    match O5c::read(alloc, batch.bytes) {
+        Ok(read) => Ok(read.into_changes()),
+        Err(FormError::WantOfMemory) => Err(KeptFault::WantOfMemory),
+        Err(FormError::TooLarge) => unreachable!(),
+        Err(FormError::Fault { place: _, why: _ }) => Err(KeptFault::BadJournal(line)),
+    }
+}
