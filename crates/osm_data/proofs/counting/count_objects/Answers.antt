@@ -95,8 +95,8 @@ blocks-2-preserved g c =
       comes = λ file total has comes.
           let still = has_still begun state tt c.args.name.now file inv.frame has in
           let more = rw c.if-not-is_more.false at (c.in-Ok.ensures.more file still) in
-          rw (more.0, c.pass-in-blocks-2.ensures) (passed_left g.C.ObjectCounter.comes_to c.args.filter.now c.blocks-2.counter c.pass.new.self place c.in-Some.passed
-          is file total (inv.comes file total has comes));
+          rw (more.0, c.pass-in-blocks-2.ensures) (passed_left g.C.ObjectCounter.comes_to c.args.filter.now c.blocks-2.counter c.pass.new.self place
+          c.in-Some.passed is file total (inv.comes file total has comes));
       calls = λ file has.
           let still = has_still begun state tt c.args.name.now file inv.frame has in
           let all : ℕ = read_calls (length file) in
