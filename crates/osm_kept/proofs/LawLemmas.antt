@@ -15,7 +15,8 @@ use Rattle.osm_journal.specs.Journal.{BatchValue, Follow, IsBatch, IsJournal, Jo
 use Rattle.osm_journal.proofs.BatchLemmas.{number_reached}
 use Rattle.osm_journal.proofs.JournalLemmas.{one_journal}
 use Rattle.osm_kept.specs.Kept.{AddsBatch, AddsBatches, BelongsTo, ComesTo, HasJournal, IsNoJournal, Keeps}
-use Rattle.osm_kept.specs.Laws.{BadKeepsNothing, EmptyIsNone, FirstIsAdded, JournalIsApplied, MergedIsKept, MoreIsAdded, OneIsKept, SavedIsKept, first_journal, with_batch}
+use Rattle.osm_kept.specs.Laws.{BadKeepsNothing, EmptyIsNone, FirstIsAdded, JournalIsApplied, MergedIsKept}
+use Rattle.osm_kept.specs.Laws.{MoreIsAdded, OneIsKept, SavedIsKept, first_journal, with_batch}
 use Rattle.osm_kept.specs.Refusal.{HasBadBatch, IsBadBatchAt}
 use Rattle.osm_kept.specs.Steps.Starting.{start_in}
 use Rattle.osm_kept.specs.declared.start.Start.{Start}

@@ -1,4 +1,5 @@
-use Rattle.osm_kept.proofs.LawLemmas.{bad_keeps_nothing, empty_is_none, first_is_added, journal_is_applied, merged_is_kept, more_is_added, one_kept, saved_is_kept}
+use Rattle.osm_kept.proofs.LawLemmas.{bad_keeps_nothing, empty_is_none, first_is_added, journal_is_applied}
+use Rattle.osm_kept.proofs.LawLemmas.{merged_is_kept, more_is_added, one_kept, saved_is_kept}
 use Rattle.osm_kept.proofs.laws.laws_of_kept.Goals as goal
 
 pub returns-clause-one_kept : goal.returns-clause-one_kept
