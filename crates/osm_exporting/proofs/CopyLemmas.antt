@@ -1,6 +1,7 @@
 -- Objects that are copied line by line.
 use Rattle.std.proofs.Common.{◌≡◌, ℕ, ◌+◌, ◌<◌, ◌≤◌, List, [], ◌∷◌, ◌++◌, length, Option, Some, None, refl, sym, ap, ◌∙◌, arith, append_assoc}
-use Rattle.std.specs.Prelude.{Err, Ok}
+use Rattle.std.specs.Prelude.{Err, Ok, Vec}
+use Rattle.std.specs.declared.alloc.Global.{Global}
 use Rattle.std.proofs.lemmas.List.{append-nil}
 use Rattle.osm_blocks.specs.Calls.{Advances, SpendsDown, reads_ahead}
 use Rattle.osm_blocks.specs.Frames.{ReadsOften}
@@ -10,6 +11,9 @@ use Rattle.osm_blocks.proofs.OftenLemmas.{often_none, often_then}
 use Rattle.osm_model.specs.Change.{ChangeValue}
 use Rattle.osm_model.specs.Filter.{FilterValue}
 use Rattle.osm_model.specs.declared.kind.Key.{Key}
+use Rattle.osm_o5c.specs.File.{end_byte}
+use Rattle.osm_o5c.specs.Written.{after_change, change_text, objects_text}
+use Rattle.osm_o5c.specs.declared.writer.Writer.{Writer}
 use Rattle.osm_opl.specs.Written.{line_text, opl_text}
 use Rattle.osm_save.specs.Reading.{object_at}
 use Rattle.osm_save.proofs.ItemLemmas.{Items, items_begun, items_done, items_more}
@@ -20,7 +24,7 @@ use Rattle.osm_merge.proofs.FrameLemmas.{has_still}
 use Rattle.osm_merge.proofs.ItemLemmas.{items_stop, next_parts}
 use Rattle.osm_folder.specs.Runs.{IsDeviceFault}
 use Rattle.osm_folder.specs.declared.fault.RunFault.{RunFault}
-use Rattle.osm_exporting.specs.Steps.Copying.{Copies, Fills, PassStops, copies_ahead, object_lines_at}
+use Rattle.osm_exporting.specs.Steps.Copying.{Copies, Fills, PassStops, copies_ahead, o5m_ahead, object_lines_at}
 use Rattle.osm_exporting.proofs.PassLemmas.{fills_as, fills_none, fills_still, fills_then, pass_map}
 
 -- where a copy stands after `i` of the objects
@@ -138,3 +142,18 @@ unfolding opl_text
 opl_goes_on old mid new line object objects is first second =
     rw (second, first, is)
     (sym (append_assoc (old ++ line_text object) (10 ∷ []) (opl_text objects) ∙ append_assoc old (line_text object) (10 ∷ opl_text objects)))
+
+-- an object that is written after strings were forgotten
+pub o5m_goes_on : (old mid new : Writer) (object : ChangeValue) (objects : List ChangeValue) → mid.out ≡ old.out
+    → ((cs : List ChangeValue) → objects_text mid.kind mid.state cs ≡ objects_text old.kind old.state cs)
+    → new.out.items ≡ mid.out.items ++ change_text mid.kind mid.state object
+    → new.state ≡ after_change mid.kind mid.state object → new.kind ≡ Some object.key.kind
+    → o5m_ahead old (object ∷ objects) ≡ o5m_ahead new objects
+o5m_goes_on old mid new object objects out same text state kind =
+    let rest : List ℕ = objects_text (Some object.key.kind) (after_change mid.kind mid.state object) objects in
+    let written : List ℕ = change_text mid.kind mid.state object in
+    let before : o5m_ahead old (object ∷ objects) ≡ (mid.out.items ++ (written ++ rest)) ++ end_byte ∷ [] =
+    ap (λ (o : List ℕ). (o ++ objects_text old.kind old.state (object ∷ objects)) ++ end_byte ∷ []) (sym (ap (λ (v : Vec ℕ Global). v.items) out))
+    ∙ ap (λ (t : List ℕ). (mid.out.items ++ t) ++ end_byte ∷ []) (sym (same (object ∷ objects))) in
+    let after : o5m_ahead new objects ≡ ((mid.out.items ++ written) ++ rest) ++ end_byte ∷ [] = rw (text, state, kind) refl in
+    before ∙ (ap (λ (t : List ℕ). t ++ end_byte ∷ []) (sym (append_assoc mid.out.items written rest)) ∙ sym after)

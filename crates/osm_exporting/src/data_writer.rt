@@ -117,7 +117,8 @@ impl DataWriter for Writer {
     // Without the strings that can't be named any more, what it holds doesn't grow with the file.
     fn write(&mut self, alloc: Global, object: &Change, _line: &[u8]) -> Result<(), WantOfMemory> {
         self.forget_old(alloc)?;
-        self.write_change(object)
+        self.write_change(object)?;
+        Ok(())
     }
 
     fn end(&mut self) -> Result<(), WantOfMemory> {
