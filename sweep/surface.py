@@ -20,7 +20,7 @@ TAKE_NO_MEMORY = set("""
     Tag::limits Member::limits i64::limits i64::copy Parts::new Parts::from_vec Parts::into_vec Parts::as_slice
     Meta::new Meta::limits Meta::version Meta::time Meta::changeset Meta::uid Meta::user
     Text::as_str Text::limits time_read time_write
-    split_line is_skipped_line cut sequence_read line_key
+    split_line is_skipped_line cut sequence_read line_key write_whole
     Counters::new Counters::member Counters::set_member unsigned part positive signed id positive_sum longitude latitude
     FileString::new FileString::without_nul FileString::as_slice FileString::copy
     StringTable::new StringTable::clear StringTable::get StringTable::len Reader::new Reader::reset Buffers::new
@@ -55,6 +55,7 @@ TAKE_NO_MEMORY = set("""
 TRIED_BY = {"Objects::push": "save_read", "Counts::push": "save_read", "read_head": "save_read",
             "read_objects": "save_read", "read_object": "save_read", "read_counts": "save_read",
             "write_head": "save_write", "write_objects": "save_write", "write_object": "save_write",
+            "write_time_line": "save_write",
             "write_counts": "save_write", "write_count": "save_write", "write_number": "save_write",
             "Reader::next": "read_data", "StringTable::push": "read_data", "StringTable::pair": "read_data",
             "StringTable::single": "read_data", "text": "read_data", "read_changes": "read_data",
@@ -62,8 +63,9 @@ TRIED_BY = {"Objects::push": "save_read", "Counts::push": "save_read", "read_hea
             "name_or_enter": "O5c::write", "write_coordinate": "O5c::write", "write_difference": "O5c::write",
             "write_pair": "O5c::write", "write_single": "O5c::write", "write_unsigned": "O5c::write"}
 
-# What is said of a fault, if there is memory for it: the sweep over causes tries it.
-TRIED_ELSEWHERE = {"field_text"}
+# What is said of a fault, if there is memory for it: the sweep over causes tries it. A new table of strings for a writer
+# that has more than 65,536 of them: the sweep over large saves does.
+TRIED_ELSEWHERE = {"field_text", "Writer::forget_old"}
 
 
 def name_of(call):
