@@ -1,3 +1,4 @@
+pub mod Names
 pub mod Kept
 pub mod Finding
 pub mod Refusal

@@ -1,0 +1,6 @@
+-- The name of the journal beside a save.
+use Rattle.std.specs.Prelude.{ℕ, List, ◌++◌, codes}
+
+-- the save's name, and `.journal`
+abbrev pub journal_name_of : List ℕ → List ℕ
+journal_name_of save = save ++ codes ".journal"
