@@ -1,5 +1,5 @@
 -- Increments added to counts: how the merge goes on from its first increment and its first count, and what it gives.
-use Rattle.std.proofs.Common.{◌≡◌, ℕ, ◌+◌, ◌<◌, List, [], ◌∷◌, refl, ap, subst, ◌∙◌, Option, Some, None, arith}
+use Rattle.std.proofs.Common.{◌≡◌, ℕ, ◌+◌, ◌<◌, ◌≤◌, List, [], ◌∷◌, length, refl, ap, subst, ◌∙◌, Option, Some, None, arith}
 use Rattle.std.specs.Prelude.{unwrap_or}
 use Rattle.std.specs.BTreeMap.{is_at}
 use Rattle.std.specs.List.{AllByRecursion}
@@ -12,7 +12,7 @@ use Rattle.std.proofs.lemmas.Cmp.{nat_cmp_total}
 use Rattle.std.proofs.lemmas.Option.{same_Some}
 use Rattle.osm_mirror.specs.Mirror.{AreCountsAboveZero, Counted, HasNumber, IsAboveZero, count_at}
 use Rattle.osm_net.specs.Laid.{added, added_one}
-use Rattle.osm_net.proofs.MergeLemmas.{all_merged, joined, merged, merged_at, merged_rises, ranks_alike, step}
+use Rattle.osm_net.proofs.MergeLemmas.{all_merged, by_rank, joined, merged, merged_at, merged_rises, ranks_alike, step}
 use Rattle.osm_net.proofs.SameLemmas.{numbers_are}
 
 -- ---- the merge, step by step
@@ -112,3 +112,21 @@ added_counts ms cs r s = record {
 pub added_numbers : (ms cs : List Counted) → AllByRecursion HasNumber ms → AllByRecursion HasNumber cs → AllByRecursion HasNumber (added ms cs)
 added_numbers ms cs qs ps = rw (added_is ms cs)
     (all_merged nat_cmp fresh sum_of HasNumber HasNumber (λ e n q is. q) (λ e c n q p is. p) ms cs qs ps)
+
+-- no more counts than both have
+added_one-length : (m : Counted) (ms : List Counted) → ((cs : List Counted) → length (added ms cs) ≤ length cs + length ms)
+    → (cs : List Counted) → length (added_one m (added ms) cs) ≤ length cs + length (m ∷ ms)
+unfolding added_one
+added_one-length m ms ih [] = let h = ih [] in omega (arith, h)
+added_one-length m ms ih (c ∷ cs) =
+    let below = ih (c ∷ cs) in
+    let at = ih cs in
+    let above = added_one-length m ms ih cs in
+    by_rank (λ (ds : List Counted). length ds ≤ length (c ∷ cs) + length (m ∷ ms)) (nat_cmp m.0 c.0)
+    (m ∷ added ms (c ∷ cs)) ((c.0, m.1 + c.1) ∷ added ms cs) (c ∷ added_one m (added ms) cs)
+    (λ _. omega (arith, below)) (λ _. omega (arith, at)) (λ _. omega (arith, above))
+
+pub added-length : (ms cs : List Counted) → length (added ms cs) ≤ length cs + length ms
+unfolding added
+added-length [] cs = omega arith
+added-length (m ∷ ms) cs = added_one-length m ms (added-length ms) cs

@@ -3,4 +3,5 @@ pub mod SameLemmas
 pub mod LaidLemmas
 pub mod AddedLemmas
 pub mod NetLemmas
+pub mod JoinedLemmas
 pub mod StandardFacts

@@ -15,7 +15,7 @@ use Rattle.std.proofs.lemmas.Map.Entries.{none_below_head, none_past_head}
 use Rattle.std.proofs.lemmas.Map.Keys.{IsDistinct-from_sorted}
 
 -- what holds of the chosen one
-by_rank : {A : Type 0} (P : A → Type 0) (o : Ordering) (x y z : A) → (o ≡ Less → P x) → (o ≡ Equal → P y) → (o ≡ Greater → P z)
+pub by_rank : {A : Type 0} (P : A → Type 0) (o : Ordering) (x y z : A) → (o ≡ Less → P x) → (o ≡ Equal → P y) → (o ≡ Greater → P z)
     → P (match_ordering o x y z)
 by_rank P Less x y z a b c = a refl
 by_rank P Equal x y z a b c = b refl

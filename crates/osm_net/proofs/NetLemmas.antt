@@ -41,6 +41,7 @@ all-insert_entry P (e ∷ es) k z is all = by_order (key_cmp k e.0) refl (all-in
     by_order Equal o rest = (subst (λ (q : Key). P (q, z)) (one_key k e.0 o) is, all.1)
     by_order Greater o rest = (all.0, rest)
 
+-- what the filter keeps of what a change leaves is under the key of the change, and an object within the limits
 left_as : (f : FilterValue) (c : ChangeValue) → IsChange c → (HasOwnKey (c.key, left_by f c)) × LeavesObject (c.key, left_by f c)
 left_as f c limits = by_kept (keeps f c) refl
   where
@@ -48,14 +49,18 @@ left_as f c limits = by_kept (keeps f c) refl
     by_kept true is = rw (left_by-kept f c is) (refl, record { limits = limits; is_left = object_after-kept f c is })
     by_kept false is = rw (left_by-dropped f c is) (tt, tt)
 
-pub entries-insert_entry : (f : FilterValue) (es : List NetEntry) (c : ChangeValue) → IsChange c → AreEntries es
-    → AreEntries (insert_entry key_cmp es c.key (left_by f c))
-entries-insert_entry f es c limits all =
-    let left = left_as f c limits in
-    record {
-      own = all-insert_entry HasOwnKey es c.key (left_by f c) left.0 all.own;
-      each = all-insert_entry LeavesObject es c.key (left_by f c) left.1 all.each;
-    }
+pub left_own : (f : FilterValue) (c : ChangeValue) → IsChange c → HasOwnKey (c.key, left_by f c)
+left_own f c limits = (left_as f c limits).0
+
+pub left_object : (f : FilterValue) (c : ChangeValue) → IsChange c → LeavesObject (c.key, left_by f c)
+left_object f c limits = (left_as f c limits).1
+
+pub entries_put : (es : List NetEntry) (k : Key) (z : Option ChangeValue) → HasOwnKey (k, z) → LeavesObject (k, z) → AreEntries es
+    → AreEntries (insert_entry key_cmp es k z)
+entries_put es k z own left all = record {
+  own = all-insert_entry HasOwnKey es k z own all.own;
+  each = all-insert_entry LeavesObject es k z left all.each;
+}
 
 taken_at-later_of : (f : FilterValue) (before : Option (Option ChangeValue)) (x y : Option ChangeValue)
     → taken_at f (taken_at f before x) y ≡ taken_at f before (later_of x y)

@@ -33,7 +33,7 @@ module _ {K X : Type 0} (cmp : K → K → Ordering) (total : IsTotalOrder cmp) 
   at_head : (x : K × X) (xs : List (K × X)) → find (x ∷ xs) x.0 ≡ Some x.1
   at_head x xs = lookup_head (is_at (cmp x.0)) x xs (ap is_eq (tied_itself total x.0))
 
-  past_head : (k : K) (x : K × X) (xs : List (K × X)) → Rises (x ∷ xs) → is_eq (cmp k x.0) ≡ true → find xs k ≡ None
+  pub past_head : (k : K) (x : K × X) (xs : List (K × X)) → Rises (x ∷ xs) → is_eq (cmp k x.0) ≡ true → find xs k ≡ None
   past_head k x xs s t = lookup-none (is_at (cmp k)) xs (none_past_head (eq_by_cmp_equiv total) k x xs (IsDistinct-from_sorted cmp _ s) t)
 
   below_head : (k : K) (x : K × X) (xs : List (K × X)) → Rises (x ∷ xs) → cmp k x.0 ≡ Less → find (x ∷ xs) k ≡ None

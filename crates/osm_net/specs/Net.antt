@@ -1,7 +1,7 @@
 -- Net changes: what a list of changes comes to, as sorted lists, with one entry for each object
 -- that changes, however often it does, and one count for each user and for each changeset.
 use Rattle.std.specs.Prelude.{◌≡◌, ℕ, ◌+◌, ◌<◌, ◌≤◌, ◌⊎◌, ◌^◌, List, [], Contains, length}
-use Rattle.std.specs.Prelude.{Option, Some, None}
+use Rattle.std.specs.Prelude.{Option, Some, None, IsSome}
 use Rattle.std.specs.BTreeMap.{is_at}
 use Rattle.std.specs.List.{AllByRecursion}
 use Rattle.std.specs.List.Sorted.{IsStrictlySortedBy}
@@ -108,3 +108,46 @@ pub record NeedsEntry (n : NetValue) (changes : List ChangeValue) : Type 0 where
   pub change : ChangeValue
   pub among : Contains changes change
   pub new : IsNew n change
+
+-- what is left at a key after later net changes: what they say of it, or what was left before if
+-- they say nothing
+abbrev pub joined_at :
+    Option (Option ChangeValue) → Option (Option ChangeValue) → Option (Option ChangeValue)
+joined_at before None = before
+joined_at before (Some left) = Some left
+
+-- `new` is `old` with the net changes of `later` after it: an entry of `later` replaces that of its
+-- key, and counts are added
+pub record IsJoined (old later new : NetValue) : Type 0 where
+  pub orderly : IsOrderlyNet new
+  pub objects : (k : Key) →
+      net_at new.objects k ≡ joined_at (net_at old.objects k) (net_at later.objects k)
+  pub users : (uid : ℕ) →
+      count_at new.users uid ≡ count_at old.users uid + count_at later.users uid
+  pub changesets : (id : ℕ) →
+      count_at new.changesets id ≡ count_at old.changesets id + count_at later.changesets id
+
+-- each count has room for that of `later`
+pub record HasRoomForAll (later n : NetValue) : Type 0 where
+  pub users : (uid : ℕ) → count_at n.users uid + count_at later.users uid < 2 ^ 64
+  pub changesets : (id : ℕ) →
+      count_at n.changesets id + count_at later.changesets id < 2 ^ 64
+
+-- a number has a count in `more` and none in `counts`
+pub record HasNewNumber (counts more : List Counted) : Type 0 where
+  pub number : ℕ
+  pub new : count_at counts number ≡ 0
+  pub counted : 0 < count_at more number
+
+-- a key has an entry in `more` and none in `entries`
+pub record HasNewKey (entries more : List NetEntry) : Type 0 where
+  pub key : Key
+  pub new : net_at entries key ≡ None
+  pub there : IsSome (net_at more key)
+
+-- `later` has a user, a changeset or a key of which nothing is known
+abbrev pub BringsNew : NetValue → NetValue → Type 0
+BringsNew old later =
+    (HasNewNumber old.users later.users)
+    ⊎ (HasNewNumber old.changesets later.changesets)
+    ⊎ (HasNewKey old.objects later.objects)

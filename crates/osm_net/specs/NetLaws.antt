@@ -1,10 +1,11 @@
 -- What holds of net changes, whatever they come from.
-use Rattle.std.specs.Prelude.{◌≡◌, ℕ, ◌+◌, ◌<◌, ◌≤◌, ◌^◌, List, [], length}
+use Rattle.std.specs.Prelude.{◌≡◌, ℕ, ◌+◌, ◌<◌, ◌≤◌, ◌^◌, List, [], ◌++◌, length}
 use Rattle.osm_model.specs.Change.{ChangeValue}
 use Rattle.osm_model.specs.Filter.{AreKept, FilterValue}
 use Rattle.osm_mirror.specs.Mirror.{Applies, IsMirror, IsOrderly, MirrorValue, count_at}
 use Rattle.osm_net.specs.Laid.{laid_on}
-use Rattle.osm_net.specs.Net.{HasRoomFor, IsNet, IsNetOf, IsOrderlyNet, NetValue, no_net}
+use Rattle.osm_net.specs.Net.{HasRoomFor, HasRoomForAll, IsJoined, IsNet, IsNetOf}
+use Rattle.osm_net.specs.Net.{IsOrderlyNet, NetValue, no_net}
 
 -- laid over a mirror, what changes come to is what applying them in order gives
 abbrev pub NetsApply : Type 0
@@ -55,3 +56,28 @@ CountsAreFew = (f : FilterValue) (changes : List ChangeValue) (n : NetValue)
 abbrev pub HaveRoom : Type 0
 HaveRoom = (f : FilterValue) (changes : List ChangeValue) (n : NetValue) (more : ℕ)
     → IsNetOf f changes n → length changes + more < 2 ^ 64 → HasRoomFor more n
+
+-- net changes of changes, with net changes of others after them, are those of all of them
+abbrev pub NetsJoin : Type 0
+NetsJoin = (f : FilterValue) (before after : List ChangeValue) (old later new : NetValue)
+    → IsNetOf f before old → IsNetOf f after later → IsJoined old later new
+    → IsNetOf f (before ++ after) new
+
+-- laid over a mirror, they are the later ones laid over what the earlier ones, laid over it, give
+abbrev pub JoinedIsLaid : Type 0
+JoinedIsLaid = (old later new : NetValue) (m : MirrorValue)
+    → IsOrderlyNet old → IsOrderlyNet later → IsJoined old later new → IsOrderly m
+    → laid_on new m ≡ laid_on later (laid_on old m)
+
+-- so over what the earlier ones give, they apply the later changes
+abbrev pub JoinedApplies : Type 0
+JoinedApplies =
+    (f : FilterValue) (changes : List ChangeValue) (old later new : NetValue) (m : MirrorValue)
+    → IsOrderlyNet old → IsNetOf f changes later → IsJoined old later new → IsOrderly m
+    → Applies f (laid_on old m) changes (laid_on new m)
+
+-- there is room for both, as long as all changes are fewer than 2^64
+abbrev pub HaveRoomForAll : Type 0
+HaveRoomForAll = (f : FilterValue) (before after : List ChangeValue) (old later : NetValue)
+    → IsNetOf f before old → IsNetOf f after later → length before + length after < 2 ^ 64
+    → HasRoomForAll later old

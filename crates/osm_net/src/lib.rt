@@ -1,6 +1,7 @@
 //! Net changes: what changes come to, to be laid over a mirror.
 #![tactic(auto)]
 
+mod counting;
 pub mod laws;
 pub mod net;
 pub mod objects;

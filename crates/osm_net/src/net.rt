@@ -1,12 +1,14 @@
 //! Net changes: what is left of the objects that changed, and how many edits users and changesets
 //! have.
 
-ghost use Rattle.std.specs.Prelude.{◌≡◌, ◌++◌, ◌↔◌, List, [], ◌∷◌, length};
+ghost use Rattle.std.specs.Prelude.{◌≡◌, ℕ, ◌++◌, ◌↔◌, List, [], ◌∷◌, length};
 ghost use Rattle.std.specs.Prelude.{IsTrue, OnOk, OnErr};
 ghost use Rattle.osm_model.specs.Change.{ChangeValue};
-ghost use Rattle.osm_net.specs.Net.{HasRoomFor, IsNet, IsNetOf, IsNew, NeedsEntry, Takes};
-ghost use Rattle.osm_net.specs.Net.{WidensBy, no_net};
+ghost use Rattle.osm_model.specs.Filter.{FilterValue};
+ghost use Rattle.osm_net.specs.Net.{BringsNew, HasRoomFor, HasRoomForAll, IsJoined, IsNet};
+ghost use Rattle.osm_net.specs.Net.{IsNetOf, IsNew, NeedsEntry, Takes, WidensBy, no_net};
 
+use crate::counting::add_counts;
 use crate::objects::NetObjects;
 use osm_mirror::counts::Counts;
 use osm_model::change::Change;
@@ -83,6 +85,34 @@ impl Net {
             return Err(WantOfMemory);
         };
         let Ok(()) = self.objects.put(filter, change) else {
+            return Err(WantOfMemory);
+        };
+        self.limits();
+        Ok(())
+    }
+
+    /// Puts later net changes after these, as if their changes had been taken: their entries
+    /// replace those of the same key, and their counts are added. After a refusal some of them may
+    /// have been.
+    pub fn append(&mut self, later: Net) -> Result<(), WantOfMemory>
+        requires { HasRoomForAll later self.old }
+        ensures joined { OnOk result (IsJoined self.old later self.new) }
+        ensures taken { OnOk result ((f : FilterValue) (before after : List ChangeValue) →
+            IsNetOf f before self.old → IsNetOf f after later
+            → IsNetOf f (before ++ after) self.new) }
+        ensures grown { OnOk result ((most : ℕ) →
+            WidensBy most no_net later → WidensBy most self.old self.new) }
+        ensures refused { OnErr result (BringsNew self.old later) }
+    {
+        self.limits();
+        later.limits();
+        let Ok(()) = add_counts(&mut self.users, &later.users) else {
+            return Err(WantOfMemory);
+        };
+        let Ok(()) = add_counts(&mut self.changesets, &later.changesets) else {
+            return Err(WantOfMemory);
+        };
+        let Ok(()) = self.objects.append(later.objects) else {
             return Err(WantOfMemory);
         };
         self.limits();

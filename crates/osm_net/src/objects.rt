@@ -8,7 +8,8 @@ ghost use Rattle.osm_model.specs.Change.{ChangeValue};
 ghost use Rattle.osm_model.specs.Filter.{left_by};
 ghost use Rattle.osm_model.specs.KeyOrder.{same_key};
 ghost use Rattle.osm_model.specs.declared.kind.Key.{Key};
-ghost use Rattle.osm_net.specs.Net.{AreKeysRising, HasOwnKey, LeavesObject, net_at};
+ghost use Rattle.osm_net.specs.Net.{AreKeysRising, HasNewKey, HasOwnKey, LeavesObject};
+ghost use Rattle.osm_net.specs.Net.{joined_at, net_at};
 
 use osm_model::change::Change;
 use osm_model::filter::Filter;
@@ -58,6 +59,34 @@ impl NetObjects {
     {
         let key = change.key();
         let left = left_by(filter, change);
+        self.put_left(key, left)
+    }
+
+    /// Puts later entries after these: they replace those of the same key. After a refusal some of
+    /// them may have been put.
+    pub fn append(&mut self, later: NetObjects) -> Result<(), WantOfMemory>
+        ensures joined { OnOk result ((k : Key) →
+            net_at self.new k ≡ joined_at (net_at self.old k) (net_at later k)) }
+        ensures refused { OnErr result (HasNewKey self.old later) }
+    {
+        later.limits();
+        for (key, left) in later.entries {
+            let Ok(()) = self.put_left(key, left) else {
+                return Err(WantOfMemory);
+            };
+        }
+        Ok(())
+    }
+
+    // What is left becomes the entry of the key.
+    fn put_left(&mut self, key: Key, left: Option<Change>) -> Result<(), WantOfMemory>
+        requires own { HasOwnKey (key, left) }
+        requires object { LeavesObject (key, left) }
+        ensures put { OnOk result ((k : Key) → net_at self.new k
+            ≡ (if same_key key k then Some left else net_at self.old k)) }
+        ensures refused { OnErr result (net_at self.old key ≡ None) }
+        ensures unchanged { OnErr result (self.new ≡ self.old) }
+    {
         self.entries.insert(key, left)?;
         Ok(())
     }

@@ -1,5 +1,6 @@
 use Rattle.osm_net.proofs.NetLemmas.{applied_is_laid, counts_are_few, have_room, nets_apply, none_changes_nothing, nothing_is_none, one_is_applied}
 use Rattle.osm_net.proofs.NetLemmas.{stays_kept_by, stays_mirror, stays_orderly}
+use Rattle.osm_net.proofs.JoinedLemmas.{have_room_for_all, joined_applies, joined_is_laid, nets_join}
 use Rattle.osm_net.proofs.laws.laws_of_nets.Goals as goal
 
 pub returns-clause-laid : goal.returns-clause-laid
@@ -31,3 +32,15 @@ returns-clause-few c = counts_are_few
 
 pub returns-clause-room : goal.returns-clause-room
 returns-clause-room c = have_room
+
+pub returns-clause-joined : goal.returns-clause-joined
+returns-clause-joined c = nets_join
+
+pub returns-clause-laid_after : goal.returns-clause-laid_after
+returns-clause-laid_after c = joined_is_laid
+
+pub returns-clause-applied_after : goal.returns-clause-applied_after
+returns-clause-applied_after c = joined_applies
+
+pub returns-clause-room_for_all : goal.returns-clause-room_for_all
+returns-clause-room_for_all c = have_room_for_all
