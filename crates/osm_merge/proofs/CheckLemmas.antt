@@ -24,11 +24,12 @@ use Rattle.osm_save.specs.declared.version.Version.TheVariants.{Three}
 use Rattle.std.proofs.lemmas.Option.{same_Some}
 use Rattle.osm_merge.specs.Counting.{CountsAs}
 use Rattle.osm_merge.specs.Faults.{IsOfText, IsPlain}
-use Rattle.osm_merge.specs.Checking.{BeginsWith, CheckStops, IsChecked, IsNoSave}
+use Rattle.osm_merge.specs.Checking.{BeginsWith, CheckStops, IsChecked, IsCheckedWith, IsNoSave}
 use Rattle.osm_merge.specs.Merging.{IsStaged, MergeStops, merged_text}
 use Rattle.osm_merge.specs.Mirrors.{both_at, end_at, totals_of}
 use Rattle.osm_merge.specs.Opening.{IsOpened, OpeningStops}
 use Rattle.osm_merge.specs.Reading.{LineStops}
+use Rattle.osm_merge.specs.declared.check.Checked.{Checked}
 use Rattle.osm_merge.specs.declared.lists.Totals.{Totals}
 use Rattle.osm_merge.specs.declared.opening.Opening.{Opening}
 use Rattle.osm_merge.specs.declared.fault.MergeFault.{MergeFault}
@@ -153,17 +154,31 @@ begins_with told place o opened =
 nothing_laid : (m : MirrorValue) → laid_on no_net m ≡ m
 nothing_laid m = rw (laid_over-no_entry m.objects, added-no_increment m.users, added-no_increment m.changesets) refl
 
-pub is_checked : (told : Option (List ℕ)) (place : Place) (o : Opening) (totals : Totals) → (opened : IsOpened told place o)
+-- without changes it is counted as it is
+pub checked_plain : (told : Option (List ℕ)) (checked : Checked) → IsCheckedWith told no_net checked → IsChecked told checked
+checked_plain told checked h = record {
+  file = h.file;
+  there = h.there;
+  saved = h.saved;
+  spells = h.spells;
+  head = h.head;
+  filter = h.filter;
+  totals = h.totals ∙ ap totals_of (nothing_laid h.saved.mirror);
+  rest = h.rest;
+  begins = h.begins;
+}
+
+pub is_checked : (told : Option (List ℕ)) (place : Place) (o : Opening) (n : NetValue) (totals : Totals) → (opened : IsOpened told place o)
     → (m : MirrorValue) → mirror_at o.version o.head o.filter (left_of place opened.file) ≡ Some (saved_with o.head o.filter m)
-    → totals ≡ totals_of (laid_on no_net m) → IsChecked told (record { version = o.version; head = o.head; filter = o.filter; totals = totals })
-is_checked told place o totals opened m read counted = record {
+    → totals ≡ totals_of (laid_on n m) → IsCheckedWith told n (record { version = o.version; head = o.head; filter = o.filter; totals = totals })
+is_checked told place o n totals opened m read counted = record {
   file = opened.file;
   there = opened.there;
   saved = saved_with o.head o.filter m;
   spells = save_takes opened.file (saved_with o.head o.filter m) (save_is opened.file (left_of place opened.file) o opened.head ∙ read);
   head = refl;
   filter = refl;
-  totals = counted ∙ ap totals_of (nothing_laid m);
+  totals = counted;
   rest = left_of place opened.file;
   begins = (head_takes opened.file (o.version, o.head, o.filter, left_of place opened.file) opened.head).text
       ∙ sym (ended_before (head_lines o.version o.head o.filter) (left_of place opened.file));

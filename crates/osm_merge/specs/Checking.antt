@@ -1,6 +1,8 @@
 -- What a check of a save text says.
 use Rattle.std.specs.Prelude.{◌≡◌, ℕ, List, ◌++◌, Option, None, Some}
 use Rattle.osm_blocks.specs.Places.{IsHuge}
+use Rattle.osm_net.specs.Laid.{laid_on}
+use Rattle.osm_net.specs.Net.{NetValue}
 use Rattle.osm_save.specs.Head.{head_lines, head_of}
 use Rattle.osm_save.specs.Lines.{ended}
 use Rattle.osm_save.specs.Save.{SpellsSave}
@@ -24,6 +26,19 @@ pub record IsChecked (told : Option (List ℕ)) (checked : Checked) : Type 0 whe
   pub head : head_of saved ≡ checked.head
   pub filter : saved.filter ≡ checked.filter
   pub totals : checked.totals ≡ totals_of saved.mirror
+  pub rest : List ℕ
+  pub begins : file ≡ ended (head_lines checked.version checked.head checked.filter) ++ rest
+
+-- the file is a save text, of that version, with that head and filter, and has as many objects,
+-- users and changesets after net changes
+pub record IsCheckedWith (told : Option (List ℕ)) (n : NetValue) (checked : Checked) : Type 0 where
+  pub file : List ℕ
+  pub there : told ≡ Some file
+  pub saved : Saved
+  pub spells : SpellsSave file saved
+  pub head : head_of saved ≡ checked.head
+  pub filter : saved.filter ≡ checked.filter
+  pub totals : checked.totals ≡ totals_of (laid_on n saved.mirror)
   pub rest : List ℕ
   pub begins : file ≡ ended (head_lines checked.version checked.head checked.filter) ++ rest
 

@@ -1,18 +1,22 @@
 //! Save texts of any size, checked in blocks.
 
 ghost use Rattle.std.specs.Prelude.{IfErr, IfOk, OnOk};
+ghost use Rattle.std.specs.List.{AllByRecursion};
 ghost use Rattle.osm_store.specs.Files.{Spends};
 ghost use Rattle.osm_store.specs.Frames.{IsKnown, MakesAtMost};
 ghost use Rattle.osm_merge.specs.Calls.{bytes_in, check_calls};
 ghost use Rattle.osm_blocks.specs.Frames.{ReadsOften};
-ghost use Rattle.osm_merge.specs.Checking.{CheckStops, IsChecked};
+ghost use Rattle.osm_merge.specs.Checking.{CheckStops, IsChecked, IsCheckedWith};
 ghost use Rattle.osm_merge.specs.Faults.{IsDeviceFault};
+ghost use Rattle.osm_merge.specs.Laying.{IsFew};
 
 use crate::fault::MergeFault;
 use crate::lists::{Totals, merge_lists};
 use crate::opening::open_save;
 use osm_blocks::block_writer::BlockWriter;
+use osm_model::change::Change;
 use osm_model::filter::Filter;
+use osm_model::kind::Key;
 use osm_save::head::Head;
 use osm_save::version::Version;
 use osm_store::store::Store;
@@ -40,6 +44,37 @@ pub fn check_save<S: Store>(alloc: Global, store: &mut S, name: &str) -> Result<
         (check_calls (bytes_in ((S.state store.old).files name.now)))
         (S.state store.old) (S.state store.new) result }
 {
+    match check_merged(alloc, store, name, &[], &[], &[]) {
+        Ok(checked) => Ok(checked),
+        Err(fault) => Err(fault),
+    }
+}
+
+/// Checks that a file is a save text, of any size, and counts what it has after net changes: what
+/// is left of objects, keys rising, and the increments of users and of changesets, numbers rising.
+/// A block, a line and its object are in memory.
+pub fn check_merged<S: Store>(
+    alloc: Global,
+    store: &mut S,
+    name: &str,
+    entries: &[(Key, Option<Change>)],
+    users: &[(u32, u64)],
+    changesets: &[(u32, u64)],
+) -> Result<Checked, MergeFault>
+    requires users { AllByRecursion IsFew users.now }
+    requires changesets { AllByRecursion IsFew changesets.now }
+    ensures checked { IfOk result (λ checked. IsKnown (S.state store.old)
+        → IsCheckedWith ((S.state store.old).files name.now)
+        (record { objects = entries.now; users = users.now; changesets = changesets.now })
+        checked) }
+    ensures refused { IfErr result (λ fault. IsKnown (S.state store.old)
+        → CheckStops ((S.state store.old).files name.now) fault) }
+    ensures frame { ReadsOften IsDeviceFault (S.state store.old) (S.state store.new) result }
+    ensures spends { OnOk result (Spends 1 (S.state store.old).left (S.state store.new).left) }
+    ensures calls { IsKnown (S.state store.old) → MakesAtMost IsDeviceFault
+        (check_calls (bytes_in ((S.state store.old).files name.now)))
+        (S.state store.old) (S.state store.new) result }
+{
     let (mut source, opening) = match open_save(alloc, store, name) {
         Ok(opened) => opened,
         Err(fault) => return Err(fault),
@@ -58,9 +93,9 @@ pub fn check_save<S: Store>(alloc: Global, store: &mut S, name: &str) -> Result<
         &mut writer,
         &opening,
         none,
-        &[],
-        &[],
-        &[],
+        entries,
+        users,
+        changesets,
     ) {
         Ok(totals) => Ok(Checked {
             version: opening.version,

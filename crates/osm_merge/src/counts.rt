@@ -28,7 +28,7 @@ use std::cmp::Ordering;
 
 /// Passes the next line, which has to be that of a count of at most `most`, with a number above the
 /// last one, and gives the count.
-pub(crate) fn next_count<S: Store>(
+pub fn next_count<S: Store>(
     alloc: Global,
     store: &mut S,
     name: &str,
@@ -59,8 +59,8 @@ pub(crate) fn next_count<S: Store>(
     Ok(count)
 }
 
-// The first increment's number, how many it has, and the increments after it.
-fn first_increment(increments: &[(u32, u64)]) -> Option<(u32, u64, &[(u32, u64)])>
+/// The first increment's number, how many it has, and the increments after it.
+pub fn first_increment(increments: &[(u32, u64)]) -> Option<(u32, u64, &[(u32, u64)])>
     ensures { MatchOption result (increments.now ≡ [])
         (λ r. increments.now ≡ (r.0, r.1) ∷ r.2.now) }
 {

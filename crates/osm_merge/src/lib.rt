@@ -3,7 +3,7 @@
 
 pub mod check;
 mod counting;
-mod counts;
+pub mod counts;
 pub mod fault;
 pub mod lists;
 pub mod merge;

@@ -80,7 +80,7 @@ fn put_left(left: &Option<Change>, out: &mut Vec<u8>) -> Result<u64, WantOfMemor
 }
 
 /// The first entry's key, what is left of its object, and the entries after it.
-pub(crate) fn first_entry(
+pub fn first_entry(
     entries: &[(Key, Option<Change>)],
 ) -> Option<(Key, &Option<Change>, &[(Key, Option<Change>)])>
     ensures { MatchOption result (entries.now ≡ [])

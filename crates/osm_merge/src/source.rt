@@ -216,7 +216,7 @@ impl Source {
     }
 
     /// Passes the line `end`, after which nothing may be left.
-    pub(crate) fn end<S: Store>(
+    pub fn end<S: Store>(
         &mut self,
         alloc: Global,
         store: &mut S,

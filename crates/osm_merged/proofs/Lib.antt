@@ -1,0 +1,6 @@
+pub mod AheadLemmas
+pub mod TurnLemmas
+pub mod LoopLemmas
+pub mod LawLemmas
+pub mod FirstLemmas
+pub mod OpeningLemmas

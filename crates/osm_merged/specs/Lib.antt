@@ -1,0 +1,4 @@
+pub mod Ahead
+pub mod Opening
+pub mod Laws
+pub mod Steps
