@@ -125,7 +125,7 @@ many_again many rest few =
     rw (read, test) refl
 
 -- the lines that say how far the batches after a number reach
-abbrev reach_lines : ℕ → ℕ → ℕ → List (List ℕ)
+abbrev pub reach_lines : ℕ → ℕ → ℕ → List (List ℕ)
 reach_lines number many last =
     (codes "sequence " ++ decimal (number + many)) ∷ (codes "time " ++ time_text last) ∷ (codes "batches " ++ decimal many) ∷ []
 
@@ -133,6 +133,7 @@ record TakesReach (number : ℕ) (bytes : List ℕ) (many last : ℕ) (rest : Li
   text : bytes ≡ before (reach_lines number many last) rest
   some : 0 < many
   few : number + many ≤ max_sequence
+  limits : IsPositive last
 
 reach_joined : (bytes second third rest : List ℕ) (n number many last : ℕ) → bytes ≡ (codes "sequence " ++ decimal n) ++ 10 ∷ second
     → second ≡ (codes "time " ++ time_text last) ++ 10 ∷ third → third ≡ (codes "batches " ++ decimal many) ++ 10 ∷ rest
@@ -157,6 +158,7 @@ reach_takes number bytes r e =
           (many_takes (n.0.0 - number) t.0.1 m.0 m.1) (omega (arith, above));
       some = omega (arith, above);
       few = omega (arith, above, few);
+      limits = time.limits;
     })
 
 reach_again : (number many last : ℕ) (rest : List ℕ) → 0 < many → number + many ≤ max_sequence → IsPositive last
@@ -176,17 +178,18 @@ reach_again number many last rest some few limits =
 -- ---- what a journal says before its batches
 
 -- the lines after the head of the save
-abbrev last_lines : Opening → List (List ℕ)
+abbrev pub last_lines : Opening → List (List ℕ)
 last_lines o = (codes "objects " ++ decimal o.objects) ∷ reach_lines o.head.number o.many o.last
 
-record TakesOpening (bytes : List ℕ) (o : Opening) (rest : List ℕ) : Type 0 where
-  text : bytes ≡ codes "osmrepl-journal 1" ++ 10 ∷ before (head_lines o.version o.head o.filter) (before (last_lines o) rest)
-  head : IsHeadIn o.version o.head
-  is_filter : IsFilter o.filter
-  tells : TellsFilter o.version o.filter
-  objects : o.objects ≤ most_objects o.version o.head.number
-  some : 0 < o.many
-  few : o.head.number + o.many ≤ max_sequence
+pub record TakesOpening (bytes : List ℕ) (o : Opening) (rest : List ℕ) : Type 0 where
+  pub text : bytes ≡ codes "osmrepl-journal 1" ++ 10 ∷ before (head_lines o.version o.head o.filter) (before (last_lines o) rest)
+  pub head : IsHeadIn o.version o.head
+  pub is_filter : IsFilter o.filter
+  pub tells : TellsFilter o.version o.filter
+  pub objects : o.objects ≤ most_objects o.version o.head.number
+  pub some : 0 < o.many
+  pub few : o.head.number + o.many ≤ max_sequence
+  pub last : IsPositive o.last
 
 abbrev Front : Type 0
 Front = Version × Head × FilterValue × List ℕ
@@ -198,7 +201,7 @@ opening_joined : (bytes start second third rest : List ℕ) (o : Opening) → by
 opening_joined bytes start second third rest o p q r s = p ∙ ap (λ (l : List ℕ). codes "osmrepl-journal 1" ++ 10 ∷ l)
     (q ∙ ap (before (head_lines o.version o.head o.filter)) (r ∙ ap (λ (l : List ℕ). (codes "objects " ++ decimal o.objects) ++ 10 ∷ l) s))
 
-opening_takes : (bytes : List ℕ) (r : Opening × List ℕ) → opening_at bytes ≡ Some r → TakesOpening bytes r.0 r.1
+pub opening_takes : (bytes : List ℕ) (r : Opening × List ℕ) → opening_at bytes ≡ Some r → TakesOpening bytes r.0 r.1
 unfolding opening_at
 opening_takes bytes r e =
     let s = some_then (fixed_at (codes "osmrepl-journal 1") bytes) (λ (start : List ℕ). and_then {A = Front} {B = Opening × List ℕ}
@@ -227,6 +230,7 @@ opening_takes bytes r e =
       objects = objects.few;
       some = reach.some;
       few = reach.few;
+      last = reach.limits;
     })
   where
     opening : Front → ℕ → ℕ → ℕ → Opening
@@ -239,12 +243,12 @@ opening_takes bytes r e =
       last = last;
     }
 
-small_objects : (version : Version) (number : ℕ) → number ≤ max_sequence → most_objects version number < 1000000000000000000
+pub small_objects : (version : Version) (number : ℕ) → number ≤ max_sequence → most_objects version number < 1000000000000000000
 small_objects One number few = omega (arith, few)
 small_objects Two number few = omega arith
 small_objects Three number few = omega arith
 
-opening_again : (o : Opening) (rest : List ℕ) → IsHeadIn o.version o.head → IsFilter o.filter → TellsFilter o.version o.filter
+pub opening_again : (o : Opening) (rest : List ℕ) → IsHeadIn o.version o.head → IsFilter o.filter → TellsFilter o.version o.filter
     → o.objects ≤ most_objects o.version o.head.number → 0 < o.many → o.head.number + o.many ≤ max_sequence → IsPositive o.last
     → opening_at (codes "osmrepl-journal 1" ++ 10 ∷ before (head_lines o.version o.head o.filter) (before (last_lines o) rest)) ≡ Some (o, rest)
 unfolding opening_at

@@ -1,3 +1,4 @@
 pub mod BatchLemmas
 pub mod JournalLemmas
+pub mod OpeningLemmas
 pub mod StandardFacts

@@ -1,4 +1,5 @@
 pub mod Journal
 pub mod Refusal
+pub mod Openings
 pub mod Answers
 pub mod Reading

@@ -17,7 +17,7 @@
 //! end
 //! ```
 
-ghost use Rattle.std.specs.Prelude.{◌≡◌, ◌+◌, ◌≤◌, ℕ, List, length, map, IfErr, IfOk};
+ghost use Rattle.std.specs.Prelude.{◌≡◌, ◌+◌, ◌≤◌, ℕ, List, length, map, take, IfErr, IfOk};
 ghost use Rattle.std.specs.Io.{StartsWith};
 ghost use Rattle.osm_model.specs.Limits.{max_sequence};
 ghost use Rattle.osm_save.specs.Head.{head_of};
@@ -29,8 +29,10 @@ ghost use Rattle.osm_journal.specs.Answers.{Gives};
 ghost use Rattle.osm_journal.specs.Journal.{IsJournal, JournalValue, SpellsJournal, batch_of};
 ghost use Rattle.osm_journal.specs.Journal.{journal_of, journal_text, last_number, last_time};
 ghost use Rattle.osm_journal.specs.Journal.{save_start};
+ghost use Rattle.osm_journal.specs.Openings.{OpeningStops, OpensJournal, SaysOf, max_opening};
 ghost use Rattle.osm_journal.specs.Reading.{end_at, rest_at};
 ghost use Rattle.osm_journal.specs.Refusal.{JournalStops};
+ghost use Rattle.osm_journal.specs.declared.opening.Opening.{Opening};
 
 use crate::batch::{Batch, read_batches, write_batches};
 use crate::opening::{Opening, read_opening, write_place, write_save_head};
@@ -94,6 +96,19 @@ pub fn read_journal(alloc: Global, bytes: &[u8]) -> Result<Journal<'_>, JournalE
     }
 }
 
+/// Reads what a journal says before its batches. The bytes are its text, or the beginning of that:
+/// 408,302 are enough. What follows the line with the number of its batches isn't looked at.
+pub fn journal_opening(alloc: Global, bytes: &[u8]) -> Result<Opening, JournalError>
+    ensures opens { IfOk result (OpensJournal bytes.now) }
+    ensures refused { IfErr result (OpeningStops bytes.now) }
+{
+    match read_opening(alloc, bytes) {
+        Ok((opening, _rest)) => Ok(opening),
+        Err(Stop::WantOfMemory) => Err(JournalError::WantOfMemory),
+        Err(Stop::Wrong(left)) => Err(JournalError::BadLine(line_number(bytes, left))),
+    }
+}
+
 // Reads the batches and the line `end`. The first line has the number `line`.
 #[tactic(auto, unfolding(crate::specs::Reading::rest_at))]
 fn read_rest<'a>(
@@ -148,8 +163,8 @@ pub fn write_journal(alloc: Global, journal: &Journal<'_>) -> Result<Vec<u8>, Wa
     Ok(text)
 }
 
-// The number and the time of the last batch, or those of the save if there is none.
-fn place_reached(head: Head, batches: &[Batch<'_>]) -> (u32, Option<u32>)
+/// The number and the time of the last batch, or those of the head if there is none.
+pub fn place_reached(head: Head, batches: &[Batch<'_>]) -> (u32, Option<u32>)
     ensures number { result.0 ≡ last_number head.number (map batch_of batches.now) }
     ensures time { result.1 ≡ last_time head.time (map batch_of batches.now) }
 {
@@ -160,11 +175,16 @@ fn place_reached(head: Head, batches: &[Batch<'_>]) -> (u32, Option<u32>)
 }
 
 /// Laws of journals: bytes spell at most one, and a journal is spelled by its text. What a journal
-/// says of a save, the text of that save begins with. Does nothing at run time.
+/// says of a save, the text of that save begins with. The first bytes of a journal say what comes
+/// before its batches, and bytes say that of one journal at most. Does nothing at run time.
 pub fn laws_of_journals()
     ensures one_journal { (bytes : List ℕ) (a b : JournalValue)
         → SpellsJournal bytes a → SpellsJournal bytes b → a ≡ b }
     ensures written { (j : JournalValue) → IsJournal j → SpellsJournal (journal_text j) j }
     ensures save { (version : Version) (v : Saved) → StartsWith (save_text version v)
         (ended (save_start version (head_of v) v.filter (length v.mirror.objects))) }
+    ensures opening { (bytes : List ℕ) (j : JournalValue) (most : ℕ) → SpellsJournal bytes j
+        → max_opening ≤ most → (o : Opening) × SaysOf o j × OpensJournal (take most bytes) o }
+    ensures one_opening { (bytes : List ℕ) (a b : Opening)
+        → OpensJournal bytes a → OpensJournal bytes b → a ≡ b }
 {}

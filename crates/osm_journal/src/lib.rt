@@ -4,4 +4,4 @@
 
 pub mod batch;
 pub mod journal;
-mod opening;
+pub mod opening;

@@ -25,18 +25,21 @@ use osm_save::stop::Stop;
 use osm_save::version::Version;
 use std::alloc::Global;
 
-// What a journal says before its batches.
+/// What a journal says before its batches.
 #[derive(Debug, Drop)]
-pub(crate) struct Opening {
-    // Of the save that the journal belongs to.
-    pub(crate) version: Version,
-    pub(crate) head: Head,
-    pub(crate) filter: Filter,
-    pub(crate) objects: u64,
-    // How many batches there are.
-    pub(crate) many: u64,
-    // The time of the last one.
-    pub(crate) last: u32,
+pub struct Opening {
+    /// The version of the save that the journal belongs to.
+    pub version: Version,
+    /// The head of that save.
+    pub head: Head,
+    /// The filter of that save.
+    pub filter: Filter,
+    /// How many objects that save has.
+    pub objects: u64,
+    /// How many batches there are.
+    pub many: u64,
+    /// The time of the last one.
+    pub last: u32,
 }
 
 /// Reads what a journal says before its batches, and gives the bytes after that.

@@ -2,12 +2,11 @@
 use Rattle.std.proofs.Common.{◌≡◌, ℕ, zero, suc, ◌+◌, ◌<◌, ◌≤◌, List, [], ◌∷◌, ◌++◌, length, length-append, Option, Some, None}
 use Rattle.std.proofs.Common.{map, take, drop, get_or, arith, refl, sym, ap, subst, ◌∙◌}
 use Rattle.std.specs.Prelude.{unwrap_or}
-use Rattle.std.proofs.lemmas.List.{length-map}
 use Rattle.std.specs.List.{AllByRecursion}
 use Rattle.osm_model.specs.Change.{ChangeValue}
 use Rattle.osm_model.specs.Content.{last_of, over_at}
 use Rattle.osm_model.specs.Filter.{FilterValue, left_by}
-use Rattle.osm_model.specs.Limits.{IsPositive, max_changes, max_sequence}
+use Rattle.osm_model.specs.Limits.{max_changes, max_sequence}
 use Rattle.osm_mirror.specs.Mirror.{Applies, IsOrderly, MirrorValue, object_at}
 use Rattle.osm_net.specs.Laid.{laid_on}
 use Rattle.osm_net.specs.Net.{HasRoomFor, IsNetOf, NetValue, Takes, net_at, no_net, taken_at}
@@ -15,15 +14,15 @@ use Rattle.osm_net.proofs.AddedLemmas.{added_at}
 use Rattle.osm_net.proofs.LaidLemmas.{laid_at}
 use Rattle.osm_net.proofs.NetLemmas.{have_room, net_grown, none_changes_nothing, nothing_is_none, stays_orderly, widens_more}
 use Rattle.osm_save.specs.Save.{saved_with}
-use Rattle.osm_save.specs.declared.head.Head.{Head}
+use Rattle.osm_save.specs.Head.{head_of}
 use Rattle.osm_save.specs.declared.save.Saved.{Saved}
-use Rattle.osm_journal.specs.Journal.{BatchValue, Follow, IsBatch, batch_of}
+use Rattle.osm_journal.specs.Journal.{BatchValue, Follow, IsBatch, batch_of, last_number, last_time}
 use Rattle.osm_journal.specs.declared.batch.Batch.{Batch}
-use Rattle.osm_journal.proofs.BatchLemmas.{within_limits}
+use Rattle.osm_journal.proofs.BatchLemmas.{number_reached}
 use Rattle.osm_kept.specs.Finding.{IsRightBatch}
 use Rattle.osm_kept.specs.Kept.{AddsBatch, AddsBatches}
+use Rattle.osm_kept.specs.Reaching.{head_past}
 use Rattle.osm_kept.specs.Steps.Taking.{BatchStops, BatchesStop, HasTaken, TakesBatch}
-use Rattle.osm_kept.specs.declared.batches.Reached.{Reached}
 use Rattle.osm_kept.specs.declared.fault.KeptFault.{KeptFault}
 use Rattle.osm_kept.specs.declared.fault.KeptFault.TheVariants.{BadJournal, WantOfMemory}
 
@@ -52,17 +51,16 @@ follow_at number (x ∷ xs) b ys f =
     let later = follow_at x.number xs b ys f.1 in
     omega (arith, one, later)
 
+-- those before one more follow too
+follow_front : (number : ℕ) (xs ys : List BatchValue) → Follow number (xs ++ ys) → Follow number xs
+follow_front number [] ys f = tt
+follow_front number (x ∷ xs) ys f = (f.0, follow_front x.number xs ys f.1)
+
 -- the same of a list of batches as they are read
 pub batch_limits : (bs : List Batch) (i : ℕ) (d : Batch) → i < length bs → AllByRecursion IsBatch (map batch_of bs) → IsBatch (batch_of (get_or bs i d))
 batch_limits bs i d lt each =
     all_at IsBatch (map batch_of (take i bs)) (batch_of (get_or bs i d)) (map batch_of (drop (suc i) bs))
     (subst (λ (l : List BatchValue). AllByRecursion IsBatch l) (batches_split bs i d lt) each)
-
-pub batch_follows : (number : ℕ) (bs : List Batch) (i : ℕ) (d : Batch) → i < length bs → Follow number (map batch_of bs)
-    → (batch_of (get_or bs i d)).number ≡ number + length (map batch_of (take i bs)) + 1
-batch_follows number bs i d lt follow =
-    follow_at number (map batch_of (take i bs)) (batch_of (get_or bs i d)) (map batch_of (drop (suc i) bs))
-    (subst (λ (l : List BatchValue). Follow number l) (batches_split bs i d lt) follow)
 
 pub taken_count : (bs : List Batch) (i : ℕ) → i ≤ length bs → length (map batch_of (take i bs)) ≡ i
 taken_count bs zero le = refl
@@ -102,75 +100,70 @@ pub adds_more : (bs : List BatchValue) (b : BatchValue) (old between new : Saved
 adds_more [] b old between new same one = (new, subst (λ (v : Saved). AddsBatch b v new) same one, refl)
 adds_more (x ∷ xs) b old between new (middle, first, rest) one = (middle, first, adds_more xs b middle between new rest one)
 
-pub takes_nothing : (f : FilterValue) (start : Head) → HasTaken f start [] (record { head = start; net = no_net })
-takes_nothing f start = record {
-  number = omega arith;
-  base = refl;
-  time = λ t. t;
-  none = λ zero_is. (refl, refl);
+pub takes_nothing : (f : FilterValue) → HasTaken f [] no_net
+takes_nothing f = record {
+  none = λ zero_is. refl;
   changes = [];
   few = omega arith;
-  net = nothing_is_none f;
+  net_is = nothing_is_none f;
   widens = record { users = omega arith; changesets = omega arith };
   right = tt;
-  adds = λ v head_is filter_is orderly. rw (← head_is, ← filter_is, none_changes_nothing v.mirror) refl;
+  adds = λ v follow filter_is orderly. rw (← filter_is, none_changes_nothing v.mirror) refl;
 }
 
-pub takes_more : (f : FilterValue) (start : Head) (bs : List BatchValue) (b : BatchValue) (old new : Reached) → HasTaken f start bs old
-    → b.number ≡ start.number + length bs + 1 → IsPositive b.time → TakesBatch f b old new → HasTaken f start (bs ++ b ∷ []) new
-takes_more f start bs b old new has next positive t =
+number_last : (number : ℕ) (bs : List BatchValue) (b : BatchValue) → last_number number (bs ++ b ∷ []) ≡ b.number
+number_last number [] b = refl
+number_last number (x ∷ xs) b = number_last x.number xs b
+
+time_last : (time : Option ℕ) (bs : List BatchValue) (b : BatchValue) → last_time time (bs ++ b ∷ []) ≡ Some b.time
+time_last time [] b = refl
+time_last time (x ∷ xs) b = time_last (Some x.time) xs b
+
+-- the next number's changes are applied to what is kept before
+adds_next : (f : FilterValue) (bs : List BatchValue) (b : BatchValue) (old new : NetValue) → (has : HasTaken f bs old) → TakesBatch f b old new
+    → (v : Saved) → Follow v.number (bs ++ b ∷ []) → IsOrderly v.mirror
+    → AddsBatch b (saved_with (head_past (head_of v) bs) f (laid_on old v.mirror)) (saved_with (head_past (head_of v) (bs ++ b ∷ [])) f (laid_on new v.mirror))
+adds_next f bs b old new has t v follow orderly = record {
+  changes = t.changes;
+  spells = t.spells;
+  number_is = (let at = follow_at v.number bs b [] follow in
+      let reached = number_reached bs v.number (follow_front v.number bs (b ∷ []) follow) in
+      omega (arith, at, reached));
+  applied = applies_after f has.changes t.changes old new has.net_is t.takes v.mirror orderly;
+  number = number_last v.number bs b;
+  base = refl;
+  same_filter = refl;
+  time = time_last v.time bs b;
+}
+
+pub takes_more : (f : FilterValue) (bs : List BatchValue) (b : BatchValue) (old new : NetValue) → HasTaken f bs old → TakesBatch f b old new
+    → HasTaken f (bs ++ b ∷ []) new
+takes_more f bs b old new has t =
     let count = length-append bs (b ∷ []) in
-    let before = has.number in
     let few = has.few in
     let limit = t.limits.few in
-    let at : new.head.number ≡ b.number = ap (λ (h : Head). h.number) t.head in
     record {
-      number = omega (arith, count, at, next);
-      base = ap (λ (h : Head). h.base) t.head ∙ has.base;
-      time = λ start_time. rw (t.head) (let above : 0 < b.number = omega (arith, next) in (above, positive));
       none = λ zero_is. absurd (omega (arith, zero_is, count));
       changes = has.changes ++ t.changes;
       few = (let sum = length-append has.changes t.changes in omega (arith, sum, few, limit, count));
-      net = net_grown f old.net new.net has.changes t.changes t.takes has.net;
-      widens = widens_more no_net old.net new.net (length has.changes) (length t.changes) (length (has.changes ++ t.changes)) has.widens t.widens
+      net_is = net_grown f old new has.changes t.changes t.takes has.net_is;
+      widens = widens_more no_net old new (length has.changes) (length t.changes) (length (has.changes ++ t.changes)) has.widens t.widens
           (length-append has.changes t.changes);
       right = all_append IsRightBatch bs (b ∷ []) has.right (record { changes = t.changes; spells = t.spells }, tt);
-      adds = λ v head_is filter_is orderly. adds_more bs b v (saved_with old.head f (laid_on old.net v.mirror))
-          (saved_with new.head f (laid_on new.net v.mirror))
-          (has.adds v head_is filter_is orderly) (record {
-            changes = t.changes;
-            spells = t.spells;
-            number_is = omega (arith, next, before);
-            applied = applies_after f has.changes t.changes old.net new.net has.net t.takes v.mirror orderly;
-            number = at;
-            base = ap (λ (h : Head). h.base) t.head;
-            same_filter = refl;
-            time = ap (λ (h : Head). h.time) t.head;
-          });
+      adds = λ v follow filter_is orderly. adds_more bs b v (saved_with (head_past (head_of v) bs) f (laid_on old v.mirror))
+          (saved_with (head_past (head_of v) (bs ++ b ∷ [])) f (laid_on new v.mirror))
+          (has.adds v (follow_front v.number bs (b ∷ []) follow) filter_is orderly) (adds_next f bs b old new has t v follow orderly);
     }
 
 -- ---- limits
 
--- there are no more batches than there can be sequences
-pub few_batches : (number : ℕ) (bs : List BatchValue) → AllByRecursion IsBatch bs → Follow number bs → length bs ≤ max_sequence
-few_batches number [] each follow = omega arith
-few_batches number (b ∷ bs) each follow =
-    let within = within_limits (b ∷ bs) number (omega arith) each follow in
-    omega (arith, within)
+pub few_taken : (bs : List Batch) (i : ℕ) → i < length bs → length bs ≤ max_sequence → length (map batch_of (take i bs)) ≤ max_sequence
+few_taken bs i lt most = let taken = taken_count bs i (omega (arith, lt)) in omega (arith, taken, lt, most)
 
-pub few_taken : (number : ℕ) (bs : List Batch) (i : ℕ) → i < length bs → AllByRecursion IsBatch (map batch_of bs) → Follow number (map batch_of bs)
-    → length (map batch_of (take i bs)) ≤ max_sequence
-few_taken number bs i lt each follow =
-    let all = few_batches number (map batch_of bs) each follow in
-    let count = length-map bs batch_of in
-    let taken = taken_count bs i (omega (arith, lt)) in
-    omega (arith, all, count, taken, lt)
-
-pub room_for_more : (f : FilterValue) (start : Head) (bs : List BatchValue) (reached : Reached) → HasTaken f start bs reached
-    → length bs ≤ max_sequence → HasRoomFor max_changes reached.net
-room_for_more f start bs reached has most =
+pub room_for_more : (f : FilterValue) (bs : List BatchValue) (net : NetValue) → HasTaken f bs net → length bs ≤ max_sequence → HasRoomFor max_changes net
+room_for_more f bs net has most =
     let few = has.few in
-    have_room f has.changes reached.net max_changes has.net (omega (arith, few, most))
+    have_room f has.changes net max_changes has.net_is (omega (arith, few, most))
 
 -- ---- a batch that isn't taken
 

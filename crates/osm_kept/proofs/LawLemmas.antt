@@ -1,7 +1,7 @@
 -- What two files keep: one thing, and what one more batch does.
 use Rattle.std.proofs.Common.{◌≡◌, ℕ, ◌+◌, ◌<◌, List, [], ◌∷◌, ◌++◌, length, length-append, Option, Some, None}
 use Rattle.std.proofs.Common.{inl, inr, arith, refl, sym, ap, subst, ◌∙◌}
-use Rattle.std.specs.Prelude.{◌⊎◌}
+use Rattle.std.specs.Prelude.{◌⊎◌, codes}
 use Rattle.std.proofs.lemmas.Option.{same_Some}
 use Rattle.osm_model.specs.Change.{ChangeValue}
 use Rattle.osm_mirror.specs.Mirror.{Applies}
@@ -15,8 +15,9 @@ use Rattle.osm_journal.specs.Journal.{BatchValue, Follow, IsBatch, IsJournal, Jo
 use Rattle.osm_journal.proofs.BatchLemmas.{number_reached}
 use Rattle.osm_journal.proofs.JournalLemmas.{one_journal}
 use Rattle.osm_kept.specs.Kept.{AddsBatch, AddsBatches, BelongsTo, ComesTo, HasJournal, IsNoJournal, Keeps}
-use Rattle.osm_kept.specs.Laws.{BadKeepsNothing, EmptyIsNone, FirstIsAdded, JournalIsApplied, MergedIsKept}
+use Rattle.osm_kept.specs.Laws.{BadKeepsNothing, EmptiedIsKept, EmptyIsNone, FirstIsAdded, JournalIsApplied, MergedIsKept}
 use Rattle.osm_kept.specs.Laws.{MoreIsAdded, OneIsKept, SavedIsKept, first_journal, with_batch}
+use Rattle.osm_kept.specs.Names.{JournalHasOwnName}
 use Rattle.osm_kept.specs.Refusal.{HasBadBatch, IsBadBatchAt}
 use Rattle.osm_kept.specs.Steps.Starting.{start_in}
 use Rattle.osm_kept.specs.declared.start.Start.{Start}
@@ -103,6 +104,19 @@ empty_is_none told v = (
     to_empty start (inl (silent, same)) = inl (inl refl, same)
     to_empty start (inr (j, has, adds)) = absurd (journal_counts told None j tt has)
 
+pub emptied_is_kept : EmptiedIsKept
+emptied_is_kept told journal v silent k = record {
+  file = k.file;
+  there = k.there;
+  start = k.start;
+  spells = k.spells;
+  comes = emptied k.start k.comes;
+}
+  where
+    emptied : (start : Saved) → ComesTo told journal start v → ComesTo told (Some []) start v
+    emptied start (inl (nothing, same)) = inl (inl refl, same)
+    emptied start (inr (j, has, adds)) = absurd (journal_counts told journal j silent has)
+
 -- ---- a bad journal
 
 adds_at : (before : List BatchValue) (b : BatchValue) (after : List BatchValue) (old new : Saved) → AddsBatches (before ++ b ∷ after) old new
@@ -173,7 +187,7 @@ start_number : (told : Option (List ℕ)) (j : JournalValue) (file : List ℕ) (
     → IsJournal j → BelongsTo j told → v.number ≡ j.head.number
 start_number told j file v x there is belongs = ap (λ (s : Start). s.head.number) (belongs_start told j file v x there is belongs)
 
-comes_of : (told journal : Option (List ℕ)) (j : JournalValue) (start v : Saved) → HasJournal told journal j → ComesTo told journal start v
+pub comes_of : (told journal : Option (List ℕ)) (j : JournalValue) (start v : Saved) → HasJournal told journal j → ComesTo told journal start v
     → AddsBatches j.batches start v
 comes_of told journal j start v has (inl (silent, same)) = absurd (journal_counts told journal j silent has)
 comes_of told journal j start v has (inr (i, p, adds)) =
@@ -230,14 +244,22 @@ first_is_added version b v w is limits adds =
 -- ---- once it is merged
 
 pub merged_is_kept : MergedIsKept
-merged_is_kept told journal j v file has k x =
-    saved_is_kept file journal v x (rw has.there (inr (record {
+merged_is_kept told journal j v w file has k more x =
+    saved_is_kept file journal w x (rw has.there (inr (record {
       value = j;
       spells = has.spells;
       other = λ belongs. (let before = kept_number told journal j v has k in
           let is = has.spells.journal in
           let number = number_reached j.batches j.head.number is.follow in
           let some = is.some in
-          let after = start_number (Some file) j file v x refl is belongs in
-          omega (arith, before, number, some, after));
+          let after = start_number (Some file) j file w x refl is belongs in
+          omega (arith, before, number, some, after, more));
     })))
+
+-- ---- its name
+
+pub journal_has_own_name : JournalHasOwnName
+journal_has_own_name save same =
+    let sum = length-append save (codes ".journal") in
+    let none = ap length same in
+    omega (arith, sum, none)

@@ -1,4 +1,8 @@
 mod StartLemmas
 mod BatchLemmas
-mod KeptLemmas
 mod LawLemmas
+mod KeptLemmas
+mod EndLemmas
+mod TakingLemmas
+mod NextLemmas
+mod HeadLemmas

@@ -1,5 +1,5 @@
 -- Laws of saves with journals.
-use Rattle.std.specs.Prelude.{◌≡◌, ℕ, ◌↔◌, List, [], ◌∷◌, ◌++◌, length, Option, Some, None}
+use Rattle.std.specs.Prelude.{◌≡◌, ℕ, ◌≤◌, ◌↔◌, List, [], ◌∷◌, ◌++◌, length, Option, Some, None}
 use Rattle.osm_save.specs.Head.{head_of}
 use Rattle.osm_save.specs.Save.{IsSavable, SpellsSave, save_text}
 use Rattle.osm_save.specs.declared.save.Saved.{Saved}
@@ -67,9 +67,15 @@ FirstIsAdded = (version : Version) (b : BatchValue) (v w : Saved)
     → IsSavable version v → IsBatch b → AddsBatch b v w
     → Keeps (Some (save_text version v)) (Some (journal_text (first_journal version v b))) w
 
--- once what is kept is saved, the journal is one of another save: the same is kept whether it is
--- still there or not
+-- once what is kept is saved, alone or with more numbers after it, the journal is one of another
+-- save: the same is kept whether it is still there or not
 abbrev pub MergedIsKept : Type 0
-MergedIsKept = (told journal : Option (List ℕ)) (j : JournalValue) (v : Saved) (file : List ℕ)
-    → HasJournal told journal j → Keeps told journal v → SpellsSave file v
-    → Keeps (Some file) journal v
+MergedIsKept = (told journal : Option (List ℕ)) (j : JournalValue) (v w : Saved) (file : List ℕ)
+    → HasJournal told journal j → Keeps told journal v → v.number ≤ w.number → SpellsSave file w
+    → Keeps (Some file) journal w
+
+-- a journal of another save that is emptied leaves what was kept, and so does one that is empty or
+-- isn't there
+abbrev pub EmptiedIsKept : Type 0
+EmptiedIsKept = (told journal : Option (List ℕ)) (v : Saved)
+    → IsNoJournal told journal → Keeps told journal v → Keeps told (Some []) v

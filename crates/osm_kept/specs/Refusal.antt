@@ -56,6 +56,35 @@ KeptStops told journal SaveFailed = Unit {0}
 KeptStops told journal (BadSave line) = IsNoSave told
 KeptStops told journal WantOfMemory = Unit {0}
 
+-- the file isn't empty, and is no journal
+pub record IsNoJournalText (journal : Option (List ℕ)) : Type 0 where
+  pub bytes : List ℕ
+  pub there : journal ≡ Some bytes
+  pub some : 0 < length bytes
+  pub none : (j : JournalValue) → SpellsJournal bytes j → ⊥
+
+-- why it isn't read how far they reach: a bad batch isn't found
+abbrev pub EndsStop : Option (List ℕ) → Option (List ℕ) → KeptFault → Type 0
+EndsStop told journal (BadJournal line) = IsNoJournalText journal
+EndsStop told journal fault = KeptStops told journal fault
+
+-- why the batches of a journal aren't taken
+abbrev pub NetStops : Option (List ℕ) → Option (List ℕ) → KeptFault → Type 0
+NetStops told journal (BadJournal line) = IsBadJournal told journal line
+NetStops told journal WantOfMemory = Unit {0}
+NetStops told journal fault = ⊥
+
+-- a batch or memory is the reason
+abbrev pub IsOfBatches : KeptFault → Type 0
+IsOfBatches (BadJournal line) = Unit {0}
+IsOfBatches WantOfMemory = Unit {0}
+IsOfBatches fault = ⊥
+
+-- why it isn't read which head they come to: a journal is judged by its first lines alone
+abbrev pub HeadsStop : Option (List ℕ) → Option (List ℕ) → KeptFault → Type 0
+HeadsStop told journal JournalTooLarge = ⊥
+HeadsStop told journal fault = EndsStop told journal fault
+
 -- the device is the reason
 abbrev pub IsDeviceFault : KeptFault → Type 0
 IsDeviceFault JournalFailed = Unit {0}

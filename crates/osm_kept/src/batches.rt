@@ -1,12 +1,12 @@
-//! The batches of a journal, as the head and the net changes that they come to.
+//! The batches of a journal, as the net changes that they come to.
 
-ghost use Rattle.std.specs.Prelude.{◌≡◌, ◌≤◌, length, map, IfErr, IfOk, OnOk};
+ghost use Rattle.std.specs.Prelude.{◌≤◌, length, map, IfErr, IfOk, OnOk};
 ghost use Rattle.std.specs.List.{AllByRecursion};
 ghost use Rattle.osm_model.specs.Batch as model;
 ghost use Rattle.osm_model.specs.Limits.{max_changes, max_file, max_sequence};
-ghost use Rattle.osm_net.specs.Net.{HasRoomFor, no_net};
+ghost use Rattle.osm_net.specs.Net.{HasRoomFor};
 ghost use Rattle.osm_o5c.specs.File.{SpellsO5c};
-ghost use Rattle.osm_journal.specs.Journal.{Follow, IsBatch, batch_of};
+ghost use Rattle.osm_journal.specs.Journal.{IsBatch, batch_of};
 ghost use Rattle.osm_kept.specs.Steps.Taking.{BatchStops, BatchesStop, HasTaken, TakesBatch};
 
 use crate::fault::KeptFault;
@@ -16,53 +16,31 @@ use osm_model::filter::Filter;
 use osm_model::form::{ChangeForm, FormError};
 use osm_net::net::Net;
 use osm_o5c::o5c::O5c;
-use osm_save::head::Head;
 use std::alloc::Global;
 
-/// How far batches reach, and what they come to.
-#[derive(Debug, Drop)]
-pub(crate) struct Reached {
-    pub(crate) head: Head,
-    pub(crate) net: Net,
-}
-
-impl Reached {
-    /// Nothing after that head.
-    pub(crate) fn after(alloc: Global, head: Head) -> Reached
-        ensures { result ≡ record { head = head; net = no_net } }
-    {
-        Reached {
-            head,
-            net: Net::new(alloc),
-        }
-    }
-}
-
-/// Takes batches, which come after the head. The line of the first of them is `first`.
+/// Takes batches. The line of the first of them is `first`.
 pub(crate) fn take_batches(
     alloc: Global,
     filter: &Filter,
-    head: Head,
     first: u64,
     batches: &[Batch<'_>],
-) -> Result<Reached, KeptFault>
-    requires number { head.number ≤ max_sequence }
+) -> Result<Net, KeptFault>
     requires each { AllByRecursion IsBatch (map batch_of batches.now) }
-    requires follow { Follow head.number (map batch_of batches.now) }
+    requires few { length batches.now ≤ max_sequence }
     requires first { first ≤ max_file }
-    ensures taken { IfOk result (HasTaken filter.now head (map batch_of batches.now)) }
+    ensures taken { IfOk result (HasTaken filter.now (map batch_of batches.now)) }
     ensures stops { IfErr result (BatchesStop first (map batch_of batches.now)) }
 {
-    let mut reached = Reached::after(alloc, head);
+    let mut net = Net::new(alloc);
     let mut line = first;
     for batch in batches {
-        match take_batch(alloc, filter, line, batch, &mut reached) {
+        match take_batch(alloc, filter, line, batch, &mut net) {
             Ok(()) => {}
             Err(fault) => return Err(fault),
         }
         line = line + 1;
     }
-    Ok(reached)
+    Ok(net)
 }
 
 // Takes the batch with that line.
@@ -71,24 +49,18 @@ fn take_batch(
     filter: &Filter,
     line: u64,
     batch: &Batch<'_>,
-    reached: &mut Reached,
+    net: &mut Net,
 ) -> Result<(), KeptFault>
     requires short { length (batch_of batch.now).bytes ≤ max_file }
-    requires room { HasRoomFor max_changes reached.old.net }
-    ensures taken { OnOk result
-        (TakesBatch filter.now (batch_of batch.now) reached.old reached.new) }
+    requires room { HasRoomFor max_changes net.old }
+    ensures taken { OnOk result (TakesBatch filter.now (batch_of batch.now) net.old net.new) }
     ensures stops { IfErr result (BatchStops line (batch_of batch.now)) }
 {
     let changes = match changes_of(alloc, line, batch) {
         Ok(changes) => changes,
         Err(fault) => return Err(fault),
     };
-    reached.net.take(filter, changes)?;
-    reached.head = Head {
-        number: batch.number,
-        base: reached.head.base,
-        time: Some(batch.time),
-    };
+    net.take(filter, changes)?;
     Ok(())
 }
 

@@ -26,6 +26,25 @@ pub struct Kept {
     pub net: Net,
 }
 
+/// How far a save and its journal reach, read without the bytes of the batches.
+#[derive(Debug, Drop)]
+pub struct Ends {
+    /// Where they begin and end; none if there is no save.
+    pub kept: Option<Reach>,
+    /// What the file of the journal is; whether its batches are change files isn't looked at.
+    pub journal: JournalFile,
+}
+
+/// What a save begins with, and the head that it and its journal come to.
+#[derive(Debug, Drop)]
+pub struct Reach {
+    /// What the save begins with.
+    pub start: Start,
+    /// The number and the time of the last batch, and the base of the save. It is the head of the
+    /// save if the journal says nothing.
+    pub head: Head,
+}
+
 /// What the file of a journal is.
 #[derive(Debug, Drop)]
 pub enum JournalFile {

@@ -1,14 +1,16 @@
 //! Laws of saves with journals, which hold whatever the code does.
 
-ghost use Rattle.osm_kept.specs.Laws.{BadKeepsNothing, EmptyIsNone, FirstIsAdded};
+ghost use Rattle.osm_kept.specs.Laws.{BadKeepsNothing, EmptiedIsKept, EmptyIsNone, FirstIsAdded};
 ghost use Rattle.osm_kept.specs.Laws.{JournalIsApplied, MergedIsKept, MoreIsAdded, OneIsKept};
 ghost use Rattle.osm_kept.specs.Laws.{SavedIsKept};
+ghost use Rattle.osm_kept.specs.Names.{JournalHasOwnName};
 
 /// A save and its journal keep one thing at most, and nothing if the journal is bad. A journal that
-/// is empty keeps the same as none, and one that says nothing keeps what the save saves. The
-/// batches of a journal that is written are applied to what is saved, and one more, or a first one,
-/// to what was kept. Once what is kept is saved in the save's place, the journal of before says
-/// nothing. Does nothing at run time.
+/// is empty keeps the same as none, and one that says nothing keeps what the save saves, also once
+/// it is emptied. The batches of a journal that is written are applied to what is saved, and one
+/// more, or a first one, to what was kept. Once what is kept is saved in the save's place, alone or
+/// with more after it, the journal of before says nothing. The journal isn't the save by name. Does
+/// nothing at run time.
 pub fn laws_of_kept()
     ensures one_kept { OneIsKept }
     ensures nothing { BadKeepsNothing }
@@ -18,4 +20,6 @@ pub fn laws_of_kept()
     ensures appended { MoreIsAdded }
     ensures begun { FirstIsAdded }
     ensures merged { MergedIsKept }
+    ensures emptied { EmptiedIsKept }
+    ensures named { JournalHasOwnName }
 {}

@@ -2,8 +2,14 @@
 #![tactic(auto)]
 
 mod batches;
+pub mod ends;
 pub mod fault;
 pub mod found;
+pub mod heads;
 pub mod kept;
 pub mod laws;
+pub mod names;
+pub mod net;
+pub mod next;
+mod own;
 pub mod start;

@@ -30,7 +30,7 @@ pub struct Start {
 
 // How many bytes of a save are read, if it has as many: a head has at most 408,194, and the line
 // after it at most 27.
-const START: u64 = 409_600;
+pub(crate) const START: u64 = 409_600;
 
 /// Reads what a save begins with; none if there is no save. What follows isn't looked at.
 pub(crate) fn read_start<S: Store>(

@@ -1,6 +1,5 @@
 -- Reading the journal, and taking its batches one after the other.
-use Rattle.std.specs.Prelude.{◌≡◌, ℕ, ◌+◌, ◌*◌, ◌≤◌, ◌⊎◌, List, ◌∷◌, ◌++◌, length, Option, Some}
-use Rattle.std.specs.Prelude.{None}
+use Rattle.std.specs.Prelude.{◌≡◌, ℕ, ◌+◌, ◌*◌, ◌≤◌, List, ◌∷◌, ◌++◌, length, Option, Some, None}
 use Rattle.std.specs.List.{AllByRecursion}
 use Rattle.osm_model.specs.Batch as model
 use Rattle.osm_model.specs.Change.{ChangeValue}
@@ -9,36 +8,31 @@ use Rattle.osm_model.specs.Filter.{FilterValue}
 use Rattle.osm_model.specs.Limits.{max_changes, max_file}
 use Rattle.osm_mirror.specs.Mirror.{IsOrderly}
 use Rattle.osm_net.specs.Laid.{laid_on}
-use Rattle.osm_net.specs.Net.{IsNetOf, Takes, WidensBy, no_net}
+use Rattle.osm_net.specs.Net.{IsNetOf, NetValue, Takes, WidensBy, no_net}
 use Rattle.osm_o5c.specs.File.{SpellsO5c}
-use Rattle.osm_save.specs.Head.{IsTimeOf, head_of}
+use Rattle.osm_save.specs.Head.{head_of}
 use Rattle.osm_save.specs.Save.{saved_with}
 use Rattle.osm_save.specs.declared.head.Head.{Head}
 use Rattle.osm_save.specs.declared.save.Saved.{Saved}
 use Rattle.osm_store.specs.Files.{IsOver}
-use Rattle.osm_journal.specs.Journal.{BatchValue, JournalValue, SpellsJournal}
+use Rattle.osm_journal.specs.Journal.{BatchValue, Follow, JournalValue, SpellsJournal}
 use Rattle.osm_kept.specs.Finding.{IsRightBatch, StartsAs, bytes_of}
 use Rattle.osm_kept.specs.Kept.{AddsBatches}
+use Rattle.osm_kept.specs.Reaching.{head_past}
 use Rattle.osm_kept.specs.Refusal.{IsBadBatchAt}
 use Rattle.osm_kept.specs.Steps.Starting.{start_in}
-use Rattle.osm_kept.specs.declared.batches.Reached.{Reached}
 use Rattle.osm_kept.specs.declared.fault.KeptFault.{KeptFault}
 use Rattle.osm_kept.specs.declared.fault.KeptFault.TheVariants.{BadJournal, JournalFailed}
 use Rattle.osm_kept.specs.declared.fault.KeptFault.TheVariants.{JournalTooLarge, WantOfMemory}
 use Rattle.osm_kept.specs.declared.start.Start.{Start}
 
--- the head after a batch
-abbrev pub head_after : Head → BatchValue → Head
-head_after head b = record { number = b.number; base = head.base; time = Some b.time }
-
 -- the changes of the batch were taken
-pub record TakesBatch (f : FilterValue) (b : BatchValue) (old new : Reached) : Type 0 where
+pub record TakesBatch (f : FilterValue) (b : BatchValue) (old new : NetValue) : Type 0 where
   pub changes : List ChangeValue
   pub spells : SpellsO5c b.bytes changes
   pub limits : model.IsBatch changes
-  pub takes : Takes f old.net changes new.net
-  pub widens : WidensBy (length changes) old.net new.net
-  pub head : new.head ≡ head_after old.head b
+  pub takes : Takes f old changes new
+  pub widens : WidensBy (length changes) old new
 
 -- why a batch with that line isn't taken
 abbrev pub BatchStops : ℕ → BatchValue → KeptFault → Type 0
@@ -46,20 +40,16 @@ BatchStops line b (BadJournal named) = (named ≡ line) × SpellsNothing SpellsO
 BatchStops line b WantOfMemory = Unit {0}
 BatchStops line b fault = ⊥
 
--- the batches after that head were taken under the filter
-pub record HasTaken (f : FilterValue) (start : Head) (bs : List BatchValue) (reached : Reached)
-    : Type 0 where
-  pub number : reached.head.number ≡ start.number + length bs
-  pub base : reached.head.base ≡ start.base
-  pub time : IsTimeOf start.number start.time → IsTimeOf reached.head.number reached.head.time
-  pub none : length bs ≡ 0 → (reached.head ≡ start) × (reached.net ≡ no_net)
+-- the batches were taken under the filter
+pub record HasTaken (f : FilterValue) (bs : List BatchValue) (net : NetValue) : Type 0 where
+  pub none : length bs ≡ 0 → net ≡ no_net
   pub changes : List ChangeValue
   pub few : length changes ≤ max_changes * length bs
-  pub net : IsNetOf f changes reached.net
-  pub widens : WidensBy (length changes) no_net reached.net
+  pub net_is : IsNetOf f changes net
+  pub widens : WidensBy (length changes) no_net net
   pub right : AllByRecursion IsRightBatch bs
-  pub adds : (v : Saved) → head_of v ≡ start → v.filter ≡ f → IsOrderly v.mirror
-      → AddsBatches bs v (saved_with reached.head f (laid_on reached.net v.mirror))
+  pub adds : (v : Saved) → Follow v.number bs → v.filter ≡ f → IsOrderly v.mirror
+      → AddsBatches bs v (saved_with (head_past (head_of v) bs) f (laid_on net v.mirror))
 
 -- the first batch whose bytes are no change file is on that line, where the first one of all is on
 -- line `first`
@@ -84,37 +74,42 @@ TextStops bytes (BadJournal line) = (j : JournalValue) → SpellsJournal bytes j
 TextStops bytes WantOfMemory = Unit {0}
 TextStops bytes fault = ⊥
 
+-- the batches of the journal that the bytes spell were taken
+pub record IsTaken (f : FilterValue) (bytes : List ℕ) (net : NetValue) : Type 0 where
+  pub value : JournalValue
+  pub spells : SpellsJournal bytes value
+  pub taken : HasTaken f value.batches net
+
+-- the bytes spell a journal with a batch that is bad
+pub record HasBad (bytes : List ℕ) (line : ℕ) : Type 0 where
+  pub value : JournalValue
+  pub spells : SpellsJournal bytes value
+  pub batch : IsBadBatchAt value line
+
+-- why the batches of a journal aren't taken
+abbrev pub TakingStops : List ℕ → KeptFault → Type 0
+TakingStops bytes (BadJournal line) = HasBad bytes line
+TakingStops bytes WantOfMemory = Unit {0}
+TakingStops bytes fault = ⊥
+
 -- the bytes are a journal of another save than one that begins so
 pub record IsOfOther (start : Start) (bytes : List ℕ) : Type 0 where
   pub value : JournalValue
   pub spells : SpellsJournal bytes value
   pub other : start_in value ≡ start → ⊥
 
--- they are the journal of that save, whose batches were taken
-pub record IsTaken (start : Start) (bytes : List ℕ) (reached : Reached) : Type 0 where
+-- they are the journal of that save, and come to that head
+pub record IsOwn (start : Start) (bytes : List ℕ) (head : Head) : Type 0 where
   pub value : JournalValue
   pub spells : SpellsJournal bytes value
   pub same : start_in value ≡ start
-  pub taken : HasTaken start.filter start.head value.batches reached
+  pub head_is : head ≡ head_past start.head value.batches
 
--- what the journal comes to beside a save that begins so; none if it is one of another save
-abbrev pub Reaches : Start → List ℕ → Option Reached → Type 0
-Reaches start bytes None = IsOfOther start bytes
-Reaches start bytes (Some reached) = IsTaken start bytes reached
-
--- the bytes are the journal of a save that begins so, with a batch that is bad
-pub record HasBad (start : Start) (bytes : List ℕ) (line : ℕ) : Type 0 where
-  pub value : JournalValue
-  pub spells : SpellsJournal bytes value
-  pub same : start_in value ≡ start
-  pub batch : IsBadBatchAt value line
-
--- why the journal isn't read beside a save that begins so
-abbrev pub ReachStops : Start → List ℕ → KeptFault → Type 0
-ReachStops start bytes (BadJournal line) =
-    ((j : JournalValue) → SpellsJournal bytes j → ⊥) ⊎ HasBad start bytes line
-ReachStops start bytes WantOfMemory = Unit {0}
-ReachStops start bytes fault = ⊥
+-- the head that the journal comes to beside a save that begins so; none if it is one of another
+-- save
+abbrev pub ReachesHead : Start → List ℕ → Option Head → Type 0
+ReachesHead start bytes None = IsOfOther start bytes
+ReachesHead start bytes (Some head) = IsOwn start bytes head
 
 -- why the file of a journal isn't read. `known` says that it is known what the files hold
 abbrev pub BytesStops : Type 0 → Option (List ℕ) → KeptFault → Type 0

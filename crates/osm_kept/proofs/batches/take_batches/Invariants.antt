@@ -5,6 +5,6 @@ use Rattle.osm_kept.proofs.batches.take_batches.Given as goal
 
 abbrev pub invariant-loop-batch : goal.invariant-loop-batch
 invariant-loop-batch l = record {
-  taken : HasTaken l.fn.filter l.fn.head (map batch_of (take l.batch-index l.batches)) l.reached;
+  taken : HasTaken l.fn.filter (map batch_of (take l.batch-index l.batches)) l.net;
   line : l.line ≡ l.fn.first + l.batch-index;
 }

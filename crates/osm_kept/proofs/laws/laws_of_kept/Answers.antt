@@ -1,5 +1,5 @@
-use Rattle.osm_kept.proofs.LawLemmas.{bad_keeps_nothing, empty_is_none, first_is_added, journal_is_applied}
-use Rattle.osm_kept.proofs.LawLemmas.{merged_is_kept, more_is_added, one_kept, saved_is_kept}
+use Rattle.osm_kept.proofs.LawLemmas.{bad_keeps_nothing, emptied_is_kept, empty_is_none, first_is_added, journal_has_own_name}
+use Rattle.osm_kept.proofs.LawLemmas.{journal_is_applied, merged_is_kept, more_is_added, one_kept, saved_is_kept}
 use Rattle.osm_kept.proofs.laws.laws_of_kept.Goals as goal
 
 pub returns-clause-one_kept : goal.returns-clause-one_kept
@@ -25,3 +25,9 @@ returns-clause-begun c = first_is_added
 
 pub returns-clause-merged : goal.returns-clause-merged
 returns-clause-merged c = merged_is_kept
+
+pub returns-clause-emptied : goal.returns-clause-emptied
+returns-clause-emptied c = emptied_is_kept
+
+pub returns-clause-named : goal.returns-clause-named
+returns-clause-named c = journal_has_own_name

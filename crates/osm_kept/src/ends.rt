@@ -1,0 +1,159 @@
+//! How far a save and its journal reach.
+
+ghost use Rattle.std.specs.Prelude.{◌≡◌, List, ℕ, Option, None, Some, IfErr, IfOk, map};
+ghost use Rattle.osm_journal.specs.Journal.{batch_of};
+ghost use Rattle.osm_store.specs.Frames.{IsKnown, ReadsBetween};
+ghost use Rattle.osm_kept.specs.Finding.{IsStart, bytes_of};
+ghost use Rattle.osm_kept.specs.Reaching.{FindsEnds, IsReachIn, head_past};
+ghost use Rattle.osm_kept.specs.Refusal.{EndsStop, IsDeviceFault, LacksCalls};
+ghost use Rattle.osm_kept.specs.Steps.Taking.{BytesStops, Holds, ReachesHead, TextStops};
+
+use crate::fault::KeptFault;
+use crate::found::{Ends, JournalFile, Reach};
+use crate::own::{belongs, read_text};
+use crate::start::{Start, read_start};
+use osm_journal::batch::Batch;
+use osm_journal::journal::place_reached;
+use osm_model::limits::MAX_FILE;
+use osm_save::head::Head;
+use osm_store::store::{Store, StoreError};
+use std::alloc::Global;
+
+/// Reads how far a save and its journal reach: first the journal, of at most 64 MiB, and then what
+/// the save begins with. So if another run merges the journal into the save between the two calls,
+/// the newer save is read, to which the journal doesn't belong. The lines of the journal are read,
+/// but not the bytes of its batches, and what follows the beginning of the save isn't looked at.
+pub fn read_ends<S: Store>(
+    alloc: Global,
+    store: &mut S,
+    save: &str,
+    journal: &str,
+) -> Result<Ends, KeptFault>
+    ensures found { IfOk result (λ ends. IsKnown (S.state store.old) → FindsEnds
+        ((S.state store.old).files save.now) ((S.state store.old).files journal.now) ends) }
+    ensures reach { IfOk result (λ ends. IsReachIn ends.journal ends.kept) }
+    ensures refused { IfErr result (λ fault. IsKnown (S.state store.old) → EndsStop
+        ((S.state store.old).files save.now) ((S.state store.old).files journal.now) fault) }
+    ensures frame { ReadsBetween IsDeviceFault 2 2 (S.state store.old) (S.state store.new) result }
+    ensures lacks { IfErr result (λ fault. IsKnown (S.state store.old)
+        → LacksCalls fault (S.state store.old).left) }
+{
+    let bytes = match read_bytes(alloc, store, journal) {
+        Ok(bytes) => bytes,
+        Err(fault) => return Err(fault),
+    };
+    let start = match read_start(alloc, store, save) {
+        Ok(start) => start,
+        Err(fault) => return Err(fault),
+    };
+    match start {
+        Some(start) => ends_beside(alloc, start, bytes),
+        None => ends_alone(alloc, bytes.as_slice()),
+    }
+}
+
+// All bytes of a journal; none if there is no such file.
+fn read_bytes<S: Store>(alloc: Global, store: &mut S, name: &str) -> Result<Vec<u8>, KeptFault>
+    ensures read { IfOk result (λ bytes. IsKnown (S.state store.old)
+        → bytes_of ((S.state store.old).files name.now) ≡ bytes.items) }
+    ensures stops { IfErr result (BytesStops (IsKnown (S.state store.old))
+        ((S.state store.old).files name.now)) }
+    ensures frame { ReadsBetween IsDeviceFault 1 1 (S.state store.old) (S.state store.new) result }
+{
+    match store.read(alloc, name, MAX_FILE as u64) {
+        Ok(Some(bytes)) => Ok(bytes),
+        Ok(None) => Ok(Vec::new(alloc)),
+        Err(StoreError::Device) => Err(KeptFault::JournalFailed),
+        Err(StoreError::TooLarge) => Err(KeptFault::JournalTooLarge),
+        Err(StoreError::WantOfMemory) => Err(KeptFault::WantOfMemory),
+    }
+}
+
+// How far a save that begins so and the bytes of a journal reach.
+fn ends_beside(alloc: Global, start: Start, bytes: Vec<u8>) -> Result<Ends, KeptFault>
+    requires start { IsStart start }
+    ensures found { IfOk result (λ ends. (told journal : Option (List ℕ))
+        → Holds told journal start bytes.items → FindsEnds told journal ends) }
+    ensures reach { IfOk result (λ ends. IsReachIn ends.journal ends.kept) }
+    ensures refused { IfErr result (λ fault. (told journal : Option (List ℕ))
+        → Holds told journal start bytes.items → EndsStop told journal fault) }
+    ensures plain { IfErr result (λ fault. IsDeviceFault fault → ⊥) }
+{
+    if bytes.is_empty() {
+        return Ok(ends_of_save(start, JournalFile::Nothing));
+    }
+    match head_reached(alloc, &start, bytes.as_slice()) {
+        Ok(Some(head)) => Ok(Ends {
+            kept: Some(Reach { start, head }),
+            journal: JournalFile::Counts(bytes),
+        }),
+        Ok(None) => Ok(ends_of_save(start, JournalFile::OfAnother)),
+        Err(fault) => Err(fault),
+    }
+}
+
+// How far a save reaches beside a journal that says nothing.
+fn ends_of_save(start: Start, journal: JournalFile) -> Ends
+    ensures { result ≡ record {
+      kept = Some (record { start = start; head = start.head });
+      journal = journal;
+    } }
+{
+    let head = start.head;
+    Ends {
+        kept: Some(Reach { start, head }),
+        journal,
+    }
+}
+
+// How far the bytes of a journal reach without a save, which is nowhere: they have to be right.
+fn ends_alone(alloc: Global, bytes: &[u8]) -> Result<Ends, KeptFault>
+    ensures found { IfOk result (λ ends. (journal : Option (List ℕ))
+        → bytes_of journal ≡ bytes.now → FindsEnds None journal ends) }
+    ensures none { IfOk result (λ ends. ends.kept ≡ None) }
+    ensures refused { IfErr result (λ fault. (journal : Option (List ℕ))
+        → bytes_of journal ≡ bytes.now → EndsStop None journal fault) }
+    ensures plain { IfErr result (λ fault. IsDeviceFault fault → ⊥) }
+{
+    if bytes.is_empty() {
+        return Ok(Ends {
+            kept: None,
+            journal: JournalFile::Nothing,
+        });
+    }
+    match read_text(alloc, bytes) {
+        Ok(_journal) => Ok(Ends {
+            kept: None,
+            journal: JournalFile::OfAnother,
+        }),
+        Err(fault) => Err(fault),
+    }
+}
+
+// The head that the bytes of a journal come to beside a save that begins so; none if they are of
+// another.
+fn head_reached(alloc: Global, start: &Start, bytes: &[u8]) -> Result<Option<Head>, KeptFault>
+    ensures reached { IfOk result (ReachesHead start.now bytes.now) }
+    ensures stops { IfErr result (TextStops bytes.now) }
+{
+    let journal = match read_text(alloc, bytes) {
+        Ok(journal) => journal,
+        Err(fault) => return Err(fault),
+    };
+    if !belongs(&journal, start) {
+        return Ok(None);
+    }
+    Ok(Some(head_after(start.head, journal.batches.as_slice())))
+}
+
+// The head after batches.
+fn head_after(head: Head, batches: &[Batch<'_>]) -> Head
+    ensures { result ≡ head_past head (map batch_of batches.now) }
+{
+    let (number, time) = place_reached(head, batches);
+    Head {
+        number,
+        base: head.base,
+        time,
+    }
+}
