@@ -1,4 +1,5 @@
-//! Tests of stores, of the names of errors, and of words that no command line passes on.
+//! Tests of stores, of the names of errors, of words that no command line passes on, and of lags
+//! over a save and its journal.
 #![tactic(auto)]
 
 #[cfg(test)]

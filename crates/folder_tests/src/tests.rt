@@ -1,3 +1,4 @@
 mod errors;
+mod lags;
 mod stores;
 mod words;

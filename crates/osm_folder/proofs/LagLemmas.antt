@@ -105,7 +105,7 @@ start_time : (given : FilterValue) (ps : List PublishedValue) (base number : ℕ
     → saved.value.time ≡ time_at ps number
 start_time given ps base number told saved = saved.in_step.time ∙ ap (time_at ps) saved.number_is
 
-standing_is : (ps : List PublishedValue) (base number : ℕ) (head : Head) (top : StateValue) → head.number ≡ number → head.time ≡ time_at ps number
+pub standing_is : (ps : List PublishedValue) (base number : ℕ) (head : Head) (top : StateValue) → head.number ≡ number → head.time ≡ time_at ps number
     → head.base ≡ base → top.sequence ≡ length ps → top.time ≡ (sequence_at ps (length ps)).time
     → standing_from head top ≡ standing_at ps base number
 standing_is ps base number head top n t b q w = rw (n, t, b, q, w) refl

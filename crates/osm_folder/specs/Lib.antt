@@ -6,6 +6,8 @@ pub mod Folder
 pub mod Following
 pub mod Progress
 pub mod Forms
+pub mod Keeping
+pub mod KeptLag
 pub mod Lagging
 pub mod Names
 pub mod Numbered

@@ -19,6 +19,8 @@ pub enum FileName {
     Sequence(u32, Suffix),
     /// A follower's save.
     Save,
+    /// The journal beside that save.
+    Journal,
     /// The data file that a mirror begins with.
     Base,
     /// The state that belongs to that data file.
@@ -37,6 +39,7 @@ impl fmt::Display for FileName {
             FileName::Top => f.write_str("state.txt"),
             FileName::Sequence(number, suffix) => write_path(*number, *suffix, f),
             FileName::Save => f.write_str("save"),
+            FileName::Journal => f.write_str("save: journal"),
             FileName::Base => f.write_str("base"),
             FileName::State => f.write_str("state"),
             FileName::Changes => f.write_str("changes"),
@@ -98,6 +101,10 @@ pub enum RunFault {
     /// A line of a save, counted from 1, is wrong.
     #[error("save: line {0}")]
     BadSave(u64),
+    /// A line of the journal beside a save is wrong. Lines are counted from 1, and the bytes of a
+    /// batch as none.
+    #[error("save: journal: line {0}")]
+    BadJournal(u64),
     /// The save was saved under another filter.
     #[error("save: other filter")]
     OtherFilter,

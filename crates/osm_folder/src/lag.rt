@@ -7,18 +7,24 @@ ghost use Rattle.osm_follow.specs.Published.{PublishedValue};
 ghost use Rattle.osm_folder.specs.Folder.{IsFolderOf};
 ghost use Rattle.osm_store.specs.Frames.{IsKnown};
 ghost use Rattle.osm_folder.specs.Following.{IsSaveOf};
+ghost use Rattle.osm_folder.specs.Keeping.{IsKeptOf};
+ghost use Rattle.osm_folder.specs.KeptLag.{IsKeptHead, IsKeptLagIn, KeptHeadStops, KeptLagOut};
+ghost use Rattle.osm_folder.specs.KeptLag.{KeptLagStopsIn};
 ghost use Rattle.osm_folder.specs.Lagging.{IsHead, IsLagIn, IsLagReport, LagStopsIn, LagsOver};
 ghost use Rattle.osm_folder.specs.Lagging.{standing_from};
-ghost use Rattle.osm_folder.specs.Runs.{IfFileKnown, Reads, StopsAt};
+ghost use Rattle.osm_folder.specs.Runs.{IfFileKnown, Reads, RunsOut, StopsAt};
 ghost use Rattle.osm_folder.specs.Steps.Lagging.{HeadStops, HeadTextStops, IsTold, ToldStops};
 
 use crate::fault::{FileName, RunFault};
 use crate::files::read_prefix;
+use crate::kept::kept_fault;
 use crate::options::Layout;
 use crate::report::{Report, lag_in};
 use crate::top::read_top;
 use osm_follow::lag::{LagError, lag_from};
 use osm_json::line::Standing;
+use osm_kept::heads::read_heads;
+use osm_kept::names::journal_name;
 use osm_save::head::{Head, HeadError, head_read};
 use osm_state::laws::laws_of_state;
 use osm_state::state::State;
@@ -28,6 +34,58 @@ use std::alloc::Global;
 // How many bytes of a save are read, if it has as many. A head has at most 408,194, most of them
 // the keys of its filter.
 const HEAD: u64 = 409_600;
+
+// The head of the start.
+const NO_HEAD: Head = Head {
+    number: 0,
+    base: 0,
+    time: None,
+};
+
+/// How many numbers and seconds what a save and its journal keep, or the start if there is no save,
+/// is behind the folder's newest state, in that layout, whatever the filter of the save. Changes no
+/// file. Of the two only the first lines are read, first of the journal, so a fault after these
+/// isn't found.
+pub fn lag_kept<S: Store>(
+    alloc: Global,
+    store: &mut S,
+    dir: &str,
+    save: &str,
+    layout: Layout,
+) -> Result<Report, RunFault>
+    ensures lag { IfOk result (IsKeptLagIn (S.state store.old) layout dir.now save.now) }
+    ensures report { IfOk result (IsLagReport layout) }
+    ensures stops { IfErr result (KeptLagStopsIn (S.state store.old) dir.now save.now) }
+    ensures over { IsKnown (S.state store.old)
+        → (published : List PublishedValue) (given : FilterValue) (base number : ℕ)
+        → IsFolderOf published (S.state store.old).files dir.now
+        → IsKeptOf published given base number save.now (S.state store.old).files
+        → LagsOver layout published base number result }
+    ensures out { RunsOut (S.state store.old) result KeptLagOut }
+    ensures frame { Reads 3 (S.state store.old) (S.state store.new) result }
+{
+    laws_of_state();
+    let start = read_kept(alloc, store, save)?;
+    let top = read_top(alloc, store, dir)?;
+    tell(alloc, layout, start, &top)
+}
+
+// The head of what a save and its journal keep, or that of the start if there is no save.
+fn read_kept<S: Store>(alloc: Global, store: &mut S, save: &str) -> Result<Head, RunFault>
+    ensures head { IfOk result (λ head. IsKnown (S.state store.old)
+        → IsKeptHead save.now (S.state store.old).files head) }
+    ensures stops { IfErr result
+        (KeptHeadStops (IsKnown (S.state store.old)) save.now (S.state store.old).files) }
+    ensures out { RunsOut (S.state store.old) result KeptLagOut }
+    ensures frame { Reads 2 (S.state store.old) (S.state store.new) result }
+{
+    let journal = journal_name(alloc, save)?;
+    match read_heads(alloc, store, save, journal.as_str()) {
+        Ok(Some(head)) => Ok(head),
+        Ok(None) => Ok(NO_HEAD),
+        Err(fault) => Err(kept_fault(fault)),
+    }
+}
 
 /// How many numbers and seconds a save, or the start if there is none, is behind the folder's
 /// newest state, in that layout, whatever the filter of the save. Changes no file. Of the save only
@@ -63,11 +121,7 @@ fn read_start<S: Store>(alloc: Global, store: &mut S, save: &str) -> Result<Head
 {
     match read_prefix(alloc, store, FileName::Save, save, HEAD) {
         Ok(Some(bytes)) => read_head(alloc, bytes.as_slice()),
-        Ok(None) => Ok(Head {
-            number: 0,
-            base: 0,
-            time: None,
-        }),
+        Ok(None) => Ok(NO_HEAD),
         Err(fault) => Err(fault),
     }
 }

@@ -9,6 +9,7 @@ mod fetch;
 pub mod files;
 pub mod filters;
 pub mod form;
+pub mod kept;
 pub mod lag;
 pub mod missing;
 pub mod names;

@@ -104,6 +104,7 @@ fn file_of(fault: RunFault) -> Option<FileName> {
         RunFault::Differs(number) => Some(FileName::Sequence(number, Suffix::State)),
         RunFault::ZeroBase => Some(FileName::State),
         RunFault::BadSave(_) | RunFault::OtherFilter => Some(FileName::Save),
+        RunFault::BadJournal(_) => Some(FileName::Journal),
         RunFault::TopBehind | RunFault::TimeBehind => Some(FileName::Top),
         RunFault::TimeBack | RunFault::SequenceFull => Some(FileName::Top),
         RunFault::TopAt(_) => Some(FileName::Top),
@@ -125,6 +126,7 @@ fn path_of_file(alloc: Global, order: Order<'_>, file: FileName) -> Result<Strin
     let word = match file {
         FileName::Top | FileName::Sequence(_, _) => return path_in(alloc, order.dir(), file),
         FileName::Save => order.save(),
+        FileName::Journal => return journal_of(alloc, order.save()),
         FileName::Base => order.base().0,
         FileName::State => order.base().1,
         FileName::Changes => order.changes(),
@@ -132,6 +134,11 @@ fn path_of_file(alloc: Global, order: Order<'_>, file: FileName) -> Result<Strin
         FileName::Output => order.output(),
     };
     String::from_str(alloc, word)
+}
+
+// The path of the journal beside a save.
+fn journal_of(alloc: Global, save: &str) -> Result<String, AllocError> {
+    format!(in alloc; "{save}.journal")
 }
 
 fn path_in(alloc: Global, dir: &str, file: FileName) -> Result<String, AllocError> {
@@ -198,7 +205,8 @@ pub fn line_of_field(name: &str, fault: RunFault) -> Option<u64> {
 /// Whether a fault is in what a file holds.
 pub fn is_of_content(fault: RunFault) -> bool {
     match fault {
-        RunFault::BadState(_, _) | RunFault::BadChange(_, _, _) | RunFault::BadSave(_) => true,
+        RunFault::BadState(_, _) | RunFault::BadChange(_, _, _) => true,
+        RunFault::BadSave(_) | RunFault::BadJournal(_) => true,
         _ => false,
     }
 }
