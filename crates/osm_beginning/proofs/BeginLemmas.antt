@@ -255,8 +255,8 @@ begun_of given base state save old mid new form s head report end is_filter is_s
       report_is = report_is;
     }
 
-begun_saved : (given : FilterValue) (base state save : List ℕ) (old new : Files) (report : ReportValue) (b : IsBegunFrom given base state save old new report)
-    → IsSaved given (new save) (begun_save given b.s b.beginning.objects)
+pub begun_saved : (given : FilterValue) (base state save : List ℕ) (old new : Files) (report : ReportValue)
+    (b : IsBegunFrom given base state save old new report) → IsSaved given (new save) (begun_save given b.s b.beginning.objects)
 begun_saved given base state save old new report b = rw b.put.there b.beginning.spelled
 
 same_begun : (given : FilterValue) (s t : StateValue) (xs ys : List ChangeValue) → s ≡ t → xs ≡ ys → begun_save given s xs ≡ begun_save given t ys

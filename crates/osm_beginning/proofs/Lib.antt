@@ -1,3 +1,4 @@
 pub mod BeginLemmas
+pub mod KeepingLemmas
 pub mod FirstLemmas
 pub mod PassLemmas

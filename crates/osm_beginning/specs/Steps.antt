@@ -1,3 +1,4 @@
 -- Definitions that only clauses of private functions cite.
 pub mod Beginning
 pub mod Passes
+pub mod Emptying

@@ -4,6 +4,8 @@
 mod base;
 pub mod begin;
 mod counting;
+mod journal;
+pub mod kept;
 pub mod laws;
 mod start;
 mod writing;
