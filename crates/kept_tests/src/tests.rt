@@ -1,1 +1,4 @@
+mod ends;
+mod files;
 mod found;
+mod next;

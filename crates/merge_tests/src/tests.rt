@@ -1,4 +1,6 @@
 mod large;
+mod kept;
 mod merge;
+mod merged;
 mod rounds;
 mod shows;

@@ -29,7 +29,7 @@ ghost use Rattle.osm_journal.specs.Answers.{Gives};
 ghost use Rattle.osm_journal.specs.Journal.{IsJournal, JournalValue, SpellsJournal, batch_of};
 ghost use Rattle.osm_journal.specs.Journal.{journal_of, journal_text, last_number, last_time};
 ghost use Rattle.osm_journal.specs.Journal.{save_start};
-ghost use Rattle.osm_journal.specs.Openings.{OpeningStops, OpensJournal, SaysOf, max_opening};
+ghost use Rattle.osm_journal.specs.Openings.{OpensJournal, SaysOf, max_opening};
 ghost use Rattle.osm_journal.specs.Reading.{end_at, rest_at};
 ghost use Rattle.osm_journal.specs.Refusal.{JournalStops};
 ghost use Rattle.osm_journal.specs.declared.opening.Opening.{Opening};
@@ -91,19 +91,6 @@ pub fn read_journal(alloc: Global, bytes: &[u8]) -> Result<Journal<'_>, JournalE
 {
     match read_opening(alloc, bytes) {
         Ok((opening, rest)) => read_rest(alloc, opening, line_number(bytes, rest.len()), rest),
-        Err(Stop::WantOfMemory) => Err(JournalError::WantOfMemory),
-        Err(Stop::Wrong(left)) => Err(JournalError::BadLine(line_number(bytes, left))),
-    }
-}
-
-/// Reads what a journal says before its batches. The bytes are its text, or the beginning of that:
-/// 408,302 are enough. What follows the line with the number of its batches isn't looked at.
-pub fn journal_opening(alloc: Global, bytes: &[u8]) -> Result<Opening, JournalError>
-    ensures opens { IfOk result (OpensJournal bytes.now) }
-    ensures refused { IfErr result (OpeningStops bytes.now) }
-{
-    match read_opening(alloc, bytes) {
-        Ok((opening, _rest)) => Ok(opening),
         Err(Stop::WantOfMemory) => Err(JournalError::WantOfMemory),
         Err(Stop::Wrong(left)) => Err(JournalError::BadLine(line_number(bytes, left))),
     }

@@ -10,16 +10,18 @@ ghost use Rattle.osm_save.specs.Lines.{ended};
 ghost use Rattle.osm_save.specs.Reading.{numbered_at};
 ghost use Rattle.osm_save.specs.Save.{most_objects};
 ghost use Rattle.osm_save.specs.declared.version.Version.TheVariants.{Two};
+ghost use Rattle.osm_journal.specs.Openings.{OpeningStops, OpensJournal};
 ghost use Rattle.osm_journal.specs.Reading.{many_at, opening_at, reach_at, sequence_at};
 ghost use Rattle.osm_journal.specs.Reading.{time_line_at};
 ghost use Rattle.osm_journal.specs.Refusal.{BeginsJournal};
 
 use crate::batch::read_time;
+use crate::journal::JournalError;
 use osm_model::filter::Filter;
 use osm_model::limits::MAX_SEQUENCE;
 use osm_model::memory::WantOfMemory;
 use osm_save::head::{Head, read_head, write_head, write_time_line};
-use osm_save::lines::{fixed_line, next_line, numbered_line, write_numbered};
+use osm_save::lines::{fixed_line, line_number, next_line, numbered_line, write_numbered};
 use osm_save::save::objects_limit;
 use osm_save::stop::Stop;
 use osm_save::version::Version;
@@ -40,6 +42,19 @@ pub struct Opening {
     pub many: u64,
     /// The time of the last one.
     pub last: u32,
+}
+
+/// Reads what a journal says before its batches. The bytes are its text, or the beginning of that:
+/// 408,302 are enough. What follows the line with the number of its batches isn't looked at.
+pub fn journal_opening(alloc: Global, bytes: &[u8]) -> Result<Opening, JournalError>
+    ensures opens { IfOk result (OpensJournal bytes.now) }
+    ensures refused { IfErr result (OpeningStops bytes.now) }
+{
+    match read_opening(alloc, bytes) {
+        Ok((opening, _rest)) => Ok(opening),
+        Err(Stop::WantOfMemory) => Err(JournalError::WantOfMemory),
+        Err(Stop::Wrong(left)) => Err(JournalError::BadLine(line_number(bytes, left))),
+    }
 }
 
 /// Reads what a journal says before its batches, and gives the bytes after that.

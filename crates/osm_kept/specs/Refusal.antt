@@ -85,6 +85,11 @@ abbrev pub HeadsStop : Option (List ℕ) → Option (List ℕ) → KeptFault →
 HeadsStop told journal JournalTooLarge = ⊥
 HeadsStop told journal fault = EndsStop told journal fault
 
+-- the journal isn't too large
+abbrev pub IsOfFirstLines : KeptFault → Type 0
+IsOfFirstLines JournalTooLarge = ⊥
+IsOfFirstLines fault = Unit {0}
+
 -- the device is the reason
 abbrev pub IsDeviceFault : KeptFault → Type 0
 IsDeviceFault JournalFailed = Unit {0}

@@ -6,15 +6,16 @@ ghost use Rattle.osm_store.specs.Frames.{IsKnown, ReadsBetween};
 ghost use Rattle.osm_journal.specs.Openings.{OpensJournal};
 ghost use Rattle.osm_kept.specs.Finding.{IsStart};
 ghost use Rattle.osm_kept.specs.Heads.{ComesToHead, FindsHead, IsHead, head_said};
-ghost use Rattle.osm_kept.specs.Refusal.{HeadsStop, IsDeviceFault, LacksCalls};
+ghost use Rattle.osm_kept.specs.Refusal.{HeadsStop, IsDeviceFault, IsOfBatches, IsOfFirstLines};
+ghost use Rattle.osm_kept.specs.Refusal.{LacksCalls};
 ghost use Rattle.osm_kept.specs.Steps.Heading.{BesideStops, FirstStops, HoldsFirst, OpeningStops};
 ghost use Rattle.osm_kept.specs.Steps.Heading.{first_of};
 
 use crate::fault::KeptFault;
 use crate::own::is_start;
 use crate::start::{START, Start, read_start};
-use osm_journal::journal::{JournalError, journal_opening};
-use osm_journal::opening::Opening;
+use osm_journal::journal::JournalError;
+use osm_journal::opening::{Opening, journal_opening};
 use osm_save::head::Head;
 use osm_store::store::{Store, StoreError};
 use std::alloc::Global;
@@ -33,6 +34,7 @@ pub fn read_heads<S: Store>(
     ensures limits { IfOk result (λ head. IfSome head IsHead) }
     ensures refused { IfErr result (λ fault. IsKnown (S.state store.old) → HeadsStop
         ((S.state store.old).files save.now) ((S.state store.old).files journal.now) fault) }
+    ensures plain { IfErr result IsOfFirstLines }
     ensures frame { ReadsBetween IsDeviceFault 2 2 (S.state store.old) (S.state store.new) result }
     ensures lacks { IfErr result (λ fault. IsKnown (S.state store.old)
         → LacksCalls fault (S.state store.old).left) }
@@ -76,7 +78,7 @@ fn head_of_both(
     ensures limits { IfOk result (λ head. IfSome head IsHead) }
     ensures refused { IfErr result (λ fault. (told journal : Option (List ℕ))
         → HoldsFirst told journal start bytes.now → HeadsStop told journal fault) }
-    ensures plain { IfErr result (λ fault. IsDeviceFault fault → ⊥) }
+    ensures plain { IfErr result IsOfBatches }
 {
     match start {
         Some(start) => match head_beside(alloc, &start, bytes) {

@@ -1,6 +1,6 @@
 -- Frames of calls, and what holds of what a call answers.
 use Rattle.std.proofs.Common.{◌≡◌, ℕ, ◌∙◌, Bool, true, false, Option, Some, None, inl, inr, arith, refl, subst, sym}
-use Rattle.std.specs.Prelude.{not, Result, Ok, Err, IfErr, IfOk, IsSome, OnOk}
+use Rattle.std.specs.Prelude.{not, Result, Ok, Err, IfErr, IfOk, IsSome, OnErr, OnOk}
 use Rattle.osm_store.proofs.FileLemmas.{spends_both}
 use Rattle.osm_store.specs.Files.{HasFailed, HasFewer, SpendsAtMost}
 use Rattle.osm_store.specs.Frames.{MakesAtMost, ReadsBetween, StoreState}
@@ -12,6 +12,18 @@ use Rattle.osm_merge.specs.Frames.{ReplacesOften}
 pub on_ok_map : {T E P Q : Type 0} → (r : Result T E) → OnOk r P → (P → Q) → OnOk r Q
 on_ok_map (Ok x) p f = f p
 on_ok_map (Err e) p f = tt
+
+pub on_ok_any : {T E P : Type 0} → (r : Result T E) → P → OnOk r P
+on_ok_any (Ok x) p = p
+on_ok_any (Err e) p = tt
+
+pub if_err_any : {T E : Type 0} {P : E → Type 0} → (r : Result T E) → ((e : E) → P e) → IfErr r P
+if_err_any (Ok x) p = tt
+if_err_any (Err e) p = p e
+
+pub on_err_map : {T E P Q : Type 0} → (r : Result T E) → OnErr r P → (P → Q) → OnErr r Q
+on_err_map (Ok x) p f = tt
+on_err_map (Err e) p f = f p
 
 pub ok_two : {T E : Type 0} (P Q S : T → Type 0) (r : Result T E) → IfOk r P → IfOk r Q → ((x : T) → P x → Q x → S x) → IfOk r S
 ok_two P Q S (Ok x) p q f = f x p q

@@ -2,7 +2,14 @@ pub mod FrameLemmas
 pub mod CountLemmas
 pub mod ListLemmas
 pub mod TakenLemmas
+pub mod GatherLemmas
 pub mod PutLemmas
 pub mod RoundLemmas
+pub mod KeepingLemmas
+pub mod StoppingLemmas
+pub mod BothLemmas
+pub mod JoinLemmas
+pub mod TextLemmas
 pub mod OverLemmas
 pub mod CallLemmas
+pub mod OnwardLemmas

@@ -54,11 +54,11 @@ min_is : (a b : ℕ) → b ≤ a → min a b ≡ b
 min_is a b below = grind (arith)
 
 -- the limit of a run that might take more than it took is the last number that it comes to
-limit_is : (count number top : ℕ) → number + count ≤ top → last_number (Some count) number top ≡ number + count
+pub limit_is : (count number top : ℕ) → number + count ≤ top → last_number (Some count) number top ≡ number + count
 limit_is count number top below = min_is top (number + count) below
 
 -- none is lost up to the number itself
-none_lost : (files : Files) (dir : List ℕ) (n : ℕ) → lost_numbers files dir n n ≡ []
+pub none_lost : (files : Files) (dir : List ℕ) (n : ℕ) → lost_numbers files dir n n ≡ []
 none_lost files dir n = let none : n - n ≡ 0 = omega arith in rw none refl
 
 module _ (known : Type 0) (options : FollowOptions) (dir save : List ℕ) (old new : Files) where

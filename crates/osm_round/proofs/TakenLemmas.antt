@@ -26,6 +26,7 @@ use Rattle.osm_folder.specs.declared.fault.FileName.TheVariants.{Sequence}
 use Rattle.osm_folder.specs.declared.fault.RunFault.{RunFault}
 use Rattle.osm_folder.specs.declared.fault.RunFault.TheVariants.{BadChange, BadState, Mismatch, TooLarge}
 use Rattle.osm_round.specs.Taking.{AdvancesAll, EndsAt, Fills, HasTaken, IsTaken, StopsOnTheWay, TakesNumber, TakesUp, counted}
+use Rattle.osm_round.specs.declared.gathered.Gathered.{Gathered}
 use Rattle.osm_round.specs.declared.taken.End.{End}
 use Rattle.osm_round.specs.declared.taken.End.TheVariants.{Faulty}
 use Rattle.osm_round.specs.declared.taken.Taken.{Taken}
@@ -76,9 +77,9 @@ takes_nothing known files dir f taken none = record {
 }
 
 pub takes_more : (known : Type 0) (files : Files) (dir : List ℕ) (f : FilterValue) (start : Head) (number size : ℕ) (old new : Taken)
-    → number ≡ old.head.number + 1 → HasTaken known files dir f start old
-    → TakesNumber known files dir number f old new (Some size) → (new.head.number ≡ number) × HasTaken known files dir f start new
-takes_more known files dir f start number size old new next has (time, changes, is, head, takes, widens, sized) =
+    (before after : Gathered) → number ≡ old.head.number + 1 → HasTaken known files dir f start old
+    → TakesNumber known files dir number f old new before after (Some size) → (new.head.number ≡ number) × HasTaken known files dir f start new
+takes_more known files dir f start number size old new before after next has (time, changes, is, head, takes, widens, sized, grown) =
     let t = has.is in
     let at : new.head.number ≡ number = ap (λ (h : Head). h.number) head in
     let count_is = t.number in

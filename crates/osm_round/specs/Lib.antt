@@ -1,5 +1,11 @@
 pub mod Taking
 pub mod Starting
 pub mod Putting
+pub mod Gathering
 pub mod Rounds
 pub mod Over
+pub mod Keeping
+pub mod KeepingStops
+pub mod KeepingOver
+pub mod KeepingFrames
+pub mod KeepingSteps

@@ -8,6 +8,7 @@ use Rattle.osm_model.specs.Limits.{max_changes}
 use Rattle.osm_mirror.specs.Mirror.{Applies, IsOrderly, MirrorValue}
 use Rattle.osm_net.specs.Laid.{laid_on}
 use Rattle.osm_net.specs.Net.{IsNetOf, Takes, WidensBy, no_net}
+use Rattle.osm_o5c.specs.Written.{o5c_text}
 use Rattle.osm_save.specs.Head.{IsTimeOf}
 use Rattle.osm_save.specs.declared.head.Head.{Head}
 use Rattle.osm_follow.specs.Published.{PublishedValue}
@@ -16,6 +17,8 @@ use Rattle.osm_folder.specs.Following.{HasFiles, IsNumber, IsReached, IsReadable
 use Rattle.osm_folder.specs.Following.{is_lost, size_of}
 use Rattle.osm_folder.specs.Progress.{IsOfContent}
 use Rattle.osm_folder.specs.declared.fault.RunFault.{RunFault}
+use Rattle.osm_round.specs.Gathering.{Grows}
+use Rattle.osm_round.specs.declared.gathered.Gathered.{Gathered}
 use Rattle.osm_round.specs.declared.taken.End.{End}
 use Rattle.osm_round.specs.declared.taken.End.TheVariants.{Faulty, Full, Reached}
 use Rattle.osm_round.specs.declared.taken.Taken.{Taken}
@@ -65,16 +68,17 @@ pub record HasTaken (known : Type 0) (files : Files) (dir : List ℕ) (f : Filte
   pub is : IsTaken f start count taken
   pub advances : known → AdvancesAll files dir f start count taken
 
--- a number was taken, or is lost
-abbrev pub TakesNumber :
-    Type 0 → Files → List ℕ → ℕ → FilterValue → Taken → Taken → Option ℕ → Type 0
-TakesNumber known files dir number f old new (Some size) =
+-- a number was taken, and is gathered, or is lost
+abbrev pub TakesNumber : Type 0 → Files → List ℕ → ℕ → FilterValue → Taken → Taken → Gathered
+    → Gathered → Option ℕ → Type 0
+TakesNumber known files dir number f old new before after (Some size) =
     (time : ℕ) × (changes : List ChangeValue) × IsNumber known files dir number time changes
     × (new.head ≡ head_after old.head number time) × Takes f old.net changes new.net
     × WidensBy (length changes) old.net new.net
     × (known → size ≡ size_of files dir number)
-TakesNumber known files dir number f old new None =
-    (known → is_lost files dir number ≡ true) × (new ≡ old)
+    × Grows (record { number = number; time = time; bytes = o5c_text changes }) before after
+TakesNumber known files dir number f old new before after None =
+    (known → is_lost files dir number ≡ true) × (new ≡ old) × (after ≡ before)
 
 -- so many bytes fill the room, if it is known what the files hold; nothing fills one without an end
 abbrev pub Fills : Type 0 → Option ℕ → ℕ → Type 0

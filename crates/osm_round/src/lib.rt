@@ -1,6 +1,9 @@
 //! A run of the follower over a folder, which holds in memory only what is new.
 #![tactic(auto)]
 
+mod gathered;
+mod keeping;
+pub mod kept;
 mod put;
 pub mod round;
 mod start;

@@ -74,7 +74,12 @@ pub(crate) fn put<S: Store>(
 }
 
 // Lays what was taken over the save.
-fn merge<S: Store>(alloc: Global, store: &mut S, save: &str, taken: Taken) -> Result<(), RunFault>
+pub(crate) fn merge<S: Store>(
+    alloc: Global,
+    store: &mut S,
+    save: &str,
+    taken: Taken,
+) -> Result<(), RunFault>
     requires users { AllByRecursion IsFew taken.net.users }
     requires changesets { AllByRecursion IsFew taken.net.changesets }
     ensures merged { OnOk result (IsKnown (S.state store.old)
@@ -111,7 +116,7 @@ fn merge<S: Store>(alloc: Global, store: &mut S, save: &str, taken: Taken) -> Re
 }
 
 // Writes what was taken as a save of its own.
-fn make<S: Store>(
+pub(crate) fn make<S: Store>(
     alloc: Global,
     store: &mut S,
     save: &str,

@@ -3,8 +3,8 @@
 
 ghost use Rattle.std.specs.Prelude.{◌≡◌, ℕ, ◌+◌, ◌-◌, ◌*◌, ◌<◌, ◌≤◌, ◌↔◌, List, [], length};
 ghost use Rattle.std.specs.Prelude.{None};
-ghost use Rattle.std.specs.Prelude.{Some, IfErr, IfOk, IfSome, IsTrue, OnOk};
-ghost use Rattle.osm_model.specs.Limits.{max_sequence};
+ghost use Rattle.std.specs.Prelude.{Some, IfErr, IfOk, IfSome, IsTrue, OnOk, true};
+ghost use Rattle.osm_model.specs.Limits.{max_file, max_sequence};
 ghost use Rattle.osm_store.specs.Files.{HasFewer, Spends, SpendsAtMost};
 ghost use Rattle.osm_store.specs.Frames.{IsKnown, MakesAtMost};
 ghost use Rattle.osm_blocks.specs.Frames.{ReadsOften};
@@ -22,6 +22,7 @@ ghost use Rattle.osm_folder.specs.Reports.{ReportValue, applied_report_of, repor
 ghost use Rattle.osm_folder.specs.declared.fault.FileName.TheVariants.{Top};
 ghost use Rattle.osm_folder.specs.declared.fault.RunFault.TheVariants.{Absent};
 ghost use Rattle.osm_folder.specs.declared.options.Layout.TheVariants.{Lines};
+ghost use Rattle.osm_round.specs.Gathering.{GathersIn, IsBegunUpTo};
 ghost use Rattle.osm_round.specs.Over.{FollowsOver, follow_calls};
 ghost use Rattle.osm_round.specs.Rounds.{BeforeStops, IsFirst, IsLess, IsPrepared, IsProgress};
 ghost use Rattle.osm_round.specs.Rounds.{IsReport};
@@ -29,6 +30,7 @@ ghost use Rattle.osm_round.specs.Rounds.{IsUnpublished, IsWhole, IsWithinRoom, P
 ghost use Rattle.osm_round.specs.Rounds.{RoundStops, UpToStops, outcome_of, progress_of, room_of};
 ghost use Rattle.osm_round.specs.Starting.{WholeStops};
 
+use crate::gathered::Gathered;
 use crate::put::put;
 use crate::start::read_start;
 use crate::taken::{End, Taken, take_numbers};
@@ -55,7 +57,7 @@ pub const MAX_ROUND: u64 = 16_777_216;
 
 // How a run ends.
 #[derive(Drop)]
-enum Ending {
+pub(crate) enum Ending {
     /// At the last number, or before a lost one.
     Whole,
     /// With as many bytes as are taken at once, after so many numbers. These are their lines.
@@ -66,10 +68,10 @@ enum Ending {
 
 // What a run saves and prints, and how it ends.
 #[derive(Drop)]
-struct Prepared {
-    taken: Taken,
-    report: Report,
-    ending: Ending,
+pub(crate) struct Prepared {
+    pub(crate) taken: Taken,
+    pub(crate) report: Report,
+    pub(crate) ending: Ending,
 }
 
 /// Follows a folder from a save, or from the start if there is none, up to the folder's newest
@@ -225,7 +227,7 @@ fn follow<S: Store>(
     }
 }
 
-fn progress_of(report: Report, ending: Ending) -> Progress
+pub(crate) fn progress_of(report: Report, ending: Ending) -> Progress
     ensures { result ≡ progress_of report ending }
 {
     match ending {
@@ -250,7 +252,11 @@ fn room_of(layout: Layout) -> Option<u64>
 }
 
 // Refuses a save that is no save text.
-fn check_whole<S: Store>(alloc: Global, store: &mut S, save: &str) -> Result<(), RunFault>
+pub(crate) fn check_whole<S: Store>(
+    alloc: Global,
+    store: &mut S,
+    save: &str,
+) -> Result<(), RunFault>
     ensures whole { OnOk result (IsKnown (S.state store.old)
         → IsWhole ((S.state store.old).files save.now)) }
     ensures stops { IfErr result (WholeStops (IsKnown (S.state store.old))
@@ -290,10 +296,44 @@ fn prepare<S: Store>(
         (S.state store.old).files start) }
     ensures frame { ReadsOften IsDeviceFault (S.state store.old) (S.state store.new) result }
 {
+    let mut gathered = Gathered::up_to(alloc, 0);
+    prepare_with(alloc, store, dir, start, options, &mut gathered)
+}
+
+// The same, and gathers what was taken.
+pub(crate) fn prepare_with<S: Store>(
+    alloc: Global,
+    store: &mut S,
+    dir: &str,
+    start: Head,
+    options: &FollowOptions,
+    gathered: &mut Gathered,
+) -> Result<Option<Prepared>, RunFault>
+    requires number { start.number ≤ max_sequence }
+    requires begun { IsBegunUpTo gathered.old.left gathered.old }
+    requires left { gathered.old.left ≤ max_file }
+    ensures gathered { IfOk result (λ o. IfSome o (λ p. GathersIn (IsKnown (S.state store.old))
+        (S.state store.old).files dir.now options.now.filter start gathered.old.left p.taken
+        gathered.new)) }
+    ensures prepared { IfOk result (λ o. IfSome o (IsPrepared (IsKnown (S.state store.old))
+        options.now dir.now (S.state store.old).files start)) }
+    ensures none { IfOk result (λ o. o ≡ None → IsKnown (S.state store.old)
+        → (S.state store.old).files (top_name_of dir.now) ≡ None) }
+    ensures spends { OnOk result (Spends 1 (S.state store.old).left (S.state store.new).left) }
+    ensures few { IfOk result (λ o. o ≡ None
+        → SpendsAtMost 1 (S.state store.old).left (S.state store.new).left) }
+    ensures calls { IsKnown (S.state store.old) → (published : List PublishedValue)
+        → IsFolderOf published (S.state store.old).files dir.now
+        → MakesAtMost IsDeviceFault (1 + 3 * (length published - start.number))
+        (S.state store.old) (S.state store.new) result }
+    ensures stops { IfErr result (PrepareStops (IsKnown (S.state store.old)) options.now dir.now
+        (S.state store.old).files start) }
+    ensures frame { ReadsOften IsDeviceFault (S.state store.old) (S.state store.new) result }
+{
     let Some(top) = find_top(alloc, store, dir)? else {
         return Ok(None);
     };
-    let prepared = prepare_up_to(alloc, store, dir, start, options, &top)?;
+    let prepared = prepare_up_to(alloc, store, dir, start, options, &top, gathered)?;
     Ok(Some(prepared))
 }
 
@@ -305,13 +345,19 @@ fn prepare_up_to<S: Store>(
     start: Head,
     options: &FollowOptions,
     top: &State,
+    gathered: &mut Gathered,
 ) -> Result<Prepared, RunFault>
     requires number { start.number ≤ max_sequence }
+    requires begun { IsBegunUpTo gathered.old.left gathered.old }
+    requires left { gathered.old.left ≤ max_file }
     requires top { IsKnown (S.state store.old)
         → IsThere ((S.state store.old).files (top_name_of dir.now))
         (IsStateFile top.now.sequence top.now.time) }
     ensures prepared { IfOk result (IsPrepared (IsKnown (S.state store.old)) options.now dir.now
         (S.state store.old).files start) }
+    ensures gathered { IfOk result (λ p. GathersIn (IsKnown (S.state store.old))
+        (S.state store.old).files dir.now options.now.filter start gathered.old.left p.taken
+        gathered.new) }
     ensures stops { IfErr result (UpToStops (IsKnown (S.state store.old)) options.now dir.now
         (S.state store.old).files start) }
     ensures frame { ReadsOften IsDeviceFault (S.state store.old) (S.state store.new) result }
@@ -327,7 +373,8 @@ fn prepare_up_to<S: Store>(
     let last = last_number(options.limit, start.number, top.sequence());
     let mut taken = Taken::after(alloc, start);
     let room = room_of(options.layout);
-    match take_numbers(alloc, store, dir, last, room, &options.filter, &mut taken)? {
+    let filter = &options.filter;
+    match take_numbers(alloc, store, dir, last, room, filter, &mut taken, gathered)? {
         End::Reached => reached(alloc, store, dir, last, start, options.layout, top, taken),
         End::Full => part(alloc, start, top, taken),
         End::Faulty(fault) => before(alloc, start, options.layout, top, taken, fault),

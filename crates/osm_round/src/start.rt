@@ -25,13 +25,16 @@ pub(crate) struct Start {
     pub(crate) has_save: bool,
 }
 
+/// The head of the start.
+pub(crate) const NO_HEAD: Head = Head {
+    number: 0,
+    base: 0,
+    time: None,
+};
+
 // At number 0, with no save.
 const NOTHING: Start = Start {
-    head: Head {
-        number: 0,
-        base: 0,
-        time: None,
-    },
+    head: NO_HEAD,
     has_save: false,
 };
 
@@ -73,8 +76,8 @@ fn start_at(opening: Opening, filter: &Filter) -> Result<Start, RunFault>
     })
 }
 
-// Whether two filters are equal.
-fn are_same(filter: &Filter, other: &Filter) -> bool
+/// Whether two filters are equal.
+pub(crate) fn are_same(filter: &Filter, other: &Filter) -> bool
     ensures { IsTrue result ↔ (filter.now ≡ other.now) }
 {
     laws_of_filters();

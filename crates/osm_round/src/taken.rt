@@ -1,8 +1,8 @@
 //! What a run takes of a folder: the numbers after a head, as net changes.
 
 ghost use Rattle.std.specs.Prelude.{◌≡◌, ℕ, ◌+◌, ◌-◌, ◌*◌, ◌<◌, ◌≤◌, IfErr, IfOk, IsTrue};
-ghost use Rattle.std.specs.Prelude.{OnOk, false, min, true};
-ghost use Rattle.osm_model.specs.Limits.{max_changes, max_sequence};
+ghost use Rattle.std.specs.Prelude.{OnOk, [], false, min, true};
+ghost use Rattle.osm_model.specs.Limits.{max_changes, max_file, max_sequence};
 ghost use Rattle.osm_store.specs.Files.{HasFewer, SpendsAtMost};
 ghost use Rattle.osm_store.specs.Frames.{IsKnown};
 ghost use Rattle.osm_net.specs.Net.{HasRoomFor, no_net};
@@ -10,10 +10,12 @@ ghost use Rattle.osm_folder.specs.Following.{NumberStops, bytes_of};
 ghost use Rattle.osm_folder.specs.Progress.{IsOfContent};
 ghost use Rattle.osm_blocks.specs.Frames.{ReadsOften};
 ghost use Rattle.osm_folder.specs.Runs.{IsDeviceFault, ReadsUpTo};
+ghost use Rattle.osm_round.specs.Gathering.{GathersIn, IsBegunUpTo};
 ghost use Rattle.osm_round.specs.Taking.{Fills, HasTaken, IsRight, TakesNumber, TakesUp};
 ghost use Rattle.osm_round.specs.Taking.{LeavesRoom, StopsOnTheWay, counted};
 ghost use Rattle.osm_round.specs.declared.taken.End.TheVariants.{Full};
 
+use crate::gathered::Gathered;
 use osm_folder::fault::RunFault;
 use osm_folder::number::read_number;
 use osm_folder::progress::faulty_number;
@@ -54,7 +56,8 @@ impl Taken {
 }
 
 /// Takes the numbers after the head, up to the last one, to the one before a lost one or before one
-/// that has a faulty file, or to the first with which their change files fill the room.
+/// that has a faulty file, or to the first with which their change files fill the room. They are
+/// gathered too.
 pub(crate) fn take_numbers<S: Store>(
     alloc: Global,
     store: &mut S,
@@ -63,11 +66,17 @@ pub(crate) fn take_numbers<S: Store>(
     room: Option<u64>,
     filter: &Filter,
     taken: &mut Taken,
+    gathered: &mut Gathered,
 ) -> Result<End, RunFault>
     requires from { taken.old.head.number ≤ last }
     requires most { last ≤ max_sequence }
     requires none { taken.old.net ≡ no_net }
     requires some { LeavesRoom room 0 }
+    requires begun { IsBegunUpTo gathered.old.left gathered.old }
+    requires left { gathered.old.left ≤ max_file }
+    ensures gathered { OnOk result (GathersIn (IsKnown (S.state store.old))
+        (S.state store.old).files dir.now filter.now taken.old.head gathered.old.left taken.new
+        gathered.new) }
     ensures taken { IfOk result (TakesUp (IsKnown (S.state store.old)) (S.state store.old).files
         dir.now filter.now last taken.old.head taken.new) }
     ensures stops { IfErr result (StopsOnTheWay (IsKnown (S.state store.old))
@@ -88,7 +97,7 @@ pub(crate) fn take_numbers<S: Store>(
 {
     let mut size = 0;
     for before in taken.head.number..last {
-        match take_number(alloc, store, dir, before + 1, filter, taken) {
+        match take_number(alloc, store, dir, before + 1, filter, taken, gathered) {
             Ok(Some(more)) => {
                 size = add(size, more);
                 if is_full(room, size) && before + 1 < last {
@@ -120,7 +129,8 @@ fn is_full(room: Option<u64>, size: u64) -> bool
     }
 }
 
-// Takes a number's changes, unless it is lost, and gives the bytes of its change file.
+// Takes a number's changes and gathers them, unless it is lost, and gives the bytes of its change
+// file.
 fn take_number<S: Store>(
     alloc: Global,
     store: &mut S,
@@ -128,13 +138,17 @@ fn take_number<S: Store>(
     number: u32,
     filter: &Filter,
     taken: &mut Taken,
+    gathered: &mut Gathered,
 ) -> Result<Option<u64>, RunFault>
     requires most { number ≤ max_sequence }
     requires room { HasRoomFor max_changes taken.old.net }
+    requires left { gathered.old.is_whole ≡ true → gathered.old.left ≤ max_file }
     ensures taken { IfOk result (TakesNumber (IsKnown (S.state store.old)) (S.state store.old).files
-        dir.now number filter.now taken.old taken.new) }
+        dir.now number filter.now taken.old taken.new gathered.old gathered.new) }
     ensures unchanged { IfErr result
         (λ fault. (k : ℕ) → IsOfContent fault k → taken.new ≡ taken.old) }
+    ensures none_added { IfErr result
+        (λ fault. (k : ℕ) → IsOfContent fault k → gathered.new ≡ gathered.old) }
     ensures stops { IfErr result
         (NumberStops (IsKnown (S.state store.old)) dir.now (S.state store.old).files number) }
     ensures frame { ReadsUpTo 3 (S.state store.old) (S.state store.new) result }
@@ -143,7 +157,8 @@ fn take_number<S: Store>(
         return Ok(None);
     };
     let size = numbered.size;
-    taken.net.take(filter, numbered.changes)?;
+    let changes = gathered.add(alloc, number, numbered.time, numbered.changes)?;
+    taken.net.take(filter, changes)?;
     taken.head = Head {
         number,
         base: taken.head.base,

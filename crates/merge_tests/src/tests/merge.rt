@@ -5,6 +5,7 @@ use osm_merge::fault::MergeFault;
 use osm_merge::merge::merge_save;
 use osm_model::change::Change;
 use osm_model::kind::{Key, Kind};
+use osm_model::memory::WantOfMemory;
 use osm_opl::lines::read_line;
 use osm_save::head::Head;
 use osm_store::memory_store::MemoryStore;
@@ -12,15 +13,16 @@ use osm_store::stopping_store::StoppingStore;
 use osm_store::store::Store;
 use std::alloc::Global;
 
-const BEFORE: &[u8] = b"osmrepl-save 3\nbase 0\nkinds nwr\nkeys 0\n\
+/// A save.
+pub const BEFORE: &[u8] = b"osmrepl-save 3\nbase 0\nkinds nwr\nkeys 0\n\
     sequence 1\ntime 2024-01-01T00:00:00Z\nobjects 3\n\
     n1 v1 dV c7 t2024-01-01T00:00:00Z i5 uann T x1 y2\n\
     n3 v1 dV c7 t2024-01-01T00:00:00Z i5 uann T x1 y2\n\
     w2 v1 dV c7 t2024-01-01T00:00:00Z i5 uann T Nn1\n\
     users 2\n5 2\n9 1\nchangesets 1\n7 3\nend\n";
 
-// Node 1 is gone, node 2 and relation 9 are new, way 2 is another.
-const AFTER: &[u8] = b"osmrepl-save 3\nbase 0\nkinds nwr\nkeys 0\n\
+/// The same after changes: node 1 is gone, node 2 and relation 9 are new, way 2 is another.
+pub const AFTER: &[u8] = b"osmrepl-save 3\nbase 0\nkinds nwr\nkeys 0\n\
     sequence 2\ntime 2024-01-01T00:01:00Z\nobjects 4\n\
     n2 v1 dV c8 t2024-01-01T00:01:00Z i6 ubob T x1 y2\n\
     n3 v1 dV c7 t2024-01-01T00:00:00Z i5 uann T x1 y2\n\
@@ -48,21 +50,27 @@ pub fn is_added(alloc: Global, line: &[u8], entries: &mut Vec<(Key, Option<Chang
     }
 }
 
-// Merges the save of a store with what changed.
-fn merged<S: Store>(alloc: Global, store: &mut S) -> Result<(), MergeFault> {
+/// What is left of the objects that changed.
+pub fn changed_objects(alloc: Global) -> Result<Vec<(Key, Option<Change>)>, WantOfMemory> {
     let mut entries = Vec::new(alloc);
     let gone = Key {
         kind: Kind::Node,
         id: 1,
     };
-    if entries.push((gone, None)).is_err() {
-        return Err(MergeFault::WantOfMemory);
-    }
+    entries.push((gone, None))?;
     for line in NEW {
         if !is_added(alloc, *line, &mut entries) {
-            return Err(MergeFault::WantOfMemory);
+            return Err(WantOfMemory);
         }
     }
+    Ok(entries)
+}
+
+// Merges the save of a store with what changed.
+fn merged<S: Store>(alloc: Global, store: &mut S) -> Result<(), MergeFault> {
+    let Ok(entries) = changed_objects(alloc) else {
+        return Err(MergeFault::WantOfMemory);
+    };
     let (users, changesets) = ([(6, 3), (9, 1)], [(8, 4)]);
     merge_save(
         alloc,
@@ -75,7 +83,8 @@ fn merged<S: Store>(alloc: Global, store: &mut S) -> Result<(), MergeFault> {
     )
 }
 
-fn store_of(alloc: Global, text: &[u8]) -> MemoryStore {
+/// A store with that text as its save.
+pub fn store_of(alloc: Global, text: &[u8]) -> MemoryStore {
     let mut store = MemoryStore::new(alloc);
     let _ = store.put(alloc, "save", text);
     store

@@ -9,6 +9,9 @@ use Rattle.osm_round.proofs.CallLemmas.{never_faulty, way_is}
 use Rattle.osm_round.specs.Taking.{StopsOnTheWay, TakesUp}
 use Rattle.osm_round.specs.declared.taken.End.TheVariants.{Faulty, Full, Reached}
 use Rattle.osm_round.proofs.FrameLemmas.{ok_four, ok_three, ok_two, only_memory}
+use Rattle.osm_round.proofs.GatherLemmas.{taken_holds}
+use Rattle.osm_round.specs.Gathering.{GathersIn}
+use Rattle.osm_round.specs.declared.taken.Taken.{Taken}
 use Rattle.osm_round.proofs.RoundLemmas.{prepared_before, prepared_part, prepared_whole, some_room, taking_prepare}
 use Rattle.osm_round.proofs.round.prepare_up_to.Goals as goal
 
@@ -133,3 +136,24 @@ returns-in-Faulty-clause-calls g c = λ yes p folder.
     never_faulty c.laws_of_state.ensures.no_fault_beside_state p c.args.dir.now a.files (IsKnown a) (c.take_numbers.new.taken.head.number + 1)
     c.in-Faulty.fault (3 * (length p - c.args.start.number)) a (g.S.Store.state c.take_numbers.new.store) c.before-in-Faulty.result folder yes
     (omega arith) (omega (arith, below, within)) takes.ends.2 takes.ends.1
+
+pub returns-in-Reached-clause-gathered : goal.returns-in-Reached-clause-gathered
+returns-in-Reached-clause-gathered g c =
+    let a = g.S.Store.state c.args.store.now in
+    taken_holds (λ (t : Taken). GathersIn (IsKnown a) a.files c.args.dir.now c.args.options.now.filter c.args.start c.args.gathered.now.left t
+    c.take_numbers.new.gathered) c.take_numbers.new.taken c.reached.result c.reached.ensures.taken
+    (rw c.after-taken.ensures at c.in_ok-take_numbers.ensures.gathered)
+
+pub returns-in-Full-clause-gathered : goal.returns-in-Full-clause-gathered
+returns-in-Full-clause-gathered g c =
+    let a = g.S.Store.state c.args.store.now in
+    taken_holds (λ (t : Taken). GathersIn (IsKnown a) a.files c.args.dir.now c.args.options.now.filter c.args.start c.args.gathered.now.left t
+    c.take_numbers.new.gathered) c.take_numbers.new.taken c.part.result c.part.ensures.taken
+    (rw c.after-taken.ensures at c.in_ok-take_numbers.ensures.gathered)
+
+pub returns-in-Faulty-clause-gathered : goal.returns-in-Faulty-clause-gathered
+returns-in-Faulty-clause-gathered g c =
+    let a = g.S.Store.state c.args.store.now in
+    taken_holds (λ (t : Taken). GathersIn (IsKnown a) a.files c.args.dir.now c.args.options.now.filter c.args.start c.args.gathered.now.left t
+    c.take_numbers.new.gathered) c.take_numbers.new.taken c.before-in-Faulty.result c.before-in-Faulty.ensures.taken
+    (rw c.after-taken.ensures at c.in_ok-take_numbers.ensures.gathered)

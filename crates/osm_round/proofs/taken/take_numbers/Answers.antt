@@ -8,6 +8,9 @@ use Rattle.osm_folder.proofs.ResultLemmas.{err_map}
 use Rattle.osm_round.specs.declared.taken.Taken.{Taken}
 use Rattle.osm_folder.specs.Runs.{IsDeviceFault}
 use Rattle.osm_folder.specs.Following.{bytes_of}
+use Rattle.osm_round.specs.Gathering.{GathersIn}
+use Rattle.osm_round.specs.declared.gathered.Gathered.{Gathered}
+use Rattle.osm_round.proofs.GatherLemmas.{gathers_more, gathers_nothing, left_within, same_both_at_end}
 use Rattle.osm_round.specs.Taking.{Fills, LeavesRoom, TakesNumber}
 use Rattle.osm_round.proofs.FrameLemmas.{often_of, often_told}
 use Rattle.osm_round.proofs.TakenLemmas.{bytes_more, count_within, end_stops, end_taken, fills_more, room_for_more, same_at_end, takes_more, takes_nothing}
@@ -26,6 +29,8 @@ loop-before-init g c = let none : c.args.taken.now.head.number - c.args.taken.no
   but_last = λ yes. rw none c.requires.some;
   taken = takes_nothing (IsKnown (g.S.Store.state c.args.store.now)) (g.S.Store.state c.args.store.now).files c.args.dir.now c.args.filter.now
       c.args.taken.now c.requires.none;
+  gathered = gathers_nothing (IsKnown (g.S.Store.state c.args.store.now)) (g.S.Store.state c.args.store.now).files c.args.dir.now c.args.filter.now
+      c.args.taken.now c.args.gathered.now c.requires.none c.requires.begun;
 }
 
 pub take_number-requires-clause-room : goal.take_number-requires-clause-room
@@ -35,6 +40,43 @@ take_number-requires-clause-room g c =
     let most = c.requires.most in
     let below : c.loop-before.before < c.args.last = grind (arith, common_steps) in
     room_for_more c.args.filter.now c.args.taken.now.head i.taken.count c.loop-before.taken i.taken.is (omega (arith, at, below, most))
+
+-- what may be gathered still
+pub take_number-requires-clause-left : goal.take_number-requires-clause-left
+take_number-requires-clause-left g c =
+    left_within (IsKnown (g.S.Store.state c.args.store.now)) (g.S.Store.state c.args.store.now).files c.args.dir.now c.args.filter.now
+    c.args.taken.now.head c.args.gathered.now.left c.loop-before.taken c.loop-before.gathered c.requires.left c.loop-before.invariant.gathered
+
+-- ---- what is gathered
+
+pub returns-in-Err-clause-gathered : goal.returns-in-Err-clause-gathered
+returns-in-Err-clause-gathered g c =
+    let a = g.S.Store.state c.args.store.now in
+    same_both_at_end (λ (t : Taken) (x : Gathered). GathersIn (IsKnown a) a.files c.args.dir.now c.args.filter.now c.args.taken.now.head
+    c.args.gathered.now.left t x) c.loop-before.taken c.take_number.new.taken c.loop-before.gathered c.take_number.new.gathered c.in-Err.fault
+    c.end_at.result c.end_at.ensures.content c.in-Err.ensures.unchanged c.in-Err.ensures.none_added c.loop-before.invariant.gathered
+
+pub returns-in-Ok-None-clause-gathered : goal.returns-in-Ok-None-clause-gathered
+returns-in-Ok-None-clause-gathered g c =
+    let i = c.loop-before.invariant in
+    let a = g.S.Store.state c.args.store.now in
+    let took = subst (λ t. TakesNumber (IsKnown a) a.files c.args.dir.now (c.loop-before.before + 1) c.args.filter.now c.loop-before.taken
+    c.take_number.new.taken c.loop-before.gathered c.take_number.new.gathered t) c.in-Ok-None.field-0-is
+    (rw (i.frame.known, i.frame.files) at c.in-Ok-None.ensures.taken) in
+    rw (took.1, took.2) i.gathered
+
+pub returns-then-before-last-clause-gathered : goal.returns-then-before-last-clause-gathered
+returns-then-before-last-clause-gathered g c =
+    let i = c.loop-before.invariant in
+    let at = i.at in
+    let a = g.S.Store.state c.args.store.now in
+    let took = subst (λ t. TakesNumber (IsKnown a) a.files c.args.dir.now (c.loop-before.before + 1) c.args.filter.now c.loop-before.taken
+    c.take_number.new.taken c.loop-before.gathered c.take_number.new.gathered t) c.in-Ok-Some.field-0-is
+    (rw (i.frame.known, i.frame.files) at c.in-Ok-Some.ensures.taken) in
+    let under : c.loop-before.before < c.args.last = grind (arith, common_steps) in
+    gathers_more (IsKnown a) a.files c.args.dir.now c.args.filter.now c.args.taken.now.head c.args.gathered.now.left
+    (c.loop-before.before + 1) c.in-Ok-Some.more c.loop-before.taken c.take_number.new.taken c.loop-before.gathered c.take_number.new.gathered
+    (omega (arith, at)) c.requires.left (let most = c.requires.most in omega (arith, most, under)) i.taken i.gathered took
 
 pub returns-in-Err-clause-taken : goal.returns-in-Err-clause-taken
 returns-in-Err-clause-taken g c =
@@ -72,9 +114,10 @@ loop-before-preserved g c =
     let b = g.S.Store.state c.loop-before.store in
     let d = g.S.Store.state c.take_number.new.store in
     let took = subst (λ t. TakesNumber (IsKnown a) a.files c.args.dir.now (c.loop-before.before + 1) c.args.filter.now c.loop-before.taken
-    c.take_number.new.taken t) c.in-Ok-Some.field-0-is (rw (i.frame.known, i.frame.files) at c.in-Ok-Some.ensures.taken) in
+    c.take_number.new.taken c.loop-before.gathered c.take_number.new.gathered t) c.in-Ok-Some.field-0-is
+    (rw (i.frame.known, i.frame.files) at c.in-Ok-Some.ensures.taken) in
     let more = takes_more (IsKnown a) a.files c.args.dir.now c.args.filter.now c.args.taken.now.head (c.loop-before.before + 1) c.in-Ok-Some.more
-    c.loop-before.taken c.take_number.new.taken (omega (arith, at)) i.taken took in
+    c.loop-before.taken c.take_number.new.taken c.loop-before.gathered c.take_number.new.gathered (omega (arith, at)) i.taken took in
     let under : c.loop-before.before < c.args.last = grind (arith, common_steps) in
     record {
       at = more.0;
@@ -98,6 +141,9 @@ loop-before-preserved g c =
       but_last = λ yes. subst (λ n. LeavesRoom c.args.room (bytes_of a.files c.args.dir.now c.args.taken.now.head.number n)) (omega (arith, from))
           (i.left yes under);
       taken = more.1;
+      gathered = gathers_more (IsKnown a) a.files c.args.dir.now c.args.filter.now c.args.taken.now.head c.args.gathered.now.left
+          (c.loop-before.before + 1) c.in-Ok-Some.more c.loop-before.taken c.take_number.new.taken c.loop-before.gathered c.take_number.new.gathered
+          (omega (arith, at)) c.requires.left (let most = c.requires.most in omega (arith, most, under)) i.taken i.gathered took;
     }
 
 pub returns-in-Ok-None-clause-spent : goal.returns-in-Ok-None-clause-spent
@@ -108,7 +154,8 @@ returns-in-Ok-None-clause-spent g c = λ end.
     let below : c.loop-before.before < c.args.last = grind (arith, common_steps) in
     let a = g.S.Store.state c.args.store.now in
     let took = subst (λ t. TakesNumber (IsKnown a) a.files c.args.dir.now (c.loop-before.before + 1) c.args.filter.now c.loop-before.taken
-    c.take_number.new.taken t) c.in-Ok-None.field-0-is (rw (i.frame.known, i.frame.files) at c.in-Ok-None.ensures.taken) in
+    c.take_number.new.taken c.loop-before.gathered c.take_number.new.gathered t) c.in-Ok-None.field-0-is
+    (rw (i.frame.known, i.frame.files) at c.in-Ok-None.ensures.taken) in
     let same : c.take_number.new.taken.head.number ≡ c.loop-before.taken.head.number = ap (λ (t : Taken). t.head.number) took.1 in
     most_both (3 * (c.loop-before.before - c.args.taken.now.head.number)) 3
     (3 * (min c.args.last (c.take_number.new.taken.head.number + 1) - c.args.taken.now.head.number)) _ _ _ (omega (arith, below, from, at, same))
@@ -141,9 +188,10 @@ returns-then-before-last-clause-taken g c =
     let from = i.from in
     let a = g.S.Store.state c.args.store.now in
     let took = subst (λ t. TakesNumber (IsKnown a) a.files c.args.dir.now (c.loop-before.before + 1) c.args.filter.now c.loop-before.taken
-    c.take_number.new.taken t) c.in-Ok-Some.field-0-is (rw (i.frame.known, i.frame.files) at c.in-Ok-Some.ensures.taken) in
+    c.take_number.new.taken c.loop-before.gathered c.take_number.new.gathered t) c.in-Ok-Some.field-0-is
+    (rw (i.frame.known, i.frame.files) at c.in-Ok-Some.ensures.taken) in
     let more = takes_more (IsKnown a) a.files c.args.dir.now c.args.filter.now c.args.taken.now.head (c.loop-before.before + 1) c.in-Ok-Some.more
-    c.loop-before.taken c.take_number.new.taken (omega (arith, at)) i.taken took in
+    c.loop-before.taken c.take_number.new.taken c.loop-before.gathered c.take_number.new.gathered (omega (arith, at)) i.taken took in
     let number = more.0 in
     let below = c.if-before-last.true in
     record { taken_are = more.1; until = omega (arith, number, below); ends = omega (arith, number, below) }
@@ -155,9 +203,10 @@ returns-then-before-last-clause-full g c = λ end.
     let from = i.from in
     let a = g.S.Store.state c.args.store.now in
     let took = subst (λ t. TakesNumber (IsKnown a) a.files c.args.dir.now (c.loop-before.before + 1) c.args.filter.now c.loop-before.taken
-    c.take_number.new.taken t) c.in-Ok-Some.field-0-is (rw (i.frame.known, i.frame.files) at c.in-Ok-Some.ensures.taken) in
+    c.take_number.new.taken c.loop-before.gathered c.take_number.new.gathered t) c.in-Ok-Some.field-0-is
+    (rw (i.frame.known, i.frame.files) at c.in-Ok-Some.ensures.taken) in
     let more = takes_more (IsKnown a) a.files c.args.dir.now c.args.filter.now c.args.taken.now.head (c.loop-before.before + 1) c.in-Ok-Some.more
-    c.loop-before.taken c.take_number.new.taken (omega (arith, at)) i.taken took in
+    c.loop-before.taken c.take_number.new.taken c.loop-before.gathered c.take_number.new.gathered (omega (arith, at)) i.taken took in
     let number = more.0 in
     let below = c.if-before-last.true in (
       omega (arith, number, from),
@@ -185,7 +234,8 @@ returns-in-Ok-None-clause-room g c = λ yes.
     let a = g.S.Store.state c.args.store.now in
     let from = c.args.taken.now.head.number in
     let took = subst (λ t. TakesNumber (IsKnown a) a.files c.args.dir.now (c.loop-before.before + 1) c.args.filter.now c.loop-before.taken
-    c.take_number.new.taken t) c.in-Ok-None.field-0-is (rw (i.frame.known, i.frame.files) at c.in-Ok-None.ensures.taken) in
+    c.take_number.new.taken c.loop-before.gathered c.take_number.new.gathered t) c.in-Ok-None.field-0-is
+    (rw (i.frame.known, i.frame.files) at c.in-Ok-None.ensures.taken) in
     let same : c.take_number.new.taken.head.number ≡ c.loop-before.before = ap (λ (t : Taken). t.head.number) took.1 ∙ i.at in
     subst (λ n. LeavesRoom c.args.room (bytes_of a.files c.args.dir.now from (n - from - 1))) (sym same) (i.but_last yes)
 
@@ -197,9 +247,10 @@ returns-then-before-last-clause-room g c = λ yes.
     let a = g.S.Store.state c.args.store.now in
     let from = c.args.taken.now.head.number in
     let took = subst (λ t. TakesNumber (IsKnown a) a.files c.args.dir.now (c.loop-before.before + 1) c.args.filter.now c.loop-before.taken
-    c.take_number.new.taken t) c.in-Ok-Some.field-0-is (rw (i.frame.known, i.frame.files) at c.in-Ok-Some.ensures.taken) in
+    c.take_number.new.taken c.loop-before.gathered c.take_number.new.gathered t) c.in-Ok-Some.field-0-is
+    (rw (i.frame.known, i.frame.files) at c.in-Ok-Some.ensures.taken) in
     let more = takes_more (IsKnown a) a.files c.args.dir.now c.args.filter.now c.args.taken.now.head (c.loop-before.before + 1) c.in-Ok-Some.more
-    c.loop-before.taken c.take_number.new.taken (omega (arith, at)) i.taken took in
+    c.loop-before.taken c.take_number.new.taken c.loop-before.gathered c.take_number.new.gathered (omega (arith, at)) i.taken took in
     let number = more.0 in
     let below = c.if-before-last.true in
     let count : c.loop-before.before - from ≡ c.take_number.new.taken.head.number - from - 1 = omega (arith, number, above) in

@@ -1,5 +1,5 @@
 use Rattle.osm_journal.proofs.OpeningLemmas.{no_opens, opens_takes}
-use Rattle.osm_journal.proofs.journal.journal_opening.Goals as goal
+use Rattle.osm_journal.proofs.opening.journal_opening.Goals as goal
 
 pub returns-in-Ok-clause-opens : goal.returns-in-Ok-clause-opens
 returns-in-Ok-clause-opens c = opens_takes c.args.bytes.now c.in-Ok.opening c.in-Ok._rest.now c.in-Ok.ensures.value

@@ -1,0 +1,58 @@
+-- Net changes of a journal with those of what was taken after them.
+use Rattle.std.proofs.Common.{◌≡◌, ℕ, ◌+◌, ◌<◌, ◌≤◌, List, ◌++◌, length, length-append, Option, arith, refl, subst, ◌∙◌}
+use Rattle.osm_model.specs.Filter.{FilterValue}
+use Rattle.osm_model.specs.Limits.{max_sequence}
+use Rattle.osm_net.specs.Net.{HasRoomForAll, IsJoined, IsNetOf, NetValue, WidensBy, no_net}
+use Rattle.osm_net.specs.NetLaws.{HaveRoomForAll, NetsJoin}
+use Rattle.osm_net.proofs.NetLemmas.{widens_more}
+use Rattle.osm_kept.specs.Finding.{Finds, IsTakenOn}
+use Rattle.osm_kept.specs.Reaching.{FindsEnds, ends_of, found_of, kept_of}
+use Rattle.osm_kept.specs.declared.found.JournalFile.{JournalFile}
+use Rattle.osm_kept.specs.declared.found.Reach.{Reach}
+use Rattle.osm_round.specs.KeepingSteps.{JoinsTo}
+use Rattle.osm_round.specs.Taking.{IsTaken}
+use Rattle.osm_round.specs.declared.taken.Taken.{Taken}
+
+module _ (f : FilterValue) (reach : Reach) (net : NetValue) (count : ℕ) (taken : Taken) (on : IsTakenOn (kept_of reach net))
+    (t : IsTaken f reach.head count taken) (under : reach.start.filter ≡ f) where
+  of_journal : IsNetOf f on.changes net
+  of_journal = subst (λ (g : FilterValue). IsNetOf g on.changes net) under on.net
+
+  pub room_for_both : HaveRoomForAll → taken.head.number ≤ max_sequence → HasRoomForAll taken.net net
+  room_for_both law most =
+      let few = on.few in
+      let more = t.few in
+      let before = on.number in
+      let after = t.number in
+      law f on.changes t.changes net taken.net of_journal t.net (omega (arith, few, more, before, after, most))
+
+  pub joins_to : NetsJoin → (file : JournalFile) (new : NetValue) → 0 < count
+      → ((told journal : Option (List ℕ)) → FindsEnds told journal (ends_of reach file) → Finds told journal (found_of reach net file))
+      → IsJoined net taken.net new → ((most : ℕ) → WidensBy most no_net taken.net → WidensBy most net new)
+      → JoinsTo f reach file taken (record { head = taken.head; net = new })
+  joins_to law file new some found joined grown =
+      let few = on.few in
+      let more = t.few in
+      let before = on.number in
+      let after = t.number in
+      let sum = length-append on.changes t.changes in
+      record {
+        head = refl;
+        net = net;
+        orderly = on.net.orderly;
+        found = found;
+        joined = joined;
+        later = t.net.orderly;
+        count = on.count + count;
+        is = record {
+          number = omega (arith, before, after);
+          base = t.base ∙ on.base;
+          time = λ time. t.time on.time;
+          none = λ zero_is. absurd (omega (arith, zero_is, some));
+          changes = on.changes ++ t.changes;
+          few = omega (arith, few, more, sum);
+          net = law f on.changes t.changes net taken.net new of_journal t.net joined;
+          widens = widens_more no_net net new (length on.changes) (length t.changes) (length (on.changes ++ t.changes)) on.widens
+              (grown (length t.changes) t.widens) sum;
+        };
+      }

@@ -1,0 +1,288 @@
+-- Why a run that goes on from what a save and its journal keep is refused.
+use Rattle.std.proofs.Common.{◌≡◌, ℕ, ◌+◌, List, Option, Some, None, inl, inr, arith, refl, sym, ap, subst, ◌∙◌}
+use Rattle.std.specs.Prelude.{◌⊎◌, Bool, IsTrue, true, false, ◌↔◌, Ok, Err}
+use Rattle.osm_save.specs.declared.head.Head.{Head}
+use Rattle.osm_save.specs.declared.save.Saved.{Saved}
+use Rattle.osm_store.specs.Files.{Files, HasFailed}
+use Rattle.osm_store.specs.Frames.{ReadsBetween, StoreState}
+use Rattle.osm_store.proofs.FileLemmas.{spends_both}
+use Rattle.osm_blocks.specs.Frames.{ReadsOften}
+use Rattle.osm_merge.specs.Checking.{IsNoSave}
+use Rattle.osm_kept.specs.Names.{JournalHasOwnName, journal_name_of}
+use Rattle.osm_kept.specs.Reaching.{IsReached as IsReachedBy}
+use Rattle.osm_kept.specs.Refusal as refusal
+use Rattle.osm_kept.specs.Refusal.{EndsStop}
+use Rattle.osm_kept.specs.declared.fault.KeptFault.{KeptFault}
+use Rattle.osm_kept.specs.declared.fault.KeptFault.TheVariants as kept
+use Rattle.osm_kept.specs.declared.found.Ends.{Ends}
+use Rattle.osm_kept.specs.declared.found.Reach.{Reach}
+use Rattle.osm_checked.specs.Checking.{IsTooLarge}
+use Rattle.osm_folder.specs.Following.{FindTopStops, last_number}
+use Rattle.osm_folder.specs.Keeping.{IsKept, kept_fault_of}
+use Rattle.osm_folder.specs.Names.{top_name_of}
+use Rattle.osm_folder.specs.Runs.{IsDeviceFault}
+use Rattle.osm_folder.specs.declared.fault.FileName.{FileName}
+use Rattle.osm_folder.specs.declared.fault.FileName.TheVariants.{Journal, Save}
+use Rattle.osm_folder.specs.declared.fault.RunFault.{RunFault}
+use Rattle.osm_folder.specs.declared.fault.RunFault.TheVariants.{Absent, BadJournal, BadSave, BadState, Changed}
+use Rattle.osm_folder.specs.declared.fault.RunFault.TheVariants.{OtherFilter, ReadFault, TooLarge, WantOfMemory, WriteFault}
+use Rattle.osm_folder.specs.declared.options.FollowOptions.{FollowOptions}
+use Rattle.osm_round.specs.Keeping.{LeavesKept}
+use Rattle.osm_round.specs.KeepingFrames.{CallsOften}
+use Rattle.osm_round.specs.KeepingSteps.{AreAt, AreEnds, HasManyKept, IsBothFault, IsOther, IsSaveFault, IsUnpublishedKept, PutKeptStops}
+use Rattle.osm_round.specs.KeepingStops.{BeginningStops, CanGoOn, HasManyAfter, IsFirstKept, KeepingStops}
+use Rattle.osm_round.specs.Putting.{saved_after}
+use Rattle.osm_round.specs.Rounds.{IsPrepared, PrepareStops, StopsLooking, StopsTaking}
+use Rattle.osm_round.specs.Starting.{BeginsOther, WholeStops}
+use Rattle.osm_round.specs.Taking.{AdvancesAll}
+use Rattle.osm_round.specs.declared.round.Prepared.{Prepared}
+use Rattle.osm_round.proofs.KeepingLemmas.{kept_orderly}
+use Rattle.osm_round.proofs.TakenLemmas.{adds_all}
+
+-- ---- the two files
+
+no_save_text : (told : Option (List ℕ)) → refusal.IsNoSave told → IsNoSave told
+no_save_text told none = record { file = none.file; there = none.there; none = none.none }
+
+-- why they aren't read
+pub ends_stops : (known : Type 0) (options : FollowOptions) (dir save : List ℕ) (files : Files) (fault : KeptFault)
+    → (known → EndsStop (files save) (files (journal_name_of save)) fault)
+    → KeepingStops known options dir save files (kept_fault_of fault)
+ends_stops known options dir save files kept.JournalFailed h = inl tt
+ends_stops known options dir save files kept.JournalTooLarge h = inl h
+ends_stops known options dir save files (kept.BadJournal line) h = inl (λ sure. (let b = h sure in
+    record { bytes = b.bytes; there = b.there; some = b.some; bad = inl b.none }))
+ends_stops known options dir save files kept.SaveFailed h = inl tt
+ends_stops known options dir save files (kept.BadSave line) h = inl (λ sure. no_save_text (files save) (h sure))
+ends_stops known options dir save files kept.WantOfMemory h = inl tt
+
+-- all of them are first
+pub ends_first : (fault : KeptFault) → IsFirstKept (kept_fault_of fault)
+ends_first kept.JournalFailed = tt
+ends_first kept.JournalTooLarge = tt
+ends_first (kept.BadJournal line) = tt
+ends_first kept.SaveFailed = tt
+ends_first (kept.BadSave line) = tt
+ends_first kept.WantOfMemory = tt
+
+-- the size of the save isn't read
+pub size_stops : (known : Type 0) (options : FollowOptions) (dir save : List ℕ) (files : Files) (fault : RunFault) → IsSaveFault fault
+    → KeepingStops known options dir save files fault
+size_stops known options dir save files fault (inl is) = rw is (inl tt)
+size_stops known options dir save files fault (inr is) = rw is (inl tt)
+
+pub size_first : (fault : RunFault) → IsSaveFault fault → IsFirstKept fault
+size_first fault (inl is) = rw is tt
+size_first fault (inr is) = rw is tt
+
+-- the save is no save text
+pub whole_stops : (known : Type 0) (options : FollowOptions) (dir save : List ℕ) (files : Files) (told : Option (List ℕ)) (fault : RunFault)
+    → (known → told ≡ files save) → WholeStops known told fault → KeepingStops known options dir save files fault
+whole_stops known options dir save files told fault same h = by_fault fault h
+  where
+    by_fault : (x : RunFault) → WholeStops known told x → KeepingStops known options dir save files x
+    by_fault WantOfMemory h = inl tt
+    by_fault (ReadFault file) h = inl (rw h tt)
+    by_fault (TooLarge file) h = inl (rw h.0 (λ sure. inl (subst IsTooLarge (same sure) (h.1 sure))))
+    by_fault (BadSave line) h = inl (λ sure. subst IsNoSave (same sure) (h sure))
+    by_fault (Changed file) h = inl (rw h.0 h.1)
+    by_fault x h = absurd h
+
+-- such a fault is first
+pub whole_first : (known : Type 0) (told : Option (List ℕ)) (fault : RunFault) → known → WholeStops known told fault → (IsFirstKept fault → ⊥) → ⊥
+whole_first known told WantOfMemory sure h first = first tt
+whole_first known told (ReadFault Save) sure h first = first tt
+whole_first known told (ReadFault file) sure h first = first (subst (λ (f : FileName). IsFirstKept (ReadFault f)) (sym h) tt)
+whole_first known told (TooLarge Save) sure h first = first tt
+whole_first known told (TooLarge file) sure h first = first (subst (λ (f : FileName). IsFirstKept (TooLarge f)) (sym h.0) tt)
+whole_first known told (BadSave line) sure h first = first tt
+whole_first known told (Changed file) sure h first = h.1 sure
+whole_first known told fault sure h first = absurd h
+
+-- the save is under another filter
+pub other_stops : (known : Type 0) (options : FollowOptions) (dir save : List ℕ) (files : Files) (ends : Ends) (fault : RunFault)
+    → AreEnds known save files ends → (fault ≡ OtherFilter) × IsOther options.filter ends.kept → KeepingStops known options dir save files fault
+other_stops known options dir save files ends fault are (is, other) = rw is (inl (λ sure. by_kept ends.kept (are.found sure).reached other))
+  where
+    by_kept : (o : Option Reach) → IsReachedBy (files save) (files (journal_name_of save)) o → IsOther options.filter o
+        → BeginsOther options.filter (files save)
+    by_kept None reached other = absurd other
+    by_kept (Some reach) reached other = record {
+      bytes = reached.starts.file;
+      there = reached.starts.there;
+      other = λ v spells same. other (sym (reached.starts.is v spells).filter ∙ same);
+    }
+
+-- ---- the folder, from a head
+
+module _ (known : Type 0) (options : FollowOptions) (dir save : List ℕ) (files : Files) (head : Head)
+    (at : known → AreAt options.filter save files head) where
+  can_go_on : known → CanGoOn options.filter save files
+  can_go_on sure start kept = (at sure start kept).1
+
+  number_at : (sure : known) (start : Saved) → IsKept options.filter save files start → start.number ≡ head.number
+  number_at sure start kept = ap (λ (h : Head). h.number) (at sure start kept).0
+
+  top_stops : (fault : RunFault) → FindTopStops known (files (top_name_of dir)) fault → BeginningStops known options dir save files fault
+  top_stops WantOfMemory h = tt
+  top_stops (ReadFault file) h = rw h can_go_on
+  top_stops (Absent file) h = absurd h
+  top_stops (TooLarge file) h = rw h.0 (λ sure. (can_go_on sure, h.1 sure))
+  top_stops (BadState file cause) h = rw h.0 (λ sure. (can_go_on sure, h.1 sure))
+  top_stops fault h = absurd h
+
+  taking_stops : (fault : RunFault) → StopsTaking known options dir files head fault → KeepingStops known options dir save files fault
+  taking_stops fault s = inr (inl (record {
+    top = s.top;
+    top_is = s.top_is;
+    number = s.number;
+    comes = λ sure start kept. (let same = number_at sure start kept in
+        record {
+          filter_is = (at sure start kept).1;
+          above = rw same s.above;
+          until = rw same s.until;
+          each = rw same (s.each sure);
+        });
+    next = λ sure content start kept. s.next content ∙ ap (λ (n : ℕ). n + 1) (sym (number_at sure start kept));
+    stops = s.stops;
+  }))
+
+  looking_stops : (fault : RunFault) → StopsLooking known options dir files head fault → KeepingStops known options dir save files fault
+  looking_stops fault s = inr (inr (record {
+    top = s.top;
+    top_is = s.top_is;
+    last = last_number options.limit head.number s.top.sequence;
+    reached = s.taken.head.number;
+    comes = λ sure start kept. (let same = number_at sure start kept in
+        let is = at sure start kept in
+        record {
+          filter_is = is.1;
+          count = s.has.count;
+          value = saved_after start s.taken;
+          goes_on = record {
+            added = adds_all files dir options.filter start s.has.count s.taken is.1
+                (kept_orderly options.filter (files save) (files (journal_name_of save)) start kept)
+                (subst (λ (h : Head). AdvancesAll files dir options.filter h s.has.count s.taken) (sym is.0) (s.has.advances sure));
+            number = s.has.is.number ∙ ap (λ (n : ℕ). n + s.has.count) (sym same);
+            until = rw same s.until;
+            far = rw same (s.reached sure);
+          };
+          reached_is = refl;
+          last_is = ap (λ (n : ℕ). last_number options.limit n s.top.sequence) (sym same);
+        });
+    stops = s.stops;
+  }))
+
+  pub prepare_stops : (fault : RunFault) → PrepareStops known options dir files head fault → KeepingStops known options dir save files fault
+  prepare_stops fault (inl h) = inl (top_stops fault h)
+  prepare_stops fault (inr (inl h)) = rw h (inl tt)
+  prepare_stops fault (inr (inr (inl h))) = rw h.0 (inl (λ sure. (let b = h.1 sure in
+      let below = b.below in
+      record {
+        top = b.top;
+        top_is = b.top_is;
+        below = λ start kept. (let same = number_at sure start kept in ((at sure start kept).1, omega (arith, same, below)));
+      })))
+  prepare_stops fault (inr (inr (inr (inl h)))) = taking_stops fault h
+  prepare_stops fault (inr (inr (inr (inr h)))) = looking_stops fault h
+
+  pub unpublished : (new : Files) → new ≡ files → (known → files (top_name_of dir) ≡ None) → IsUnpublishedKept known options dir save files new
+  unpublished new same none = record { files = same; stops = inl (λ sure. (can_go_on sure, none sure)) }
+
+  -- there are too many objects
+  many_after : (p : Prepared) → known → IsPrepared known options dir files head p → HasManyKept options.filter save p.taken files
+      → HasManyAfter options dir save files
+  many_after p sure is many =
+      let here = at sure many.start many.kept in
+      let same = number_at sure many.start many.kept in
+      record {
+        start = many.start;
+        kept = many.kept;
+        top = is.top;
+        starts = record { filter_is = here.1; top_is = is.top_is sure };
+        count = is.taken.count;
+        reached = saved_after many.start p.taken;
+        added = adds_all files dir options.filter many.start is.taken.count p.taken here.1
+            (kept_orderly options.filter (files save) (files (journal_name_of save)) many.start many.kept)
+            (subst (λ (h : Head). AdvancesAll files dir options.filter h is.taken.count p.taken) (sym here.0) (is.taken.advances sure));
+        until = rw same is.until;
+        many = many.many;
+      }
+
+  pub put_stops : (p : Prepared) (fault : RunFault) → IsPrepared known options dir files head p
+      → PutKeptStops known (files save) (files (journal_name_of save)) (HasManyKept options.filter save p.taken files) fault
+      → KeepingStops known options dir save files fault
+  put_stops p WantOfMemory is h = inl tt
+  put_stops p (ReadFault Save) is h = inl tt
+  put_stops p (WriteFault Save) is h = inl can_go_on
+  put_stops p (WriteFault Journal) is h = inl can_go_on
+  put_stops p (Absent Save) is h = inl h
+  put_stops p (Changed Save) is h = inl h
+  put_stops p (TooLarge Save) is h = inl (λ sure. by_reason sure (h sure))
+    where
+      by_reason : known → IsTooLarge (files save) ⊎ HasManyKept options.filter save p.taken files
+          → IsTooLarge (files save) ⊎ HasManyAfter options dir save files
+      by_reason sure (inl large) = inl large
+      by_reason sure (inr many) = inr (many_after p sure is many)
+  put_stops p (BadSave line) is h = inl h
+  put_stops p (BadJournal line) is h = inl h
+  put_stops p fault is h = absurd h
+
+-- ---- frames
+
+-- the reads of the two files
+pub ends_frame : {T U : Type 0} (a b : StoreState) (fault : KeptFault) (x : RunFault) → ReadsBetween {T = T} refusal.IsDeviceFault 2 2 a b (Err fault)
+    → x ≡ kept_fault_of fault → ReadsBetween {T = U} IsDeviceFault 2 2 a b (Err x)
+ends_frame a b fault x f is = record {
+  files = f.files;
+  makes = record {
+    known = f.makes.known;
+    left = f.makes.left;
+    failures = f.makes.failures;
+    spent = tt;
+    failed = λ blame. f.makes.failed (blamed fault (subst IsDeviceFault is blame));
+  };
+  at_most = record { spent = tt; lacks = λ sure blame. f.at_most.lacks sure (blamed fault (subst IsDeviceFault is blame)) };
+}
+  where
+    blamed : (k : KeptFault) → IsDeviceFault (kept_fault_of k) → refusal.IsDeviceFault k
+    blamed kept.JournalFailed h = tt
+    blamed kept.SaveFailed h = tt
+    blamed kept.JournalTooLarge h = absurd h
+    blamed (kept.BadJournal line) h = absurd h
+    blamed (kept.BadSave line) h = absurd h
+    blamed kept.WantOfMemory h = absurd h
+
+-- a refusal, and reads after it
+pub calls_refused_then : {T U V E : Type 0} (blames : E → Type 0) (a b d : StoreState) (fault : E) (x : U) → CallsOften {T = T} blames a b (Err fault)
+    → ReadsOften blames b d (Ok x) → CallsOften {T = V} blames a d (Err fault)
+calls_refused_then blames a b d fault x h k = record {
+  known = k.known ∙ h.known;
+  left = spends_both 0 0 0 a.left b.left d.left (omega arith) h.left k.left;
+  failures = (let before = h.failures in let after = k.failures in omega (arith, before, after));
+  failed = λ blame. still (h.failed blame);
+  stops = h.stops;
+}
+  where
+    still : HasFailed a.failures b.failures → HasFailed a.failures d.failures
+    still (inl rose) = inl (let after = k.failures in omega (arith, rose, after))
+    still (inr full) = inr full
+
+-- what is left as it was
+pub leaves_save : (save : List ℕ) (old new : Files) → JournalHasOwnName → LeavesKept save old new → new save ≡ old save
+leaves_save save old new named leaves = leaves.others save (λ same. named save (sym same))
+
+pub both_stops : (known : Type 0) (options : FollowOptions) (dir save : List ℕ) (files : Files) (fault : RunFault)
+    → IsBothFault known (files save) (files (journal_name_of save)) fault → KeepingStops known options dir save files fault
+both_stops known options dir save files fault (k, is, h) = subst (KeepingStops known options dir save files) (sym is)
+    (ends_stops known options dir save files k h)
+
+pub both_first : (known : Type 0) (told journal : Option (List ℕ)) (fault : RunFault) → IsBothFault known told journal fault → IsFirstKept fault
+both_first known told journal fault (k, is, h) = subst IsFirstKept (sym is) (ends_first k)
+
+-- the size of a save that isn't there, or isn't large
+pub large_only : (P : Type 0) (large : Bool) (over : Type 0) → (IsTrue large ↔ over) → large ≡ true → (over → ⊥) → P
+large_only P large over same is small = absurd (small (same.0 is))
+
+pub small_only : (large : Bool) (over : Type 0) → (IsTrue large ↔ over) → large ≡ false → over → ⊥
+small_only large over same isnt h = (let is : large ≡ true = same.1 h in let bad : true ≡ false = sym is ∙ isnt in cc)

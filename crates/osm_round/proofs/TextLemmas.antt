@@ -1,0 +1,205 @@
+-- The text of the journal with what a run gathered.
+use Rattle.std.proofs.Common.{◌≡◌, ℕ, ◌+◌, ◌<◌, ◌≤◌, List, [], ◌∷◌, ◌++◌, length, length-append, map, codes, Option, Some, None, true, false, inl, inr}
+use Rattle.std.proofs.Common.{arith, refl, sym, ap, subst, ◌∙◌}
+use Rattle.std.specs.Prelude.{◌⊎◌, Result, Ok, Err, IfOk, IfSome, Vec}
+use Rattle.std.specs.List.{AllByRecursion}
+use Rattle.osm_model.specs.Filter.{FilterValue}
+use Rattle.osm_save.specs.Lines.{ended}
+use Rattle.osm_save.specs.declared.head.Head.{Head}
+use Rattle.osm_store.specs.Files.{Files}
+use Rattle.osm_journal.specs.Journal.{BatchValue, Follow, IsBatch, JournalValue, batch_line, batches_text, journal_text, opening_lines}
+use Rattle.osm_kept.specs.Finding.{StartsAs, bytes_of}
+use Rattle.osm_kept.specs.Kept.{BelongsTo, IsNoJournal, IsOfAnother}
+use Rattle.osm_kept.specs.Names.{journal_name_of}
+use Rattle.osm_kept.specs.Reaching.{FindsEnds, HasBatches, IsFileOf, IsNextText, IsReach, ends_of, journal_after}
+use Rattle.osm_kept.specs.declared.found.JournalFile.{JournalFile}
+use Rattle.osm_kept.specs.declared.found.JournalFile.TheVariants.{Counts, Nothing, OfAnother}
+use Rattle.osm_kept.specs.declared.found.Reach.{Reach}
+use Rattle.osm_kept.specs.declared.start.Start.{Start}
+use Rattle.osm_round.specs.Gathering.{Gathers, GathersIn, KeepsUpTo, batch_in, total_of}
+use Rattle.osm_round.specs.Keeping.{AreOld, IsJournalAfter, IsJournalWith, IsLongWith, IsShortAfter}
+use Rattle.osm_round.specs.KeepingSteps.{IsJournalWithAll, IsTextOf}
+use Rattle.osm_round.specs.declared.gathered.Gathered.{Gathered}
+use Rattle.osm_round.specs.declared.taken.Taken.{Taken}
+use Rattle.osm_round.proofs.BothLemmas.{journal_some, silent_empty}
+use Rattle.osm_round.proofs.KeepingLemmas.{written_surely}
+
+-- ---- what was gathered
+
+module _ (f : FilterValue) (head : Head) (most : ℕ) (taken : Taken) (g : Gathered) (gathers : Gathers f head most taken g) (whole : g.is_whole ≡ true)
+    (bs : List BatchValue) (same : bs ≡ map batch_in g.texts.items) where
+  all_kept : (batches : List BatchValue) → KeepsUpTo most batches g g.is_whole → KeepsUpTo most batches g true
+  all_kept batches keeps = subst (KeepsUpTo most batches g) whole keeps
+
+  pub are_batches : (batches : List BatchValue) → KeepsUpTo most batches g g.is_whole → bs ≡ batches
+  are_batches batches keeps = same ∙ (all_kept batches keeps).0
+
+  own : bs ≡ gathers.batches
+  own = are_batches gathers.batches gathers.keeps
+
+  pub some_batches : head.number < taken.head.number → 0 < length bs
+  some_batches above =
+      let number = gathers.after.number in
+      let count : length bs ≡ length gathers.batches = ap length own in
+      omega (arith, above, number, count)
+
+  pub each_batch : AllByRecursion IsBatch bs
+  each_batch = subst (AllByRecursion IsBatch) (sym own) (all_kept gathers.batches gathers.keeps).1
+
+  pub batches_follow : Follow head.number bs
+  batches_follow = subst (Follow head.number) (sym own) gathers.after.follow
+
+-- ---- the journal of before
+
+-- the save begins as the journal says
+begins_so : (told : Option (List ℕ)) (start : Start) (bs : List BatchValue) → StartsAs told start → BelongsTo (journal_after start bs) told
+begins_so told start bs starts = record { file = starts.file; there = starts.there; rest = starts.rest; begins = starts.begins }
+
+another_silent : (told journal : Option (List ℕ)) → IsOfAnother told (bytes_of journal) → IsNoJournal told journal
+another_silent told None another = absurd (journal_some another.value another.spells)
+another_silent told (Some bytes) another = inr another
+
+are_old : (told journal : Option (List ℕ)) (start : Start) (file : JournalFile) (before : List BatchValue) → StartsAs told start
+    → IsFileOf told journal file → HasBatches start file before → AreOld told journal before
+are_old told journal start Nothing before starts is has = inl (silent_empty told journal is, has)
+are_old told journal start OfAnother before starts is has = inl (another_silent told journal is, has)
+are_old told journal start (Counts bytes) before starts is has = inr (
+  journal_after start before,
+  record { bytes = bytes.items; there = is.there; spells = has; belongs = begins_so told start before starts },
+  refl,
+)
+
+-- ---- its length
+
+batch_length : (b : BatchValue) (rest : List ℕ)
+    → length (batch_line b ++ 10 ∷ (b.bytes ++ 10 ∷ rest)) ≡ length (batch_line b) + length b.bytes + length rest + 2
+batch_length b rest =
+    let one = length-append (batch_line b) (10 ∷ (b.bytes ++ 10 ∷ rest)) in
+    let two = length-append b.bytes (10 ∷ rest) in
+    omega (arith, one, two)
+
+total_text : (bs : List BatchValue) → total_of bs ≤ length (batches_text bs)
+total_text [] = omega arith
+total_text (b ∷ bs) =
+    let first = batch_length b (batches_text bs) in
+    let rest = total_text bs in
+    omega (arith, first, rest)
+
+total_after : (before bs : List BatchValue) → total_of bs ≤ length (batches_text (before ++ bs))
+total_after [] bs = total_text bs
+total_after (b ∷ before) bs =
+    let first = batch_length b (batches_text (before ++ bs)) in
+    let rest = total_after before bs in
+    omega (arith, first, rest)
+
+long_text : (j : JournalValue) (before bs : List BatchValue) → j.batches ≡ before ++ bs → total_of bs < length (journal_text j)
+long_text j before bs is =
+    let one = length-append (ended (opening_lines j)) (batches_text j.batches ++ codes "end\n") in
+    let two = length-append (batches_text j.batches) (codes "end\n") in
+    let tail : length (codes "end\n") ≡ 4 = refl in
+    let total : total_of bs ≤ length (batches_text j.batches) = subst (λ l. total_of bs ≤ length (batches_text l)) (sym is) (total_after before bs) in
+    omega (arith, one, two, tail, total)
+
+-- ---- it would be too long
+
+module _ (most : ℕ) (reach : Reach) (file : JournalFile) (told journal : Option (List ℕ)) (found : FindsEnds told journal (ends_of reach file)) where
+  -- since what was gathered is
+  pub long_gathered : IsReach reach file → (g : Gathered) (batches : List BatchValue) → g.is_whole ≡ false → KeepsUpTo most batches g g.is_whole
+      → IsLongWith most told journal batches
+  long_gathered is g batches cut keeps = record {
+    before = is.batches;
+    are_old = are_old told journal reach.start file is.batches found.reached.starts found.journal_is is.has;
+    journal = journal_after reach.start (is.batches ++ batches);
+    belongs = begins_so told reach.start (is.batches ++ batches) found.reached.starts;
+    has = refl;
+    long = by_reason (subst (KeepsUpTo most batches g) cut keeps);
+  }
+    where
+      text : total_of batches < length (journal_text (journal_after reach.start (is.batches ++ batches)))
+      text = long_text (journal_after reach.start (is.batches ++ batches)) is.batches batches refl
+
+      by_reason : (most < total_of batches) ⊎ (most ≡ 0) → most < length (journal_text (journal_after reach.start (is.batches ++ batches)))
+      by_reason (inl over) = omega (arith, over, text)
+      by_reason (inr none) = omega (arith, none, text)
+
+  -- since its text is
+  pub long_next : {Z : Type 0} (bs batches : List BatchValue) → bs ≡ batches → IsNextText {Z = Z} most reach.start file bs None
+      → IsLongWith most told journal batches
+  long_next bs batches same next = record {
+    before = next.before;
+    are_old = are_old told journal reach.start file next.before found.reached.starts found.journal_is next.has;
+    journal = journal_after reach.start (next.before ++ bs);
+    belongs = begins_so told reach.start (next.before ++ bs) found.reached.starts;
+    has = ap (λ l. next.before ++ l) same;
+    long = next.text;
+  }
+
+-- ---- answers that may be none
+
+pub some_map : {T E : Type 0} (P Q : T → Type 0) (r : Result (Option T) E) → IfOk r (λ o. IfSome o P) → ((x : T) → P x → Q x)
+    → IfOk r (λ o. IfSome o Q)
+some_map P Q (Ok (Some x)) p f = f x p
+some_map P Q (Ok None) p f = tt
+some_map P Q (Err e) p f = tt
+
+pub short_next : {Z E : Type 0} (most : ℕ) (start : Start) (file : JournalFile) (bs : List BatchValue) (r : Result (Option (Vec ℕ Z)) E)
+    → IfOk r (IsNextText most start file bs) → IfOk r (λ o. IfSome o (λ text. length text.items ≤ most))
+short_next most start file bs (Ok (Some text)) next = (let is = next.text.0 in let few = next.text.1 in
+    subst (λ l. length l ≤ most) (sym is) few)
+short_next most start file bs (Ok None) next = tt
+short_next most start file bs (Err e) next = tt
+
+pub none_next : {Z E : Type 0} (most : ℕ) (start : Start) (file : JournalFile) (bs : List BatchValue) (Q : Type 0) (r : Result (Option (Vec ℕ Z)) E)
+    → IfOk r (IsNextText most start file bs) → (IsNextText {Z = Z} most start file bs None → Q) → IfOk r (λ o. o ≡ None → Q)
+none_next most start file bs Q (Ok o) next f = λ none. f (subst (IsNextText most start file bs) none next)
+none_next most start file bs Q (Err e) next f = tt
+
+-- the text is that of a journal with what was gathered
+pub journal_next : {Z E : Type 0} (most : ℕ) (reach : Reach) (file : JournalFile) (g : Gathered) (bs : List BatchValue) (r : Result (Option (Vec ℕ Z)) E)
+    → g.is_whole ≡ true → bs ≡ map batch_in g.texts.items → IfOk r (IsNextText most reach.start file bs)
+    → IfOk r (λ o. IfSome o (λ text. IsTextOf reach file g text.items))
+journal_next most reach file g bs (Ok (Some text)) whole same next = (let is = next.text.0 in
+    record {
+      whole = whole;
+      is = λ told journal found. record {
+        before = next.before;
+        are_old = are_old told journal reach.start file next.before found.reached.starts found.journal_is next.has;
+        value = journal_after reach.start (next.before ++ bs);
+        spells = record { journal = next.is; text = is };
+        has = ap (λ l. next.before ++ l) same;
+      };
+    })
+journal_next most reach file g bs (Ok None) whole same next = tt
+journal_next most reach file g bs (Err e) whole same next = tt
+
+-- ---- the journal that is left
+
+pub text_batches : (save : List ℕ) (reach : Reach) (file : JournalFile) (g : Gathered) (bytes : List ℕ) (old new : Files)
+    → FindsEnds (old save) (old (journal_name_of save)) (ends_of reach file) → IsTextOf reach file g bytes
+    → new (journal_name_of save) ≡ Some bytes → IsJournalWithAll save g old new
+text_batches save reach file g bytes old new found text there =
+    inr (inr (record { whole = text.whole; bytes = bytes; there = there; is = text.is (old save) (old (journal_name_of save)) found }))
+
+-- one that isn't longer than nothing is as it was, or is empty
+pub short_batches : (save : List ℕ) (g : Gathered) (old new : Files) → IsShortAfter 0 save old new → IsJournalWithAll save g old new
+short_batches save g old new (inl same) = inl same
+short_batches save g old new (inr (bytes, there, few)) = inr (inl (there ∙ ap Some (none bytes few)))
+  where
+    none : (l : List ℕ) → length l ≤ 0 → l ≡ []
+    none [] few = refl
+    none (x ∷ xs) few = absurd (omega (arith, few))
+
+pub journal_after_run : (known : Type 0) (dir save : List ℕ) (f : FilterValue) (head : Head) (most : ℕ) (taken : Taken) (g : Gathered) (old new : Files)
+    → known → GathersIn known old dir f head most taken g → IsJournalWithAll save g old new → IsJournalAfter dir save old new
+journal_after_run known dir save f head most taken g old new sure gathers (inl same) = inl same
+journal_after_run known dir save f head most taken g old new sure gathers (inr (inl empty)) = inr (inl empty)
+journal_after_run known dir save f head most taken g old new sure gathers (inr (inr has)) =
+    let same : map batch_in g.texts.items ≡ gathers.gathers.batches = are_batches f head most taken g gathers.gathers has.whole (map batch_in g.texts.items)
+    refl gathers.gathers.batches gathers.gathers.keeps in
+    inr (inr (record {
+      batches = gathers.gathers.batches;
+      written = written_surely known old dir gathers.gathers.batches sure gathers.written;
+      bytes = has.bytes;
+      there = has.there;
+      is = subst (λ l. IsJournalWith (old save) (old (journal_name_of save)) l has.bytes) same has.is;
+    }))

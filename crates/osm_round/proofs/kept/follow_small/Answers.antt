@@ -1,0 +1,56 @@
+use Rattle.std.proofs.Common.{subst, sym}
+use Rattle.std.specs.Prelude.{Bool, IsTrue}
+use Rattle.osm_kept.specs.Names.{journal_name_of}
+use Rattle.osm_store.specs.Frames.{IsKnown}
+use Rattle.osm_folder.specs.Runs.{IsDeviceFault}
+use Rattle.osm_round.specs.Rounds.{IsWhole}
+use Rattle.osm_round.proofs.OnwardLemmas.{device_kept, kept_refuses, not_first_kept}
+use Rattle.osm_round.proofs.StoppingLemmas.{calls_refused_then, leaves_save, whole_first, whole_stops}
+use Rattle.osm_round.proofs.kept.follow_small.Goals as goal
+
+pub returns-in-Ok-check_whole-clause-first : goal.returns-in-Ok-check_whole-clause-first
+returns-in-Ok-check_whole-clause-first g c = λ yes first.
+    let a = g.S.Store.state c.args.store.now in
+    let b = g.S.Store.state c.go_on.new.store in
+    subst IsWhole (leaves_save c.args.save.now a.files b.files c.laws_of_kept.ensures.named (c.in-Err.ensures.leaves yes))
+    (c.in-Ok-check_whole.ensures.whole (subst (λ (t : Bool). IsTrue t) (sym c.in-Err.ensures.frame.known) yes))
+
+pub returns-in-Ok-check_whole-clause-frame : goal.returns-in-Ok-check_whole-clause-frame
+returns-in-Ok-check_whole-clause-frame g c =
+    calls_refused_then IsDeviceFault (g.S.Store.state c.args.store.now) (g.S.Store.state c.go_on.new.store) (g.S.Store.state c.check_whole-in-Err.new.store)
+    c.in-Err.fault tt c.in-Err.ensures.frame c.in-Ok-check_whole.ensures.frame
+
+pub returns-in-Ok-check_whole-clause-calls : goal.returns-in-Ok-check_whole-clause-calls
+returns-in-Ok-check_whole-clause-calls g c = λ yes p b n folder before.
+    record { spent = tt; lacks = (c.in-Err.ensures.calls yes p b n folder before).lacks }
+
+pub returns-in-Err-check_whole-2-clause-stops : goal.returns-in-Err-check_whole-2-clause-stops
+returns-in-Err-check_whole-2-clause-stops g c =
+    let a = g.S.Store.state c.args.store.now in
+    let b = g.S.Store.state c.go_on.new.store in
+    whole_stops (IsKnown a) c.args.options.now c.args.dir.now c.args.save.now a.files (b.files c.args.save.now) c.in-Err-check_whole-2.found
+    (λ yes. leaves_save c.args.save.now a.files b.files c.laws_of_kept.ensures.named (c.in-Err.ensures.leaves yes))
+    (rw c.in-Err.ensures.frame.known at c.in-Err-check_whole-2.ensures.stops)
+
+pub returns-in-Err-check_whole-2-clause-first : goal.returns-in-Err-check_whole-2-clause-first
+returns-in-Err-check_whole-2-clause-first g c = λ yes first.
+    let b = g.S.Store.state c.go_on.new.store in
+    absurd (whole_first (IsKnown b) (b.files c.args.save.now) c.in-Err-check_whole-2.found
+    (subst (λ (t : Bool). IsTrue t) (sym c.in-Err.ensures.frame.known) yes) c.in-Err-check_whole-2.ensures.stops first)
+
+pub returns-in-Err-check_whole-2-clause-calls : goal.returns-in-Err-check_whole-2-clause-calls
+returns-in-Err-check_whole-2-clause-calls g c = λ yes p b n folder before.
+    let files = (g.S.Store.state c.args.store.now).files in
+    let refuses = kept_refuses c.laws_of_state.ensures.no_fault_beside_state c.laws_of_kept.ensures.one_kept c.args.options.now p b n c.args.dir.now
+    c.args.save.now files folder before (IsKnown (g.S.Store.state c.args.store.now)) c.in-Err.fault yes c.in-Err.ensures.stops in
+    let blamed = device_kept p c.args.options.now.filter (files c.args.save.now) (files (journal_name_of c.args.save.now)) c.in-Err.fault refuses
+    c.in-Err.ensures.top (not_first_kept c.in-Err.fault c.is_first_kept.result c.is_first_kept.ensures c.if-is_first_kept.false) in
+    record { spent = tt; lacks = λ sure blame. (c.in-Err.ensures.calls yes p b n folder before).lacks sure blamed }
+
+pub returns-in-Ok-Some-clause-calls : goal.returns-in-Ok-Some-clause-calls
+returns-in-Ok-Some-clause-calls g c = λ yes p b n folder before.
+    record { spent = (c.in-Ok-Some.ensures.calls yes p b n folder before).spent; lacks = tt }
+
+pub returns-then-is_first_kept-clause-calls : goal.returns-then-is_first_kept-clause-calls
+returns-then-is_first_kept-clause-calls g c = λ yes p b n folder before.
+    record { spent = tt; lacks = (c.in-Err.ensures.calls yes p b n folder before).lacks }

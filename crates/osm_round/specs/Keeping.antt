@@ -1,0 +1,199 @@
+-- What a run of the follower does that goes on from what its save and the journal beside it keep:
+-- it leaves in the two files what they kept with the next numbers applied. `known` says that it is
+-- known what the files hold, and `options` are the filter, the limit and the layout of the run.
+use Rattle.std.specs.Prelude.{◌≡◌, ℕ, ◌+◌, ◌-◌, ◌<◌, ◌≤◌, ◌⊎◌, List, [], length, Option, Some}
+use Rattle.std.specs.Prelude.{◌++◌, None}
+use Rattle.std.specs.List.{AllByRecursion}
+use Rattle.osm_model.specs.Filter.{FilterValue}
+use Rattle.osm_save.specs.declared.save.Saved.{Saved}
+use Rattle.osm_state.specs.State.{StateValue}
+use Rattle.osm_store.specs.Files.{Files, IsOver}
+use Rattle.osm_journal.specs.Journal.{BatchValue, Follow, JournalValue, SpellsJournal}
+use Rattle.osm_journal.specs.Journal.{journal_text}
+use Rattle.osm_kept.specs.Kept.{BelongsTo, HasJournal, IsNoJournal, IsOfAnother}
+use Rattle.osm_kept.specs.Names.{journal_name_of}
+use Rattle.osm_folder.specs.Following.{AddsAll, GoesOn, IsTopState, NumberStops, bytes_of, end_of}
+use Rattle.osm_folder.specs.Following.{limited, lost_numbers, ranges, standing_of}
+use Rattle.osm_folder.specs.Keeping.{IsKept}
+use Rattle.osm_folder.specs.Names.{top_name_of}
+use Rattle.osm_folder.specs.Progress.{IsOfContent}
+use Rattle.osm_folder.specs.Reports.{ReportValue, report_of}
+use Rattle.osm_folder.specs.declared.fault.RunFault.{RunFault}
+use Rattle.osm_folder.specs.declared.options.FollowOptions.{FollowOptions}
+use Rattle.osm_folder.specs.declared.progress.Progress.{Progress}
+use Rattle.osm_folder.specs.declared.progress.Progress.TheVariants.{Before, Part, Whole}
+use Rattle.osm_round.specs.Gathering.{IsWritten}
+use Rattle.osm_round.specs.Rounds.{IsWhole, max_round, room_of}
+use Rattle.osm_round.specs.Taking.{LeavesRoom}
+use Rattle.osm_round.specs.declared.kept.Sizes.{Sizes}
+
+-- ---- what it reports, and what is kept then
+
+-- what was kept is under the given filter, and the folder has that newest state
+pub record StartsFrom (given : FilterValue) (dir : List ℕ) (files : Files) (start : Saved)
+    (top : StateValue) : Type 0 where
+  pub filter_is : start.filter ≡ given
+  pub top_is : IsTopState (files (top_name_of dir)) top
+
+-- from that start a run goes on to what is kept now, and reports how far it came
+pub record GoesOnFrom (options : FollowOptions) (dir save : List ℕ) (old new : Files)
+    (report : ReportValue) (start : Saved) : Type 0 where
+  pub top : StateValue
+  pub starts : StartsFrom options.filter dir old start top
+  pub count : ℕ
+  pub reached : Saved
+  pub goes_on : GoesOn old dir start (end_of options start top) count reached
+  pub kept : IsKept options.filter save new reached
+  pub report_is : report ≡ report_of options.layout None (record {
+    standing = standing_of reached top;
+    applied = ranges start.number count;
+    missing = lost_numbers old dir reached.number (end_of options start top);
+  })
+
+-- it does what one does that may take so many numbers. It might have taken more, and the change
+-- files of those that it took have as many bytes as are taken at once
+pub record GoesOnInPart (options : FollowOptions) (dir save : List ℕ) (old new : Files)
+    (report : ReportValue) (count : ℕ) (start : Saved) : Type 0 where
+  pub goes : GoesOnFrom (limited count options) dir save old new report start
+  pub count_is : goes.count ≡ count
+  pub below : start.number + count < end_of options start goes.top
+  pub enough : max_round ≤ bytes_of old dir start.number count
+
+-- it comes to the number before a faulty one, and takes some
+pub record GoesUpTo (known : Type 0) (options : FollowOptions) (dir save : List ℕ)
+    (old new : Files) (fault : RunFault) (report : ReportValue) (start : Saved) : Type 0 where
+  pub top : StateValue
+  pub starts : StartsFrom options.filter dir old start top
+  pub count : ℕ
+  pub some : 0 < count
+  pub reached : Saved
+  pub added : AddsAll old dir count start reached
+  pub below : reached.number < end_of options start top
+  pub content : IsOfContent fault (reached.number + 1)
+  pub stops : NumberStops known dir old (reached.number + 1) fault
+  pub kept : IsKept options.filter save new reached
+  pub said : List ℕ
+  pub report_is : report ≡ report_of options.layout (Some said) (record {
+    standing = standing_of reached top;
+    applied = ranges start.number count;
+    missing = [];
+  })
+
+-- what a run does from that start
+abbrev pub GoesFrom : Type 0 → FollowOptions → List ℕ → List ℕ → Files → Files → Progress → Saved
+    → Type 0
+GoesFrom known options dir save old new (Whole report) =
+    GoesOnFrom options dir save old new report
+GoesFrom known options dir save old new (Part report applied count) =
+    GoesOnInPart options dir save old new report count
+GoesFrom known options dir save old new (Before report fault) =
+    GoesUpTo known options dir save old new fault report
+
+-- no file changes but the save and its journal
+abbrev pub ChangesBoth : List ℕ → Files → Files → Type 0
+ChangesBoth save old new = (name : List ℕ) → (name ≡ save → ⊥)
+    → (name ≡ journal_name_of save → ⊥) → new name ≡ old name
+
+-- what a run does. If the two files kept nothing, as with a large save that is no save text, it is
+-- said only that no other file changes
+pub record GoesOnKept (known : Type 0) (options : FollowOptions) (dir save : List ℕ)
+    (old new : Files) (progress : Progress) : Type 0 where
+  pub from : (start : Saved) → IsKept options.filter save old start
+      → GoesFrom known options dir save old new progress start
+  pub there : (file : List ℕ) × (new save ≡ Some file)
+  pub others : ChangesBoth save old new
+
+-- a run takes no number after those that fill its room: the change files of all that it took but
+-- the last leave room for more
+pub record IsKeptWithinRoom (options : FollowOptions) (dir save : List ℕ) (old new : Files)
+    : Type 0 where
+  pub room : (start reached : Saved) → IsKept options.filter save old start
+      → IsKept options.filter save new reached → LeavesRoom (room_of options.layout)
+      (bytes_of old dir start.number (reached.number - start.number - 1))
+
+-- ---- which of the two files it writes
+
+-- the batches of a journal that counts; none if it says nothing
+abbrev pub AreOld : Option (List ℕ) → Option (List ℕ) → List BatchValue → Type 0
+AreOld told journal batches =
+    (IsNoJournal told journal × (batches ≡ []))
+    ⊎ ((j : JournalValue) × HasJournal told journal j × (batches ≡ j.batches))
+
+-- the journal of the save with these batches at its end, or with these alone, has more than that
+-- many bytes
+pub record IsLongWith (most : ℕ) (told file : Option (List ℕ)) (batches : List BatchValue) : Type 0
+  where
+    pub before : List BatchValue
+    pub are_old : AreOld told file before
+    pub journal : JournalValue
+    pub belongs : BelongsTo journal told
+    pub has : journal.batches ≡ before ++ batches
+    pub long : most < length (journal_text journal)
+
+-- what was kept and what is kept now are so many numbers apart that the journal would be too long
+-- with the batches of all of them
+pub record IsTooLong (most : ℕ) (given : FilterValue) (dir save : List ℕ) (old new : Files)
+    : Type 0 where
+  pub start : Saved
+  pub kept : IsKept given save old start
+  pub reached : Saved
+  pub kept_now : IsKept given save new reached
+  pub batches : List BatchValue
+  pub follow : Follow start.number batches
+  pub all : reached.number ≡ start.number + length batches
+  pub written : AllByRecursion (IsWritten (Unit {0}) old dir) batches
+  pub long : IsLongWith most (old save) (old (journal_name_of save)) batches
+
+-- a save changes only if there was none, if it is small, or if the journal would be too long. A
+-- save that is there and changes was a save text
+pub record ChangesSave (sizes : Sizes) (given : FilterValue) (dir save : List ℕ) (old new : Files)
+    : Type 0 where
+  pub whole : IsWhole (old save)
+  pub due : (IsOver sizes.small (old save) → ⊥) ⊎ IsTooLong sizes.most given dir save old new
+
+abbrev pub StaysUnlessDue : Sizes → FilterValue → List ℕ → List ℕ → Files → Files → Type 0
+StaysUnlessDue sizes given dir save old new =
+    (new save ≡ old save) ⊎ ChangesSave sizes given dir save old new
+
+-- the journal is as it was, or has at most that many bytes
+abbrev pub IsShortAfter : ℕ → List ℕ → Files → Files → Type 0
+IsShortAfter most save old new = (new (journal_name_of save) ≡ old (journal_name_of save))
+    ⊎ ((bytes : List ℕ) × (new (journal_name_of save) ≡ Some bytes) × (length bytes ≤ most))
+
+-- the bytes are a journal with the batches of the one of before, if that counts, and these after
+-- them
+pub record IsJournalWith (told file : Option (List ℕ)) (batches : List BatchValue) (bytes : List ℕ)
+    : Type 0 where
+  pub before : List BatchValue
+  pub are_old : AreOld told file before
+  pub value : JournalValue
+  pub spells : SpellsJournal bytes value
+  pub has : value.batches ≡ before ++ batches
+
+-- so is the journal, and these are batches of sequences of the folder
+pub record HasMoreBatches (dir save : List ℕ) (old new : Files) : Type 0 where
+  pub batches : List BatchValue
+  pub written : AllByRecursion (IsWritten (Unit {0}) old dir) batches
+  pub bytes : List ℕ
+  pub there : new (journal_name_of save) ≡ Some bytes
+  pub is : IsJournalWith (old save) (old (journal_name_of save)) batches bytes
+
+-- the journal is as it was, or it is empty, or it has such batches
+abbrev pub IsJournalAfter : List ℕ → List ℕ → Files → Files → Type 0
+IsJournalAfter dir save old new =
+    (new (journal_name_of save) ≡ old (journal_name_of save))
+    ⊎ (new (journal_name_of save) ≡ Some [])
+    ⊎ HasMoreBatches dir save old new
+
+-- ---- what a refused run leaves
+
+-- the journal is as it was, or it was one of another save and is empty
+abbrev pub LeavesJournal : Option (List ℕ) → Option (List ℕ) → Option (List ℕ) → Type 0
+LeavesJournal told old new =
+    (new ≡ old)
+    ⊎ ((bytes : List ℕ) × (old ≡ Some bytes) × IsOfAnother told bytes × (new ≡ Some []))
+
+-- every other file is as it was
+pub record LeavesKept (save : List ℕ) (old new : Files) : Type 0 where
+  pub journal : LeavesJournal (old save) (old (journal_name_of save)) (new (journal_name_of save))
+  pub others : (name : List ℕ) → (name ≡ journal_name_of save → ⊥) → new name ≡ old name

@@ -1,0 +1,203 @@
+-- The steps of a run that goes on from what its save and the journal beside it keep. `known` says
+-- that it is known what the files hold, and `given` is the filter that the run was given.
+use Rattle.std.specs.Prelude.{◌≡◌, ◌≢◌, ℕ, ◌<◌, ◌⊎◌, List, [], length, map, Option, Some, None}
+use Rattle.std.specs.Prelude.{true, unwrap_or}
+use Rattle.osm_model.specs.Filter.{FilterValue}
+use Rattle.osm_save.specs.Head.{head_of}
+use Rattle.osm_save.specs.declared.head.Head.{Head}
+use Rattle.osm_save.specs.declared.save.Saved.{Saved}
+use Rattle.osm_store.specs.Files.{Files, Puts}
+use Rattle.osm_net.specs.Net.{IsJoined, IsOrderlyNet, NetValue}
+use Rattle.osm_journal.specs.Journal.{BatchValue}
+use Rattle.osm_kept.specs.Finding.{Finds}
+use Rattle.osm_kept.specs.Names.{journal_name_of}
+use Rattle.osm_kept.specs.Reaching.{FindsEnds, IsReachIn, ends_of, found_of}
+use Rattle.osm_kept.specs.Refusal.{EndsStop, IsBadJournal}
+use Rattle.osm_kept.specs.declared.fault.KeptFault.{KeptFault}
+use Rattle.osm_kept.specs.declared.found.Ends.{Ends}
+use Rattle.osm_kept.specs.declared.found.JournalFile.{JournalFile}
+use Rattle.osm_kept.specs.declared.found.JournalFile.TheVariants.{Counts, Nothing, OfAnother}
+use Rattle.osm_kept.specs.declared.found.Reach.{Reach}
+use Rattle.osm_checked.specs.Checking.{IsTooLarge}
+use Rattle.osm_merge.specs.Checking.{IsNoSave}
+use Rattle.osm_folder.specs.Keeping.{IsKept, kept_fault_of}
+use Rattle.osm_folder.specs.Lagging.{no_head}
+use Rattle.osm_folder.specs.declared.fault.FileName.TheVariants.{Journal, Save, Top}
+use Rattle.osm_folder.specs.declared.fault.RunFault.{RunFault}
+use Rattle.osm_folder.specs.declared.fault.RunFault.TheVariants.{Absent, BadJournal, BadSave}
+use Rattle.osm_folder.specs.declared.fault.RunFault.TheVariants.{Changed, ReadFault}
+use Rattle.osm_folder.specs.declared.fault.RunFault.TheVariants.{TooLarge, WantOfMemory, WriteFault}
+use Rattle.osm_folder.specs.declared.options.FollowOptions.{FollowOptions}
+use Rattle.osm_round.specs.Gathering.{KeepsUpTo, batch_in}
+use Rattle.osm_round.specs.Keeping.{ChangesBoth, IsJournalWith, IsLongWith, IsTooLong}
+use Rattle.osm_round.specs.KeepingStops.{KeepingStops}
+use Rattle.osm_round.specs.Putting.{saved_after}
+use Rattle.osm_round.specs.Rounds.{IsWhole}
+use Rattle.osm_round.specs.Taking.{IsTaken}
+use Rattle.osm_round.specs.declared.gathered.Gathered.{Gathered}
+use Rattle.osm_round.specs.declared.taken.Taken.{Taken}
+
+-- the head that the two files come to; that of the start if there is no save
+abbrev pub head_in : Option Reach → Head
+head_in None = no_head
+head_in (Some reach) = reach.head
+
+-- the save, if there is one, is under that filter
+abbrev pub IsUnder : FilterValue → Option Reach → Type 0
+IsUnder given None = Unit {0}
+IsUnder given (Some reach) = reach.start.filter ≡ given
+
+-- the save is there, under another filter
+abbrev pub IsOther : FilterValue → Option Reach → Type 0
+IsOther given None = ⊥
+IsOther given (Some reach) = reach.start.filter ≢ given
+
+-- what was read of the two files, if that is known, is what they hold
+pub record AreEnds (known : Type 0) (save : List ℕ) (files : Files) (ends : Ends) : Type 0 where
+  pub reach : IsReachIn ends.journal ends.kept
+  pub found : known → FindsEnds (files save) (files (journal_name_of save)) ends
+
+-- whatever is kept has that head and the given filter
+abbrev pub AreAt : FilterValue → List ℕ → Files → Head → Type 0
+AreAt given save files head = (start : Saved) → IsKept given save files start
+    → (head_of start ≡ head) × (start.filter ≡ given)
+
+-- what was taken after what was kept is kept too
+pub record KeepsAfter (given : FilterValue) (save : List ℕ) (taken : Taken) (old new : Files)
+    : Type 0 where
+  pub kept : (start : Saved) → IsKept given save old start
+      → IsKept given save new (saved_after start taken)
+  pub there : (file : List ℕ) × (new save ≡ Some file)
+  pub others : ChangesBoth save old new
+
+-- why what was taken isn't saved in the two files. `many` says that there are too many objects then
+abbrev pub PutKeptStops : Type 0 → Option (List ℕ) → Option (List ℕ) → Type 0 → RunFault → Type 0
+PutKeptStops known told journal many WantOfMemory = Unit {0}
+PutKeptStops known told journal many (ReadFault Save) = Unit {0}
+PutKeptStops known told journal many (WriteFault Save) = Unit {0}
+PutKeptStops known told journal many (WriteFault Journal) = Unit {0}
+PutKeptStops known told journal many (Absent Save) = known → ⊥
+PutKeptStops known told journal many (Changed Save) = known → ⊥
+PutKeptStops known told journal many (TooLarge Save) = known → IsTooLarge told ⊎ many
+PutKeptStops known told journal many (BadSave line) = known → IsNoSave told
+PutKeptStops known told journal many (BadJournal line) = known → IsBadJournal told journal line
+PutKeptStops known told journal many fault = ⊥
+
+-- what is kept has more objects after what was taken than a save can have
+pub record HasManyKept (given : FilterValue) (save : List ℕ) (taken : Taken) (files : Files)
+    : Type 0 where
+  pub start : Saved
+  pub kept : IsKept given save files start
+  pub many : 999999999999999999 < length (saved_after start taken).mirror.objects
+
+-- the net changes of the journal with those of what was taken after them
+pub record JoinsTo (f : FilterValue) (reach : Reach) (file : JournalFile) (taken all : Taken)
+    : Type 0 where
+  pub head : all.head ≡ taken.head
+  pub net : NetValue
+  pub orderly : IsOrderlyNet net
+  pub found : (told journal : Option (List ℕ)) → FindsEnds told journal (ends_of reach file)
+      → Finds told journal (found_of reach net file)
+  pub joined : IsJoined net taken.net all.net
+  pub later : IsOrderlyNet taken.net
+  pub count : ℕ
+  pub is : IsTaken f reach.start.head count all
+
+-- why they aren't joined
+abbrev pub JoinStops : Reach → JournalFile → RunFault → Type 0
+JoinStops reach file WantOfMemory = Unit {0}
+JoinStops reach file (BadJournal line) = (told journal : Option (List ℕ))
+    → FindsEnds told journal (ends_of reach file) → IsBadJournal told journal line
+JoinStops reach file fault = ⊥
+
+-- a journal of another save is emptied, and nothing else changes
+abbrev pub IsEmptied : List ℕ → JournalFile → Files → Files → Type 0
+IsEmptied name OfAnother old new = Puts old name (Some []) new
+IsEmptied name Nothing old new = new ≡ old
+IsEmptied name (Counts bytes) old new = new ≡ old
+
+-- the two files aren't read
+abbrev pub IsBothFault : Type 0 → Option (List ℕ) → Option (List ℕ) → RunFault → Type 0
+IsBothFault known told journal fault =
+    (k : KeptFault) × (fault ≡ kept_fault_of k) × (known → EndsStop told journal k)
+
+-- a block of the save isn't read
+abbrev pub IsSaveFault : RunFault → Type 0
+IsSaveFault fault = (fault ≡ WantOfMemory) ⊎ (fault ≡ ReadFault Save)
+
+-- the journal isn't written
+abbrev pub IsJournalFault : RunFault → Type 0
+IsJournalFault fault = (fault ≡ WantOfMemory) ⊎ (fault ≡ WriteFault Journal)
+
+-- the most bytes of a journal that is written; none is, beside a small save
+abbrev pub bound_of : Option ℕ → ℕ
+bound_of most = unwrap_or most 0
+
+-- something was kept, and the save was a save text, or there was none
+pub record WasKept (given : FilterValue) (save : List ℕ) (files : Files) : Type 0 where
+  pub start : Saved
+  pub kept : IsKept given save files start
+  pub whole : IsWhole (files save)
+
+-- the save is as it was, or it was a save text
+abbrev pub StaysOrWas : FilterValue → List ℕ → Files → Files → Type 0
+StaysOrWas given save old new = (new save ≡ old save) ⊎ WasKept given save old
+
+-- a save that changed is small, or there was none, or the journal would be too long with what was
+-- gathered
+abbrev pub IsDue : Option ℕ → Option (List ℕ) → Option (List ℕ) → Gathered → Type 0
+IsDue None told file g = Unit {0}
+IsDue (Some most) told file g = (batches : List BatchValue) → KeepsUpTo most batches g g.is_whole
+    → (told ≡ None) ⊎ IsLongWith most told file batches
+
+pub record ChangesWith (most : Option ℕ) (given : FilterValue) (save : List ℕ) (g : Gathered)
+    (old : Files) : Type 0 where
+  pub was : WasKept given save old
+  pub due : IsDue most (old save) (old (journal_name_of save)) g
+
+-- the save is as it was, or it was due
+abbrev pub SavesOnly : Option ℕ → FilterValue → List ℕ → Gathered → Files → Files → Type 0
+SavesOnly most given save g old new =
+    (new save ≡ old save) ⊎ ChangesWith most given save g old
+
+-- the journal has what was gathered after its batches
+pub record HasGathered (save : List ℕ) (g : Gathered) (old new : Files) : Type 0 where
+  pub whole : g.is_whole ≡ true
+  pub bytes : List ℕ
+  pub there : new (journal_name_of save) ≡ Some bytes
+  pub is : IsJournalWith (old save) (old (journal_name_of save)) (map batch_in g.texts.items) bytes
+
+-- the journal is as it was, or it is empty, or it has that
+abbrev pub IsJournalWithAll : List ℕ → Gathered → Files → Files → Type 0
+IsJournalWithAll save g old new =
+    (new (journal_name_of save) ≡ old (journal_name_of save))
+    ⊎ (new (journal_name_of save) ≡ Some [])
+    ⊎ HasGathered save g old new
+
+-- the text of the journal that has what was gathered
+pub record IsTextOf (reach : Reach) (file : JournalFile) (g : Gathered) (bytes : List ℕ) : Type 0
+  where
+    pub whole : g.is_whole ≡ true
+    pub is : (told journal : Option (List ℕ)) → FindsEnds told journal (ends_of reach file)
+        → IsJournalWith told journal (map batch_in g.texts.items) bytes
+
+-- the same of a run
+abbrev pub IsDueIn : Option ℕ → FilterValue → List ℕ → List ℕ → Files → Files → Type 0
+IsDueIn None given dir save old new = Unit {0}
+IsDueIn (Some most) given dir save old new =
+    (old save ≡ None) ⊎ IsTooLong most given dir save old new
+
+pub record ChangesIn (most : Option ℕ) (given : FilterValue) (dir save : List ℕ) (old new : Files)
+    : Type 0 where
+  pub whole : IsWhole (old save)
+  pub due : IsDueIn most given dir save old new
+
+abbrev pub SavesOnlyIn : Option ℕ → FilterValue → List ℕ → List ℕ → Files → Files → Type 0
+SavesOnlyIn most given dir save old new =
+    (new save ≡ old save) ⊎ ChangesIn most given dir save old new
+
+-- nothing was published, which refuses a run; no file has changed
+pub record IsUnpublishedKept (known : Type 0) (options : FollowOptions) (dir save : List ℕ)
+    (old new : Files) : Type 0 where
+  pub files : new ≡ old
+  pub stops : KeepingStops known options dir save old (Absent Top)

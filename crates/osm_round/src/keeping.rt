@@ -1,0 +1,399 @@
+//! Keeping what a run took in a save and the journal beside it.
+
+ghost use Rattle.std.specs.Prelude.{◌≡◌, ℕ, ◌+◌, ◌<◌, ◌≤◌, List, length, map, Option, Some, None};
+ghost use Rattle.std.specs.Prelude.{IfErr, IfOk, IfSome, OnErr, OnOk};
+ghost use Rattle.osm_model.specs.Filter.{FilterValue};
+ghost use Rattle.osm_model.specs.Limits.{max_sequence};
+ghost use Rattle.osm_net.specs.Net.{IsNet};
+ghost use Rattle.osm_save.specs.declared.save.Saved.{Saved};
+ghost use Rattle.osm_store.specs.Files.{Puts};
+ghost use Rattle.osm_store.specs.Frames.{IsKnown, MakesAtMost, ReplacesBetween};
+ghost use Rattle.osm_merge.specs.Calls.{bytes_in, merge_calls};
+ghost use Rattle.osm_journal.specs.Journal.{BatchValue, batch_of};
+ghost use Rattle.osm_kept.specs.Kept.{AddsBatches, Keeps};
+ghost use Rattle.osm_kept.specs.Names.{journal_name_of};
+ghost use Rattle.osm_kept.specs.Reaching.{FindsEnds, IsReach, ends_of};
+ghost use Rattle.osm_folder.specs.Lagging.{no_head};
+ghost use Rattle.osm_folder.specs.Runs.{IsDeviceFault};
+ghost use Rattle.osm_round.specs.Gathering.{Gathers, KeepsUpTo, batch_in};
+ghost use Rattle.osm_round.specs.Keeping.{IsLongWith, IsShortAfter, LeavesKept};
+ghost use Rattle.osm_round.specs.KeepingFrames.{CallsOften};
+ghost use Rattle.osm_round.specs.KeepingSteps.{AreEnds, HasManyKept, IsEmptied};
+ghost use Rattle.osm_round.specs.KeepingSteps.{IsJournalFault, IsUnder, JoinStops, JoinsTo};
+ghost use Rattle.osm_round.specs.KeepingSteps.{KeepsAfter, PutKeptStops, bound_of, head_in};
+ghost use Rattle.osm_round.specs.KeepingSteps.{IsJournalWithAll, IsTextOf, SavesOnly, StaysOrWas};
+ghost use Rattle.osm_round.specs.KeepingSteps.{WasKept};
+ghost use Rattle.osm_round.specs.Rounds.{IsWhole};
+ghost use Rattle.osm_round.specs.Taking.{IsTaken};
+
+use crate::gathered::{Gathered, Text};
+use crate::put::{make, merge};
+use crate::taken::Taken;
+use osm_checked::check::check;
+use osm_folder::fault::{FileName, RunFault};
+use osm_journal::batch::Batch;
+use osm_kept::fault::KeptFault;
+use osm_kept::found::{Ends, JournalFile, Reach};
+use osm_kept::laws::laws_of_kept;
+use osm_kept::net::net_of;
+use osm_kept::next::next_journal;
+use osm_model::filter::Filter;
+use osm_model::memory::WantOfMemory;
+use osm_net::laws::laws_of_nets;
+use osm_store::store::{Store, StoreError};
+use std::alloc::Global;
+
+/// Keeps what was taken. If nothing was, a small save is only checked, and of a large one nothing
+/// is read. `most` is how long a journal may become; none is written beside a small save.
+pub(crate) fn put_kept<S: Store>(
+    alloc: Global,
+    store: &mut S,
+    save: &str,
+    journal: &str,
+    filter: &Filter,
+    most: Option<u64>,
+    ends: Ends,
+    taken: Taken,
+    gathered: Gathered,
+) -> Result<(), RunFault>
+    requires name { journal.now ≡ journal_name_of save.now }
+    requires ends { AreEnds (IsKnown (S.state store.old)) save.now (S.state store.old).files ends }
+    requires under { IsUnder filter.now ends.kept }
+    requires taken { (count : ℕ) × IsTaken filter.now (head_in ends.kept) count taken }
+    requires number { taken.head.number ≤ max_sequence }
+    requires gathers { Gathers filter.now (head_in ends.kept) (bound_of most) taken gathered }
+    ensures kept { OnOk result (IsKnown (S.state store.old) → KeepsAfter filter.now save.now taken
+        (S.state store.old).files (S.state store.new).files) }
+    ensures whole { OnOk result (IsKnown (S.state store.old) → most ≡ None
+        → IsWhole ((S.state store.old).files save.now)) }
+    ensures stays { OnOk result (IsKnown (S.state store.old) → SavesOnly most filter.now save.now
+        gathered (S.state store.old).files (S.state store.new).files) }
+    ensures short { OnOk result (IsKnown (S.state store.old) → IsShortAfter (bound_of most) save.now
+        (S.state store.old).files (S.state store.new).files) }
+    ensures batches { OnOk result (IsKnown (S.state store.old) → IsJournalWithAll save.now gathered
+        (S.state store.old).files (S.state store.new).files) }
+    ensures stops { IfErr result (PutKeptStops (IsKnown (S.state store.old))
+        ((S.state store.old).files save.now) ((S.state store.old).files (journal_name_of save.now))
+        (HasManyKept filter.now save.now taken (S.state store.old).files)) }
+    ensures leaves { OnErr result (IsKnown (S.state store.old) → LeavesKept save.now
+        (S.state store.old).files (S.state store.new).files) }
+    ensures calls { IsKnown (S.state store.old) → MakesAtMost IsDeviceFault
+        (1 + merge_calls (bytes_in ((S.state store.old).files save.now)))
+        (S.state store.old) (S.state store.new) result }
+    ensures frame { CallsOften IsDeviceFault (S.state store.old) (S.state store.new) result }
+{
+    laws_of_kept();
+    let Ends {
+        kept,
+        journal: file,
+    } = ends;
+    let Some(reach) = kept else {
+        return begin(alloc, store, save, journal, filter, file, taken);
+    };
+    let Some(most) = most else {
+        return put_small(alloc, store, save, journal, filter, reach, file, taken);
+    };
+    put_large(
+        alloc, store, save, journal, filter, most, reach, file, taken, gathered,
+    )
+}
+
+// Makes a save where there is none. A journal that lies there is emptied first.
+fn begin<S: Store>(
+    alloc: Global,
+    store: &mut S,
+    save: &str,
+    journal: &str,
+    filter: &Filter,
+    file: JournalFile,
+    taken: Taken,
+) -> Result<(), RunFault>
+    requires name { journal.now ≡ journal_name_of save.now }
+    requires ends { AreEnds (IsKnown (S.state store.old)) save.now (S.state store.old).files
+        (record { kept = None; journal = file }) }
+    requires taken { (count : ℕ) × IsTaken filter.now no_head count taken }
+    requires number { taken.head.number ≤ max_sequence }
+    ensures kept { OnOk result (IsKnown (S.state store.old) → KeepsAfter filter.now save.now taken
+        (S.state store.old).files (S.state store.new).files) }
+    ensures none { OnOk result (IsKnown (S.state store.old)
+        → (S.state store.old).files save.now ≡ None) }
+    ensures short { OnOk result (IsKnown (S.state store.old) → IsShortAfter 0 save.now
+        (S.state store.old).files (S.state store.new).files) }
+    ensures stops { IfErr result (PutKeptStops (IsKnown (S.state store.old))
+        ((S.state store.old).files save.now) ((S.state store.old).files (journal_name_of save.now))
+        (HasManyKept filter.now save.now taken (S.state store.old).files)) }
+    ensures leaves { OnErr result (IsKnown (S.state store.old) → LeavesKept save.now
+        (S.state store.old).files (S.state store.new).files) }
+    ensures calls { MakesAtMost IsDeviceFault 2 (S.state store.old) (S.state store.new) result }
+    ensures frame { CallsOften IsDeviceFault (S.state store.old) (S.state store.new) result }
+{
+    laws_of_kept();
+    match empty_other(alloc, store, journal, &file) {
+        Ok(()) => make(alloc, store, save, filter, taken),
+        Err(fault) => Err(fault),
+    }
+}
+
+// Keeps what was taken beside a small save: in the save, with what the journal has. If nothing was
+// taken, the save is only checked.
+fn put_small<S: Store>(
+    alloc: Global,
+    store: &mut S,
+    save: &str,
+    journal: &str,
+    filter: &Filter,
+    reach: Reach,
+    file: JournalFile,
+    taken: Taken,
+) -> Result<(), RunFault>
+    requires name { journal.now ≡ journal_name_of save.now }
+    requires ends { AreEnds (IsKnown (S.state store.old)) save.now (S.state store.old).files
+        (ends_of reach file) }
+    requires under { reach.start.filter ≡ filter.now }
+    requires taken { (count : ℕ) × IsTaken filter.now reach.head count taken }
+    requires number { taken.head.number ≤ max_sequence }
+    ensures kept { OnOk result (IsKnown (S.state store.old) → KeepsAfter filter.now save.now taken
+        (S.state store.old).files (S.state store.new).files) }
+    ensures whole { OnOk result (IsKnown (S.state store.old)
+        → IsWhole ((S.state store.old).files save.now)) }
+    ensures stays { OnOk result (IsKnown (S.state store.old)
+        → StaysOrWas filter.now save.now (S.state store.old).files (S.state store.new).files) }
+    ensures short { OnOk result (IsKnown (S.state store.old) → IsShortAfter 0 save.now
+        (S.state store.old).files (S.state store.new).files) }
+    ensures stops { IfErr result (PutKeptStops (IsKnown (S.state store.old))
+        ((S.state store.old).files save.now) ((S.state store.old).files (journal_name_of save.now))
+        (HasManyKept filter.now save.now taken (S.state store.old).files)) }
+    ensures leaves { OnErr result (IsKnown (S.state store.old) → LeavesKept save.now
+        (S.state store.old).files (S.state store.new).files) }
+    ensures calls { IsKnown (S.state store.old) → MakesAtMost IsDeviceFault
+        (1 + merge_calls (bytes_in ((S.state store.old).files save.now)))
+        (S.state store.old) (S.state store.new) result }
+    ensures frame { CallsOften IsDeviceFault (S.state store.old) (S.state store.new) result }
+{
+    laws_of_kept();
+    if taken.head.number == reach.head.number {
+        return check(alloc, store, save);
+    }
+    merge_both(alloc, store, save, journal, filter, reach, file, taken)
+}
+
+// Keeps what was taken beside a large save: in the journal, if that isn't too long then, or else in
+// the save. If nothing was taken, there is nothing to do.
+fn put_large<S: Store>(
+    alloc: Global,
+    store: &mut S,
+    save: &str,
+    journal: &str,
+    filter: &Filter,
+    most: u64,
+    reach: Reach,
+    file: JournalFile,
+    taken: Taken,
+    gathered: Gathered,
+) -> Result<(), RunFault>
+    requires name { journal.now ≡ journal_name_of save.now }
+    requires ends { AreEnds (IsKnown (S.state store.old)) save.now (S.state store.old).files
+        (ends_of reach file) }
+    requires under { reach.start.filter ≡ filter.now }
+    requires taken { (count : ℕ) × IsTaken filter.now reach.head count taken }
+    requires number { taken.head.number ≤ max_sequence }
+    requires gathers { Gathers filter.now reach.head most taken gathered }
+    ensures kept { OnOk result (IsKnown (S.state store.old) → KeepsAfter filter.now save.now taken
+        (S.state store.old).files (S.state store.new).files) }
+    ensures stays { OnOk result (IsKnown (S.state store.old) → SavesOnly (Some most) filter.now
+        save.now gathered (S.state store.old).files (S.state store.new).files) }
+    ensures short { OnOk result (IsKnown (S.state store.old) → IsShortAfter most save.now
+        (S.state store.old).files (S.state store.new).files) }
+    ensures batches { OnOk result (IsKnown (S.state store.old) → IsJournalWithAll save.now gathered
+        (S.state store.old).files (S.state store.new).files) }
+    ensures stops { IfErr result (PutKeptStops (IsKnown (S.state store.old))
+        ((S.state store.old).files save.now) ((S.state store.old).files (journal_name_of save.now))
+        (HasManyKept filter.now save.now taken (S.state store.old).files)) }
+    ensures leaves { OnErr result (IsKnown (S.state store.old) → LeavesKept save.now
+        (S.state store.old).files (S.state store.new).files) }
+    ensures calls { IsKnown (S.state store.old) → MakesAtMost IsDeviceFault
+        (1 + merge_calls (bytes_in ((S.state store.old).files save.now)))
+        (S.state store.old) (S.state store.new) result }
+    ensures frame { CallsOften IsDeviceFault (S.state store.old) (S.state store.new) result }
+{
+    laws_of_kept();
+    if taken.head.number == reach.head.number {
+        return Ok(());
+    }
+    let text = match text_with(alloc, &reach, &file, &gathered, most) {
+        Ok(text) => text,
+        Err(refused) => return Err(RunFault::from(refused)),
+    };
+    let Some(text) = text else {
+        return merge_both(alloc, store, save, journal, filter, reach, file, taken);
+    };
+    write_journal(alloc, store, journal, text.as_slice())
+}
+
+// The text of the journal with what was gathered; none if it would be too long.
+fn text_with(
+    alloc: Global,
+    reach: &Reach,
+    file: &JournalFile,
+    gathered: &Gathered,
+    most: u64,
+) -> Result<Option<Vec<u8>>, WantOfMemory>
+    requires reach { IsReach reach.now file.now }
+    requires gathers { (f : FilterValue) × (taken : Taken)
+        × (reach.now.head.number < taken.head.number)
+        × Gathers f reach.now.head most taken gathered.now }
+    ensures text { IfOk result (λ o. IfSome o (λ text. (batches : List BatchValue)
+        → KeepsUpTo most batches gathered.now gathered.now.is_whole
+        → (told journal : Option (List ℕ)) (v w : Saved)
+        → FindsEnds told journal (ends_of reach.now file.now) → Keeps told journal v
+        → AddsBatches batches v w → Keeps told (Some text.items) w)) }
+    ensures journal { IfOk result (λ o. IfSome o
+        (λ text. IsTextOf reach.now file.now gathered.now text.items)) }
+    ensures short { IfOk result (λ o. IfSome o (λ text. length text.items ≤ most)) }
+    ensures long { IfOk result (λ o. o ≡ None → (batches : List BatchValue)
+        → KeepsUpTo most batches gathered.now gathered.now.is_whole
+        → (told journal : Option (List ℕ)) → FindsEnds told journal (ends_of reach.now file.now)
+        → IsLongWith most told journal batches) }
+{
+    if !gathered.is_whole {
+        return Ok(None);
+    }
+    let batches = batches_of(alloc, gathered.texts.as_slice())?;
+    next_journal(alloc, reach, file, batches.as_slice(), most)
+}
+
+// The batches of a journal, which borrow their change files.
+fn batches_of(alloc: Global, texts: &[Text]) -> Result<Vec<Batch<'_>>, WantOfMemory>
+    ensures { IfOk result (λ batches. map batch_of batches.items ≡ map batch_in texts.now) }
+{
+    let mut batches = Vec::new(alloc);
+    for text in texts {
+        batches.push(batch_from(text))?;
+    }
+    Ok(batches)
+}
+
+fn batch_from(text: &Text) -> Batch<'_>
+    ensures { batch_of result ≡ batch_in text.now }
+{
+    Batch {
+        number: text.number,
+        time: text.time,
+        bytes: text.bytes.as_slice(),
+    }
+}
+
+// Writes the journal.
+fn write_journal<S: Store>(
+    alloc: Global,
+    store: &mut S,
+    journal: &str,
+    text: &[u8],
+) -> Result<(), RunFault>
+    ensures written { OnOk result (IsKnown (S.state store.old)
+        → Puts (S.state store.old).files journal.now (Some text.now) (S.state store.new).files) }
+    ensures stops { IfErr result IsJournalFault }
+    ensures frame { ReplacesBetween IsDeviceFault 1 1
+        (S.state store.old) (S.state store.new) result }
+{
+    match store.write(alloc, journal, text) {
+        Ok(()) => Ok(()),
+        Err(StoreError::Device) => Err(RunFault::WriteFault(FileName::Journal)),
+        Err(StoreError::TooLarge) => unreachable!(),
+        Err(StoreError::WantOfMemory) => Err(RunFault::WantOfMemory),
+    }
+}
+
+// Empties a journal of another save, which might be one of the save that is written next.
+fn empty_other<S: Store>(
+    alloc: Global,
+    store: &mut S,
+    journal: &str,
+    file: &JournalFile,
+) -> Result<(), RunFault>
+    ensures emptied { OnOk result (IsKnown (S.state store.old) → IsEmptied journal.now file.now
+        (S.state store.old).files (S.state store.new).files) }
+    ensures stops { IfErr result IsJournalFault }
+    ensures frame { ReplacesBetween IsDeviceFault 0 1
+        (S.state store.old) (S.state store.new) result }
+{
+    match file {
+        JournalFile::OfAnother => write_journal(alloc, store, journal, &[]),
+        JournalFile::Nothing | JournalFile::Counts(_) => Ok(()),
+    }
+}
+
+// Lays what the journal has, and what was taken after it, over the save.
+fn merge_both<S: Store>(
+    alloc: Global,
+    store: &mut S,
+    save: &str,
+    journal: &str,
+    filter: &Filter,
+    reach: Reach,
+    file: JournalFile,
+    taken: Taken,
+) -> Result<(), RunFault>
+    requires name { journal.now ≡ journal_name_of save.now }
+    requires ends { AreEnds (IsKnown (S.state store.old)) save.now (S.state store.old).files
+        (ends_of reach file) }
+    requires under { reach.start.filter ≡ filter.now }
+    requires taken { (count : ℕ) × (0 < count) × IsTaken filter.now reach.head count taken }
+    requires number { taken.head.number ≤ max_sequence }
+    ensures kept { OnOk result (IsKnown (S.state store.old) → KeepsAfter filter.now save.now taken
+        (S.state store.old).files (S.state store.new).files) }
+    ensures was { OnOk result (IsKnown (S.state store.old)
+        → WasKept filter.now save.now (S.state store.old).files) }
+    ensures short { OnOk result (IsKnown (S.state store.old) → IsShortAfter 0 save.now
+        (S.state store.old).files (S.state store.new).files) }
+    ensures stops { IfErr result (PutKeptStops (IsKnown (S.state store.old))
+        ((S.state store.old).files save.now) ((S.state store.old).files (journal_name_of save.now))
+        (HasManyKept filter.now save.now taken (S.state store.old).files)) }
+    ensures leaves { OnErr result (IsKnown (S.state store.old) → LeavesKept save.now
+        (S.state store.old).files (S.state store.new).files) }
+    ensures calls { IsKnown (S.state store.old) → MakesAtMost IsDeviceFault
+        (1 + merge_calls (bytes_in ((S.state store.old).files save.now)))
+        (S.state store.old) (S.state store.new) result }
+    ensures frame { CallsOften IsDeviceFault (S.state store.old) (S.state store.new) result }
+{
+    laws_of_nets();
+    laws_of_kept();
+    let all = match join(alloc, filter, &reach, &file, taken) {
+        Ok(all) => all,
+        Err(fault) => return Err(fault),
+    };
+    match empty_other(alloc, store, journal, &file) {
+        Ok(()) => merge(alloc, store, save, all),
+        Err(fault) => Err(fault),
+    }
+}
+
+// What was taken with what the journal has before it.
+fn join(
+    alloc: Global,
+    filter: &Filter,
+    reach: &Reach,
+    file: &JournalFile,
+    taken: Taken,
+) -> Result<Taken, RunFault>
+    requires reach { IsReach reach.now file.now }
+    requires under { reach.now.start.filter ≡ filter.now }
+    requires taken { (count : ℕ) × (0 < count) × IsTaken filter.now reach.now.head count taken }
+    requires number { taken.head.number ≤ max_sequence }
+    ensures joined { IfOk result (JoinsTo filter.now reach.now file.now taken) }
+    ensures limits { IfOk result (λ all. IsNet all.net) }
+    ensures stops { IfErr result (JoinStops reach.now file.now) }
+{
+    laws_of_nets();
+    let mut net = match net_of(alloc, reach, file) {
+        Ok(net) => net,
+        Err(KeptFault::BadJournal(line)) => return Err(RunFault::BadJournal(line)),
+        Err(_) => return Err(RunFault::WantOfMemory),
+    };
+    net.append(taken.net)?;
+    net.limits();
+    Ok(Taken {
+        head: taken.head,
+        net,
+    })
+}

@@ -1,0 +1,458 @@
+//! A run of the follower over a folder that goes on from what a save and the journal beside it
+//! keep. A large save isn't written by each run: what is new is appended to the journal, until that
+//! would be too long.
+
+ghost use Rattle.std.specs.Prelude.{◌≡◌, ◌↔◌, ℕ, ◌+◌, ◌-◌, ◌*◌, ◌≤◌, List, length, Option, None};
+ghost use Rattle.std.specs.Prelude.{IfErr, IfOk, IfSome, IsTrue, OnErr, OnOk};
+ghost use Rattle.osm_model.specs.Limits.{max_file};
+ghost use Rattle.osm_follow.specs.Published.{PublishedValue};
+ghost use Rattle.osm_store.specs.Files.{IsOver, Spends, SpendsAtMost};
+ghost use Rattle.osm_store.specs.Frames.{IsKnown, MakesAtMost};
+ghost use Rattle.osm_merge.specs.Calls.{bytes_in, merge_calls};
+ghost use Rattle.osm_kept.specs.Names.{journal_name_of};
+ghost use Rattle.osm_folder.specs.Folder.{IsFolderOf};
+ghost use Rattle.osm_folder.specs.Keeping.{IsKeptOf};
+ghost use Rattle.osm_folder.specs.Progress as progress;
+ghost use Rattle.osm_folder.specs.Progress.{IsProgressReport};
+ghost use Rattle.osm_folder.specs.Runs.{IsDeviceFault, Reads};
+ghost use Rattle.osm_folder.specs.declared.fault.FileName.TheVariants.{Top};
+ghost use Rattle.osm_folder.specs.declared.fault.RunFault.TheVariants.{Absent, OtherFilter};
+ghost use Rattle.osm_round.specs.Gathering.{IsBegunUpTo};
+ghost use Rattle.osm_round.specs.Keeping.{GoesOnKept, IsJournalAfter, IsKeptWithinRoom};
+ghost use Rattle.osm_round.specs.Keeping.{IsShortAfter, LeavesKept, StaysUnlessDue};
+ghost use Rattle.osm_round.specs.KeepingFrames.{CallsOften};
+ghost use Rattle.osm_round.specs.KeepingOver.{GoesOnOver, kept_calls};
+ghost use Rattle.osm_round.specs.KeepingSteps.{AreEnds, IsBothFault, IsOther, IsSaveFault};
+ghost use Rattle.osm_round.specs.KeepingSteps.{IsUnder, IsUnpublishedKept, SavesOnlyIn};
+ghost use Rattle.osm_round.specs.KeepingSteps.{bound_of, head_in};
+ghost use Rattle.osm_round.specs.KeepingStops.{IsFirstKept, KeepingStops};
+ghost use Rattle.osm_round.specs.Rounds.{IsLess, IsWhole};
+
+use crate::gathered::Gathered;
+use crate::keeping::put_kept;
+use crate::round::{Prepared, check_whole, prepare_with, progress_of};
+use crate::start::{NO_HEAD, are_same};
+use osm_folder::fault::{FileName, RunFault};
+use osm_folder::kept::kept_fault;
+use osm_folder::options::FollowOptions;
+use osm_folder::progress::Progress;
+use osm_kept::ends::read_ends;
+use osm_kept::found::Ends;
+use osm_kept::laws::laws_of_kept;
+use osm_kept::names::journal_name;
+use osm_model::filter::Filter;
+use osm_save::head::Head;
+use osm_state::laws::laws_of_state;
+use osm_store::store::{Store, StoreError};
+use std::alloc::Global;
+
+/// Which saves a run writes anew, and how long a journal becomes.
+#[derive(Clone, Copy, Debug, PartialEq, Eq)]
+pub struct Sizes {
+    /// A save of at most so many bytes is small: each run that takes something writes it.
+    pub small: u64,
+    /// The most bytes of a journal that a run writes, which may be 64 MiB.
+    pub most: u64,
+}
+
+/// Follows a folder as `follow_round` does, from what a save and its journal keep, or from the
+/// start if there is no save, and leaves in the two files what they kept with the new numbers
+/// applied. A small save is checked whole by each run, and written by each that takes something,
+/// with what its journal has. Of a large one only the beginning is read: what is new is written to
+/// the journal, unless that would have more than `most` bytes, for then the save is written. The
+/// journal of before, if there is one, is one of another save by that. A journal of another save is
+/// emptied before a save is written. A refusal leaves what was kept.
+pub fn follow_kept<S: Store>(
+    alloc: Global,
+    store: &mut S,
+    dir: &str,
+    save: &str,
+    options: &FollowOptions,
+    sizes: &Sizes,
+) -> Result<Progress, RunFault>
+    requires most { sizes.now.most ≤ max_file }
+    ensures done { IfOk result (λ progress. IsKnown (S.state store.old)
+        → GoesOnKept (IsKnown (S.state store.old)) options.now dir.now save.now
+        (S.state store.old).files (S.state store.new).files progress) }
+    ensures whole { OnOk result (IsKnown (S.state store.old)
+        → (IsOver sizes.now.small ((S.state store.old).files save.now) → ⊥)
+        → IsWhole ((S.state store.old).files save.now)) }
+    ensures stays { OnOk result (IsKnown (S.state store.old)
+        → StaysUnlessDue sizes.now options.now.filter dir.now save.now
+        (S.state store.old).files (S.state store.new).files) }
+    ensures short { OnOk result (IsKnown (S.state store.old) → IsShortAfter sizes.now.most save.now
+        (S.state store.old).files (S.state store.new).files) }
+    ensures batches { OnOk result (IsKnown (S.state store.old) → IsJournalAfter dir.now save.now
+        (S.state store.old).files (S.state store.new).files) }
+    ensures room { OnOk result (IsKnown (S.state store.old) → IsKeptWithinRoom options.now
+        dir.now save.now (S.state store.old).files (S.state store.new).files) }
+    ensures report { IfOk result (IsProgressReport options.now.layout) }
+    ensures less { IfOk result (IsLess options.now.limit) }
+    ensures stops { IfErr result (KeepingStops (IsKnown (S.state store.old)) options.now
+        dir.now save.now (S.state store.old).files) }
+    ensures first { IfErr result (λ fault. IsKnown (S.state store.old)
+        → (IsOver sizes.now.small ((S.state store.old).files save.now) → ⊥)
+        → (IsFirstKept fault → ⊥) → IsWhole ((S.state store.old).files save.now)) }
+    ensures leaves { OnErr result (IsKnown (S.state store.old) → LeavesKept save.now
+        (S.state store.old).files (S.state store.new).files) }
+    ensures over { IsKnown (S.state store.old) → (published : List PublishedValue) (base number : ℕ)
+        → IsFolderOf published (S.state store.old).files dir.now
+        → IsKeptOf published options.now.filter base number save.now (S.state store.old).files
+        → progress.IsWhole options.now result (λ under. GoesOnOver published under base number
+        dir.now save.now (S.state store.old) (S.state store.new)) }
+    ensures spends { OnOk result (Spends 4 (S.state store.old).left (S.state store.new).left) }
+    ensures frame { CallsOften IsDeviceFault (S.state store.old) (S.state store.new) result }
+{
+    laws_of_state();
+    laws_of_kept();
+    let name = match journal_name(alloc, save) {
+        Ok(name) => name,
+        Err(_) => return Err(RunFault::WantOfMemory),
+    };
+    follow_both(alloc, store, dir, save, name.as_str(), options, sizes)
+}
+
+// The same over any files.
+fn follow_both<S: Store>(
+    alloc: Global,
+    store: &mut S,
+    dir: &str,
+    save: &str,
+    journal: &str,
+    options: &FollowOptions,
+    sizes: &Sizes,
+) -> Result<Progress, RunFault>
+    requires most { sizes.now.most ≤ max_file }
+    requires name { journal.now ≡ journal_name_of save.now }
+    ensures done { IfOk result (λ progress. IsKnown (S.state store.old)
+        → GoesOnKept (IsKnown (S.state store.old)) options.now dir.now save.now
+        (S.state store.old).files (S.state store.new).files progress) }
+    ensures whole { OnOk result (IsKnown (S.state store.old)
+        → (IsOver sizes.now.small ((S.state store.old).files save.now) → ⊥)
+        → IsWhole ((S.state store.old).files save.now)) }
+    ensures stays { OnOk result (IsKnown (S.state store.old)
+        → StaysUnlessDue sizes.now options.now.filter dir.now save.now
+        (S.state store.old).files (S.state store.new).files) }
+    ensures short { OnOk result (IsKnown (S.state store.old) → IsShortAfter sizes.now.most save.now
+        (S.state store.old).files (S.state store.new).files) }
+    ensures batches { OnOk result (IsKnown (S.state store.old) → IsJournalAfter dir.now save.now
+        (S.state store.old).files (S.state store.new).files) }
+    ensures room { OnOk result (IsKnown (S.state store.old) → IsKeptWithinRoom options.now
+        dir.now save.now (S.state store.old).files (S.state store.new).files) }
+    ensures report { IfOk result (IsProgressReport options.now.layout) }
+    ensures less { IfOk result (IsLess options.now.limit) }
+    ensures stops { IfErr result (KeepingStops (IsKnown (S.state store.old)) options.now
+        dir.now save.now (S.state store.old).files) }
+    ensures first { IfErr result (λ fault. IsKnown (S.state store.old)
+        → (IsOver sizes.now.small ((S.state store.old).files save.now) → ⊥)
+        → (IsFirstKept fault → ⊥) → IsWhole ((S.state store.old).files save.now)) }
+    ensures leaves { OnErr result (IsKnown (S.state store.old) → LeavesKept save.now
+        (S.state store.old).files (S.state store.new).files) }
+    ensures calls { IsKnown (S.state store.old)
+        → (published : List PublishedValue) (base number : ℕ)
+        → IsFolderOf published (S.state store.old).files dir.now
+        → IsKeptOf published options.now.filter base number save.now (S.state store.old).files
+        → MakesAtMost IsDeviceFault
+        (kept_calls published number ((S.state store.old).files save.now))
+        (S.state store.old) (S.state store.new) result }
+    ensures spends { OnOk result (Spends 4 (S.state store.old).left (S.state store.new).left) }
+    ensures frame { CallsOften IsDeviceFault (S.state store.old) (S.state store.new) result }
+{
+    laws_of_kept();
+    let ends = match read_both(alloc, store, save, journal) {
+        Ok(ends) => ends,
+        Err(fault) => return Err(fault),
+    };
+    let large = match is_large(alloc, store, save, sizes.small) {
+        Ok(large) => large,
+        Err(fault) => return Err(fault),
+    };
+    if large {
+        follow_large(alloc, store, dir, save, journal, options, sizes.most, ends)
+    } else {
+        follow_small(alloc, store, dir, save, journal, options, ends)
+    }
+}
+
+// Reads how far the two files reach.
+fn read_both<S: Store>(
+    alloc: Global,
+    store: &mut S,
+    save: &str,
+    journal: &str,
+) -> Result<Ends, RunFault>
+    requires name { journal.now ≡ journal_name_of save.now }
+    ensures ends { IfOk result
+        (AreEnds (IsKnown (S.state store.old)) save.now (S.state store.old).files) }
+    ensures stops { IfErr result (IsBothFault (IsKnown (S.state store.old))
+        ((S.state store.old).files save.now)
+        ((S.state store.old).files (journal_name_of save.now))) }
+    ensures frame { Reads 2 (S.state store.old) (S.state store.new) result }
+{
+    match read_ends(alloc, store, save, journal) {
+        Ok(ends) => Ok(ends),
+        Err(fault) => Err(kept_fault(fault)),
+    }
+}
+
+// Goes on from a large save.
+fn follow_large<S: Store>(
+    alloc: Global,
+    store: &mut S,
+    dir: &str,
+    save: &str,
+    journal: &str,
+    options: &FollowOptions,
+    most: u64,
+    ends: Ends,
+) -> Result<Progress, RunFault>
+    requires name { journal.now ≡ journal_name_of save.now }
+    requires most { most ≤ max_file }
+    requires ends { AreEnds (IsKnown (S.state store.old)) save.now (S.state store.old).files ends }
+    ensures done { IfOk result (λ progress. IsKnown (S.state store.old)
+        → GoesOnKept (IsKnown (S.state store.old)) options.now dir.now save.now
+        (S.state store.old).files (S.state store.new).files progress) }
+    ensures stays { OnOk result (IsKnown (S.state store.old)
+        → SavesOnlyIn (Some most) options.now.filter dir.now save.now
+        (S.state store.old).files (S.state store.new).files) }
+    ensures short { OnOk result (IsKnown (S.state store.old)
+        → IsShortAfter (bound_of (Some most)) save.now
+        (S.state store.old).files (S.state store.new).files) }
+    ensures batches { OnOk result (IsKnown (S.state store.old) → IsJournalAfter dir.now save.now
+        (S.state store.old).files (S.state store.new).files) }
+    ensures room { OnOk result (IsKnown (S.state store.old) → IsKeptWithinRoom options.now
+        dir.now save.now (S.state store.old).files (S.state store.new).files) }
+    ensures report { IfOk result (IsProgressReport options.now.layout) }
+    ensures less { IfOk result (IsLess options.now.limit) }
+    ensures stops { IfErr result (KeepingStops (IsKnown (S.state store.old)) options.now
+        dir.now save.now (S.state store.old).files) }
+    ensures leaves { OnErr result (IsKnown (S.state store.old) → LeavesKept save.now
+        (S.state store.old).files (S.state store.new).files) }
+    ensures calls { IsKnown (S.state store.old)
+        → (published : List PublishedValue) (base number : ℕ)
+        → IsFolderOf published (S.state store.old).files dir.now
+        → IsKeptOf published options.now.filter base number save.now (S.state store.old).files
+        → MakesAtMost IsDeviceFault (2 + 3 * (length published - number)
+        + merge_calls (bytes_in ((S.state store.old).files save.now)))
+        (S.state store.old) (S.state store.new) result }
+    ensures spends { OnOk result (Spends 1 (S.state store.old).left (S.state store.new).left) }
+    ensures frame { CallsOften IsDeviceFault (S.state store.old) (S.state store.new) result }
+{
+    match go_on(alloc, store, dir, save, journal, options, Some(most), ends) {
+        Ok(Some(progress)) => Ok(progress),
+        Ok(None) => Err(RunFault::Absent(FileName::Top)),
+        Err(fault) => Err(fault),
+    }
+}
+
+// Goes on from a small save, or where there is none: a fault of a save that is no save text comes
+// before those of the folder.
+fn follow_small<S: Store>(
+    alloc: Global,
+    store: &mut S,
+    dir: &str,
+    save: &str,
+    journal: &str,
+    options: &FollowOptions,
+    ends: Ends,
+) -> Result<Progress, RunFault>
+    requires name { journal.now ≡ journal_name_of save.now }
+    requires ends { AreEnds (IsKnown (S.state store.old)) save.now (S.state store.old).files ends }
+    ensures done { IfOk result (λ progress. IsKnown (S.state store.old)
+        → GoesOnKept (IsKnown (S.state store.old)) options.now dir.now save.now
+        (S.state store.old).files (S.state store.new).files progress) }
+    ensures whole { OnOk result (IsKnown (S.state store.old)
+        → IsWhole ((S.state store.old).files save.now)) }
+    ensures stays { OnOk result (IsKnown (S.state store.old)
+        → SavesOnlyIn None options.now.filter dir.now save.now
+        (S.state store.old).files (S.state store.new).files) }
+    ensures short { OnOk result (IsKnown (S.state store.old)
+        → IsShortAfter (bound_of None) save.now
+        (S.state store.old).files (S.state store.new).files) }
+    ensures batches { OnOk result (IsKnown (S.state store.old) → IsJournalAfter dir.now save.now
+        (S.state store.old).files (S.state store.new).files) }
+    ensures room { OnOk result (IsKnown (S.state store.old) → IsKeptWithinRoom options.now
+        dir.now save.now (S.state store.old).files (S.state store.new).files) }
+    ensures report { IfOk result (IsProgressReport options.now.layout) }
+    ensures less { IfOk result (IsLess options.now.limit) }
+    ensures stops { IfErr result (KeepingStops (IsKnown (S.state store.old)) options.now
+        dir.now save.now (S.state store.old).files) }
+    ensures first { IfErr result (λ fault. IsKnown (S.state store.old)
+        → (IsFirstKept fault → ⊥) → IsWhole ((S.state store.old).files save.now)) }
+    ensures leaves { OnErr result (IsKnown (S.state store.old) → LeavesKept save.now
+        (S.state store.old).files (S.state store.new).files) }
+    ensures calls { IsKnown (S.state store.old)
+        → (published : List PublishedValue) (base number : ℕ)
+        → IsFolderOf published (S.state store.old).files dir.now
+        → IsKeptOf published options.now.filter base number save.now (S.state store.old).files
+        → MakesAtMost IsDeviceFault (2 + 3 * (length published - number)
+        + merge_calls (bytes_in ((S.state store.old).files save.now)))
+        (S.state store.old) (S.state store.new) result }
+    ensures spends { OnOk result (Spends 1 (S.state store.old).left (S.state store.new).left) }
+    ensures frame { CallsOften IsDeviceFault (S.state store.old) (S.state store.new) result }
+{
+    laws_of_state();
+    laws_of_kept();
+    match go_on(alloc, store, dir, save, journal, options, None, ends) {
+        Ok(Some(progress)) => Ok(progress),
+        Ok(None) => match check_whole(alloc, store, save) {
+            Ok(()) => Err(RunFault::Absent(FileName::Top)),
+            Err(found) => Err(found),
+        },
+        Err(fault) => {
+            if is_first_kept(&fault) {
+                return Err(fault);
+            }
+            match check_whole(alloc, store, save) {
+                Ok(()) => Err(fault),
+                Err(found) => Err(found),
+            }
+        }
+    }
+}
+
+// Goes on from what was read of the two files; a large save has the most bytes of its journal. None
+// if nothing was published.
+fn go_on<S: Store>(
+    alloc: Global,
+    store: &mut S,
+    dir: &str,
+    save: &str,
+    journal: &str,
+    options: &FollowOptions,
+    most: Option<u64>,
+    ends: Ends,
+) -> Result<Option<Progress>, RunFault>
+    requires name { journal.now ≡ journal_name_of save.now }
+    requires most { IfSome most (λ bound. bound ≤ max_file) }
+    requires ends { AreEnds (IsKnown (S.state store.old)) save.now (S.state store.old).files ends }
+    ensures done { IfOk result (λ o. IfSome o (λ progress. IsKnown (S.state store.old)
+        → GoesOnKept (IsKnown (S.state store.old)) options.now dir.now save.now
+        (S.state store.old).files (S.state store.new).files progress)) }
+    ensures whole { IfOk result (λ o. IfSome o (λ progress. IsKnown (S.state store.old)
+        → most ≡ None → IsWhole ((S.state store.old).files save.now))) }
+    ensures stays { IfOk result (λ o. IfSome o (λ progress. IsKnown (S.state store.old)
+        → SavesOnlyIn most options.now.filter dir.now save.now
+        (S.state store.old).files (S.state store.new).files)) }
+    ensures short { IfOk result (λ o. IfSome o (λ progress. IsKnown (S.state store.old)
+        → IsShortAfter (bound_of most) save.now
+        (S.state store.old).files (S.state store.new).files)) }
+    ensures batches { IfOk result (λ o. IfSome o (λ progress. IsKnown (S.state store.old)
+        → IsJournalAfter dir.now save.now (S.state store.old).files (S.state store.new).files)) }
+    ensures room { IfOk result (λ o. IfSome o (λ progress. IsKnown (S.state store.old)
+        → IsKeptWithinRoom options.now dir.now save.now
+        (S.state store.old).files (S.state store.new).files)) }
+    ensures report { IfOk result (λ o. IfSome o (IsProgressReport options.now.layout)) }
+    ensures less { IfOk result (λ o. IfSome o (IsLess options.now.limit)) }
+    ensures none { IfOk result (λ o. o ≡ None
+        → IsUnpublishedKept (IsKnown (S.state store.old)) options.now dir.now save.now
+        (S.state store.old).files (S.state store.new).files) }
+    ensures stops { IfErr result (KeepingStops (IsKnown (S.state store.old)) options.now
+        dir.now save.now (S.state store.old).files) }
+    ensures top { IfErr result (λ fault. fault ≡ Absent Top → ⊥) }
+    ensures leaves { OnErr result (IsKnown (S.state store.old) → LeavesKept save.now
+        (S.state store.old).files (S.state store.new).files) }
+    ensures few { IfOk result (λ o. o ≡ None
+        → SpendsAtMost 1 (S.state store.old).left (S.state store.new).left) }
+    ensures calls { IsKnown (S.state store.old)
+        → (published : List PublishedValue) (base number : ℕ)
+        → IsFolderOf published (S.state store.old).files dir.now
+        → IsKeptOf published options.now.filter base number save.now (S.state store.old).files
+        → MakesAtMost IsDeviceFault (2 + 3 * (length published - number)
+        + merge_calls (bytes_in ((S.state store.old).files save.now)))
+        (S.state store.old) (S.state store.new) result }
+    ensures spends { OnOk result (Spends 1 (S.state store.old).left (S.state store.new).left) }
+    ensures frame { CallsOften IsDeviceFault (S.state store.old) (S.state store.new) result }
+{
+    laws_of_state();
+    laws_of_kept();
+    let head = match head_under(&ends, &options.filter) {
+        Ok(head) => head,
+        Err(fault) => return Err(fault),
+    };
+    let mut gathered = gathering(alloc, most);
+    let Prepared {
+        taken,
+        report,
+        ending,
+    } = match prepare_with(alloc, store, dir, head, options, &mut gathered) {
+        Ok(Some(prepared)) => prepared,
+        Ok(None) => return Ok(None),
+        Err(fault) => return Err(fault),
+    };
+    match put_kept(
+        alloc,
+        store,
+        save,
+        journal,
+        &options.filter,
+        most,
+        ends,
+        taken,
+        gathered,
+    ) {
+        Ok(()) => Ok(Some(progress_of(report, ending))),
+        Err(fault) => Err(fault),
+    }
+}
+
+// What a run gathers that may make a journal so long; nothing beside a small save.
+fn gathering(alloc: Global, most: Option<u64>) -> Gathered
+    ensures begun { IsBegunUpTo (bound_of most) result }
+    ensures most { result.left ≡ bound_of most }
+{
+    match most {
+        Some(most) => Gathered::up_to(alloc, most),
+        None => Gathered::up_to(alloc, 0),
+    }
+}
+
+// Whether a save is a large one: whether it has more bytes than that.
+fn is_large<S: Store>(
+    alloc: Global,
+    store: &mut S,
+    save: &str,
+    small: u64,
+) -> Result<bool, RunFault>
+    ensures large { IfOk result (λ large. IsKnown (S.state store.old)
+        → (IsTrue large ↔ IsOver small ((S.state store.old).files save.now))) }
+    ensures stops { IfErr result IsSaveFault }
+    ensures frame { Reads 1 (S.state store.old) (S.state store.new) result }
+{
+    match store.read_at(alloc, save, small, 1) {
+        Ok(Some(bytes)) => Ok(!bytes.is_empty()),
+        Ok(None) => Ok(false),
+        Err(StoreError::Device) => Err(RunFault::ReadFault(FileName::Save)),
+        Err(StoreError::TooLarge) => unreachable!(),
+        Err(StoreError::WantOfMemory) => Err(RunFault::WantOfMemory),
+    }
+}
+
+// The head that the two files come to, if the save is under that filter.
+fn head_under(ends: &Ends, filter: &Filter) -> Result<Head, RunFault>
+    ensures head { IfOk result (λ head. head ≡ head_in ends.now.kept) }
+    ensures under { OnOk result (IsUnder filter.now ends.now.kept) }
+    ensures other { IfErr result
+        (λ fault. (fault ≡ OtherFilter) × IsOther filter.now ends.now.kept) }
+{
+    let Some(reach) = &ends.kept else {
+        return Ok(NO_HEAD);
+    };
+    if !are_same(&reach.start.filter, filter) {
+        return Err(RunFault::OtherFilter);
+    }
+    Ok(reach.head)
+}
+
+// Whether a fault is one of memory, of the save or of its journal, before which none comes.
+fn is_first_kept(fault: &RunFault) -> bool
+    ensures { IsTrue result ↔ IsFirstKept fault.now }
+{
+    match fault {
+        RunFault::WantOfMemory | RunFault::BadSave(_) | RunFault::BadJournal(_) => true,
+        RunFault::ReadFault(FileName::Save | FileName::Journal) => true,
+        RunFault::TooLarge(FileName::Save | FileName::Journal) => true,
+        RunFault::WriteFault(FileName::Journal) => true,
+        _ => false,
+    }
+}
