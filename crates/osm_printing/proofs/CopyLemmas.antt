@@ -1,14 +1,13 @@
 -- Lists that are copied piece by piece.
-use Rattle.std.proofs.Common.{◌≡◌, ℕ, zero, suc, ◌+◌, ◌<◌, ◌≤◌, List, [], ◌∷◌, ◌++◌, length, take, drop, Option, Some, None, refl, sym, ap, subst, ◌∙◌, arith}
+use Rattle.std.proofs.Common.{◌≡◌, ℕ, zero, suc, ◌+◌, ◌<◌, ◌≤◌, List, [], ◌∷◌, ◌++◌, length, take, drop, Option, refl, sym, ap, subst, ◌∙◌, arith}
 use Rattle.std.proofs.Common.{lit<, append_assoc, length-append}
-use Rattle.std.specs.Prelude.{◌≢◌, Bool, IfErr, IsTrue, Ok, OnOk, Err, Result, min}
+use Rattle.std.specs.Prelude.{◌≢◌, IfErr, Ok, OnOk, Err, Result, min}
 use Rattle.std.specs.Io.KnownBytes.{Appends}
 use Rattle.std.proofs.KnownBytes.{Appends-nil, Appends-trans}
 use Rattle.std.proofs.lemmas.List.{append-nil, drop-drop, length-take, take-append-drop}
-use Rattle.osm_store.specs.Files.{Files}
 use Rattle.osm_store.specs.Frames.{StoreState}
 use Rattle.osm_blocks.specs.Frames.{ReadsOften}
-use Rattle.osm_blocks.specs.Places.{HasFile, IsHuge, max_block}
+use Rattle.osm_blocks.specs.Places.{HasFile, max_block}
 use Rattle.osm_blocks.proofs.OftenLemmas.{often_none, often_then}
 use Rattle.osm_blocks.proofs.PlaceLemmas.{huge_file}
 use Rattle.osm_folder.specs.declared.fault.FileName.TheVariants.{Save}
@@ -17,7 +16,7 @@ use Rattle.osm_folder.specs.declared.fault.RunFault.TheVariants.{Changed, ReadFa
 use Rattle.osm_merge.proofs.FrameLemmas.{has_still}
 use Rattle.osm_printing.specs.Printing.{IsReadFault}
 use Rattle.osm_folder.specs.Writing.{WritingFault}
-use Rattle.osm_printing.specs.Steps.Copying.{BlockStops, HasLists, IsCopied, IsCopiedInPart, IsHugeAt, IsPart, PlaceStops, end_line}
+use Rattle.osm_printing.specs.Steps.Copying.{BlockStops, HasLists, IsCopied, IsCopiedInPart, IsPart, PlaceStops, end_line}
 use Rattle.osm_printing.proofs.SaveLemmas.{dropped}
 
 -- what is left after some of the lists

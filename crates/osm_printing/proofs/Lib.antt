@@ -2,3 +2,8 @@ pub mod SaveLemmas
 pub mod ShowLemmas
 pub mod CopyLemmas
 pub mod PrintLemmas
+pub mod PutLemmas
+pub mod PartLemmas
+pub mod FewLemmas
+pub mod LaidLemmas
+pub mod KeptLemmas

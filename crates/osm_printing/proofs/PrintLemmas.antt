@@ -30,7 +30,7 @@ use Rattle.osm_printing.proofs.ShowLemmas.{shown_of}
 
 -- ---- parts
 
-held_is : held_text [] ≡ codes "held 0\n"
+pub held_is : held_text [] ≡ codes "held 0\n"
 unfolding held_text digits
 held_is = refl
 
@@ -103,7 +103,7 @@ lists_joined : (s o u c h : List ℕ) → (s ++ (o ++ u ++ c)) ++ h ≡ s ++ o +
 lists_joined s o u c h =
     ap (λ (l : List ℕ). l ++ h) (sym (append_assoc (s ++ o) u c ∙ (append_assoc s o (u ++ c) ∙ ap (λ (l : List ℕ). s ++ l) (sym (append_assoc o u c)))))
 
-text_is : (v : Saved) → shown_text (head_of v) (lists_of v.mirror) ≡ view_text (view_of_saved v)
+pub text_is : (v : Saved) → shown_text (head_of v) (lists_of v.mirror) ≡ view_text (view_of_saved v)
 unfolding view_text
 text_is v =
     lists_joined (start_text (head_of v)) (objects_text v.mirror.objects) (counts_text (codes "users ") v.mirror.users)
@@ -221,7 +221,7 @@ cut_off a c name start printed after fault lists h p own is = record {
   some = subst (Appends printed after) (sym (ap (take (length p.part)) is.parts ∙ take-append_seam p.part is.rest)) p.some;
 }
 
-no_false : IsTrue false → ⊥
+pub no_false : IsTrue false → ⊥
 no_false bad = cc
 
 pub not_printed : (a c : StoreState) (name : List ℕ) (start : Start) (printed after : Option (List ℕ)) (fault : RunFault) → IsAhead a c name start

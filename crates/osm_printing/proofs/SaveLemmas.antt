@@ -10,7 +10,7 @@ use Rattle.osm_mirror.specs.Mirror.{Counted, MirrorValue}
 use Rattle.osm_model.specs.Change.{ChangeValue}
 use Rattle.osm_model.specs.Filter.{FilterValue}
 use Rattle.osm_opl.specs.Written.{line_text}
-use Rattle.osm_save.specs.Head.{head_lines, head_of}
+use Rattle.osm_save.specs.Head.{head_of}
 use Rattle.osm_save.specs.Lines.{ended, list_lines}
 use Rattle.osm_save.specs.Reading.{head_at}
 use Rattle.osm_save.specs.Save.{SpellsSave, count_text}

@@ -1,2 +1,4 @@
 -- Definitions that only clauses of private functions cite.
 pub mod Copying
+pub mod Parts
+pub mod Laying

@@ -2,5 +2,9 @@
 #![tactic(auto)]
 
 mod copy;
+pub mod kept;
+mod laid;
+mod parts;
+mod printer;
 pub mod show;
 mod start;

@@ -104,8 +104,8 @@ fn print_from<S: Store, W: Write>(
     }
 }
 
-// Number, base and time.
-fn first_lines(alloc: Global, head: Head) -> Result<Vec<u8>, WantOfMemory>
+/// Number, base and time.
+pub(crate) fn first_lines(alloc: Global, head: Head) -> Result<Vec<u8>, WantOfMemory>
     ensures { IfOk result (λ text. text.items ≡ start_text head) }
 {
     let mut text = Vec::new(alloc);

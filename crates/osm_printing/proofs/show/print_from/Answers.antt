@@ -1,4 +1,4 @@
-use Rattle.std.proofs.Common.{◌≡◌, refl, ◌∙◌}
+use Rattle.std.proofs.Common.{refl, ◌∙◌}
 use Rattle.osm_printing.proofs.PrintLemmas.{all_printed, copy_fails, first_fails, last_fails}
 use Rattle.osm_printing.proofs.show.print_from.Goals as goal
 

@@ -1,7 +1,7 @@
 use Rattle.std.proofs.Common.{Err, inl, refl}
 use Rattle.osm_blocks.proofs.OftenLemmas.{often_both, often_then}
 use Rattle.osm_printing.specs.Printing.{IsReadFault}
-use Rattle.osm_printing.proofs.PrintLemmas.{IsAhead, is_printed, not_printed, start_stops}
+use Rattle.osm_printing.proofs.PrintLemmas.{is_printed, not_printed, start_stops}
 use Rattle.osm_printing.proofs.show.show_in_blocks.Goals as goal
 
 pub returns-in-Err-read_start-clause-not_printed : goal.returns-in-Err-read_start-clause-not_printed

@@ -1,4 +1,4 @@
-use Rattle.std.proofs.Common.{◌≡◌, List, ℕ, subst}
+use Rattle.std.proofs.Common.{List, ℕ, subst}
 use Rattle.osm_printing.specs.Steps.Copying.{HeadStops, StartsAt}
 use Rattle.osm_printing.proofs.SaveLemmas.{head_stops, start_is}
 use Rattle.osm_printing.proofs.start.read_start.Goals as goal

@@ -1,4 +1,4 @@
-use Rattle.std.proofs.Common.{◌≤◌, ◌-◌, length, arith}
+use Rattle.std.proofs.Common.{arith}
 use Rattle.osm_merge.proofs.OpeningLemmas.{head_longer, rest_is}
 use Rattle.osm_printing.proofs.start.start_of.Goals as goal
 

@@ -1,0 +1,92 @@
+-- Bytes that are given to a printer.
+use Rattle.std.proofs.Common.{◌≡◌, ℕ, List, [], ◌++◌, take, Option, refl, sym, ap, subst, ◌∙◌, append_assoc}
+use Rattle.std.specs.Io.KnownBytes.{Appends}
+use Rattle.std.proofs.KnownBytes.{Appends-nil, Appends-trans}
+use Rattle.std.proofs.lemmas.List.{append-nil}
+use Rattle.osm_folder.specs.Writing.{WritingFault}
+use Rattle.osm_folder.specs.declared.fault.RunFault.{RunFault}
+use Rattle.osm_folder.specs.declared.fault.RunFault.TheVariants.{WantOfMemory, WriteFault}
+use Rattle.osm_printing.specs.Steps.Copying.{IsPart}
+use Rattle.osm_printing.specs.Steps.Parts.{IsPut, IsPutInPart, PutFails, WritingStops}
+use Rattle.osm_printing.proofs.CopyLemmas.{part_after, part_before, part_front, part_nil, part_take, written_part}
+
+pub put_none : (p : Option (List ℕ)) (waited : List ℕ) → IsPut p p waited waited []
+put_none p waited = record { written = []; all = Appends-nil p; parts = append-nil waited }
+
+-- what waits was printed or not, after bytes were added to it
+pub put_spilled : (p q : Option (List ℕ)) (waited mid waits bytes : List ℕ) → mid ≡ waited ++ bytes → IsPut p q mid waits [] → IsPut p q waited waits bytes
+put_spilled p q waited mid waits bytes is h = record {
+  written = h.written;
+  all = h.all;
+  parts = sym is ∙ (sym (append-nil mid) ∙ h.parts);
+}
+
+pub spill_fails : (p q : Option (List ℕ)) (waited mid bytes : List ℕ) (fault : RunFault) → mid ≡ waited ++ bytes → PutFails p q mid [] fault
+    → PutFails p q waited bytes fault
+spill_fails p q waited mid bytes fault is h = record {
+  stops = h.stops;
+  some = record { part = h.some.part; some = h.some.some; first = subst (IsPart h.some.part) (append-nil mid ∙ is) h.some.first };
+}
+
+-- nothing was printed
+pub cut_none : (p : Option (List ℕ)) (waited bytes : List ℕ) → IsPutInPart p p waited bytes
+cut_none p waited bytes = record { part = []; some = Appends-nil p; first = part_nil (waited ++ bytes) }
+
+pub lacks_memory : (p : Option (List ℕ)) (waited bytes : List ℕ) → PutFails p p waited bytes WantOfMemory
+lacks_memory p waited bytes = record { stops = tt; some = cut_none p waited bytes }
+
+pub put_flushed : (p q : Option (List ℕ)) (text waited : List ℕ) → text ≡ waited → Appends p q text → IsPut p q waited [] []
+put_flushed p q text waited is all = record { written = waited; all = subst (Appends p q) is all; parts = refl }
+
+pub flush_fails : (p q : Option (List ℕ)) (text waited : List ℕ) (fault : RunFault) → text ≡ waited → WritingFault p q text fault
+    → PutFails p q waited [] fault
+flush_fails p q text waited fault is h = record { stops = stops fault h; some = part }
+  where
+    stops : (fault : RunFault) → WritingFault p q text fault → WritingStops fault
+    stops (WriteFault file) h = h.0
+    stops fault h = absurd h
+
+    part : IsPutInPart p q waited []
+    part =
+        let cut : (n : ℕ) × Appends p q (take n text) = written_part p q text fault h in
+        record {
+          part = take cut.0 text;
+          some = cut.1;
+          first = subst (IsPart (take cut.0 text)) (is ∙ sym (append-nil waited)) (part_take cut.0 text);
+        }
+
+-- ---- one after the other
+
+pub put_both : (p q r : Option (List ℕ)) (w v u xs ys : List ℕ) → IsPut p q w v xs → IsPut q r v u ys → IsPut p r w u (xs ++ ys)
+put_both p q r w v u xs ys h k = record {
+  written = h.written ++ k.written;
+  all = Appends-trans p q r h.written k.written h.all k.all;
+  parts = sym (append_assoc w xs ys) ∙ (ap (λ (l : List ℕ). l ++ ys) h.parts
+      ∙ (append_assoc h.written v ys ∙ (ap (λ (l : List ℕ). h.written ++ l) k.parts ∙ sym (append_assoc h.written k.written u))));
+}
+
+pub cut_put : (p q : Option (List ℕ)) (w v xs : List ℕ) → IsPut p q w v xs → IsPutInPart p q w xs
+cut_put p q w v xs h = record { part = h.written; some = h.all; first = subst (IsPart h.written) (sym h.parts) (part_front h.written v) }
+
+pub cut_after : (p q r : Option (List ℕ)) (w v xs ys : List ℕ) → IsPut p q w v xs → IsPutInPart q r v ys → IsPutInPart p r w (xs ++ ys)
+cut_after p q r w v xs ys h k = record {
+  part = h.written ++ k.part;
+  some = Appends-trans p q r h.written k.part h.all k.some;
+  first = subst (IsPart (h.written ++ k.part))
+      (sym (sym (append_assoc w xs ys) ∙ (ap (λ (l : List ℕ). l ++ ys) h.parts ∙ append_assoc h.written v ys)))
+      (part_after k.part h.written (v ++ ys) k.first);
+}
+
+pub cut_more : (p q : Option (List ℕ)) (w xs ys : List ℕ) → IsPutInPart p q w xs → IsPutInPart p q w (xs ++ ys)
+cut_more p q w xs ys h = record {
+  part = h.part;
+  some = h.some;
+  first = subst (IsPart h.part) (append_assoc w xs ys) (part_before h.part (w ++ xs) ys h.first);
+}
+
+pub fails_after : (p q r : Option (List ℕ)) (w v xs ys : List ℕ) (fault : RunFault) → IsPut p q w v xs → PutFails q r v ys fault
+    → PutFails p r w (xs ++ ys) fault
+fails_after p q r w v xs ys fault h k = record { stops = k.stops; some = cut_after p q r w v xs ys h k.some }
+
+pub fails_more : (p q : Option (List ℕ)) (w xs ys : List ℕ) (fault : RunFault) → PutFails p q w xs fault → PutFails p q w (xs ++ ys) fault
+fails_more p q w xs ys fault h = record { stops = h.stops; some = cut_more p q w xs ys h.some }

@@ -1,0 +1,19 @@
+use Rattle.std.proofs.Common.{◌≡◌, rules}
+use Rattle.osm_kept.specs.Names.{journal_name_of}
+use Rattle.osm_printing.proofs.KeptLemmas.{shown_kept, unshown_kept}
+use Rattle.osm_printing.proofs.kept.show_kept.Goals as goal
+
+pub returns-in-Ok-show_ends-clause-printed : goal.returns-in-Ok-show_ends-clause-printed
+returns-in-Ok-show_ends-clause-printed g c =
+    let name : c.deref.result.now ≡ journal_name_of c.args.save.now = search rules in
+    shown_kept c.laws_of_kept.ensures.one_kept (g.S.Store.state c.args.store.now) (g.S.Store.state c.read_ends.new.store) c.args.save.now c.deref.result.now
+    c.in-Ok-read_ends.ends (g.W.Write.contents c.args.writer.now) (g.W.Write.contents c.show_ends.new.writer) name
+    c.in-Ok-read_ends.ensures.frame.files c.in-Ok-read_ends.ensures.frame.makes.known c.in-Ok-read_ends.ensures.found c.in-Ok-show_ends.ensures.printed
+
+pub returns-clause-not_printed : goal.returns-clause-not_printed
+returns-clause-not_printed g c =
+    let name : c.deref.result.now ≡ journal_name_of c.args.save.now = search rules in
+    unshown_kept c.laws_of_kept.ensures.one_kept (g.S.Store.state c.args.store.now) (g.S.Store.state c.read_ends.new.store) c.args.save.now c.deref.result.now
+    c.in-Ok-read_ends.ends (g.W.Write.contents c.args.writer.now) (g.W.Write.contents c.show_ends.new.writer) name
+    c.in-Ok-read_ends.ensures.frame.files c.in-Ok-read_ends.ensures.frame.makes.known c.in-Ok-read_ends.ensures.found c.in-Err-show_ends.fault
+    c.in-Err-show_ends.ensures.not_printed

@@ -1,0 +1,11 @@
+use Rattle.osm_merged.specs.Ahead.{most_ahead}
+use Rattle.osm_printing.specs.Steps.Parts.{count_lines}
+use Rattle.osm_printing.proofs.PartLemmas.{Prints}
+use Rattle.osm_printing.proofs.parts.print_count_lines.Given as goal
+
+abbrev pub invariant-counts : goal.invariant-counts
+invariant-counts g l = Prints (g.S.Store.state l.fn.store) (g.S.Store.state l.store) l.fn.save (count_lines l.fn.counts) (count_lines l.counts)
+    l.fn.source l.source (g.W.Write.contents l.fn.writer) (g.W.Write.contents l.writer) l.fn.printer l.printer
+
+abbrev pub decreases-counts : goal.decreases-counts
+decreases-counts g l = most_ahead l.counts.ahead

@@ -1,0 +1,141 @@
+-- A save with net changes laid over it, which is checked, and printed while it is read again.
+use Rattle.std.specs.Prelude.{◌≡◌, ℕ, ◌⊎◌, List, ◌++◌, Option, Some, codes, take}
+use Rattle.std.specs.List.{flat_map}
+use Rattle.std.specs.Io.KnownBytes.{Appends}
+use Rattle.osm_blocks.specs.Places.{HasFile}
+use Rattle.osm_mirror.specs.Mirror.{Counted, MirrorValue}
+use Rattle.osm_net.specs.Laid.{laid_on}
+use Rattle.osm_net.specs.Net.{NetEntry, NetValue}
+use Rattle.osm_reading.specs.NumberLines.{count_line, numbered_line}
+use Rattle.osm_save.specs.Save.{SpellsSave, saved_with}
+use Rattle.osm_save.specs.declared.head.Head.{Head}
+use Rattle.osm_save.specs.declared.save.Saved.{Saved}
+use Rattle.osm_show.specs.Show.{object_line}
+use Rattle.osm_store.specs.Frames.{StoreState}
+use Rattle.osm_folder.specs.Reports.{ReportValue}
+use Rattle.osm_folder.specs.declared.fault.RunFault.{RunFault}
+use Rattle.osm_folder.specs.declared.fault.RunFault.TheVariants.{BadJournal, WantOfMemory}
+use Rattle.osm_kept.specs.Reaching.{FindsEnds, ends_of}
+use Rattle.osm_kept.specs.Refusal.{IsBadJournal}
+use Rattle.osm_kept.specs.declared.found.JournalFile.{JournalFile}
+use Rattle.osm_kept.specs.declared.found.Reach.{Reach}
+use Rattle.osm_merge.specs.declared.lists.Totals.{Totals}
+use Rattle.osm_checked.specs.Checking.{ReadStops}
+use Rattle.osm_printing.specs.Printing.{CopyStops, IsShowReport, show_report_of, shown_text}
+use Rattle.osm_printing.specs.Printing.{view_of_saved}
+use Rattle.osm_printing.specs.Steps.Copying.{IsPart}
+use Rattle.osm_printing.specs.Steps.Parts.{IsPut, IsPutInPart, PartStops}
+use Rattle.osm_printing.specs.declared.laid.Laid.{Laid}
+
+-- net changes with those lists
+abbrev pub net_with : List NetEntry → List Counted → List Counted → NetValue
+net_with objects users changesets =
+    record { objects = objects; users = users; changesets = changesets }
+
+-- the net changes that are laid over a save
+abbrev pub net_in : Laid → NetValue
+net_in laid = net_with laid.objects.items laid.users.items laid.changesets.items
+
+-- the lists of a mirror as a show text has them, under those numbers
+abbrev pub laid_text : Totals → MirrorValue → List ℕ
+laid_text t m =
+    (numbered_line (codes "objects ") t.objects ++ flat_map object_line m.objects)
+    ++ ((numbered_line (codes "users ") t.users ++ flat_map count_line m.users)
+    ++ (numbered_line (codes "changesets ") t.changesets ++ flat_map count_line m.changesets))
+
+-- no save text is known to be there
+abbrev pub IsNoText : List ℕ → Type 0
+IsNoText file = (saved : Saved) → SpellsSave file saved → ⊥
+
+-- the lists of a save text were put, after the net changes
+pub record AreListsPut (state : StoreState) (name : List ℕ) (n : NetValue) (t : Totals)
+    (printed after : Option (List ℕ)) (waited waits : List ℕ) : Type 0 where
+  pub text : List ℕ
+  pub put : IsPut printed after waited waits text
+  pub is : (file : List ℕ) (saved : Saved) → HasFile state name file → SpellsSave file saved
+      → text ≡ laid_text t (laid_on n saved.mirror)
+
+-- they weren't, but a part of them
+pub record AreListsCut (state : StoreState) (name : List ℕ) (n : NetValue) (t : Totals)
+    (printed after : Option (List ℕ)) (waited : List ℕ) (fault : RunFault) : Type 0 where
+  pub stops : PartStops state name IsNoText fault
+  pub text : List ℕ
+  pub some : IsPutInPart printed after waited text
+  pub first : (file : List ℕ) (saved : Saved) → HasFile state name file → SpellsSave file saved
+      → IsPart text (laid_text t (laid_on n saved.mirror))
+
+-- a show text was printed, with those lists
+pub record IsLaidPrinted (state : StoreState) (name : List ℕ) (head : Head) (n : NetValue)
+    (t : Totals) (printed after : Option (List ℕ)) : Type 0 where
+  pub lists : List ℕ
+  pub all : Appends printed after (shown_text head lists)
+  pub are : (file : List ℕ) (saved : Saved) → HasFile state name file → SpellsSave file saved
+      → lists ≡ laid_text t (laid_on n saved.mirror)
+
+-- a part of one was printed, which is that of those lists if the save is known
+pub record IsLaidCut (state : StoreState) (name : List ℕ) (head : Head) (n : NetValue)
+    (t : Totals) (printed after : Option (List ℕ)) (fault : RunFault) : Type 0 where
+  pub stops : PartStops state name IsNoText fault
+  pub part : List ℕ
+  pub some : Appends printed after part
+  pub lists : List ℕ
+  pub of_some : IsPart part (shown_text head lists)
+  pub of_own : (file : List ℕ) (saved : Saved) → HasFile state name file
+      → SpellsSave file saved
+      → IsPart part (shown_text head (laid_text t (laid_on n saved.mirror)))
+
+-- the save is there, and with that head and after the net changes it is shown
+pub record IsLaidShown (told : Option (List ℕ)) (head : Head) (n : NetValue) (report : ReportValue)
+    : Type 0 where
+  pub file : List ℕ
+  pub there : told ≡ Some file
+  pub saved : Saved
+  pub spells : SpellsSave file saved
+  pub report_is : report
+      ≡ show_report_of (view_of_saved (saved_with head saved.filter (laid_on n saved.mirror)))
+
+-- the report is that of a show of which this is known
+pub record IsShowAs (known : Type 0) (Shows : ReportValue → Type 0) (report : ReportValue)
+    : Type 0 where
+  pub shown : known → Shows report
+  pub form : IsShowReport report
+
+-- all of it was printed
+pub record IsPrintedAs (known : Type 0) (Shows : ReportValue → Type 0)
+    (printed after : Option (List ℕ)) : Type 0 where
+  pub report : ReportValue
+  pub is : IsShowAs known Shows report
+  pub all : Appends printed after report.text
+
+-- a prefix of it was printed
+pub record IsCutAs (known : Type 0) (told : Option (List ℕ)) (Shows : ReportValue → Type 0)
+    (printed after : Option (List ℕ)) (fault : RunFault) : Type 0 where
+  pub report : ReportValue
+  pub is : IsShowAs known Shows report
+  pub stops : CopyStops known told fault
+  pub count : ℕ
+  pub some : Appends printed after (take count report.text)
+
+-- nothing was printed, for that reason
+pub record IsRefusedAs (Stops : RunFault → Type 0) (printed after : Option (List ℕ))
+    (fault : RunFault) : Type 0 where
+  pub stops : Stops fault
+  pub nothing : after ≡ printed
+
+-- why not all was printed
+abbrev pub IsNotPrintedAs : Type 0 → Option (List ℕ) → (RunFault → Type 0)
+    → (ReportValue → Type 0) → Option (List ℕ) → Option (List ℕ) → RunFault → Type 0
+IsNotPrintedAs known told Stops Shows printed after fault =
+    IsRefusedAs Stops printed after fault ⊎ IsCutAs known told Shows printed after fault
+
+-- why a save and its journal aren't shown, once their ends were read
+abbrev pub EndsShowStops : Type 0 → Option (List ℕ) → Option (List ℕ) → RunFault → Type 0
+EndsShowStops known told journal (BadJournal line) = known → IsBadJournal told journal line
+EndsShowStops known told journal fault = ReadStops known told fault
+
+-- why the batches of a journal aren't laid over a save: of files with those ends a batch is bad
+abbrev pub LaidStops : Reach → JournalFile → RunFault → Type 0
+LaidStops reach journal WantOfMemory = Unit {0}
+LaidStops reach journal (BadJournal line) = (told file : Option (List ℕ))
+    → FindsEnds told file (ends_of reach journal) → IsBadJournal told file line
+LaidStops reach journal fault = ⊥

@@ -1,0 +1,324 @@
+//! The lists of a save with net changes laid over them, printed while the save is read.
+
+ghost use Rattle.std.specs.Prelude.{◌≡◌, ◌≤◌, ◌<◌, ◌++◌, ◌∷◌, [], None, IfErr, IfOk, IsTrue, OnOk};
+ghost use Rattle.std.specs.Prelude.{codes};
+ghost use Rattle.std.specs.List.{AllByRecursion};
+ghost use Rattle.osm_blocks.specs.Frames.{ReadsOften};
+ghost use Rattle.osm_blocks.specs.Places.{left_of};
+ghost use Rattle.osm_merge.specs.Laying.{IsFew};
+ghost use Rattle.osm_merged.specs.Ahead.{most_ahead};
+ghost use Rattle.osm_model.specs.Limits.{max_sequence};
+ghost use Rattle.osm_printing.specs.Printing.{IsReadFault};
+ghost use Rattle.osm_printing.specs.Steps.Parts.{AllIsPrinted, IsPartCut};
+ghost use Rattle.osm_printing.specs.Steps.Parts.{IsPrintedPart, again_fault_of};
+ghost use Rattle.osm_printing.specs.Steps.Parts.{both_parts, count_lines};
+ghost use Rattle.osm_printing.specs.Steps.Parts.{counts_part, object_lines};
+ghost use Rattle.osm_printing.specs.Steps.Parts.{PartStops, TakesLine, objects_part, whole_part};
+
+use crate::printer::Printer;
+use osm_folder::fault::{FileName, RunFault};
+use osm_merge::fault::MergeFault;
+use osm_merge::lists::Totals;
+use osm_merge::opening::Opening;
+use osm_merge::source::Source;
+use osm_merged::counts::MergedCounts;
+use osm_merged::objects::MergedObjects;
+use osm_merged::opening::{open_changesets, open_users};
+use osm_model::filter::Filter;
+use osm_store::store::Store;
+use std::alloc::Global;
+use std::io::Write;
+
+/// The fault of a second reading: whatever is wrong, the file changed.
+pub(crate) fn again_fault(fault: MergeFault) -> RunFault
+    ensures { result ≡ again_fault_of fault }
+{
+    match fault {
+        MergeFault::ReadFault | MergeFault::WriteFault => RunFault::ReadFault(FileName::Save),
+        MergeFault::WantOfMemory => RunFault::WantOfMemory,
+        MergeFault::TooLarge => RunFault::TooLarge(FileName::Save),
+        _ => RunFault::Changed(FileName::Save),
+    }
+}
+
+/// Prints all lists of a save that was opened, and reads its end.
+pub(crate) fn print_all<S: Store, W: Write>(
+    alloc: Global,
+    store: &mut S,
+    save: &str,
+    source: &mut Source,
+    opening: &Opening,
+    merged: &mut MergedObjects<'_>,
+    users: &[(u32, u64)],
+    changesets: &[(u32, u64)],
+    totals: Totals,
+    printer: &mut Printer,
+    writer: &mut W,
+) -> Result<(), RunFault>
+    requires number { opening.now.head.number ≤ max_sequence }
+    requires base { opening.now.head.base ≤ opening.now.head.number }
+    requires users { AllByRecursion IsFew users.now }
+    requires changesets { AllByRecursion IsFew changesets.now }
+    ensures printed { OnOk result (AllIsPrinted (S.state store.old) save.now
+        (whole_part totals opening.now merged.old users.now changesets.now) source.old
+        (W.contents writer.old) (W.contents writer.new) printer.old printer.new) }
+    ensures cut { IfErr result (IsPartCut (S.state store.old) save.now
+        (whole_part totals opening.now merged.old users.now changesets.now) source.old
+        (W.contents writer.old) (W.contents writer.new) printer.old) }
+    ensures frame { ReadsOften IsReadFault (S.state store.old) (S.state store.new) result }
+{
+    let many = totals.objects;
+    let filter = &opening.filter;
+    match print_objects(
+        alloc, store, save, source, filter, merged, many, printer, writer,
+    ) {
+        Ok(()) => {}
+        Err(fault) => return Err(fault),
+    }
+    match print_counts(
+        alloc, store, save, source, opening, users, changesets, totals, printer, writer,
+    ) {
+        Ok(()) => {}
+        Err(fault) => return Err(fault),
+    }
+    match source.end(alloc, store, save) {
+        Ok(()) => Ok(()),
+        Err(fault) => Err(again_fault(fault)),
+    }
+}
+
+// Prints the list of objects, whose number is `total`.
+fn print_objects<S: Store, W: Write>(
+    alloc: Global,
+    store: &mut S,
+    save: &str,
+    source: &mut Source,
+    filter: &Filter,
+    objects: &mut MergedObjects<'_>,
+    total: u64,
+    printer: &mut Printer,
+    writer: &mut W,
+) -> Result<(), RunFault>
+    ensures printed { OnOk result (IsPrintedPart (S.state store.old) save.now
+        (objects_part total filter.now objects.old) source.old source.new
+        (W.contents writer.old) (W.contents writer.new) printer.old printer.new) }
+    ensures cut { IfErr result (IsPartCut (S.state store.old) save.now
+        (objects_part total filter.now objects.old) source.old
+        (W.contents writer.old) (W.contents writer.new) printer.old) }
+    ensures frame { ReadsOften IsReadFault (S.state store.old) (S.state store.new) result }
+{
+    match printer.put_numbered(writer, b"objects ", total) {
+        Ok(()) => {}
+        Err(fault) => return Err(fault),
+    }
+    match print_object_lines(alloc, store, save, source, filter, objects, printer, writer) {
+        Ok(()) => Ok(()),
+        Err(fault) => Err(fault),
+    }
+}
+
+// Prints the lines of the objects.
+fn print_object_lines<S: Store, W: Write>(
+    alloc: Global,
+    store: &mut S,
+    save: &str,
+    source: &mut Source,
+    filter: &Filter,
+    objects: &mut MergedObjects<'_>,
+    printer: &mut Printer,
+    writer: &mut W,
+) -> Result<(), RunFault>
+    ensures printed { OnOk result (IsPrintedPart (S.state store.old) save.now
+        (object_lines filter.now objects.old) source.old source.new
+        (W.contents writer.old) (W.contents writer.new) printer.old printer.new) }
+    ensures cut { IfErr result (IsPartCut (S.state store.old) save.now
+        (object_lines filter.now objects.old) source.old
+        (W.contents writer.old) (W.contents writer.new) printer.old) }
+    ensures frame { ReadsOften IsReadFault (S.state store.old) (S.state store.new) result }
+{
+    let mut line = Vec::new(alloc);
+    'objects: loop {
+        match next_line(alloc, store, save, source, filter, objects, &mut line) {
+            Ok(true) => {}
+            Ok(false) => return Ok(()),
+            Err(fault) => return Err(fault),
+        }
+        match printer.put_line(writer, line.as_slice()) {
+            Ok(()) => {}
+            Err(fault) => return Err(fault),
+        }
+    }
+}
+
+// Prints the lists of users and of changesets, whose numbers are among the totals.
+fn print_counts<S: Store, W: Write>(
+    alloc: Global,
+    store: &mut S,
+    save: &str,
+    source: &mut Source,
+    opening: &Opening,
+    users: &[(u32, u64)],
+    changesets: &[(u32, u64)],
+    totals: Totals,
+    printer: &mut Printer,
+    writer: &mut W,
+) -> Result<(), RunFault>
+    requires number { opening.now.head.number ≤ max_sequence }
+    requires base { opening.now.head.base ≤ opening.now.head.number }
+    requires users { AllByRecursion IsFew users.now }
+    requires changesets { AllByRecursion IsFew changesets.now }
+    ensures printed { OnOk result (IsPrintedPart (S.state store.old) save.now
+        (both_parts totals opening.now.head users.now changesets.now)
+        source.old source.new
+        (W.contents writer.old) (W.contents writer.new) printer.old printer.new) }
+    ensures cut { IfErr result (IsPartCut (S.state store.old) save.now
+        (both_parts totals opening.now.head users.now changesets.now)
+        source.old (W.contents writer.old) (W.contents writer.new) printer.old) }
+    ensures frame { ReadsOften IsReadFault (S.state store.old) (S.state store.new) result }
+{
+    let many = totals.users;
+    match print_users(
+        alloc, store, save, source, opening, users, many, printer, writer,
+    ) {
+        Ok(()) => {}
+        Err(fault) => return Err(fault),
+    }
+    let many = totals.changesets;
+    match print_changesets(
+        alloc, store, save, source, opening, changesets, many, printer, writer,
+    ) {
+        Ok(()) => Ok(()),
+        Err(fault) => Err(fault),
+    }
+}
+
+// Reads the line of the next object; whether there is one.
+fn next_line<S: Store>(
+    alloc: Global,
+    store: &mut S,
+    save: &str,
+    source: &mut Source,
+    filter: &Filter,
+    objects: &mut MergedObjects<'_>,
+    line: &mut Vec<u8>,
+) -> Result<bool, RunFault>
+    ensures taken { IfOk result (TakesLine (S.state store.old) save.now
+        (object_lines filter.now objects.old) (object_lines filter.now objects.new)
+        source.old source.new (line.new.items ++ 10 ∷ [])) }
+    ensures fewer { IfOk result (λ is_next. IsTrue is_next
+        → most_ahead objects.new < most_ahead objects.old) }
+    ensures stops { IfErr result (PartStops (S.state store.old) save.now (λ file.
+        object_lines filter.now objects.old (left_of source.old file) ≡ None)) }
+    ensures frame { ReadsOften IsReadFault (S.state store.old) (S.state store.new) result }
+{
+    match objects.next(alloc, store, save, source, filter, line) {
+        Ok(object) => Ok(object.is_some()),
+        Err(fault) => Err(again_fault(fault)),
+    }
+}
+
+// Prints the list of users, whose number is `total`.
+fn print_users<S: Store, W: Write>(
+    alloc: Global,
+    store: &mut S,
+    save: &str,
+    source: &mut Source,
+    opening: &Opening,
+    users: &[(u32, u64)],
+    total: u64,
+    printer: &mut Printer,
+    writer: &mut W,
+) -> Result<(), RunFault>
+    requires number { opening.now.head.number ≤ max_sequence }
+    requires base { opening.now.head.base ≤ opening.now.head.number }
+    requires few { AllByRecursion IsFew users.now }
+    ensures printed { OnOk result (IsPrintedPart (S.state store.old) save.now
+        (counts_part (codes "users ") total opening.now.head users.now) source.old source.new
+        (W.contents writer.old) (W.contents writer.new) printer.old printer.new) }
+    ensures cut { IfErr result (IsPartCut (S.state store.old) save.now
+        (counts_part (codes "users ") total opening.now.head users.now) source.old
+        (W.contents writer.old) (W.contents writer.new) printer.old) }
+    ensures frame { ReadsOften IsReadFault (S.state store.old) (S.state store.new) result }
+{
+    let mut counts = match open_users(alloc, store, save, source, opening, users) {
+        Ok(counts) => counts,
+        Err(fault) => return Err(again_fault(fault)),
+    };
+    match printer.put_numbered(writer, b"users ", total) {
+        Ok(()) => {}
+        Err(fault) => return Err(fault),
+    }
+    match print_count_lines(alloc, store, save, source, &mut counts, printer, writer) {
+        Ok(()) => Ok(()),
+        Err(fault) => Err(fault),
+    }
+}
+
+// Prints the list of changesets, whose number is `total`.
+fn print_changesets<S: Store, W: Write>(
+    alloc: Global,
+    store: &mut S,
+    save: &str,
+    source: &mut Source,
+    opening: &Opening,
+    changesets: &[(u32, u64)],
+    total: u64,
+    printer: &mut Printer,
+    writer: &mut W,
+) -> Result<(), RunFault>
+    requires number { opening.now.head.number ≤ max_sequence }
+    requires base { opening.now.head.base ≤ opening.now.head.number }
+    requires few { AllByRecursion IsFew changesets.now }
+    ensures printed { OnOk result (IsPrintedPart (S.state store.old) save.now
+        (counts_part (codes "changesets ") total opening.now.head changesets.now)
+        source.old source.new
+        (W.contents writer.old) (W.contents writer.new) printer.old printer.new) }
+    ensures cut { IfErr result (IsPartCut (S.state store.old) save.now
+        (counts_part (codes "changesets ") total opening.now.head changesets.now) source.old
+        (W.contents writer.old) (W.contents writer.new) printer.old) }
+    ensures frame { ReadsOften IsReadFault (S.state store.old) (S.state store.new) result }
+{
+    let mut counts = match open_changesets(alloc, store, save, source, opening, changesets) {
+        Ok(counts) => counts,
+        Err(fault) => return Err(again_fault(fault)),
+    };
+    match printer.put_numbered(writer, b"changesets ", total) {
+        Ok(()) => {}
+        Err(fault) => return Err(fault),
+    }
+    match print_count_lines(alloc, store, save, source, &mut counts, printer, writer) {
+        Ok(()) => Ok(()),
+        Err(fault) => Err(fault),
+    }
+}
+
+// Prints the lines of counts.
+fn print_count_lines<S: Store, W: Write>(
+    alloc: Global,
+    store: &mut S,
+    save: &str,
+    source: &mut Source,
+    counts: &mut MergedCounts<'_>,
+    printer: &mut Printer,
+    writer: &mut W,
+) -> Result<(), RunFault>
+    ensures printed { OnOk result (IsPrintedPart (S.state store.old) save.now
+        (count_lines counts.old) source.old source.new
+        (W.contents writer.old) (W.contents writer.new) printer.old printer.new) }
+    ensures cut { IfErr result (IsPartCut (S.state store.old) save.now
+        (count_lines counts.old) source.old
+        (W.contents writer.old) (W.contents writer.new) printer.old) }
+    ensures frame { ReadsOften IsReadFault (S.state store.old) (S.state store.new) result }
+{
+    'counts: loop {
+        let count = match counts.next(alloc, store, save, source) {
+            Ok(Some(count)) => count,
+            Ok(None) => return Ok(()),
+            Err(fault) => return Err(again_fault(fault)),
+        };
+        match printer.put_count(writer, count) {
+            Ok(()) => {}
+            Err(fault) => return Err(fault),
+        }
+    }
+}
