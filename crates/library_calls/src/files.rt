@@ -9,6 +9,7 @@ use osm_model::memory::WantOfMemory;
 use osm_reading::pieces::cut;
 use osm_repl::execution::execute;
 use osm_repl::orders::Order;
+use osm_repl::sizes::USUAL_SIZES;
 use osm_store::memory_store::MemoryStore;
 use std::alloc::Global;
 use std::io::Write;
@@ -42,7 +43,8 @@ impl Files {
         };
         let options = FollowOptions::new(filter);
         let (store, written) = (&mut self.store, &mut self.written);
-        let ended = execute(alloc, order, options, store, &mut input, written);
+        let sizes = USUAL_SIZES;
+        let ended = execute(alloc, order, options, sizes, store, &mut input, written);
         out.add(self.written.as_slice());
         self.written.clear();
         match ended {

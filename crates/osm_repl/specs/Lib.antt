@@ -5,4 +5,5 @@ pub mod Ending
 pub mod Auditing
 pub mod Execution
 pub mod Echo
+pub mod Sizes
 pub mod Steps

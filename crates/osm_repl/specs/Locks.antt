@@ -6,7 +6,7 @@ use Rattle.osm_repl.specs.declared.orders.Asked.{Asked}
 use Rattle.osm_repl.specs.declared.orders.Order.{Order}
 use Rattle.osm_repl.specs.declared.orders.Order.TheVariants.{Publish, PublishAs, Begin, Follow}
 
--- a publication writes in its folder, a beginning and a follower write their save
+-- a publication writes in its folder, a beginning and a follower write their save and its journal
 abbrev pub lock_of_order : Order → Option Lock
 lock_of_order (Publish dir changes now) = Some (Folder dir)
 lock_of_order (PublishAs dir changes now sequence) = Some (Folder dir)

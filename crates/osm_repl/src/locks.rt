@@ -10,11 +10,12 @@ use crate::orders::{Asked, Order};
 pub enum Lock<'a> {
     /// The folder of sequences.
     Folder(&'a str),
-    /// The save.
+    /// The save, and its journal.
     Save(&'a str),
 }
 
-/// The lock that a run holds: of the folder that it publishes in, or of the save that it writes.
+/// The lock that a run holds: of the folder that it publishes in, or of the save and the journal
+/// that it writes.
 pub fn lock_of<'a>(asked: &Asked<'a>) -> Option<Lock<'a>>
     ensures { result ≡ lock_of asked.now }
 {

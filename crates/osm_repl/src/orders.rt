@@ -8,6 +8,8 @@ pub struct Asked<'a> {
     pub extract: Extract<'a>,
     /// The most numbers that `follow` takes, as the words say it.
     pub limit: Option<&'a str>,
+    /// Which saves `follow` writes anew, and how long a journal becomes, as `SMALL:MOST`.
+    pub sizes: Option<&'a str>,
 }
 
 /// Which objects a save keeps, as the words say it: all of them for a command that writes no save.

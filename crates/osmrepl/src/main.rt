@@ -5,6 +5,9 @@ mod locking;
 mod saying;
 mod watching;
 
+ghost use Rattle.std.specs.Prelude.{◌≤◌};
+ghost use Rattle.osm_model.specs.Limits.{max_file};
+
 use crate::locking::{locked, seconds};
 use crate::saying::{end, explain, refuse, report, report_of_replay, report_of_run};
 use crate::watching::{Screen, Shown};
@@ -21,6 +24,8 @@ use osm_repl::locks::lock_of;
 use osm_repl::order_fault::OrderFault;
 use osm_repl::orders::{Asked, Order};
 use osm_repl::refusal::Refusal;
+use osm_repl::sizes::check_sizes;
+use osm_round::kept::Sizes;
 use std::process::ExitCode;
 use std::{env, process};
 
@@ -57,21 +62,36 @@ fn begun(rt: &HostRuntime, asked: &Asked<'_>) -> u8 {
         Ok(options) => options,
         Err(fault) => return report_of_run(rt, asked.order, fault, None),
     };
+    let sizes = match check_sizes(asked.sizes) {
+        Ok(sizes) => sizes,
+        Err(refusal) => {
+            let hint = "--sizes takes the bytes of a small save, a colon and those of a journal";
+            return refuse(rt, refusal, asked.sizes.unwrap_or(""), None, hint);
+        }
+    };
     if !asked.options.any_time && is_ahead(asked.order, seconds(rt)) {
         let hint = "--any-time takes it";
         return refuse(rt, Refusal::TimeAhead, asked.order.now(), None, hint);
     }
     let Some(lock) = lock_of(asked) else {
-        return done(rt, asked, options, false);
+        return done(rt, asked, options, sizes, false);
     };
     match locked(rt, lock, options.layout) {
-        Ok(held) => done(rt, asked, options, held.is_some()),
+        Ok(held) => done(rt, asked, options, sizes, held.is_some()),
         Err(status) => status,
     }
 }
 
 // Does what was asked for, over the files on the disk. A run that holds its lock is alone there.
-fn done(rt: &HostRuntime, asked: &Asked<'_>, options: FollowOptions, is_alone: bool) -> u8 {
+fn done(
+    rt: &HostRuntime,
+    asked: &Asked<'_>,
+    options: FollowOptions,
+    sizes: Sizes,
+    is_alone: bool,
+) -> u8
+    requires { sizes.most ≤ max_file }
+{
     let mut disk = DiskStore::new(rt, process::id(rt.process()));
     if is_alone {
         disk.set_alone();
@@ -81,6 +101,7 @@ fn done(rt: &HostRuntime, asked: &Asked<'_>, options: FollowOptions, is_alone: b
         rt.alloc(),
         asked.order,
         options,
+        sizes,
         &mut store,
         &mut rt.stdin(),
         &mut rt.stdout(),
