@@ -6,6 +6,7 @@ use osm_model::batch::Batch;
 use osm_model::filter::Filter;
 use osm_operations::operation::{Operation, Reply};
 use osm_operations::world::{Outcome, run, run_with};
+use osm_round::kept::Sizes;
 use osm_state::paths::Suffix;
 use osm_store::memory_store::MemoryStore;
 use std::alloc::Global;
@@ -33,6 +34,18 @@ const REPLIES: [&str; 14] = [
 ];
 
 const STATE: Suffix = Suffix::State;
+
+// Every save is a small one, so no journal is written.
+const SIZES: Sizes = Sizes {
+    small: 1_000_000,
+    most: 700,
+};
+
+// Every save is a large one, and a journal has room for a few empty sequences.
+const JOURNALS: Sizes = Sizes {
+    small: 0,
+    most: 400,
+};
 
 // Publishes an empty sequence at that minute.
 fn publish(alloc: Global, minute: u32) -> Operation {
@@ -103,7 +116,16 @@ fn text_of(reply: &Reply) -> &[u8] {
 // What a list of operations comes to in a new store.
 fn outcome_of(alloc: Global, list: Vec<Operation>) -> Result<Outcome, Fail> {
     let store = MemoryStore::new(alloc);
-    let outcome = run(alloc, store, "dir", "save", "changes", "extract.o5m", list)?;
+    let outcome = run(
+        alloc,
+        store,
+        "dir",
+        "save",
+        "changes",
+        "extract.o5m",
+        &SIZES,
+        list,
+    )?;
     Ok(outcome)
 }
 
@@ -413,7 +435,16 @@ fn a_name_without_a_form_is_no_extract(rt: HostRuntime) -> Result<(), Fail> {
         list.push(operation)?;
     }
     let store = MemoryStore::new(alloc);
-    let outcome = run(alloc, store, "dir", "save", "changes", "extract.osm", list)?;
+    let outcome = run(
+        alloc,
+        store,
+        "dir",
+        "save",
+        "changes",
+        "extract.osm",
+        &SIZES,
+        list,
+    )?;
     assert!(rt; outcome.replies.len() == 6);
     for reply in outcome.replies.iter().skip(2) {
         assert!(rt; is_unknown_form(reply));
@@ -495,6 +526,7 @@ fn a_run_under_another_filter_is_refused(rt: HostRuntime) -> Result<(), Fail> {
         "changes",
         "extract.o5m",
         &filter,
+        &SIZES,
         list,
     )?;
     assert!(rt; are_replies(&outcome, &FILTERED));
@@ -512,4 +544,94 @@ fn is_other_filter(reply: Option<&Reply>) -> bool {
         Some(Reply::Refused(RunFault::OtherFilter)) => true,
         _ => false,
     }
+}
+
+// The replies to what follows: the first run makes a save, the next ones write its journal, until
+// that would be too long.
+const JOURNALED: [&str; 10] = [
+    "published 1\n",
+    "applied 1..1\nnumber 1\n",
+    "published 2\n",
+    "applied 2..2\nnumber 2\n",
+    "published 3\n",
+    "refused",
+    "applied 3..3\nnumber 3\n",
+    "number 3\n",
+    "",
+    "number 3\n",
+];
+
+const FIRST: [&str; 4] = [
+    "published 1\n",
+    "applied 1..1\nnumber 1\n",
+    "published 2\n",
+    "applied 2..2\nnumber 2\n",
+];
+
+fn journaled(alloc: Global) -> Result<Vec<Operation>, Fail> {
+    let mut list = Vec::new(alloc);
+    for operation in [
+        publish(alloc, 0),
+        Operation::Follow,
+        publish(alloc, 1),
+        Operation::Follow,
+        publish(alloc, 2),
+        Operation::KilledFollow { calls: 7 },
+        Operation::Follow,
+        Operation::Follow,
+        Operation::Export,
+        Operation::Begin,
+    ] {
+        list.push(operation)?;
+    }
+    Ok(list)
+}
+
+#[test]
+fn what_is_new_goes_into_the_journal_of_a_large_save(rt: HostRuntime) -> Result<(), Fail> {
+    let alloc = rt.alloc();
+    let filter = Filter::all(alloc);
+    let mut list = journaled(alloc)?;
+    list.truncate(4);
+    let outcome = run_with(
+        alloc,
+        MemoryStore::new(alloc),
+        "dir",
+        "save",
+        "changes",
+        "extract.o5m",
+        &filter,
+        &JOURNALS,
+        list,
+    )?;
+    assert!(rt; are_replies(&outcome, &FIRST));
+    let save = b"osmrepl-save 3\nbase 0\nkinds nwr\nkeys 0\n\
+        sequence 1\ntime 2024-01-01T00:00:00Z\nobjects 0\n\
+        users 0\nchangesets 0\nend\n";
+    assert!(rt; is_file(&outcome, "save", save));
+    assert!(rt; outcome.store.get("save.journal").is_some());
+    Ok(())
+}
+
+#[test]
+fn an_export_and_a_beginning_take_what_the_journal_has(rt: HostRuntime) -> Result<(), Fail> {
+    let alloc = rt.alloc();
+    let filter = Filter::all(alloc);
+    let outcome = run_with(
+        alloc,
+        MemoryStore::new(alloc),
+        "dir",
+        "save",
+        "changes",
+        "extract.o5m",
+        &filter,
+        &JOURNALS,
+        journaled(alloc)?,
+    )?;
+    assert!(rt; are_replies(&outcome, &JOURNALED));
+    let save = b"osmrepl-save 3\nbase 3\nkinds nwr\nkeys 0\n\
+        sequence 3\ntime 2024-01-01T00:02:00Z\nobjects 0\n\
+        users 0\nchangesets 0\nend\n";
+    assert!(rt; is_file(&outcome, "save", save));
+    Ok(())
 }
