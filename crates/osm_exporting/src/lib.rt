@@ -4,4 +4,5 @@
 mod copy;
 mod data_writer;
 pub mod export;
+pub mod kept;
 mod objects;

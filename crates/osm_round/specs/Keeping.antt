@@ -12,8 +12,8 @@ use Rattle.osm_journal.specs.Journal.{BatchValue, Follow, JournalValue, SpellsJo
 use Rattle.osm_journal.specs.Journal.{journal_text}
 use Rattle.osm_kept.specs.Kept.{BelongsTo, HasJournal, IsNoJournal, IsOfAnother}
 use Rattle.osm_kept.specs.Names.{journal_name_of}
-use Rattle.osm_folder.specs.Following.{AddsAll, GoesOn, IsTopState, NumberStops, bytes_of, end_of}
-use Rattle.osm_folder.specs.Following.{limited, lost_numbers, ranges, standing_of}
+use Rattle.osm_folder.specs.Following.{AddsAll, GoesOn, IsSaved, IsTopState, NumberStops, bytes_of}
+use Rattle.osm_folder.specs.Following.{end_of, limited, lost_numbers, ranges, standing_of}
 use Rattle.osm_folder.specs.Keeping.{IsKept}
 use Rattle.osm_folder.specs.Names.{top_name_of}
 use Rattle.osm_folder.specs.Progress.{IsOfContent}
@@ -197,3 +197,9 @@ LeavesJournal told old new =
 pub record LeavesKept (save : List ℕ) (old new : Files) : Type 0 where
   pub journal : LeavesJournal (old save) (old (journal_name_of save)) (new (journal_name_of save))
   pub others : (name : List ℕ) → (name ≡ journal_name_of save → ⊥) → new name ≡ old name
+
+-- a save that a run writes keeps alone what the two files keep
+abbrev pub SavesAlone : FilterValue → List ℕ → Files → Files → Type 0
+SavesAlone given save old new =
+    (new save ≡ old save)
+    ⊎ ((v : Saved) → IsKept given save new v → IsSaved given (new save) v)

@@ -19,7 +19,8 @@ ghost use Rattle.osm_folder.specs.declared.fault.FileName.TheVariants.{Top};
 ghost use Rattle.osm_folder.specs.declared.fault.RunFault.TheVariants.{Absent, OtherFilter};
 ghost use Rattle.osm_round.specs.Gathering.{IsBegunUpTo};
 ghost use Rattle.osm_round.specs.Keeping.{GoesOnKept, IsJournalAfter, IsKeptWithinRoom};
-ghost use Rattle.osm_round.specs.Keeping.{IsShortAfter, LeavesKept, StaysUnlessDue};
+ghost use Rattle.osm_round.specs.Keeping.{IsShortAfter, LeavesKept};
+ghost use Rattle.osm_round.specs.Keeping.{SavesAlone, StaysUnlessDue};
 ghost use Rattle.osm_round.specs.KeepingFrames.{CallsOften};
 ghost use Rattle.osm_round.specs.KeepingOver.{GoesOnOver, kept_calls};
 ghost use Rattle.osm_round.specs.KeepingSteps.{AreEnds, IsBothFault, IsOther, IsSaveFault};
@@ -77,6 +78,9 @@ pub fn follow_kept<S: Store>(
     ensures whole { OnOk result (IsKnown (S.state store.old)
         → (IsOver sizes.now.small ((S.state store.old).files save.now) → ⊥)
         → IsWhole ((S.state store.old).files save.now)) }
+    ensures alone { OnOk result (IsKnown (S.state store.old)
+        → SavesAlone options.now.filter save.now
+        (S.state store.old).files (S.state store.new).files) }
     ensures stays { OnOk result (IsKnown (S.state store.old)
         → StaysUnlessDue sizes.now options.now.filter dir.now save.now
         (S.state store.old).files (S.state store.new).files) }
