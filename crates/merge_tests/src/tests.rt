@@ -1,5 +1,5 @@
-mod large;
 mod kept;
+mod large;
 mod merge;
 mod merged;
 mod rounds;

@@ -30,7 +30,25 @@ fn faults_of_a_journal_are_shown_with_its_name(rt: HostRuntime) {
     let alloc = rt.alloc();
     let journal = FileName::Journal;
     assert!(rt; is_shown(alloc, &RunFault::BadJournal(12), "save: journal: line 12"));
-    assert!(rt; is_shown(alloc, &RunFault::ReadFault(journal), "save: journal: read failed"));
-    assert!(rt; is_shown(alloc, &RunFault::WriteFault(journal), "save: journal: write failed"));
-    assert!(rt; is_shown(alloc, &RunFault::TooLarge(journal), "save: journal: too large"));
+    assert!(rt;
+        is_shown(
+            alloc,
+            &RunFault::ReadFault(journal),
+            "save: journal: read failed"
+        )
+    );
+    assert!(rt;
+        is_shown(
+            alloc,
+            &RunFault::WriteFault(journal),
+            "save: journal: write failed"
+        )
+    );
+    assert!(rt;
+        is_shown(
+            alloc,
+            &RunFault::TooLarge(journal),
+            "save: journal: too large"
+        )
+    );
 }

@@ -66,7 +66,10 @@ fn is_answered(
         return false;
     };
     let mut stopping = StoppingStore::new(store, calls);
-    match (lag_kept(alloc, &mut stopping, "dir", "save", Layout::Lines), answer) {
+    match (
+        lag_kept(alloc, &mut stopping, "dir", "save", Layout::Lines),
+        answer,
+    ) {
         (Ok(report), Ok(text)) => report.text() == text.as_bytes(),
         (Err(fault), Err(expected)) => fault == expected,
         _ => false,

@@ -4,6 +4,7 @@ use osm_folder::fault::RunFault;
 use osm_folder::options::FollowOptions;
 use osm_folder::progress::Progress;
 use osm_model::filter::Filter;
+use osm_model::limits::MAX_FILE;
 use osm_round::kept::{Sizes, follow_kept};
 use osm_store::memory_store::MemoryStore;
 use osm_store::stopping_store::StoppingStore;
@@ -67,7 +68,10 @@ const LARGE: Sizes = Sizes {
 };
 
 // Every save is a large one, and no journal is short enough.
-const FULL: Sizes = Sizes { small: 0, most: 200 };
+const FULL: Sizes = Sizes {
+    small: 0,
+    most: 200,
+};
 
 // Every save is a small one.
 const SMALL: Sizes = Sizes {
@@ -192,8 +196,18 @@ fn has_journal(store: &MemoryStore, journal: &[u8]) -> bool {
 }
 
 fn follows(alloc: Global, case: &Case) -> bool {
+    if case.sizes.most > MAX_FILE as u64 {
+        return false;
+    }
     let mut store = store_of(alloc, case);
-    let answer = follow_kept(alloc, &mut store, "dir", "save", &options(alloc), &case.sizes);
+    let answer = follow_kept(
+        alloc,
+        &mut store,
+        "dir",
+        "save",
+        &options(alloc),
+        &case.sizes,
+    );
     prints(&answer, case.text)
         && store.get("save") == Some(case.save)
         && has_journal(&store, case.journal)
@@ -255,13 +269,31 @@ fn a_large_save_isnt_checked_after_a_fault(rt: HostRuntime) {
 // Whether a run that can make so many calls leaves the save as it was or as it should be, and goes
 // on to the same when it is called again. None if it did all.
 fn goes_on(alloc: Global, case: &Case, calls: u64) -> Option<bool> {
+    if case.sizes.most > MAX_FILE as u64 {
+        return Some(false);
+    }
     let mut store = StoppingStore::new(store_of(alloc, case), calls);
-    let done = follow_kept(alloc, &mut store, "dir", "save", &options(alloc), &case.sizes).is_ok();
+    let done = follow_kept(
+        alloc,
+        &mut store,
+        "dir",
+        "save",
+        &options(alloc),
+        &case.sizes,
+    )
+    .is_ok();
     let mut inner = store.into_inner();
     if done {
         return None;
     }
-    let again = follow_kept(alloc, &mut inner, "dir", "save", &options(alloc), &case.sizes);
+    let again = follow_kept(
+        alloc,
+        &mut inner,
+        "dir",
+        "save",
+        &options(alloc),
+        &case.sizes,
+    );
     Some(again.is_ok() && inner.get("save") == Some(case.save) && has_journal(&inner, case.journal))
 }
 
