@@ -26,7 +26,8 @@ KeptIn given (Some bytes) journal v = Keeps (Some bytes) journal v
 abbrev pub IsKept : FilterValue → List ℕ → Files → Saved → Type 0
 IsKept given save files v = KeptIn given (files save) (files (journal_name_of save)) v
 
--- the journal of the save of that name isn't bad; beside a save of which something is kept none is
+-- the journal of the save of that name isn't bad. If there is a save, that follows once the two
+-- files keep something
 abbrev pub HasNoBadJournal : List ℕ → Files → Type 0
 HasNoBadJournal save files =
     (line : ℕ) → IsBadJournal (files save) (files (journal_name_of save)) line → ⊥

@@ -67,7 +67,7 @@ module _ {E X K : Type 0} (lay : List E → List X → List X) (key : X → K) (
             (read_joined a.changes x (items_at key item b.lines (Some (key x)) tail));
       }
 
-  -- where the next line can't be read, nothing is
+  -- if the next line can't be read, nothing is ahead
   pub none_read : (a : Ahead E X K) (lines : ℕ) (bytes : List ℕ) → a.lines ≡ suc lines → next_at item a.last bytes ≡ None
       → values_ahead lay key item a bytes ≡ None
   unfolding next_at

@@ -24,7 +24,7 @@ use Rattle.osm_merged.proofs.TurnLemmas.{Objects}
 abbrev Keeps : FilterValue → Objects → Objects → List ℕ → List ℕ → Type 0
 Keeps f old new bytes rest = KeepsAhead (λ bs. objects_ahead f old bs) (λ bs. objects_ahead f new bs) bytes rest
 
--- where the reading of the next object stands: what is ahead is still the same
+-- how far the reading of the next object has come: what is ahead is still the same
 pub record Turning (a b : StoreState) (name : List ℕ) (f : FilterValue) (old now : Objects) (begun at : Place) : Type 0 where
   pub same : (file : List ℕ) → HasFile a name file → Keeps f old now (left_of begun file) (left_of at file)
   pub fewer : most_ahead now ≤ most_ahead old

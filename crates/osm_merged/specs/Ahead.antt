@@ -13,8 +13,8 @@ use Rattle.osm_save.specs.Reading.{count_at, items_at, object_at}
 use Rattle.osm_merge.specs.Reading.{LineStops}
 use Rattle.osm_merge.specs.declared.fault.MergeFault.{MergeFault}
 
--- where the reading of a list stands: the changes that aren't laid yet, how many lines are still to
--- be read, the key of the last one that was, and the value that was read and isn't given yet
+-- how far the reading of a list has come: the changes that aren't laid yet, how many lines are still
+-- to be read, the key of the last one that was, and the value that was read and isn't given yet
 pub record Ahead (E X K : Type 0) : Type 0 where
   pub changes : List E
   pub lines : ℕ
@@ -40,7 +40,7 @@ abbrev pub objects_ahead : FilterValue → Ahead NetEntry ChangeValue Key → Li
     → Option (List ChangeValue × List ℕ)
 objects_ahead f a bytes = values_ahead laid_over (λ c. c.key) (object_at f) a bytes
 
--- where the reading of counts stands, of which each is at most `most`
+-- how far the reading of counts has come; each count is at most `most`
 pub record CountsAhead : Type 0 where
   pub most : ℕ
   pub ahead : Ahead Counted Counted ℕ

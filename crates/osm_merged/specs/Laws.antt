@@ -1,4 +1,4 @@
--- What is ahead of a save text, and what a file is of which all was read.
+-- What is ahead in a save text, and what a file is that was read to its end.
 use Rattle.std.specs.Prelude.{◌≡◌, ℕ, List, [], ◌∷◌, codes, Option, Some, None}
 use Rattle.osm_blocks.specs.Places.{Place, left_of}
 use Rattle.osm_mirror.specs.Mirror.{Counted}
@@ -26,7 +26,7 @@ pub record HoldsAhead (es : List NetEntry) (o : Opening) (saved : Saved)
   pub counts : both_at (most_counted o.head) after
       ≡ Some (saved.mirror.users, saved.mirror.changesets)
 
--- of a save text that was opened, what it saves is ahead
+-- what an opened save text saves is ahead
 abbrev pub SavedIsAhead : Type 0
 SavedIsAhead = (told : Option (List ℕ)) (es : List NetEntry) (place : Place) (o : Opening)
     (a : Ahead NetEntry ChangeValue Key) (begun : BeginsMerged told es place o a) (saved : Saved)
@@ -44,7 +44,7 @@ pub record WasSaved (es : List NetEntry) (o : Opening) (file : List ℕ)
   pub users_are : users ≡ saved.mirror.users
   pub changesets_are : changesets ≡ saved.mirror.changesets
 
--- a file that was opened, and all of which can be read, is a save text
+-- an opened file that can be read to its end is a save text
 abbrev pub AllIsSaved : Type 0
 AllIsSaved = (told : Option (List ℕ)) (es : List NetEntry) (place : Place) (o : Opening)
     (a : Ahead NetEntry ChangeValue Key) (begun : BeginsMerged told es place o a)

@@ -20,7 +20,7 @@ use std::alloc::Global;
 use std::cmp::Ordering;
 use std::marker::Model;
 
-/// Where the reading of counts stands, with the increments that aren't added yet.
+/// How far the reading of counts has come, and the increments that aren't added yet.
 #[derive(Drop)]
 pub struct MergedCounts<'a> {
     increments: &'a [(u32, u64)],

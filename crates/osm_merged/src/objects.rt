@@ -28,7 +28,7 @@ use std::cmp::Ordering;
 use std::marker::Model;
 use std::mem::swap;
 
-/// Where the reading of objects stands, with the entries of net changes that aren't laid yet. Of
+/// How far the reading of objects has come, and the entries of net changes that aren't laid yet. Of
 /// the save it holds one object and its line.
 #[derive(Drop)]
 pub struct MergedObjects<'a> {

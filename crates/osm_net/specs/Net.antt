@@ -145,7 +145,7 @@ pub record HasNewKey (entries more : List NetEntry) : Type 0 where
   pub new : net_at entries key ≡ None
   pub there : IsSome (net_at more key)
 
--- `later` has a user, a changeset or a key of which nothing is known
+-- `later` has a user, a changeset or a key that isn't known
 abbrev pub BringsNew : NetValue → NetValue → Type 0
 BringsNew old later =
     (HasNewNumber old.users later.users)

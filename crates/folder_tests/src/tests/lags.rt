@@ -16,7 +16,7 @@ const START: &[u8] = b"osmrepl-save 3\nbase 0\nkinds nwr\nkeys 0\nsequence 0\nti
 const THIRD: &[u8] = b"osmrepl-save 3\nbase 0\nkinds nwr\nkeys 0\nsequence 3\n\
     time 2024-01-03T00:00:00Z\nobjects 0\nusers 0\nchangesets 0\nend\n";
 
-// Two batches after the one at the start, of which the bytes of the second are no change file.
+// Two batches after the one at the start. The bytes of the second are no change file.
 const JOURNAL: &[u8] = b"osmrepl-journal 1\nosmrepl-save 3\nbase 0\nkinds nwr\nkeys 0\nsequence 0\n\
     time none\nobjects 0\nsequence 2\ntime 2024-01-02T00:00:00Z\nbatches 2\n\
     batch 1 2024-01-01T00:00:00Z 8\n\xff\xe0\x04o5c2\xfe\n\
